@@ -1,0 +1,11 @@
+pub mod Data
+pub mod DataCode
+pub mod Integer
+pub mod Key
+pub mod Varint
+pub mod Cid
+pub mod Tree
+pub mod Spell
+pub mod Limits
+pub mod Seen
+pub mod Falls

@@ -1,0 +1,21 @@
+//! The data model: numbers, texts, trees, the ids of blocks and the order of keys.
+#![tactic(auto)]
+
+mod cid;
+mod copy;
+mod id;
+mod int;
+mod key;
+mod path;
+mod place;
+mod text;
+mod tree;
+
+pub use cid::Cid;
+pub use id::{BlockId, block_id};
+pub use int::Int;
+pub use key::{key_less, key_order};
+pub use path::Path;
+pub use place::key_place;
+pub use text::{Octets, Txt};
+pub use tree::{Entries, Tree, Trees};

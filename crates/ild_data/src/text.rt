@@ -1,0 +1,104 @@
+//! Owned texts and bytes, which contracts see as lists of bytes.
+ghost use Rattle.std.specs.Prelude.{◌≡◌, IfOk, IsUtf8, string_bytes};
+
+use std::alloc::{AllocError, Global};
+use std::marker::Model;
+
+/// An owned text in UTF-8.
+#[derive(Drop)]
+pub struct Txt {
+    text: String,
+}
+
+impl Model for Txt {
+    ghost use Rattle.std.specs.Prelude.{List, ℕ, string_bytes, IsUtf8};
+
+    ghost Value = { List ℕ };
+
+    ghost view = { λ a. string_bytes a.text };
+
+    ghost invariant = { λ a. IsUtf8 (string_bytes a.text) };
+}
+
+impl Txt {
+    /// A copy of a text.
+    pub fn of(alloc: Global, s: &str) -> Result<Txt, AllocError>
+        ensures { IfOk result (λ t. t ≡ s.now) }
+    {
+        Ok(Txt {
+            text: String::from_str(alloc, s)?,
+        })
+    }
+
+    /// The same text, made anew.
+    pub fn copy(&self) -> Result<Txt, AllocError>
+        ensures { IfOk result (λ t. t ≡ self.now) }
+    {
+        Ok(Txt {
+            text: self.text.clone()?,
+        })
+    }
+
+    /// The text as a borrow.
+    pub fn as_str(&self) -> &str
+        ensures same { result.now ≡ self.now }
+        ensures utf8 { IsUtf8 self.now }
+    {
+        self.text.as_str()
+    }
+}
+
+/// Owned bytes.
+#[derive(Drop)]
+pub struct Octets {
+    bytes: Vec<u8>,
+}
+
+impl Model for Octets {
+    ghost use Rattle.std.specs.Prelude.{List, ℕ};
+
+    ghost Value = { List ℕ };
+
+    ghost view = { λ a. a.bytes.items };
+}
+
+impl Octets {
+    /// A copy of bytes.
+    pub fn of(alloc: Global, b: &[u8]) -> Result<Octets, AllocError>
+        ensures { IfOk result (λ t. t ≡ b.now) }
+    {
+        Ok(Octets {
+            bytes: b.to_vec(alloc)?,
+        })
+    }
+
+    /// The bytes of a vector, without a copy.
+    pub fn from_vec(bytes: Vec<u8>) -> Octets
+        ensures { result ≡ bytes.items }
+    {
+        Octets { bytes }
+    }
+
+    /// The vector of the bytes, without a copy.
+    pub fn into_vec(self) -> Vec<u8>
+        ensures { result.items ≡ self }
+    {
+        self.bytes
+    }
+
+    /// The same bytes, made anew.
+    pub fn copy(&self) -> Result<Octets, AllocError>
+        ensures { IfOk result (λ t. t ≡ self.now) }
+    {
+        Ok(Octets {
+            bytes: self.bytes.clone()?,
+        })
+    }
+
+    /// The bytes as a borrow.
+    pub fn as_slice(&self) -> &[u8]
+        ensures { result.now ≡ self.now }
+    {
+        &self.bytes
+    }
+}
