@@ -1,0 +1,76 @@
+-- What the calls of a store say. A content is a list of blocks, each under its id; of two with one id the first counts.
+use Rattle.std.specs.Prelude.{◌≡◌, ◌≢◌, ◌⊎◌, ℕ, ◌+◌, ◌≤◌, List, [], ◌∷◌, ◌++◌, Bool, Option, Some, None, Result, Ok, Err, find}
+use Rattle.ild_data.specs.Key.{same_text}
+use Rattle.ild_data.specs.Spell.{id_of}
+use Rattle.ild_edges.specs.Count.{Rose, bumped}
+use Rattle.ild_edges.specs.Told.{IfTold, BothTold}
+use Rattle.ild_edges.specs.declared.error.EdgeErr.{EdgeErr}
+use Rattle.ild_edges.specs.declared.error.EdgeErr.TheVariants.{Failed, Memory}
+
+-- A store at a moment: the blocks that it holds and the ids that it was given, where it tells them; how many gets and
+-- puts there were, how often a block was not there, and how often a call failed.
+pub record Moment : Type 0 where
+  pub blocks : Option (List (List ℕ))
+  pub given : Option (List (List ℕ))
+  pub gets : ℕ
+  pub puts : ℕ
+  pub lacks : ℕ
+  pub faults : ℕ
+
+-- the block under an id
+abbrev pub block_at : List (List ℕ) → List ℕ → Option (List ℕ)
+block_at blocks id = find (λ b. same_text (id_of b) id) blocks
+
+-- the block is held, and every other id is as before
+pub record Adds (block : List ℕ) (old new : List (List ℕ)) : Type 0 where
+  pub held : block_at new (id_of block) ≡ Some block
+  pub others : (id : List ℕ) → id_of block ≢ id → block_at new id ≡ block_at old id
+
+-- no other block is under the block's id
+abbrev pub IsFree : List ℕ → List (List ℕ) → Type 0
+IsFree block blocks = (block_at blocks (id_of block) ≡ None) ⊎ (block_at blocks (id_of block) ≡ Some block)
+
+-- what was held is held
+abbrev pub Keeps : List (List ℕ) → List (List ℕ) → Type 0
+Keeps was now = (id b : List ℕ) → block_at was id ≡ Some b → block_at now id ≡ Some b
+
+-- no count falls, and what was held is held
+pub record Later (m n : Moment) : Type 0 where
+  pub keeps : BothTold m.blocks n.blocks Keeps
+  pub gets : m.gets ≤ n.gets
+  pub puts : m.puts ≤ n.puts
+  pub lacks : m.lacks ≤ n.lacks
+  pub faults : m.faults ≤ n.faults
+
+-- what a get answers: the block under the id, or that there is none
+abbrev pub GetsAnswer : Moment → List ℕ → Result (Option (List ℕ)) EdgeErr → Moment → Type 0
+GetsAnswer m id (Ok (Some b)) n = (id_of b ≡ id) × IfTold m.blocks (λ blocks. block_at blocks id ≡ Some b)
+GetsAnswer m id (Ok None) n = IfTold m.blocks (λ blocks. block_at blocks id ≡ None) × Rose m.lacks n.lacks
+GetsAnswer m id (Err Failed) n = Rose m.faults n.faults
+GetsAnswer m id (Err Memory) n = Unit {0}
+
+-- a get: its answer, and that it changed nothing but counts
+pub record Gets (m : Moment) (id : List ℕ) (result : Result (Option (List ℕ)) EdgeErr) (n : Moment) : Type 0 where
+  pub answer : GetsAnswer m id result n
+  pub later : Later m n
+  pub blocks : n.blocks ≡ m.blocks
+  pub given : n.given ≡ m.given
+  pub gets : n.gets ≡ bumped m.gets
+  pub puts : n.puts ≡ m.puts
+
+-- what a put answers: the block is held now and was the only one under its id, or another is kept there
+abbrev pub PutsAnswer : Moment → List ℕ → Result (Option (List ℕ)) EdgeErr → Moment → Type 0
+PutsAnswer m block (Ok None) n =
+    BothTold m.blocks n.blocks (λ was now. IsFree block was × Adds block was now) × BothTold m.given n.given (λ was now. now ≡ was ++ id_of block ∷ [])
+PutsAnswer m block (Ok (Some kept)) n =
+    (id_of kept ≡ id_of block) × (kept ≢ block) × (n.blocks ≡ m.blocks) × IfTold m.blocks (λ blocks. block_at blocks (id_of block) ≡ Some kept) × (n.given ≡ m.given)
+PutsAnswer m block (Err Failed) n =
+    Rose m.faults n.faults × ((n.blocks ≡ m.blocks) ⊎ BothTold m.blocks n.blocks (λ was now. (block_at was (id_of block) ≡ None) × Adds block was now)) × (n.given ≡ m.given)
+PutsAnswer m block (Err Memory) n = (n.blocks ≡ m.blocks) × (n.given ≡ m.given)
+
+-- a put: its answer, and that it keeps what is held
+pub record Puts (m : Moment) (block : List ℕ) (result : Result (Option (List ℕ)) EdgeErr) (n : Moment) : Type 0 where
+  pub answer : PutsAnswer m block result n
+  pub later : Later m n
+  pub gets : n.gets ≡ m.gets
+  pub puts : n.puts ≡ bumped m.puts
