@@ -30,6 +30,14 @@ impl Txt {
         })
     }
 
+    /// The text of a string, without a copy.
+    pub fn from_string(text: String) -> Txt
+        ensures { result ≡ string_bytes text }
+    {
+        let _bytes = text.as_str();
+        Txt { text }
+    }
+
     /// The same text, made anew.
     pub fn copy(&self) -> Result<Txt, AllocError>
         ensures { IfOk result (λ t. t ≡ self.now) }
