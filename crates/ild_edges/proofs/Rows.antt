@@ -1,5 +1,5 @@
 -- Look-ups by id in rows that rise by id, as look-ups among their blocks.
-use Rattle.std.proofs.Common.{◌≡◌, ◌≢◌, ℕ, List, [], ◌∷◌, Bool, true, false, cond, Option, Some, None, Result, Ok, Err, refl, sym, ap, subst, ◌∙◌}
+use Rattle.std.proofs.Common.{◌≡◌, ℕ, List, [], ◌∷◌, Bool, true, false, cond, Some, Result, Ok, Err, refl, sym, ap, subst, ◌∙◌}
 use Rattle.std.specs.Prelude.{All, OnOk, OnErr}
 use Rattle.std.specs.Ordering.{nat_cmp, match_ordering, ordering_reverse, is_eq}
 use Rattle.std.specs.declared.cmp.Ordering.{Ordering}
@@ -73,5 +73,5 @@ pub Adds-row : (rows now : List (List ℕ × List ℕ)) (k block : List ℕ) →
 Adds-row rows now k block own was is here beside = record {
   held = block_at-rows now (id_of block) is ∙ ap (λ i. lookup (is_at (id_cmp i)) now) (sym own) ∙ here;
   others = λ id apart.
-    block_at-rows now id is ∙ beside id (sym (same_test id k) ∙ apart_false id k (λ e. apart (sym own ∙ sym e))) ∙ sym (block_at-rows rows id was);
+      block_at-rows now id is ∙ beside id (sym (same_test id k) ∙ apart_false id k (λ e. apart (sym own ∙ sym e))) ∙ sym (block_at-rows rows id was);
 }

@@ -1,5 +1,5 @@
 -- Inputs in memory, as contracts see them.
-use Rattle.std.specs.Prelude.{◌≡◌, ℕ, List, [], Option, Some, Result, Ok, Err, map}
+use Rattle.std.specs.Prelude.{ℕ, List, [], Some, Result, Ok, Err, map}
 use Rattle.ild_edges.specs.Count.{bumped}
 use Rattle.ild_edges.specs.Inputs.{Supply}
 use Rattle.ild_edges.specs.declared.error.EdgeErr.{EdgeErr}

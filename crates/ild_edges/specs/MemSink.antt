@@ -1,5 +1,5 @@
 -- A sink in memory, as contracts see it.
-use Rattle.std.specs.Prelude.{◌≡◌, ℕ, List, [], ◌++◌, Option, Some, Result, Ok, Err}
+use Rattle.std.specs.Prelude.{ℕ, List, [], ◌++◌, Some, Result, Ok, Err}
 use Rattle.ild_edges.specs.Count.{bumped}
 use Rattle.ild_edges.specs.Sink.{Output}
 use Rattle.ild_edges.specs.declared.error.EdgeErr.{EdgeErr}

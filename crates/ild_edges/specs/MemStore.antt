@@ -1,5 +1,5 @@
 -- A store in memory, as contracts see it.
-use Rattle.std.specs.Prelude.{◌≡◌, ℕ, List, [], Option, Some, None, Result, Ok, Err}
+use Rattle.std.specs.Prelude.{ℕ, List, [], Option, Some, None, Result, Ok, Err}
 use Rattle.ild_edges.specs.Blocks.{blocks_of}
 use Rattle.ild_edges.specs.Count.{bumped}
 use Rattle.ild_edges.specs.Store.{Moment}
@@ -19,7 +19,7 @@ pub record StoreState : Type 0 where
 
 -- what contracts see of a store in memory
 abbrev pub store_state : MemStore → StoreState
-store_state m = record { blocks = blocks_of m.blocks; fail_gets = m.fail_gets.items; fail_puts = m.fail_puts.items; gets = m.gets; puts = m.puts; lacks = m.lacks; faults = m.faults }
+store_state m = record { blocks = blocks_of m.held; fail_gets = m.fail_gets.items; fail_puts = m.fail_puts.items; gets = m.gets; puts = m.puts; lacks = m.lacks; faults = m.faults }
 
 -- a store with no block, and every count at 0
 abbrev pub new_store : List ℕ → List ℕ → StoreState

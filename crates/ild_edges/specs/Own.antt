@@ -1,5 +1,5 @@
 -- Blocks under their ids.
-use Rattle.std.specs.Prelude.{◌≡◌, ℕ, List, map, All}
+use Rattle.std.specs.Prelude.{◌≡◌, ℕ, List, map}
 use Rattle.ild_data.specs.Spell.{id_of}
 
 -- a block under its own id

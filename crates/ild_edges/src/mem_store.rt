@@ -15,7 +15,7 @@ use std::alloc::{AllocError, Global};
 #[derive(Drop)]
 pub struct MemStore {
     alloc: Global,
-    blocks: Blocks,
+    held: Blocks,
     fail_gets: Vec<u64>,
     fail_puts: Vec<u64>,
     gets: u64,
@@ -33,7 +33,7 @@ impl MemStore {
     {
         Ok(MemStore {
             alloc,
-            blocks: Blocks::new(alloc),
+            held: Blocks::new(alloc),
             fail_gets: fail_gets.to_vec(alloc)?,
             fail_puts: fail_puts.to_vec(alloc)?,
             gets: 0,
@@ -51,8 +51,8 @@ impl MemStore {
         ensures err { OnErr result (store_state self.new ≡ store_state self.old) }
     {
         let id = block_id(block);
-        if self.blocks.get(&id).is_none() {
-            self.blocks.insert(self.alloc, &id, block)?;
+        if self.held.get(&id).is_none() {
+            self.held.insert(self.alloc, &id, block)?;
         }
         Ok(())
     }
@@ -74,7 +74,7 @@ impl Store for MemStore {
             self.faults = self.faults.saturating_add(1);
             return Err(EdgeErr::Failed);
         }
-        match self.blocks.get(id) {
+        match self.held.get(id) {
             Some(block) => Ok(Some(block.copy()?)),
             None => {
                 self.lacks = self.lacks.saturating_add(1);
@@ -95,14 +95,14 @@ impl Store for MemStore {
             self.faults = self.faults.saturating_add(1);
             return Err(EdgeErr::Failed);
         }
-        if let Some(block) = self.blocks.get(id) {
+        if let Some(block) = self.held.get(id) {
             return if block.as_slice() == bytes {
                 Ok(None)
             } else {
                 Ok(Some(block.copy()?))
             };
         }
-        self.blocks.insert(self.alloc, id, bytes)?;
+        self.held.insert(self.alloc, id, bytes)?;
         Ok(None)
     }
 }

@@ -1,4 +1,4 @@
-use Rattle.std.proofs.Common.{◌≡◌, List, ℕ, Some, sym, ◌∙◌, ap}
+use Rattle.std.proofs.Common.{Some, sym, ◌∙◌, ap}
 use Rattle.std.specs.Prelude.{All}
 use Rattle.ild_data.specs.Spell.{id_of}
 use Rattle.ild_edges.specs.Own.{IsOwn}
