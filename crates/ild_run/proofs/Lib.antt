@@ -1,1 +1,4 @@
 pub mod Putting
+pub mod Runs
+pub mod Cuts
+pub mod Openings

@@ -4,7 +4,9 @@ pub mod Run
 pub mod Change
 pub mod Plain
 pub mod Puts
+pub mod Lines
 pub mod Words
 pub mod Fault
 pub mod Work
+pub mod Opening
 pub mod Ended

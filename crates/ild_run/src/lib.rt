@@ -3,10 +3,13 @@
 
 mod edit;
 mod fault;
+mod open;
 mod publish;
+mod script;
 mod status;
 mod step;
 
 pub use fault::Fault;
 pub use status::Status;
-pub use step::answer_line;
+pub use open::{Names, names_of, take_script, put_empty};
+pub use script::{Cut, answer_all};

@@ -1,0 +1,121 @@
+//! The lines of a script, one after another.
+ghost use Rattle.std.specs.Prelude.{◌≡◌, ◌≤◌, ◌∷◌, position, length, IfOk, OnOk, OnErr, IsErrOf};
+ghost use Rattle.ild_edges.specs.Count.{Rose};
+ghost use Rattle.ild_edges.specs.Sink.{Appends, AppendsFront};
+ghost use Rattle.ild_script.specs.Line.{lines_of, is_feed};
+ghost use Rattle.ild_script.specs.Reply.{reply_text, is_no};
+ghost use Rattle.ild_run.specs.Lines.{lines_left, bytes_left, LineDone, LineCut, LinesDone, LinesCut};
+ghost use Rattle.ild_run.specs.declared.script.Cut.TheVariants as cut;
+
+use crate::step::answer_line;
+use ild_edges::{EdgeErr, Sink, Store};
+use ild_plain::PlainMap;
+use ild_script::{Reply, reply_text};
+use std::alloc::Global;
+
+/// Why a text was cut off: the sink failed, or memory is wanting.
+#[derive(Clone, Copy)]
+pub enum Cut {
+    Sink,
+    Memory,
+}
+
+/// Where the first line feed stands.
+fn feed_at(bytes: &[u8]) -> Option<usize>
+    ensures { result ≡ position is_feed bytes.now }
+{
+    bytes.iter().position(|b| *b == b'\n')
+}
+
+/// The first line, and what is left behind its line feed.
+fn cut_line(bytes: &[u8]) -> (&[u8], Option<&[u8]>)
+    ensures cut { lines_of bytes.now ≡ result.0.now ∷ lines_left result.1 }
+    ensures less { bytes_left result.1 ≤ length bytes.now }
+{
+    match feed_at(bytes) {
+        Some(i) => (&bytes[..i], Some(&bytes[i + 1..])),
+        None => (bytes, None),
+    }
+}
+
+fn is_no(reply: &Reply) -> bool
+    ensures { result ≡ is_no reply.now }
+{
+    matches!(reply, Reply::No(_))
+}
+
+/// Writes a piece.
+pub fn write<W: Sink>(out: &mut W, piece: &[u8]) -> Result<(), Cut>
+    ensures ok { OnOk result (Appends (W.output out.old).written (W.output out.new).written piece.now) }
+    ensures err { OnErr result (AppendsFront (W.output out.old).written (W.output out.new).written piece.now) }
+    ensures faults { (W.output out.old).faults ≤ (W.output out.new).faults }
+    ensures sink { IsErrOf result cut.Sink → Rose (W.output out.old).faults (W.output out.new).faults }
+{
+    match out.write(piece) {
+        Ok(()) => Ok(()),
+        Err(EdgeErr::Failed) => Err(Cut::Sink),
+        Err(EdgeErr::Memory) => Err(Cut::Memory),
+    }
+}
+
+/// Writes the line of a reply.
+fn write_reply<W: Sink>(alloc: Global, reply: &Reply, out: &mut W) -> Result<(), Cut>
+    ensures ok { OnOk result (Appends (W.output out.old).written (W.output out.new).written (reply_text reply.now)) }
+    ensures err { OnErr result (AppendsFront (W.output out.old).written (W.output out.new).written (reply_text reply.now)) }
+    ensures faults { (W.output out.old).faults ≤ (W.output out.new).faults }
+    ensures sink { IsErrOf result cut.Sink → Rose (W.output out.old).faults (W.output out.new).faults }
+{
+    match reply_text(alloc, reply) {
+        Ok(text) => write(out, text.as_slice()),
+        Err(_) => Err(Cut::Memory),
+    }
+}
+
+/// Answers one line, and says whether it was refused.
+fn answer_and_write<K: Store, W: Sink>(
+    alloc: Global,
+    value: &mut PlainMap,
+    line: &[u8],
+    store: &mut K,
+    out: &mut W,
+) -> Result<bool, Cut>
+    ensures done { IfOk result (λ refused. LineDone (K.moment store.old) value.old line.now (K.moment store.new) value.new (W.output out.old).written (W.output out.new).written refused) }
+    ensures part { OnErr result (LineCut (K.moment store.old) value.old line.now (K.moment store.new) value.new (W.output out.old).written (W.output out.new).written) }
+    ensures faults { (W.output out.old).faults ≤ (W.output out.new).faults }
+    ensures sink { IsErrOf result cut.Sink → Rose (W.output out.old).faults (W.output out.new).faults }
+{
+    match answer_line(alloc, value, line, store) {
+        None => Ok(false),
+        Some(reply) => match write_reply(alloc, &reply, out) {
+            Ok(()) => Ok(is_no(&reply)),
+            Err(cut) => Err(cut),
+        },
+    }
+}
+
+/// Answers the lines of a script in order, and says whether one was refused.
+pub fn answer_all<K: Store, W: Sink>(
+    alloc: Global,
+    value: &mut PlainMap,
+    script: &[u8],
+    store: &mut K,
+    out: &mut W,
+) -> Result<bool, Cut>
+    ensures done { IfOk result (λ refused. LinesDone (K.moment store.old) value.old (lines_of script.now) (K.moment store.new) value.new (W.output out.old).written (W.output out.new).written refused) }
+    ensures part { OnErr result (LinesCut (K.moment store.old) value.old (lines_of script.now) (K.moment store.new) value.new (W.output out.old).written (W.output out.new).written) }
+    ensures faults { (W.output out.old).faults ≤ (W.output out.new).faults }
+    ensures sink { IsErrOf result cut.Sink → Rose (W.output out.old).faults (W.output out.new).faults }
+{
+    let mut rest = Some(script);
+    let mut refused = false;
+    while let Some(bytes) = rest {
+        let (line, after) = cut_line(bytes);
+        let no = match answer_and_write(alloc, value, line, store, out) {
+            Ok(no) => no,
+            Err(cut) => return Err(cut),
+        };
+        refused |= no;
+        rest = after;
+    }
+    Ok(refused)
+}
