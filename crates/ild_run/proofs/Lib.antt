@@ -2,3 +2,4 @@ pub mod Putting
 pub mod Runs
 pub mod Cuts
 pub mod Openings
+pub mod Endings

@@ -9,7 +9,7 @@ use Rattle.ild_edges.specs.declared.inputs.Taken.{Taken}
 use Rattle.ild_script.specs.declared.reply.Reply.{Reply}
 use Rattle.ild_script.specs.Line.{lines_of}
 use Rattle.ild_script.specs.Reply.{is_no}
-use Rattle.ild_plain.specs.Value.{Value, block_of, blocks_of}
+use Rattle.ild_plain.specs.Value.{Value, root_of, blocks_of}
 use Rattle.ild_run.specs.Session.{State, idle}
 use Rattle.ild_run.specs.Step.{Holds, AddsOnly, Collides}
 use Rattle.ild_run.specs.Run.{Run, texts}
@@ -48,7 +48,7 @@ abbrev pub IsDue : Call → Taken → Taken → Fault → Type 0
 IsDue c schema script (F.Input role T.Failed) = Rose c.before.supply.faults c.after.supply.faults × Reaches role c.names schema
 IsDue c schema script (F.Input role trouble) = (work_of c.names schema script ≡ ends (F.Input role trouble)) × Rose c.before.supply.lacks c.after.supply.lacks
 IsDue c schema script F.Store = Rose c.before.moment.faults c.after.moment.faults × HasScript (work_of c.names schema script)
-IsDue c schema script (F.Clash id) = Collides c.after.moment (blocks_of []) × HasScript (work_of c.names schema script)
+IsDue c schema script (F.Clash id) = (id.0 ≡ root_of []) × Collides c.after.moment (blocks_of []) × HasScript (work_of c.names schema script)
 IsDue c schema script F.Memory = Unit {0}
 IsDue c schema script f = work_of c.names schema script ≡ ends f
 
@@ -99,6 +99,17 @@ pub record TellsFront (c : Call) (schema taken : Taken) : Type 0 where
 -- the text that was due was cut off
 abbrev pub IsCut : Call → Taken → Taken → Type 0
 IsCut c schema taken = TellsFront c schema taken ⊎ AnswersSome c schema taken
+
+-- the statuses of a text that was cut off, with their causes
+abbrev pub CutAs : Output → Status → Output → Type 0
+CutAs m S.SinkFault n = Rose m.faults n.faults
+CutAs m S.Memory n = Unit {0}
+CutAs m status n = ⊥
+
+-- a fault's line was written, or cut off
+pub record ToldAs (f : Fault) (m : Output) (status : Status) (n : Output) : Type 0 where
+  pub told : ((status ≡ status_of f) × Appends m.written n.written (fault_text f)) ⊎ (CutAs m status n × AppendsFront m.written n.written (fault_text f))
+  pub faults : m.faults ≤ n.faults
 
 -- what a status says
 abbrev pub Says : Call → Taken → Taken → Status → Type 0

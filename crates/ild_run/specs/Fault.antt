@@ -8,6 +8,8 @@ use Rattle.ild_run.specs.declared.fault.Role.{Role}
 use Rattle.ild_run.specs.declared.fault.Role.TheVariants as Role
 use Rattle.ild_run.specs.declared.fault.Trouble.{Trouble}
 use Rattle.ild_run.specs.declared.fault.Trouble.TheVariants as T
+use Rattle.ild_run.specs.declared.script.Cut.{Cut}
+use Rattle.ild_run.specs.declared.script.Cut.TheVariants as C
 use Rattle.ild_run.specs.declared.status.Status.{Status}
 use Rattle.ild_run.specs.declared.status.Status.TheVariants as S
 
@@ -35,6 +37,10 @@ fault_text (F.Input role trouble) = input_text role trouble
 fault_text F.Store = codes "fault 6 store\n"
 fault_text (F.Clash id) = codes "fault 6 clash " ++ (cid_text_of (cid_of id.0) ++ 10 ∷ [])
 fault_text F.Memory = codes "fault 8 memory\n"
+
+abbrev pub cut_status : Cut → Status
+cut_status C.Sink = S.SinkFault
+cut_status C.Memory = S.Memory
 
 -- the number of a status
 abbrev pub code_of : Status → ℕ

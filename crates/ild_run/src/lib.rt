@@ -8,8 +8,7 @@ mod publish;
 mod script;
 mod status;
 mod step;
+mod top;
 
-pub use fault::Fault;
 pub use status::Status;
-pub use open::{Names, names_of, take_script, put_empty};
-pub use script::{Cut, answer_all};
+pub use top::run;

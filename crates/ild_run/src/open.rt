@@ -11,6 +11,7 @@ use ild_plain::PlainMap;
 use std::alloc::Global;
 
 /// The names of the inputs.
+#[derive(Clone, Copy)]
 pub struct Names<'w> {
     pub schema: &'w str,
     pub script: &'w str,
