@@ -2,3 +2,4 @@ pub mod Lists
 pub mod Places
 pub mod Rising
 pub mod Spelling
+pub mod Regroup

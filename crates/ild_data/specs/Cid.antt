@@ -1,5 +1,5 @@
 -- Binary CIDs (multiformats, CIDv1): varint 1, varint codec, varint hash code, varint digest length, digest.
-use Rattle.std.specs.Prelude.{◌≡◌, ℕ, ◌≤◌, List, [], ◌∷◌, ◌++◌, length}
+use Rattle.std.specs.Prelude.{◌≡◌, ℕ, ◌≤◌, List, ◌∷◌, ◌++◌, length}
 use Rattle.ild_data.specs.Varint.{IsVarint}
 
 -- the bytes s are a CID with these parts

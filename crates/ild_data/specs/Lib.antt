@@ -4,6 +4,8 @@ pub mod Integer
 pub mod Key
 pub mod Varint
 pub mod Cid
+pub mod Base32
+pub mod CidText
 pub mod Tree
 pub mod Spell
 pub mod Limits

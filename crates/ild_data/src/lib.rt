@@ -1,7 +1,10 @@
 //! The data model: numbers, texts, trees, the ids of blocks and the order of keys.
 #![tactic(auto)]
 
+mod base32;
+mod bits;
 mod cid;
+mod cid_text;
 mod copy;
 mod id;
 mod int;

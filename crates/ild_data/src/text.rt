@@ -30,6 +30,21 @@ impl Txt {
         })
     }
 
+    /// The text of a string, without a copy.
+    pub fn from_string(text: String) -> Txt
+        ensures { result ≡ string_bytes text }
+    {
+        let _utf8 = text.as_str().as_bytes();
+        Txt { text }
+    }
+
+    /// The string of the text, without a copy.
+    pub fn into_string(self) -> String
+        ensures { string_bytes result ≡ self }
+    {
+        self.text
+    }
+
     /// The same text, made anew.
     pub fn copy(&self) -> Result<Txt, AllocError>
         ensures { IfOk result (λ t. t ≡ self.now) }
