@@ -4,7 +4,7 @@ ghost use Rattle.ild_data.specs.Spell.{id_of};
 
 use crate::cause::cause;
 use crate::load::load;
-use crate::name::block_path;
+use crate::name::{block_path, part_path};
 use ild_data::{BlockId, Octets, block_id};
 use ild_edges::{EdgeErr, Store};
 use std::io::{ErrorKind, Write};
@@ -87,7 +87,7 @@ fn write<R: Files + AllocGlobal>(rt: &R, folder: &str, path: &str, bytes: &[u8])
 
 /// Writes a file beside its name, and moves it there when it is whole. A part that stays behind is taken away.
 fn place<R: Files + AllocGlobal>(rt: &R, folder: &str, path: &str, bytes: &[u8]) -> io::Result<()> {
-    let part = format!(in rt.alloc(); "{path}.part")?;
+    let part = part_path(rt.alloc(), path)?;
     let placed = write(rt, folder, part.as_str(), bytes).and_then(|()| fs::rename(
         rt,
         part.as_str(),
