@@ -31,6 +31,7 @@ pub struct FolderStore<'r, R: Files + AllocGlobal> {
 impl<'r, R: Files + AllocGlobal> FolderStore<'r, R> {
     /// The blocks in a folder, which is made when the first block is put.
     pub fn new(rt: &'r R, folder: &'r str) -> FolderStore<'r, R>
+        ensures folder { result.folder.now ≡ folder.now }
         ensures gets { result.gets ≡ 0 }
         ensures puts { result.puts ≡ 0 }
         ensures lacks { result.lacks ≡ 0 }
