@@ -32,13 +32,13 @@ command_in l line = record { verb = line.verb; path = line.path; json = drop lin
 
 -- a command is read from the bytes l
 abbrev pub ReadsCommand : List ℕ → Result Line LineErr → Reading → Type 0
-ReadsCommand l (Ok line) reading = reading ≡ command (command_in l line)
+ReadsCommand l (Ok line) reading = (line.json_at ≤ length l) × (reading ≡ command (command_in l line))
 ReadsCommand l (Err E.Line) reading = reading ≡ outside
 ReadsCommand l (Err E.Memory) reading = Unit {0}
 
 -- a line of the program is read from the bytes l
 abbrev pub ReadsAs : List ℕ → Result (Option Line) LineErr → Type 0
 ReadsAs l (Ok None) = reads l ≡ blank
-ReadsAs l (Ok (Some line)) = reads l ≡ command (command_in l line)
+ReadsAs l (Ok (Some line)) = (line.json_at ≤ length l) × (reads l ≡ command (command_in l line))
 ReadsAs l (Err E.Line) = reads l ≡ outside
 ReadsAs l (Err E.Memory) = Unit {0}
