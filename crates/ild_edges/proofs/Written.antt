@@ -66,3 +66,6 @@ writes_none m n piece (Err Memory) e same le = record {
   answer = subst (λ (w : Option (List ℕ)). AppendsFront m.written w piece) (sym same) (front_none m.written piece);
   faults = le;
 }
+
+-- pieces one after another, and a front of the last one
+pub ruleset written = (appends_none, appends_then, front_none, front_then, front_more)
