@@ -1,5 +1,7 @@
 -- How a call ends, from how its steps ended.
 use Rattle.std.proofs.Common.{◌≡◌, ◌⊎◌, ℕ, ◌+◌, ◌≤◌, List, [], ◌∷◌, Bool, true, false, Option, Some, None, Result, Ok, Err, refl, sym, ap, ◌∙◌, subst, inl, inr, arith}
+use Rattle.std.specs.Prelude.{IsErrOf}
+use Rattle.ild_edges.specs.Count.{Rose}
 use Rattle.ild_data.specs.declared.id.BlockId.{BlockId}
 use Rattle.ild_edges.specs.Inputs.{MayBe}
 use Rattle.ild_edges.specs.Sink.{Output, Appends, AppendsFront}
@@ -77,26 +79,19 @@ ended_empty c ns schema script b v f status named a s work empty answer told =
     let answer' = subst (λ (x : Value). EmptyAnswer c.before.moment x (Err f) c.after.moment) empty answer in
     ended_told c schema script f status (are_taken c ns schema script named a s) (due_empty c schema script f has' answer') told
 
-answers_from : (c : Call) (k : Moment) (lines : List (List ℕ)) (w : Value) (was now : Option (List ℕ)) (refused : Bool) (r : Result (Unit {0}) Fault) (u : Unit {0}) → r ≡ Ok u → PutsEmpty c.before.moment [] r k
-    → (done : LinesDone k [] lines c.after.moment w was now refused) → Answers c lines done.replies w
-answers_from c k lines w was now refused r u ok empty done =
-    let empty' = subst (λ (x : Result (Unit {0}) Fault). PutsEmpty c.before.moment [] x k) ok empty in
-    record { opened = k; later = empty'.later; stands = empty'.answer; adds = empty'.adds; gets = empty'.gets; puts = empty'.puts; run = done.run }
-
 -- a call whose lines were all answered
 pub answered_all : (c : Call) (ns : Names) (schema script : Taken) (b : List ℕ) (v : Value) (r : Result (Unit {0}) Fault) (u : Unit {0}) (k : Moment) (w : Value) (refused : Bool) → c.names ≡ Some ns → schema_work schema script ≡ answers b → v ≡ [] → r ≡ Ok u → PutsEmpty c.before.moment v r k
     → LinesDone k v (lines_of b) c.after.moment w c.before.output.written c.after.output.written refused → AnswersAll c schema script refused
 answered_all c ns schema script b v r u k w refused named work empty ok puts done =
-    let puts' = subst (λ (x : Value). PutsEmpty c.before.moment x r k) empty puts in
+    let puts' = subst (λ (x : Result (Unit {0}) Fault). PutsEmpty c.before.moment [] x k) ok (subst (λ (x : Value). PutsEmpty c.before.moment x r k) empty puts) in
     let done' = subst (λ (x : Value). LinesDone k x (lines_of b) c.after.moment w c.before.output.written c.after.output.written refused) empty done in
-    let all = answers_from c k (lines_of b) w c.before.output.written c.after.output.written refused r u ok puts' done' in
     record {
       bytes = b;
       work = has_script c.names ns schema script b named work;
       replies = done'.replies;
       last = w;
-      answered = all;
-      stands = done'.stands all.stands;
+      answered = record { opened = k; later = puts'.later; stands = puts'.answer; adds = puts'.adds; gets = puts'.gets; puts = puts'.puts; run = done'.run };
+      stands = done'.stands puts'.answer;
       written = done'.written;
       refused_is = done'.refused_is;
     }
@@ -131,3 +126,8 @@ ended_done c ns schema script named a s all = record { schema = schema; script =
 
 pub ended_refused : (c : Call) (ns : Names) (schema script : Taken) → c.names ≡ Some ns → MayBe c.before.supply.files ns.schema schema → MayBe c.before.supply.files ns.script script → AnswersAll c schema script true → Ended c S.Refused
 ended_refused c ns schema script named a s all = record { schema = schema; script = script; taken = are_taken c ns schema script named a s; says = all }
+
+-- why a text was cut off
+pub cut_cause : (cut : Cut) (m n : Output) → (IsErrOf {T = Bool} (Err cut) C.Sink → Rose m.faults n.faults) → CutAs m (cut_status cut) n
+cut_cause C.Sink m n rose = rose refl
+cut_cause C.Memory m n rose = tt
