@@ -3,3 +3,4 @@ pub mod Places
 pub mod Rising
 pub mod Spelling
 pub mod Regroup
+pub mod Varints

@@ -1,15 +1,16 @@
 -- What a binary search finds among rising keys, and what an edit at that place does.
-use Rattle.std.proofs.Common.{◌≡◌, ℕ, zero, suc, ◌<◌, ◌≤◌, get_or, set, List, [], ◌∷◌, length, map, Some, None, Result, Ok, Err, slice_get, option_map, cond, refl, ◌∙◌, ap, arith}
+use Rattle.std.proofs.Common.{◌≡◌, ℕ, zero, suc, ◌+◌, ◌<◌, ◌≤◌, get_or, set, List, [], ◌∷◌, ◌++◌, length, map, Option, Some, None, Result, Ok, Err, slice_get, option_map, Bool, true, false, cond, refl, sym, ◌∙◌, ap, arith}
 use Rattle.std.specs.Prelude.{IfOk, IfErr, insert, remove}
 use Rattle.std.specs.List.Sorted.{IsSearchInRange, IsBinarySearchResult}
-use Rattle.std.specs.Ordering.{match_ordering, ordering_reverse}
+use Rattle.std.specs.Ordering.{match_ordering, ordering_reverse, ordering_index}
 use Rattle.std.specs.declared.cmp.Ordering.{Ordering}
 use Rattle.std.specs.declared.cmp.Ordering.TheVariants.{Less, Equal, Greater}
 use Rattle.std.proofs.lemmas.List.Sorted.{searchable_from_sorted}
+use Rattle.ild_data.specs.Data.{Data}
 use Rattle.ild_data.specs.Key.{key_cmp, same_text, put, value_at, without, Rises}
 use Rattle.ild_data.specs.Seen.{pair_of, data_of}
 use Rattle.ild_data.specs.declared.tree.Tree.{Tree}
-use Rattle.ild_data.proofs.Rising.{key_cmp_total, keys_sorted, differs, agrees}
+use Rattle.ild_data.proofs.Rising.{key_cmp_total, keys_sorted, sorted_keys, differs, agrees}
 
 not_equal_greater : Greater ≡ Equal → ⊥
 not_equal_greater e = cc

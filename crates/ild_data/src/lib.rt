@@ -6,6 +6,7 @@ mod bits;
 mod cid;
 mod cid_text;
 mod copy;
+mod fault;
 mod id;
 mod int;
 mod key;
@@ -13,8 +14,10 @@ mod path;
 mod place;
 mod text;
 mod tree;
+mod varint;
 
 pub use cid::Cid;
+pub use fault::{CidFault, TextErr};
 pub use id::{BlockId, block_id};
 pub use int::Int;
 pub use key::{key_less, key_order};
