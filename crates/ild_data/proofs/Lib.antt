@@ -4,3 +4,4 @@ pub mod Rising
 pub mod Spelling
 pub mod Regroup
 pub mod Varints
+pub mod Cids

@@ -18,18 +18,23 @@ abbrev pub behind : ℕ → ℕ × List ℕ → ℕ × List ℕ
 behind b r = (b - 128 + 128 * r.0, r.1)
 
 -- The groups behind one that says that more follow, where so many bytes may come: their number, and the bytes after them.
+-- (A number from 256 on is no byte.)
 unfoldable pub read_more : ℕ → List ℕ → Result (ℕ × List ℕ) CidFault
 read_more zero s = Err Varint
 read_more (suc room) [] = Err Short
 read_more (suc room) (b ∷ s) =
     if b == 0 then Err Varint
     else if nat_lt b 128 then Ok (b, s)
-    else (read_more room s >>= λ r. Ok (behind b r))
+    else if nat_lt b 256 then (read_more room s >>= λ r. Ok (behind b r))
+    else Err Varint
 
 -- the number of a varint, and the bytes after it
 unfoldable pub read_varint : List ℕ → Result (ℕ × List ℕ) CidFault
 read_varint [] = Err Short
-read_varint (b ∷ s) = if nat_lt b 128 then Ok (b, s) else (read_more 8 s >>= λ r. Ok (behind b r))
+read_varint (b ∷ s) =
+    if nat_lt b 128 then Ok (b, s)
+    else if nat_lt b 256 then (read_more 8 s >>= λ r. Ok (behind b r))
+    else Err Varint
 
 pub record CidParts : Type 0 where
   pub codec : ℕ
@@ -58,3 +63,11 @@ read_cid s = do
 
 unfoldable pub is_cid : List ℕ → Bool
 is_cid s = is_ok (read_cid s)
+
+abbrev pub parts_or_none : Result CidParts CidFault → CidParts
+parts_or_none (Ok p) = p
+parts_or_none (Err e) = record { codec = 0; hash = 0; digest = [] }
+
+-- the parts of a CID
+unfoldable pub cid_parts : List ℕ → CidParts
+cid_parts s = parts_or_none (read_cid s)

@@ -7,6 +7,7 @@ pub mod Cid
 pub mod Base32
 pub mod CidText
 pub mod CidRead
+pub mod CidView
 pub mod Tree
 pub mod Spell
 pub mod Limits

@@ -4,7 +4,9 @@
 mod base32;
 mod bits;
 mod cid;
-mod cid_text;
+mod cid_letters;
+mod cid_parts;
+mod cid_ref;
 mod copy;
 mod fault;
 mod id;
@@ -17,6 +19,8 @@ mod tree;
 mod varint;
 
 pub use cid::Cid;
+pub use cid_letters::cid_text;
+pub use cid_ref::CidRef;
 pub use fault::{CidFault, TextErr};
 pub use id::{BlockId, block_id};
 pub use int::Int;
