@@ -5,6 +5,7 @@ use Rattle.ild_data.specs.declared.fault.CidFault.{CidFault}
 use Rattle.ild_data.specs.declared.fault.CidFault.TheVariants.{Version, Short, Long, Rest}
 use Rattle.std.proofs.lemmas.Bool.{eqb-true}
 use Rattle.std.proofs.lemmas.Bool.Decides.{nat_tests}
+use Rattle.ild_data.specs.CidTextRead.{checked_by}
 use Rattle.ild_data.proofs.Varints.{bind_ok, read_varint-sound, read_varint-complete, one_form}
 use Rattle.ild_data.specs.Varint.{AreGroups, IsVarint}
 use Rattle.ild_data.specs.Cid.{CidOf, IsCid}
@@ -142,3 +143,6 @@ IsCid-is_cid s of = is_cid_read s _ (read_cid-complete s of.codec of.hash of.dig
 
 pub not_read : (s : List ℕ) (e : CidFault) → read_cid s ≡ Err e → IsCid s → ⊥
 not_read s e is of = let h = read_cid-complete s of.codec of.hash of.digest of.parts in cc
+
+pub checked_cid : (s : List ℕ) → IsCid s → checked_by s (read_cid s) ≡ Ok s
+checked_cid s of = rw (read_cid-complete s of.codec of.hash of.digest of.parts) refl

@@ -5,3 +5,5 @@ pub mod Spelling
 pub mod Regroup
 pub mod Varints
 pub mod Cids
+pub mod TextBits
+pub mod Texts

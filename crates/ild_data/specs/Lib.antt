@@ -8,6 +8,7 @@ pub mod Base32
 pub mod CidText
 pub mod CidRead
 pub mod CidView
+pub mod CidTextRead
 pub mod Tree
 pub mod Spell
 pub mod Limits

@@ -1,7 +1,7 @@
 //! Content identifiers (multiformats, CIDv1) in their binary form.
 ghost use Rattle.std.specs.Prelude.{◌≡◌, IfOk};
 
-use crate::{CidRef, Octets};
+use crate::{CidFault, CidRef, Octets};
 use std::alloc::{AllocError, Global};
 use std::marker::Model;
 
@@ -24,6 +24,8 @@ impl Model for Cid {
 
 impl Cid {
     ghost use Rattle.ild_data.specs.Cid.{IsCid};
+    ghost use Rattle.std.specs.Prelude.{◌↔◌, IfErr, IsOk};
+    ghost use Rattle.ild_data.specs.CidRead.{read_cid};
     ghost use Rattle.ild_data.specs.CidView.{cid_bytes};
 
     /// The CID that is borrowed, made anew.
@@ -32,6 +34,18 @@ impl Cid {
     {
         Ok(Cid {
             bytes: Octets::of(alloc, cid.whole())?,
+        })
+    }
+
+    /// The CID that the bytes of a vector are, without a copy.
+    pub fn from_vec(bytes: Vec<u8>) -> Result<Cid, CidFault>
+        ensures form { IsOk result ↔ IsCid bytes.items }
+        ensures whole { IfOk result (λ t. t ≡ bytes.items) }
+        ensures fault { IfErr result (λ e. read_cid bytes.items ≡ Err e) }
+    {
+        CidRef::read(&bytes)?;
+        Ok(Cid {
+            bytes: Octets::from_vec(bytes),
         })
     }
 

@@ -19,7 +19,7 @@ mod tree;
 mod varint;
 
 pub use cid::Cid;
-pub use cid_letters::cid_text;
+pub use cid_letters::{cid_of_text, cid_text};
 pub use cid_ref::CidRef;
 pub use fault::{CidFault, TextErr};
 pub use id::{BlockId, block_id};
