@@ -1,6 +1,6 @@
 -- Texts of CIDs: what is spelled is read, and what is read is spelled so.
 use Rattle.std.proofs.Common.{◌≡◌, ℕ, zero, suc, ◌+◌, ◌*◌, ◌-◌, ◌/◌, ◌%◌, ◌<◌, ◌≤◌, Bool, true, false, ◌&&◌, ◌⊎◌, inl, inr, List, [], ◌∷◌, ◌++◌, length, map, drop, take, get_or, nat_lt, nat_le, ◌==◌, if◌then◌else◌, Some, None, refl, ap, sym, ◌∙◌, arith, append_assoc, length-append, subst}
-use Rattle.std.specs.Prelude.{Option, option_map, sum, Ok, Err, Result}
+use Rattle.std.specs.Prelude.{Option, option_map, sum, Ok, Err, Result, is_ok}
 use Rattle.std.proofs.lemmas.List.{append-nil, take_all}
 use Rattle.std.proofs.lemmas.List.Sums.{sum_by-cons}
 use Rattle.std.proofs.lemmas.Bool.{eq-eqb, eqb-true, lt-ltb, ltb-true}
@@ -8,12 +8,14 @@ use Rattle.std.proofs.lemmas.Bool.Decides.{nat_tests}
 use Rattle.ild_data.specs.declared.fault.TextErr.{TextErr}
 use Rattle.ild_data.specs.declared.fault.TextErr.TheVariants.{Prefix, Digit, Bits}
 use Rattle.ild_data.specs.Base32.{bits, five, fives, letter, letters, bytes_bits, base32, AreBytes}
+use Rattle.ild_data.specs.declared.fault.CidFault.{CidFault}
 use Rattle.ild_data.specs.Cid.{IsCid}
+use Rattle.ild_data.specs.CidRead.{CidParts, read_cid, is_cid}
 use Rattle.ild_data.specs.CidText.{cid_text_of}
 use Rattle.ild_data.specs.CidTextRead.{number_of, before, text_bits, eight, whole_bytes, left_bits, is_filling, bytes_of, read_base32, checked, checked_by, read_cid_text}
 use Rattle.ild_data.proofs.Regroup.{length-bits, letters-five, fives-filled}
 use Rattle.ild_data.proofs.TextBits.{whole_of, left_of}
-use Rattle.ild_data.proofs.Cids.{checked_cid}
+use Rattle.ild_data.proofs.Cids.{checked_cid, is_cid-IsCid}
 
 -- the text begins with b
 pub text_begins : (s bytes : List ℕ) → 1 ≤ length s → get_or s 0 0 ≡ 98 → read_base32 (take (length s - 1) (drop 1 s)) ≡ Ok bytes → IsCid bytes → read_cid_text s ≡ Ok bytes
@@ -191,3 +193,102 @@ whole_left (a ∷ b ∷ c ∷ d ∷ e ∷ f ∷ g ∷ x ∷ bs) h =
 filling_cases : (bs : List ℕ) → is_filling bs ≡ true → (length bs < 5) × (sum bs ≡ 0)
 unfolding is_filling
 filling_cases bs is = grind (arith, nat_tests)
+
+chosen : (t : Bool) (w bytes : List ℕ) → (if t then Ok w else Err Bits) ≡ Ok bytes → (t ≡ true) × (w ≡ bytes)
+chosen true w bytes is = (refl, (cc))
+chosen false w bytes is = absurd (cc)
+
+bytes_cases : (o : Option (List ℕ)) (bytes : List ℕ) → bytes_of o ≡ Ok bytes → (bs : List ℕ) × (o ≡ Some bs) × (is_filling (left_bits bs) ≡ true) × (whole_bytes bs ≡ bytes)
+bytes_cases None bytes is = absurd (cc)
+bytes_cases (Some bs) bytes is = let h = chosen (is_filling (left_bits bs)) (whole_bytes bs) bytes is in (bs, refl, h.0, h.1)
+
+-- what is read is spelled so
+pub base32-read : (s bytes : List ℕ) → read_base32 s ≡ Ok bytes → base32 bytes ≡ s
+unfolding read_base32 base32
+base32-read s bytes is =
+    let h = bytes_cases (text_bits s) bytes is in
+    let k = text_spelled s h.0 h.1 in
+    let fill = filling_cases (left_bits h.0) h.2 in
+    let w = whole_left h.0 k.are in
+    let len : length (bytes_bits (whole_bytes h.0)) + length (left_bits h.0) ≡ 5 * length s
+    = sym (length-append (bytes_bits (whole_bytes h.0)) (left_bits h.0)) ∙ ap length w ∙ k.fives in
+    ap (λ t. letters (bytes_bits t)) (sym h.3)
+    ∙ ap (map letter) (sym (filled (bytes_bits (whole_bytes h.0)) (left_bits h.0) (length s) fill.0 fill.1 len))
+    ∙ ap letters w ∙ k.spelled
+
+letter_bits : (a b c d e : ℕ) (t r : List ℕ) → a < 2 → b < 2 → c < 2 → d < 2 → e < 2 → text_bits t ≡ Some r
+    → text_bits (letter (five a b c d e) ∷ t) ≡ Some (a ∷ b ∷ c ∷ d ∷ e ∷ r)
+unfolding text_bits
+letter_bits a b c d e t r p q u v w is =
+    let lt : five a b c d e < 32 = omega arith in
+    rw (number_letter (five a b c d e) lt, is, bits_five a b c d e p q u v w) refl
+
+no_text : text_bits [] ≡ Some []
+unfolding text_bits
+no_text = refl
+
+-- the letters of bits, read again
+record Filled (bs : List ℕ) : Type 0 where
+  pub fill : List ℕ
+  pub text : text_bits (letters bs) ≡ Some (bs ++ fill)
+  pub short : length fill < 5
+  pub none : sum fill ≡ 0
+
+a_zero : 0 < 2
+a_zero = omega arith
+
+filled_text : (bs : List ℕ) → AreBits bs → Filled bs
+unfolding fives
+filled_text [] h = record { fill = []; text = no_text; short = omega arith; none = refl }
+filled_text (a ∷ []) h = record { fill = 0 ∷ 0 ∷ 0 ∷ 0 ∷ []; text = letter_bits a 0 0 0 0 [] [] h.0 a_zero a_zero a_zero a_zero no_text; short = omega arith; none = refl }
+filled_text (a ∷ b ∷ []) h = record { fill = 0 ∷ 0 ∷ 0 ∷ []; text = letter_bits a b 0 0 0 [] [] h.0 h.1.0 a_zero a_zero a_zero no_text; short = omega arith; none = refl }
+filled_text (a ∷ b ∷ c ∷ []) h = record { fill = 0 ∷ 0 ∷ []; text = letter_bits a b c 0 0 [] [] h.0 h.1.0 h.1.1.0 a_zero a_zero no_text; short = omega arith; none = refl }
+filled_text (a ∷ b ∷ c ∷ d ∷ []) h = record { fill = 0 ∷ []; text = letter_bits a b c d 0 [] [] h.0 h.1.0 h.1.1.0 h.1.1.1.0 a_zero no_text; short = omega arith; none = refl }
+filled_text (a ∷ b ∷ c ∷ d ∷ e ∷ bs) h =
+    let more = filled_text bs h.1.1.1.1.1 in
+    record {
+      fill = more.fill;
+      text = letter_bits a b c d e (letters bs) (bs ++ more.fill) h.0 h.1.0 h.1.1.0 h.1.1.1.0 h.1.1.1.1.0 more.text;
+      short = more.short;
+      none = more.none;
+    }
+
+is_fill : (bs : List ℕ) → length bs < 5 → sum bs ≡ 0 → is_filling bs ≡ true
+unfolding is_filling
+is_fill bs lt none = rw (lt-ltb (length bs) 5 lt, none) refl
+
+-- what is spelled is read
+pub read-base32 : (bytes : List ℕ) → AreBytes bytes → read_base32 (base32 bytes) ≡ Ok bytes
+unfolding read_base32 base32
+read-base32 bytes all =
+    let f = filled_text (bytes_bits bytes) (AreBits-bytes bytes) in
+    let lt : length f.fill < 8 = omega (arith, f.short) in
+    rw (f.text, left_of bytes f.fill lt, whole_of bytes f.fill all lt, is_fill f.fill f.short f.none) refl
+
+pub read-cid_text : (s : List ℕ) → IsCid s → AreBytes s → read_cid_text (cid_text_of s) ≡ Ok s
+unfolding read_cid_text
+read-cid_text s of all = ap checked (read-base32 s all) ∙ checked_cid s of
+
+checked_cases : (bytes s : List ℕ) (r : Result CidParts CidFault) → checked_by bytes r ≡ Ok s → (is_ok r ≡ true) × (bytes ≡ s)
+checked_cases bytes s (Ok p) is = (refl, (cc))
+checked_cases bytes s (Err e) is = absurd (cc)
+
+base32_cases : (r : Result (List ℕ) TextErr) (s : List ℕ) → checked r ≡ Ok s → (r ≡ Ok s) × (is_cid s ≡ true)
+unfolding is_cid
+base32_cases (Ok bytes) s is =
+    let h = checked_cases bytes s (read_cid bytes) is in
+    let e : bytes ≡ s = h.1 in
+    (ap (λ t. Ok t) e, ap (λ t. is_ok (read_cid t)) (sym e) ∙ h.0)
+base32_cases (Err e) s is = absurd (cc)
+
+first_cases : (t : Bool) (r : Result (List ℕ) TextErr) (s : List ℕ) → (if t then checked r else Err Prefix) ≡ Ok s → (t ≡ true) × (checked r ≡ Ok s)
+first_cases true r s is = (refl, is)
+first_cases false r s is = absurd (cc)
+
+pub cid_text-read : (t s : List ℕ) → read_cid_text t ≡ Ok s → IsCid s × (t ≡ cid_text_of s)
+unfolding read_cid_text
+cid_text-read [] s is = absurd (cc)
+cid_text-read (c ∷ t) s is =
+    let h = first_cases (c == 98) (read_base32 t) s is in
+    let k = base32_cases (read_base32 t) s h.1 in
+    (is_cid-IsCid s k.1, ap (λ b. b ∷ t) (eqb-true c 98 h.0) ∙ ap (λ b. 98 ∷ b) (sym (base32-read t s k.0)))

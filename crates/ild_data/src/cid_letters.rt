@@ -39,6 +39,7 @@ impl BlockId {
 #[tactic(auto, using(crate::proofs::Cids::checked_cid), unfolding(crate::specs::CidTextRead::read_cid_text))]
 pub fn cid_of_text(alloc: Global, text: &str) -> Result<Cid, TextErr>
     ensures read { IfOk result (λ c. read_cid_text text.now ≡ Ok c) }
+    ensures spelled { IfOk result (λ c. text.now ≡ cid_text_of c) }
     ensures fault { IfErr result (λ e. (e ≡ TextErr.Memory) ⊎ (read_cid_text text.now ≡ Err e)) }
 {
     let [b'b', letters @ ..] = text.as_bytes() else {
