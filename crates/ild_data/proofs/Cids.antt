@@ -9,6 +9,7 @@ use Rattle.ild_data.specs.CidTextRead.{checked_by}
 use Rattle.ild_data.proofs.Varints.{bind_ok, read_varint-sound, read_varint-complete, one_form}
 use Rattle.ild_data.specs.Varint.{AreGroups, IsVarint}
 use Rattle.ild_data.specs.Cid.{CidOf, IsCid}
+use Rattle.ild_data.specs.Spell.{cid_of}
 use Rattle.ild_data.specs.CidRead.{read_more, read_varint, read_version, read_digest, read_cid, is_cid, cid_parts, parts_or_none, CidParts, behind, ◌>>=◌}
 
 -- parts that were read
@@ -146,3 +147,40 @@ not_read s e is of = let h = read_cid-complete s of.codec of.hash of.digest of.p
 
 pub checked_cid : (s : List ℕ) → IsCid s → checked_by s (read_cid s) ≡ Ok s
 checked_cid s of = rw (read_cid-complete s of.codec of.hash of.digest of.parts) refl
+
+a_byte : (n : ℕ) → n < 128 → IsVarint (n ∷ []) n
+a_byte n lt = record { groups = (lt, refl); short = omega arith }
+
+-- the CID of a block
+pub block_cid : (id : List ℕ) → length id ≡ 32 → CidOf (cid_of id) 0x71 0x12 id
+block_cid id is = record {
+  codec_form = 0x71 ∷ [];
+  hash_form = 0x12 ∷ [];
+  size_form = 0x20 ∷ [];
+  is = refl;
+  codec_is = a_byte 0x71 (omega arith);
+  hash_is = a_byte 0x12 (omega arith);
+  size_is = rw is (a_byte 0x20 (omega arith));
+  short = omega (arith, is);
+}
+
+pub block_is_cid : (id : List ℕ) → length id ≡ 32 → IsCid (cid_of id)
+block_is_cid id is = record { codec = 0x71; hash = 0x12; digest = id; parts = block_cid id is }
+
+pub block_parts : (s id : List ℕ) → length id ≡ 32 → s ≡ cid_of id → cid_parts s ≡ record { codec = 0x71; hash = 0x12; digest = id }
+block_parts s id is e = parts_read s _ (ap read_cid e ∙ read_cid-complete (cid_of id) 0x71 0x12 id (block_cid id is))
+
+form_of : (form : List ℕ) (n k : ℕ) → IsVarint form n → n ≡ k → k < 128 → form ≡ k ∷ []
+form_of form n k of is lt = one_form form k (subst (AreGroups form) is of.groups) lt
+
+of_block : (s digest : List ℕ) (codec hash : ℕ) → CidOf s codec hash digest → codec ≡ 0x71 → hash ≡ 0x12 → length digest ≡ 32 → s ≡ cid_of digest
+of_block s digest codec hash of a b c =
+    rw (
+      of.is,
+      form_of of.codec_form codec 0x71 of.codec_is a (omega arith),
+      form_of of.hash_form hash 0x12 of.hash_is b (omega arith),
+      form_of of.size_form (length digest) 0x20 of.size_is c (omega arith),
+    ) refl
+
+pub is_block : (s : List ℕ) → is_cid s ≡ true → (cid_parts s).codec ≡ 0x71 → (cid_parts s).hash ≡ 0x12 → length (cid_parts s).digest ≡ 32 → s ≡ cid_of (cid_parts s).digest
+is_block s is a b c = of_block s (cid_parts s).digest (cid_parts s).codec (cid_parts s).hash (read_cid-sound s (cid_parts s) (of_is_cid s is)) a b c

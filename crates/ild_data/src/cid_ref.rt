@@ -25,10 +25,11 @@ pub struct CidRef<'b> {
 }
 
 impl<'b> CidRef<'b> {
-    ghost use Rattle.std.specs.Prelude.{◌↔◌, IfOk, IfErr, IfSome, IsOk, IsSome, length};
+    ghost use Rattle.std.specs.Prelude.{◌↔◌, IfOk, IfErr, IfSome, IsOk, IsSome, List, ℕ, length};
     ghost use Rattle.ild_data.specs.Cid.{IsCid};
     ghost use Rattle.ild_data.specs.CidRead.{read_cid};
     ghost use Rattle.ild_data.specs.CidView.{cid_bytes};
+    ghost use Rattle.ild_data.specs.Spell.{cid_of};
 
     /// The CID that the bytes are, all of them.
     #[tactic(auto, using(crate::proofs::Cids::not_read))]
@@ -79,6 +80,8 @@ impl<'b> CidRef<'b> {
     pub fn block(&self) -> Option<BlockId>
         ensures some { let parts = cid_parts (cid_bytes self.now) in IsSome result ↔ ((parts.codec ≡ 0x71) × (parts.hash ≡ 0x12) × (length parts.digest ≡ 32)) }
         ensures id { IfSome result (λ id. id.0 ≡ (cid_parts (cid_bytes self.now)).digest) }
+        ensures whole { IfSome result (λ id. cid_bytes self.now ≡ cid_of id.0) }
+        ensures only { (id : List ℕ) → length id ≡ 32 → cid_bytes self.now ≡ cid_of id → IsSome result }
     {
         if self.codec != DAG_CBOR || self.hash != SHA2_256 || self.digest.len() != 32 {
             return None;
