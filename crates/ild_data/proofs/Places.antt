@@ -1,16 +1,15 @@
 -- What a binary search finds among rising keys, and what an edit at that place does.
-use Rattle.std.proofs.Common.{◌≡◌, ℕ, zero, suc, ◌+◌, ◌<◌, ◌≤◌, get_or, set, List, [], ◌∷◌, ◌++◌, length, map, Option, Some, None, Result, Ok, Err, slice_get, option_map, Bool, true, false, cond, refl, sym, ◌∙◌, ap, arith}
+use Rattle.std.proofs.Common.{◌≡◌, ℕ, zero, suc, ◌<◌, ◌≤◌, get_or, set, List, [], ◌∷◌, length, map, Some, None, Result, Ok, Err, slice_get, option_map, cond, refl, sym, ◌∙◌, ap, arith}
 use Rattle.std.specs.Prelude.{IfOk, IfErr, insert, remove}
 use Rattle.std.specs.List.Sorted.{IsSearchInRange, IsBinarySearchResult}
-use Rattle.std.specs.Ordering.{match_ordering, ordering_reverse, ordering_index}
+use Rattle.std.specs.Ordering.{match_ordering, ordering_reverse}
 use Rattle.std.specs.declared.cmp.Ordering.{Ordering}
 use Rattle.std.specs.declared.cmp.Ordering.TheVariants.{Less, Equal, Greater}
 use Rattle.std.proofs.lemmas.List.Sorted.{searchable_from_sorted}
-use Rattle.ild_data.specs.Data.{Data}
 use Rattle.ild_data.specs.Key.{key_cmp, same_text, put, value_at, without, Rises}
 use Rattle.ild_data.specs.Seen.{pair_of, data_of}
 use Rattle.ild_data.specs.declared.tree.Tree.{Tree}
-use Rattle.ild_data.proofs.Rising.{key_cmp_total, keys_sorted, sorted_keys, differs, agrees}
+use Rattle.ild_data.proofs.Rising.{key_exact, key_cmp_total, keys_sorted, differs, agrees}
 
 not_equal_greater : Greater ≡ Equal → ⊥
 not_equal_greater e = cc
@@ -73,6 +72,20 @@ module _ {V : Type 0} (k : List ℕ) where
   without_remove (m ∷ ms) (suc i) lt behind here =
       ap (λ b. cond b ms (m ∷ without k ms)) (differs k m.0 (same_text k m.0) Greater refl (behind 0 m (omega arith)) not_equal_greater)
       ∙ ap (λ xs. m ∷ xs) (without_remove ms i (omega arith) (later m ms i behind) (λ z. here z))
+
+  pub same_key : (ms : List (List ℕ × V)) (i : ℕ) → i < length ms → Here ms i → option_map (λ (p : List ℕ × V). p.0) (slice_get ms i) ≡ Some k
+  same_key [] i lt here = absurd (omega arith)
+  same_key (m ∷ ms) zero lt here = ap Some (sym (key_exact k m.0 (here m)))
+  same_key (m ∷ ms) (suc i) lt here = same_key ms i (omega arith) (λ z. here z)
+
+  pub without_none : (ms : List (List ℕ × V)) (i : ℕ) → i ≤ length ms → Behind ms i → Ahead ms i → without k ms ≡ ms
+  without_none [] i le behind ahead = refl
+  without_none (m ∷ ms) zero le behind ahead =
+      ap (λ b. cond b ms (m ∷ without k ms)) (differs k m.0 (same_text k m.0) Less refl (ahead 0 m (omega arith) (omega arith)) not_equal_less)
+      ∙ ap (λ xs. m ∷ xs) (without_none ms 0 (omega arith) (λ j z lt. absurd (omega arith)) (λ j z le lt. ahead (suc j) z (omega arith) (omega arith)))
+  without_none (m ∷ ms) (suc i) le behind ahead =
+      ap (λ b. cond b ms (m ∷ without k ms)) (differs k m.0 (same_text k m.0) Greater refl (behind 0 m (omega arith)) not_equal_greater)
+      ∙ ap (λ xs. m ∷ xs) (without_none ms i (omega arith) (later m ms i behind) (left m ms i ahead))
 
 -- what key_place answers of a place
 pub record IsPlace {V : Type 0} (k : List ℕ) (ms : List (List ℕ × V)) (r : Result ℕ ℕ) : Type 0 where
@@ -144,3 +157,11 @@ place_inserted k ms (Err i) p = λ v. put_insert k v ms i p.absent.0 p.absent.1 
 pub place_removed : {V : Type 0} (k : List ℕ) (ms : List (List ℕ × V)) (r : Result ℕ ℕ) → IsPlace k ms r → IfOk r (λ i. without k ms ≡ remove ms i)
 place_removed k ms (Ok i) p = without_remove k ms i p.found.0 p.found.1 p.found.2
 place_removed k ms (Err i) p = tt
+
+pub place_same : {V : Type 0} (k : List ℕ) (ms : List (List ℕ × V)) (r : Result ℕ ℕ) → IsPlace k ms r → IfOk r (λ i. option_map (λ (p : List ℕ × V). p.0) (slice_get ms i) ≡ Some k)
+place_same k ms (Ok i) p = same_key k ms i p.found.0 p.found.2
+place_same k ms (Err i) p = tt
+
+pub place_kept : {V : Type 0} (k : List ℕ) (ms : List (List ℕ × V)) (r : Result ℕ ℕ) → IsPlace k ms r → IfErr r (λ _. without k ms ≡ ms)
+place_kept k ms (Ok i) p = tt
+place_kept k ms (Err i) p = without_none k ms i p.absent.0 p.absent.1 p.absent.2

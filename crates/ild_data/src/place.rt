@@ -12,10 +12,12 @@ pub fn key_place<V>(pairs: &[(Txt, V)], key: &str) -> Result<usize, usize>
     requires { Rises pairs.now }
     ensures found { IfOk result (λ i. i < length pairs.now) }
     ensures place { IfErr result (λ i. i ≤ length pairs.now) }
+    ensures same { IfOk result (λ i. option_map (λ p. p.0) (slice_get pairs.now i) ≡ Some key.now) }
     ensures value { IfOk result (λ i. value_at key.now pairs.now ≡ option_map (λ p. p.1) (slice_get pairs.now i)) }
     ensures absent { IfErr result (λ _. value_at key.now pairs.now ≡ None) }
     ensures set { IfOk result (λ i. (v : V) → put key.now v pairs.now ≡ slice_set pairs.now i (key.now, v)) }
     ensures inserted { IfErr result (λ i. (v : V) → put key.now v pairs.now ≡ insert pairs.now i (key.now, v)) }
+    ensures kept { IfErr result (λ _. without key.now pairs.now ≡ pairs.now) }
     ensures removed { IfOk result (λ i. without key.now pairs.now ≡ remove pairs.now i) }
 {
     pairs.binary_search_by(|pair| key_order(pair.0.as_str(), key))

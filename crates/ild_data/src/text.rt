@@ -34,8 +34,15 @@ impl Txt {
     pub fn from_string(text: String) -> Txt
         ensures { result ≡ string_bytes text }
     {
-        let _bytes = text.as_str();
+        let _utf8 = text.as_str().as_bytes();
         Txt { text }
+    }
+
+    /// The string of the text, without a copy.
+    pub fn into_string(self) -> String
+        ensures { string_bytes result ≡ self }
+    {
+        self.text
     }
 
     /// The same text, made anew.

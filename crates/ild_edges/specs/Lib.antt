@@ -3,3 +3,8 @@ pub mod Told
 pub mod Store
 pub mod Inputs
 pub mod Sink
+pub mod Own
+pub mod Blocks
+pub mod MemInputs
+pub mod MemStore
+pub mod MemSink

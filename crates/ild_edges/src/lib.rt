@@ -1,12 +1,24 @@
 //! The outside: where inputs come from, where blocks are kept, and where the output goes.
 #![tactic(auto)]
 
+mod blocks;
+mod due;
 mod error;
 mod inputs;
+mod mem_inputs;
+mod mem_sink;
+mod mem_store;
 mod sink;
 mod store;
+#[cfg(test)]
+mod tests;
+mod through;
 
 pub use error::EdgeErr;
 pub use inputs::{Inputs, Taken};
+pub use mem_inputs::MemInputs;
+pub use mem_sink::MemSink;
+pub use mem_store::MemStore;
 pub use sink::Sink;
 pub use store::Store;
+pub use through::Through;

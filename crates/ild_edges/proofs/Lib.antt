@@ -1,0 +1,5 @@
+pub mod Held
+pub mod Later
+pub mod After
+pub mod Written
+pub mod Rows

@@ -1,0 +1,47 @@
+//! The heads of items (RFC 8949, section 3).
+ghost use Rattle.std.specs.Prelude.{◌≡◌, ◌++◌, ◌<◌, length, OnOk, OnErr};
+ghost use Rattle.ild_data.specs.Spell.{head};
+
+use std::alloc::AllocError;
+
+/// Appends the shortest head, or leaves the buffer unchanged.
+pub fn add_head(out: &mut Vec<u8>, major: u8, n: u64) -> Result<(), AllocError>
+    requires { major < 6 }
+    ensures ok { OnOk result (out.new.items ≡ out.old.items ++ head major n) }
+    ensures err { OnErr result (out.new.items ≡ out.old.items) }
+{
+    let first = 32 * major;
+    if n < 24 {
+        out.push(first + n as u8)?;
+    } else if n < 0x100 {
+        out.extend_from_slice(&[first + 24, n as u8])?;
+    } else if n < 0x1_0000 {
+        let mut piece = [first + 25; 3];
+        piece[1..].copy_from_slice(&(n as u16).to_be_bytes());
+        out.extend_from_slice(&piece)?;
+    } else if n < 0x1_0000_0000 {
+        let mut piece = [first + 26; 5];
+        piece[1..].copy_from_slice(&(n as u32).to_be_bytes());
+        out.extend_from_slice(&piece)?;
+    } else {
+        let mut piece = [first + 27; 9];
+        piece[1..].copy_from_slice(&n.to_be_bytes());
+        out.extend_from_slice(&piece)?;
+    }
+    Ok(())
+}
+
+/// Appends a head and the bytes that it counts, or leaves the buffer unchanged.
+pub fn add_string(out: &mut Vec<u8>, major: u8, piece: &[u8]) -> Result<(), AllocError>
+    requires { major < 6 }
+    ensures ok { OnOk result (out.new.items ≡ out.old.items ++ (head major (length piece.now) ++ piece.now)) }
+    ensures err { OnErr result (out.new.items ≡ out.old.items) }
+{
+    let before = out.len();
+    add_head(out, major, piece.len() as u64)?;
+    if let Err(e) = out.extend_from_slice(piece) {
+        out.truncate(before);
+        return Err(e);
+    }
+    Ok(())
+}

@@ -1,0 +1,121 @@
+-- How a call ends: the status, what is written, and the cause.
+use Rattle.std.specs.Prelude.{◌≡◌, ◌⊎◌, ℕ, ◌+◌, ◌≤◌, List, [], ◌∷◌, ◌++◌, Bool, true, false, Option}
+use Rattle.std.specs.List.{list_any}
+use Rattle.ild_edges.specs.Count.{Rose}
+use Rattle.ild_edges.specs.Inputs.{Supply}
+use Rattle.ild_edges.specs.Sink.{Output, Appends, AppendsFront}
+use Rattle.ild_edges.specs.Store.{Moment, Later}
+use Rattle.ild_edges.specs.declared.inputs.Taken.{Taken}
+use Rattle.ild_script.specs.declared.reply.Reply.{Reply}
+use Rattle.ild_script.specs.Line.{lines_of}
+use Rattle.ild_script.specs.Reply.{is_no}
+use Rattle.ild_plain.specs.Value.{Value, block_of, blocks_of}
+use Rattle.ild_run.specs.Session.{State, idle}
+use Rattle.ild_run.specs.Step.{Holds, AddsOnly, Collides}
+use Rattle.ild_run.specs.Run.{Run, texts}
+use Rattle.ild_run.specs.Plain.{plain_map}
+use Rattle.ild_run.specs.Words.{Names}
+use Rattle.ild_data.specs.declared.id.BlockId.{BlockId}
+use Rattle.ild_run.specs.Work.{Work, ends, answers, work_of, AreTaken, Reaches}
+use Rattle.ild_run.specs.Fault.{fault_text, status_of}
+use Rattle.ild_run.specs.declared.fault.Fault.{Fault}
+use Rattle.ild_run.specs.declared.fault.Fault.TheVariants as F
+use Rattle.ild_run.specs.declared.fault.Role.{Role}
+use Rattle.ild_run.specs.declared.fault.Trouble.{Trouble}
+use Rattle.ild_run.specs.declared.fault.Trouble.TheVariants as T
+use Rattle.ild_run.specs.declared.status.Status.{Status}
+use Rattle.ild_run.specs.declared.status.Status.TheVariants as S
+
+-- The outside at a moment of a call.
+pub record World : Type 0 where
+  pub supply : Supply
+  pub moment : Moment
+  pub output : Output
+
+-- a call from the world before to the world after
+pub record Call : Type 0 where
+  pub names : Option Names
+  pub before : World
+  pub after : World
+
+-- there are lines to answer
+abbrev pub HasScript : Work → Type 0
+HasScript (ends f) = ⊥
+HasScript (answers b) = Unit {0}
+
+-- the cause of a fault
+abbrev pub IsDue : Call → Taken → Taken → Fault → Type 0
+IsDue c schema script (F.Input role T.Failed) = Rose c.before.supply.faults c.after.supply.faults × Reaches role c.names schema
+IsDue c schema script (F.Input role trouble) = (work_of c.names schema script ≡ ends (F.Input role trouble)) × Rose c.before.supply.lacks c.after.supply.lacks
+IsDue c schema script F.Store = Rose c.before.moment.faults c.after.moment.faults × HasScript (work_of c.names schema script)
+IsDue c schema script (F.Clash id) = Collides c.after.moment (blocks_of []) × HasScript (work_of c.names schema script)
+IsDue c schema script F.Memory = Unit {0}
+IsDue c schema script f = work_of c.names schema script ≡ ends f
+
+-- the empty map's block was put, and these lines were answered from it
+pub record Answers (c : Call) (lines : List (List ℕ)) (replies : List Reply) (last : Value) : Type 0 where
+  pub opened : Moment
+  pub later : Later c.before.moment opened
+  pub stands : Holds opened (blocks_of [])
+  pub adds : AddsOnly c.before.moment opened (blocks_of [])
+  pub gets : opened.gets ≤ c.before.moment.gets
+  pub puts : opened.puts ≤ c.before.moment.puts + 1
+  pub run : Run plain_map opened (idle []) lines replies c.after.moment (idle last)
+
+-- every line of the script was answered, and all replies were written
+pub record AnswersAll (c : Call) (schema taken : Taken) (refused : Bool) : Type 0 where
+  pub bytes : List ℕ
+  pub work : work_of c.names schema taken ≡ answers bytes
+  pub replies : List Reply
+  pub last : Value
+  pub answered : Answers c (lines_of bytes) replies last
+  pub stands : Holds c.after.moment (blocks_of last)
+  pub written : Appends c.before.output.written c.after.output.written (texts replies)
+  pub refused_is : refused ≡ list_any is_no replies
+
+-- the first lines of the script were answered, and a front of their replies was written
+pub record AnswersSome (c : Call) (schema taken : Taken) : Type 0 where
+  pub bytes : List ℕ
+  pub work : work_of c.names schema taken ≡ answers bytes
+  pub first : List (List ℕ)
+  pub rest : List (List ℕ)
+  pub lines : lines_of bytes ≡ first ++ rest
+  pub replies : List Reply
+  pub last : Value
+  pub answered : Answers c first replies last
+  pub written : AppendsFront c.before.output.written c.after.output.written (texts replies)
+
+-- a fault was due, and its line was written
+pub record Tells (c : Call) (schema taken : Taken) (f : Fault) : Type 0 where
+  pub due : IsDue c schema taken f
+  pub written : Appends c.before.output.written c.after.output.written (fault_text f)
+
+-- a fault was due, and a front of its line was written
+pub record TellsFront (c : Call) (schema taken : Taken) : Type 0 where
+  pub f : Fault
+  pub due : IsDue c schema taken f
+  pub written : AppendsFront c.before.output.written c.after.output.written (fault_text f)
+
+-- the text that was due was cut off
+abbrev pub IsCut : Call → Taken → Taken → Type 0
+IsCut c schema taken = TellsFront c schema taken ⊎ AnswersSome c schema taken
+
+-- what a status says
+abbrev pub Says : Call → Taken → Taken → Status → Type 0
+Says c schema taken S.Done = AnswersAll c schema taken false
+Says c schema taken S.Refused = AnswersAll c schema taken true
+Says c schema taken S.Words = Tells c schema taken F.Words
+Says c schema taken S.Schema = Tells c schema taken F.NotBuilt
+Says c schema taken S.Root = ⊥
+Says c schema taken S.Input = (role : Role) × (trouble : Trouble) × Tells c schema taken (F.Input role trouble)
+Says c schema taken S.StoreFault = Tells c schema taken F.Store ⊎ ((id : BlockId) × Tells c schema taken (F.Clash id))
+Says c schema taken S.SinkFault = Rose c.before.output.faults c.after.output.faults × IsCut c schema taken
+Says c schema taken S.Memory = Tells c schema taken F.Memory ⊎ IsCut c schema taken
+Says c schema taken S.Value = ⊥
+
+-- a call ended with this status: what is taken of its inputs, and what the status says of it
+pub record Ended (c : Call) (status : Status) : Type 0 where
+  pub schema : Taken
+  pub script : Taken
+  pub taken : AreTaken c.names c.before.supply schema script
+  pub says : Says c schema script status

@@ -1,0 +1,50 @@
+-- The faults that end a run before its lines, each with its status and its line.
+use Rattle.std.specs.Prelude.{ℕ, List, [], ◌∷◌, ◌++◌, codes}
+use Rattle.ild_data.specs.Spell.{cid_of}
+use Rattle.ild_data.specs.CidText.{cid_text_of}
+use Rattle.ild_run.specs.declared.fault.Fault.{Fault}
+use Rattle.ild_run.specs.declared.fault.Fault.TheVariants as F
+use Rattle.ild_run.specs.declared.fault.Role.{Role}
+use Rattle.ild_run.specs.declared.fault.Role.TheVariants as Role
+use Rattle.ild_run.specs.declared.fault.Trouble.{Trouble}
+use Rattle.ild_run.specs.declared.fault.Trouble.TheVariants as T
+use Rattle.ild_run.specs.declared.status.Status.{Status}
+use Rattle.ild_run.specs.declared.status.Status.TheVariants as S
+
+abbrev pub status_of : Fault → Status
+status_of F.Words = S.Words
+status_of F.NotBuilt = S.Schema
+status_of (F.Input role trouble) = S.Input
+status_of F.Store = S.StoreFault
+status_of (F.Clash id) = S.StoreFault
+status_of F.Memory = S.Memory
+
+abbrev pub input_text : Role → Trouble → List ℕ
+input_text Role.Schema T.Failed = codes "fault 5 input schema failed\n"
+input_text Role.Schema T.Absent = codes "fault 5 input schema absent\n"
+input_text Role.Schema T.Long = codes "fault 5 input schema long\n"
+input_text Role.Script T.Failed = codes "fault 5 input script failed\n"
+input_text Role.Script T.Absent = codes "fault 5 input script absent\n"
+input_text Role.Script T.Long = codes "fault 5 input script long\n"
+
+-- the line of a fault, with its line feed
+abbrev pub fault_text : Fault → List ℕ
+fault_text F.Words = codes "fault 2 words\n"
+fault_text F.NotBuilt = codes "fault 3 schema notbuilt\n"
+fault_text (F.Input role trouble) = input_text role trouble
+fault_text F.Store = codes "fault 6 store\n"
+fault_text (F.Clash id) = codes "fault 6 clash " ++ (cid_text_of (cid_of id.0) ++ 10 ∷ [])
+fault_text F.Memory = codes "fault 8 memory\n"
+
+-- the number of a status
+abbrev pub code_of : Status → ℕ
+code_of S.Done = 0
+code_of S.Refused = 1
+code_of S.Words = 2
+code_of S.Schema = 3
+code_of S.Root = 4
+code_of S.Input = 5
+code_of S.StoreFault = 6
+code_of S.SinkFault = 7
+code_of S.Memory = 8
+code_of S.Value = 9

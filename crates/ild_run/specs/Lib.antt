@@ -1,0 +1,10 @@
+pub mod Session
+pub mod Step
+pub mod Run
+pub mod Change
+pub mod Plain
+pub mod Puts
+pub mod Words
+pub mod Fault
+pub mod Work
+pub mod Ended

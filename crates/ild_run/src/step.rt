@@ -1,0 +1,88 @@
+//! One line of a script.
+ghost use Rattle.std.specs.Prelude.{◌≡◌, ◌⊎◌, Some};
+ghost use Rattle.ild_run.specs.Session.{idle};
+ghost use Rattle.ild_run.specs.Step.{Step};
+ghost use Rattle.ild_run.specs.Plain.{plain_map, asked_by, got, root_reply};
+ghost use Rattle.ild_run.specs.Puts.{Asks, reply_to};
+
+use crate::edit::{del, only_segment, set};
+use ild_data::{BlockId, Path, Txt, block_id};
+use ild_edges::Store;
+use ild_plain::PlainMap;
+use ild_script::{Line, LineErr, No, Reply, Word, line_of};
+use std::alloc::Global;
+
+/// The integer at a path, printed as json.
+fn get(alloc: Global, value: &PlainMap, path: &Path) -> Reply
+    ensures { (result ≡ got path.now value.now) ⊎ (result ≡ Reply.No No.Memory) }
+{
+    let Some(key) = only_segment(path) else {
+        return Reply::No(No::Path);
+    };
+    match value.get(key.as_str()) {
+        Some(number) => match number.get().to_string(alloc) {
+            Ok(json) => Reply::Ok(Txt::from_string(json)),
+            Err(_) => Reply::No(No::Memory),
+        },
+        None => Reply::No(No::Path),
+    }
+}
+
+/// The root of the value.
+fn root(alloc: Global, value: &PlainMap) -> Reply
+    ensures { (result ≡ root_reply value.now) ⊎ (result ≡ Reply.No No.Memory) }
+{
+    match value.block(alloc) {
+        Ok(block) => Reply::Root(block_id(block.as_slice())),
+        Err(_) => Reply::No(No::Memory),
+    }
+}
+
+/// The reply to an edit.
+fn edit_reply(edited: Result<BlockId, No>) -> Reply
+    ensures { result ≡ reply_to edited }
+{
+    match edited {
+        Ok(id) => Reply::Root(id),
+        Err(refusal) => Reply::No(refusal),
+    }
+}
+
+/// Does what a line that was read asks for.
+fn obey<K: Store>(
+    alloc: Global,
+    value: &mut PlainMap,
+    line: &Line,
+    json: &[u8],
+    store: &mut K,
+) -> Reply
+    ensures { Asks (K.moment store.old) value.old (asked_by line.now.verb line.now.path json.now) (Some result) (K.moment store.new) value.new }
+{
+    match line.verb {
+        Word::Get => get(alloc, value, &line.path),
+        Word::Set => edit_reply(set(alloc, value, &line.path, json, store)),
+        Word::Del => edit_reply(del(alloc, value, &line.path, store)),
+        Word::Root => root(alloc, value),
+        _ => Reply::No(No::Line),
+    }
+}
+
+/// Answers a line, and leaves the value after it.
+pub fn answer_line<K: Store>(
+    alloc: Global,
+    value: &mut PlainMap,
+    line: &[u8],
+    store: &mut K,
+) -> Option<Reply>
+    ensures { Step plain_map (K.moment store.old) (idle value.old) line.now result (K.moment store.new) (idle value.new) }
+{
+    match line_of(alloc, line) {
+        Ok(None) => None,
+        Ok(Some(read)) => {
+            let json = &line[read.json_at..];
+            Some(obey(alloc, value, &read, json, store))
+        }
+        Err(LineErr::Line) => Some(Reply::No(No::Line)),
+        Err(LineErr::Memory) => Some(Reply::No(No::Memory)),
+    }
+}

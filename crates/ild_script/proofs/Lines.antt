@@ -1,0 +1,15 @@
+-- A line of text is read as a line of bytes.
+use Rattle.std.proofs.Common.{◌≡◌, ℕ, List, [], ◌∷◌, length, Bool, true, false, cond, eqb, sym, ap, ◌∙◌, arith}
+use Rattle.std.specs.Prelude.{IsUtf8}
+use Rattle.std.specs.Str.Lossy.{utf8_valid_len}
+use Rattle.std.proofs.lemmas.Str.{utf8_valid_len-IsUtf8}
+use Rattle.std.proofs.lemmas.Bool.Decides.{nat_tests}
+use Rattle.ild_script.specs.Line.{Reading, outside, reads, reads_text}
+
+same_length : {X : Type 0} (n : ℕ) (x y : X) → cond (eqb n n) x y ≡ x
+same_length n x y = grind (arith, nat_tests)
+
+pub reads_utf8 : (line : List ℕ) → IsUtf8 line → eqb (length line) 0 ≡ false → reads line ≡ reads_text line
+reads_utf8 [] utf8 some = absurd cc
+reads_utf8 (b ∷ bs) utf8 some =
+    ap (λ n. cond (eqb n (length (b ∷ bs))) (reads_text (b ∷ bs)) outside) (utf8_valid_len-IsUtf8 (b ∷ bs) utf8) ∙ same_length (length (b ∷ bs)) _ _

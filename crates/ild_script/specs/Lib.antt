@@ -1,0 +1,5 @@
+pub mod Escape
+pub mod Path
+pub mod Line
+pub mod Reads
+pub mod Reply

@@ -1,0 +1,14 @@
+//! The lines of a script and the replies to them, as texts.
+#![tactic(auto)]
+
+mod error;
+mod escape;
+mod line;
+mod path;
+mod reply;
+mod word;
+
+pub use error::LineErr;
+pub use line::{Line, line_of};
+pub use reply::{No, Reply, reply_text};
+pub use word::{Shape, Word};
