@@ -1,5 +1,5 @@
 -- What the reading rules read is a CID of the grammar, and each such CID is read.
-use Rattle.std.proofs.Common.{◌≡◌, ℕ, zero, suc, ◌+◌, ◌*◌, ◌-◌, ◌<◌, ◌≤◌, Bool, true, false, ◌↔◌, List, [], ◌∷◌, ◌++◌, length, nat_lt, ◌==◌, refl, ap, sym, ◌∙◌, arith, subst, append_assoc, if◌then◌else◌}
+use Rattle.std.proofs.Common.{◌≡◌, ℕ, ◌<◌, ◌≤◌, Bool, true, false, List, [], ◌∷◌, ◌++◌, length, nat_lt, ◌==◌, refl, ap, sym, ◌∙◌, arith, subst, append_assoc, if◌then◌else◌}
 use Rattle.std.specs.Prelude.{Ok, Err, Result, is_ok}
 use Rattle.ild_data.specs.declared.fault.CidFault.{CidFault}
 use Rattle.ild_data.specs.declared.fault.CidFault.TheVariants.{Version, Short, Long, Rest}
@@ -10,7 +10,7 @@ use Rattle.ild_data.proofs.Varints.{bind_ok, read_varint-sound, read_varint-comp
 use Rattle.ild_data.specs.Varint.{AreGroups, IsVarint}
 use Rattle.ild_data.specs.Cid.{CidOf, IsCid}
 use Rattle.ild_data.specs.Spell.{cid_of}
-use Rattle.ild_data.specs.CidRead.{read_more, read_varint, read_version, read_digest, read_cid, is_cid, cid_parts, parts_or_none, CidParts, behind, ◌>>=◌}
+use Rattle.ild_data.specs.CidRead.{read_varint, read_version, read_digest, read_cid, is_cid, cid_parts, parts_or_none, CidParts, ◌>>=◌}
 
 -- parts that were read
 pub parts_read : (s : List ℕ) (p : CidParts) → read_cid s ≡ Ok p → cid_parts s ≡ p

@@ -1,13 +1,12 @@
 -- A base32 text read: its bits, the whole bytes of them, and what is left.
-use Rattle.std.proofs.Common.{◌≡◌, ℕ, zero, suc, add-one, ◌+◌, ◌*◌, ◌-◌, ◌/◌, ◌%◌, ◌^◌, ◌<◌, ◌≤◌, Bool, true, false, List, [], ◌∷◌, ◌++◌, length, drop, get_or, nat_lt, ◌==◌, if◌then◌else◌, Some, None, refl, ap, sym, ◌∙◌, arith, append_assoc, length-append, subst}
-use Rattle.std.specs.Prelude.{Option, option_map, sum, Ok, Err, Result}
+use Rattle.std.proofs.Common.{◌≡◌, ℕ, zero, suc, add-one, ◌+◌, ◌/◌, ◌%◌, ◌^◌, ◌<◌, ◌≤◌, Bool, false, List, [], ◌∷◌, ◌++◌, length, drop, get_or, nat_lt, ◌==◌, if◌then◌else◌, Some, None, refl, ap, sym, ◌∙◌, arith, append_assoc, length-append, subst}
+use Rattle.std.specs.Prelude.{Option, option_map, sum, Ok, Err}
 use Rattle.std.proofs.Math.Seq.{drop-cons}
 use Rattle.std.proofs.Math.Nat.{two-pow-succ}
 use Rattle.std.proofs.lemmas.List.{append-nil, drop_all}
 use Rattle.std.proofs.lemmas.List.Sums.{sum_by-append, sum_by-cons}
 use Rattle.std.proofs.lemmas.Bool.{lt-ltb}
 use Rattle.std.proofs.lemmas.Bool.Decides.{nat_tests}
-use Rattle.ild_data.specs.declared.fault.TextErr.{TextErr}
 use Rattle.ild_data.specs.declared.fault.TextErr.TheVariants.{Digit, Bits}
 use Rattle.ild_data.specs.Base32.{bits, bytes_bits, AreBytes}
 use Rattle.ild_data.specs.CidTextRead.{number_of, before, text_bits, eight, whole_bytes, left_bits, is_filling, bytes_of, read_base32}

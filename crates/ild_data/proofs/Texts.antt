@@ -1,12 +1,12 @@
 -- Texts of CIDs: what is spelled is read, and what is read is spelled so.
-use Rattle.std.proofs.Common.{◌≡◌, ℕ, zero, suc, ◌+◌, ◌*◌, ◌-◌, ◌/◌, ◌%◌, ◌<◌, ◌≤◌, Bool, true, false, ◌&&◌, ◌⊎◌, inl, inr, List, [], ◌∷◌, ◌++◌, length, map, drop, take, get_or, nat_lt, nat_le, ◌==◌, if◌then◌else◌, Some, None, refl, ap, sym, ◌∙◌, arith, append_assoc, length-append, subst}
-use Rattle.std.specs.Prelude.{Option, option_map, sum, Ok, Err, Result, is_ok}
-use Rattle.std.proofs.lemmas.List.{append-nil, take_all}
+use Rattle.std.proofs.Common.{◌≡◌, ℕ, zero, suc, ◌+◌, ◌*◌, ◌-◌, ◌/◌, ◌%◌, ◌<◌, ◌≤◌, Bool, true, false, ◌&&◌, ◌⊎◌, inl, inr, List, [], ◌∷◌, ◌++◌, length, map, drop, take, get_or, nat_le, ◌==◌, if◌then◌else◌, Some, None, refl, ap, sym, ◌∙◌, arith, append_assoc, length-append, subst}
+use Rattle.std.specs.Prelude.{Option, sum, Ok, Err, Result, is_ok}
+use Rattle.std.proofs.lemmas.List.{take_all}
 use Rattle.std.proofs.lemmas.List.Sums.{sum_by-cons}
-use Rattle.std.proofs.lemmas.Bool.{eq-eqb, eqb-true, lt-ltb, ltb-true}
+use Rattle.std.proofs.lemmas.Bool.{eq-eqb, eqb-true, lt-ltb}
 use Rattle.std.proofs.lemmas.Bool.Decides.{nat_tests}
 use Rattle.ild_data.specs.declared.fault.TextErr.{TextErr}
-use Rattle.ild_data.specs.declared.fault.TextErr.TheVariants.{Prefix, Digit, Bits}
+use Rattle.ild_data.specs.declared.fault.TextErr.TheVariants.{Prefix, Bits}
 use Rattle.ild_data.specs.Base32.{bits, five, fives, letter, letters, bytes_bits, base32, AreBytes}
 use Rattle.ild_data.specs.declared.fault.CidFault.{CidFault}
 use Rattle.ild_data.specs.Cid.{IsCid}

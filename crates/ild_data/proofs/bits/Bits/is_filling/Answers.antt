@@ -1,4 +1,4 @@
-use Rattle.std.proofs.Common.{◌≡◌, length, false, nat_lt, arith, ◌∙◌}
+use Rattle.std.proofs.Common.{◌≡◌, length, arith, ◌∙◌}
 use Rattle.ild_data.proofs.Regroup.{bits_len}
 use Rattle.ild_data.proofs.TextBits.{filling_short, filling_long, not_less}
 use Rattle.ild_data.proofs.bits.Bits.is_filling.Goals as goal

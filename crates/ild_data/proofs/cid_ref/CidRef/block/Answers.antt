@@ -1,4 +1,4 @@
-use Rattle.std.proofs.Common.{◌≡◌, ℕ, List, length, arith, ap, sym, ◌∙◌}
+use Rattle.std.proofs.Common.{◌≡◌, length, arith, ap, sym, ◌∙◌}
 use Rattle.ild_data.specs.CidRead.{CidParts, cid_parts}
 use Rattle.ild_data.specs.Spell.{cid_of}
 use Rattle.ild_data.proofs.Cids.{is_block, block_parts}
