@@ -41,10 +41,7 @@ fn set_number<K: Store>(
     let Ok(block) = value.block_with(alloc, key, number) else {
         return Err(No::Memory);
     };
-    let id = match publish_storable(store, block.as_slice()) {
-        Ok(id) => id,
-        Err(refusal) => return Err(refusal),
-    };
+    let id = publish_storable(store, block.as_slice())?;
     match value.put(key, number) {
         Ok(()) => Ok(id),
         Err(_) => Err(No::Memory),
@@ -94,10 +91,7 @@ pub fn del<K: Store>(
     };
     match value.block_without(alloc, key.as_str()) {
         Ok(Some(block)) => {
-            let id = match publish_storable(store, block.as_slice()) {
-                Ok(id) => id,
-                Err(refusal) => return Err(refusal),
-            };
+            let id = publish_storable(store, block.as_slice())?;
             value.remove(key.as_str());
             Ok(id)
         }
