@@ -3,3 +3,7 @@ pub mod Places
 pub mod Rising
 pub mod Spelling
 pub mod Regroup
+pub mod Varints
+pub mod Cids
+pub mod TextBits
+pub mod Texts

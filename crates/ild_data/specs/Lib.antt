@@ -6,6 +6,9 @@ pub mod Varint
 pub mod Cid
 pub mod Base32
 pub mod CidText
+pub mod CidRead
+pub mod CidView
+pub mod CidTextRead
 pub mod Tree
 pub mod Spell
 pub mod Limits

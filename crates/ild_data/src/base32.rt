@@ -1,9 +1,11 @@
 //! Base32 (RFC 4648, section 6) in lower case and without padding.
-ghost use Rattle.std.specs.Prelude.{◌≡◌, List, ℕ, ◌+◌, ◌<◌, ◌≤◌, ◌++◌, OnOk, length, string_bytes};
-ghost use Rattle.ild_data.specs.Base32.{letter, letters, base32};
+ghost use Rattle.std.specs.Prelude.{◌≡◌, List, ℕ, ◌+◌, ◌<◌, ◌≤◌, ◌⊎◌, ◌++◌, OnOk, IfOk, IfErr, IfSome, length, string_bytes};
+ghost use Rattle.ild_data.specs.Base32.{bits, letter, letters, base32, bytes_bits, AreBytes};
+ghost use Rattle.ild_data.specs.CidTextRead.{number_of, read_base32};
 
+use crate::TextErr;
 use crate::bits::Bits;
-use std::alloc::AllocError;
+use std::alloc::{AllocError, Global};
 
 /// The letter of a number below 32.
 fn letter_of(number: u8) -> char
@@ -55,4 +57,52 @@ pub(crate) fn push_base32(out: &mut String, bytes: &[u8]) -> Result<(), AllocErr
         push_letter(out, &mut held)?;
     }
     Ok(())
+}
+
+/// The number of a letter.
+#[tactic(auto, unfolding(crate::specs::CidTextRead::number_of))]
+fn number_of(letter: u8) -> Option<u8>
+    ensures same { result ≡ number_of letter }
+    ensures small { IfSome result (λ n. n < 32) }
+{
+    match letter {
+        b'a'..=b'z' => Some(letter - b'a'),
+        b'2'..=b'7' => Some(letter - b'2' + 26),
+        _ => None,
+    }
+}
+
+/// Puts the bits of a letter's number behind the others, and appends the byte that is whole.
+fn push_number(out: &mut Vec<u8>, held: &mut Bits, number: u8) -> Result<(), AllocError>
+    requires small { number < 32 }
+    requires short { length held.old < 8 }
+    ensures bits { OnOk result ((rest : List ℕ) → bytes_bits out.new.items ++ (held.new ++ rest) ≡ bytes_bits out.old.items ++ (held.old ++ (bits 5 number ++ rest))) }
+    ensures short { OnOk result (length held.new < 8) }
+    ensures bytes { OnOk result (AreBytes out.old.items → AreBytes out.new.items) }
+{
+    held.push(5, u32::from(number));
+    if held.len() >= 8 {
+        out.push(held.pull(8) as u8)?;
+    }
+    Ok(())
+}
+
+/// The bytes of a base32 text, in one allocation.
+pub(crate) fn read_base32(alloc: Global, letters: &[u8]) -> Result<Vec<u8>, TextErr>
+    ensures bytes { IfOk result (λ v. read_base32 letters.now ≡ Ok v.items) }
+    ensures fault { IfErr result (λ e. (e ≡ TextErr.Memory) ⊎ (read_base32 letters.now ≡ Err e)) }
+{
+    let mut out = Vec::with_capacity(alloc, letters.len() / 8 * 5 + 5)?;
+    let mut held = Bits::new();
+    for letter in letters {
+        let Some(number) = number_of(*letter) else {
+            return Err(TextErr::Digit);
+        };
+        push_number(&mut out, &mut held, number)?;
+    }
+    if held.is_filling() {
+        Ok(out)
+    } else {
+        Err(TextErr::Bits)
+    }
 }

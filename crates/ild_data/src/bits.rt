@@ -1,6 +1,7 @@
 //! Bits on their way from groups of one width to groups of another.
 ghost use Rattle.std.specs.Prelude.{◌≡◌, ℕ, ◌+◌, ◌^◌, ◌<◌, ◌≤◌, ◌++◌, [], length};
 ghost use Rattle.ild_data.specs.Base32.{bits};
+ghost use Rattle.ild_data.specs.CidTextRead.{is_filling};
 
 use std::marker::Model;
 
@@ -44,7 +45,8 @@ impl Bits {
     pub(crate) fn push(&mut self, width: u32, number: u32)
         requires short { length self.old + width < 16 }
         requires fits { number < 2 ^ width }
-        ensures { self.new ≡ self.old ++ bits width number }
+        ensures bits { self.new ≡ self.old ++ bits width number }
+        ensures len { length self.new ≡ length self.old + width }
     {
         self.number = (self.number << width) + number;
         self.count += width;
@@ -61,5 +63,12 @@ impl Bits {
         let number = self.number >> self.count;
         self.number -= number << self.count;
         number
+    }
+
+    /// Whether these are fewer than five bits, none of them set.
+    pub(crate) fn is_filling(&self) -> bool
+        ensures { result ≡ is_filling self.now }
+    {
+        self.count < 5 && self.number == 0
     }
 }

@@ -4,20 +4,31 @@
 mod base32;
 mod bits;
 mod cid;
-mod cid_text;
+mod cid_letters;
+mod cid_parts;
+mod cid_ref;
 mod copy;
+mod fault;
 mod id;
 mod int;
 mod key;
+mod laws;
 mod path;
 mod place;
+#[cfg(test)]
+mod tests;
 mod text;
 mod tree;
+mod varint;
 
 pub use cid::Cid;
+pub use cid_letters::{cid_of_text, cid_text};
+pub use cid_ref::CidRef;
+pub use fault::{CidFault, TextErr};
 pub use id::{BlockId, block_id};
 pub use int::Int;
 pub use key::{key_less, key_order};
+pub use laws::{cids_are_read, texts_are_read};
 pub use path::Path;
 pub use place::key_place;
 pub use text::{Octets, Txt};

@@ -1,0 +1,183 @@
+//! Examples of the format: the texts are by python3 (`base64.b32encode`).
+use crate::{BlockId, CidFault, CidRef, TextErr, cid_of_text, cid_text};
+use std::alloc::Global;
+use std::process::Abort;
+use std::test::Fail;
+
+/// Version 1, DAG-CBOR, sha2-256, and 32 bytes 00.
+const ZERO: [u8; 36] = [
+    0x01, 0x71, 0x12, 0x20, 0, 0, 0, 0, 0, 0, 0, 0, 0, 0, 0, 0, 0, 0, 0, 0, 0, 0, 0, 0, 0, 0, 0, 0,
+    0, 0, 0, 0, 0, 0, 0, 0,
+];
+
+const ZERO_TEXT: &str = "bafyreiaaaaaaaaaaaaaaaaaaaaaaaaaaaaaaaaaaaaaaaaaaaaaaaaaaaa";
+
+fn faults(rt: &impl Abort, bytes: &[u8], want: Option<CidFault>) {
+    assert_eq!(rt; CidRef::read(bytes).err(), want);
+}
+
+#[test]
+fn varints(rt: HostRuntime) {
+    faults(&rt, &[], Some(CidFault::Short));
+    faults(&rt, &[0x81, 0x00], Some(CidFault::Varint));
+    faults(&rt, &[1, 0x80, 0x80, 0x00], Some(CidFault::Varint));
+    faults(
+        &rt,
+        &[1, 0x80, 0x80, 0x80, 0x80, 0x80, 0x80, 0x80, 0x80],
+        Some(CidFault::Short),
+    );
+    faults(
+        &rt,
+        &[1, 0x80, 0x80, 0x80, 0x80, 0x80, 0x80, 0x80, 0x80, 0x80],
+        Some(CidFault::Varint),
+    );
+    faults(
+        &rt,
+        &[
+            1, 0xff, 0xff, 0xff, 0xff, 0xff, 0xff, 0xff, 0xff, 0x7f, 0, 0,
+        ],
+        None,
+    );
+    faults(&rt, &[1, 0, 0, 0], None);
+    faults(&rt, &[2, 0, 0, 0], Some(CidFault::Version));
+}
+
+#[test]
+fn digests(rt: HostRuntime) {
+    // A CIDv0 is refused by its first byte.
+    faults(
+        &rt,
+        &[0x12, 0x20, 0, 0, 0, 0, 0, 0, 0, 0],
+        Some(CidFault::Version),
+    );
+    faults(&rt, &[1, 0x71, 0x12, 65], Some(CidFault::Long));
+    faults(&rt, &[1, 0x71, 0x12, 0, 7], Some(CidFault::Rest));
+    let mut long = [0; 69];
+    long[..4].copy_from_slice(&[1, 0x71, 0x12, 65]);
+    faults(&rt, &long, Some(CidFault::Long));
+    long[3] = 64;
+    faults(&rt, &long, Some(CidFault::Rest));
+    faults(&rt, &long[..68], None);
+    faults(&rt, &ZERO, None);
+    for n in 0..36 {
+        faults(&rt, &ZERO[..n], Some(CidFault::Short));
+    }
+}
+
+fn parts(rt: &impl Abort, bytes: &[u8], codec: u64, hash: u64, digest: &[u8]) -> Result<(), Fail> {
+    let cid = CidRef::read(bytes)?;
+    assert_eq!(rt; cid.codec(), codec);
+    assert_eq!(rt; cid.hash(), hash);
+    assert_eq!(rt; cid.digest(), digest);
+    assert_eq!(rt; cid.whole(), bytes);
+    Ok(())
+}
+
+#[test]
+fn shown(rt: HostRuntime) -> Result<(), Fail> {
+    parts(
+        &rt,
+        &[1, 0xa9, 0x02, 0xa2, 0x20, 2, 8, 9],
+        0x0129,
+        0x1022,
+        &[8, 9],
+    )?;
+    let largest = [
+        1, 0xff, 0xff, 0xff, 0xff, 0xff, 0xff, 0xff, 0xff, 0x7f, 0, 0,
+    ];
+    parts(&rt, &largest, 0x7fff_ffff_ffff_ffff, 0, &[])?;
+    assert_eq!(rt; CidRef::read(&ZERO)?.block(), Some(BlockId([0; 32])));
+    assert_eq!(rt; CidRef::read(&[1, 0x71, 0x12, 1, 0])?.block(), None);
+    assert_eq!(rt; CidRef::read(&[1, 0x55, 0x12, 0])?.block(), None);
+    Ok(())
+}
+
+fn same_text(rt: &impl Abort, alloc: Global, bytes: &[u8], text: &str) -> Result<(), Fail> {
+    let cid = CidRef::read(bytes)?;
+    assert_eq!(rt; cid_text(alloc, &cid)?.as_str(), text);
+    assert_eq!(rt; cid.own(alloc)?.view().whole(), bytes);
+    assert_eq!(rt; cid_of_text(alloc, text)?.as_slice(), bytes);
+    Ok(())
+}
+
+#[test]
+fn texts(rt: HostRuntime) -> Result<(), Fail> {
+    let alloc = rt.alloc();
+    assert_eq!(rt; BlockId([0; 32]).text(alloc)?.as_str(), ZERO_TEXT);
+    same_text(&rt, alloc, &ZERO, ZERO_TEXT)?;
+    // The example of the CID pages (dag-pb), `hello world` (raw), and a block of DAG-CBOR.
+    same_text(
+        &rt,
+        alloc,
+        &[
+            0x01, 0x70, 0x12, 0x20, 0xc3, 0xc4, 0x73, 0x3e, 0xc8, 0xaf, 0xfd, 0x06, 0xcf, 0x9e,
+            0x9f, 0xf5, 0x0f, 0xfc, 0x6b, 0xcd, 0x2e, 0xc8, 0x5a, 0x61, 0x70, 0x00, 0x4b, 0xb7,
+            0x09, 0x66, 0x9c, 0x31, 0xde, 0x94, 0x39, 0x1a,
+        ],
+        "bafybeigdyrzt5sfp7udm7hu76uh7y26nf3efuylqabf3oclgtqy55fbzdi",
+    )?;
+    same_text(
+        &rt,
+        alloc,
+        &[
+            0x01, 0x55, 0x12, 0x20, 0xb9, 0x4d, 0x27, 0xb9, 0x93, 0x4d, 0x3e, 0x08, 0xa5, 0x2e,
+            0x52, 0xd7, 0xda, 0x7d, 0xab, 0xfa, 0xc4, 0x84, 0xef, 0xe3, 0x7a, 0x53, 0x80, 0xee,
+            0x90, 0x88, 0xf7, 0xac, 0xe2, 0xef, 0xcd, 0xe9,
+        ],
+        "bafkreifzjut3te2nhyekklss27nh3k72ysco7y32koao5eei66wof36n5e",
+    )?;
+    same_text(
+        &rt,
+        alloc,
+        &[
+            0x01, 0x71, 0x12, 0x20, 0x78, 0x51, 0x97, 0x22, 0x9d, 0xc8, 0xbb, 0x11, 0x52, 0x94,
+            0x5d, 0xa5, 0x8e, 0x23, 0x48, 0xf7, 0xe2, 0x79, 0xee, 0xde, 0xd0, 0x6c, 0xc2, 0xca,
+            0x73, 0x6d, 0x0e, 0x87, 0x98, 0x58, 0xb5, 0x01,
+        ],
+        "bafyreidykglsfhoixmivffc5uwhcgshx4j465xwqntbmu43nb2dzqwfvae",
+    )?;
+    same_text(
+        &rt,
+        alloc,
+        &[1, 0xa9, 0x02, 0xa2, 0x20, 2, 8, 9],
+        "baguqfiraaieas",
+    )?;
+    same_text(&rt, alloc, &[1, 0x71, 0, 0], "bafyqaaa")?;
+    Ok(())
+}
+
+fn refused(rt: &impl Abort, alloc: Global, text: &str, want: TextErr) {
+    match cid_of_text(alloc, text) {
+        Ok(_) => assert!(rt; false),
+        Err(error) => assert!(rt; error == want || error == TextErr::Memory),
+    }
+}
+
+#[test]
+fn no_texts(rt: HostRuntime) {
+    let alloc = rt.alloc();
+    for (text, want) in [
+        ("", TextErr::Prefix),
+        (
+            "zafyreiaaaaaaaaaaaaaaaaaaaaaaaaaaaaaaaaaaaaaaaaaaaaaaaaaaaa",
+            TextErr::Prefix,
+        ),
+        ("BAFYREIA", TextErr::Prefix),
+        ("bAE", TextErr::Digit),
+        ("ba1", TextErr::Digit),
+        ("ba8", TextErr::Digit),
+        ("baé", TextErr::Digit),
+        ("bae======", TextErr::Digit),
+        ("ba", TextErr::Bits),
+        ("baf", TextErr::Bits),
+        (
+            "bafyreiaaaaaaaaaaaaaaaaaaaaaaaaaaaaaaaaaaaaaaaaaaaaaaaaaaab",
+            TextErr::Bits,
+        ),
+        ("b", TextErr::Cid(CidFault::Short)),
+        ("bae", TextErr::Cid(CidFault::Short)),
+        ("bci", TextErr::Cid(CidFault::Version)),
+    ] {
+        refused(&rt, alloc, text, want);
+    }
+}
