@@ -1,9 +1,10 @@
 //! A buffer of spellings.
 ghost use Rattle.std.specs.Prelude.{◌≡◌, ◌++◌, ◌<◌, [], OnOk, OnErr};
-ghost use Rattle.ild_data.specs.Spell.{head, spell_int, spell_text};
+ghost use Rattle.ild_data.specs.Spell.{head, spell, spell_int, spell_text, spell_bytes, spell_link};
 
 use crate::head::{add_head, add_string};
-use ild_data::{Int, Octets};
+use crate::tree::{add_int, add_simple, add_whole_link, add_whole_tree};
+use ild_data::{CidRef, Int, Octets, Tree};
 use std::alloc::{AllocError, Global};
 use std::marker::Model;
 
@@ -22,6 +23,10 @@ impl Model for Emit {
 }
 
 impl Emit {
+    ghost use Rattle.ild_data.specs.CidView.{cid_bytes};
+    ghost use Rattle.ild_data.specs.Seen.{data_of};
+    ghost use Rattle.ild_emit.specs.Simple.{simple_data};
+
     /// Nothing yet.
     pub fn new(alloc: Global) -> Emit
         ensures { result ≡ [] }
@@ -45,12 +50,7 @@ impl Emit {
         ensures ok { OnOk result (self.new ≡ self.old ++ spell_int n) }
         ensures err { OnErr result (self.new ≡ self.old) }
     {
-        let n = n.get();
-        if n >= 0 {
-            add_head(&mut self.out, 0, n as u64)
-        } else {
-            add_head(&mut self.out, 1, (-1 - n) as u64)
-        }
+        add_int(&mut self.out, n)
     }
 
     /// Appends a text, or leaves the buffer unchanged.
@@ -59,6 +59,38 @@ impl Emit {
         ensures err { OnErr result (self.new ≡ self.old) }
     {
         add_string(&mut self.out, 3, s.as_bytes())
+    }
+
+    /// Appends a byte string, or leaves the buffer unchanged.
+    pub fn bytes(&mut self, b: &[u8]) -> Result<(), AllocError>
+        ensures ok { OnOk result (self.new ≡ self.old ++ spell_bytes b.now) }
+        ensures err { OnErr result (self.new ≡ self.old) }
+    {
+        add_string(&mut self.out, 2, b)
+    }
+
+    /// Appends a link (DAG-CBOR, "Links"), or leaves the buffer unchanged.
+    pub fn link(&mut self, cid: &CidRef<'_>) -> Result<(), AllocError>
+        ensures ok { OnOk result (self.new ≡ self.old ++ spell_link (cid_bytes cid.now)) }
+        ensures err { OnErr result (self.new ≡ self.old) }
+    {
+        add_whole_link(&mut self.out, cid.whole())
+    }
+
+    /// Appends a truth value, or null for `None`, or leaves the buffer unchanged.
+    pub fn simple(&mut self, b: Option<bool>) -> Result<(), AllocError>
+        ensures ok { OnOk result (self.new ≡ self.old ++ spell (simple_data b)) }
+        ensures err { OnErr result (self.new ≡ self.old) }
+    {
+        add_simple(&mut self.out, b)
+    }
+
+    /// Appends a tree, or leaves the buffer unchanged.
+    pub fn tree(&mut self, tree: &Tree) -> Result<(), AllocError>
+        ensures ok { OnOk result (self.new ≡ self.old ++ spell (data_of tree.now)) }
+        ensures err { OnErr result (self.new ≡ self.old) }
+    {
+        add_whole_tree(&mut self.out, tree)
     }
 
     /// The bytes that were written.
