@@ -3,7 +3,7 @@ use std::rt::Env;
 use std::{env, io};
 
 /// The arguments without the program's name. An argument that isn't UTF-8 makes them no words at all.
-pub fn words_given<R: Env + AllocGlobal>(rt: &R) -> io::Result<Vec<String>> {
+pub(crate) fn words_given<R: Env + AllocGlobal>(rt: &R) -> io::Result<Vec<String>> {
     let mut words = Vec::new(rt.alloc());
     match env::args(rt) {
         Ok(arguments) => {

@@ -140,67 +140,85 @@ fn lines_that_are_refused(rt: HostRuntime) -> Result<(), Fail> {
     Ok(())
 }
 
+/// Every kind of line, and what is written where nothing fails.
+const ALL: &str = "set /a 1\nget /a\nroot\ndel /a\nroot\nget /a\n";
+
+const REPLIES: [&str; 6] = [ONE, "ok 1\n", ONE, EMPTY, EMPTY, "no 2 path\n"];
+
+/// The first replies, one behind the other.
+fn first_replies(alloc: Global, count: usize) -> Result<String, AllocError> {
+    let mut text = String::new(alloc);
+    for reply in REPLIES.iter().take(count) {
+        text.push_str(*reply)?;
+    }
+    Ok(text)
+}
+
 #[test]
-fn calls_of_the_outside_fail_in_turn(rt: HostRuntime) -> Result<(), Fail> {
-    let all = "set /a 1\nset /b 2\nroot\nset /b 2\n";
-    let plain = script(
-        all,
-        "root bafyreihltcnuuyqp2jm24aqydpnlj7b6w3ogwrplomrjtg5rifv44mmjey\nroot bafyreifa2oxz5bxfkf7xfg5nazl6frxtw7idrgmjjsgwwm3vsb2mre5v4m\nroot bafyreifa2oxz5bxfkf7xfg5nazl6frxtw7idrgmjjsgwwm3vsb2mre5v4m\nroot bafyreifa2oxz5bxfkf7xfg5nazl6frxtw7idrgmjjsgwwm3vsb2mre5v4m\n",
-        0,
-    );
-    try_case(&rt, rt.alloc(), &plain)?;
+fn each_write_fails_in_turn(rt: HostRuntime) -> Result<(), Fail> {
+    for (before, number) in [(0, 1), (1, 2), (2, 3), (3, 4), (4, 5), (5, 6)] {
+        let text = first_replies(rt.alloc(), before)?;
+        let case = Case {
+            fail_writes: &[number],
+            ..script(ALL, text.as_str(), 7)
+        };
+        try_case(&rt, rt.alloc(), &case)?;
+    }
+    let whole = first_replies(rt.alloc(), 6)?;
+    try_case(&rt, rt.alloc(), &script(ALL, whole.as_str(), 1))?;
+    Ok(())
+}
+
+#[test]
+fn each_take_and_put_fails_in_turn(rt: HostRuntime) -> Result<(), Fail> {
+    let no_script = "root bafyreigbtj4x7ip5legnfznufuopl4sg4knzc2cof6duas4b3q2fy6swua\n";
     let failing = [
-        // takes: the schema's, the script's
         Case {
             fail_takes: &[1],
-            text: "fault 5 input schema failed\n",
-            status: 5,
-            ..script(all, "", 0)
+            ..script(ALL, "fault 5 input schema failed\n", 5)
         },
         Case {
             fail_takes: &[2],
-            text: "fault 5 input script failed\n",
-            status: 5,
-            ..script(all, "", 0)
-        },
-        // puts: the empty map's, and each line's
-        Case {
-            fail_puts: &[1],
-            text: "fault 6 store\n",
-            status: 6,
-            ..script(all, "", 0)
+            ..script(ALL, "fault 5 input script failed\n", 5)
         },
         Case {
-            fail_puts: &[2],
-            text: "no 12 store\nroot bafyreicgp6iybxlr2od5slbwxq62rwbpgt757zaka2qtot5gcgzf2qwnpm\nroot bafyreicgp6iybxlr2od5slbwxq62rwbpgt757zaka2qtot5gcgzf2qwnpm\nroot bafyreicgp6iybxlr2od5slbwxq62rwbpgt757zaka2qtot5gcgzf2qwnpm\n",
-            status: 1,
-            ..script(all, "", 0)
-        },
-        Case {
-            fail_puts: &[3],
-            text: "root bafyreihltcnuuyqp2jm24aqydpnlj7b6w3ogwrplomrjtg5rifv44mmjey\nno 12 store\nroot bafyreihltcnuuyqp2jm24aqydpnlj7b6w3ogwrplomrjtg5rifv44mmjey\nroot bafyreifa2oxz5bxfkf7xfg5nazl6frxtw7idrgmjjsgwwm3vsb2mre5v4m\n",
-            status: 1,
-            ..script(all, "", 0)
-        },
-        // writes
-        Case {
-            fail_writes: &[1],
-            text: "",
-            status: 7,
-            ..script(all, "", 0)
-        },
-        Case {
-            fail_writes: &[2],
-            text: ONE,
-            status: 7,
-            ..script(all, "", 0)
+            fail_takes: &[3],
+            ..script("root", no_script, 0)
         },
         Case {
             fail_takes: &[1],
             fail_writes: &[1],
-            text: "",
-            status: 7,
-            ..script(all, "", 0)
+            ..script(ALL, "", 7)
+        },
+        // the empty map's block, the set and the del
+        Case {
+            fail_puts: &[1],
+            ..script(ALL, "fault 6 store\n", 6)
+        },
+        Case {
+            fail_puts: &[2],
+            ..script(
+                ALL,
+                "no 12 store\nno 2 path\nroot bafyreigbtj4x7ip5legnfznufuopl4sg4knzc2cof6duas4b3q2fy6swua\nno 2 path\nroot bafyreigbtj4x7ip5legnfznufuopl4sg4knzc2cof6duas4b3q2fy6swua\nno 2 path\n",
+                1,
+            )
+        },
+        Case {
+            fail_puts: &[3],
+            ..script(
+                ALL,
+                "root bafyreihltcnuuyqp2jm24aqydpnlj7b6w3ogwrplomrjtg5rifv44mmjey\nok 1\nroot bafyreihltcnuuyqp2jm24aqydpnlj7b6w3ogwrplomrjtg5rifv44mmjey\nno 12 store\nroot bafyreihltcnuuyqp2jm24aqydpnlj7b6w3ogwrplomrjtg5rifv44mmjey\nok 1\n",
+                1,
+            )
+        },
+        // a2 61 61 01 61 62 02, set again
+        Case {
+            fail_puts: &[3],
+            ..script(
+                "set /a 1\nset /b 2\nroot\nset /b 2\n",
+                "root bafyreihltcnuuyqp2jm24aqydpnlj7b6w3ogwrplomrjtg5rifv44mmjey\nno 12 store\nroot bafyreihltcnuuyqp2jm24aqydpnlj7b6w3ogwrplomrjtg5rifv44mmjey\nroot bafyreifa2oxz5bxfkf7xfg5nazl6frxtw7idrgmjjsgwwm3vsb2mre5v4m\n",
+                1,
+            )
         },
     ];
     for case in failing {
