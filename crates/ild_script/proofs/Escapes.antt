@@ -24,7 +24,7 @@ is_126 : (b : ℕ) → true ≡ eqb b 126 → b ≡ 126
 is_126 b e = grind (arith, nat_tests)
 
 -- a byte that is no `~` stands for itself
-plain_byte : (b : ℕ) (bs : List ℕ) → false ≡ eqb b 126 → unescaped (b ∷ bs) ≡ option_map (λ zs. b ∷ zs) (unescaped bs)
+pub plain_byte : (b : ℕ) (bs : List ℕ) → false ≡ eqb b 126 → unescaped (b ∷ bs) ≡ option_map (λ zs. b ∷ zs) (unescaped bs)
 plain_byte b [] e = ap (λ t. cond t None (Some (b ∷ []))) (sym e)
 plain_byte b (c ∷ bs) e = ap (λ t. cond t (before (escaped_byte c) (unescaped bs)) (before (Some b) (unescaped (c ∷ bs)))) (sym e)
 
