@@ -1,5 +1,5 @@
 -- What std's `parse` says of a number, in the words of the definition.
-use Rattle.std.proofs.Common.{◌≡◌, ◌≢◌, ℕ, zero, suc, get_or, ◌+◌, ◌<◌, ◌≤◌, ◌^◌, List, [], ◌∷◌, ◌++◌, length, Bool, true, false, cond, not, Option, Some, None, Result, Ok, Err, ltb, eqb, refl, sym, ap, ◌∙◌, rules, arith}
+use Rattle.std.proofs.Common.{◌≡◌, ℕ, zero, suc, get_or, ◌<◌, ◌^◌, List, [], ◌∷◌, length, Bool, true, false, cond, Some, None, Result, Ok, Err, ltb, refl, sym, ap, ◌∙◌, rules, arith}
 use Rattle.std.specs.List.{list_all}
 use Rattle.std.specs.Char.{is_ascii_digit}
 use Rattle.std.specs.Str.Parse.{ParsesUnsigned}
@@ -7,7 +7,7 @@ use Rattle.std.specs.Result.{result_ok, OkIff}
 use Rattle.std.specs.Prelude.{◌&&◌, IsUtf8}
 use Rattle.std.proofs.lemmas.Str.{IsUtf8-from_ascii}
 use Rattle.std.proofs.lemmas.Bool.Decides.{nat_tests}
-use Rattle.std.proofs.lemmas.Str.Parse.{IsNumeralModel, numerals_by_fold, parse_digits, IsDigitsTest, FoldsDigits}
+use Rattle.std.proofs.lemmas.Str.Parse.{IsNumeralModel, numerals_by_fold, parse_digits}
 use Rattle.ild_plain.specs.Number.{number_behind, is_plain, natural}
 
 abbrev AreDigits : List ℕ → Type 0

@@ -135,3 +135,10 @@ pub record Ended (c : Call) (status : Status) : Type 0 where
   pub script : Taken
   pub taken : AreTaken c.names c.before.supply schema script
   pub says : Says c schema script status
+
+-- the statuses of a call that ended before the store was asked
+abbrev pub IsBeforeStore : Status → Type 0
+IsBeforeStore S.Words = Unit {0}
+IsBeforeStore S.Schema = Unit {0}
+IsBeforeStore S.Input = Unit {0}
+IsBeforeStore status = ⊥

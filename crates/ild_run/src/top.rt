@@ -4,7 +4,7 @@ ghost use Rattle.ild_edges.specs.Inputs.{After};
 ghost use Rattle.ild_edges.specs.Store.{Later};
 ghost use Rattle.ild_run.specs.Words.{names_of};
 ghost use Rattle.ild_run.specs.Fault.{cut_status};
-ghost use Rattle.ild_run.specs.Ended.{Ended, ToldAs, call_of};
+ghost use Rattle.ild_run.specs.Ended.{Ended, IsBeforeStore, ToldAs, call_of};
 ghost use Rattle.ild_run.specs.Complete.{IsComplete};
 
 use crate::fault::Fault;
@@ -50,6 +50,7 @@ fn carry_out<I: Inputs, K: Store, W: Sink>(
     ensures inputs { After (I.supply inputs.old) (I.supply inputs.new) }
     ensures later { Later (K.moment store.old) (K.moment store.new) }
     ensures sink { (W.output out.old).faults ≤ (W.output out.new).faults }
+    ensures untouched { IsBeforeStore result → K.moment store.new ≡ K.moment store.old }
 {
     let Some(names) = names_of(words) else {
         return tell(alloc, Fault::Words, out);
@@ -91,6 +92,9 @@ pub fn run<I: Inputs, K: Store, W: Sink>(
     ensures inputs { After (I.supply inputs.old) (I.supply inputs.new) }
     ensures later { Later (K.moment store.old) (K.moment store.new) }
     ensures sink { (W.output out.old).faults ≤ (W.output out.new).faults }
+
+    // A call that ends before its lines by its words, its schema or its inputs leaves the store as it was.
+    ensures untouched { IsBeforeStore result → K.moment store.new ≡ K.moment store.old }
 {
     carry_out(alloc, words, inputs, store, out)
 }
