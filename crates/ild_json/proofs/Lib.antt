@@ -1,0 +1,4 @@
+pub mod Walks
+pub mod Shows
+pub mod Slashes
+pub mod Texts

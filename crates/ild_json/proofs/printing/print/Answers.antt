@@ -1,0 +1,18 @@
+use Rattle.std.proofs.Common.{Some, ap, sym, ◌∙◌}
+use Rattle.std.proofs.lemmas.Result.{err_from_is_err_and}
+use Rattle.serde_json.specs.Written.{has_float, compact_text}
+use Rattle.ild_data.specs.Seen.{data_of}
+use Rattle.ild_json.proofs.Texts.{json_text-some, json_text-none, no_float}
+use Rattle.ild_json.proofs.printing.print.Goals as goal
+
+pub returns-in_err-value-clause-reserved : goal.returns-in_err-value-clause-reserved
+returns-in_err-value-clause-reserved c =
+    let p = err_from_is_err_and c.from_residual.result c.from_residual.ensures.1 in
+    rw (p.1, p.2) (λ is. json_text-none (data_of c.args.tree.now) (c.in_err-value.ensures.reserved is))
+
+pub returns-clause-ok : goal.returns-clause-ok
+returns-clause-ok c =
+    let d = data_of c.args.tree.now in
+    let seen = c.in_ok-value.ensures.ok in
+    let written = c.in_ok-text.ensures.text (ap has_float seen ∙ no_float d) in
+    json_text-some d c.in_ok-value.ensures.free ∙ ap Some (sym (c.from_string.ensures ∙ written ∙ ap compact_text seen))

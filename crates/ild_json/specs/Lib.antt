@@ -1,0 +1,4 @@
+pub mod Slash
+pub mod Faults
+pub mod Reading
+pub mod Printing

@@ -1,0 +1,15 @@
+//! DAG-JSON both ways: trees of the data model from JSON texts, and their one text.
+#![tactic(auto)]
+
+mod error;
+mod object;
+mod printing;
+mod reading;
+mod show;
+#[cfg(test)]
+mod tests;
+mod walk;
+
+pub use error::{JsonErr, PrintErr};
+pub use printing::print;
+pub use reading::read;
