@@ -99,13 +99,48 @@ fn lines_over_one_map(rt: HostRuntime) -> Result<(), Fail> {
         ),
         // a1 61 61 20
         script(
-            "set /a -1\nset /a 01\nset /a 1.5\nset /a \"x\"\nget /a",
-            "root bafyreicbhbeahnah6n4fnieboitkx4yswtog24jlxbj4b7ote5px4osena\nno 3 json\nno 3 json\nno 3 json\nok -1\n",
+            "set /a -1\nset /a 01\nset /a  1 \nget /a",
+            "root bafyreicbhbeahnah6n4fnieboitkx4yswtog24jlxbj4b7ote5px4osena\nno 3 json\nroot bafyreihltcnuuyqp2jm24aqydpnlj7b6w3ogwrplomrjtg5rifv44mmjey\nok 1\n",
             1,
         ),
     ];
     for case in cases {
         try_case(&rt, rt.alloc(), &case)?;
+    }
+    Ok(())
+}
+
+#[test]
+fn values_that_are_refused(rt: HostRuntime) -> Result<(), Fail> {
+    let unread = [
+        "1.5",
+        "{\"/\":1}",
+        "{\"/\":{\"bytes\":\"A\"}}",
+        "18446744073709551616",
+        "-9223372036854775809",
+        "1e999",
+        "[1",
+        "1 1",
+    ];
+    for json in unread {
+        let line = format!(in rt.alloc(); "set /a {json}")?;
+        try_case(&rt, rt.alloc(), &script(line.as_str(), "no 3 json\n", 1))?;
+    }
+    for json in [
+        "\"x\"",
+        "{\"/\":1,\"x\":2}",
+        "null",
+        "true",
+        "[1]",
+        "{}",
+        "{\"/\":{\"bytes\":\"AQI\"}}",
+    ] {
+        let line = format!(in rt.alloc(); "set /a {json}")?;
+        try_case(
+            &rt,
+            rt.alloc(),
+            &script(line.as_str(), "no 4 mismatch\n", 1),
+        )?;
     }
     Ok(())
 }
