@@ -72,6 +72,20 @@ parts_short t x lt =
     let l5 = items_count (parts_of t) in
     omega arith
 
+-- what was passed over behind the head and the string of an item: its parts are counted, and stand before what follows it
+record PassedItem (t : Data) (x : List ℕ) (k : ℕ) (tail : List ℕ) : Type 0 where
+  pub count_is : k ≡ length (items_list (parts_of t))
+  pub tail_is : tail ≡ spell_items (parts_of t) ++ x
+
+passed_item : (t : Data) (x : List ℕ) (s : Start) (k : ℕ) (tail : List ℕ) → IsStart s (major_of t) (argument_of t) (string_of t ++ (spell_items (parts_of t) ++ x)) → length (items_list (parts_of t)) < 2 ^ 64
+    → (k, tail) ≡ passing s.major s.argument s.rest.now → PassedItem t x k tail
+passed_item t x s k tail st small e =
+    let p1 = ap (λ (m : ℕ). passing m s.argument s.rest.now) st.major_is in
+    let p2 = ap (λ (m : ℕ). passing (major_of t) m s.rest.now) st.argument_is in
+    let p3 = ap (passing (major_of t) (argument_of t)) st.rest_is in
+    let both = e ∙ p1 ∙ p2 ∙ p3 ∙ passing_is t x small in
+    record { count_is = ap (λ (p : ℕ × List ℕ). p.0) both; tail_is = ap (λ (p : ℕ × List ℕ). p.1) both }
+
 -- the row behind the head and the string of its first item
 passed_first : (b : List ℕ) (n : ℕ) (d : Data) (ds : Items) (rest : List ℕ) (s : Start) (k : ℕ) (tail : List ℕ) → IsRow b n (item d ds) rest
     → ((major m : ℕ) (x : List ℕ) → m < 2 ^ 64 → b ≡ head major m ++ x → IsStart s major m x) → (k, tail) ≡ passing s.major s.argument s.rest.now
@@ -90,15 +104,10 @@ passed_first b n d ds rest s k tail h starts e =
     let len4 = length-append H (string_of d ++ (P ++ x)) in
     let len5 = length-append (string_of d) (P ++ x) in
     let small = parts_short d x (omega arith) in
-    let s_is = starts (major_of d) (argument_of d) (string_of d ++ (P ++ x)) (argument_small d h.trees.0 (omega arith)) shaped in
-    let p1 : passing s.major s.argument s.rest.now ≡ passing (major_of d) s.argument s.rest.now = ap (λ (m : ℕ). passing m s.argument s.rest.now) s_is.major_is in
-    let p2 : passing (major_of d) s.argument s.rest.now ≡ passing (major_of d) (argument_of d) s.rest.now = ap (λ (m : ℕ). passing (major_of d) m s.rest.now) s_is.argument_is in
-    let p3 : passing (major_of d) (argument_of d) s.rest.now ≡ passing (major_of d) (argument_of d) (string_of d ++ (P ++ x)) = ap (passing (major_of d) (argument_of d)) s_is.rest_is in
-    let both : (k, tail) ≡ (length (items_list (parts_of d)), P ++ x) = e ∙ p1 ∙ p2 ∙ p3 ∙ passing_is d x small in
-    let k_is : k ≡ length (items_list (parts_of d)) = ap (λ (p : ℕ × List ℕ). p.0) both in
-    let tail_is : tail ≡ P ++ x = ap (λ (p : ℕ × List ℕ). p.1) both in
-    let len6 : length tail ≡ length (P ++ x) = ap length tail_is in
-    let spelled : tail ≡ spell_items (chain (parts_of d) ds) ++ rest = tail_is ∙ sym (append_assoc P (spell_items ds) rest) ∙ ap (λ (t : List ℕ). t ++ rest) (sym (chain-spell (parts_of d) ds)) in
+    let p = passed_item d x s k tail (starts (major_of d) (argument_of d) (string_of d ++ (P ++ x)) (argument_small d h.trees.0 (omega arith)) shaped) small e in
+    let k_is = p.count_is in
+    let len6 : length tail ≡ length (P ++ x) = ap length p.tail_is in
+    let spelled : tail ≡ spell_items (chain (parts_of d) ds) ++ rest = p.tail_is ∙ sym (append_assoc P (spell_items ds) rest) ∙ ap (λ (t : List ℕ). t ++ rest) (sym (chain-spell (parts_of d) ds)) in
     let len7 : length tail ≡ length (spell_items (chain (parts_of d) ds) ++ rest) = ap length spelled in
     let len8 = length-append (spell_items (chain (parts_of d) ds)) rest in
     let counted = chain-count (parts_of d) ds in
