@@ -2,3 +2,4 @@ pub mod Walks
 pub mod Shows
 pub mod Slashes
 pub mod Texts
+pub mod Keys
