@@ -3,3 +3,5 @@ pub mod Shows
 pub mod Slashes
 pub mod Texts
 pub mod Keys
+pub mod Order
+pub mod Back

@@ -3,3 +3,4 @@ pub mod Faults
 pub mod Reading
 pub mod Printing
 pub mod Keyed
+pub mod Law

@@ -2,6 +2,7 @@
 #![tactic(auto)]
 
 mod error;
+mod law;
 mod object;
 mod printing;
 mod reading;
@@ -10,6 +11,7 @@ mod show;
 mod tests;
 mod walk;
 
+pub use law::printed_is_read;
 pub use error::{JsonErr, PrintErr};
 pub use printing::print;
 pub use reading::read;
