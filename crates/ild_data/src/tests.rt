@@ -1,5 +1,8 @@
 //! Examples of the format: the texts are by python3 (`base64.b32encode`).
-use crate::{BlockId, CidFault, CidRef, TextErr, cid_of_text, cid_text};
+use crate::{
+    BlockId, CidFault, CidRef, Entries, Int, Octets, Path, TextErr, Tree, Trees, Txt, cid_of_text,
+    cid_text, key_less,
+};
 use std::alloc::Global;
 use std::process::Abort;
 use std::test::Fail;
@@ -179,5 +182,55 @@ fn no_texts(rt: HostRuntime) {
         ("bci", TextErr::Cid(CidFault::Version)),
     ] {
         refused(&rt, alloc, text, want);
+    }
+}
+
+#[test]
+fn trees_hold_what_was_put(rt: HostRuntime) -> Result<(), Fail> {
+    let alloc = rt.alloc();
+    let mut entries = Entries::new(alloc);
+    for (key, number) in [("aa", 2), ("b", 1), ("aa", 3)] {
+        let number = Int::new(number).ok_or("in range")?;
+        entries.put(Txt::of(alloc, key)?, Tree::Int(number))?;
+    }
+    let mut trees = Trees::new(alloc);
+    trees.push(Tree::Bytes(Octets::of(alloc, b"\x01")?))?;
+    trees.push(Tree::Map(entries))?;
+    let copy = Tree::List(trees).copy()?;
+    let Tree::List(items) = &copy else {
+        return Err("a list")?;
+    };
+    assert_eq!(rt; items.len(), 2);
+    let Some(Tree::Map(map)) = items.get(1) else {
+        return Err("a map")?;
+    };
+    assert_eq!(rt; map.len(), 2);
+    for (at, key, number) in [(0, "b", 1), (1, "aa", 3)] {
+        let Some((held, Tree::Int(found))) = map.get(at) else {
+            return Err("an entry")?;
+        };
+        assert_eq!(rt; held.as_str(), key);
+        assert_eq!(rt; found.get(), number);
+    }
+    assert!(rt; map.get(2).is_none());
+    let mut path = Path::new(alloc);
+    path.push(Txt::of(alloc, "b")?)?;
+    assert_eq!(rt; path.get(0).map(|s| s.as_str()), Some("b"));
+    Ok(())
+}
+
+#[test]
+fn orders_and_ranges(rt: HostRuntime) {
+    for (less, more) in [("", "a"), ("b", "aa"), ("a", "b"), ("z", "é")] {
+        assert!(rt; key_less(less, more), "{less} before {more}");
+        assert!(rt; !key_less(more, less), "{more} not before {less}");
+    }
+    for (number, held) in [
+        (-0x8000_0000_0000_0000, true),
+        (-0x8000_0000_0000_0001, false),
+        (0xffff_ffff_ffff_ffff, true),
+        (0x1_0000_0000_0000_0000, false),
+    ] {
+        assert_eq!(rt; Int::new(number).is_some(), held, "at {number}");
     }
 }

@@ -1,9 +1,12 @@
 //! A buffer of spellings.
 ghost use Rattle.std.specs.Prelude.{◌≡◌, ◌++◌, ◌<◌, [], OnOk, OnErr};
+ghost use Rattle.ild_cbor.specs.Nodes.{Stands};
+ghost use Rattle.ild_data.specs.Data.{Data};
 ghost use Rattle.ild_data.specs.Spell.{head, spell, spell_int, spell_text, spell_bytes, spell_link};
 
 use crate::head::{add_head, add_string};
 use crate::tree::{add_int, add_simple, add_whole_link, add_whole_tree};
+use ild_cbor::Node;
 use ild_data::{CidRef, Int, Octets, Tree};
 use std::alloc::{AllocError, Global};
 use std::marker::Model;
@@ -91,6 +94,15 @@ impl Emit {
         ensures err { OnErr result (self.new ≡ self.old) }
     {
         add_whole_tree(&mut self.out, tree)
+    }
+
+    /// Appends the spelling of a node, copied from its block, or leaves the buffer unchanged.
+    pub fn node(&mut self, node: &Node<'_>) -> Result<(), AllocError>
+        ensures ok { (t : Data) → Stands node.now t → OnOk result (self.new ≡ self.old ++ spell t) }
+        ensures err { OnErr result (self.new ≡ self.old) }
+    {
+        self.out.extend_from_slice(node.spelling())?;
+        Ok(())
     }
 
     /// The bytes that were written.

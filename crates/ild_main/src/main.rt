@@ -9,19 +9,24 @@ mod name;
 mod output;
 #[cfg(test)]
 mod tests;
+mod words;
 
 use files::FileInputs;
 use folder::FolderStore;
-use ild_edges::Sink;
+use ild_run::{Status, run};
 use output::StdSink;
 use std::process::ExitCode;
 
+/// The folder in which blocks are kept, beside where the program runs.
+const BLOCKS: &str = "blocks";
+
 fn main(rt: HostRuntime) -> ExitCode {
-    let _inputs = FileInputs::new(&rt);
-    let _store = FolderStore::new(&rt, "blocks");
+    let Ok(given) = words::words_given(&rt) else {
+        return ExitCode::from(Status::Memory.code());
+    };
+    let mut inputs = FileInputs::new(&rt);
+    let mut store = FolderStore::new(&rt, BLOCKS);
     let mut out = StdSink::new(&rt);
-    match out.write(b"fault 2 words\n") {
-        Ok(()) => ExitCode::from(2),
-        Err(_) => ExitCode::from(7),
-    }
+    let status = run(rt.alloc(), &given, &mut inputs, &mut store, &mut out);
+    ExitCode::from(status.code())
 }

@@ -1,12 +1,11 @@
 -- The block of a plain map, entry by entry.
 use Rattle.std.proofs.Common.{◌≡◌, ℕ, zero, suc, set, ◌+◌, ◌<◌, ◌≤◌, List, [], ◌∷◌, ◌++◌, length, get_or, take, map, Some, option_map, slice_get, refl, sym, ap, ◌∙◌, append_assoc, append-nil, length-append, arith, drop, add-one, length-drop, ◌-◌, Option, is_some, true}
 use Rattle.std.specs.Prelude.{ℤ, insert, remove}
-use Rattle.std.specs.List.{flat_map}
 use Rattle.std.proofs.lemmas.List.{length-map, take_more, take_all}
 use Rattle.std.proofs.lemmas.Option.{same_Some}
 use Rattle.std.proofs.lemmas.Grind.{flat_map-append}
-use Rattle.ild_data.specs.Data.{Data, integer, members_of, members_list}
-use Rattle.ild_data.specs.Spell.{head, spell, spell_text, spell_int, spell_members}
+use Rattle.ild_data.specs.Data.{members_of}
+use Rattle.ild_data.specs.Spell.{head, spell_text, spell_int, spell_members}
 use Rattle.ild_data.proofs.Lists.{length-members}
 use Rattle.ild_plain.specs.Value.{Value, entry_of, block_of, spell_entries}
 

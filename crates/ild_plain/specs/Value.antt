@@ -1,5 +1,5 @@
 -- The values of a plain map from texts to integers, and their one block.
-use Rattle.std.specs.Prelude.{ℕ, ◌+◌, ℤ, List, [], ◌∷◌, ◌++◌, map, Bool, length, nat_le}
+use Rattle.std.specs.Prelude.{ℕ, ℤ, List, [], ◌∷◌, ◌++◌, map, Bool, length, nat_le}
 use Rattle.std.specs.List.{flat_map}
 use Rattle.ild_data.specs.Data.{Data, integer, map as map_of, members_of}
 use Rattle.ild_data.specs.Limits.{longest_block}

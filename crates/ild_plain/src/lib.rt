@@ -1,8 +1,6 @@
-//! The value of a plain map from texts to integers: its entries, its block and the texts of its integers.
+//! The value of a plain map from texts to integers: its entries and its block.
 #![tactic(auto)]
 
-mod number;
 mod value;
 
-pub use number::integer_of;
 pub use value::PlainMap;

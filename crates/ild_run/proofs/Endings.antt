@@ -10,13 +10,16 @@ use Rattle.ild_edges.specs.declared.inputs.Taken.{Taken}
 use Rattle.ild_plain.specs.Value.{Value, blocks_of}
 use Rattle.ild_script.specs.Line.{lines_of}
 use Rattle.ild_run.specs.Lines.{LinesDone, LinesCut}
-use Rattle.ild_run.specs.Opening.{Opens, PutsEmpty, EmptyAnswer}
+use Rattle.ild_run.specs.Opening.{PutsEmpty, EmptyAnswer, InputsFault}
 use Rattle.ild_run.specs.Fault.{fault_text, status_of, cut_status}
-use Rattle.ild_run.specs.Work.{Work, ends, answers, work_of, schema_work, AreTaken}
+use Rattle.ild_run.specs.Work.{Work, ends, answers, work_of, schema_work, AreTaken, Reaches}
 use Rattle.ild_run.specs.Words.{Names}
 use Rattle.ild_run.specs.Ended.{Call, IsDue, HasScript, Answers, AnswersAll, AnswersSome, Tells, TellsFront, CutAs, ToldAs, Says, Ended}
 use Rattle.ild_run.specs.declared.fault.Fault.{Fault}
 use Rattle.ild_run.specs.declared.fault.Fault.TheVariants as F
+use Rattle.ild_run.specs.declared.fault.Role.{Role}
+use Rattle.ild_run.specs.declared.fault.Role.TheVariants as Role
+use Rattle.ild_run.specs.declared.fault.Trouble.TheVariants as T
 use Rattle.ild_run.specs.declared.script.Cut.{Cut}
 use Rattle.ild_run.specs.declared.script.Cut.TheVariants as C
 use Rattle.ild_run.specs.declared.status.Status.{Status}
@@ -131,3 +134,27 @@ ended_refused c ns schema script named a s all = record { schema = schema; scrip
 pub cut_cause : (cut : Cut) (m n : Output) → (IsErrOf {T = Bool} (Err cut) C.Sink → Rose m.faults n.faults) → CutAs m (cut_status cut) n
 cut_cause C.Sink m n rose = rose refl
 cut_cause C.Memory m n rose = tt
+
+is_work : (c : Call) (ns : Names) (schema script : Taken) (w : Work) → c.names ≡ Some ns → schema_work schema script ≡ w → work_of c.names schema script ≡ w
+is_work c ns schema script w named is = ap (λ n. work_of n schema script) named ∙ is
+
+reaches : (c : Call) (ns : Names) (role : Role) (schema : Taken) → c.names ≡ Some ns → Reaches role (Some ns) schema → Reaches role c.names schema
+reaches c ns role schema named there = subst (λ (n : Option Names). Reaches role n schema) (sym named) there
+
+due_inputs : (c : Call) (ns : Names) (schema script : Taken) (f : Fault) → c.names ≡ Some ns → InputsFault c.before.supply schema script f c.after.supply → IsDue c schema script f
+due_inputs c ns schema script (F.Input Role.Schema T.Failed) named fault = (fault, reaches c ns Role.Schema schema named tt)
+due_inputs c ns schema script (F.Input Role.Script T.Failed) named fault = (fault.0, reaches c ns Role.Script schema named fault.1)
+due_inputs c ns schema script (F.Input Role.Schema T.Absent) named fault = (is_work c ns schema script _ named fault.0, fault.1)
+due_inputs c ns schema script (F.Input Role.Script T.Absent) named fault = (is_work c ns schema script _ named fault.0, fault.1)
+due_inputs c ns schema script (F.Input Role.Schema T.Long) named fault = (is_work c ns schema script _ named fault.0, fault.1)
+due_inputs c ns schema script (F.Input Role.Script T.Long) named fault = (is_work c ns schema script _ named fault.0, fault.1)
+due_inputs c ns schema script F.NotBuilt named fault = is_work c ns schema script _ named fault
+due_inputs c ns schema script F.Memory named fault = tt
+due_inputs c ns schema script F.Words named fault = absurd fault
+due_inputs c ns schema script F.Store named fault = absurd fault
+due_inputs c ns schema script (F.Clash id) named fault = absurd fault
+
+-- a call whose inputs were not taken
+pub ended_inputs : (c : Call) (ns : Names) (schema script : Taken) (f : Fault) (status : Status) → c.names ≡ Some ns → MayBe c.before.supply.files ns.schema schema → MayBe c.before.supply.files ns.script script
+    → InputsFault c.before.supply schema script f c.after.supply → ToldAs f c.before.output status c.after.output → Ended c status
+ended_inputs c ns schema script f status named a s fault told = ended_told c schema script f status (are_taken c ns schema script named a s) (due_inputs c ns schema script f named fault) told

@@ -3,3 +3,4 @@ pub mod Runs
 pub mod Cuts
 pub mod Openings
 pub mod Endings
+pub mod Completes

@@ -38,6 +38,11 @@ pub record Call : Type 0 where
   pub before : World
   pub after : World
 
+-- a call of these names, over the outside before it and after it
+abbrev pub call_of : Option Names → Supply → Moment → Output → Supply → Moment → Output → Call
+call_of names supply moment output supply' moment' output' =
+    record { names = names; before = record { supply = supply; moment = moment; output = output }; after = record { supply = supply'; moment = moment'; output = output' } }
+
 -- there are lines to answer
 abbrev pub HasScript : Work → Type 0
 HasScript (ends f) = ⊥
@@ -130,3 +135,10 @@ pub record Ended (c : Call) (status : Status) : Type 0 where
   pub script : Taken
   pub taken : AreTaken c.names c.before.supply schema script
   pub says : Says c schema script status
+
+-- the statuses of a call that ended before the store was asked
+abbrev pub IsBeforeStore : Status → Type 0
+IsBeforeStore S.Words = Unit {0}
+IsBeforeStore S.Schema = Unit {0}
+IsBeforeStore S.Input = Unit {0}
+IsBeforeStore status = ⊥

@@ -10,3 +10,4 @@ pub mod Fault
 pub mod Work
 pub mod Opening
 pub mod Ended
+pub mod Complete

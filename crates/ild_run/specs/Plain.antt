@@ -1,8 +1,9 @@
 -- The lines of a script on the values of a plain map from texts to integers.
 use Rattle.std.specs.Prelude.{ℕ, ℤ, List, [], ◌∷◌, Option, Some, None, Result, Ok, Err}
-use Rattle.std.specs.Fmt.{signed_decimal}
 use Rattle.std.specs.Result.{result_ok}
+use Rattle.ild_data.specs.Data.{integer}
 use Rattle.ild_data.specs.Key.{value_at}
+use Rattle.ild_json.specs.Printing.{json_text}
 use Rattle.ild_script.specs.Line.{Command, Reading, blank, command, outside, reads}
 use Rattle.ild_script.specs.declared.word.Word.{Word}
 use Rattle.ild_script.specs.declared.word.Word.TheVariants as W
@@ -35,10 +36,15 @@ asked blank = nothing
 asked (command c) = asked_by c.verb c.path c.json
 asked outside = unknown
 
+-- the reply of a json text
+abbrev pub printed : Option (List ℕ) → Reply
+printed None = R.No N.Reserved
+printed (Some text) = R.Ok text
+
 -- the reply that shows an integer
 abbrev pub shown : Option ℤ → Reply
 shown None = R.No N.Path
-shown (Some n) = R.Ok (signed_decimal n)
+shown (Some n) = printed (json_text (integer n))
 
 abbrev pub got_at : Option (List ℕ) → Value → Reply
 got_at None v = R.No N.Path

@@ -1,13 +1,15 @@
 //! The edits of a plain map: the changed value is spelled, its block is put, and then the value is changed.
-ghost use Rattle.ild_run.specs.Change.{change, set_at, del_at, only_segment};
+ghost use Rattle.ild_run.specs.Change.{change, set_at, del_at, only_segment, integer_in};
 ghost use Rattle.ild_run.specs.Puts.{Edits, PutsStorable};
 ghost use Rattle.std.specs.Prelude.{◌≡◌, Ok, option_map};
 ghost use Rattle.ild_data.specs.Key.{put};
+ghost use Rattle.ild_data.specs.Seen.{data_of};
 
 use crate::publish::{PutFault, publish};
-use ild_data::{BlockId, Int, Path, Txt};
+use ild_data::{BlockId, Int, Path, Tree, Txt};
 use ild_edges::Store;
-use ild_plain::{PlainMap, integer_of};
+use ild_json::{JsonErr, read};
+use ild_plain::PlainMap;
 use ild_script::No;
 use std::alloc::Global;
 
@@ -41,10 +43,7 @@ fn set_number<K: Store>(
     let Ok(block) = value.block_with(alloc, key, number) else {
         return Err(No::Memory);
     };
-    let id = match publish_storable(store, block.as_slice()) {
-        Ok(id) => id,
-        Err(refusal) => return Err(refusal),
-    };
+    let id = publish_storable(store, block.as_slice())?;
     match value.put(key, number) {
         Ok(()) => Ok(id),
         Err(_) => Err(No::Memory),
@@ -61,7 +60,17 @@ pub fn only_segment(path: &Path) -> Option<&Txt>
     }
 }
 
-/// Sets the place at a path to the integer that a json text writes.
+/// The integer that a tree is.
+fn integer_in(tree: &Tree) -> Option<Int>
+    ensures { result ≡ integer_in (data_of tree.now) }
+{
+    match tree {
+        Tree::Int(number) => Some(*number),
+        _ => None,
+    }
+}
+
+/// Sets the place at a path to the integer that a json text means.
 pub fn set<K: Store>(
     alloc: Global,
     value: &mut PlainMap,
@@ -74,9 +83,13 @@ pub fn set<K: Store>(
     let Some(key) = only_segment(path) else {
         return Err(No::Path);
     };
-    match integer_of(json) {
-        Some(number) => set_number(alloc, value, key.as_str(), number, store),
-        None => Err(No::Json),
+    match read(alloc, json) {
+        Ok(tree) => match integer_in(&tree) {
+            Some(number) => set_number(alloc, value, key.as_str(), number, store),
+            None => Err(No::Mismatch),
+        },
+        Err(JsonErr::Memory) => Err(No::Memory),
+        Err(_) => Err(No::Json),
     }
 }
 
@@ -94,10 +107,7 @@ pub fn del<K: Store>(
     };
     match value.block_without(alloc, key.as_str()) {
         Ok(Some(block)) => {
-            let id = match publish_storable(store, block.as_slice()) {
-                Ok(id) => id,
-                Err(refusal) => return Err(refusal),
-            };
+            let id = publish_storable(store, block.as_slice())?;
             value.remove(key.as_str());
             Ok(id)
         }

@@ -8,6 +8,8 @@ mod publish;
 mod script;
 mod status;
 mod step;
+#[cfg(test)]
+mod tests;
 mod top;
 
 pub use status::Status;

@@ -59,10 +59,7 @@ fn take_input<I: Inputs>(inputs: &mut I, role: Role, name: &str) -> Result<Octet
 pub fn take_script<I: Inputs>(inputs: &mut I, names: &Names<'_>) -> Result<Octets, Fault>
     ensures { Opens (I.supply inputs.old) (names_seen names.now) result (I.supply inputs.new) }
 {
-    let schema = match take_input(inputs, Role::Schema, names.schema) {
-        Ok(schema) => schema,
-        Err(fault) => return Err(fault),
-    };
+    let schema = take_input(inputs, Role::Schema, names.schema)?;
     if !is_schema(schema.as_slice()) {
         return Err(Fault::NotBuilt);
     }

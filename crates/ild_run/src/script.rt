@@ -86,10 +86,10 @@ fn answer_and_write<K: Store, W: Sink>(
 {
     match answer_line(alloc, value, line, store) {
         None => Ok(false),
-        Some(reply) => match write_reply(alloc, &reply, out) {
-            Ok(()) => Ok(is_no(&reply)),
-            Err(cut) => Err(cut),
-        },
+        Some(reply) => {
+            write_reply(alloc, &reply, out)?;
+            Ok(is_no(&reply))
+        }
     }
 }
 
@@ -110,11 +110,7 @@ pub fn answer_all<K: Store, W: Sink>(
     let mut refused = false;
     while let Some(bytes) = rest {
         let (line, after) = cut_line(bytes);
-        let no = match answer_and_write(alloc, value, line, store, out) {
-            Ok(no) => no,
-            Err(cut) => return Err(cut),
-        };
-        refused |= no;
+        refused |= answer_and_write(alloc, value, line, store, out)?;
         rest = after;
     }
     Ok(refused)

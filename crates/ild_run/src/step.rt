@@ -6,8 +6,9 @@ ghost use Rattle.ild_run.specs.Plain.{plain_map, asked_by, got, root_reply};
 ghost use Rattle.ild_run.specs.Puts.{Asks, reply_to};
 
 use crate::edit::{del, only_segment, set};
-use ild_data::{BlockId, Path, Txt, block_id};
+use ild_data::{BlockId, Path, Tree, block_id};
 use ild_edges::Store;
+use ild_json::{PrintErr, print};
 use ild_plain::PlainMap;
 use ild_script::{Line, LineErr, No, Reply, Word, line_of};
 use std::alloc::Global;
@@ -20,9 +21,10 @@ fn get(alloc: Global, value: &PlainMap, path: &Path) -> Reply
         return Reply::No(No::Path);
     };
     match value.get(key.as_str()) {
-        Some(number) => match number.get().to_string(alloc) {
-            Ok(json) => Reply::Ok(Txt::from_string(json)),
-            Err(_) => Reply::No(No::Memory),
+        Some(number) => match print(alloc, &Tree::Int(number)) {
+            Ok(json) => Reply::Ok(json),
+            Err(PrintErr::Reserved) => Reply::No(No::Reserved),
+            Err(PrintErr::Memory) => Reply::No(No::Memory),
         },
         None => Reply::No(No::Path),
     }

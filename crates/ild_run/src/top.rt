@@ -1,10 +1,11 @@
 //! The top call.
-ghost use Rattle.std.specs.Prelude.{◌≡◌, ◌≤◌, Err};
+ghost use Rattle.std.specs.Prelude.{◌≡◌, ◌≤◌};
 ghost use Rattle.ild_edges.specs.Inputs.{After};
 ghost use Rattle.ild_edges.specs.Store.{Later};
 ghost use Rattle.ild_run.specs.Words.{names_of};
 ghost use Rattle.ild_run.specs.Fault.{cut_status};
-ghost use Rattle.ild_run.specs.Ended.{Ended, ToldAs};
+ghost use Rattle.ild_run.specs.Ended.{Ended, IsBeforeStore, ToldAs, call_of};
+ghost use Rattle.ild_run.specs.Complete.{IsComplete};
 
 use crate::fault::Fault;
 use crate::open::{names_of, put_empty, take_script};
@@ -38,17 +39,18 @@ fn tell<W: Sink>(alloc: Global, fault: Fault, out: &mut W) -> Status
 }
 
 /// Does what the words say, and answers how it ended.
-pub fn run<I: Inputs, K: Store, W: Sink>(
+fn carry_out<I: Inputs, K: Store, W: Sink>(
     alloc: Global,
     words: &[String],
     inputs: &mut I,
     store: &mut K,
     out: &mut W,
 ) -> Status
-    ensures ended { Ended (record { names = names_of words.now; before = record { supply = I.supply inputs.old; moment = K.moment store.old; output = W.output out.old }; after = record { supply = I.supply inputs.new; moment = K.moment store.new; output = W.output out.new } }) result }
+    ensures ended { Ended (call_of (names_of words.now) (I.supply inputs.old) (K.moment store.old) (W.output out.old) (I.supply inputs.new) (K.moment store.new) (W.output out.new)) result }
     ensures inputs { After (I.supply inputs.old) (I.supply inputs.new) }
     ensures later { Later (K.moment store.old) (K.moment store.new) }
     ensures sink { (W.output out.old).faults ≤ (W.output out.new).faults }
+    ensures untouched { IsBeforeStore result → K.moment store.new ≡ K.moment store.old }
 {
     let Some(names) = names_of(words) else {
         return tell(alloc, Fault::Words, out);
@@ -66,4 +68,33 @@ pub fn run<I: Inputs, K: Store, W: Sink>(
         Ok(true) => Status::Refused,
         Err(cut) => cut_status(cut),
     }
+}
+
+/// Does what the words say, and answers how it ended.
+///
+/// Each line of the script is answered as the same command is on the plain value of the map, from the empty map on. A
+/// root that is printed is the id of the block built from scratch from the value at that line. A line that is refused
+/// changes nothing, and its cause is there.
+pub fn run<I: Inputs, K: Store, W: Sink>(
+    alloc: Global,
+    words: &[String],
+    inputs: &mut I,
+    store: &mut K,
+    out: &mut W,
+) -> Status
+    // The status, the text that was written and the cause of both.
+    ensures ended { Ended (call_of (names_of words.now) (I.supply inputs.old) (K.moment store.old) (W.output out.old) (I.supply inputs.new) (K.moment store.new) (W.output out.new)) result }
+
+    // Where no call of the outside failed and no blocks collide, all that the words ask for is done.
+    ensures complete { IsComplete (call_of (names_of words.now) (I.supply inputs.old) (K.moment store.old) (W.output out.old) (I.supply inputs.new) (K.moment store.new) (W.output out.new)) result }
+
+    // What was held is held, and no count falls.
+    ensures inputs { After (I.supply inputs.old) (I.supply inputs.new) }
+    ensures later { Later (K.moment store.old) (K.moment store.new) }
+    ensures sink { (W.output out.old).faults ≤ (W.output out.new).faults }
+
+    // A call that ends before its lines by its words, its schema or its inputs leaves the store as it was.
+    ensures untouched { IsBeforeStore result → K.moment store.new ≡ K.moment store.old }
+{
+    carry_out(alloc, words, inputs, store, out)
 }

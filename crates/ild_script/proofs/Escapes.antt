@@ -1,8 +1,8 @@
 -- A segment, cut at its first `~`.
-use Rattle.std.proofs.Common.{◌≡◌, ℕ, zero, suc, ◌+◌, ◌<◌, ◌≤◌, List, [], ◌∷◌, ◌++◌, length, take, drop, Bool, true, false, cond, not, eqb, Option, Some, None, option_map, refl, sym, ap, ◌∙◌, append_assoc, arith}
+use Rattle.std.proofs.Common.{◌≡◌, ℕ, suc, ◌+◌, ◌<◌, List, [], ◌∷◌, ◌++◌, length, take, drop, Bool, true, false, cond, not, eqb, Option, Some, None, option_map, refl, sym, ap, ◌∙◌, append_assoc, arith}
 use Rattle.std.specs.List.{before_first, after_first, position_or_len}
 use Rattle.std.proofs.lemmas.Bool.Decides.{nat_tests}
-use Rattle.std.proofs.lemmas.Option.{same_Some, none-some}
+use Rattle.std.proofs.lemmas.Option.{same_Some}
 use Rattle.ild_script.specs.Escape.{escaped_byte, behind_tilde, before, unescaped}
 
 abbrev pub is_tilde : ℕ → Bool
@@ -24,7 +24,7 @@ is_126 : (b : ℕ) → true ≡ eqb b 126 → b ≡ 126
 is_126 b e = grind (arith, nat_tests)
 
 -- a byte that is no `~` stands for itself
-plain_byte : (b : ℕ) (bs : List ℕ) → false ≡ eqb b 126 → unescaped (b ∷ bs) ≡ option_map (λ zs. b ∷ zs) (unescaped bs)
+pub plain_byte : (b : ℕ) (bs : List ℕ) → false ≡ eqb b 126 → unescaped (b ∷ bs) ≡ option_map (λ zs. b ∷ zs) (unescaped bs)
 plain_byte b [] e = ap (λ t. cond t None (Some (b ∷ []))) (sym e)
 plain_byte b (c ∷ bs) e = ap (λ t. cond t (before (escaped_byte c) (unescaped bs)) (before (Some b) (unescaped (c ∷ bs)))) (sym e)
 

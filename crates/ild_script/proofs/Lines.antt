@@ -1,10 +1,9 @@
 -- A line of text is read as a line of bytes.
-use Rattle.std.proofs.Common.{◌≡◌, ℕ, List, [], ◌∷◌, length, Bool, true, false, cond, eqb, sym, ap, ◌∙◌, arith}
+use Rattle.std.proofs.Common.{◌≡◌, ℕ, List, [], ◌∷◌, length, false, cond, eqb, ap, ◌∙◌, arith}
 use Rattle.std.specs.Prelude.{IsUtf8}
-use Rattle.std.specs.Str.Lossy.{utf8_valid_len}
 use Rattle.std.proofs.lemmas.Str.{utf8_valid_len-IsUtf8}
 use Rattle.std.proofs.lemmas.Bool.Decides.{nat_tests}
-use Rattle.ild_script.specs.Line.{Reading, outside, reads, reads_text}
+use Rattle.ild_script.specs.Line.{outside, reads, reads_text}
 
 same_length : {X : Type 0} (n : ℕ) (x y : X) → cond (eqb n n) x y ≡ x
 same_length n x y = grind (arith, nat_tests)

@@ -3,3 +3,4 @@ pub mod Path
 pub mod Line
 pub mod Reads
 pub mod Reply
+pub mod Laws

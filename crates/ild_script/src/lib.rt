@@ -3,12 +3,14 @@
 
 mod error;
 mod escape;
+mod laws;
 mod line;
 mod path;
 mod reply;
 mod word;
 
 pub use error::LineErr;
+pub use laws::segments_write_texts;
 pub use line::{Line, line_of};
 pub use reply::{No, Reply, reply_text};
 pub use word::{Shape, Word};

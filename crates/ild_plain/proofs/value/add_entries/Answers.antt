@@ -1,5 +1,4 @@
-use Rattle.std.proofs.Common.{◌≡◌, ◌++◌, List, ℕ, append_assoc, ap, sym, ◌∙◌, arith}
-use Rattle.ild_plain.specs.Value.{spell_entries}
+use Rattle.std.proofs.Common.{◌++◌, List, ℕ, ap, ◌∙◌, arith}
 use Rattle.ild_plain.proofs.Entries.{entries_all}
 use Rattle.ild_plain.proofs.value.add_entries.Goals as goal
 

@@ -1,7 +1,7 @@
 use Rattle.std.proofs.Common.{◌≡◌, ◌∙◌, sym, subst}
 use Rattle.std.specs.Prelude.{IfOk}
 use Rattle.ild_plain.specs.Value.{Value, block_of}
-use Rattle.ild_plain.proofs.Entries.{set_between, insert_between}
+use Rattle.ild_plain.proofs.Entries.{set_between}
 use Rattle.ild_plain.proofs.value.block_put.Goals as goal
 
 pub returns-in-Ok : goal.returns-in-Ok

@@ -1,4 +1,4 @@
-use Rattle.std.proofs.Common.{◌≡◌, ◌∙◌, sym, ap, cond, Some, None, is_some}
+use Rattle.std.proofs.Common.{◌∙◌, sym, ap, Some}
 use Rattle.ild_plain.specs.Value.{block_of}
 use Rattle.ild_plain.proofs.Entries.{remove_between, found_value}
 use Rattle.ild_plain.proofs.value.block_removed.Goals as goal

@@ -1,4 +1,4 @@
-use Rattle.std.proofs.Common.{sym, ◌∙◌, subst, ap}
+use Rattle.std.proofs.Common.{sym, ◌∙◌}
 use Rattle.ild_plain.proofs.Entries.{set_in_place}
 use Rattle.ild_plain.proofs.value.put_entry.Goals as goal
 

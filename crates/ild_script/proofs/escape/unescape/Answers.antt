@@ -1,7 +1,6 @@
-use Rattle.std.proofs.Common.{Some, None, rules, refl, sym, ap, ◌∙◌, arith, lit<}
+use Rattle.std.proofs.Common.{Some, None, rules, sym, ap, ◌∙◌, lit<}
 use Rattle.std.proofs.lemmas.Str.Pattern.{split_once_first}
-use Rattle.std.specs.List.{after_first}
-use Rattle.ild_script.proofs.Escapes.{is_tilde, so_far_start, so_far_more, so_far_stop, so_far_end, behind_ascii, behind_shorter}
+use Rattle.ild_script.proofs.Escapes.{so_far_start, so_far_more, so_far_stop, so_far_end, behind_ascii}
 use Rattle.ild_script.proofs.escape.unescape.Goals as goal
 
 pub loop-plain-init : goal.loop-plain-init

@@ -1,4 +1,4 @@
-use Rattle.std.proofs.Common.{Some, None, rules, refl, sym, ap, ◌∙◌, lit<}
+use Rattle.std.proofs.Common.{Some, None, rules, sym, ap, ◌∙◌, lit<}
 use Rattle.std.proofs.lemmas.Str.Pattern.{split_once_first}
 use Rattle.std.proofs.lemmas.Result.{err_from_is_err_and}
 use Rattle.ild_script.specs.Escape.{unescaped}

@@ -1,0 +1,14 @@
+pub mod Steps
+pub mod Walks
+pub mod Heads
+pub mod Sizes
+pub mod Strings
+pub mod Again
+pub mod Taken
+pub mod Blocks
+pub mod Shapes
+pub mod Spans
+pub mod Passes
+pub mod Insides
+pub mod Searches
+pub mod Iterations

@@ -1,0 +1,36 @@
+-- Laws of spellings, faults and spans.
+use Rattle.std.specs.Prelude.{ℕ, ◌≡◌, ◌<◌, ◌^◌, ◌↔◌, List, length, ◌++◌, Some, None, slice_range, ◌+◌}
+use Rattle.ild_data.specs.Data.{Data, Members, map}
+use Rattle.ild_data.specs.Spell.{spell}
+use Rattle.ild_data.specs.Tree.{IsTree}
+use Rattle.ild_cbor.specs.declared.node.Node.{Node}
+use Rattle.ild_cbor.specs.Nodes.{Stands}
+use Rattle.ild_cbor.specs.Block.{AreBytes, IsBlockOf}
+use Rattle.ild_cbor.specs.Reading.{fault_of}
+use Rattle.ild_cbor.specs.Span.{Span, tree_at, span_of, part_of, index_of, entry_of}
+
+-- no spelling begins another, and two trees have two spellings
+abbrev pub OneSpelling : Type 0
+OneSpelling = (d e : Data) (x y : List ℕ) → IsTree d → IsTree e → length (spell d) < 2 ^ 64 → length (spell e) < 2 ^ 64 → spell d ++ x ≡ spell e ++ y → (d ≡ e) × (x ≡ y)
+
+-- a node stands for one tree
+abbrev pub OneTree : Type 0
+OneTree = (n : Node) (d e : Data) → Stands n d → Stands n e → d ≡ e
+
+-- the blocks without a fault are the spellings of trees within the limits
+abbrev pub FaultlessAreSpelled : Type 0
+FaultlessAreSpelled = (b : List ℕ) → AreBytes b → (fault_of b ≡ None) ↔ ((d : Data) × IsBlockOf b d)
+
+-- the span of a part, in which its spelling stands
+pub record HasSpan (t u : Data) (q : List ℕ) : Type 0 where
+  pub span : Span
+  pub is : span_of t q ≡ Some span
+  pub spelled : slice_range (spell t) span.start (span.start + span.size) ≡ spell u
+
+-- each part has its span
+abbrev pub SpansSpell : Type 0
+SpansSpell = (t u : Data) (q : List ℕ) → tree_at t q ≡ Some u → HasSpan t u q
+
+-- what stands at a key of a map is the part of that number
+abbrev pub EntriesAreParts : Type 0
+EntriesAreParts = (ms : Members) (key : List ℕ) → entry_of (map ms) key ≡ part_of (map ms) (index_of key (map ms))

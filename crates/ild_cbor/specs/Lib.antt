@@ -1,0 +1,13 @@
+pub mod Reading
+pub mod Block
+pub mod Spelled
+pub mod Span
+pub mod Scalar
+pub mod OfHead
+pub mod Shape
+pub mod Row
+pub mod Passing
+pub mod Search
+pub mod Nodes
+pub mod Steps
+pub mod Laws

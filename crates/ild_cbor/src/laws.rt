@@ -1,0 +1,27 @@
+//! Laws of spellings, faults and spans.
+ghost use Rattle.ild_cbor.specs.Laws.{OneSpelling, OneTree, FaultlessAreSpelled, SpansSpell, EntriesAreParts};
+
+/// No spelling begins another, and two trees have two spellings.
+pub fn one_spelling()
+    ensures { OneSpelling }
+{}
+
+/// A node stands for one tree.
+pub fn one_tree()
+    ensures { OneTree }
+{}
+
+/// The blocks without a fault are the spellings of trees within the limits.
+pub fn faultless_are_spelled()
+    ensures { FaultlessAreSpelled }
+{}
+
+/// The spelling of a part stands at the part's span.
+pub fn spans_spell()
+    ensures { SpansSpell }
+{}
+
+/// What stands at a key of a map is the part of that number.
+pub fn entries_are_parts()
+    ensures { EntriesAreParts }
+{}

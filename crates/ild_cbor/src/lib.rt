@@ -1,0 +1,31 @@
+//! Canonical items inside a block: the check of a block, and a view of its parts without a copy.
+#![tactic(auto)]
+
+mod access;
+mod block;
+mod fault;
+mod head;
+mod item;
+mod items;
+mod iterate;
+mod kind;
+mod laws;
+mod node;
+mod pairs;
+mod part;
+mod scalar;
+mod search;
+mod skip;
+mod start;
+mod string;
+
+pub use block::check;
+pub use fault::{CborFault, CborKind};
+pub use items::Items;
+pub use kind::Kind;
+pub use laws::{entries_are_parts, faultless_are_spelled, one_spelling, one_tree, spans_spell};
+pub use node::Node;
+pub use pairs::Pairs;
+
+#[cfg(test)]
+mod tests;

@@ -1,0 +1,134 @@
+//! Blocks that the standards and other encoders give, and the accessors on one that has all kinds in it.
+use crate::fault::CborKind::*;
+use crate::{CborFault, CborKind, Kind, check};
+use std::process::Abort;
+use std::test::Fail;
+
+// {"b": true, "i": -2^63, "l": [1, 24, 256, 65536, 2^32, 2^64-1, false], "m": {"a": [], "bb": {}}, "n": null,
+// "t": "Größe", "by": h'0102', "ln": the CID 01 71 12 20 00*32}, written by Python from RFC 8949
+const ALL: [u8; 121] = [
+    0xa8, 0x61, 0x62, 0xf5, 0x61, 0x69, 0x3b, 0x7f, 0xff, 0xff, 0xff, 0xff, 0xff, 0xff, 0xff, 0x61,
+    0x6c, 0x87, 0x01, 0x18, 0x18, 0x19, 0x01, 0x00, 0x1a, 0x00, 0x01, 0x00, 0x00, 0x1b, 0x00, 0x00,
+    0x00, 0x01, 0x00, 0x00, 0x00, 0x00, 0x1b, 0xff, 0xff, 0xff, 0xff, 0xff, 0xff, 0xff, 0xff, 0xf4,
+    0x61, 0x6d, 0xa2, 0x61, 0x61, 0x80, 0x62, 0x62, 0x62, 0xa0, 0x61, 0x6e, 0xf6, 0x61, 0x74, 0x67,
+    0x47, 0x72, 0xc3, 0xb6, 0xc3, 0x9f, 0x65, 0x62, 0x62, 0x79, 0x42, 0x01, 0x02, 0x62, 0x6c, 0x6e,
+    0xd8, 0x2a, 0x58, 0x25, 0x00, 0x01, 0x71, 0x12, 0x20, 0x00, 0x00, 0x00, 0x00, 0x00, 0x00, 0x00,
+    0x00, 0x00, 0x00, 0x00, 0x00, 0x00, 0x00, 0x00, 0x00, 0x00, 0x00, 0x00, 0x00, 0x00, 0x00, 0x00,
+    0x00, 0x00, 0x00, 0x00, 0x00, 0x00, 0x00, 0x00, 0x00,
+];
+
+fn refused(rt: &impl Abort, bytes: &[u8], kind: CborKind, at: usize) {
+    assert_eq!(rt;
+        check(bytes).err(),
+        Some(CborFault { kind, at }),
+        "{bytes:?}"
+    );
+}
+
+#[test]
+fn faults(rt: HostRuntime) {
+    let table: [(&[u8], CborKind, usize); 26] = [
+        (&[], Short, 0),
+        (&[0xa1, 0x61, 0x61], Short, 3),
+        (
+            &[0x9b, 0xff, 0xff, 0xff, 0xff, 0xff, 0xff, 0xff, 0xff],
+            Short,
+            9,
+        ),
+        (
+            &[0xbb, 0xff, 0xff, 0xff, 0xff, 0xff, 0xff, 0xff, 0xff],
+            Short,
+            9,
+        ),
+        (
+            &[0x5b, 0xff, 0xff, 0xff, 0xff, 0xff, 0xff, 0xff, 0xff],
+            Short,
+            9,
+        ),
+        (&[0xf6, 0xf6], Rest, 1),
+        (&[0x18, 0x17], Head, 0),
+        (&[0x19, 0x00, 0xff], Head, 0),
+        (&[0x1a, 0x00, 0x00, 0xff, 0xff], Head, 0),
+        (&[0x1b, 0, 0, 0, 0, 0xff, 0xff, 0xff, 0xff], Head, 0),
+        (&[0x81, 0x1c], Head, 1),
+        (&[0x9f, 0xff], Head, 0),
+        (&[0xa1, 0x7f], Head, 1),
+        (&[0xd8, 42, 0x5f], Head, 2),
+        (&[0xa1, 0xff], KeyKind, 1),
+        (&[0xa2, 0x62, 0x61, 0x61, 2, 0x61, 0x62, 1], KeyOrder, 5),
+        (&[0xa2, 0x61, 0x61, 2, 0x61, 0x61, 1], KeyOrder, 4),
+        (&[0xd8, 43, 0x40], Tag, 0),
+        (&[0xd8, 42, 0x40], Link, 0),
+        (&[0xd8, 42, 0x61, 0x00], Link, 0),
+        (&[0x81, 0x62, 0xc3, 0x28], Utf8, 1),
+        (&[0xa1, 0x61, 0xff, 0xf6], Utf8, 1),
+        (&[0xf9, 0x3c, 0x00], Float, 0),
+        (&[0xf7], Simple, 0),
+        (&[0xfc], Simple, 0),
+        (&[0x3b, 0x80, 0, 0, 0, 0, 0, 0, 0], Range, 0),
+    ];
+    for (bytes, kind, at) in table {
+        refused(&rt, bytes, kind, at);
+    }
+}
+
+#[test]
+fn lengths_and_depths(rt: HostRuntime) {
+    assert!(rt; check(&ALL).is_ok());
+    for n in 0..ALL.len() {
+        refused(&rt, &ALL[..n], Short, n);
+    }
+    let mut lists = [0x81; 97];
+    lists[95] = 0x80;
+    assert!(rt; check(&lists[..96]).is_ok());
+    lists[95] = 0x81;
+    lists[96] = 0x80;
+    refused(&rt, &lists, Depth, 96);
+    let mut link = [0; 41];
+    link[..9].copy_from_slice(&[0xd8, 42, 0x58, 0x25, 0, 1, 0x71, 0x12, 0x20]);
+    assert!(rt; check(&link).is_ok());
+    link[3] = 0x24;
+    link[4..8].copy_from_slice(&[1, 0x71, 0x12, 0x20]);
+    refused(&rt, &link[..40], Link, 0);
+}
+
+#[test]
+fn parts(rt: HostRuntime) -> Result<(), Fail> {
+    let root = check(&ALL).ok().ok_or("a block")?;
+    assert_eq!(rt; root.kind(), Kind::Map);
+    assert_eq!(rt; root.count(), Some(8));
+    assert_eq!(rt; root.block().len(), 121);
+    let list = root.entry("l").ok_or("l")?;
+    assert_eq!(rt; list.span(), (17, 31));
+    assert_eq!(rt; list.count(), Some(7));
+    let wanted = [1, 24, 256, 65536, 0x1_0000_0000, 0xffff_ffff_ffff_ffff];
+    for i in 0..6 {
+        let item = list.item(i).ok_or("an item")?;
+        assert_eq!(rt; item.int().map(|n| n.get()), Some(wanted[i as usize]));
+    }
+    assert_eq!(rt; list.item(6).ok_or("false")?.boolean(), Some(false));
+    assert!(rt; list.item(7).is_none());
+    assert!(rt; root.item(0).is_none());
+    assert!(rt; root.entry("ll").is_none());
+    assert_eq!(rt; root.entry("t").ok_or("t")?.text(), Some("Größe"));
+    assert_eq!(rt;
+        root.entry("by").ok_or("by")?.bytes(),
+        Some([1, 2].as_slice())
+    );
+    assert_eq!(rt;
+        root.entry("i").ok_or("i")?.int().map(|n| n.get()),
+        Some(-0x8000_0000_0000_0000)
+    );
+    let cid = root.entry("ln").ok_or("ln")?.link().ok_or("a link")?;
+    assert_eq!(rt; cid.whole(), &ALL[85..121]);
+    assert_eq!(rt; root.entry("m").ok_or("m")?.spelling(), &ALL[50..58]);
+    assert_eq!(rt; list.items().ok_or("items")?.count(), 7);
+    let mut keys = 0;
+    for (key, value) in root.entries().ok_or("entries")? {
+        let found = root.entry(key).ok_or("an entry")?;
+        assert_eq!(rt; found.span(), value.span());
+        keys = key.len().saturating_add(keys);
+    }
+    assert_eq!(rt; keys, 10);
+    Ok(())
+}

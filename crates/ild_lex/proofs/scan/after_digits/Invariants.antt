@@ -1,0 +1,10 @@
+use Rattle.std.proofs.Common.{◌≡◌, length}
+use Rattle.ild_lex.specs.Bytes.{is_digit}
+use Rattle.ild_lex.specs.Scan.{skip_while}
+use Rattle.ild_lex.proofs.scan.after_digits.Given as goal
+
+abbrev pub invariant-loop-rest : goal.invariant-loop-rest
+invariant-loop-rest l = skip_while is_digit l.rest ≡ skip_while is_digit l.fn.bytes
+
+abbrev pub decreases-loop-rest : goal.decreases-loop-rest
+decreases-loop-rest l = length l.rest

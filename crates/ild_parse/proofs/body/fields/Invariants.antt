@@ -1,0 +1,12 @@
+use Rattle.std.proofs.Common.{◌≡◌, ◌-◌}
+use Rattle.ild_parse.specs.Stream.{stream_of, most}
+use Rattle.ild_parse.specs.Read.{many_at}
+use Rattle.ild_parse.specs.Grammar.{closes}
+use Rattle.ild_parse.specs.Part.{field_at}
+use Rattle.ild_parse.proofs.Many.{with_front}
+use Rattle.ild_parse.proofs.body.fields.Given as goal
+
+-- what is read behind the parts so far is what is read in all
+abbrev pub invariant-loop : goal.invariant-loop
+invariant-loop l =
+    with_front l.parts.items (many_at field_at closes (l.end - l.counter) (stream_of l.rest)) ≡ many_at field_at closes (most (stream_of l.fn.input)) (stream_of l.fn.input)

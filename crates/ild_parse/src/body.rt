@@ -1,0 +1,226 @@
+//! Bodies of types.
+ghost use Rattle.ild_parse.specs.Stream.{stream_of, most};
+ghost use Rattle.ild_parse.specs.Read.{Gives, many_at};
+ghost use Rattle.ild_parse.specs.Part.{field_at, member_at, enum_member_at};
+ghost use Rattle.ild_parse.specs.Grammar.{closes, braced_at, map_at, struct_at, union_at, enum_at, unit_at, list_at, scalar_at, body_at};
+
+use crate::form::{
+    needed_union_form, needed_unit_form, optional_enum_form, optional_map_form,
+    optional_struct_form,
+};
+use crate::input::Input;
+use crate::nested::read_ref;
+use crate::part::{DEEPEST, read_enum_member, read_field, read_member};
+use crate::terminal::read_type_name;
+use crate::{
+    Body, EnumBody, EnumMember, Field, List, MapBody, Member, ParseErr, StructBody, UnionBody,
+    UnitForm,
+};
+use std::alloc::Global;
+
+fn fields(alloc: Global, input: Input<'_>) -> Result<(List<Field>, Input<'_>), ParseErr>
+    ensures { Gives (λ x. (x.0, stream_of x.1)) result (many_at field_at closes (most (stream_of input.entry)) (stream_of input.entry)) }
+{
+    let mut parts = Vec::new(alloc);
+    let mut rest = input;
+    for _ in 0..input.most() {
+        if rest.is("}") {
+            return Ok((List::from_vec(parts), rest));
+        }
+        let (part, after) = read_field(alloc, rest)?;
+        parts.push(part)?;
+        rest = after;
+    }
+    Err(rest.fault())
+}
+
+fn members(alloc: Global, input: Input<'_>) -> Result<(List<Member>, Input<'_>), ParseErr>
+    ensures { Gives (λ x. (x.0, stream_of x.1)) result (many_at member_at closes (most (stream_of input.entry)) (stream_of input.entry)) }
+{
+    let mut parts = Vec::new(alloc);
+    let mut rest = input;
+    for _ in 0..input.most() {
+        if rest.is("}") {
+            return Ok((List::from_vec(parts), rest));
+        }
+        let (part, after) = read_member(alloc, rest)?;
+        parts.push(part)?;
+        rest = after;
+    }
+    Err(rest.fault())
+}
+
+fn enum_members(alloc: Global, input: Input<'_>) -> Result<(List<EnumMember>, Input<'_>), ParseErr>
+    ensures { Gives (λ x. (x.0, stream_of x.1)) result (many_at enum_member_at closes (most (stream_of input.entry)) (stream_of input.entry)) }
+{
+    let mut parts = Vec::new(alloc);
+    let mut rest = input;
+    for _ in 0..input.most() {
+        if rest.is("}") {
+            return Ok((List::from_vec(parts), rest));
+        }
+        let (part, after) = read_enum_member(alloc, rest)?;
+        parts.push(part)?;
+        rest = after;
+    }
+    Err(rest.fault())
+}
+
+/// map = "{" Type ":" ref "}" [ "representation" form ]
+#[tactic(auto, unfolding(crate::specs::Grammar::map_at))]
+fn read_map_body(alloc: Global, input: Input<'_>) -> Result<(MapBody, Input<'_>), ParseErr>
+    ensures { Gives (λ x. (x.0, stream_of x.1)) result (map_at (stream_of input.entry)) }
+{
+    let input = input.after("{")?;
+    let (key, input) = read_type_name(alloc, input)?;
+    let input = input.after(":")?;
+    let (value, input) = read_ref(alloc, DEEPEST, input)?;
+    let input = input.after("}")?;
+    let (form, input) = optional_map_form(alloc, input)?;
+    Ok((MapBody { key, value, form }, input))
+}
+
+#[tactic(auto, unfolding(crate::specs::Grammar::braced_at))]
+fn braced_fields(alloc: Global, input: Input<'_>) -> Result<(List<Field>, Input<'_>), ParseErr>
+    ensures { Gives (λ x. (x.0, stream_of x.1)) result (braced_at field_at (stream_of input.entry)) }
+{
+    let input = input.after("{")?;
+    let (parts, input) = fields(alloc, input)?;
+    let input = input.after("}")?;
+    Ok((parts, input))
+}
+
+#[tactic(auto, unfolding(crate::specs::Grammar::braced_at))]
+fn braced_members(alloc: Global, input: Input<'_>) -> Result<(List<Member>, Input<'_>), ParseErr>
+    ensures { Gives (λ x. (x.0, stream_of x.1)) result (braced_at member_at (stream_of input.entry)) }
+{
+    let input = input.after("{")?;
+    let (parts, input) = members(alloc, input)?;
+    let input = input.after("}")?;
+    Ok((parts, input))
+}
+
+#[tactic(auto, unfolding(crate::specs::Grammar::braced_at))]
+fn braced_enum_members(
+    alloc: Global,
+    input: Input<'_>,
+) -> Result<(List<EnumMember>, Input<'_>), ParseErr>
+    ensures { Gives (λ x. (x.0, stream_of x.1)) result (braced_at enum_member_at (stream_of input.entry)) }
+{
+    let input = input.after("{")?;
+    let (parts, input) = enum_members(alloc, input)?;
+    let input = input.after("}")?;
+    Ok((parts, input))
+}
+
+#[tactic(auto, unfolding(crate::specs::Grammar::struct_at))]
+fn read_struct(alloc: Global, input: Input<'_>) -> Result<(StructBody, Input<'_>), ParseErr>
+    ensures { Gives (λ x. (x.0, stream_of x.1)) result (struct_at (stream_of input.entry)) }
+{
+    let input = input.after("struct")?;
+    let (fields, input) = braced_fields(alloc, input)?;
+    let (form, input) = optional_struct_form(alloc, input)?;
+    Ok((StructBody { fields, form }, input))
+}
+
+#[tactic(auto, unfolding(crate::specs::Grammar::union_at))]
+fn read_union(alloc: Global, input: Input<'_>) -> Result<(UnionBody, Input<'_>), ParseErr>
+    ensures { Gives (λ x. (x.0, stream_of x.1)) result (union_at (stream_of input.entry)) }
+{
+    let input = input.after("union")?;
+    let (members, input) = braced_members(alloc, input)?;
+    let (form, input) = needed_union_form(alloc, input)?;
+    Ok((UnionBody { members, form }, input))
+}
+
+#[tactic(auto, unfolding(crate::specs::Grammar::enum_at))]
+fn read_enum(alloc: Global, input: Input<'_>) -> Result<(EnumBody, Input<'_>), ParseErr>
+    ensures { Gives (λ x. (x.0, stream_of x.1)) result (enum_at (stream_of input.entry)) }
+{
+    let input = input.after("enum")?;
+    let (members, input) = braced_enum_members(alloc, input)?;
+    let (form, input) = optional_enum_form(input)?;
+    Ok((EnumBody { members, form }, input))
+}
+
+#[tactic(auto, unfolding(crate::specs::Grammar::unit_at))]
+fn read_unit(input: Input<'_>) -> Result<(UnitForm, Input<'_>), ParseErr>
+    ensures { Gives (λ x. (x.0, stream_of x.1)) result (unit_at (stream_of input.entry)) }
+{
+    let input = input.after("unit")?;
+    needed_unit_form(input)
+}
+
+#[tactic(auto, unfolding(crate::specs::Grammar::list_at))]
+fn read_list_body(alloc: Global, input: Input<'_>) -> Result<(Body, Input<'_>), ParseErr>
+    ensures { Gives (λ x. (x.0, stream_of x.1)) result (list_at (stream_of input.entry)) }
+{
+    let input = input.after("[")?;
+    let (element, input) = read_ref(alloc, DEEPEST, input)?;
+    let input = input.after("]")?;
+    Ok((Body::List(element), input))
+}
+
+#[tactic(auto, unfolding(crate::specs::Grammar::scalar_at))]
+fn read_scalar(input: Input<'_>) -> Result<(Body, Input<'_>), ParseErr>
+    ensures { Gives (λ x. (x.0, stream_of x.1)) result (scalar_at (stream_of input.entry)) }
+{
+    if input.is("bool") {
+        return Ok((Body::Bool, input.rest()));
+    }
+    if input.is("string") {
+        return Ok((Body::String, input.rest()));
+    }
+    if input.is("bytes") {
+        return Ok((Body::Bytes, input.rest()));
+    }
+    if input.is("int") {
+        return Ok((Body::Int, input.rest()));
+    }
+    if input.is("float") {
+        return Ok((Body::Float(input.place()), input.rest()));
+    }
+    if input.is("any") {
+        return Ok((Body::Any, input.rest()));
+    }
+    Err(input.fault())
+}
+
+/// body
+#[tactic(auto, unfolding(crate::specs::Grammar::body_at))]
+pub(crate) fn read_body(alloc: Global, input: Input<'_>) -> Result<(Body, Input<'_>), ParseErr>
+    ensures { Gives (λ x. (x.0, stream_of x.1)) result (body_at (stream_of input.entry)) }
+{
+    if input.is("=") {
+        let (name, input) = read_type_name(alloc, input.rest())?;
+        return Ok((Body::Copy(name), input));
+    }
+    if input.is("&") {
+        let (name, input) = read_type_name(alloc, input.rest())?;
+        return Ok((Body::Link(name), input));
+    }
+    if input.is("[") {
+        return read_list_body(alloc, input);
+    }
+    if input.is("{") {
+        let (map, input) = read_map_body(alloc, input)?;
+        return Ok((Body::Map(map), input));
+    }
+    if input.is("struct") {
+        let (body, input) = read_struct(alloc, input)?;
+        return Ok((Body::Struct(body), input));
+    }
+    if input.is("union") {
+        let (body, input) = read_union(alloc, input)?;
+        return Ok((Body::Union(body), input));
+    }
+    if input.is("enum") {
+        let (body, input) = read_enum(alloc, input)?;
+        return Ok((Body::Enum(body), input));
+    }
+    if input.is("unit") {
+        let (form, input) = read_unit(input)?;
+        return Ok((Body::Unit(form), input));
+    }
+    read_scalar(input)
+}

@@ -1,0 +1,98 @@
+//! References to types: the one rule of the grammar that nests.
+ghost use Rattle.ild_parse.specs.Stream.{stream_of};
+ghost use Rattle.ild_parse.specs.Read.{Gives};
+ghost use Rattle.ild_parse.specs.ReferenceSeen.{refers_of};
+ghost use Rattle.ild_parse.specs.Refer.{inline_at, ref_with, list_with, map_with, named_at, link_at};
+
+use crate::input::Input;
+use crate::terminal::read_type_name;
+use crate::{Inline, ParseErr, Ref};
+use std::alloc::Global;
+
+#[tactic(auto, unfolding(crate::specs::Refer::named_at))]
+fn read_named(alloc: Global, input: Input<'_>) -> Result<(Inline, Input<'_>), ParseErr>
+    ensures { Gives (λ x. (refers_of x.0, stream_of x.1)) result (named_at (stream_of input.entry)) }
+{
+    let (name, input) = read_type_name(alloc, input)?;
+    Ok((Inline::Type(name), input))
+}
+
+#[tactic(auto, unfolding(crate::specs::Refer::link_at))]
+fn read_link(alloc: Global, input: Input<'_>) -> Result<(Inline, Input<'_>), ParseErr>
+    ensures { Gives (λ x. (refers_of x.0, stream_of x.1)) result (link_at (stream_of input.entry)) }
+{
+    let input = input.after("&")?;
+    let (name, input) = read_type_name(alloc, input)?;
+    Ok((Inline::Link(name), input))
+}
+
+/// "[" ref "]"
+#[cycle(nested)]
+#[tactic(auto, unfolding(crate::specs::Refer::list_with))]
+fn read_list(alloc: Global, room: u32, input: Input<'_>) -> Result<(Inline, Input<'_>), ParseErr>
+    ensures { Gives (λ x. (refers_of x.0, stream_of x.1)) result (list_with (inline_at room) (stream_of input.entry)) }
+{
+    let input = input.after("[")?;
+    let (element, input) = read_ref(alloc, room, input)?;
+    let input = input.after("]")?;
+    Ok((Inline::List(Box::new(alloc, element)?), input))
+}
+
+/// "{" Type ":" ref "}"
+#[cycle(nested)]
+#[tactic(auto, unfolding(crate::specs::Refer::map_with))]
+fn read_map(alloc: Global, room: u32, input: Input<'_>) -> Result<(Inline, Input<'_>), ParseErr>
+    ensures { Gives (λ x. (refers_of x.0, stream_of x.1)) result (map_with (inline_at room) (stream_of input.entry)) }
+{
+    let input = input.after("{")?;
+    let (key, input) = read_type_name(alloc, input)?;
+    let input = input.after(":")?;
+    let (value, input) = read_ref(alloc, room, input)?;
+    let input = input.after("}")?;
+    Ok((Inline::Map(key, Box::new(alloc, value)?), input))
+}
+
+/// inline = Type | "&" Type | "[" ref "]" | "{" Type ":" ref "}", where so many inline types have room, one in the other
+#[cycle(nested)]
+#[tactic(auto, unfolding(crate::specs::Refer::inline_at))]
+fn read_inline(alloc: Global, room: u32, input: Input<'_>) -> Result<(Inline, Input<'_>), ParseErr>
+    ensures { Gives (λ x. (refers_of x.0, stream_of x.1)) result (inline_at room (stream_of input.entry)) }
+{
+    if room == 0 {
+        return read_named(alloc, input);
+    }
+    if input.is("&") {
+        return read_link(alloc, input);
+    }
+    if input.is("[") {
+        return read_list(alloc, room - 1, input);
+    }
+    if input.is("{") {
+        return read_map(alloc, room - 1, input);
+    }
+    read_named(alloc, input)
+}
+
+/// ref = [ "nullable" ] inline
+#[cycle(nested)]
+#[tactic(auto, unfolding(crate::specs::Refer::ref_with))]
+pub(crate) fn read_ref(
+    alloc: Global,
+    room: u32,
+    input: Input<'_>,
+) -> Result<(Ref, Input<'_>), ParseErr>
+    ensures { Gives (λ x. (x.0, stream_of x.1)) result (ref_with (inline_at room) (stream_of input.entry)) }
+{
+    let at = input.place();
+    let nullable = input.is("nullable");
+    let input = input.behind("nullable");
+    let type_at = input.place();
+    let (inline, input) = read_inline(alloc, room, input)?;
+    let reference = Ref {
+        at,
+        nullable,
+        type_at,
+        inline,
+    };
+    Ok((reference, input))
+}

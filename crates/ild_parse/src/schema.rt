@@ -1,0 +1,76 @@
+//! The tree of a source.
+ghost use Rattle.std.specs.Prelude.{IfOk};
+ghost use Rattle.ild_lex.specs.Lex.{AreTokens};
+ghost use Rattle.ild_parse.specs.DerivePart.{Derives};
+ghost use Rattle.ild_parse.specs.Stream.{stream, stream_of, most, is_end};
+ghost use Rattle.ild_parse.specs.Read.{Gives, many_at};
+ghost use Rattle.ild_parse.specs.Grammar.{type_decl_at, decl_at, schema_at, parse_of};
+
+use crate::body::read_body;
+use crate::input::Input;
+use crate::terminal::read_type_name;
+use crate::{Ast, Decl, List, ParseErr, TypeDecl};
+use ild_lex::Tokens;
+use std::alloc::Global;
+
+#[tactic(auto, unfolding(crate::specs::Grammar::type_decl_at))]
+fn read_type_decl(alloc: Global, input: Input<'_>) -> Result<(TypeDecl, Input<'_>), ParseErr>
+    ensures { Gives (λ x. (x.0, stream_of x.1)) result (type_decl_at (stream_of input.entry)) }
+{
+    let input = input.after("type")?;
+    let (name, input) = read_type_name(alloc, input)?;
+    let (body, input) = read_body(alloc, input)?;
+    Ok((TypeDecl { name, body }, input))
+}
+
+#[tactic(auto, unfolding(crate::specs::Grammar::decl_at))]
+fn read_decl(alloc: Global, input: Input<'_>) -> Result<(Decl, Input<'_>), ParseErr>
+    ensures { Gives (λ x. (x.0, stream_of x.1)) result (decl_at (stream_of input.entry)) }
+{
+    if input.is("advanced") {
+        let (name, input) = read_type_name(alloc, input.rest())?;
+        return Ok((Decl::Advanced(name), input));
+    }
+    let (decl, input) = read_type_decl(alloc, input)?;
+    Ok((Decl::Type(decl), input))
+}
+
+fn decls(alloc: Global, input: Input<'_>) -> Result<(List<Decl>, Input<'_>), ParseErr>
+    ensures { Gives (λ x. (x.0, stream_of x.1)) result (many_at decl_at is_end (most (stream_of input.entry)) (stream_of input.entry)) }
+{
+    let mut parts = Vec::new(alloc);
+    let mut rest = input;
+    for _ in 0..input.most() {
+        if rest.is_end() {
+            return Ok((List::from_vec(parts), rest));
+        }
+        let (part, after) = read_decl(alloc, rest)?;
+        parts.push(part)?;
+        rest = after;
+    }
+    Err(rest.fault())
+}
+
+#[tactic(auto, unfolding(crate::specs::Grammar::schema_at))]
+fn read_schema(alloc: Global, input: Input<'_>) -> Result<Ast, ParseErr>
+    ensures { Gives (λ a. a) result (schema_at (stream_of input.entry)) }
+{
+    let (decls, _) = decls(alloc, input)?;
+    Ok(Ast { decls })
+}
+
+/// The tree of a source: the one that the grammar derives from its tokens.
+pub fn parse(alloc: Global, src: &str, tokens: &Tokens) -> Result<Ast, ParseErr>
+    requires { AreTokens src.now tokens.now }
+    // What is answered is derived.
+    ensures derived { IfOk result (Derives src.now tokens.now) }
+    // It is what the grammar reads from left to right, and a fault stands at the first token with which that stops.
+    ensures exact { Gives (λ a. a) result (parse_of src.now tokens.now) }
+{
+    ild_lex::spans(src, tokens);
+    let input = Input {
+        src: src.as_bytes(),
+        rest: tokens.as_slice(),
+    };
+    read_schema(alloc, input)
+}

@@ -1,0 +1,64 @@
+//! Settings in braces.
+ghost use Rattle.ild_parse.specs.Stream.{stream_of};
+ghost use Rattle.ild_parse.specs.Read.{Gives, setting_at, one_setting_at, both_settings_at, two_settings_at};
+
+use crate::input::Input;
+use crate::terminal::read_text;
+use crate::{ParseErr, Text};
+use std::alloc::Global;
+
+#[tactic(auto, unfolding(crate::specs::Read::setting_at))]
+fn setting<'s>(alloc: Global, key: &str, input: Input<'s>) -> Result<(Text, Input<'s>), ParseErr>
+    ensures { Gives (λ x. (x.0, stream_of x.1)) result (setting_at key.now (stream_of input.entry)) }
+{
+    let input = input.after(key)?;
+    read_text(alloc, input)
+}
+
+/// "{" key Text "}"
+#[tactic(auto, unfolding(crate::specs::Read::one_setting_at))]
+pub(crate) fn one_setting<'s>(
+    alloc: Global,
+    key: &str,
+    input: Input<'s>,
+) -> Result<(Text, Input<'s>), ParseErr>
+    ensures { Gives (λ x. (x.0, stream_of x.1)) result (one_setting_at key.now (stream_of input.entry)) }
+{
+    let input = input.after("{")?;
+    let (text, input) = setting(alloc, key, input)?;
+    Ok((text, input.after("}")?))
+}
+
+#[tactic(auto, unfolding(crate::specs::Read::both_settings_at))]
+fn both_settings<'s>(
+    alloc: Global,
+    a: &str,
+    b: &str,
+    input: Input<'s>,
+) -> Result<((Text, Text), Input<'s>), ParseErr>
+    ensures { Gives (λ x. (x.0, stream_of x.1)) result (both_settings_at a.now b.now (stream_of input.entry)) }
+{
+    if input.is(a) {
+        let (first, input) = setting(alloc, a, input)?;
+        let (second, input) = setting(alloc, b, input)?;
+        return Ok(((first, second), input));
+    }
+    let (second, input) = setting(alloc, b, input)?;
+    let (first, input) = setting(alloc, a, input)?;
+    Ok(((first, second), input))
+}
+
+/// "{" a Text b Text "}", in any order: the text of a, and that of b.
+#[tactic(auto, unfolding(crate::specs::Read::two_settings_at))]
+pub(crate) fn two_settings<'s>(
+    alloc: Global,
+    a: &str,
+    b: &str,
+    input: Input<'s>,
+) -> Result<((Text, Text), Input<'s>), ParseErr>
+    ensures { Gives (λ x. (x.0, stream_of x.1)) result (two_settings_at a.now b.now (stream_of input.entry)) }
+{
+    let input = input.after("{")?;
+    let (texts, input) = both_settings(alloc, a, b, input)?;
+    Ok((texts, input.after("}")?))
+}
