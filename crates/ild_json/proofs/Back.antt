@@ -1,5 +1,5 @@
 -- What is printed is read back as the same data.
-use Rattle.std.proofs.Common.{◌≡◌, ℕ, zero, suc, ◌+◌, ◌≤◌, ◌<◌, ℤ, pos, negsuc, List, [], ◌∷◌, get_or, Option, Some, None, option_and_then, Result, Ok, Err, Ordering, Less, Equal, Greater, nat_cmp, Bool, true, false, ◌||◌, refl, sym, ap, ◌∙◌, subst, arith}
+use Rattle.std.proofs.Common.{◌≡◌, ℕ, zero, suc, ◌≤◌, ℤ, pos, negsuc, List, [], ◌∷◌, Some, None, option_and_then, Ok, Ordering, Less, Equal, Greater, nat_cmp, true, false, refl, sym, ap, ◌∙◌, subst, arith}
 use Rattle.std.proofs.lemmas.Map.Lookups.{exact_bytes}
 use Rattle.std.specs.Cmp.Lexicographic.{slice_cmp}
 use Rattle.std.specs.Ordering.{match_ordering}
@@ -8,16 +8,14 @@ use Rattle.base64.specs.GeneralPurpose.{IsBytes}
 use Rattle.base64.proofs.EngineFacts.{decode_of-encode_of}
 use Rattle.serde_json.specs.Data as json
 use Rattle.serde_json.specs.Events.{members_len}
-use Rattle.serde_json.specs.Find.{as_str, get_member, of_integer}
+use Rattle.serde_json.specs.Find.{as_str, of_integer}
 use Rattle.ild_data.specs.Base32.{AreBytes}
 use Rattle.ild_data.specs.CidText.{cid_text_of}
-use Rattle.ild_data.specs.Data.{Data, null, boolean, integer, text, bytes, list, map, link, Items, no_items, item, Members, no_members, member, items_of, items_list, members_of, members_list}
-use Rattle.ild_data.specs.Key.{key_cmp, same_text, put, IsBelow, Rises}
+use Rattle.ild_data.specs.Data.{Data, null, boolean, integer, text, bytes, list, map, link, Items, no_items, item, Members, no_members, member, items_list, members_of, members_list}
+use Rattle.ild_data.specs.Key.{same_text, Rises}
 use Rattle.ild_data.specs.Tree.{IsTree, AreTrees, AreEntries}
 use Rattle.ild_data.proofs.Lists.{items_of-items_list, members_of-members_list}
-use Rattle.ild_data.proofs.Rising.{rises_list}
 use Rattle.ild_data.proofs.Texts.{read-cid_text}
-use Rattle.ild_json.specs.declared.error.JsonErr.{JsonErr}
 use Rattle.ild_json.specs.Slash.{slash, bytes_word, only_member}
 use Rattle.ild_json.specs.Reading.{and_others, under_key, number_read, link_or_fault, link_read, bytes_or_fault, bytes_read, data_read, items_read, members_read, object_read, bytes_form, map_or_fault, list_or_fault}
 use Rattle.ild_json.specs.Printing.{bytes_text, json_of, items_json, members_json, put_members, is_slash_alone, has_reserved, items_have_reserved, members_have_reserved}

@@ -11,7 +11,7 @@ mod show;
 mod tests;
 mod walk;
 
-pub use law::printed_is_read;
 pub use error::{JsonErr, PrintErr};
+pub use law::printed_is_read;
 pub use printing::print;
 pub use reading::read;
