@@ -32,6 +32,16 @@ impl From<AllocError> for JsonErr {
     }
 }
 
+impl<T: Drop> From<AllocFailed<T>> for JsonErr {
+    ghost use Rattle.ild_json.specs.declared.error.JsonErr.TheVariants.{Memory};
+
+    ghost from_gives = { λ _ e. e ≡ Memory };
+
+    fn from(_refused: AllocFailed<T>) -> JsonErr {
+        JsonErr::Memory
+    }
+}
+
 impl From<TextErr> for JsonErr {
     ghost use Rattle.ild_json.specs.Faults.{text_fault};
 

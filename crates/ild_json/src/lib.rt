@@ -2,6 +2,7 @@
 #![tactic(auto)]
 
 mod error;
+mod law;
 mod object;
 mod printing;
 mod reading;
@@ -11,5 +12,6 @@ mod tests;
 mod walk;
 
 pub use error::{JsonErr, PrintErr};
+pub use law::printed_is_read;
 pub use printing::print;
 pub use reading::read;

@@ -1,7 +1,10 @@
 //! From a tree to its text.
-ghost use Rattle.std.specs.Prelude.{◌≡◌, Some, None, IfOk, IfErr};
+ghost use Rattle.std.specs.Prelude.{◌≡◌, ◌≤◌, Some, None, IfOk, IfErr};
 ghost use Rattle.ild_data.specs.Seen.{data_of};
-ghost use Rattle.ild_json.specs.Printing.{json_text};
+ghost use Rattle.serde_json.specs.Data.{depth};
+ghost use Rattle.serde_json.specs.Read.{max_depth};
+ghost use Rattle.ild_json.specs.Printing.{json_of, json_text};
+ghost use Rattle.ild_json.specs.Reading.{data_read, json_read};
 
 use crate::PrintErr;
 use crate::show::value_of;
@@ -11,9 +14,11 @@ use std::alloc::Global;
 /// The DAG-JSON text of a tree, without white space and with keys that rise bytewise.
 pub fn print(alloc: Global, tree: &Tree) -> Result<Txt, PrintErr>
     ensures ok { IfOk result (λ t. json_text (data_of tree.now) ≡ Some t) }
+    ensures back { IfOk result (λ t. depth (json_of (data_of tree.now)) ≤ max_depth → json_read t ≡ data_read (json_of (data_of tree.now))) }
     ensures reserved { IfErr result (λ e. e ≡ PrintErr.Reserved → json_text (data_of tree.now) ≡ None) }
 {
     let value = value_of(alloc, tree)?;
     let text = value.to_string(alloc)?;
+    let _utf8 = text.as_str();
     Ok(Txt::from_string(text))
 }

@@ -1,0 +1,5 @@
+use Rattle.ild_json.proofs.Back.{back}
+use Rattle.ild_json.proofs.law.printed_is_read.Goals as goal
+
+pub returns : goal.returns
+returns c = back
