@@ -1,0 +1,88 @@
+//! The blocks are by python3's cbor2 (`dumps(value, canonical=True)`, with tag 42 for a link).
+use ild_cbor::{Kind, check};
+use ild_data::{CidRef, Int, Octets, Tree};
+use ild_emit::Emit;
+use ild_json::{print, read};
+use std::alloc::Global;
+use std::test::Fail;
+
+const CASES: [(&str, &[u8]); 9] = [
+    ("null", b"\xf6"),
+    ("true", b"\xf5"),
+    ("23", b"\x17"),
+    ("-24", b"\x37"),
+    ("\"é\"", b"\x62\xc3\xa9"),
+    ("{\"b\":1,\"aa\":2}", b"\xa2\x61\x62\x01\x62\x61\x61\x02"),
+    ("[[[]]]", b"\x81\x81\x80"),
+    ("{\"/\":{\"bytes\":\"AQI\"}}", b"\x42\x01\x02"),
+    (
+        "{\"a\":[1,-1,[],{}],\"bb\":{\"/\":{\"bytes\":\"AQI\"}},\"c\":null,\"d\":true,\"e\":false,\"f\":{\"/\":\"bafyreiaaaaaaaaaaaaaaaaaaaaaaaaaaaaaaaaaaaaaaaaaaaaaaaaaaaa\"},\"g\":18446744073709551615,\"h\":-9223372036854775808,\"long\":[24,255,256,65535,65536,4294967295,4294967296],\"é\":\"ü\"}",
+        b"\xaa\x61\x61\x84\x01\x20\x80\xa0\x61\x63\xf6\x61\x64\xf5\x61\x65\xf4\x61\x66\xd8\x2a\x58\x25\x00\x01\x71\x12\x20\x00\x00\x00\x00\x00\x00\x00\x00\x00\x00\x00\x00\x00\x00\x00\x00\x00\x00\x00\x00\x00\x00\x00\x00\x00\x00\x00\x00\x00\x00\x00\x00\x61\x67\x1b\xff\xff\xff\xff\xff\xff\xff\xff\x61\x68\x3b\x7f\xff\xff\xff\xff\xff\xff\xff\x62\x62\x62\x42\x01\x02\x62\xc3\xa9\x62\xc3\xbc\x64\x6c\x6f\x6e\x67\x87\x18\x18\x18\xff\x19\x01\x00\x19\xff\xff\x1a\x00\x01\x00\x00\x1a\xff\xff\xff\xff\x1b\x00\x00\x00\x01\x00\x00\x00\x00",
+    ),
+];
+
+/// The block of a tree.
+fn block_of(alloc: Global, tree: &Tree) -> Result<Octets, Fail> {
+    let mut emit = Emit::new(alloc);
+    emit.tree(tree)?;
+    Ok(emit.finish())
+}
+
+#[test]
+fn texts_and_blocks_of_another_tool(rt: HostRuntime) -> Result<(), Fail> {
+    for (text, block) in CASES {
+        let tree = read(rt.alloc(), text.as_bytes()).map_err(|_| "a json text")?;
+        let written = block_of(rt.alloc(), &tree)?;
+        assert_eq!(rt; written.as_slice(), block, "the block of {text}");
+        let node = check(block).map_err(|_| "a block")?;
+        assert_eq!(rt; node.spelling(), block, "the node of {text}");
+        let mut emit = Emit::new(rt.alloc());
+        emit.node(&node)?;
+        let copied = emit.finish();
+        assert_eq!(rt; copied.as_slice(), block, "the copied node of {text}");
+        let printed = print(rt.alloc(), &tree).map_err(|_| "a text")?;
+        assert_eq!(rt; printed.as_str().len(), text.len(), "the text of {text}");
+    }
+    Ok(())
+}
+
+#[test]
+fn each_call_of_the_writer(rt: HostRuntime) -> Result<(), Fail> {
+    let mut emit = Emit::new(rt.alloc());
+    emit.head(4, 5)?;
+    emit.int(Int::new(-25).ok_or("in range")?)?;
+    emit.text("é")?;
+    emit.bytes(b"\x01\x02")?;
+    emit.simple(None)?;
+    emit.simple(Some(true))?;
+    let out = emit.finish();
+    // cbor2.dumps([-25, "é", b"\x01\x02", None, True])
+    assert_eq!(rt;
+        out.as_slice(),
+        b"\x85\x38\x18\x62\xc3\xa9\x42\x01\x02\xf6\xf5".as_slice()
+    );
+    Ok(())
+}
+
+#[test]
+fn links_are_written_and_read(rt: HostRuntime) -> Result<(), Fail> {
+    let mut cid = [0; 36];
+    cid[0] = 0x01;
+    cid[1] = 0x71;
+    cid[2] = 0x12;
+    cid[3] = 0x20;
+    let cid = CidRef::read(&cid).map_err(|_| "a CID")?;
+    let mut emit = Emit::new(rt.alloc());
+    emit.link(&cid)?;
+    let out = emit.finish();
+    assert_eq!(rt; out.as_slice().len(), 41);
+    assert_eq!(rt;
+        &out.as_slice()[..9],
+        b"\xd8\x2a\x58\x25\x00\x01\x71\x12\x20".as_slice()
+    );
+    let node = check(out.as_slice()).map_err(|_| "a block")?;
+    assert_eq!(rt; node.kind(), Kind::Link);
+    let link = node.link().ok_or("a link")?;
+    assert_eq!(rt; link.whole(), cid.whole());
+    Ok(())
+}
