@@ -1,5 +1,5 @@
 -- What is derived is read: words, names, texts and numbers, and the tools for the rules above them.
-use Rattle.std.proofs.Common.{◌≡◌, ℕ, zero, suc, ◌+◌, ◌<◌, ◌≤◌, Bool, true, false, List, [], ◌∷◌, length, Result, Ok, Err, Some, refl, sym, ap, subst, ◌∙◌, arith}
+use Rattle.std.proofs.Common.{◌≡◌, ℕ, zero, suc, ◌+◌, ◌<◌, ◌≤◌, Bool, true, false, List, [], ◌∷◌, length, Result, Ok, Some, refl, sym, ap, subst, ◌∙◌, arith}
 use Rattle.std.specs.Prelude.{codes, nat_eq, ◌&&◌}
 use Rattle.std.proofs.lemmas.Bool.{false≢true, and_parts}
 use Rattle.ild_lex.specs.declared.token.TokenKind.{TokenKind}
@@ -8,9 +8,9 @@ use Rattle.ild_parse.specs.declared.ast.TypeName.{TypeName}
 use Rattle.ild_parse.specs.declared.ast.Name.{Name}
 use Rattle.ild_parse.specs.declared.ast.Text.{Text}
 use Rattle.ild_parse.specs.declared.ast.Number.{Number}
-use Rattle.ild_parse.specs.Stream.{Sign, Stream, place_of, kind_of_text, kind_code, is_literal, same_text, begins, begins_upper, is_word_kind, is_number_kind, is_text_kind, most}
+use Rattle.ild_parse.specs.Stream.{Sign, Stream, place_of, kind_of_text, kind_code, is_literal, same_text, begins, begins_upper, is_word_kind, is_number_kind, is_text_kind}
 use Rattle.ild_parse.specs.Value.{number_of, meaning}
-use Rattle.ild_parse.specs.Read.{◌>>=◌, literal_at, type_name_at, name_at, text_at, number_at, value_here, many_at}
+use Rattle.ild_parse.specs.Read.{literal_at, type_name_at, name_at, text_at, number_at, many_at}
 use Rattle.ild_parse.specs.Refer.{behind_word}
 use Rattle.ild_parse.specs.Grammar.{closes, braced_at}
 use Rattle.ild_parse.specs.Derive.{IsWord, IsTypeName, IsName, IsText, IsNumber, BeginsAt, IsOptionalWord, AreParts, AreBraced}

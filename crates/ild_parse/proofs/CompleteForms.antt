@@ -1,6 +1,6 @@
 -- What is derived is read: settings and representations.
-use Rattle.std.proofs.Common.{◌≡◌, ℕ, ◌<◌, ◌≤◌, Bool, true, false, List, [], ◌∷◌, length, Result, Ok, Option, Some, None, refl, inl, inr, arith}
-use Rattle.std.specs.Prelude.{codes, ◌⊎◌}
+use Rattle.std.proofs.Common.{◌≡◌, ℕ, true, false, List, ◌∷◌, Result, Ok, Option, Some, None, refl, inl, inr}
+use Rattle.std.specs.Prelude.{codes}
 use Rattle.ild_parse.specs.declared.ast.MapForm.{MapForm}
 use Rattle.ild_parse.specs.declared.ast.MapForm.TheVariants as MF
 use Rattle.ild_parse.specs.declared.ast.StructForm.{StructForm}
@@ -15,9 +15,9 @@ use Rattle.ild_parse.specs.declared.ast.Pairs.{Pairs}
 use Rattle.ild_parse.specs.declared.ast.Envelope.{Envelope}
 use Rattle.ild_parse.specs.declared.ast.Text.{Text}
 use Rattle.ild_parse.specs.Stream.{Sign, Stream, begins}
-use Rattle.ild_parse.specs.Read.{◌>>=◌, literal_at, type_name_at, text_at, setting_at, one_setting_at, both_settings_at, two_settings_at}
+use Rattle.ild_parse.specs.Read.{setting_at, one_setting_at, both_settings_at, two_settings_at}
 use Rattle.ild_parse.specs.Form.{pairs_at, map_form_at, struct_form_at, envelope_at, union_form_at, enum_form_at, unit_form_at, optional_form_at, needed_form_at}
-use Rattle.ild_parse.specs.Derive.{IsWord, IsOptional, IsFormed}
+use Rattle.ild_parse.specs.Derive.{IsOptional, IsFormed}
 use Rattle.ild_parse.specs.DeriveForm.{IsSetting, IsOneSetting, AreBothSettings, AreTwoSettings, IsPairs, IsMapForm, IsStructForm, IsEnvelope, IsUnionForm, IsEnumForm, IsUnitForm}
 use Rattle.ild_parse.proofs.Complete.{reading, word_sign, by_word, word-complete, type-complete, text-complete}
 

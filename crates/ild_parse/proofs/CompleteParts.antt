@@ -1,5 +1,5 @@
 -- What is derived is read: references, fields, members, bodies and declarations.
-use Rattle.std.proofs.Common.{◌≡◌, ℕ, zero, suc, ◌+◌, ◌≤◌, ◌<◌, Bool, true, false, cond, List, [], ◌∷◌, length, Result, Ok, Option, Some, None, refl, sym, ap, subst, arith}
+use Rattle.std.proofs.Common.{◌≡◌, ℕ, zero, suc, ◌+◌, ◌≤◌, true, false, cond, List, [], ◌∷◌, length, Result, Ok, Option, Some, None, refl, sym, ap, subst, arith}
 use Rattle.std.specs.Prelude.{codes, count_by}
 use Rattle.std.proofs.lemmas.List.Sums.{sum_by-cons}
 use Rattle.ild_lex.specs.declared.token.Token.{Token}
@@ -23,22 +23,21 @@ use Rattle.ild_parse.specs.declared.ast.Target.{Target}
 use Rattle.ild_parse.specs.declared.ast.Target.TheVariants as TV
 use Rattle.ild_parse.specs.declared.ast.Mark.{Mark}
 use Rattle.ild_parse.specs.declared.ast.Mark.TheVariants as MV
-use Rattle.ild_parse.specs.declared.ast.KindWord.{KindWord}
 use Rattle.ild_parse.specs.declared.ast.KindWord.TheVariants as KV
 use Rattle.ild_parse.specs.declared.ast.EnumMember.{EnumMember}
 use Rattle.ild_parse.specs.declared.ast.UnitForm.{UnitForm}
 use Rattle.ild_parse.specs.declared.ast.Text.{Text}
 use Rattle.ild_parse.specs.Reference.{Reference, refer, Refers, named, link, list, map}
-use Rattle.ild_parse.specs.Stream.{Sign, Stream, stream, place, place_of, next_is, rest_of, is_text, is_number, most, is_end, none_left}
-use Rattle.ild_parse.specs.Read.{◌>>=◌, literal_at, type_name_at, name_at, text_at, number_at, many_at}
-use Rattle.ild_parse.specs.Refer.{behind_word, named_at, link_at, ref_with, list_with, map_with, inline_at, ref_at, deepest}
-use Rattle.ild_parse.specs.Form.{map_form_at, struct_form_at, union_form_at, enum_form_at, unit_form_at, optional_form_at, needed_form_at}
-use Rattle.ild_parse.specs.Part.{implicit_at, rename_opt_at, implicit_opt_at, opt_at, other_opt_at, opts_behind, opts_at, field_at, target_at, kind_of, kind_mark, mark_at, member_at, quoted_at, enum_member_at}
-use Rattle.ild_parse.specs.Grammar.{closes, braced_at, map_at, struct_at, union_at, enum_at, unit_at, list_at, scalar_at, body_at, type_decl_at, decl_at, schema_at}
-use Rattle.ild_parse.specs.Derive.{IsWord, IsTypeName, BeginsAt, IsOptionalWord, IsOptional, AreParts, AreBraced, IsFormed, IsReference, IsInline}
+use Rattle.ild_parse.specs.Stream.{Sign, Stream, stream, is_text, is_end, none_left}
+use Rattle.ild_parse.specs.Read.{type_name_at, text_at, number_at}
+use Rattle.ild_parse.specs.Refer.{named_at, link_at, ref_with, list_with, map_with, inline_at, ref_at, deepest}
+use Rattle.ild_parse.specs.Form.{map_form_at, struct_form_at, union_form_at, enum_form_at, unit_form_at}
+use Rattle.ild_parse.specs.Part.{implicit_at, rename_opt_at, implicit_opt_at, opt_at, other_opt_at, opts_behind, opts_at, field_at, target_at, kind_of, mark_at, member_at, quoted_at, enum_member_at}
+use Rattle.ild_parse.specs.Grammar.{braced_at, map_at, struct_at, union_at, enum_at, unit_at, list_at, scalar_at, body_at, type_decl_at, decl_at, schema_at}
+use Rattle.ild_parse.specs.Derive.{IsWord, IsTypeName, BeginsAt, IsOptional, AreBraced, IsReference, IsInline}
 use Rattle.ild_parse.specs.DeriveForm.{IsMapForm, IsStructForm, IsUnionForm, IsEnumForm, IsUnitForm}
-use Rattle.ild_parse.specs.DerivePart.{IsImplicit, IsOpt, renames, is_implicit, AreOpts, IsField, IsTarget, IsKind, IsMark, IsMember, IsQuoted, IsEnumMember, IsMap, IsStruct, IsUnion, IsEnum, IsBody, IsDecl, Derives}
-use Rattle.ild_parse.specs.Stream.{begins, begins_upper, kind_of_text, kind_code}
+use Rattle.ild_parse.specs.DerivePart.{IsImplicit, IsOpt, renames, is_implicit, AreOpts, IsField, IsTarget, IsMark, IsMember, IsQuoted, IsEnumMember, IsMap, IsStruct, IsUnion, IsEnum, IsBody, IsDecl, Derives}
+use Rattle.ild_parse.specs.Stream.{begins, begins_upper, kind_of_text}
 use Rattle.ild_lex.specs.declared.token.TokenKind.TheVariants as K
 use Rattle.ild_parse.specs.declared.ast.TypeName.{TypeName}
 use Rattle.ild_parse.proofs.Complete.{reading, word_sign, by_word, by_type, by_name, by_text, by_number, word-complete, type-complete, name-complete, text-complete, number-complete, place_is, optional_is, type_no_word, parts_count, many-complete, braced-complete}
@@ -269,8 +268,14 @@ NoForm xs = begins (codes "representation") xs ≡ false
 map-complete : (end : ℕ) (m : MapBody) (xs ys : List Sign) → IsMap m xs ys → NoForm ys → map_at (reading end xs) ≡ Ok (m, reading end ys)
 unfolding map_at
 map-complete end m xs ys h off =
-    rw (word-complete end (codes "{") xs h.0 h.5, type-complete end m.key h.0 h.1 h.6, word-complete end (codes ":") h.1 h.2 h.7, reference-complete end m.value h.2 h.3 h.8, word-complete end (codes "}") h.3 h.4 h.9,
-        optional_form-complete map_form_at IsMapForm end (map_form-complete end) m.form h.4 ys h.10 off) refl
+    rw (
+      word-complete end (codes "{") xs h.0 h.5,
+      type-complete end m.key h.0 h.1 h.6,
+      word-complete end (codes ":") h.1 h.2 h.7,
+      reference-complete end m.value h.2 h.3 h.8,
+      word-complete end (codes "}") h.3 h.4 h.9,
+      optional_form-complete map_form_at IsMapForm end (map_form-complete end) m.form h.4 ys h.10 off,
+    ) refl
 
 struct-complete : (end : ℕ) (b : StructBody) (xs ys : List Sign) → IsStruct b xs ys → NoForm ys → struct_at (reading end xs) ≡ Ok (b, reading end ys)
 unfolding struct_at

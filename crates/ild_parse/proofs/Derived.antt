@@ -11,7 +11,7 @@ use Rattle.ild_parse.specs.Grammar.{schema_at}
 use Rattle.ild_parse.specs.DerivePart.{Derives}
 use Rattle.ild_parse.proofs.SoundParts.{schema-sound}
 use Rattle.ild_parse.proofs.CompleteParts.{schema-complete}
-use Rattle.ild_parse.proofs.Sound.{done, ok_is, no_value}
+use Rattle.ild_parse.proofs.Sound.{ok_is, no_value}
 
 pub answer_derived : (src bytes : List ℕ) (ts slice : List Token) (answer : Result Ast ParseErr) → bytes ≡ src → slice ≡ ts → Gives (λ a. a) answer (schema_at (stream bytes slice)) → IfOk answer (Derives src ts)
 answer_derived src bytes ts slice (Ok tree) same_bytes same_tokens h =

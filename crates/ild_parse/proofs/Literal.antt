@@ -1,5 +1,5 @@
 -- The kind of a token follows from its text.
-use Rattle.std.proofs.Common.{◌≡◌, ℕ, Bool, true, false, List, [], ◌∷◌, refl, sym, ap, subst, ◌∙◌, arith, inl, inr}
+use Rattle.std.proofs.Common.{◌≡◌, ℕ, Bool, true, false, List, [], ◌∷◌, refl, sym, subst, arith}
 use Rattle.std.specs.Prelude.{◌||◌, ◌&&◌, ◌==◌, ◌≤◌, nat_eq, if◌then◌else◌, eqb, slice_index_or, length}
 use Rattle.std.proofs.Math.Logic.{∥∥₁_elim}
 use Rattle.std.proofs.Math.Bool.{Bool-set}
@@ -8,10 +8,10 @@ use Rattle.std.proofs.lemmas.Bool.{false≢true, and_parts, eqb-true}
 use Rattle.ild_lex.specs.declared.token.Token.{Token}
 use Rattle.ild_lex.specs.declared.token.TokenKind.{TokenKind}
 use Rattle.ild_lex.specs.declared.token.TokenKind.TheVariants.{Word, Number, Text, Mark}
-use Rattle.ild_lex.specs.Bytes.{is_letter, is_digit, is_word_byte, is_mark, quote, minus}
-use Rattle.ild_lex.specs.Form.{IsToken, IsText, IsMark, is_number, are_digits}
+use Rattle.ild_lex.specs.Bytes.{is_letter, is_digit, is_word_byte, is_mark}
+use Rattle.ild_lex.specs.Form.{IsToken, is_number, are_digits}
 use Rattle.ild_lex.specs.Span.{IsSpan, bytes_of}
-use Rattle.ild_parse.specs.Stream.{Sign, kind_of_text, kind_code, is_literal, begins, same_text, text_of, stream}
+use Rattle.ild_parse.specs.Stream.{Sign, kind_of_text, kind_code, is_literal, begins, same_text, stream}
 
 pub kind_is : (a b : TokenKind) → nat_eq (kind_code a) (kind_code b) ≡ true → a ≡ b
 kind_is Word Word e = refl

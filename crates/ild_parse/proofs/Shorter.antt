@@ -1,6 +1,6 @@
 -- Each part has a token or more.
-use Rattle.std.proofs.Common.{◌≡◌, ℕ, ◌+◌, ◌<◌, ◌≤◌, Bool, true, false, List, [], ◌∷◌, length, Option, Some, None, ap, subst, inl, inr, arith}
-use Rattle.std.specs.Prelude.{codes, ◌⊎◌}
+use Rattle.std.proofs.Common.{◌≡◌, ℕ, ◌<◌, ◌≤◌, Bool, true, false, List, [], ◌∷◌, length, Option, Some, None, ap, subst, inl, inr, arith}
+use Rattle.std.specs.Prelude.{codes}
 use Rattle.ild_parse.specs.declared.ast.MapForm.{MapForm}
 use Rattle.ild_parse.specs.declared.ast.MapForm.TheVariants as MF
 use Rattle.ild_parse.specs.declared.ast.StructForm.{StructForm}
@@ -37,7 +37,7 @@ use Rattle.ild_parse.specs.Stream.{Sign}
 use Rattle.ild_parse.specs.Refer.{deepest}
 use Rattle.ild_parse.specs.Derive.{IsWord, IsTypeName, IsName, IsText, IsNumber, IsOptionalWord, IsOptional, AreParts, AreBraced, IsFormed, IsReference, IsInline}
 use Rattle.ild_parse.specs.DeriveForm.{IsSetting, IsOneSetting, AreTwoSettings, AreBothSettings, IsMapForm, IsStructForm, IsUnionForm, IsEnumForm, IsUnitForm}
-use Rattle.ild_parse.specs.DerivePart.{IsImplicit, IsOpt, AreOpts, IsField, IsTarget, IsKind, IsMark, IsMember, IsQuoted, IsEnumMember, IsMap, IsStruct, IsUnion, IsEnum, IsBody, IsDecl}
+use Rattle.ild_parse.specs.DerivePart.{IsImplicit, IsOpt, AreOpts, IsField, IsTarget, IsKind, IsMark, IsMember, IsQuoted, IsEnumMember, IsBody, IsDecl}
 use Rattle.ild_parse.proofs.Complete.{parts_count}
 
 one_less : (t : Sign) (xs ys : List Sign) → xs ≡ ys → length ys < length (t ∷ xs)

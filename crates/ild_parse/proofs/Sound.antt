@@ -1,7 +1,7 @@
 -- What is read is derived: words, names, texts and numbers, and the tools for the rules above them.
-use Rattle.std.proofs.Common.{◌≡◌, ℕ, zero, suc, Bool, true, false, cond, eqb, List, [], ◌∷◌, Result, Ok, Err, Option, Some, None, refl, ap, subst, inl, inr}
+use Rattle.std.proofs.Common.{◌≡◌, ℕ, zero, suc, Bool, true, false, cond, List, [], ◌∷◌, Result, Ok, Err, Option, Some, None, refl, ap, subst, inl, inr}
 use Rattle.std.specs.Prelude.{◌⊎◌, ℤ, nat_eq}
-use Rattle.std.proofs.lemmas.Bool.{false≢true, and_parts, eqb-true}
+use Rattle.std.proofs.lemmas.Bool.{false≢true, and_parts}
 use Rattle.ild_parse.specs.declared.ast.TypeName.{TypeName}
 use Rattle.ild_parse.specs.declared.ast.Name.{Name}
 use Rattle.ild_parse.specs.declared.ast.Text.{Text}

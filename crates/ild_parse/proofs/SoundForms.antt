@@ -1,5 +1,5 @@
 -- What is read is derived: settings and representations.
-use Rattle.std.proofs.Common.{◌≡◌, ℕ, true, cond, List, Result, Ok, Option, Some, None, refl, subst, inl, inr}
+use Rattle.std.proofs.Common.{◌≡◌, ℕ, cond, List, Result, Ok, Option, Some, None, refl, subst, inl, inr}
 use Rattle.std.specs.Prelude.{codes}
 use Rattle.ild_parse.specs.declared.ast.MapForm.{MapForm}
 use Rattle.ild_parse.specs.declared.ast.MapForm.TheVariants as MF
