@@ -1,3 +1,4 @@
+pub mod Literal
 pub mod Inputs
 pub mod Values
 pub mod Many
@@ -5,3 +6,7 @@ pub mod Sound
 pub mod SoundForms
 pub mod SoundParts
 pub mod Derived
+pub mod Complete
+pub mod CompleteForms
+pub mod Shorter
+pub mod CompleteParts

@@ -1,15 +1,16 @@
 -- What is read is derived: words, names, texts and numbers, and the tools for the rules above them.
-use Rattle.std.proofs.Common.{◌≡◌, ℕ, zero, suc, Bool, true, false, cond, eqb, List, [], ◌∷◌, Result, Ok, Err, Option, Some, None, refl, ap, subst, inl, inr}
-use Rattle.std.specs.Prelude.{◌⊎◌, ℤ}
-use Rattle.std.proofs.lemmas.Bool.{false≢true, and_parts, eqb-true}
+use Rattle.std.proofs.Common.{◌≡◌, ℕ, zero, suc, Bool, true, false, cond, List, [], ◌∷◌, Result, Ok, Err, Option, Some, None, refl, ap, subst, inl, inr}
+use Rattle.std.specs.Prelude.{◌⊎◌, ℤ, nat_eq}
+use Rattle.std.proofs.lemmas.Bool.{false≢true, and_parts}
 use Rattle.ild_parse.specs.declared.ast.TypeName.{TypeName}
 use Rattle.ild_parse.specs.declared.ast.Name.{Name}
 use Rattle.ild_parse.specs.declared.ast.Text.{Text}
 use Rattle.ild_parse.specs.declared.ast.Number.{Number}
-use Rattle.ild_parse.specs.Stream.{Sign, Stream, place, next_is, rest_of, same_text, text_of, is_type, is_name, is_text, is_number, place_of, tail}
+use Rattle.ild_parse.specs.Stream.{Sign, Stream, place, kind_of_text, kind_code, begins, next_is, rest_of, same_text, text_of, is_type, is_name, is_text, is_number, place_of, tail}
 use Rattle.ild_parse.specs.Value.{number_of, meaning}
 use Rattle.ild_parse.specs.Read.{◌>>=◌, literal_at, type_name_at, name_at, text_at, number_at, value_here, many_at}
 use Rattle.ild_parse.specs.Refer.{behind_word}
+use Rattle.ild_parse.proofs.Literal.{kind_is, same_is}
 use Rattle.ild_parse.specs.Derive.{IsWord, IsTypeName, IsName, IsText, IsNumber, IsOptionalWord, AreParts}
 
 -- the value of a step that did not fail
@@ -36,37 +37,26 @@ no_value at y e = cc
 
 -- ---- words
 
-abbrev pub is_full : List ℕ → Bool
-is_full [] = false
-is_full (b ∷ bs) = true
+word_here : (w : List ℕ) (xs : List Sign) → begins w xs ≡ true → IsWord w xs (tail xs)
+word_here w [] e = absurd (false≢true e)
+word_here w (t ∷ xs) e = let p = and_parts (nat_eq (kind_code t.kind) (kind_code (kind_of_text w))) (same_text t.text w) e in (kind_is t.kind (kind_of_text w) p.0, same_is t.text w p.1, refl)
 
-same_is : (a b : List ℕ) → same_text a b ≡ true → a ≡ b
-same_is [] [] e = refl
-same_is [] (y ∷ ys) e = absurd (false≢true e)
-same_is (x ∷ xs) [] e = absurd (false≢true e)
-same_is (x ∷ xs) (y ∷ ys) e = let p = and_parts (eqb x y) (same_text xs ys) e in λ i. eqb-true x y p.0 i ∷ same_is xs ys p.1 i
+pub word_next : (w : List ℕ) (s : Stream) → next_is w s ≡ true → IsWord w s.signs (rest_of s).signs
+word_next w s e = word_here w s.signs e
 
-word_here : (w : List ℕ) (xs : List Sign) → is_full w ≡ true → same_text (text_of xs) w ≡ true → IsWord w xs (tail xs)
-word_here [] [] full e = absurd (false≢true full)
-word_here (b ∷ bs) [] full e = absurd (false≢true e)
-word_here w (t ∷ xs) full e = (same_is t.text w e, refl)
-
-pub word_next : (w : List ℕ) (s : Stream) → is_full w ≡ true → next_is w s ≡ true → IsWord w s.signs (rest_of s).signs
-word_next w s full e = word_here w s.signs full e
-
-pub word_sound : (w : List ℕ) (s r : Stream) → is_full w ≡ true → literal_at w s ≡ Ok r → IsWord w s.signs r.signs
+pub word_sound : (w : List ℕ) (s r : Stream) → literal_at w s ≡ Ok r → IsWord w s.signs r.signs
 unfolding literal_at
-word_sound w s r full e =
+word_sound w s r e =
     elim (chosen (next_is w s) (done (rest_of s)) (failed (place s)) (done r) e) [
-      | inl h ↦ subst (λ (z : Stream). IsWord w s.signs z.signs) (ok_is (rest_of s) r h.1) (word_next w s full h.0)
+      | inl h ↦ subst (λ (z : Stream). IsWord w s.signs z.signs) (ok_is (rest_of s) r h.1) (word_next w s h.0)
       | inr h ↦ absurd (no_value (place s) r h.1)
     ]
 
 -- a word that may stand there
-pub optional_word_sound : (w : List ℕ) (s : Stream) → is_full w ≡ true → IsOptionalWord w (next_is w s) s.signs (behind_word w s).signs
-optional_word_sound w s full =
+pub optional_word_sound : (w : List ℕ) (s : Stream) → IsOptionalWord w (next_is w s) s.signs (behind_word w s).signs
+optional_word_sound w s =
     let P : Bool → Type 0 = λ v. next_is w s ≡ v → IsOptionalWord w v s.signs (cond v (rest_of s) s).signs in
-    (elim (next_is w s) as P [ true ↦ λ h. word_next w s full h | false ↦ λ h. refl ]) refl
+    (elim (next_is w s) as P [ true ↦ λ h. word_next w s h | false ↦ λ h. refl ]) refl
 
 -- ---- names, texts and numbers
 

@@ -87,13 +87,13 @@ link-sound room s y e =
     let a0 = bind_ok (literal_at (codes "&") s) (λ t. type_name_at t >>= (λ n. Ok (link n.0, n.1))) y e in
     let a1 = bind_ok (type_name_at a0.0) (λ n. Ok (link n.0, n.1)) y a0.2 in
     let made : Refers × Stream = (link a1.0.0, a1.0.1) in
-    subst (λ (z : Refers × Stream). IsInline (suc room) z.0 s.signs z.1.signs) (ok_is made y a1.2) (room, more room, (a0.0.signs, word_sound (codes "&") s a0.0 refl a0.1, type_sound a0.0 a1.0 a1.1))
+    subst (λ (z : Refers × Stream). IsInline (suc room) z.0 s.signs z.1.signs) (ok_is made y a1.2) (room, more room, (a0.0.signs, word_sound (codes "&") s a0.0 a0.1, type_sound a0.0 a1.0 a1.1))
 
 pub ref-sound : (room : ℕ) (inline : Stream → Result (Refers × Stream) ℕ) (each : (s : Stream) (y : Refers × Stream) → inline s ≡ Ok y → IsInline room y.0 s.signs y.1.signs) (s : Stream) (y : Reference × Stream) → ref_with inline s ≡ Ok y → IsReference room y.0 s.signs y.1.signs
 unfolding ref_with
 ref-sound room inline each s y e =
     let a0 = bind_ok (inline (behind_word (codes "nullable") s)) (λ i. Ok (refer (place s) (next_is (codes "nullable") s) (place (behind_word (codes "nullable") s)) i.0, i.1)) y e in
-    let word = optional_word_sound (codes "nullable") s refl in
+    let word = optional_word_sound (codes "nullable") s in
     let there : BeginsAt (place (behind_word (codes "nullable") s)) (behind_word (codes "nullable") s).signs = subst (λ (end : ℕ). BeginsAt (place_of end (behind_word (codes "nullable") s).signs) (behind_word (codes "nullable") s).signs) refl (inline_begins (behind_word (codes "nullable") s).end room a0.0.0 (behind_word (codes "nullable") s).signs a0.0.1.signs (each (behind_word (codes "nullable") s) a0.0 a0.1)) in
     let made : Reference × Stream = (refer (place s) (next_is (codes "nullable") s) (place (behind_word (codes "nullable") s)) a0.0.0, a0.0.1) in
     subst (λ (z : Reference × Stream). IsReference room z.0 s.signs z.1.signs) (ok_is made y a0.2) ((behind_word (codes "nullable") s).signs, word, optional_begins s.end (behind_word (codes "nullable") s).end (codes "nullable") (next_is (codes "nullable") s) s.signs (behind_word (codes "nullable") s).signs word there, there, each (behind_word (codes "nullable") s) a0.0 a0.1)
@@ -105,7 +105,7 @@ list_with-sound room inline each s y e =
     let a1 = bind_ok (ref_with inline a0.0) (λ x. literal_at (codes "]") x.1 >>= (λ u. Ok (list x.0, u))) y a0.2 in
     let a2 = bind_ok (literal_at (codes "]") a1.0.1) (λ u. Ok (list a1.0.0, u)) y a1.2 in
     let made : Refers × Stream = (list a1.0.0, a2.0) in
-    subst (λ (z : Refers × Stream). IsInline (suc room) z.0 s.signs z.1.signs) (ok_is made y a2.2) (room, more room, (a0.0.signs, a1.0.1.signs, word_sound (codes "[") s a0.0 refl a0.1, ref-sound room inline each a0.0 a1.0 a1.1, word_sound (codes "]") a1.0.1 a2.0 refl a2.1))
+    subst (λ (z : Refers × Stream). IsInline (suc room) z.0 s.signs z.1.signs) (ok_is made y a2.2) (room, more room, (a0.0.signs, a1.0.1.signs, word_sound (codes "[") s a0.0 a0.1, ref-sound room inline each a0.0 a1.0 a1.1, word_sound (codes "]") a1.0.1 a2.0 a2.1))
 
 pub map_with-sound : (room : ℕ) (inline : Stream → Result (Refers × Stream) ℕ) (each : (s : Stream) (y : Refers × Stream) → inline s ≡ Ok y → IsInline room y.0 s.signs y.1.signs) (s : Stream) (y : Refers × Stream) → map_with inline s ≡ Ok y → IsInline (suc room) y.0 s.signs y.1.signs
 unfolding map_with
@@ -116,7 +116,7 @@ map_with-sound room inline each s y e =
     let a3 = bind_ok (ref_with inline a2.0) (λ v. literal_at (codes "}") v.1 >>= (λ w. Ok (map a1.0.0 v.0, w))) y a2.2 in
     let a4 = bind_ok (literal_at (codes "}") a3.0.1) (λ w. Ok (map a1.0.0 a3.0.0, w)) y a3.2 in
     let made : Refers × Stream = (map a1.0.0 a3.0.0, a4.0) in
-    subst (λ (z : Refers × Stream). IsInline (suc room) z.0 s.signs z.1.signs) (ok_is made y a4.2) (room, more room, (a0.0.signs, a1.0.1.signs, a2.0.signs, a3.0.1.signs, word_sound (codes "{") s a0.0 refl a0.1, type_sound a0.0 a1.0 a1.1, word_sound (codes ":") a1.0.1 a2.0 refl a2.1, ref-sound room inline each a2.0 a3.0 a3.1, word_sound (codes "}") a3.0.1 a4.0 refl a4.1))
+    subst (λ (z : Refers × Stream). IsInline (suc room) z.0 s.signs z.1.signs) (ok_is made y a4.2) (room, more room, (a0.0.signs, a1.0.1.signs, a2.0.signs, a3.0.1.signs, word_sound (codes "{") s a0.0 a0.1, type_sound a0.0 a1.0 a1.1, word_sound (codes ":") a1.0.1 a2.0 a2.1, ref-sound room inline each a2.0 a3.0 a3.1, word_sound (codes "}") a3.0.1 a4.0 a4.1))
 
 pub inline-sound : (room : ℕ) (s : Stream) (y : Refers × Stream) → inline_at room s ≡ Ok y → IsInline room y.0 s.signs y.1.signs
 unfolding inline_at
@@ -148,10 +148,10 @@ implicit-sound s y e =
             | inl h1 ↦ let a = bind_ok (number_at s) (λ v. done {A = Implicit × Stream} (IV.Number v.0, v.1)) y h1.1 in subst (λ (z : Implicit × Stream). IsImplicit z.0 s.signs z.1.signs) (ok_is (IV.Number a.0.0, a.0.1) y a.2) (number_sound s a.0 a.1)
             | inr g1 ↦
                 elim (chosen (next_is (codes "true") s) (done {A = Implicit × Stream} (IV.True, rest_of s)) (cond (next_is (codes "false") s) (done {A = Implicit × Stream} (IV.False, rest_of s)) (failed {A = Implicit × Stream} (place s))) (done y) g1.1) [
-                  | inl h2 ↦ subst (λ (z : Implicit × Stream). IsImplicit z.0 s.signs z.1.signs) (ok_is (IV.True, rest_of s) y h2.1) (word_next (codes "true") s refl h2.0)
+                  | inl h2 ↦ subst (λ (z : Implicit × Stream). IsImplicit z.0 s.signs z.1.signs) (ok_is (IV.True, rest_of s) y h2.1) (word_next (codes "true") s h2.0)
                   | inr g2 ↦
                       elim (chosen (next_is (codes "false") s) (done {A = Implicit × Stream} (IV.False, rest_of s)) (failed {A = Implicit × Stream} (place s)) (done y) g2.1) [
-                        | inl h3 ↦ subst (λ (z : Implicit × Stream). IsImplicit z.0 s.signs z.1.signs) (ok_is (IV.False, rest_of s) y h3.1) (word_next (codes "false") s refl h3.0)
+                        | inl h3 ↦ subst (λ (z : Implicit × Stream). IsImplicit z.0 s.signs z.1.signs) (ok_is (IV.False, rest_of s) y h3.1) (word_next (codes "false") s h3.0)
                         | inr g3 ↦ absurd (no_value (place s) y g3.1)
                       ]
                 ]
@@ -164,7 +164,7 @@ rename_opt-sound s y e =
     let a0 = bind_ok (literal_at (codes "rename") s) (λ t. text_at t >>= (λ x. Ok (OV.Rename x.0, x.1))) y e in
     let a1 = bind_ok (text_at a0.0) (λ x. Ok (OV.Rename x.0, x.1)) y a0.2 in
     let made : Opt × Stream = (OV.Rename a1.0.0, a1.0.1) in
-    subst (λ (z : Opt × Stream). IsOpt z.0 s.signs z.1.signs × (renames z.0 ≡ true)) (ok_is made y a1.2) ((a0.0.signs, word_sound (codes "rename") s a0.0 refl a0.1, text_sound a0.0 a1.0 a1.1), refl)
+    subst (λ (z : Opt × Stream). IsOpt z.0 s.signs z.1.signs × (renames z.0 ≡ true)) (ok_is made y a1.2) ((a0.0.signs, word_sound (codes "rename") s a0.0 a0.1, text_sound a0.0 a1.0 a1.1), refl)
 
 pub implicit_opt-sound : (s : Stream) (y : Opt × Stream) → implicit_opt_at s ≡ Ok y → IsOpt y.0 s.signs y.1.signs × (is_implicit y.0 ≡ true)
 unfolding implicit_opt_at
@@ -172,7 +172,7 @@ implicit_opt-sound s y e =
     let a0 = bind_ok (literal_at (codes "implicit") s) (λ t. implicit_at t >>= (λ x. Ok (OV.Implicit x.0, x.1))) y e in
     let a1 = bind_ok (implicit_at a0.0) (λ x. Ok (OV.Implicit x.0, x.1)) y a0.2 in
     let made : Opt × Stream = (OV.Implicit a1.0.0, a1.0.1) in
-    subst (λ (z : Opt × Stream). IsOpt z.0 s.signs z.1.signs × (is_implicit z.0 ≡ true)) (ok_is made y a1.2) ((a0.0.signs, word_sound (codes "implicit") s a0.0 refl a0.1, implicit-sound a0.0 a1.0 a1.1), refl)
+    subst (λ (z : Opt × Stream). IsOpt z.0 s.signs z.1.signs × (is_implicit z.0 ≡ true)) (ok_is made y a1.2) ((a0.0.signs, word_sound (codes "implicit") s a0.0 a0.1, implicit-sound a0.0 a1.0 a1.1), refl)
 
 pub opt-sound : (s : Stream) (y : Opt × Stream) → opt_at s ≡ Ok y → IsOpt y.0 s.signs y.1.signs
 unfolding opt_at
@@ -209,19 +209,19 @@ opts-sound s y e =
     let Goal : List Opt × Stream → Type 0 = λ z. AreOpts z.0 s.signs z.1.signs in
     elim (chosen (next_is (codes "(") s) (opt_at (rest_of s) >>= (λ first. opts_behind first.0 first.1)) (done ([], s)) (done y) e) [
       | inl h ↦
-          let open_is = word_next (codes "(") s refl h.0 in
+          let open_is = word_next (codes "(") s h.0 in
           let a = bind_ok (opt_at (rest_of s)) (λ first. opts_behind first.0 first.1) y h.1 in
           let first_is = opt-sound (rest_of s) a.0 a.1 in
           elim (chosen (next_is (codes ")") a.0.1) (done (a.0.0 ∷ [], rest_of a.0.1)) (other_opt_at a.0.0 a.0.1 >>= (λ second. literal_at (codes ")") second.1 >>= (λ t. done (a.0.0 ∷ second.0 ∷ [], t)))) (done y) a.2) [
             | inl k ↦
                 subst Goal (ok_is (a.0.0 ∷ [], rest_of a.0.1) y k.1)
-                ((rest_of s).signs, a.0.1.signs, open_is, (a.0.1.signs, first_is, refl), word_next (codes ")") a.0.1 refl k.0, (one_opt a.0.0).0, (one_opt a.0.0).1)
+                ((rest_of s).signs, a.0.1.signs, open_is, (a.0.1.signs, first_is, refl), word_next (codes ")") a.0.1 k.0, (one_opt a.0.0).0, (one_opt a.0.0).1)
             | inr k ↦
                 let b = bind_ok (other_opt_at a.0.0 a.0.1) (λ second. literal_at (codes ")") second.1 >>= (λ t. done (a.0.0 ∷ second.0 ∷ [], t))) y k.1 in
                 let c = bind_ok (literal_at (codes ")") b.0.1) (λ t. done (a.0.0 ∷ b.0.0 ∷ [], t)) y b.2 in
                 let second_is = other_opt-sound a.0.0 a.0.1 b.0 b.1 in
                 subst Goal (ok_is (a.0.0 ∷ b.0.0 ∷ [], c.0) y c.2)
-                ((rest_of s).signs, b.0.1.signs, open_is, (a.0.1.signs, first_is, (b.0.1.signs, second_is.0, refl)), word_sound (codes ")") b.0.1 c.0 refl c.1, second_is.1.0, second_is.1.1)
+                ((rest_of s).signs, b.0.1.signs, open_is, (a.0.1.signs, first_is, (b.0.1.signs, second_is.0, refl)), word_sound (codes ")") b.0.1 c.0 c.1, second_is.1.0, second_is.1.1)
           ]
       | inr h ↦ subst Goal (ok_is ([], s) y h.1) refl
     ]
@@ -233,7 +233,7 @@ field-sound s y e =
     let a1 = bind_ok (ref_at deepest (behind_word (codes "optional") a0.0.1)) (λ x. opts_at x.1 >>= (λ o. Ok (record { name = a0.0.0; optional = next_is (codes "optional") a0.0.1; value = x.0; opts = o.0 }, o.1))) y a0.2 in
     let a2 = bind_ok (opts_at a1.0.1) (λ o. Ok (record { name = a0.0.0; optional = next_is (codes "optional") a0.0.1; value = a1.0.0; opts = o.0 }, o.1)) y a1.2 in
     let made : Field × Stream = (record { name = a0.0.0; optional = next_is (codes "optional") a0.0.1; value = a1.0.0; opts = a2.0.0 }, a2.0.1) in
-    subst (λ (z : Field × Stream). IsField z.0 s.signs z.1.signs) (ok_is made y a2.2) (a0.0.1.signs, (behind_word (codes "optional") a0.0.1).signs, a1.0.1.signs, name_sound s a0.0 a0.1, optional_word_sound (codes "optional") a0.0.1 refl, reference-sound (behind_word (codes "optional") a0.0.1) a1.0 a1.1, opts-sound a1.0.1 a2.0 a2.1)
+    subst (λ (z : Field × Stream). IsField z.0 s.signs z.1.signs) (ok_is made y a2.2) (a0.0.1.signs, (behind_word (codes "optional") a0.0.1).signs, a1.0.1.signs, name_sound s a0.0 a0.1, optional_word_sound (codes "optional") a0.0.1, reference-sound (behind_word (codes "optional") a0.0.1) a1.0 a1.1, opts-sound a1.0.1 a2.0 a2.1)
 
 -- ---- members
 
@@ -241,7 +241,7 @@ pub target-sound : (s : Stream) (y : Target × Stream) → target_at s ≡ Ok y 
 unfolding target_at
 target-sound s y e =
     elim (chosen (next_is (codes "&") s) ((type_name_at (rest_of s) >>= (λ v. done {A = Target × Stream} (TV.Link v.0, v.1)))) ((type_name_at s >>= (λ v. done {A = Target × Stream} (TV.Type v.0, v.1)))) (done y) e) [
-      | inl h0 ↦ let a = bind_ok (type_name_at (rest_of s)) (λ v. done {A = Target × Stream} (TV.Link v.0, v.1)) y h0.1 in subst (λ (z : Target × Stream). IsTarget z.0 s.signs z.1.signs) (ok_is (TV.Link a.0.0, a.0.1) y a.2) ((rest_of s).signs, word_next (codes "&") s refl h0.0, type_sound (rest_of s) a.0 a.1)
+      | inl h0 ↦ let a = bind_ok (type_name_at (rest_of s)) (λ v. done {A = Target × Stream} (TV.Link v.0, v.1)) y h0.1 in subst (λ (z : Target × Stream). IsTarget z.0 s.signs z.1.signs) (ok_is (TV.Link a.0.0, a.0.1) y a.2) ((rest_of s).signs, word_next (codes "&") s h0.0, type_sound (rest_of s) a.0 a.1)
       | inr g0 ↦ let a = bind_ok (type_name_at s) (λ v. done {A = Target × Stream} (TV.Type v.0, v.1)) y g0.1 in subst (λ (z : Target × Stream). IsTarget z.0 s.signs z.1.signs) (ok_is (TV.Type a.0.0, a.0.1) y a.2) (type_sound s a.0 a.1)
     ]
 
@@ -262,31 +262,31 @@ unfolding kind_of
 kind-sound s k e =
     let Goal : KindWord → Type 0 = λ z. IsKind z s.signs (rest_of s).signs in
     elim (chosen (next_is (codes "null") s) (a_kind KV.Null) (cond (next_is (codes "bool") s) (a_kind KV.Bool) (cond (next_is (codes "int") s) (a_kind KV.Int) (cond (next_is (codes "float") s) (a_kind (KV.Float (place s))) (cond (next_is (codes "string") s) (a_kind KV.String) (cond (next_is (codes "bytes") s) (a_kind KV.Bytes) (cond (next_is (codes "list") s) (a_kind KV.List) (cond (next_is (codes "map") s) (a_kind KV.Map) (cond (next_is (codes "link") s) (a_kind KV.Link) (no_kind))))))))) (a_kind k) e) [
-      | inl h0 ↦ subst Goal (same_kind KV.Null k h0.1) (word_next (codes "null") s refl h0.0)
+      | inl h0 ↦ subst Goal (same_kind KV.Null k h0.1) (word_next (codes "null") s h0.0)
       | inr g0 ↦
           elim (chosen (next_is (codes "bool") s) (a_kind KV.Bool) (cond (next_is (codes "int") s) (a_kind KV.Int) (cond (next_is (codes "float") s) (a_kind (KV.Float (place s))) (cond (next_is (codes "string") s) (a_kind KV.String) (cond (next_is (codes "bytes") s) (a_kind KV.Bytes) (cond (next_is (codes "list") s) (a_kind KV.List) (cond (next_is (codes "map") s) (a_kind KV.Map) (cond (next_is (codes "link") s) (a_kind KV.Link) (no_kind)))))))) (a_kind k) g0.1) [
-            | inl h1 ↦ subst Goal (same_kind KV.Bool k h1.1) (word_next (codes "bool") s refl h1.0)
+            | inl h1 ↦ subst Goal (same_kind KV.Bool k h1.1) (word_next (codes "bool") s h1.0)
             | inr g1 ↦
                 elim (chosen (next_is (codes "int") s) (a_kind KV.Int) (cond (next_is (codes "float") s) (a_kind (KV.Float (place s))) (cond (next_is (codes "string") s) (a_kind KV.String) (cond (next_is (codes "bytes") s) (a_kind KV.Bytes) (cond (next_is (codes "list") s) (a_kind KV.List) (cond (next_is (codes "map") s) (a_kind KV.Map) (cond (next_is (codes "link") s) (a_kind KV.Link) (no_kind))))))) (a_kind k) g1.1) [
-                  | inl h2 ↦ subst Goal (same_kind KV.Int k h2.1) (word_next (codes "int") s refl h2.0)
+                  | inl h2 ↦ subst Goal (same_kind KV.Int k h2.1) (word_next (codes "int") s h2.0)
                   | inr g2 ↦
                       elim (chosen (next_is (codes "float") s) (a_kind (KV.Float (place s))) (cond (next_is (codes "string") s) (a_kind KV.String) (cond (next_is (codes "bytes") s) (a_kind KV.Bytes) (cond (next_is (codes "list") s) (a_kind KV.List) (cond (next_is (codes "map") s) (a_kind KV.Map) (cond (next_is (codes "link") s) (a_kind KV.Link) (no_kind)))))) (a_kind k) g2.1) [
-                        | inl h3 ↦ subst Goal (same_kind (KV.Float (place s)) k h3.1) ((word_next (codes "float") s refl h3.0, word_begins s.end (codes "float") s.signs (rest_of s).signs (word_next (codes "float") s refl h3.0)))
+                        | inl h3 ↦ subst Goal (same_kind (KV.Float (place s)) k h3.1) ((word_next (codes "float") s h3.0, word_begins s.end (codes "float") s.signs (rest_of s).signs (word_next (codes "float") s h3.0)))
                         | inr g3 ↦
                             elim (chosen (next_is (codes "string") s) (a_kind KV.String) (cond (next_is (codes "bytes") s) (a_kind KV.Bytes) (cond (next_is (codes "list") s) (a_kind KV.List) (cond (next_is (codes "map") s) (a_kind KV.Map) (cond (next_is (codes "link") s) (a_kind KV.Link) (no_kind))))) (a_kind k) g3.1) [
-                              | inl h4 ↦ subst Goal (same_kind KV.String k h4.1) (word_next (codes "string") s refl h4.0)
+                              | inl h4 ↦ subst Goal (same_kind KV.String k h4.1) (word_next (codes "string") s h4.0)
                               | inr g4 ↦
                                   elim (chosen (next_is (codes "bytes") s) (a_kind KV.Bytes) (cond (next_is (codes "list") s) (a_kind KV.List) (cond (next_is (codes "map") s) (a_kind KV.Map) (cond (next_is (codes "link") s) (a_kind KV.Link) (no_kind)))) (a_kind k) g4.1) [
-                                    | inl h5 ↦ subst Goal (same_kind KV.Bytes k h5.1) (word_next (codes "bytes") s refl h5.0)
+                                    | inl h5 ↦ subst Goal (same_kind KV.Bytes k h5.1) (word_next (codes "bytes") s h5.0)
                                     | inr g5 ↦
                                         elim (chosen (next_is (codes "list") s) (a_kind KV.List) (cond (next_is (codes "map") s) (a_kind KV.Map) (cond (next_is (codes "link") s) (a_kind KV.Link) (no_kind))) (a_kind k) g5.1) [
-                                          | inl h6 ↦ subst Goal (same_kind KV.List k h6.1) (word_next (codes "list") s refl h6.0)
+                                          | inl h6 ↦ subst Goal (same_kind KV.List k h6.1) (word_next (codes "list") s h6.0)
                                           | inr g6 ↦
                                               elim (chosen (next_is (codes "map") s) (a_kind KV.Map) (cond (next_is (codes "link") s) (a_kind KV.Link) (no_kind)) (a_kind k) g6.1) [
-                                                | inl h7 ↦ subst Goal (same_kind KV.Map k h7.1) (word_next (codes "map") s refl h7.0)
+                                                | inl h7 ↦ subst Goal (same_kind KV.Map k h7.1) (word_next (codes "map") s h7.0)
                                                 | inr g7 ↦
                                                     elim (chosen (next_is (codes "link") s) (a_kind KV.Link) (no_kind) (a_kind k) g7.1) [
-                                                      | inl h8 ↦ subst Goal (same_kind KV.Link k h8.1) (word_next (codes "link") s refl h8.0)
+                                                      | inl h8 ↦ subst Goal (same_kind KV.Link k h8.1) (word_next (codes "link") s h8.0)
                                                       | inr g8 ↦ absurd (not_a_kind k g8.1)
                                                     ]
                                               ]
@@ -320,7 +320,7 @@ member-sound s y e =
     let a1 = bind_ok (target_at a0.0) (λ x. mark_at x.1 >>= (λ m. Ok (record { at = place a0.0; target = x.0; mark = m.0 }, m.1))) y a0.2 in
     let a2 = bind_ok (mark_at a1.0.1) (λ m. Ok (record { at = place a0.0; target = a1.0.0; mark = m.0 }, m.1)) y a1.2 in
     let made : Member × Stream = (record { at = place a0.0; target = a1.0.0; mark = a2.0.0 }, a2.0.1) in
-    subst (λ (z : Member × Stream). IsMember z.0 s.signs z.1.signs) (ok_is made y a2.2) (a0.0.signs, a1.0.1.signs, word_sound (codes "|") s a0.0 refl a0.1, target_begins a0.0.end a1.0.0 a0.0.signs a1.0.1.signs (target-sound a0.0 a1.0 a1.1), target-sound a0.0 a1.0 a1.1, mark-sound a1.0.1 a2.0 a2.1)
+    subst (λ (z : Member × Stream). IsMember z.0 s.signs z.1.signs) (ok_is made y a2.2) (a0.0.signs, a1.0.1.signs, word_sound (codes "|") s a0.0 a0.1, target_begins a0.0.end a1.0.0 a0.0.signs a1.0.1.signs (target-sound a0.0 a1.0 a1.1), target-sound a0.0 a1.0 a1.1, mark-sound a1.0.1 a2.0 a2.1)
 
 pub quoted-sound : (s : Stream) (y : Option Text × Stream) → quoted_at s ≡ Ok y → IsOptional IsQuoted y.0 s.signs y.1.signs
 unfolding quoted_at
@@ -330,7 +330,7 @@ quoted-sound s y e =
       | inl h ↦
           let a = bind_ok (text_at (rest_of s)) (λ t. literal_at (codes ")") t.1 >>= (λ u. done {A = Option Text × Stream} (Some t.0, u))) y h.1 in
           let b = bind_ok (literal_at (codes ")") a.0.1) (λ u. done {A = Option Text × Stream} (Some a.0.0, u)) y a.2 in
-          subst Goal (ok_is (Some a.0.0, b.0) y b.2) ((rest_of s).signs, a.0.1.signs, word_next (codes "(") s refl h.0, text_sound (rest_of s) a.0 a.1, word_sound (codes ")") a.0.1 b.0 refl b.1)
+          subst Goal (ok_is (Some a.0.0, b.0) y b.2) ((rest_of s).signs, a.0.1.signs, word_next (codes "(") s h.0, text_sound (rest_of s) a.0 a.1, word_sound (codes ")") a.0.1 b.0 b.1)
       | inr h ↦ subst Goal (ok_is (None, s) y h.1) refl
     ]
 
@@ -341,7 +341,7 @@ enum_member-sound s y e =
     let a1 = bind_ok (name_at a0.0) (λ n. quoted_at n.1 >>= (λ q. Ok (record { name = n.0; text = q.0 }, q.1))) y a0.2 in
     let a2 = bind_ok (quoted_at a1.0.1) (λ q. Ok (record { name = a1.0.0; text = q.0 }, q.1)) y a1.2 in
     let made : EnumMember × Stream = (record { name = a1.0.0; text = a2.0.0 }, a2.0.1) in
-    subst (λ (z : EnumMember × Stream). IsEnumMember z.0 s.signs z.1.signs) (ok_is made y a2.2) (a0.0.signs, a1.0.1.signs, word_sound (codes "|") s a0.0 refl a0.1, name_sound a0.0 a1.0 a1.1, quoted-sound a1.0.1 a2.0 a2.1)
+    subst (λ (z : EnumMember × Stream). IsEnumMember z.0 s.signs z.1.signs) (ok_is made y a2.2) (a0.0.signs, a1.0.1.signs, word_sound (codes "|") s a0.0 a0.1, name_sound a0.0 a1.0 a1.1, quoted-sound a1.0.1 a2.0 a2.1)
 
 -- ---- bodies
 
@@ -353,7 +353,7 @@ braced-sound {A} part is each s y e =
     let b = bind_ok (many_at part closes (most a.0) a.0) (λ xs. literal_at (codes "}") xs.1 >>= (λ u. done {A = List A × Stream} (xs.0, u))) y a.2 in
     let c = bind_ok (literal_at (codes "}") b.0.1) (λ u. done {A = List A × Stream} (b.0.0, u)) y b.2 in
     subst (λ (z : List A × Stream). AreBraced is z.0 s.signs z.1.signs) (ok_is (b.0.0, c.0) y c.2)
-    (a.0.signs, b.0.1.signs, word_sound (codes "{") s a.0 refl a.1, (many_sound part closes is each (most a.0) a.0 b.0 b.1).0, word_sound (codes "}") b.0.1 c.0 refl c.1)
+    (a.0.signs, b.0.1.signs, word_sound (codes "{") s a.0 a.1, (many_sound part closes is each (most a.0) a.0 b.0 b.1).0, word_sound (codes "}") b.0.1 c.0 c.1)
 
 pub map-sound : (s : Stream) (y : MapBody × Stream) → map_at s ≡ Ok y → IsMap y.0 s.signs y.1.signs
 unfolding map_at
@@ -365,7 +365,7 @@ map-sound s y e =
     let a4 = bind_ok (literal_at (codes "}") a3.0.1) (λ w. optional_form_at map_form_at w >>= (λ f. Ok (record { key = a1.0.0; value = a3.0.0; form = f.0 }, f.1))) y a3.2 in
     let a5 = bind_ok (optional_form_at map_form_at a4.0) (λ f. Ok (record { key = a1.0.0; value = a3.0.0; form = f.0 }, f.1)) y a4.2 in
     let made : MapBody × Stream = (record { key = a1.0.0; value = a3.0.0; form = a5.0.0 }, a5.0.1) in
-    subst (λ (z : MapBody × Stream). IsMap z.0 s.signs z.1.signs) (ok_is made y a5.2) (a0.0.signs, a1.0.1.signs, a2.0.signs, a3.0.1.signs, a4.0.signs, word_sound (codes "{") s a0.0 refl a0.1, type_sound a0.0 a1.0 a1.1, word_sound (codes ":") a1.0.1 a2.0 refl a2.1, reference-sound a2.0 a3.0 a3.1, word_sound (codes "}") a3.0.1 a4.0 refl a4.1, optional_form-sound map_form_at IsMapForm map_form-sound a4.0 a5.0 a5.1)
+    subst (λ (z : MapBody × Stream). IsMap z.0 s.signs z.1.signs) (ok_is made y a5.2) (a0.0.signs, a1.0.1.signs, a2.0.signs, a3.0.1.signs, a4.0.signs, word_sound (codes "{") s a0.0 a0.1, type_sound a0.0 a1.0 a1.1, word_sound (codes ":") a1.0.1 a2.0 a2.1, reference-sound a2.0 a3.0 a3.1, word_sound (codes "}") a3.0.1 a4.0 a4.1, optional_form-sound map_form_at IsMapForm map_form-sound a4.0 a5.0 a5.1)
 
 pub struct-sound : (s : Stream) (y : StructBody × Stream) → struct_at s ≡ Ok y → IsStruct y.0 s.signs y.1.signs
 unfolding struct_at
@@ -374,7 +374,7 @@ struct-sound s y e =
     let a1 = bind_ok (braced_at field_at a0.0) (λ b. optional_form_at struct_form_at b.1 >>= (λ f. Ok (record { fields = b.0; form = f.0 }, f.1))) y a0.2 in
     let a2 = bind_ok (optional_form_at struct_form_at a1.0.1) (λ f. Ok (record { fields = a1.0.0; form = f.0 }, f.1)) y a1.2 in
     let made : StructBody × Stream = (record { fields = a1.0.0; form = a2.0.0 }, a2.0.1) in
-    subst (λ (z : StructBody × Stream). IsStruct z.0 s.signs z.1.signs) (ok_is made y a2.2) (a0.0.signs, a1.0.1.signs, word_sound (codes "struct") s a0.0 refl a0.1, braced-sound field_at IsField field-sound a0.0 a1.0 a1.1, optional_form-sound struct_form_at IsStructForm struct_form-sound a1.0.1 a2.0 a2.1)
+    subst (λ (z : StructBody × Stream). IsStruct z.0 s.signs z.1.signs) (ok_is made y a2.2) (a0.0.signs, a1.0.1.signs, word_sound (codes "struct") s a0.0 a0.1, braced-sound field_at IsField field-sound a0.0 a1.0 a1.1, optional_form-sound struct_form_at IsStructForm struct_form-sound a1.0.1 a2.0 a2.1)
 
 pub union-sound : (s : Stream) (y : UnionBody × Stream) → union_at s ≡ Ok y → IsUnion y.0 s.signs y.1.signs
 unfolding union_at
@@ -383,7 +383,7 @@ union-sound s y e =
     let a1 = bind_ok (braced_at member_at a0.0) (λ b. needed_form_at union_form_at b.1 >>= (λ f. Ok (record { members = b.0; form = f.0 }, f.1))) y a0.2 in
     let a2 = bind_ok (needed_form_at union_form_at a1.0.1) (λ f. Ok (record { members = a1.0.0; form = f.0 }, f.1)) y a1.2 in
     let made : UnionBody × Stream = (record { members = a1.0.0; form = a2.0.0 }, a2.0.1) in
-    subst (λ (z : UnionBody × Stream). IsUnion z.0 s.signs z.1.signs) (ok_is made y a2.2) (a0.0.signs, a1.0.1.signs, word_sound (codes "union") s a0.0 refl a0.1, braced-sound member_at IsMember member-sound a0.0 a1.0 a1.1, needed_form-sound union_form_at IsUnionForm union_form-sound a1.0.1 a2.0 a2.1)
+    subst (λ (z : UnionBody × Stream). IsUnion z.0 s.signs z.1.signs) (ok_is made y a2.2) (a0.0.signs, a1.0.1.signs, word_sound (codes "union") s a0.0 a0.1, braced-sound member_at IsMember member-sound a0.0 a1.0 a1.1, needed_form-sound union_form_at IsUnionForm union_form-sound a1.0.1 a2.0 a2.1)
 
 pub enum-sound : (s : Stream) (y : EnumBody × Stream) → enum_at s ≡ Ok y → IsEnum y.0 s.signs y.1.signs
 unfolding enum_at
@@ -392,14 +392,14 @@ enum-sound s y e =
     let a1 = bind_ok (braced_at enum_member_at a0.0) (λ b. optional_form_at enum_form_at b.1 >>= (λ f. Ok (record { members = b.0; form = f.0 }, f.1))) y a0.2 in
     let a2 = bind_ok (optional_form_at enum_form_at a1.0.1) (λ f. Ok (record { members = a1.0.0; form = f.0 }, f.1)) y a1.2 in
     let made : EnumBody × Stream = (record { members = a1.0.0; form = a2.0.0 }, a2.0.1) in
-    subst (λ (z : EnumBody × Stream). IsEnum z.0 s.signs z.1.signs) (ok_is made y a2.2) (a0.0.signs, a1.0.1.signs, word_sound (codes "enum") s a0.0 refl a0.1, braced-sound enum_member_at IsEnumMember enum_member-sound a0.0 a1.0 a1.1, optional_form-sound enum_form_at IsEnumForm enum_form-sound a1.0.1 a2.0 a2.1)
+    subst (λ (z : EnumBody × Stream). IsEnum z.0 s.signs z.1.signs) (ok_is made y a2.2) (a0.0.signs, a1.0.1.signs, word_sound (codes "enum") s a0.0 a0.1, braced-sound enum_member_at IsEnumMember enum_member-sound a0.0 a1.0 a1.1, optional_form-sound enum_form_at IsEnumForm enum_form-sound a1.0.1 a2.0 a2.1)
 
 pub unit-sound : (s : Stream) (y : UnitForm × Stream) → unit_at s ≡ Ok y → (us : List Sign) × IsWord (codes "unit") s.signs us × IsFormed IsUnitForm y.0 us y.1.signs
 unfolding unit_at
 unit-sound s y e =
     let a0 = bind_ok (literal_at (codes "unit") s) (λ t. needed_form_at unit_form_at t) y e in
     let last = a0.2 in
-    (a0.0.signs, word_sound (codes "unit") s a0.0 refl a0.1, needed_form-sound unit_form_at IsUnitForm unit_form-sound a0.0 y a0.2)
+    (a0.0.signs, word_sound (codes "unit") s a0.0 a0.1, needed_form-sound unit_form_at IsUnitForm unit_form-sound a0.0 y a0.2)
 
 pub list-sound : (s : Stream) (y : Body × Stream) → list_at s ≡ Ok y → IsBody y.0 s.signs y.1.signs
 unfolding list_at
@@ -408,28 +408,28 @@ list-sound s y e =
     let a1 = bind_ok (ref_at deepest a0.0) (λ x. literal_at (codes "]") x.1 >>= (λ u. Ok (BV.List x.0, u))) y a0.2 in
     let a2 = bind_ok (literal_at (codes "]") a1.0.1) (λ u. Ok (BV.List a1.0.0, u)) y a1.2 in
     let made : Body × Stream = (BV.List a1.0.0, a2.0) in
-    subst (λ (z : Body × Stream). IsBody z.0 s.signs z.1.signs) (ok_is made y a2.2) (a0.0.signs, a1.0.1.signs, word_sound (codes "[") s a0.0 refl a0.1, reference-sound a0.0 a1.0 a1.1, word_sound (codes "]") a1.0.1 a2.0 refl a2.1)
+    subst (λ (z : Body × Stream). IsBody z.0 s.signs z.1.signs) (ok_is made y a2.2) (a0.0.signs, a1.0.1.signs, word_sound (codes "[") s a0.0 a0.1, reference-sound a0.0 a1.0 a1.1, word_sound (codes "]") a1.0.1 a2.0 a2.1)
 
 pub scalar-sound : (s : Stream) (y : Body × Stream) → scalar_at s ≡ Ok y → IsBody y.0 s.signs y.1.signs
 unfolding scalar_at
 scalar-sound s y e =
     elim (chosen (next_is (codes "bool") s) (done {A = Body × Stream} (BV.Bool, rest_of s)) (cond (next_is (codes "string") s) (done {A = Body × Stream} (BV.String, rest_of s)) (cond (next_is (codes "bytes") s) (done {A = Body × Stream} (BV.Bytes, rest_of s)) (cond (next_is (codes "int") s) (done {A = Body × Stream} (BV.Int, rest_of s)) (cond (next_is (codes "float") s) (done {A = Body × Stream} (BV.Float (place s), rest_of s)) (cond (next_is (codes "any") s) (done {A = Body × Stream} (BV.Any, rest_of s)) (failed {A = Body × Stream} (place s))))))) (done y) e) [
-      | inl h0 ↦ subst (λ (z : Body × Stream). IsBody z.0 s.signs z.1.signs) (ok_is (BV.Bool, rest_of s) y h0.1) (word_next (codes "bool") s refl h0.0)
+      | inl h0 ↦ subst (λ (z : Body × Stream). IsBody z.0 s.signs z.1.signs) (ok_is (BV.Bool, rest_of s) y h0.1) (word_next (codes "bool") s h0.0)
       | inr g0 ↦
           elim (chosen (next_is (codes "string") s) (done {A = Body × Stream} (BV.String, rest_of s)) (cond (next_is (codes "bytes") s) (done {A = Body × Stream} (BV.Bytes, rest_of s)) (cond (next_is (codes "int") s) (done {A = Body × Stream} (BV.Int, rest_of s)) (cond (next_is (codes "float") s) (done {A = Body × Stream} (BV.Float (place s), rest_of s)) (cond (next_is (codes "any") s) (done {A = Body × Stream} (BV.Any, rest_of s)) (failed {A = Body × Stream} (place s)))))) (done y) g0.1) [
-            | inl h1 ↦ subst (λ (z : Body × Stream). IsBody z.0 s.signs z.1.signs) (ok_is (BV.String, rest_of s) y h1.1) (word_next (codes "string") s refl h1.0)
+            | inl h1 ↦ subst (λ (z : Body × Stream). IsBody z.0 s.signs z.1.signs) (ok_is (BV.String, rest_of s) y h1.1) (word_next (codes "string") s h1.0)
             | inr g1 ↦
                 elim (chosen (next_is (codes "bytes") s) (done {A = Body × Stream} (BV.Bytes, rest_of s)) (cond (next_is (codes "int") s) (done {A = Body × Stream} (BV.Int, rest_of s)) (cond (next_is (codes "float") s) (done {A = Body × Stream} (BV.Float (place s), rest_of s)) (cond (next_is (codes "any") s) (done {A = Body × Stream} (BV.Any, rest_of s)) (failed {A = Body × Stream} (place s))))) (done y) g1.1) [
-                  | inl h2 ↦ subst (λ (z : Body × Stream). IsBody z.0 s.signs z.1.signs) (ok_is (BV.Bytes, rest_of s) y h2.1) (word_next (codes "bytes") s refl h2.0)
+                  | inl h2 ↦ subst (λ (z : Body × Stream). IsBody z.0 s.signs z.1.signs) (ok_is (BV.Bytes, rest_of s) y h2.1) (word_next (codes "bytes") s h2.0)
                   | inr g2 ↦
                       elim (chosen (next_is (codes "int") s) (done {A = Body × Stream} (BV.Int, rest_of s)) (cond (next_is (codes "float") s) (done {A = Body × Stream} (BV.Float (place s), rest_of s)) (cond (next_is (codes "any") s) (done {A = Body × Stream} (BV.Any, rest_of s)) (failed {A = Body × Stream} (place s)))) (done y) g2.1) [
-                        | inl h3 ↦ subst (λ (z : Body × Stream). IsBody z.0 s.signs z.1.signs) (ok_is (BV.Int, rest_of s) y h3.1) (word_next (codes "int") s refl h3.0)
+                        | inl h3 ↦ subst (λ (z : Body × Stream). IsBody z.0 s.signs z.1.signs) (ok_is (BV.Int, rest_of s) y h3.1) (word_next (codes "int") s h3.0)
                         | inr g3 ↦
                             elim (chosen (next_is (codes "float") s) (done {A = Body × Stream} (BV.Float (place s), rest_of s)) (cond (next_is (codes "any") s) (done {A = Body × Stream} (BV.Any, rest_of s)) (failed {A = Body × Stream} (place s))) (done y) g3.1) [
-                              | inl h4 ↦ subst (λ (z : Body × Stream). IsBody z.0 s.signs z.1.signs) (ok_is (BV.Float (place s), rest_of s) y h4.1) (word_next (codes "float") s refl h4.0, word_begins s.end (codes "float") s.signs (rest_of s).signs (word_next (codes "float") s refl h4.0))
+                              | inl h4 ↦ subst (λ (z : Body × Stream). IsBody z.0 s.signs z.1.signs) (ok_is (BV.Float (place s), rest_of s) y h4.1) (word_next (codes "float") s h4.0, word_begins s.end (codes "float") s.signs (rest_of s).signs (word_next (codes "float") s h4.0))
                               | inr g4 ↦
                                   elim (chosen (next_is (codes "any") s) (done {A = Body × Stream} (BV.Any, rest_of s)) (failed {A = Body × Stream} (place s)) (done y) g4.1) [
-                                    | inl h5 ↦ subst (λ (z : Body × Stream). IsBody z.0 s.signs z.1.signs) (ok_is (BV.Any, rest_of s) y h5.1) (word_next (codes "any") s refl h5.0)
+                                    | inl h5 ↦ subst (λ (z : Body × Stream). IsBody z.0 s.signs z.1.signs) (ok_is (BV.Any, rest_of s) y h5.1) (word_next (codes "any") s h5.0)
                                     | inr g5 ↦ absurd (no_value (place s) y g5.1)
                                   ]
                             ]
@@ -442,10 +442,10 @@ pub body-sound : (s : Stream) (y : Body × Stream) → body_at s ≡ Ok y → Is
 unfolding body_at
 body-sound s y e =
     elim (chosen (next_is (codes "=") s) ((type_name_at (rest_of s) >>= (λ v. done {A = Body × Stream} (BV.Copy v.0, v.1)))) (cond (next_is (codes "&") s) ((type_name_at (rest_of s) >>= (λ v. done {A = Body × Stream} (BV.Link v.0, v.1)))) (cond (next_is (codes "[") s) (list_at s) (cond (next_is (codes "{") s) ((map_at s >>= (λ v. done {A = Body × Stream} (BV.Map v.0, v.1)))) (cond (next_is (codes "struct") s) ((struct_at s >>= (λ v. done {A = Body × Stream} (BV.Struct v.0, v.1)))) (cond (next_is (codes "union") s) ((union_at s >>= (λ v. done {A = Body × Stream} (BV.Union v.0, v.1)))) (cond (next_is (codes "enum") s) ((enum_at s >>= (λ v. done {A = Body × Stream} (BV.Enum v.0, v.1)))) (cond (next_is (codes "unit") s) ((unit_at s >>= (λ v. done {A = Body × Stream} (BV.Unit v.0, v.1)))) (scalar_at s)))))))) (done y) e) [
-      | inl h0 ↦ let a = bind_ok (type_name_at (rest_of s)) (λ v. done {A = Body × Stream} (BV.Copy v.0, v.1)) y h0.1 in subst (λ (z : Body × Stream). IsBody z.0 s.signs z.1.signs) (ok_is (BV.Copy a.0.0, a.0.1) y a.2) ((rest_of s).signs, word_next (codes "=") s refl h0.0, type_sound (rest_of s) a.0 a.1)
+      | inl h0 ↦ let a = bind_ok (type_name_at (rest_of s)) (λ v. done {A = Body × Stream} (BV.Copy v.0, v.1)) y h0.1 in subst (λ (z : Body × Stream). IsBody z.0 s.signs z.1.signs) (ok_is (BV.Copy a.0.0, a.0.1) y a.2) ((rest_of s).signs, word_next (codes "=") s h0.0, type_sound (rest_of s) a.0 a.1)
       | inr g0 ↦
           elim (chosen (next_is (codes "&") s) ((type_name_at (rest_of s) >>= (λ v. done {A = Body × Stream} (BV.Link v.0, v.1)))) (cond (next_is (codes "[") s) (list_at s) (cond (next_is (codes "{") s) ((map_at s >>= (λ v. done {A = Body × Stream} (BV.Map v.0, v.1)))) (cond (next_is (codes "struct") s) ((struct_at s >>= (λ v. done {A = Body × Stream} (BV.Struct v.0, v.1)))) (cond (next_is (codes "union") s) ((union_at s >>= (λ v. done {A = Body × Stream} (BV.Union v.0, v.1)))) (cond (next_is (codes "enum") s) ((enum_at s >>= (λ v. done {A = Body × Stream} (BV.Enum v.0, v.1)))) (cond (next_is (codes "unit") s) ((unit_at s >>= (λ v. done {A = Body × Stream} (BV.Unit v.0, v.1)))) (scalar_at s))))))) (done y) g0.1) [
-            | inl h1 ↦ let a = bind_ok (type_name_at (rest_of s)) (λ v. done {A = Body × Stream} (BV.Link v.0, v.1)) y h1.1 in subst (λ (z : Body × Stream). IsBody z.0 s.signs z.1.signs) (ok_is (BV.Link a.0.0, a.0.1) y a.2) ((rest_of s).signs, word_next (codes "&") s refl h1.0, type_sound (rest_of s) a.0 a.1)
+            | inl h1 ↦ let a = bind_ok (type_name_at (rest_of s)) (λ v. done {A = Body × Stream} (BV.Link v.0, v.1)) y h1.1 in subst (λ (z : Body × Stream). IsBody z.0 s.signs z.1.signs) (ok_is (BV.Link a.0.0, a.0.1) y a.2) ((rest_of s).signs, word_next (codes "&") s h1.0, type_sound (rest_of s) a.0 a.1)
             | inr g1 ↦
                 elim (chosen (next_is (codes "[") s) (list_at s) (cond (next_is (codes "{") s) ((map_at s >>= (λ v. done {A = Body × Stream} (BV.Map v.0, v.1)))) (cond (next_is (codes "struct") s) ((struct_at s >>= (λ v. done {A = Body × Stream} (BV.Struct v.0, v.1)))) (cond (next_is (codes "union") s) ((union_at s >>= (λ v. done {A = Body × Stream} (BV.Union v.0, v.1)))) (cond (next_is (codes "enum") s) ((enum_at s >>= (λ v. done {A = Body × Stream} (BV.Enum v.0, v.1)))) (cond (next_is (codes "unit") s) ((unit_at s >>= (λ v. done {A = Body × Stream} (BV.Unit v.0, v.1)))) (scalar_at s)))))) (done y) g1.1) [
                   | inl h2 ↦ list-sound s y h2.1
@@ -481,13 +481,13 @@ type_decl-sound s y e =
     let a1 = bind_ok (type_name_at a0.0) (λ n. body_at n.1 >>= (λ b. Ok (record { name = n.0; body = b.0 }, b.1))) y a0.2 in
     let a2 = bind_ok (body_at a1.0.1) (λ b. Ok (record { name = a1.0.0; body = b.0 }, b.1)) y a1.2 in
     let made : TypeDecl × Stream = (record { name = a1.0.0; body = a2.0.0 }, a2.0.1) in
-    subst (λ (z : TypeDecl × Stream). (us vs : List Sign) × IsWord (codes "type") s.signs us × IsTypeName z.0.name us vs × IsBody z.0.body vs z.1.signs) (ok_is made y a2.2) (a0.0.signs, a1.0.1.signs, word_sound (codes "type") s a0.0 refl a0.1, type_sound a0.0 a1.0 a1.1, body-sound a1.0.1 a2.0 a2.1)
+    subst (λ (z : TypeDecl × Stream). (us vs : List Sign) × IsWord (codes "type") s.signs us × IsTypeName z.0.name us vs × IsBody z.0.body vs z.1.signs) (ok_is made y a2.2) (a0.0.signs, a1.0.1.signs, word_sound (codes "type") s a0.0 a0.1, type_sound a0.0 a1.0 a1.1, body-sound a1.0.1 a2.0 a2.1)
 
 pub decl-sound : (s : Stream) (y : Decl × Stream) → decl_at s ≡ Ok y → IsDecl y.0 s.signs y.1.signs
 unfolding decl_at
 decl-sound s y e =
     elim (chosen (next_is (codes "advanced") s) ((type_name_at (rest_of s) >>= (λ v. done {A = Decl × Stream} (DV.Advanced v.0, v.1)))) ((type_decl_at s >>= (λ v. done {A = Decl × Stream} (DV.Type v.0, v.1)))) (done y) e) [
-      | inl h0 ↦ let a = bind_ok (type_name_at (rest_of s)) (λ v. done {A = Decl × Stream} (DV.Advanced v.0, v.1)) y h0.1 in subst (λ (z : Decl × Stream). IsDecl z.0 s.signs z.1.signs) (ok_is (DV.Advanced a.0.0, a.0.1) y a.2) ((rest_of s).signs, word_next (codes "advanced") s refl h0.0, type_sound (rest_of s) a.0 a.1)
+      | inl h0 ↦ let a = bind_ok (type_name_at (rest_of s)) (λ v. done {A = Decl × Stream} (DV.Advanced v.0, v.1)) y h0.1 in subst (λ (z : Decl × Stream). IsDecl z.0 s.signs z.1.signs) (ok_is (DV.Advanced a.0.0, a.0.1) y a.2) ((rest_of s).signs, word_next (codes "advanced") s h0.0, type_sound (rest_of s) a.0 a.1)
       | inr g0 ↦ let a = bind_ok (type_decl_at s) (λ v. done {A = Decl × Stream} (DV.Type v.0, v.1)) y g0.1 in subst (λ (z : Decl × Stream). IsDecl z.0 s.signs z.1.signs) (ok_is (DV.Type a.0.0, a.0.1) y a.2) (type_decl-sound s a.0 a.1)
     ]
 

@@ -5,7 +5,7 @@ use Rattle.ild_parse.specs.declared.ast.TypeName.{TypeName}
 use Rattle.ild_parse.specs.declared.ast.Name.{Name}
 use Rattle.ild_parse.specs.declared.ast.Text.{Text}
 use Rattle.ild_parse.specs.declared.ast.Number.{Number}
-use Rattle.ild_parse.specs.Stream.{Sign, is_type, is_name, is_text, is_number}
+use Rattle.ild_parse.specs.Stream.{Sign, kind_of_text, is_type, is_name, is_text, is_number}
 use Rattle.ild_parse.specs.Value.{number_of, meaning}
 use Rattle.ild_parse.specs.Reference.{Reference, refer, Refers, named, link, list, map}
 
@@ -13,7 +13,7 @@ use Rattle.ild_parse.specs.Reference.{Reference, refer, Refers, named, link, lis
 
 abbrev pub IsWord : List ℕ → List Sign → List Sign → Type 0
 IsWord word [] ys = ⊥
-IsWord word (t ∷ xs) ys = (t.text ≡ word) × (xs ≡ ys)
+IsWord word (t ∷ xs) ys = (t.kind ≡ kind_of_text word) × (t.text ≡ word) × (xs ≡ ys)
 
 abbrev pub IsTypeName : TypeName → List Sign → List Sign → Type 0
 IsTypeName n [] ys = ⊥

@@ -1,9 +1,10 @@
 -- What the grammar sees of a source: its tokens with their texts, and where it ends.
-use Rattle.std.specs.Prelude.{ℕ, ◌+◌, Bool, true, false, ◌&&◌, List, [], ◌∷◌, length, map, nat_eq}
+use Rattle.std.specs.Prelude.{ℕ, ◌+◌, Bool, true, false, ◌&&◌, ◌||◌, ◌==◌, if◌then◌else◌, List, [], ◌∷◌, length, map, nat_eq}
 use Rattle.std.specs.Char.{is_ascii_uppercase}
 use Rattle.ild_lex.specs.declared.token.Token.{Token}
 use Rattle.ild_lex.specs.declared.token.TokenKind.{TokenKind}
 use Rattle.ild_lex.specs.declared.token.TokenKind.TheVariants.{Word, Number, Text, Mark}
+use Rattle.ild_lex.specs.Bytes.{is_letter, is_digit, quote, minus}
 use Rattle.ild_lex.specs.Span.{bytes_of}
 use lib.Pointwise.{pointwise}
 use Rattle.ild_parse.specs.declared.input.Input.{Input}
@@ -45,9 +46,28 @@ text_of (t ∷ ts) = t.text
 abbrev pub same_text : List ℕ → List ℕ → Bool
 same_text = pointwise nat_eq
 
--- it is this word or mark
+-- the kind of the tokens with this text
+abbrev pub kind_of_text : List ℕ → TokenKind
+kind_of_text [] = Mark
+kind_of_text (b ∷ bs) = if is_letter b then Word else if is_digit b || b == minus then Number else if b == quote then Text else Mark
+
+abbrev pub kind_code : TokenKind → ℕ
+kind_code Word = 0
+kind_code Number = 1
+kind_code Text = 2
+kind_code Mark = 3
+
+-- a token of this text and its kind
+abbrev pub is_literal : List ℕ → Sign → Bool
+is_literal word t = nat_eq (kind_code t.kind) (kind_code (kind_of_text word)) && same_text t.text word
+
+-- the first of them is this word or mark
+abbrev pub begins : List ℕ → List Sign → Bool
+begins word [] = false
+begins word (t ∷ ts) = is_literal word t
+
 abbrev pub next_is : List ℕ → Stream → Bool
-next_is word s = same_text (text_of s.signs) word
+next_is word s = begins word s.signs
 
 abbrev pub tail : List Sign → List Sign
 tail [] = []

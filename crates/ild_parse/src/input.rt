@@ -61,7 +61,10 @@ impl<'s> Input<'s> {
     pub(crate) fn is(self, word: &str) -> bool
         ensures { result ≡ next_is word.now (stream_of self.entry) }
     {
-        self.bytes() == word.as_bytes()
+        match self.rest {
+            [] => false,
+            [token, ..] => &self.src[token.at..token.end] == word.as_bytes(),
+        }
     }
 
     /// The input behind this word or mark, which has to come next.

@@ -1,5 +1,5 @@
 //! The tree of a source.
-ghost use Rattle.std.specs.Prelude.{IfOk};
+ghost use Rattle.std.specs.Prelude.{◌≡◌, ◌⊎◌, IfOk, Ok, Err};
 ghost use Rattle.ild_lex.specs.Lex.{AreTokens};
 ghost use Rattle.ild_parse.specs.DerivePart.{Derives};
 ghost use Rattle.ild_parse.specs.Stream.{stream, stream_of, most, is_end};
@@ -64,6 +64,10 @@ pub fn parse(alloc: Global, src: &str, tokens: &Tokens) -> Result<Ast, ParseErr>
     requires { AreTokens src.now tokens.now }
     // What is answered is derived.
     ensures derived { IfOk result (Derives src.now tokens.now) }
+    // What is derived is answered, unless memory runs out.
+    ensures only { (tree : Ast) → Derives src.now tokens.now tree → (result ≡ Ok tree) ⊎ (result ≡ Err ParseErr.Memory) }
+    // No second tree is derived.
+    ensures one { (tree other : Ast) → Derives src.now tokens.now tree → Derives src.now tokens.now other → tree ≡ other }
     // It is what the grammar reads from left to right, and a fault stands at the first token with which that stops.
     ensures exact { Gives (λ a. a) result (parse_of src.now tokens.now) }
 {
