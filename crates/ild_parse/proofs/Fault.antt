@@ -1,23 +1,20 @@
 -- Where reading stops, no text of the grammar goes on.
-use Rattle.std.proofs.Common.{◌≡◌, ℕ, ◌+◌, List, [], ◌∷◌, ◌++◌, length, Result, Ok, Err, refl, sym, subst, ◌∙◌, append_assoc, inl, inr, arith}
-use Rattle.std.specs.Prelude.{IfErr, ◌⊎◌}
+use Rattle.std.proofs.Common.{◌≡◌, ℕ, List, [], ◌∷◌, ◌++◌, length, Result, Ok, Err, refl, sym, subst, ◌∙◌, append_assoc, inl, inr}
 use Rattle.std.proofs.lemmas.List.{append-nil}
 use Rattle.ild_lex.specs.declared.token.Token.{Token}
 use Rattle.ild_parse.specs.declared.ast.Ast.{Ast}
 use Rattle.ild_parse.specs.declared.ast.Decl.{Decl}
-use Rattle.ild_parse.specs.declared.error.ParseErr.{ParseErr}
-use Rattle.ild_parse.specs.declared.error.ParseErr.TheVariants as E
 use Rattle.ild_parse.specs.Stream.{Sign, Stream, stream, place_of, most, is_end}
-use Rattle.ild_parse.specs.Read.{◌>>=◌, Gives, many_at}
+use Rattle.ild_parse.specs.Read.{many_at}
 use Rattle.ild_parse.specs.Grammar.{decl_at, schema_at}
 use Rattle.ild_parse.specs.Derive.{AreParts}
 use Rattle.ild_parse.specs.DerivePart.{IsDecl}
-use Rattle.ild_parse.specs.Fault.{BeginText, IsDead, IsWrongAt}
+use Rattle.ild_parse.specs.Fault.{IsDead, IsWrongAt}
 use Rattle.ild_parse.proofs.Complete.{reading}
 use Rattle.ild_parse.proofs.CompleteParts.{decls-complete}
-use Rattle.ild_parse.proofs.Local.{Local, Same, same_self}
+use Rattle.ild_parse.proofs.Local.{Same, same_self}
 use Rattle.ild_parse.proofs.LocalBodies.{decls-local}
-use Rattle.ild_parse.proofs.Sound.{done, failed, no_value}
+use Rattle.ild_parse.proofs.Sound.{failed, no_value}
 
 decls_at : Stream → Result (List Decl × Stream) ℕ
 decls_at s = many_at decl_at is_end (most s) s

@@ -1,7 +1,7 @@
 -- Reading looks at no token behind the one that it stops at: with other tokens behind it, it stops there too.
-use Rattle.std.proofs.Common.{◌≡◌, ℕ, zero, suc, ◌+◌, ◌<◌, ◌≤◌, Bool, true, false, cond, List, [], ◌∷◌, ◌++◌, length, Result, Ok, Err, Option, Some, None, refl, sym, ap, subst, ◌∙◌, append_assoc, length-append, inl, inr, arith}
+use Rattle.std.proofs.Common.{◌≡◌, ℕ, zero, Bool, true, false, cond, List, [], ◌∷◌, ◌++◌, Result, Ok, Err, Option, Some, None, refl, sym, ap, subst, ◌∙◌, append_assoc, inl, inr}
 use Rattle.std.specs.Prelude.{◌⊎◌}
-use Rattle.ild_parse.specs.Stream.{Sign, Stream, place_of, begins, is_literal, next_is, rest_of}
+use Rattle.ild_parse.specs.Stream.{Sign, Stream, place_of, begins, is_literal, rest_of}
 use Rattle.ild_parse.specs.Read.{◌>>=◌, literal_at}
 use Rattle.ild_parse.proofs.Complete.{reading}
 
@@ -11,9 +11,6 @@ Same [] [] = Unit {0}
 Same [] (u ∷ us) = ⊥
 Same (t ∷ ts) [] = ⊥
 Same (t ∷ ts) (u ∷ us) = t ≡ u
-
-pub Reader : Type 0 → Type 0
-Reader A = Stream → Result (A × Stream) ℕ
 
 -- it reads a part up to the tokens ys, or stops where the tokens `rest` are left
 pub record Found {A : Type 0} (F : Stream → Result (A × Stream) ℕ) (end : ℕ) (xs : List Sign) : Type 0 where
@@ -81,14 +78,23 @@ local_seeing {V} {A} {B} end see next f g lf lg xs =
       | inr h ↦ inr (record { front = h.front; rest = h.rest; are = h.are; fails = λ zs same. rw (h.fails zs same) refl })
       | inl h ↦
           elim (lg (see end xs) h.part h.rest) [
-            | inl k ↦ inl (record { part = k.part; front = h.front ++ k.front; rest = k.rest; are = joined xs h.front h.rest k.front k.rest h.are k.are;
-                read = λ zs same.
+            | inl k ↦ inl (record {
+              part = k.part;
+              front = h.front ++ k.front;
+              rest = k.rest;
+              are = joined xs h.front h.rest k.front k.rest h.are k.are;
+              read = λ zs same.
                   let behind = same_behind h.rest k.front k.rest zs k.are same in
-                  rw (append_assoc h.front k.front zs, h.read (k.front ++ zs) behind, see_behind (see end) next xs h.front h.rest (k.front ++ zs) h.are behind) (k.read zs same) })
-            | inr k ↦ inr (record { front = h.front ++ k.front; rest = k.rest; are = joined xs h.front h.rest k.front k.rest h.are k.are;
-                fails = λ zs same.
+                  rw (append_assoc h.front k.front zs, h.read (k.front ++ zs) behind, see_behind (see end) next xs h.front h.rest (k.front ++ zs) h.are behind) (k.read zs same);
+            })
+            | inr k ↦ inr (record {
+              front = h.front ++ k.front;
+              rest = k.rest;
+              are = joined xs h.front h.rest k.front k.rest h.are k.are;
+              fails = λ zs same.
                   let behind = same_behind h.rest k.front k.rest zs k.are same in
-                  rw (append_assoc h.front k.front zs, h.read (k.front ++ zs) behind, see_behind (see end) next xs h.front h.rest (k.front ++ zs) h.are behind) (k.fails zs same) })
+                  rw (append_assoc h.front k.front zs, h.read (k.front ++ zs) behind, see_behind (see end) next xs h.front h.rest (k.front ++ zs) h.are behind) (k.fails zs same);
+            })
           ]
     ]
 
@@ -104,13 +110,13 @@ local_if {A} end test next f g lf lg xs =
     let Q : Bool → Type 0 = λ v. test xs ≡ v → Local F end xs in
     (elim (test xs) as Q [
       | true ↦ λ q. elim (lf xs) [
-          | inl h ↦ inl (record { part = h.part; front = h.front; rest = h.rest; are = h.are; read = λ zs same. rw (see_behind test next xs h.front h.rest zs h.are same ∙ q) (h.read zs same) })
-          | inr h ↦ inr (record { front = h.front; rest = h.rest; are = h.are; fails = λ zs same. rw (see_behind test next xs h.front h.rest zs h.are same ∙ q) (h.fails zs same) })
-        ]
+        | inl h ↦ inl (record { part = h.part; front = h.front; rest = h.rest; are = h.are; read = λ zs same. rw (see_behind test next xs h.front h.rest zs h.are same ∙ q) (h.read zs same) })
+        | inr h ↦ inr (record { front = h.front; rest = h.rest; are = h.are; fails = λ zs same. rw (see_behind test next xs h.front h.rest zs h.are same ∙ q) (h.fails zs same) })
+      ]
       | false ↦ λ q. elim (lg xs) [
-          | inl h ↦ inl (record { part = h.part; front = h.front; rest = h.rest; are = h.are; read = λ zs same. rw (see_behind test next xs h.front h.rest zs h.are same ∙ q) (h.read zs same) })
-          | inr h ↦ inr (record { front = h.front; rest = h.rest; are = h.are; fails = λ zs same. rw (see_behind test next xs h.front h.rest zs h.are same ∙ q) (h.fails zs same) })
-        ]
+        | inl h ↦ inl (record { part = h.part; front = h.front; rest = h.rest; are = h.are; read = λ zs same. rw (see_behind test next xs h.front h.rest zs h.are same ∙ q) (h.read zs same) })
+        | inr h ↦ inr (record { front = h.front; rest = h.rest; are = h.are; fails = λ zs same. rw (see_behind test next xs h.front h.rest zs h.are same ∙ q) (h.fails zs same) })
+      ]
     ]) refl
 
 abbrev word_then : {A : Type 0} → List ℕ → (ℕ → Stream → Result (A × Stream) ℕ) → (ℕ → Stream → Result (A × Stream) ℕ) → Stream → Result (A × Stream) ℕ
@@ -126,10 +132,19 @@ local_word {A} end w f g lf lg xs = here xs
     begins_next t us zs = refl
 
     other : (us : List Sign) → begins w us ≡ false → Local (g (place_of end us)) end us → Local (word_then w f g) end us
-    other us q (inl h) = inl (record { part = h.part; front = h.front; rest = h.rest; are = h.are;
-        read = λ zs same. rw (see_behind (begins w) begins_next us h.front h.rest zs h.are same ∙ q, see_behind (place_of end) (place_next end) us h.front h.rest zs h.are same) (h.read zs same) })
-    other us q (inr h) = inr (record { front = h.front; rest = h.rest; are = h.are;
-        fails = λ zs same. rw (see_behind (begins w) begins_next us h.front h.rest zs h.are same ∙ q, see_behind (place_of end) (place_next end) us h.front h.rest zs h.are same) (h.fails zs same) })
+    other us q (inl h) = inl (record {
+      part = h.part;
+      front = h.front;
+      rest = h.rest;
+      are = h.are;
+      read = λ zs same. rw (see_behind (begins w) begins_next us h.front h.rest zs h.are same ∙ q, see_behind (place_of end) (place_next end) us h.front h.rest zs h.are same) (h.read zs same);
+    })
+    other us q (inr h) = inr (record {
+      front = h.front;
+      rest = h.rest;
+      are = h.are;
+      fails = λ zs same. rw (see_behind (begins w) begins_next us h.front h.rest zs h.are same ∙ q, see_behind (place_of end) (place_next end) us h.front h.rest zs h.are same) (h.fails zs same);
+    })
 
     this : (t : Sign) (us : List Sign) → is_literal w t ≡ true → Local (f t.at) end us → Local (word_then w f g) end (t ∷ us)
     this t us q (inl h) = inl (record { part = h.part; front = t ∷ h.front; rest = h.rest; are = ap (λ (v : List Sign). t ∷ v) h.are; read = λ zs same. rw q (h.read zs same) })

@@ -1,8 +1,6 @@
 -- Bodies and declarations are read one token after the other, and so is a schema.
-use Rattle.std.proofs.Common.{◌≡◌, ℕ, zero, suc, ◌+◌, ◌<◌, Bool, true, false, cond, List, [], ◌∷◌, ◌++◌, length, Result, Ok, Err, Option, Some, None, refl, sym, ap, subst, ◌∙◌, append_assoc, length-append, inl, inr, arith}
+use Rattle.std.proofs.Common.{◌≡◌, ℕ, zero, suc, ◌+◌, ◌<◌, Bool, true, false, cond, List, [], ◌∷◌, ◌++◌, length, Result, Ok, Err, refl, ap, ◌∙◌, append_assoc, inl, inr, arith}
 use Rattle.std.specs.Prelude.{codes}
-use Rattle.ild_lex.specs.declared.token.Token.{Token}
-use Rattle.ild_parse.specs.declared.ast.Ast.{Ast}
 use Rattle.ild_parse.specs.declared.ast.Decl.{Decl}
 use Rattle.ild_parse.specs.declared.ast.Decl.TheVariants as DV
 use Rattle.ild_parse.specs.declared.ast.TypeDecl.{TypeDecl}
@@ -12,48 +10,17 @@ use Rattle.ild_parse.specs.declared.ast.MapBody.{MapBody}
 use Rattle.ild_parse.specs.declared.ast.StructBody.{StructBody}
 use Rattle.ild_parse.specs.declared.ast.UnionBody.{UnionBody}
 use Rattle.ild_parse.specs.declared.ast.EnumBody.{EnumBody}
-use Rattle.ild_parse.specs.declared.ast.Field.{Field}
-use Rattle.ild_parse.specs.declared.ast.Opt.{Opt}
-use Rattle.ild_parse.specs.declared.ast.Opt.TheVariants as OV
-use Rattle.ild_parse.specs.declared.ast.Implicit.{Implicit}
-use Rattle.ild_parse.specs.declared.ast.Implicit.TheVariants as IV
-use Rattle.ild_parse.specs.declared.ast.Member.{Member}
-use Rattle.ild_parse.specs.declared.ast.Target.{Target}
-use Rattle.ild_parse.specs.declared.ast.Target.TheVariants as TV
-use Rattle.ild_parse.specs.declared.ast.Mark.{Mark}
-use Rattle.ild_parse.specs.declared.ast.Mark.TheVariants as MV
-use Rattle.ild_parse.specs.declared.ast.KindWord.{KindWord}
-use Rattle.ild_parse.specs.declared.ast.KindWord.TheVariants as KV
-use Rattle.ild_parse.specs.declared.ast.EnumMember.{EnumMember}
-use Rattle.ild_parse.specs.declared.ast.UnitForm.{UnitForm}
-use Rattle.ild_parse.specs.declared.ast.Text.{Text}
-use Rattle.ild_parse.specs.Reference.{Reference, refer, Refers, named, link, list, map}
-use Rattle.ild_parse.specs.Refer.{behind_word, named_at, link_at, ref_with, list_with, map_with, inline_at, ref_at, deepest}
+use Rattle.ild_parse.specs.Refer.{ref_at, deepest}
 use Rattle.ild_parse.specs.Form.{map_form_at, struct_form_at, union_form_at, enum_form_at, unit_form_at, optional_form_at, needed_form_at}
-use Rattle.ild_parse.specs.Part.{implicit_at, rename_opt_at, implicit_opt_at, opt_at, other_opt_at, opts_behind, opts_at, field_at, target_at, kind_of, kind_mark, mark_at, member_at, quoted_at, enum_member_at}
-use Rattle.ild_parse.specs.Grammar.{closes, braced_at, map_at, struct_at, union_at, enum_at, unit_at, list_at, scalar_at, body_at, type_decl_at, decl_at, schema_at}
-use Rattle.ild_parse.specs.declared.ast.MapForm.{MapForm}
-use Rattle.ild_parse.specs.declared.ast.MapForm.TheVariants as MF
-use Rattle.ild_parse.specs.declared.ast.StructForm.{StructForm}
-use Rattle.ild_parse.specs.declared.ast.StructForm.TheVariants as SF
-use Rattle.ild_parse.specs.declared.ast.UnionForm.{UnionForm}
-use Rattle.ild_parse.specs.declared.ast.UnionForm.TheVariants as UF
-use Rattle.ild_parse.specs.declared.ast.EnumForm.{EnumForm}
-use Rattle.ild_parse.specs.declared.ast.EnumForm.TheVariants as EF
-use Rattle.ild_parse.specs.declared.ast.UnitForm.TheVariants as NF
-use Rattle.ild_parse.specs.declared.ast.Pairs.{Pairs}
-use Rattle.ild_parse.specs.declared.ast.Envelope.{Envelope}
-use Rattle.ild_parse.specs.Form.{pairs_at, map_form_at, struct_form_at, envelope_at, union_form_at, enum_form_at, unit_form_at, optional_form_at, needed_form_at}
-use Rattle.ild_parse.specs.declared.ast.TypeName.{TypeName}
-use Rattle.ild_parse.specs.Stream.{Sign, Stream, stream, place, place_of, begins, next_is, rest_of, most, is_end, none_left}
+use Rattle.ild_parse.specs.Part.{field_at, member_at, enum_member_at}
+use Rattle.ild_parse.specs.Grammar.{closes, braced_at, map_at, struct_at, union_at, enum_at, unit_at, list_at, scalar_at, body_at, type_decl_at, decl_at}
+use Rattle.ild_parse.specs.Form.{map_form_at, struct_form_at, union_form_at, enum_form_at, unit_form_at, optional_form_at, needed_form_at}
+use Rattle.ild_parse.specs.Stream.{Sign, Stream, place, place_of, begins, next_is, rest_of, most, is_end, none_left}
 use Rattle.ild_parse.specs.Read.{◌>>=◌, literal_at, type_name_at, many_at}
-use Rattle.ild_parse.specs.Derive.{AreParts}
-use Rattle.ild_parse.specs.DerivePart.{IsField, IsMember, IsEnumMember, IsDecl}
 use Rattle.ild_parse.proofs.Complete.{reading}
-use Rattle.ild_parse.proofs.Sound.{done, no_value}
 use Rattle.ild_parse.proofs.SoundParts.{field-sound, member-sound, enum_member-sound, decl-sound}
 use Rattle.ild_parse.proofs.Shorter.{field_shorter, member_shorter, enum_member_shorter, decl_shorter}
-use Rattle.ild_parse.proofs.Local.{Local, Found, Stops, Same, same_self, same_behind, IsNext, see_behind, joined, local_pure, local_fail, local_equal, local_seeing, local_bind, local_if, local_word, local_after}
+use Rattle.ild_parse.proofs.Local.{Local, Found, same_self, same_behind, IsNext, see_behind, joined, local_pure, local_fail, local_bind, local_if, local_word, local_after}
 use Rattle.ild_parse.proofs.LocalRules.{type-local, map_form-local, struct_form-local, union_form-local, enum_form-local, unit_form-local, optional_form-local, needed_form-local, reference-local, field-local, member-local, enum_member-local}
 
 -- ---- parts that repeat
@@ -109,32 +76,42 @@ local_many {A} end one ends next less each (suc n) xs small =
     ended q = inl (record { part = []; front = []; rest = xs; are = refl; read = λ zs same. all_end one (λ s. ends s.signs) (reading end zs) (see_behind ends next xs [] xs zs refl same ∙ q) })
 
     more : ends xs ≡ false → (h : Found one end xs) → Local (all_of one (λ s. ends s.signs)) end h.rest → Local (all_of one (λ s. ends s.signs)) end xs
-    more q h (inl k) = inl (record { part = h.part ∷ k.part; front = h.front ++ k.front; rest = k.rest; are = joined xs h.front h.rest k.front k.rest h.are k.are;
-        read = λ zs same.
+    more q h (inl k) = inl (record {
+      part = h.part ∷ k.part;
+      front = h.front ++ k.front;
+      rest = k.rest;
+      are = joined xs h.front h.rest k.front k.rest h.are k.are;
+      read = λ zs same.
           let behind = same_behind h.rest k.front k.rest zs k.are same in
           let goes = see_behind ends next xs h.front h.rest (k.front ++ zs) h.are behind ∙ q in
           rw (append_assoc h.front k.front zs) (all_more one (λ s. ends s.signs) less (reading end (h.front ++ (k.front ++ zs))) (h.part, reading end (k.front ++ zs)) goes (h.read (k.front ++ zs) behind)
-          ∙ ap (λ (r : Result (List A × Stream) ℕ). r >>= (λ us. Ok (h.part ∷ us.0, us.1))) (k.read zs same)) })
-    more q h (inr k) = inr (record { front = h.front ++ k.front; rest = k.rest; are = joined xs h.front h.rest k.front k.rest h.are k.are;
-        fails = λ zs same.
+          ∙ ap (λ (r : Result (List A × Stream) ℕ). r >>= (λ us. Ok (h.part ∷ us.0, us.1))) (k.read zs same));
+    })
+    more q h (inr k) = inr (record {
+      front = h.front ++ k.front;
+      rest = k.rest;
+      are = joined xs h.front h.rest k.front k.rest h.are k.are;
+      fails = λ zs same.
           let behind = same_behind h.rest k.front k.rest zs k.are same in
           let goes = see_behind ends next xs h.front h.rest (k.front ++ zs) h.are behind ∙ q in
           rw (append_assoc h.front k.front zs) (all_more one (λ s. ends s.signs) less (reading end (h.front ++ (k.front ++ zs))) (h.part, reading end (k.front ++ zs)) goes (h.read (k.front ++ zs) behind)
-          ∙ ap (λ (r : Result (List A × Stream) ℕ). r >>= (λ us. Ok (h.part ∷ us.0, us.1))) (k.fails zs same)) })
+          ∙ ap (λ (r : Result (List A × Stream) ℕ). r >>= (λ us. Ok (h.part ∷ us.0, us.1))) (k.fails zs same));
+    })
 
     going : ((ys : List Sign) → length ys < length xs → Local (all_of one (λ s. ends s.signs)) end ys) → ends xs ≡ false → Local one end xs → Local (all_of one (λ s. ends s.signs)) end xs
-    going again q (inr h) = inr (record { front = h.front; rest = h.rest; are = h.are;
-        fails = λ zs same. all_stop one (λ s. ends s.signs) (reading end (h.front ++ zs)) (place_of end h.rest) (see_behind ends next xs h.front h.rest zs h.are same ∙ q) (h.fails zs same) })
+    going again q (inr h) = inr (record {
+      front = h.front;
+      rest = h.rest;
+      are = h.are;
+      fails = λ zs same. all_stop one (λ s. ends s.signs) (reading end (h.front ++ zs)) (place_of end h.rest) (see_behind ends next xs h.front h.rest zs h.are same ∙ q) (h.fails zs same);
+    })
     going again q (inl h) =
         let here : one (reading end xs) ≡ Ok (h.part, reading end h.rest) = rw h.are (h.read h.rest (same_self h.rest)) in
         let l = less (reading end xs) (h.part, reading end h.rest) here in
         more q h (again h.rest l)
 
-closed : List Sign → Bool
-closed xs = begins (codes "}") xs
-
 braced-local : {A : Type 0} (one : Stream → Result (A × Stream) ℕ) → IsLess one → (end : ℕ) → ((xs : List Sign) → Local one end xs) → (xs : List Sign) → Local (braced_at one) end xs
-unfolding braced_at all_of closed
+unfolding braced_at all_of
 braced-local {A} one less end each xs =
     local_after end (codes "{") (λ t. all_of one closes t >>= (λ us. literal_at (codes "}") us.1 >>= (λ u. Ok (us.0, u))))
     (local_bind end (all_of one closes) (λ us s. literal_at (codes "}") s >>= (λ u. Ok (us, u)))

@@ -1,17 +1,6 @@
 -- Each rule reads one token after the other.
 use Rattle.std.proofs.Common.{◌≡◌, ℕ, zero, suc, Bool, true, false, cond, List, [], ◌∷◌, Result, Ok, Err, Option, Some, None, refl, ap}
 use Rattle.std.specs.Prelude.{codes, ℤ}
-use Rattle.ild_lex.specs.declared.token.Token.{Token}
-use Rattle.ild_parse.specs.declared.ast.Ast.{Ast}
-use Rattle.ild_parse.specs.declared.ast.Decl.{Decl}
-use Rattle.ild_parse.specs.declared.ast.Decl.TheVariants as DV
-use Rattle.ild_parse.specs.declared.ast.TypeDecl.{TypeDecl}
-use Rattle.ild_parse.specs.declared.ast.Body.{Body}
-use Rattle.ild_parse.specs.declared.ast.Body.TheVariants as BV
-use Rattle.ild_parse.specs.declared.ast.MapBody.{MapBody}
-use Rattle.ild_parse.specs.declared.ast.StructBody.{StructBody}
-use Rattle.ild_parse.specs.declared.ast.UnionBody.{UnionBody}
-use Rattle.ild_parse.specs.declared.ast.EnumBody.{EnumBody}
 use Rattle.ild_parse.specs.declared.ast.Field.{Field}
 use Rattle.ild_parse.specs.declared.ast.Opt.{Opt}
 use Rattle.ild_parse.specs.declared.ast.Opt.TheVariants as OV
@@ -31,7 +20,6 @@ use Rattle.ild_parse.specs.Reference.{Reference, refer, Refers, named, link, lis
 use Rattle.ild_parse.specs.Refer.{behind_word, named_at, link_at, ref_with, list_with, map_with, inline_at, ref_at, deepest}
 use Rattle.ild_parse.specs.Form.{map_form_at, struct_form_at, union_form_at, enum_form_at, unit_form_at, optional_form_at, needed_form_at}
 use Rattle.ild_parse.specs.Part.{implicit_at, rename_opt_at, implicit_opt_at, opt_at, other_opt_at, opts_behind, opts_at, field_at, target_at, kind_of, kind_mark, mark_at, member_at, quoted_at, enum_member_at}
-use Rattle.ild_parse.specs.Grammar.{closes, braced_at, map_at, struct_at, union_at, enum_at, unit_at, list_at, scalar_at, body_at, type_decl_at, decl_at, schema_at}
 use Rattle.ild_parse.specs.declared.ast.MapForm.{MapForm}
 use Rattle.ild_parse.specs.declared.ast.MapForm.TheVariants as MF
 use Rattle.ild_parse.specs.declared.ast.StructForm.{StructForm}
@@ -48,7 +36,7 @@ use Rattle.ild_parse.specs.declared.ast.TypeName.{TypeName}
 use Rattle.ild_parse.specs.declared.ast.Name.{Name}
 use Rattle.ild_parse.specs.declared.ast.Number.{Number}
 use Rattle.ild_parse.specs.Value.{number_of, meaning}
-use Rattle.ild_parse.specs.Stream.{Sign, Stream, place, place_of, begins, next_is, rest_of, is_type, is_name, is_text, is_number, is_word_kind, is_text_kind, is_number_kind, begins_upper}
+use Rattle.ild_parse.specs.Stream.{Sign, Stream, place, place_of, begins, next_is, rest_of, is_type, is_name, is_text, is_number}
 use Rattle.ild_parse.specs.Read.{◌>>=◌, literal_at, type_name_at, name_at, text_at, number_at, value_here, setting_at, one_setting_at, both_settings_at, two_settings_at}
 use Rattle.ild_parse.proofs.Complete.{reading}
 use Rattle.ild_parse.proofs.Sound.{done}
