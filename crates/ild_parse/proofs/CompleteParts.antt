@@ -29,12 +29,12 @@ use Rattle.ild_parse.specs.declared.ast.UnitForm.{UnitForm}
 use Rattle.ild_parse.specs.declared.ast.Text.{Text}
 use Rattle.ild_parse.specs.Reference.{Reference, refer, Refers, named, link, list, map}
 use Rattle.ild_parse.specs.Stream.{Sign, Stream, stream, is_text, is_end, none_left}
-use Rattle.ild_parse.specs.Read.{type_name_at, text_at, number_at}
+use Rattle.ild_parse.specs.Read.{many_at, type_name_at, text_at, number_at}
 use Rattle.ild_parse.specs.Refer.{named_at, link_at, ref_with, list_with, map_with, inline_at, ref_at, deepest}
 use Rattle.ild_parse.specs.Form.{map_form_at, struct_form_at, union_form_at, enum_form_at, unit_form_at}
 use Rattle.ild_parse.specs.Part.{implicit_at, rename_opt_at, implicit_opt_at, opt_at, other_opt_at, opts_behind, opts_at, field_at, target_at, kind_of, mark_at, member_at, quoted_at, enum_member_at}
 use Rattle.ild_parse.specs.Grammar.{braced_at, map_at, struct_at, union_at, enum_at, unit_at, list_at, scalar_at, body_at, type_decl_at, decl_at, schema_at}
-use Rattle.ild_parse.specs.Derive.{IsWord, IsTypeName, BeginsAt, IsOptional, AreBraced, IsReference, IsInline}
+use Rattle.ild_parse.specs.Derive.{AreParts, IsWord, IsTypeName, BeginsAt, IsOptional, AreBraced, IsReference, IsInline}
 use Rattle.ild_parse.specs.DeriveForm.{IsMapForm, IsStructForm, IsUnionForm, IsEnumForm, IsUnitForm}
 use Rattle.ild_parse.specs.DerivePart.{IsImplicit, IsOpt, renames, is_implicit, AreOpts, IsField, IsTarget, IsMark, IsMember, IsQuoted, IsEnumMember, IsMap, IsStruct, IsUnion, IsEnum, IsBody, IsDecl, Derives}
 use Rattle.ild_parse.specs.Stream.{begins, begins_upper, kind_of_text}
@@ -336,10 +336,13 @@ decl_goes : (d : Decl) (xs ys : List Sign) → IsDecl d xs ys → none_left xs �
 decl_goes (DV.Type d) xs ys h = by_word (λ (zs : List Sign). none_left zs ≡ false) (codes "type") xs h.0 h.2 (λ at. refl)
 decl_goes (DV.Advanced n) xs ys h = by_word (λ (zs : List Sign). none_left zs ≡ false) (codes "advanced") xs h.0 h.1 (λ at. refl)
 
+-- the declarations that are derived are read
+pub decls-complete : (end : ℕ) (all : List Decl) (xs : List Sign) → AreParts IsDecl all xs [] → many_at decl_at is_end (length xs + 1) (reading end xs) ≡ Ok (all, reading end [])
+decls-complete end all xs h =
+    let few = parts_count IsDecl decl_shorter all xs [] h in
+    many-complete decl_at is_end IsDecl NoForm end decl_starts decl_goes (decl-complete end) (length xs + 1) all xs [] h refl refl (omega (arith, few))
+
 -- the tree that is derived is read
 pub schema-complete : (src : List ℕ) (ts : List Token) (tree : Ast) → Derives src ts tree → schema_at (stream src ts) ≡ Ok tree
 unfolding schema_at
-schema-complete src ts tree h =
-    let s : Stream = stream src ts in
-    let few = parts_count IsDecl decl_shorter tree.decls s.signs [] h in
-    rw (many-complete decl_at is_end IsDecl NoForm s.end decl_starts decl_goes (decl-complete s.end) (length s.signs + 1) tree.decls s.signs [] h refl refl (omega (arith, few))) refl
+schema-complete src ts tree h = let s : Stream = stream src ts in rw (decls-complete s.end tree.decls s.signs h) refl

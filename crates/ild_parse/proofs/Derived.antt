@@ -1,6 +1,6 @@
 -- An answer is derived, and what is derived is answered.
 use Rattle.std.proofs.Common.{◌≡◌, ℕ, List, Result, Ok, Err, refl, sym, ◌∙◌, subst, inl, inr}
-use Rattle.std.specs.Prelude.{◌⊎◌, IfOk}
+use Rattle.std.specs.Prelude.{◌⊎◌, IfOk, IfErr}
 use Rattle.ild_lex.specs.declared.token.Token.{Token}
 use Rattle.ild_parse.specs.declared.ast.Ast.{Ast}
 use Rattle.ild_parse.specs.declared.error.ParseErr.{ParseErr}
@@ -11,6 +11,8 @@ use Rattle.ild_parse.specs.Grammar.{schema_at}
 use Rattle.ild_parse.specs.DerivePart.{Derives}
 use Rattle.ild_parse.proofs.SoundParts.{schema-sound}
 use Rattle.ild_parse.proofs.CompleteParts.{schema-complete}
+use Rattle.ild_parse.proofs.Fault.{schema_wrong}
+use Rattle.ild_parse.specs.Fault.{IsWrong}
 use Rattle.ild_parse.proofs.Sound.{ok_is, no_value}
 
 pub answer_derived : (src bytes : List ℕ) (ts slice : List Token) (answer : Result Ast ParseErr) → bytes ≡ src → slice ≡ ts → Gives (λ a. a) answer (schema_at (stream bytes slice)) → IfOk answer (Derives src ts)
@@ -30,3 +32,9 @@ derived_answered src bytes ts slice answer same_bytes same_tokens h tree d =
 
 pub derived_one : (src : List ℕ) (ts : List Token) (tree other : Ast) → Derives src ts tree → Derives src ts other → tree ≡ other
 derived_one src ts tree other d e = ok_is tree other (sym (schema-complete src ts tree d) ∙ schema-complete src ts other e)
+
+pub fault_wrong : (src bytes : List ℕ) (ts slice : List Token) (answer : Result Ast ParseErr) → bytes ≡ src → slice ≡ ts → Gives (λ a. a) answer (schema_at (stream bytes slice)) → IfErr answer (IsWrong src ts)
+fault_wrong src bytes ts slice (Ok tree) same_bytes same_tokens h = tt
+fault_wrong src bytes ts slice (Err E.Memory) same_bytes same_tokens h = tt
+fault_wrong src bytes ts slice (Err (E.Syntax at)) same_bytes same_tokens h =
+    subst (λ (us : List Token). IsWrong src us (E.Syntax at)) same_tokens (subst (λ (b : List ℕ). IsWrong b slice (E.Syntax at)) same_bytes (schema_wrong bytes slice at h))

@@ -10,3 +10,7 @@ pub mod Complete
 pub mod CompleteForms
 pub mod Shorter
 pub mod CompleteParts
+pub mod Local
+pub mod LocalRules
+pub mod LocalBodies
+pub mod Fault

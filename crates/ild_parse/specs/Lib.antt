@@ -12,3 +12,4 @@ pub mod Grammar
 pub mod Derive
 pub mod DeriveForm
 pub mod DerivePart
+pub mod Fault

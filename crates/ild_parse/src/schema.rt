@@ -1,7 +1,8 @@
 //! The tree of a source.
-ghost use Rattle.std.specs.Prelude.{◌≡◌, ◌⊎◌, IfOk, Ok, Err};
+ghost use Rattle.std.specs.Prelude.{◌≡◌, ◌⊎◌, IfErr, IfOk, Ok, Err};
 ghost use Rattle.ild_lex.specs.Lex.{AreTokens};
 ghost use Rattle.ild_parse.specs.DerivePart.{Derives};
+ghost use Rattle.ild_parse.specs.Fault.{IsWrong};
 ghost use Rattle.ild_parse.specs.Stream.{stream, stream_of, most, is_end};
 ghost use Rattle.ild_parse.specs.Read.{Gives, many_at};
 ghost use Rattle.ild_parse.specs.Grammar.{type_decl_at, decl_at, schema_at, parse_of};
@@ -68,6 +69,8 @@ pub fn parse(alloc: Global, src: &str, tokens: &Tokens) -> Result<Ast, ParseErr>
     ensures only { (tree : Ast) → Derives src.now tokens.now tree → (result ≡ Ok tree) ⊎ (result ≡ Err ParseErr.Memory) }
     // No second tree is derived.
     ensures one { (tree other : Ast) → Derives src.now tokens.now tree → Derives src.now tokens.now other → tree ≡ other }
+    // With the token at a fault no text of the grammar goes on.
+    ensures wrong { IfErr result (IsWrong src.now tokens.now) }
     // It is what the grammar reads from left to right, and a fault stands at the first token with which that stops.
     ensures exact { Gives (λ a. a) result (parse_of src.now tokens.now) }
 {

@@ -1,0 +1,27 @@
+-- Where a source stops being one: the first token with which no text of the grammar goes on.
+use Rattle.std.specs.Prelude.{◌≡◌, ℕ, List, [], ◌∷◌, ◌++◌, length}
+use Rattle.ild_lex.specs.declared.token.Token.{Token}
+use Rattle.ild_parse.specs.declared.ast.Ast.{Ast}
+use Rattle.ild_parse.specs.declared.error.ParseErr.{ParseErr}
+use Rattle.ild_parse.specs.declared.error.ParseErr.TheVariants as E
+use Rattle.ild_parse.specs.Stream.{Sign, stream, place_of}
+use Rattle.ild_parse.specs.Derive.{AreParts}
+use Rattle.ild_parse.specs.DerivePart.{IsDecl}
+
+-- with some tokens behind them, these are a text of the grammar
+abbrev pub BeginText : List Sign → Type 0
+BeginText xs = (more : List Sign) × (tree : Ast) × AreParts IsDecl tree.decls (xs ++ more) []
+
+-- they are no text of the grammar, or the next of them is one with which none begins
+abbrev pub IsDead : List Sign → List Sign → Type 0
+IsDead before [] = (tree : Ast) → AreParts IsDecl tree.decls before [] → ⊥
+IsDead before (t ∷ after) = BeginText (before ++ t ∷ []) → ⊥
+
+-- at this place stands the token, or the end, that no text of the grammar has behind the tokens before it
+abbrev pub IsWrongAt : List ℕ → List Token → ℕ → Type 0
+IsWrongAt src ts at = (before after : List Sign) × ((stream src ts).signs ≡ before ++ after) × (at ≡ place_of (length src) after) × IsDead before after
+
+-- what an error says of the place of a fault
+abbrev pub IsWrong : List ℕ → List Token → ParseErr → Type 0
+IsWrong src ts E.Memory = Unit {0}
+IsWrong src ts (E.Syntax at) = IsWrongAt src ts at
