@@ -12,5 +12,6 @@ pub mod Shorter
 pub mod CompleteParts
 pub mod Local
 pub mod LocalRules
+pub mod Opens
 pub mod LocalBodies
 pub mod Fault
