@@ -13,5 +13,7 @@ pub mod CompleteParts
 pub mod Local
 pub mod LocalRules
 pub mod Opens
+pub mod OpensForms
+pub mod OpensParts
 pub mod LocalBodies
 pub mod Fault

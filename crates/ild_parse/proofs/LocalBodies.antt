@@ -26,7 +26,7 @@ use Rattle.ild_parse.proofs.LocalRules.{type-local, map_form-local, struct_form-
 -- ---- parts that repeat
 
 -- what is read has a token or more
-abbrev IsLess : {A : Type 0} → (Stream → Result (A × Stream) ℕ) → Type 0
+abbrev pub IsLess : {A : Type 0} → (Stream → Result (A × Stream) ℕ) → Type 0
 IsLess {A} one = (s : Stream) (y : A × Stream) → one s ≡ Ok y → length y.1.signs < length s.signs
 
 read_on : {A : Type 0} → (Stream → Result (A × Stream) ℕ) → (Stream → Bool) → ℕ → A × Stream → Result (List A × Stream) ℕ
@@ -43,22 +43,22 @@ room_alike {A} one ends less (suc n) (suc m) s small little = ap (λ (r : Result
     each again (Err e) q = refl
     each again (Ok x) q = ap (λ (z : Result (List A × Stream) ℕ). z >>= (λ xs. Ok (x.0 ∷ xs.0, xs.1))) (again x q)
 
-all_of : {A : Type 0} → (Stream → Result (A × Stream) ℕ) → (Stream → Bool) → Stream → Result (List A × Stream) ℕ
+unfoldable pub all_of : {A : Type 0} → (Stream → Result (A × Stream) ℕ) → (Stream → Bool) → Stream → Result (List A × Stream) ℕ
 all_of one ends s = many_at one ends (most s) s
 
-all_end : {A : Type 0} (one : Stream → Result (A × Stream) ℕ) (ends : Stream → Bool) (s : Stream) → ends s ≡ true → all_of one ends s ≡ Ok ([], s)
+pub all_end : {A : Type 0} (one : Stream → Result (A × Stream) ℕ) (ends : Stream → Bool) (s : Stream) → ends s ≡ true → all_of one ends s ≡ Ok ([], s)
 unfolding all_of many_at
 all_end one ends s q =
     let k : most s ≡ suc (length s.signs) = omega arith in
     rw (k, q) refl
 
-all_stop : {A : Type 0} (one : Stream → Result (A × Stream) ℕ) (ends : Stream → Bool) (s : Stream) (at : ℕ) → ends s ≡ false → one s ≡ Err at → all_of one ends s ≡ Err at
+pub all_stop : {A : Type 0} (one : Stream → Result (A × Stream) ℕ) (ends : Stream → Bool) (s : Stream) (at : ℕ) → ends s ≡ false → one s ≡ Err at → all_of one ends s ≡ Err at
 unfolding all_of many_at
 all_stop one ends s at q h =
     let k : most s ≡ suc (length s.signs) = omega arith in
     rw (k, q, h) refl
 
-all_more : {A : Type 0} (one : Stream → Result (A × Stream) ℕ) (ends : Stream → Bool) → IsLess one → (s : Stream) (x : A × Stream) → ends s ≡ false → one s ≡ Ok x → all_of one ends s ≡ (all_of one ends x.1 >>= (λ xs. Ok (x.0 ∷ xs.0, xs.1)))
+pub all_more : {A : Type 0} (one : Stream → Result (A × Stream) ℕ) (ends : Stream → Bool) → IsLess one → (s : Stream) (x : A × Stream) → ends s ≡ false → one s ≡ Ok x → all_of one ends s ≡ (all_of one ends x.1 >>= (λ xs. Ok (x.0 ∷ xs.0, xs.1)))
 unfolding all_of many_at
 all_more one ends less s x q h =
     let k : most s ≡ suc (length s.signs) = omega arith in
@@ -118,16 +118,16 @@ braced-local {A} one less end each xs =
     (λ zs. local_many end one (begins (codes "}")) (λ t us vs. refl) less each (length zs + 1) zs (omega arith))
     (λ us. local_after end (codes "}") (λ u. Ok (us, u)) (local_pure {A = List A} us end))) xs
 
-field_less : IsLess field_at
+pub field_less : IsLess field_at
 field_less s y e = field_shorter y.0 s.signs y.1.signs (field-sound s y e)
 
-member_less : IsLess member_at
+pub member_less : IsLess member_at
 member_less s y e = member_shorter y.0 s.signs y.1.signs (member-sound s y e)
 
-enum_member_less : IsLess enum_member_at
+pub enum_member_less : IsLess enum_member_at
 enum_member_less s y e = enum_member_shorter y.0 s.signs y.1.signs (enum_member-sound s y e)
 
-decl_less : IsLess decl_at
+pub decl_less : IsLess decl_at
 decl_less s y e = decl_shorter y.0 s.signs y.1.signs (decl-sound s y e)
 
 -- ---- bodies

@@ -138,14 +138,14 @@ unfolding link_at
 link-local end xs = (local_after end (codes "&") (λ s174. type_name_at s174 >>= (λ s175. Ok (link s175.0, s175.1))) (local_bind end (λ s172. type_name_at s172) (λ s171. (λ s173. Ok (link s171, s173))) (type-local end) (λ s171. (local_pure {A = Refers} (link s171) end)))) xs
 
 -- behind `nullable` or without it
-ref_from : (Stream → Result (Refers × Stream) ℕ) → ℕ → Bool → Stream → Result (Reference × Stream) ℕ
+unfoldable pub ref_from : (Stream → Result (Refers × Stream) ℕ) → ℕ → Bool → Stream → Result (Reference × Stream) ℕ
 ref_from inline at nullable s = inline s >>= (λ i. Ok (refer at nullable (place s) i.0, i.1))
 
 ref_from-local : (inline : Stream → Result (Refers × Stream) ℕ) (end : ℕ) → ((xs : List Sign) → Local inline end xs) → (at : ℕ) (nullable : Bool) (xs : List Sign) → Local (ref_from inline at nullable) end xs
 unfolding ref_from
 ref_from-local inline end each at nullable xs = local_seeing end place_of (λ t us zs. refl) inline (λ p i s. Ok (refer at nullable p i, s)) each (λ p i. local_pure {A = Reference} (refer at nullable p i) end) xs
 
-ref_is : (inline : Stream → Result (Refers × Stream) ℕ) (s : Stream) → ref_with inline s ≡ cond (next_is (codes "nullable") s) (ref_from inline (place s) true (rest_of s)) (ref_from inline (place s) false s)
+pub ref_is : (inline : Stream → Result (Refers × Stream) ℕ) (s : Stream) → ref_with inline s ≡ cond (next_is (codes "nullable") s) (ref_from inline (place s) true (rest_of s)) (ref_from inline (place s) false s)
 unfolding ref_with ref_from
 ref_is inline s =
     let Q : Bool → Type 0 = λ v. (inline (cond v (rest_of s) s) >>= (λ i. done {A = Reference × Stream} (refer (place s) v (place (cond v (rest_of s) s)) i.0, i.1))) ≡ cond v (ref_from inline (place s) true (rest_of s)) (ref_from inline (place s) false s) in
@@ -201,21 +201,21 @@ pub opts-local : (end : ℕ) (xs : List Sign) → Local opts_at end xs
 unfolding opts_at
 opts-local end xs = (local_word end (codes "(") (λ s267. (λ s268. opt_at s268 >>= (λ s269. opts_behind s269.0 s269.1))) (λ s267. (λ s270. Ok ([], s270))) (λ s267. (local_bind end (λ s265. opt_at s265) (λ s264. (λ s266. opts_behind s264 s266)) (opt-local end) (λ s264. (opts_behind-local s264 end)))) (λ s267. (local_pure {A = (List Opt)} ([]) end))) xs
 
-field_from : Name → Bool → Stream → Result (Field × Stream) ℕ
+unfoldable pub field_from : Name → Bool → Stream → Result (Field × Stream) ℕ
 field_from n b s = (ref_at deepest) s >>= (λ s278. opts_at s278.1 >>= (λ s282. Ok (record { name = n; optional = b; value = s278.0; opts = s282.0 }, s282.1)))
 
 field_from-local : (n : Name) (b : Bool) (end : ℕ) (xs : List Sign) → Local (field_from n b) end xs
 unfolding field_from
 field_from-local n b end xs = (local_bind end (λ s287. (ref_at deepest) s287) (λ s283. (λ s288. opts_at s288 >>= (λ s289. Ok (record { name = n; optional = b; value = s283; opts = s289.0 }, s289.1)))) (reference-local end) (λ s283. (local_bind end (λ s285. opts_at s285) (λ s284. (λ s286. Ok (record { name = n; optional = b; value = s283; opts = s284 }, s286))) (opts-local end) (λ s284. (local_pure {A = Field} (record { name = n; optional = b; value = s283; opts = s284 }) end))))) xs
 
-behind_name : Name → Stream → Result (Field × Stream) ℕ
+unfoldable pub behind_name : Name → Stream → Result (Field × Stream) ℕ
 behind_name n s = cond (next_is (codes "optional") s) (field_from n true (rest_of s)) (field_from n false s)
 
 behind_name-local : (n : Name) (end : ℕ) (xs : List Sign) → Local (behind_name n) end xs
 unfolding behind_name
 behind_name-local n end xs = local_word end (codes "optional") (λ _. field_from n true) (λ _. field_from n false) (λ _. field_from-local n true end) (λ _. field_from-local n false end) xs
 
-field_is : (s : Stream) → field_at s ≡ (name_at s >>= (λ n. behind_name n.0 n.1))
+pub field_is : (s : Stream) → field_at s ≡ (name_at s >>= (λ n. behind_name n.0 n.1))
 unfolding field_at field_from behind_name
 field_is s = each (name_at s)
   where
@@ -235,7 +235,7 @@ pub target-local : (end : ℕ) (xs : List Sign) → Local target_at end xs
 unfolding target_at
 target-local end xs = (local_word end (codes "&") (λ s296. (λ s297. type_name_at s297 >>= (λ s298. Ok (TV.Link s298.0, s298.1)))) (λ s296. (λ s299. type_name_at s299 >>= (λ s300. Ok (TV.Type s300.0, s300.1)))) (λ s296. (local_bind end (λ s294. type_name_at s294) (λ s293. (λ s295. Ok (TV.Link s293, s295))) (type-local end) (λ s293. (local_pure {A = Target} (TV.Link s293) end)))) (λ s296. (local_bind end (λ s291. type_name_at s291) (λ s290. (λ s292. Ok (TV.Type s290, s292))) (type-local end) (λ s290. (local_pure {A = Target} (TV.Type s290) end))))) xs
 
-kinds : Stream → Result (Option Mark × Stream) ℕ
+unfoldable pub kinds : Stream → Result (Option Mark × Stream) ℕ
 kinds s = cond (next_is (codes "null") s) (Ok (Some (MV.Kind KV.Null), (rest_of s))) (cond (next_is (codes "bool") s) (Ok (Some (MV.Kind KV.Bool), (rest_of s))) (cond (next_is (codes "int") s) (Ok (Some (MV.Kind KV.Int), (rest_of s))) (cond (next_is (codes "float") s) (Ok (Some (MV.Kind (KV.Float (place s))), rest_of s)) (cond (next_is (codes "string") s) (Ok (Some (MV.Kind KV.String), (rest_of s))) (cond (next_is (codes "bytes") s) (Ok (Some (MV.Kind KV.Bytes), (rest_of s))) (cond (next_is (codes "list") s) (Ok (Some (MV.Kind KV.List), (rest_of s))) (cond (next_is (codes "map") s) (Ok (Some (MV.Kind KV.Map), (rest_of s))) (cond (next_is (codes "link") s) (Ok (Some (MV.Kind KV.Link), (rest_of s))) (Ok (None, s))))))))))
 
 kinds-local : (end : ℕ) (xs : List Sign) → Local kinds end xs
@@ -248,14 +248,14 @@ chosen_mark : (b : Bool) (k : KindWord) (more : Option KindWord) (s : Stream) (r
 chosen_mark true k more s r e = refl
 chosen_mark false k more s r e = e
 
-kinds_is : (s : Stream) → done {A = Option Mark × Stream} (kind_mark (kind_of s) s) ≡ kinds s
+pub kinds_is : (s : Stream) → done {A = Option Mark × Stream} (kind_mark (kind_of s) s) ≡ kinds s
 unfolding kind_of kinds
 kinds_is s = chosen_mark (next_is (codes "null") s) KV.Null _ s _ (chosen_mark (next_is (codes "bool") s) KV.Bool _ s _ (chosen_mark (next_is (codes "int") s) KV.Int _ s _ (chosen_mark (next_is (codes "float") s) (KV.Float (place s)) _ s _ (chosen_mark (next_is (codes "string") s) KV.String _ s _ (chosen_mark (next_is (codes "bytes") s) KV.Bytes _ s _ (chosen_mark (next_is (codes "list") s) KV.List _ s _ (chosen_mark (next_is (codes "map") s) KV.Map _ s _ (chosen_mark (next_is (codes "link") s) KV.Link _ s _ (refl)))))))))
 
-marks : Stream → Result (Option Mark × Stream) ℕ
+unfoldable pub marks : Stream → Result (Option Mark × Stream) ℕ
 marks s = cond (is_text s.signs) (text_at s >>= (λ t. Ok (Some (MV.Text t.0), t.1))) (kinds s)
 
-mark_is : (s : Stream) → mark_at s ≡ marks s
+pub mark_is : (s : Stream) → mark_at s ≡ marks s
 unfolding mark_at marks
 mark_is s = ap (λ (r : Result (Option Mark × Stream) ℕ). cond (is_text s.signs) (text_at s >>= (λ t. Ok (Some (MV.Text t.0), t.1))) r) (kinds_is s)
 

@@ -82,6 +82,15 @@ opens_shift F G part end pre us xs e alike o =
 pub opens_equal : {A : Type 0} (F G : Stream → Result (A × Stream) ℕ) (part : A → List Sign → List Sign → Type 0) → ((s : Stream) → F s ≡ G s) → (end : ℕ) (xs : List Sign) → Opens G part end xs → Opens F part end xs
 opens_equal F G part same end xs o = opens_shift F G part end [] xs xs refl (λ front rest zs are k. same (reading end (front ++ zs))) o
 
+-- a text of one rule that is one of another
+pub opens_weak : {A : Type 0} (first part : A → List Sign → List Sign → Type 0) (end : ℕ) (F : Stream → Result (A × Stream) ℕ) → ((a : A) (front : List Sign) → IsWhole first a front → IsWhole part a front)
+    → (xs : List Sign) → Opens F first end xs → Opens F part end xs
+opens_weak first part end F into xs o =
+    elim o.is [
+      | inl h ↦ record { is = inl (record { found = h.found; whole = into h.found.part h.found.front h.whole }) }
+      | inr h ↦ record { is = inr (record { stops = h.stops; grows = record { more = h.grows.more; made = h.grows.made; whole = into h.grows.made (h.stops.front ++ h.grows.more) h.grows.whole } }) }
+    ]
+
 -- ---- parts one after the other
 
 pub opens_pure : {A : Type 0} (a : A) (part : A → List Sign → List Sign → Type 0) (end : ℕ) → ((ws : List Sign) → part a ws ws) → (xs : List Sign) → Opens (λ s. Ok (a, s)) part end xs
