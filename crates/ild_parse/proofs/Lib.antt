@@ -15,5 +15,6 @@ pub mod LocalRules
 pub mod Opens
 pub mod OpensForms
 pub mod OpensParts
+pub mod OpensBodies
 pub mod LocalBodies
 pub mod Fault
