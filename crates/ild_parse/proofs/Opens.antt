@@ -18,6 +18,7 @@ pub record Grows {A : Type 0} (part : A → List Sign → List Sign → Type 0) 
   pub made : A
   pub whole : IsWhole part made (front ++ more)
 
+-- it reads a text of its rule, or stops where these tokens would go on to one
 pub record Reads {A : Type 0} (F : Stream → Result (A × Stream) ℕ) (part : A → List Sign → List Sign → Type 0) (end : ℕ) (xs : List Sign) : Type 0 where
   pub found : Found F end xs
   pub whole : IsWhole part found.part found.front
@@ -103,7 +104,7 @@ pub opens_fail : {A : Type 0} (part : A → List Sign → List Sign → Type 0) 
 opens_fail part end g xs =
     record { is = inr (record { stops = record { front = []; rest = xs; are = refl; fails = λ zs same. ap (λ (n : ℕ). Err n) (see_same (place_of end) (place_next end) xs zs same) }; grows = g }) }
 
--- the first of two stops
+-- one part and then another, which may know the first
 pub opens_bind : {A B : Type 0} (first : A → List Sign → List Sign → Type 0) (part : B → List Sign → List Sign → Type 0) (end : ℕ) (f : Stream → Result (A × Stream) ℕ) (g : A → Stream → Result (B × Stream) ℕ)
     → ((a : A) (front : List Sign) → IsWhole first a front → (xs : List Sign) → Opens (g a) (Behind part front) end xs)
     → (xs : List Sign) → Opens f first end xs → Opens (λ s. f s >>= (λ y. g y.0 y.1)) part end xs

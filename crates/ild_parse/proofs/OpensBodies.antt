@@ -1,5 +1,5 @@
 -- Bodies, declarations and schemas go on to a text of their rule.
-use Rattle.std.proofs.Common.{◌≡◌, ℕ, zero, suc, ◌+◌, ◌<◌, Bool, true, false, cond, List, [], ◌∷◌, ◌++◌, length, Result, Ok, Err, refl, ◌∙◌, inl, inr, arith}
+use Rattle.std.proofs.Common.{◌≡◌, ℕ, zero, suc, ◌+◌, ◌<◌, Bool, true, false, cond, List, [], ◌∷◌, ◌++◌, length, Result, Ok, Err, refl, ap, ◌∙◌, inl, inr, arith}
 use Rattle.std.specs.Prelude.{codes, ◌⊎◌}
 use Rattle.ild_parse.specs.declared.ast.Decl.TheVariants as DV
 use Rattle.ild_parse.specs.declared.ast.TypeDecl.{TypeDecl}
@@ -16,12 +16,53 @@ use Rattle.ild_parse.specs.DeriveForm.{IsMapForm, IsStructForm, IsUnionForm, IsE
 use Rattle.ild_parse.specs.DerivePart.{IsField, IsMember, IsEnumMember, IsMap, IsStruct, IsUnion, IsEnum, IsBody, IsDecl}
 use Rattle.ild_parse.proofs.Complete.{reading}
 use Rattle.ild_parse.proofs.Local.{IsNext, Stops, same_self, same_behind, see_behind}
-use Rattle.ild_parse.proofs.LocalBodies.{IsLess, all_of, all_end, all_stop, all_more, field_less, member_less, enum_member_less, decl_less}
+use Rattle.ild_parse.proofs.SoundParts.{field-sound, member-sound, enum_member-sound, decl-sound}
+use Rattle.ild_parse.proofs.Shorter.{field_shorter, member_shorter, enum_member_shorter, decl_shorter}
 use Rattle.ild_parse.proofs.Opens.{Opens, Reads, Waits, Behind, opens_shift, opens_weak, opens_pure, opens_bind, opens_if, opens_word, opens_last, opens_after}
 use Rattle.ild_parse.proofs.OpensForms.{type-opens, map_form-opens, struct_form-opens, union_form-opens, enum_form-opens, unit_form-opens, optional_form-opens, needed_form-opens}
 use Rattle.ild_parse.proofs.OpensParts.{reference-opens, field-opens, member-opens, enum_member-opens}
 
 -- ---- parts that repeat
+
+-- what is read has a token or more
+abbrev IsLess : {A : Type 0} → (Stream → Result (A × Stream) ℕ) → Type 0
+IsLess {A} one = (s : Stream) (y : A × Stream) → one s ≡ Ok y → length y.1.signs < length s.signs
+
+read_on : {A : Type 0} → (Stream → Result (A × Stream) ℕ) → (Stream → Bool) → ℕ → A × Stream → Result (List A × Stream) ℕ
+read_on one ends n x = many_at one ends n x.1 >>= (λ xs. Ok (x.0 ∷ xs.0, xs.1))
+
+-- more room than tokens is enough room
+room_alike : {A : Type 0} (one : Stream → Result (A × Stream) ℕ) (ends : Stream → Bool) → IsLess one → (n m : ℕ) (s : Stream) → length s.signs < n → length s.signs < m → many_at one ends n s ≡ many_at one ends m s
+unfolding many_at read_on
+room_alike one ends less zero m s small little = absurd (omega (arith, small))
+room_alike one ends less (suc n) zero s small little = absurd (omega (arith, little))
+room_alike {A} one ends less (suc n) (suc m) s small little = ap (λ (r : Result (List A × Stream) ℕ). cond (ends s) (Ok ([], s)) r) (each (λ x q. let l = less s x q in room_alike one ends less n m x.1 (omega (arith, l, small)) (omega (arith, l, little))) (one s) refl)
+  where
+    each : ((x : A × Stream) → one s ≡ Ok x → many_at one ends n x.1 ≡ many_at one ends m x.1) → (r : Result (A × Stream) ℕ) → one s ≡ r → (r >>= read_on one ends n) ≡ (r >>= read_on one ends m)
+    each again (Err e) q = refl
+    each again (Ok x) q = ap (λ (z : Result (List A × Stream) ℕ). z >>= (λ xs. Ok (x.0 ∷ xs.0, xs.1))) (again x q)
+
+all_of : {A : Type 0} → (Stream → Result (A × Stream) ℕ) → (Stream → Bool) → Stream → Result (List A × Stream) ℕ
+all_of one ends s = many_at one ends (most s) s
+
+all_end : {A : Type 0} (one : Stream → Result (A × Stream) ℕ) (ends : Stream → Bool) (s : Stream) → ends s ≡ true → all_of one ends s ≡ Ok ([], s)
+unfolding all_of many_at
+all_end one ends s q =
+    let k : most s ≡ suc (length s.signs) = omega arith in
+    rw (k, q) refl
+
+all_stop : {A : Type 0} (one : Stream → Result (A × Stream) ℕ) (ends : Stream → Bool) (s : Stream) (at : ℕ) → ends s ≡ false → one s ≡ Err at → all_of one ends s ≡ Err at
+unfolding all_of many_at
+all_stop one ends s at q h =
+    let k : most s ≡ suc (length s.signs) = omega arith in
+    rw (k, q, h) refl
+
+all_more : {A : Type 0} (one : Stream → Result (A × Stream) ℕ) (ends : Stream → Bool) → IsLess one → (s : Stream) (x : A × Stream) → ends s ≡ false → one s ≡ Ok x → all_of one ends s ≡ (all_of one ends x.1 >>= (λ xs. Ok (x.0 ∷ xs.0, xs.1)))
+unfolding all_of many_at
+all_more one ends less s x q h =
+    let k : most s ≡ suc (length s.signs) = omega arith in
+    let l = less s x h in
+    rw (k, q, h, room_alike one ends less (length s.signs) (most x.1) x.1 l (omega arith)) refl
 
 opens_many : {A : Type 0} (end : ℕ) (one : Stream → Result (A × Stream) ℕ) (part : A → List Sign → List Sign → Type 0) (ends : List Sign → Bool) → IsNext ends → IsLess one → ((xs : List Sign) → Opens one part end xs)
     → (n : ℕ) (xs : List Sign) → length xs < n → Opens (all_of one (λ s. ends s.signs)) (AreParts part) end xs
@@ -74,6 +115,18 @@ opens_many {A} end one part ends next less each (suc n) xs small =
 all-opens : {A : Type 0} (one : Stream → Result (A × Stream) ℕ) (part : A → List Sign → List Sign → Type 0) (ends : List Sign → Bool) → IsNext ends → IsLess one → (end : ℕ) → ((xs : List Sign) → Opens one part end xs)
     → (xs : List Sign) → Opens (all_of one (λ s. ends s.signs)) (AreParts part) end xs
 all-opens one part ends next less end each xs = opens_many end one part ends next less each (length xs + 1) xs (omega arith)
+
+field_less : IsLess field_at
+field_less s y e = field_shorter y.0 s.signs y.1.signs (field-sound s y e)
+
+member_less : IsLess member_at
+member_less s y e = member_shorter y.0 s.signs y.1.signs (member-sound s y e)
+
+enum_member_less : IsLess enum_member_at
+enum_member_less s y e = enum_member_shorter y.0 s.signs y.1.signs (enum_member-sound s y e)
+
+decl_less : IsLess decl_at
+decl_less s y e = decl_shorter y.0 s.signs y.1.signs (decl-sound s y e)
 
 -- ---- bodies
 

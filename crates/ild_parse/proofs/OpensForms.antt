@@ -1,7 +1,6 @@
 -- Words, names, texts, numbers, settings and representations go on to a text of their rule.
-use Rattle.std.proofs.Common.{◌≡◌, ℕ, zero, Bool, true, false, cond, List, [], ◌∷◌, ◌++◌, Result, Ok, Err, Option, Some, None, refl, sym, ap, subst, inl, inr}
+use Rattle.std.proofs.Common.{◌≡◌, ℕ, Bool, true, false, cond, List, [], ◌∷◌, ◌++◌, Result, Ok, Err, Option, Some, None, refl, subst, inl, inr}
 use Rattle.std.specs.Prelude.{codes, ℤ, pos}
-use Rattle.std.proofs.lemmas.Bool.{false≢true}
 use Rattle.ild_lex.specs.declared.token.TokenKind.TheVariants as K
 use Rattle.ild_parse.specs.declared.ast.TypeName.{TypeName}
 use Rattle.ild_parse.specs.declared.ast.Name.{Name}
@@ -16,7 +15,7 @@ use Rattle.ild_parse.specs.Stream.{Sign, Stream, place, begins, next_is, rest_of
 use Rattle.ild_parse.specs.Value.{number_of, meaning}
 use Rattle.ild_parse.specs.Read.{◌>>=◌, literal_at, type_name_at, name_at, text_at, number_at, value_here, setting_at, one_setting_at, both_settings_at, two_settings_at}
 use Rattle.ild_parse.specs.Form.{pairs_at, map_form_at, struct_form_at, envelope_at, union_form_at, enum_form_at, unit_form_at, optional_form_at, needed_form_at}
-use Rattle.ild_parse.specs.Derive.{IsWord, IsTypeName, IsName, IsText, IsNumber, IsOptional, IsFormed}
+use Rattle.ild_parse.specs.Derive.{IsTypeName, IsName, IsText, IsNumber, IsOptional, IsFormed}
 use Rattle.ild_parse.specs.DeriveForm.{IsSetting, IsOneSetting, AreBothSettings, AreTwoSettings, IsPairs, IsEnvelope, IsMapForm, IsStructForm, IsUnionForm, IsEnumForm, IsUnitForm}
 use Rattle.ild_parse.proofs.Complete.{reading}
 use Rattle.ild_parse.proofs.Local.{token_read}
@@ -33,6 +32,7 @@ kept : {A : Type 0} (b : Bool) (x a : A) → cond b (Some x) None ≡ Some a →
 kept true x a e = (refl, cc)
 kept false x a e = absurd cc
 
+-- a type's name comes here
 type_grows : Grows IsTypeName []
 type_grows = record { more = record { kind = K.Word; at = 0; text = codes "A" } ∷ []; made = record { at = 0; name = codes "A" }; whole = λ ws. (refl, refl, refl, refl) }
 
@@ -46,6 +46,7 @@ unfolding type_name_at
 type-opens end xs = opens_token IsTypeName type_name_at end (λ t. cond (is_type (t ∷ [])) (Some (record { at = t.at; name = t.text })) None) refl
     (λ t us. found_if {A = TypeName} end t us (is_type (t ∷ [])) (record { at = t.at; name = t.text })) type_grows type_whole xs
 
+-- a name comes here
 name_grows : Grows IsName []
 name_grows = record { more = record { kind = K.Word; at = 0; text = codes "a" } ∷ []; made = record { at = 0; name = codes "a" }; whole = λ ws. (refl, refl, refl, refl) }
 
@@ -59,6 +60,7 @@ unfolding name_at
 name-opens end xs = opens_token IsName name_at end (λ t. cond (is_name (t ∷ [])) (Some (record { at = t.at; name = t.text })) None) refl
     (λ t us. found_if {A = Name} end t us (is_name (t ∷ [])) (record { at = t.at; name = t.text })) name_grows name_whole xs
 
+-- a text comes here
 text_grows : Grows IsText []
 text_grows = record { more = record { kind = K.Text; at = 0; text = 34 ∷ 34 ∷ [] } ∷ []; made = record { at = 0; text = meaning (34 ∷ 34 ∷ []) }; whole = λ ws. (refl, refl, refl, refl) }
 
@@ -76,6 +78,7 @@ numbered : ℕ → Option ℤ → Option Number
 numbered at None = None
 numbered at (Some n) = Some (record { at = at; value = n })
 
+-- a number comes here
 number_grows : Grows IsNumber []
 number_grows = record { more = record { kind = K.Number; at = 0; text = codes "0" } ∷ []; made = record { at = 0; value = pos 0 }; whole = λ ws. (refl, refl, refl, refl) }
 

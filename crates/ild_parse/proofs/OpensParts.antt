@@ -1,6 +1,7 @@
 -- References, fields and members go on to a text of their rule.
-use Rattle.std.proofs.Common.{◌≡◌, ℕ, zero, suc, ◌+◌, Bool, true, false, cond, List, [], ◌∷◌, ◌++◌, Result, Ok, Err, Option, Some, None, refl, arith}
+use Rattle.std.proofs.Common.{◌≡◌, ℕ, zero, suc, ◌+◌, Bool, true, false, cond, List, [], ◌∷◌, ◌++◌, Result, Ok, Err, Option, Some, None, refl, ap, arith}
 use Rattle.std.specs.Prelude.{codes}
+use Rattle.ild_parse.specs.declared.ast.Name.{Name}
 use Rattle.ild_parse.specs.declared.ast.Field.{Field}
 use Rattle.ild_parse.specs.declared.ast.Opt.{Opt}
 use Rattle.ild_parse.specs.declared.ast.Opt.TheVariants as OV
@@ -9,19 +10,20 @@ use Rattle.ild_parse.specs.declared.ast.Implicit.TheVariants as IV
 use Rattle.ild_parse.specs.declared.ast.Member.{Member}
 use Rattle.ild_parse.specs.declared.ast.Target.{Target}
 use Rattle.ild_parse.specs.declared.ast.Target.TheVariants as TV
+use Rattle.ild_parse.specs.declared.ast.Mark.{Mark}
 use Rattle.ild_parse.specs.declared.ast.Mark.TheVariants as MV
+use Rattle.ild_parse.specs.declared.ast.KindWord.{KindWord}
 use Rattle.ild_parse.specs.declared.ast.KindWord.TheVariants as KV
 use Rattle.ild_parse.specs.Reference.{Reference, refer, Refers, named, link, list, map}
-use Rattle.ild_parse.specs.Stream.{Sign, Stream, place, place_of, begins, next_is, rest_of, is_text, is_number}
+use Rattle.ild_parse.specs.Stream.{Sign, Stream, place, begins, next_is, rest_of, is_text, is_number}
 use Rattle.ild_parse.specs.Read.{◌>>=◌, literal_at, type_name_at, name_at, text_at, number_at}
-use Rattle.ild_parse.specs.Refer.{named_at, link_at, ref_with, list_with, map_with, inline_at, ref_at, deepest}
-use Rattle.ild_parse.specs.Part.{implicit_at, rename_opt_at, implicit_opt_at, opt_at, other_opt_at, opts_behind, opts_at, field_at, target_at, mark_at, member_at, quoted_at, enum_member_at}
-use Rattle.ild_parse.specs.Derive.{IsTypeName, IsName, IsText, IsNumber, BeginsAt, IsOptional, IsReference, IsInline}
+use Rattle.ild_parse.specs.Refer.{behind_word, named_at, link_at, ref_with, list_with, map_with, inline_at, ref_at, deepest}
+use Rattle.ild_parse.specs.Part.{implicit_at, rename_opt_at, implicit_opt_at, opt_at, other_opt_at, opts_behind, opts_at, field_at, target_at, kind_of, kind_mark, mark_at, member_at, quoted_at, enum_member_at}
+use Rattle.ild_parse.specs.Derive.{IsTypeName, IsName, IsText, IsNumber, IsOptional, IsReference, IsInline}
 use Rattle.ild_parse.specs.DerivePart.{IsImplicit, IsOpt, renames, is_implicit, AreOpts, IsField, IsTarget, IsMark, IsMember, IsQuoted, IsEnumMember}
 use Rattle.ild_parse.proofs.Sound.{done}
 use Rattle.ild_parse.proofs.SoundParts.{AreTwo, one_opt, rename_then, implicit_then}
 use Rattle.ild_parse.proofs.Shorter.{inline_shorter, target_shorter}
-use Rattle.ild_parse.proofs.LocalRules.{ref_from, ref_is, field_from, behind_name, field_is, kinds, marks, mark_is}
 use Rattle.ild_parse.proofs.Opens.{Opens, Behind, IsSign, begins_more, opens_equal, opens_weak, opens_pure, opens_bind, opens_placed, opens_if, opens_word, opens_last, opens_after}
 use Rattle.ild_parse.proofs.OpensForms.{type-opens, name-opens, text-opens, number-opens}
 
@@ -29,16 +31,6 @@ use Rattle.ild_parse.proofs.OpensForms.{type-opens, name-opens, text-opens, numb
 
 one_more : (room : ℕ) → suc room ≡ room + 1
 one_more room = omega arith
-
--- an opt that renames, or doesn't, or differs from another
-abbrev IsRename : Opt → List Sign → List Sign → Type 0
-IsRename o xs ys = IsOpt o xs ys × (renames o ≡ true)
-
-abbrev IsOther : Opt → List Sign → List Sign → Type 0
-IsOther o xs ys = IsOpt o xs ys × (is_implicit o ≡ true)
-
-abbrev IsSecond : Opt → Opt → List Sign → List Sign → Type 0
-IsSecond first o xs ys = IsOpt o xs ys × AreTwo first o
 
 pub named-opens : (room : ℕ) → (end : ℕ) (xs : List Sign) → Opens named_at (IsInline room) end xs
 unfolding named_at
@@ -48,7 +40,17 @@ pub link-opens : (room : ℕ) → (end : ℕ) (xs : List Sign) → Opens link_at
 unfolding link_at
 link-opens room end xs = (opens_after (IsInline (suc room)) end (codes "&") (λ s9. type_name_at s9 >>= (λ y10. Ok (link y10.0, y10.1))) (λ t7 e8. (λ xs14. opens_bind IsTypeName (Behind (IsInline (suc room)) (t7 ∷ [])) end type_name_at (λ a16 s15. Ok (link a16, s15)) (λ a11 front12 d13. opens_pure (link a11) (Behind (Behind (IsInline (suc room)) (t7 ∷ [])) front12) end (λ ws. (room, one_more room, (front12 ++ ws, (e8.0, e8.1, refl), d13 ws)))) xs14 (type-opens end xs14)))) xs
 
--- an optional word, and what comes behind it
+-- behind `nullable` or without it
+ref_from : (Stream → Result (Refers × Stream) ℕ) → ℕ → Bool → Stream → Result (Reference × Stream) ℕ
+ref_from inline at nullable s = inline s >>= (λ i. Ok (refer at nullable (place s) i.0, i.1))
+
+ref_is : (inline : Stream → Result (Refers × Stream) ℕ) (s : Stream) → ref_with inline s ≡ cond (next_is (codes "nullable") s) (ref_from inline (place s) true (rest_of s)) (ref_from inline (place s) false s)
+unfolding ref_with ref_from
+ref_is inline s =
+    let Q : Bool → Type 0 = λ v. (inline (cond v (rest_of s) s) >>= (λ i. done {A = Reference × Stream} (refer (place s) v (place (cond v (rest_of s) s)) i.0, i.1))) ≡ cond v (ref_from inline (place s) true (rest_of s)) (ref_from inline (place s) false s) in
+    elim (next_is (codes "nullable") s) as Q [ true ↦ refl | false ↦ refl ]
+
+-- a reference or a target has a token or more
 nothing_inline : (room : ℕ) (r : Refers) → IsInline room r [] [] → ⊥
 nothing_inline room r h = absurd (omega (arith, inline_shorter room r [] [] h))
 
@@ -86,6 +88,16 @@ reference-opens end xs = ref-opens deepest (inline_at deepest) end (inline-opens
 
 -- ---- fields
 
+-- an opt that renames, or doesn't, or differs from another
+abbrev IsRename : Opt → List Sign → List Sign → Type 0
+IsRename o xs ys = IsOpt o xs ys × (renames o ≡ true)
+
+abbrev IsOther : Opt → List Sign → List Sign → Type 0
+IsOther o xs ys = IsOpt o xs ys × (is_implicit o ≡ true)
+
+abbrev IsSecond : Opt → Opt → List Sign → List Sign → Type 0
+IsSecond first o xs ys = IsOpt o xs ys × AreTwo first o
+
 pub implicit-opens : (end : ℕ) (xs : List Sign) → Opens implicit_at IsImplicit end xs
 unfolding implicit_at
 implicit-opens end xs = (opens_if IsImplicit end is_text (λ t us zs. refl) (λ s69. text_at s69 >>= (λ y71. Ok (IV.Text y71.0, y71.1))) (λ s70. cond (is_number s70.signs) (number_at s70 >>= (λ y72. Ok (IV.Number y72.0, y72.1))) (cond (next_is (codes "true") s70) (Ok (IV.True, (rest_of s70))) (cond (next_is (codes "false") s70) (Ok (IV.False, (rest_of s70))) (Err (place s70))))) ((λ xs76. opens_bind IsText IsImplicit end text_at (λ a78 s77. Ok (IV.Text a78, s77)) (λ a73 front74 d75. opens_pure (IV.Text a73) (Behind IsImplicit front74) end (λ ws. d75 ws)) xs76 (text-opens end xs76))) (opens_if IsImplicit end is_number (λ t us zs. refl) (λ s79. number_at s79 >>= (λ y81. Ok (IV.Number y81.0, y81.1))) (λ s80. cond (next_is (codes "true") s80) (Ok (IV.True, (rest_of s80))) (cond (next_is (codes "false") s80) (Ok (IV.False, (rest_of s80))) (Err (place s80)))) ((λ xs85. opens_bind IsNumber IsImplicit end number_at (λ a87 s86. Ok (IV.Number a87, s86)) (λ a82 front83 d84. opens_pure (IV.Number a82) (Behind IsImplicit front83) end (λ ws. d84 ws)) xs85 (number-opens end xs85))) (opens_word IsImplicit end (codes "true") (λ n90 s91. Ok (IV.True, s91)) (λ s92. cond (next_is (codes "false") s92) (Ok (IV.False, (rest_of s92))) (Err (place s92))) (λ t88 e89. opens_pure (IV.True) (Behind IsImplicit (t88 ∷ [])) end (λ ws. (e89.0, e89.1, refl))) (opens_last IsImplicit end (codes "false") (λ n95 s96. Ok (IV.False, s96)) (λ t93 e94. opens_pure (IV.False) (Behind IsImplicit (t93 ∷ [])) end (λ ws. (e94.0, e94.1, refl))))))) xs
@@ -111,6 +123,26 @@ pub opts-opens : (end : ℕ) (xs : List Sign) → Opens opts_at AreOpts end xs
 unfolding opts_at opts_behind
 opts-opens end xs = (opens_word AreOpts end (codes "(") (λ n130 s131. opt_at s131 >>= (λ y133. cond (next_is (codes ")") y133.1) (Ok (y133.0 ∷ [], (rest_of y133.1))) ((other_opt_at y133.0) y133.1 >>= (λ y134. literal_at (codes ")") y134.1 >>= (λ s135. Ok (y133.0 ∷ y134.0 ∷ [], s135)))))) (λ s132. Ok ([], s132)) (λ t128 e129. (λ xs139. opens_bind IsOpt (Behind AreOpts (t128 ∷ [])) end opt_at (λ a141 s140. cond (next_is (codes ")") s140) (Ok (a141 ∷ [], (rest_of s140))) ((other_opt_at a141) s140 >>= (λ y142. literal_at (codes ")") y142.1 >>= (λ s143. Ok (a141 ∷ y142.0 ∷ [], s143))))) (λ a136 front137 d138. opens_word (Behind (Behind AreOpts (t128 ∷ [])) front137) end (codes ")") (λ n146 s147. Ok (a136 ∷ [], s147)) (λ s148. (other_opt_at a136) s148 >>= (λ y149. literal_at (codes ")") y149.1 >>= (λ s150. Ok (a136 ∷ y149.0 ∷ [], s150)))) (λ t144 e145. opens_pure (a136 ∷ []) (Behind (Behind (Behind AreOpts (t128 ∷ [])) front137) (t144 ∷ [])) end (λ ws. (front137 ++ (t144 ∷ ws), t144 ∷ ws, (e129.0, e129.1, refl), (t144 ∷ ws, d138 (t144 ∷ ws), refl), (e145.0, e145.1, refl), (one_opt a136).0, (one_opt a136).1))) ((λ xs154. opens_bind (IsSecond a136) (Behind (Behind AreOpts (t128 ∷ [])) front137) end (other_opt_at a136) (λ a156 s155. literal_at (codes ")") s155 >>= (λ s157. Ok (a136 ∷ a156 ∷ [], s157))) (λ a151 front152 d153. opens_after (Behind (Behind (Behind AreOpts (t128 ∷ [])) front137) front152) end (codes ")") (λ s160. Ok (a136 ∷ a151 ∷ [], s160)) (λ t158 e159. opens_pure (a136 ∷ a151 ∷ []) (Behind (Behind (Behind (Behind AreOpts (t128 ∷ [])) front137) front152) (t158 ∷ [])) end (λ ws. (front137 ++ (front152 ++ (t158 ∷ ws)), t158 ∷ ws, (e129.0, e129.1, refl), (front152 ++ (t158 ∷ ws), d138 (front152 ++ (t158 ∷ ws)), (t158 ∷ ws, (d153 (t158 ∷ ws)).0, refl)), (e159.0, e159.1, refl), (d153 (t158 ∷ ws)).1.0, (d153 (t158 ∷ ws)).1.1)))) xs154 (other_opt-opens a136 end xs154)))) xs139 (opt-opens end xs139))) (opens_pure ([]) AreOpts end (λ ws. refl))) xs
 
+-- a field, behind its name and behind `optional`
+field_from : Name → Bool → Stream → Result (Field × Stream) ℕ
+field_from n b s = (ref_at deepest) s >>= (λ s278. opts_at s278.1 >>= (λ s282. Ok (record { name = n; optional = b; value = s278.0; opts = s282.0 }, s282.1)))
+
+behind_name : Name → Stream → Result (Field × Stream) ℕ
+behind_name n s = cond (next_is (codes "optional") s) (field_from n true (rest_of s)) (field_from n false s)
+
+field_is : (s : Stream) → field_at s ≡ (name_at s >>= (λ n. behind_name n.0 n.1))
+unfolding field_at field_from behind_name
+field_is s = each (name_at s)
+  where
+    from : (n : Name) (t : Stream) → (ref_at deepest (behind_word (codes "optional") t) >>= (λ r. opts_at r.1 >>= (λ q. done {A = Field × Stream} (record { name = n; optional = next_is (codes "optional") t; value = r.0; opts = q.0 }, q.1)))) ≡ behind_name n t
+    from n t =
+        let Q : Bool → Type 0 = λ v. (ref_at deepest (cond v (rest_of t) t) >>= (λ r. opts_at r.1 >>= (λ q. done {A = Field × Stream} (record { name = n; optional = v; value = r.0; opts = q.0 }, q.1)))) ≡ cond v (field_from n true (rest_of t)) (field_from n false t) in
+        elim (next_is (codes "optional") t) as Q [ true ↦ refl | false ↦ refl ]
+
+    each : (r : Result (Name × Stream) ℕ) → (r >>= (λ n. ref_at deepest (behind_word (codes "optional") n.1) >>= (λ r. opts_at r.1 >>= (λ q. done {A = Field × Stream} (record { name = n.0; optional = next_is (codes "optional") n.1; value = r.0; opts = q.0 }, q.1))))) ≡ (r >>= (λ n. behind_name n.0 n.1))
+    each (Ok n) = from n.0 n.1
+    each (Err e) = refl
+
 pub field-opens : (end : ℕ) (xs : List Sign) → Opens field_at IsField end xs
 unfolding behind_name field_from
 field-opens end xs = opens_equal field_at (λ s. name_at s >>= (λ n. behind_name n.0 n.1)) IsField field_is end xs (opens_bind IsName IsField end name_at (λ a166 s165. cond (next_is (codes "optional") s165) ((ref_at deepest) (rest_of s165) >>= (λ y167. opts_at y167.1 >>= (λ y168. Ok (record { name = a166; optional = true; value = y167.0; opts = y168.0 }, y168.1)))) ((ref_at deepest) s165 >>= (λ y169. opts_at y169.1 >>= (λ y170. Ok (record { name = a166; optional = false; value = y169.0; opts = y170.0 }, y170.1))))) (λ a161 front162 d163. opens_word (Behind IsField front162) end (codes "optional") (λ n173 s174. (ref_at deepest) s174 >>= (λ y176. opts_at y176.1 >>= (λ y177. Ok (record { name = a161; optional = true; value = y176.0; opts = y177.0 }, y177.1)))) (λ s175. (ref_at deepest) s175 >>= (λ y191. opts_at y191.1 >>= (λ y192. Ok (record { name = a161; optional = false; value = y191.0; opts = y192.0 }, y192.1)))) (λ t171 e172. (λ xs181. opens_bind (IsReference deepest) (Behind (Behind IsField front162) (t171 ∷ [])) end (ref_at deepest) (λ a183 s182. opts_at s182 >>= (λ y184. Ok (record { name = a161; optional = true; value = a183; opts = y184.0 }, y184.1))) (λ a178 front179 d180. (λ xs188. opens_bind AreOpts (Behind (Behind (Behind IsField front162) (t171 ∷ [])) front179) end opts_at (λ a190 s189. Ok (record { name = a161; optional = true; value = a178; opts = a190 }, s189)) (λ a185 front186 d187. opens_pure (record { name = a161; optional = true; value = a178; opts = a185 }) (Behind (Behind (Behind (Behind IsField front162) (t171 ∷ [])) front179) front186) end (λ ws. (t171 ∷ (front179 ++ (front186 ++ ws)), front179 ++ (front186 ++ ws), front186 ++ ws, d163 (t171 ∷ (front179 ++ (front186 ++ ws))), (e172.0, e172.1, refl), d180 (front186 ++ ws), d187 ws))) xs188 (opts-opens end xs188))) xs181 (reference-opens end xs181))) ((λ xs196. opens_bind (IsReference deepest) (Behind IsField front162) end (ref_at deepest) (λ a198 s197. opts_at s197 >>= (λ y199. Ok (record { name = a161; optional = false; value = a198; opts = y199.0 }, y199.1))) (λ a193 front194 d195. (λ xs203. opens_bind AreOpts (Behind (Behind IsField front162) front194) end opts_at (λ a205 s204. Ok (record { name = a161; optional = false; value = a193; opts = a205 }, s204)) (λ a200 front201 d202. opens_pure (record { name = a161; optional = false; value = a193; opts = a200 }) (Behind (Behind (Behind IsField front162) front194) front201) end (λ ws. (front194 ++ (front201 ++ ws), front194 ++ (front201 ++ ws), front201 ++ ws, d163 (front194 ++ (front201 ++ ws)), refl, d195 (front201 ++ ws), d202 ws))) xs203 (opts-opens end xs203))) xs196 (reference-opens end xs196)))) xs (name-opens end xs))
@@ -120,6 +152,26 @@ field-opens end xs = opens_equal field_at (λ s. name_at s >>= (λ n. behind_nam
 pub target-opens : (end : ℕ) (xs : List Sign) → Opens target_at IsTarget end xs
 unfolding target_at
 target-opens end xs = (opens_word IsTarget end (codes "&") (λ n208 s209. type_name_at s209 >>= (λ y211. Ok (TV.Link y211.0, y211.1))) (λ s210. type_name_at s210 >>= (λ y218. Ok (TV.Type y218.0, y218.1))) (λ t206 e207. (λ xs215. opens_bind IsTypeName (Behind IsTarget (t206 ∷ [])) end type_name_at (λ a217 s216. Ok (TV.Link a217, s216)) (λ a212 front213 d214. opens_pure (TV.Link a212) (Behind (Behind IsTarget (t206 ∷ [])) front213) end (λ ws. (front213 ++ ws, (e207.0, e207.1, refl), d214 ws))) xs215 (type-opens end xs215))) ((λ xs222. opens_bind IsTypeName IsTarget end type_name_at (λ a224 s223. Ok (TV.Type a224, s223)) (λ a219 front220 d221. opens_pure (TV.Type a219) (Behind IsTarget front220) end (λ ws. d221 ws)) xs222 (type-opens end xs222)))) xs
+
+kinds : Stream → Result (Option Mark × Stream) ℕ
+kinds s = cond (next_is (codes "null") s) (Ok (Some (MV.Kind KV.Null), (rest_of s))) (cond (next_is (codes "bool") s) (Ok (Some (MV.Kind KV.Bool), (rest_of s))) (cond (next_is (codes "int") s) (Ok (Some (MV.Kind KV.Int), (rest_of s))) (cond (next_is (codes "float") s) (Ok (Some (MV.Kind (KV.Float (place s))), rest_of s)) (cond (next_is (codes "string") s) (Ok (Some (MV.Kind KV.String), (rest_of s))) (cond (next_is (codes "bytes") s) (Ok (Some (MV.Kind KV.Bytes), (rest_of s))) (cond (next_is (codes "list") s) (Ok (Some (MV.Kind KV.List), (rest_of s))) (cond (next_is (codes "map") s) (Ok (Some (MV.Kind KV.Map), (rest_of s))) (cond (next_is (codes "link") s) (Ok (Some (MV.Kind KV.Link), (rest_of s))) (Ok (None, s))))))))))
+
+-- a choice of kinds is a choice of marks
+chosen_mark : (b : Bool) (k : KindWord) (more : Option KindWord) (s : Stream) (r : Result (Option Mark × Stream) ℕ) → done {A = Option Mark × Stream} (kind_mark more s) ≡ r
+    → done {A = Option Mark × Stream} (kind_mark (cond b (Some k) more) s) ≡ cond b (Ok (Some (MV.Kind k), rest_of s)) r
+chosen_mark true k more s r e = refl
+chosen_mark false k more s r e = e
+
+kinds_is : (s : Stream) → done {A = Option Mark × Stream} (kind_mark (kind_of s) s) ≡ kinds s
+unfolding kind_of kinds
+kinds_is s = chosen_mark (next_is (codes "null") s) KV.Null _ s _ (chosen_mark (next_is (codes "bool") s) KV.Bool _ s _ (chosen_mark (next_is (codes "int") s) KV.Int _ s _ (chosen_mark (next_is (codes "float") s) (KV.Float (place s)) _ s _ (chosen_mark (next_is (codes "string") s) KV.String _ s _ (chosen_mark (next_is (codes "bytes") s) KV.Bytes _ s _ (chosen_mark (next_is (codes "list") s) KV.List _ s _ (chosen_mark (next_is (codes "map") s) KV.Map _ s _ (chosen_mark (next_is (codes "link") s) KV.Link _ s _ (refl)))))))))
+
+marks : Stream → Result (Option Mark × Stream) ℕ
+marks s = cond (is_text s.signs) (text_at s >>= (λ t. Ok (Some (MV.Text t.0), t.1))) (kinds s)
+
+mark_is : (s : Stream) → mark_at s ≡ marks s
+unfolding mark_at marks
+mark_is s = ap (λ (r : Result (Option Mark × Stream) ℕ). cond (is_text s.signs) (text_at s >>= (λ t. Ok (Some (MV.Text t.0), t.1))) r) (kinds_is s)
 
 kinds-opens : (end : ℕ) (xs : List Sign) → Opens kinds (IsOptional IsMark) end xs
 unfolding kinds

@@ -71,7 +71,7 @@ target_begins end (TV.Link n) xs ys h = word_begins end (codes "&") xs h.0 h.1
 
 -- ---- references
 
-pub more : (room : ℕ) → suc room ≡ room + 1
+more : (room : ℕ) → suc room ≡ room + 1
 more room = omega arith
 
 pub named-sound : (room : ℕ) (s : Stream) (y : Refers × Stream) → named_at s ≡ Ok y → IsInline room y.0 s.signs y.1.signs
