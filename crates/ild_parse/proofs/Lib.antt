@@ -11,6 +11,8 @@ pub mod CompleteForms
 pub mod Shorter
 pub mod CompleteParts
 pub mod Local
-pub mod LocalRules
-pub mod LocalBodies
+pub mod Opens
+pub mod OpensForms
+pub mod OpensParts
+pub mod OpensBodies
 pub mod Fault

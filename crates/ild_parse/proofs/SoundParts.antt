@@ -183,18 +183,18 @@ opt-sound s y e =
     ]
 
 -- two opts that differ
-abbrev AreTwo : Opt → Opt → Type 0
+abbrev pub AreTwo : Opt → Opt → Type 0
 AreTwo a b = (count_by renames (a ∷ b ∷ []) ≤ 1) × (count_by is_implicit (a ∷ b ∷ []) ≤ 1)
 
-rename_then : (t : Text) (b : Opt) → is_implicit b ≡ true → AreTwo (OV.Rename t) b
+pub rename_then : (t : Text) (b : Opt) → is_implicit b ≡ true → AreTwo (OV.Rename t) b
 rename_then t (OV.Rename u) h = absurd (false≢true h)
 rename_then t (OV.Implicit v) h = (omega arith, omega arith)
 
-implicit_then : (v : Implicit) (b : Opt) → renames b ≡ true → AreTwo (OV.Implicit v) b
+pub implicit_then : (v : Implicit) (b : Opt) → renames b ≡ true → AreTwo (OV.Implicit v) b
 implicit_then v (OV.Rename u) h = (omega arith, omega arith)
 implicit_then v (OV.Implicit w) h = absurd (false≢true h)
 
-one_opt : (a : Opt) → (count_by renames (a ∷ []) ≤ 1) × (count_by is_implicit (a ∷ []) ≤ 1)
+pub one_opt : (a : Opt) → (count_by renames (a ∷ []) ≤ 1) × (count_by is_implicit (a ∷ []) ≤ 1)
 one_opt (OV.Rename t) = (omega arith, omega arith)
 one_opt (OV.Implicit v) = (omega arith, omega arith)
 

@@ -17,9 +17,10 @@ abbrev pub IsDead : List Sign → List Sign → Type 0
 IsDead before [] = (tree : Ast) → AreParts IsDecl tree.decls before [] → ⊥
 IsDead before (t ∷ after) = BeginText (before ++ t ∷ []) → ⊥
 
--- at this place stands the token, or the end, that no text of the grammar has behind the tokens before it
+-- the tokens before this place begin a text of the grammar, and none has the token, or the end, that stands there behind them
 abbrev pub IsWrongAt : List ℕ → List Token → ℕ → Type 0
-IsWrongAt src ts at = (before after : List Sign) × ((stream src ts).signs ≡ before ++ after) × (at ≡ place_of (length src) after) × IsDead before after
+IsWrongAt src ts at =
+    (before after : List Sign) × ((stream src ts).signs ≡ before ++ after) × (at ≡ place_of (length src) after) × BeginText before × IsDead before after
 
 -- what an error says of the place of a fault
 abbrev pub IsWrong : List ℕ → List Token → ParseErr → Type 0

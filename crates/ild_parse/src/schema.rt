@@ -69,7 +69,7 @@ pub fn parse(alloc: Global, src: &str, tokens: &Tokens) -> Result<Ast, ParseErr>
     ensures only { (tree : Ast) → Derives src.now tokens.now tree → (result ≡ Ok tree) ⊎ (result ≡ Err ParseErr.Memory) }
     // No second tree is derived.
     ensures one { (tree other : Ast) → Derives src.now tokens.now tree → Derives src.now tokens.now other → tree ≡ other }
-    // With the token at a fault no text of the grammar goes on.
+    // The tokens before a fault begin a text of the grammar; with the token at it none goes on.
     ensures wrong { IfErr result (IsWrong src.now tokens.now) }
     // It is what the grammar reads from left to right, and a fault stands at the first token with which that stops.
     ensures exact { Gives (λ a. a) result (parse_of src.now tokens.now) }
