@@ -142,8 +142,8 @@ opens_placed first part end f g starts og xs o =
           let n : ℕ = place_of end xs in
           opens_shift (λ s. f s >>= (λ y. g (place_of s.end s.signs) y.0 y.1)) (g n h.found.part) part end h.found.front h.found.rest xs h.found.are
           (λ front rest zs are same.
-              let behind = same_behind h.found.rest front rest zs are same in
-              rw (h.found.read (front ++ zs) behind, see_behind (place_of end) (place_next end) xs h.found.front h.found.rest (front ++ zs) h.found.are behind) refl)
+          let behind = same_behind h.found.rest front rest zs are same in
+          rw (h.found.read (front ++ zs) behind, see_behind (place_of end) (place_next end) xs h.found.front h.found.rest (front ++ zs) h.found.are behind) refl)
           (og n h.found.part h.found.front (begins_there first starts h.found.part end xs h.found.front h.found.rest h.found.are h.whole) h.whole h.found.rest)
       | inr h ↦
           let all : List Sign = h.stops.front ++ h.grows.more in

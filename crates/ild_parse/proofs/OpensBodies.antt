@@ -101,8 +101,8 @@ opens_many {A} end one part ends next less each (suc n) xs small =
     more q h o =
         opens_shift F (λ s. F s >>= (λ us. Ok (h.found.part ∷ us.0, us.1))) (AreParts part) end h.found.front h.found.rest xs h.found.are
         (λ front rest zs are same.
-            let behind = same_behind h.found.rest front rest zs are same in
-            all_more one (λ s. ends s.signs) less (reading end (h.found.front ++ (front ++ zs))) (h.found.part, reading end (front ++ zs)) (see_behind ends next xs h.found.front h.found.rest (front ++ zs) h.found.are behind ∙ q) (h.found.read (front ++ zs) behind))
+        let behind = same_behind h.found.rest front rest zs are same in
+        all_more one (λ s. ends s.signs) less (reading end (h.found.front ++ (front ++ zs))) (h.found.part, reading end (front ++ zs)) (see_behind ends next xs h.found.front h.found.rest (front ++ zs) h.found.are behind ∙ q) (h.found.read (front ++ zs) behind))
         (further h o)
 
     shorter : (h : Reads one part end xs) → length h.found.rest < length xs

@@ -160,4 +160,3 @@ optional_form-opens form part end each xs = (opens_word (IsOptional (IsFormed pa
 pub needed_form-opens : {A : Type 0} (form : Stream → Result (A × Stream) ℕ) (part : A → List Sign → List Sign → Type 0) (end : ℕ) → ((xs : List Sign) → Opens form part end xs) → (xs : List Sign) → Opens (needed_form_at form) (IsFormed part) end xs
 unfolding needed_form_at
 needed_form-opens form part end each xs = (opens_after (IsFormed part) end (codes "representation") (λ s264. form s264) (λ t262 e263. (λ xs268. opens_weak part (Behind (IsFormed part) (t262 ∷ [])) end form (λ a265 front266 d267 ws. (front266 ++ ws, (e263.0, e263.1, refl), d267 ws)) xs268 (each xs268)))) xs
-

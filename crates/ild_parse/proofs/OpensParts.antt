@@ -200,4 +200,3 @@ quoted-opens end xs = (opens_word (IsOptional IsQuoted) end (codes "(") (λ n281
 pub enum_member-opens : (end : ℕ) (xs : List Sign) → Opens enum_member_at IsEnumMember end xs
 unfolding enum_member_at
 enum_member-opens end xs = (opens_after IsEnumMember end (codes "|") (λ s298. name_at s298 >>= (λ y299. quoted_at y299.1 >>= (λ y300. Ok (record { name = y299.0; text = y300.0 }, y300.1)))) (λ t296 e297. (λ xs304. opens_bind IsName (Behind IsEnumMember (t296 ∷ [])) end name_at (λ a306 s305. quoted_at s305 >>= (λ y307. Ok (record { name = a306; text = y307.0 }, y307.1))) (λ a301 front302 d303. (λ xs311. opens_bind (IsOptional IsQuoted) (Behind (Behind IsEnumMember (t296 ∷ [])) front302) end quoted_at (λ a313 s312. Ok (record { name = a301; text = a313 }, s312)) (λ a308 front309 d310. opens_pure (record { name = a301; text = a308 }) (Behind (Behind (Behind IsEnumMember (t296 ∷ [])) front302) front309) end (λ ws. (front302 ++ (front309 ++ ws), front309 ++ ws, (e297.0, e297.1, refl), d303 (front309 ++ ws), d310 ws))) xs311 (quoted-opens end xs311))) xs304 (name-opens end xs304)))) xs
-
