@@ -5,7 +5,6 @@ use Rattle.ild_parse.specs.declared.ast.Name.{Name}
 use Rattle.ild_parse.specs.declared.ast.Field.{Field}
 use Rattle.ild_parse.specs.declared.ast.Opt.{Opt}
 use Rattle.ild_parse.specs.declared.ast.Opt.TheVariants as OV
-use Rattle.ild_parse.specs.declared.ast.Implicit.{Implicit}
 use Rattle.ild_parse.specs.declared.ast.Implicit.TheVariants as IV
 use Rattle.ild_parse.specs.declared.ast.Member.{Member}
 use Rattle.ild_parse.specs.declared.ast.Target.{Target}
