@@ -1,0 +1,2 @@
+mod Namings
+mod Copying
