@@ -1,2 +1,3 @@
 mod Namings
 mod Copying
+mod Parts

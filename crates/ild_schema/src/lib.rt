@@ -7,6 +7,7 @@ mod number;
 mod prelude;
 mod row;
 mod schema;
+mod val;
 
 pub use def::{
     EnumDef, EnumForm, EnumMember, EnumMembers, Field, Fields, KindWord, MapForm, Mark, Member,
@@ -17,3 +18,4 @@ pub use number::{Slot, TypeNo};
 pub use prelude::prelude_rows;
 pub use row::{Origin, Row};
 pub use schema::Schema;
+pub use val::{Val, ValFields, ValPairs, ValPart, Vals};
