@@ -1,0 +1,3 @@
+mod Namings
+mod Copying
+mod Parts

@@ -1,0 +1,9 @@
+pub mod Names
+pub mod Prelude
+pub mod Table
+pub mod Copies
+pub mod Held
+pub mod Value
+pub mod ValueCode
+pub mod ValueSeen
+pub mod ValueFalls

@@ -1,0 +1,158 @@
+//! Schemas: a table of types, with the look-ups by number and by name, none of which takes memory.
+ghost use Rattle.std.specs.Prelude.{◌≡◌, ◌<◌, ◌≤◌, ℕ, List, cond, length, Some, IfOk, OnOk, bytes_eq, option_map};
+ghost use Rattle.std.specs.BTreeMap.{get_by_text};
+ghost use Rattle.ild_schema.specs.Names.{declared_names, number_named};
+ghost use Rattle.ild_schema.specs.Table.{AreNamedOnce, IsTable, IsWithin, def_at, name_at, place_at};
+ghost use Rattle.ild_schema.specs.Copies.{base};
+ghost use Rattle.ild_schema.specs.Held.{IsIndex};
+
+use crate::{Row, TypeDef, TypeNo};
+use ild_data::Txt;
+use std::alloc::{AllocError, Global};
+use std::collections::BTreeMap;
+use std::marker::Model;
+
+/// A table of types by number (IPLD Schemas): the prelude, and then each declared type with the types inside its
+/// declaration. Each type on which another is made is in the table.
+#[derive(Drop)]
+pub struct Schema {
+    rows: Vec<Row>,
+    names: Vec<Txt>,
+    numbers: BTreeMap<String, u32>,
+}
+
+impl Model for Schema {
+    ghost use Rattle.std.specs.Prelude.{List};
+    ghost use Rattle.ild_schema.specs.declared.row.Row.{Row};
+    ghost use Rattle.ild_schema.specs.Held.{IsHeld};
+
+    ghost Value = { List Row };
+
+    ghost view = { λ a. a.rows.items };
+
+    ghost invariant = { λ a. IsHeld a.rows.items a.names.items a.numbers };
+}
+
+/// The declared names of a table.
+fn names_in(alloc: Global, rows: &[Row]) -> Result<Vec<Txt>, AllocError>
+    ensures { IfOk result (λ names. names.items ≡ declared_names rows.now) }
+{
+    let mut names = Vec::new(alloc);
+    for row in rows {
+        if row.origin.is_declared() {
+            names.push(row.name.copy()?)?;
+        }
+    }
+    Ok(names)
+}
+
+/// Lets a name stand for a number.
+fn put_number(
+    numbers: &mut BTreeMap<String, u32>,
+    alloc: Global,
+    name: &str,
+    number: u32,
+) -> Result<(), AllocError>
+    ensures { OnOk result ((q : List ℕ) → get_by_text numbers.new q ≡ cond (bytes_eq name.now q) (Some number) (get_by_text numbers.old q)) }
+{
+    let key = String::from_str(alloc, name)?;
+    numbers.insert(key, number)?;
+    Ok(())
+}
+
+/// The numbers for which the names of a table stand.
+fn numbers_in(alloc: Global, rows: &[Row]) -> Result<BTreeMap<String, u32>, AllocError>
+    requires small { length rows.now ≤ 65543 }
+    requires once { AreNamedOnce rows.now }
+    ensures { IfOk result (λ numbers. IsIndex rows.now numbers) }
+{
+    let mut numbers = BTreeMap::new(alloc);
+    for (i, row) in rows.iter().enumerate() {
+        if row.origin.is_open() {
+            put_number(&mut numbers, alloc, row.name.as_str(), i as u32)?;
+        }
+    }
+    Ok(numbers)
+}
+
+impl Schema {
+    /// The schema of a table.
+    pub fn of(alloc: Global, rows: Vec<Row>) -> Result<Schema, AllocError>
+        requires { IsTable rows.items }
+        ensures { IfOk result (λ schema. schema ≡ rows.items) }
+    {
+        let names = names_in(alloc, &rows)?;
+        let numbers = numbers_in(alloc, &rows)?;
+        Ok(Schema {
+            rows,
+            names,
+            numbers,
+        })
+    }
+
+    /// How many types the table has. A caller that needs the facts of the table makes this call, which does no work.
+    pub fn types(&self) -> u32
+        ensures count { result ≡ length self.now }
+        ensures table { IsTable self.now }
+    {
+        self.rows.len() as u32
+    }
+
+    /// What the schema says of a type.
+    pub fn def(&self, ty: TypeNo) -> &TypeDef
+        requires { ty.0 < length self.now }
+        ensures same { def_at self.now ty.0 ≡ Some result.now }
+        ensures within { IsWithin (length self.now) result.now }
+    {
+        &self.rows[ty.0 as usize].def
+    }
+
+    /// The type to which a type leads through copies: itself, where it is no copy.
+    pub fn base(&self, ty: TypeNo) -> TypeNo
+        requires { ty.0 < length self.now }
+        ensures same { result.0 ≡ base self.now ty.0 }
+        ensures within { result.0 < length self.now }
+    {
+        let mut end = ty;
+        for _ in 0..self.rows.len() {
+            match self.def(end) {
+                TypeDef::Copy(target) => end = *target,
+                _ => return end,
+            }
+        }
+        end
+    }
+
+    /// The name of a type: empty for an inline type, but `&T` for a union's member `&T`.
+    pub fn name(&self, ty: TypeNo) -> &str
+        requires { ty.0 < length self.now }
+        ensures { name_at self.now ty.0 ≡ Some result.now }
+    {
+        self.rows[ty.0 as usize].name.as_str()
+    }
+
+    /// The offset of a type's name in the text or, of an inline type, of its first token, and 0 for the prelude's.
+    pub fn place(&self, ty: TypeNo) -> usize
+        requires { ty.0 < length self.now }
+        ensures { place_at self.now ty.0 ≡ Some result }
+    {
+        self.rows[ty.0 as usize].at
+    }
+
+    /// The type of the prelude or the declared type that has a name.
+    pub fn type_named(&self, name: &str) -> Option<TypeNo>
+        ensures { option_map (λ ty. ty.0) result ≡ number_named name.now self.now }
+    {
+        match self.numbers.get(name) {
+            Some(number) => Some(TypeNo(*number)),
+            None => None,
+        }
+    }
+
+    /// The declared names, in the order of the text.
+    pub fn names(&self) -> &[Txt]
+        ensures { result.now ≡ declared_names self.now }
+    {
+        &self.names
+    }
+}
