@@ -1,0 +1,6 @@
+pub mod Events
+pub mod Names
+pub mod Faults
+pub mod Forms
+pub mod Rows
+pub mod Table
