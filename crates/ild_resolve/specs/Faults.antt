@@ -53,9 +53,10 @@ abbrev pub first_wrong : (List ℕ → Option ℕ) → List Event → Option Res
 first_wrong numbers [] = None
 first_wrong numbers (e ∷ es) = option_or (event_fault numbers e) (first_wrong numbers es)
 
--- the first fault of the limits, else of the declared names, else of the words
+-- the first fault of the limits, else of the declared names
+abbrev pub declared_fault : List Event → Option ResolveErr
+declared_fault es = option_or (option_map E.Many (first_above 0 es)) (option_map E.Twice (first_again taken_names es))
+
+-- that one, else the first fault of the words
 abbrev pub fault_in : List Event → Option ResolveErr
-fault_in es =
-    option_or (option_map E.Many (first_above 0 es))
-    (option_or (option_map E.Twice (first_again taken_names es))
-    (first_wrong (λ name. number_of name es) es))
+fault_in es = option_or (declared_fault es) (first_wrong (λ name. number_of name es) es)

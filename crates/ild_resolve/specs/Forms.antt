@@ -93,7 +93,7 @@ abbrev pub kind_mark : AstKindWord → Mark
 kind_mark AW.Null = K.Kind W.Null
 kind_mark AW.Bool = K.Kind W.Bool
 kind_mark AW.Int = K.Kind W.Int
-kind_mark (AW.Float at) = K.Bare                         -- it is refused
+kind_mark (AW.Float at) = K.Bare  -- it is refused
 kind_mark AW.String = K.Kind W.Text
 kind_mark AW.Bytes = K.Kind W.Bytes
 kind_mark AW.List = K.Kind W.List

@@ -104,7 +104,7 @@ module _ (numbers : List ℕ → Option ℕ) where
   body_def n B.String = D.Text
   body_def n B.Bytes = D.Bytes
   body_def n B.Int = D.Int
-  body_def n (B.Float at) = D.Any                        -- it is refused
+  body_def n (B.Float at) = D.Any  -- it is refused
   body_def n B.Any = D.Any
   body_def n (B.Link t) = D.Link (type_of t)
   body_def n (B.List r) = D.List (slot n r) (first_token r)
