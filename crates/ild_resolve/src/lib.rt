@@ -2,5 +2,7 @@
 #![tactic(auto)]
 
 mod error;
+mod resolving;
 
 pub use error::ResolveErr;
+pub use resolving::resolve;
