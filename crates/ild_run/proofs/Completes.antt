@@ -21,8 +21,10 @@ use Rattle.ild_run.specs.Session.{State, Meaning, idle}
 use Rattle.ild_run.specs.Step.{Holds, Collides, blocks_put, HasCause, IsExcused, Step}
 use Rattle.ild_run.specs.Run.{Run}
 use Rattle.ild_run.specs.Plain.{plain_map}
-use Rattle.ild_run.specs.Work.{Work, ends, answers, accepted_work, work_of, schema_work, AreTaken}
-use Rattle.ild_run.specs.Words.{Names, is_schema}
+use Rattle.ild_compile.specs.Compile.{Verdict, table}
+use Rattle.ild_compile.proofs.OneVerdict.{one_verdict_lem}
+use Rattle.ild_run.specs.Work.{Work, Taking, ends, answers, built_work, compiled_work, schema_work, job_work, work_of, IsVerdict, IsTaking, AreTaken}
+use Rattle.ild_run.specs.Words.{Job, runs}
 use Rattle.ild_run.specs.Ended.{Call, IsDue, AnswersAll, Says, Ended}
 use Rattle.ild_run.specs.Complete.{PlainStep, PlainRun, IsGiven, IsUndisturbed, AnswersPlainly, IsComplete}
 use Rattle.ild_run.specs.declared.fault.Fault.{Fault}
@@ -89,34 +91,56 @@ module _ {V : Type 0} (M : Meaning V) where
       let apart_here : Collides run.2 (blocks_put M (M.changed l s)) → ⊥ = λ c. apart_put n (M.changed l s) apart (collides_later run.2 n (blocks_put M (M.changed l s)) rest c) in
       (run.0, run.1, run.3, plain_by m s (blocks_put M (M.changed l s)) (M.plain l s) run.0 run.2 run.1 calm_here apart_here run.4.answered, run.5, plain_run run.2 run.1 ls run.3 n t run.6 calm_rest apart)
 
--- the inputs that are held are taken
-held_work : (c : Call) (script : List ℕ) (given : IsGiven c script) (s t : Taken) → AreTaken c.names c.before.supply s t → work_of c.names s t ≡ answers script
-held_work c script given s t taken =
-    let both = subst (λ (n : Option Names). AreTaken n c.before.supply s t) given.named taken in
-    let s_is : s ≡ Taken.Bytes given.schema = subst (λ (f : Option (List (List ℕ × List ℕ))). MayBe f given.names.schema s) given.told both.0 ∙ given.schema_held in
-    let t_is : t ≡ Taken.Bytes script = subst (λ (f : Option (List (List ℕ × List ℕ))). MayBe f given.names.script t) given.told both.1 ∙ given.script_held in
-    ap (λ n. work_of n s t) given.named ∙ ap (λ x. schema_work x t) s_is ∙ ap (λ x. schema_work (Taken.Bytes given.schema) x) t_is ∙ ap (λ b. accepted_work b (Taken.Bytes script)) given.accepted
+-- the inputs that are held are taken, and the schema is compiled
+held_script : (c : Call) (script : List ℕ) (given : IsGiven c script) (t : Taking) → IsTaking (runs given.schema_name given.script_name) c.before.supply t → t.script ≡ Taken.Bytes script
+held_script c script given t taken = subst (λ (f : Option (List (List ℕ × List ℕ))). MayBe f given.script_name t.script) given.told taken.script ∙ given.script_held
 
-no_end : (w : Work) (f : Fault) (b : List ℕ) → w ≡ answers b → w ≡ ends f → ⊥
-no_end w f b is ended = let e : answers b ≡ ends f = sym is ∙ ended in cc
+held_schema : (c : Call) (script : List ℕ) (given : IsGiven c script) (t : Taking) → IsTaking (runs given.schema_name given.script_name) c.before.supply t → t.schema ≡ Taken.Bytes given.schema
+held_schema c script given t taken = subst (λ (f : Option (List (List ℕ × List ℕ))). MayBe f given.schema_name t.schema) given.told taken.schema ∙ given.schema_held
+
+abbrev Plans : Work → List ℕ → Type 0
+Plans w script = (w ≡ answers script) ⊎ (w ≡ ends F.Memory)
+
+planned : (c : Call) (script : List ℕ) (given : IsGiven c script) (verdict : Option Verdict) → IsVerdict (Taken.Bytes given.schema) verdict → Plans (compiled_work (runs given.schema_name given.script_name) verdict (Taken.Bytes script)) script
+planned c script given None says = inr refl
+planned c script given (Some v) says =
+    let one : v ≡ table given.rows = one_verdict_lem given.schema v (table given.rows) says given.compiles in
+    inl (ap (λ x. compiled_work (runs given.schema_name given.script_name) (Some x) (Taken.Bytes script)) one ∙ ap (λ b. built_work b (Taken.Bytes script)) given.built)
+
+held_job : (c : Call) (script : List ℕ) (given : IsGiven c script) (t : Taking) → IsTaking (runs given.schema_name given.script_name) c.before.supply t → Plans (job_work (runs given.schema_name given.script_name) t) script
+held_job c script given t taken =
+    let job = runs given.schema_name given.script_name in
+    let schema_is = held_schema c script given t taken in
+    let same : job_work job t ≡ compiled_work job t.verdict (Taken.Bytes script) = ap (λ x. schema_work job x t.verdict t.script) schema_is ∙ ap (λ x. compiled_work job t.verdict x) (held_script c script given t taken) in
+    subst (λ (w : Work). Plans w script) (sym same) (planned c script given t.verdict (subst (λ (x : Taken). IsVerdict x t.verdict) schema_is taken.verdict))
+
+held_work : (c : Call) (script : List ℕ) (given : IsGiven c script) (t : Taking) → AreTaken c.job c.before.supply t → Plans (work_of c.job t) script
+held_work c script given t taken =
+    subst (λ (w : Work). Plans w script) (sym (ap (λ j. work_of j t) given.job)) (held_job c script given t (subst (λ (j : Option Job). AreTaken j c.before.supply t) given.job taken))
+
+no_end : (w : Work) (f : Fault) (b : List ℕ) → Plans w b → (f ≡ F.Memory → ⊥) → w ≡ ends f → ⊥
+no_end w f b (inl is) other ended = let e : answers b ≡ ends f = sym is ∙ ended in cc
+no_end w f b (inr is) other ended = other (let e : ends F.Memory ≡ ends f = sym is ∙ ended in cc)
 
 -- no fault but want of memory is due
-no_fault : (c : Call) (script : List ℕ) (given : IsGiven c script) (calm : IsUndisturbed c) (s t : Taken) (f : Fault) → AreTaken c.names c.before.supply s t → IsDue c s t f → f ≡ F.Memory
-no_fault c script given calm s t F.Memory taken due = refl
-no_fault c script given calm s t F.Words taken due = absurd (no_end (work_of c.names s t) F.Words script (held_work c script given s t taken) due)
-no_fault c script given calm s t F.NotBuilt taken due = absurd (no_end (work_of c.names s t) F.NotBuilt script (held_work c script given s t taken) due)
-no_fault c script given calm s t (F.Input role T.Failed) taken due = absurd (calm.inputs due.0)
-no_fault c script given calm s t (F.Input role T.Absent) taken due = absurd (no_end (work_of c.names s t) (F.Input role T.Absent) script (held_work c script given s t taken) due.0)
-no_fault c script given calm s t (F.Input role T.Long) taken due = absurd (no_end (work_of c.names s t) (F.Input role T.Long) script (held_work c script given s t taken) due.0)
-no_fault c script given calm s t F.Store taken due = absurd (calm.store due.0)
-no_fault c script given calm s t (F.Clash id) taken due = absurd (calm.apart [] due.1)
+no_fault : (c : Call) (script : List ℕ) (given : IsGiven c script) (calm : IsUndisturbed c) (t : Taking) (f : Fault) → AreTaken c.job c.before.supply t → IsDue c t f → f ≡ F.Memory
+no_fault c script given calm t F.Memory taken due = refl
+no_fault c script given calm t F.Words taken due = absurd (no_end (work_of c.job t) F.Words script (held_work c script given t taken) (λ e. cc) due)
+no_fault c script given calm t F.NotBuilt taken due = absurd (no_end (work_of c.job t) F.NotBuilt script (held_work c script given t taken) (λ e. cc) due)
+no_fault c script given calm t (F.Schema f) taken due = absurd (no_end (work_of c.job t) (F.Schema f) script (held_work c script given t taken) (λ e. cc) due)
+no_fault c script given calm t (F.Input role T.Failed) taken due = absurd (calm.inputs due.0)
+no_fault c script given calm t (F.Input role T.Absent) taken due = absurd (no_end (work_of c.job t) (F.Input role T.Absent) script (held_work c script given t taken) (λ e. cc) due.0)
+no_fault c script given calm t (F.Input role T.Long) taken due = absurd (no_end (work_of c.job t) (F.Input role T.Long) script (held_work c script given t taken) (λ e. cc) due.0)
+no_fault c script given calm t F.Store taken due = absurd (calm.store due.0)
+no_fault c script given calm t (F.Clash id) taken due = absurd (calm.apart [] due.1)
 
-same_bytes : (w : Work) (a b : List ℕ) → w ≡ answers a → w ≡ answers b → a ≡ b
-same_bytes w a b p q = let e : answers a ≡ answers b = sym p ∙ q in cc
+same_bytes : (w : Work) (a b : List ℕ) → w ≡ answers a → Plans w b → a ≡ b
+same_bytes w a b p (inl q) = let e : answers a ≡ answers b = sym p ∙ q in cc
+same_bytes w a b p (inr q) = absurd (let e : answers a ≡ ends F.Memory = sym p ∙ q in cc)
 
-plainly : (c : Call) (script : List ℕ) (given : IsGiven c script) (calm : IsUndisturbed c) (s t : Taken) (status : Status) (refused : Bool) → AreTaken c.names c.before.supply s t → status ≡ cond refused S.Refused S.Done → AnswersAll c s t refused → AnswersPlainly c script status
-plainly c script given calm s t status refused taken is all =
-    let one : all.bytes ≡ script = same_bytes (work_of c.names s t) all.bytes script all.work (held_work c script given s t taken) in
+plainly : (c : Call) (script : List ℕ) (given : IsGiven c script) (calm : IsUndisturbed c) (t : Taking) (status : Status) (refused : Bool) → AreTaken c.job c.before.supply t → status ≡ cond refused S.Refused S.Done → AnswersAll c t refused → AnswersPlainly c script status
+plainly c script given calm t status refused taken is all =
+    let one : all.bytes ≡ script = same_bytes (work_of c.job t) all.bytes script all.work (held_work c script given t taken) in
     let later = all.answered.later in
     let rest = run_later plain_map all.answered.opened (idle []) (lines_of all.bytes) all.replies c.after.moment (idle all.last) all.answered.run in
     let calm_run : Rose all.answered.opened.faults c.after.moment.faults → ⊥ = λ rose. calm.store (let r : bumped all.answered.opened.faults ≤ c.after.moment.faults = rose in let le = later.faults in omega arith) in
@@ -128,19 +152,20 @@ plainly c script given calm s t status refused taken is all =
       status_is = is ∙ ap (λ b. cond b S.Refused S.Done) all.refused_is;
     }
 
-complete_by : (c : Call) (script : List ℕ) (given : IsGiven c script) (calm : IsUndisturbed c) (s t : Taken) (status : Status) → AreTaken c.names c.before.supply s t → Says c s t status → (status ≡ S.Memory) ⊎ AnswersPlainly c script status
-complete_by c script given calm s t S.Done taken says = inr (plainly c script given calm s t S.Done false taken refl says)
-complete_by c script given calm s t S.Refused taken says = inr (plainly c script given calm s t S.Refused true taken refl says)
-complete_by c script given calm s t S.Memory taken says = inl refl
-complete_by c script given calm s t S.SinkFault taken says = absurd (calm.sink says.0)
-complete_by c script given calm s t S.Words taken says = absurd (let e = no_fault c script given calm s t F.Words taken says.due in cc)
-complete_by c script given calm s t S.Schema taken says = absurd (let e = no_fault c script given calm s t F.NotBuilt taken says.due in cc)
-complete_by c script given calm s t S.Input taken says = absurd (let e = no_fault c script given calm s t (F.Input says.0 says.1) taken says.2.due in cc)
-complete_by c script given calm s t S.StoreFault taken (inl tells) = absurd (let e = no_fault c script given calm s t F.Store taken tells.due in cc)
-complete_by c script given calm s t S.StoreFault taken (inr tells) = absurd (let e = no_fault c script given calm s t (F.Clash tells.0) taken tells.1.due in cc)
-complete_by c script given calm s t S.Root taken says = absurd says
-complete_by c script given calm s t S.Value taken says = absurd says
+complete_by : (c : Call) (script : List ℕ) (given : IsGiven c script) (calm : IsUndisturbed c) (t : Taking) (status : Status) → AreTaken c.job c.before.supply t → Says c t status → (status ≡ S.Memory) ⊎ AnswersPlainly c script status
+complete_by c script given calm t S.Done taken says = inr (plainly c script given calm t S.Done false taken refl says)
+complete_by c script given calm t S.Refused taken says = inr (plainly c script given calm t S.Refused true taken refl says)
+complete_by c script given calm t S.Memory taken says = inl refl
+complete_by c script given calm t S.SinkFault taken says = absurd (calm.sink says.0)
+complete_by c script given calm t S.Words taken says = absurd (let e = no_fault c script given calm t F.Words taken says.due in cc)
+complete_by c script given calm t S.Schema taken (inl tells) = absurd (let e = no_fault c script given calm t F.NotBuilt taken tells.due in cc)
+complete_by c script given calm t S.Schema taken (inr tells) = absurd (let e = no_fault c script given calm t (F.Schema tells.0) taken tells.1.due in cc)
+complete_by c script given calm t S.Input taken says = absurd (let e = no_fault c script given calm t (F.Input says.0 says.1) taken says.2.due in cc)
+complete_by c script given calm t S.StoreFault taken (inl tells) = absurd (let e = no_fault c script given calm t F.Store taken tells.due in cc)
+complete_by c script given calm t S.StoreFault taken (inr tells) = absurd (let e = no_fault c script given calm t (F.Clash tells.0) taken tells.1.due in cc)
+complete_by c script given calm t S.Root taken says = absurd says
+complete_by c script given calm t S.Value taken says = absurd says
 
 -- a call that ended with its cause is complete
 pub complete_from : (c : Call) (status : Status) → Ended c status → IsComplete c status
-complete_from c status ended script given calm = complete_by c script given calm ended.schema ended.script status ended.taken ended.says
+complete_from c status ended script given calm = complete_by c script given calm ended.taking status ended.taken ended.says

@@ -1,68 +1,121 @@
 -- Taking the inputs in order.
 use Rattle.std.proofs.Common.{◌≡◌, ℕ, ◌≤◌, List, Bool, true, false, Option, Some, None, Result, Ok, Err, refl, sym, ap, ◌∙◌, subst, arith}
+use Rattle.ild_compile.specs.Compile.{Verdict, table, faulty, Compiles}
 use Rattle.ild_edges.specs.Count.{Rose, bumped}
 use Rattle.ild_edges.specs.Inputs.{Supply, After, MayBe, taken_of, file_at}
 use Rattle.ild_edges.proofs.After.{After-trans}
 use Rattle.ild_edges.specs.declared.inputs.Taken.{Taken}
 use Rattle.ild_edges.specs.declared.inputs.Taken.TheVariants as Taken
+use Rattle.ild_schema.specs.declared.row.Row.{Row}
 use Rattle.ild_run.specs.declared.fault.Fault.{Fault}
 use Rattle.ild_run.specs.declared.fault.Fault.TheVariants as F
 use Rattle.ild_run.specs.declared.fault.Role.{Role}
 use Rattle.ild_run.specs.declared.fault.Role.TheVariants as Role
 use Rattle.ild_run.specs.declared.fault.Trouble.{Trouble}
 use Rattle.ild_run.specs.declared.fault.Trouble.TheVariants as T
-use Rattle.ild_run.specs.Words.{Names, is_schema}
-use Rattle.ild_run.specs.Work.{ends, answers, accepted_work, schema_work, IsAccepted}
-use Rattle.ild_run.specs.Opening.{InputAnswer, TakesInput, InputsFault, OpensAnswer, Opens}
+use Rattle.ild_run.specs.Built.{is_built}
+use Rattle.ild_run.specs.Words.{Job, checks, runs, schema_name}
+use Rattle.ild_run.specs.Work.{Taking, ends, answers, built_work, job_work, IsVerdict, IsScript, IsTaking, IsOpen}
+use Rattle.ild_run.specs.Opening.{InputAnswer, TakesInput, CompileAnswer, InputsFault, OpensAnswer, Opens}
 
 -- something may be taken under each name
 some_taken : (files : Option (List (List ℕ × List ℕ))) (name : List ℕ) → (t : Taken) × MayBe files name t
 some_taken None name = (Taken.Absent, tt)
 some_taken (Some files) name = (taken_of (file_at files name), refl)
 
--- a call that ends at the schema's input, or at the schema
-opens_at : (m n : Supply) (names : Names) (schema : Taken) (result : Result (List ℕ) Fault) → MayBe m.files names.schema schema → ((script : Taken) → OpensAnswer m schema script result n) → After m n → Opens m names result n
-opens_at m n names schema result is answer after =
-    let other = some_taken m.files names.script in
-    record { schema = schema; script = other.0; schema_is = is; script_is = other.1; answer = answer other.0; after = after }
+some_script : (job : Job) (m : Supply) → (t : Taken) × IsScript job m t
+some_script (checks schema) m = (Taken.Absent, tt)
+some_script (runs schema script) m = some_taken m.files script
 
-pub opens_schema : (m n : Supply) (names : Names) (f : Fault) → InputAnswer m Role.Schema names.schema (Err f) n → After m n → Opens m names (Err f) n
-opens_schema m n names (F.Input Role.Schema T.Absent) answer after = opens_at m n names Taken.Absent _ answer.1 (λ script. (refl, answer.2)) after
-opens_schema m n names (F.Input Role.Schema T.Long) answer after = opens_at m n names Taken.Long _ answer.1 (λ script. (refl, answer.2)) after
-opens_schema m n names (F.Input Role.Schema T.Failed) answer after =
-    let some = some_taken m.files names.schema in opens_at m n names some.0 _ some.1 (λ script. answer.1) after
-opens_schema m n names (F.Input Role.Script T.Absent) answer after = absurd (let e : Role.Script ≡ Role.Schema = answer.0 in cc)
-opens_schema m n names (F.Input Role.Script T.Long) answer after = absurd (let e : Role.Script ≡ Role.Schema = answer.0 in cc)
-opens_schema m n names (F.Input Role.Script T.Failed) answer after = absurd (let e : Role.Script ≡ Role.Schema = answer.0 in cc)
-opens_schema m n names F.Memory answer after = let some = some_taken m.files names.schema in opens_at m n names some.0 _ some.1 (λ script. tt) after
-opens_schema m n names F.Words answer after = absurd answer
-opens_schema m n names F.NotBuilt answer after = absurd answer
-opens_schema m n names F.Store answer after = absurd answer
-opens_schema m n names (F.Clash id) answer after = absurd answer
+no_verdict : (t : Taken) → IsVerdict t None
+no_verdict Taken.Absent = tt
+no_verdict Taken.Long = tt
+no_verdict (Taken.Bytes b) = tt
 
-pub opens_not_built : (m n : Supply) (names : Names) (b : List ℕ) → MayBe m.files names.schema (Taken.Bytes b) → is_schema b ≡ false → After m n → Opens m names (Err F.NotBuilt) n
-opens_not_built m n names b is refused after = opens_at m n names (Taken.Bytes b) _ is (λ script. ap (λ t. accepted_work t script) refused) after
+-- a call that ends before the script's input
+opens_before : (m n : Supply) (job : Job) (schema : Taken) (verdict : Option Verdict) (result : Result (List ℕ) Fault) → MayBe m.files (schema_name job) schema → IsVerdict schema verdict
+    → ((script : Taken) → OpensAnswer m job (record { schema = schema; verdict = verdict; script = script }) result n) → After m n → Opens m job result n
+opens_before m n job schema verdict result is says answer after =
+    let other = some_script job m in
+    record {
+      taking = record { schema = schema; verdict = verdict; script = other.0 };
+      taken = record { schema = is; verdict = says; script = other.1 };
+      answer = answer other.0;
+      after = after;
+    }
 
-script_answer : (m k n : Supply) (names : Names) (b : List ℕ) (result : Result (List ℕ) Fault) → MayBe m.files names.schema (Taken.Bytes b) → is_schema b ≡ true → k.files ≡ m.files → m.lacks ≤ k.lacks → m.faults ≤ k.faults
-    → InputAnswer k Role.Script names.script result n → (t : Taken) × MayBe m.files names.script t × OpensAnswer m (Taken.Bytes b) t result n
-script_answer m k n names b (Ok c) is accepted same lacks faults answer =
-    (Taken.Bytes c, subst (λ (x : Option (List (List ℕ × List ℕ))). MayBe x names.script (Taken.Bytes c)) same answer, ap (λ t. accepted_work t (Taken.Bytes c)) accepted)
-script_answer m k n names b (Err (F.Input Role.Script T.Absent)) is accepted same lacks faults answer =
-    (Taken.Absent, subst (λ (x : Option (List (List ℕ × List ℕ))). MayBe x names.script Taken.Absent) same answer.1, (ap (λ t. accepted_work t Taken.Absent) accepted, let rose = answer.2 in omega arith))
-script_answer m k n names b (Err (F.Input Role.Script T.Long)) is accepted same lacks faults answer =
-    (Taken.Long, subst (λ (x : Option (List (List ℕ × List ℕ))). MayBe x names.script Taken.Long) same answer.1, (ap (λ t. accepted_work t Taken.Long) accepted, let rose = answer.2 in omega arith))
-script_answer m k n names b (Err (F.Input Role.Script T.Failed)) is accepted same lacks faults answer =
-    let some = some_taken m.files names.script in (some.0, some.1, (let rose = answer.1 in omega arith, accepted))
-script_answer m k n names b (Err (F.Input Role.Schema T.Absent)) is accepted same lacks faults answer = absurd (let e : Role.Schema ≡ Role.Script = answer.0 in cc)
-script_answer m k n names b (Err (F.Input Role.Schema T.Long)) is accepted same lacks faults answer = absurd (let e : Role.Schema ≡ Role.Script = answer.0 in cc)
-script_answer m k n names b (Err (F.Input Role.Schema T.Failed)) is accepted same lacks faults answer = absurd (let e : Role.Schema ≡ Role.Script = answer.0 in cc)
-script_answer m k n names b (Err F.Memory) is accepted same lacks faults answer = let some = some_taken m.files names.script in (some.0, some.1, tt)
-script_answer m k n names b (Err F.Words) is accepted same lacks faults answer = absurd answer
-script_answer m k n names b (Err F.NotBuilt) is accepted same lacks faults answer = absurd answer
-script_answer m k n names b (Err F.Store) is accepted same lacks faults answer = absurd answer
-script_answer m k n names b (Err (F.Clash id)) is accepted same lacks faults answer = absurd answer
+other_role : Role.Script ≡ Role.Schema → ⊥
+other_role e = cc
 
-pub opens_script : (m k n : Supply) (names : Names) (b : List ℕ) (result : Result (List ℕ) Fault) → MayBe m.files names.schema (Taken.Bytes b) → is_schema b ≡ true → After m k → TakesInput k Role.Script names.script result n → Opens m names result n
-opens_script m k n names b result is accepted after takes =
-    let t = script_answer m k n names b result is accepted after.files after.lacks after.faults takes.answer in
-    record { schema = Taken.Bytes b; script = t.0; schema_is = is; script_is = t.1; answer = t.2; after = After-trans m k n after takes.after }
+-- a call that ends at the schema's input
+pub opens_schema : (m n : Supply) (job : Job) (f : Fault) → InputAnswer m Role.Schema (schema_name job) (Err f) n → After m n → Opens m job (Err f) n
+opens_schema m n job (F.Input Role.Schema T.Absent) answer after = opens_before m n job Taken.Absent None _ answer.1 tt (λ script. (refl, answer.2)) after
+opens_schema m n job (F.Input Role.Schema T.Long) answer after = opens_before m n job Taken.Long None _ answer.1 tt (λ script. (refl, answer.2)) after
+opens_schema m n job (F.Input Role.Schema T.Failed) answer after =
+    let some = some_taken m.files (schema_name job) in opens_before m n job some.0 None _ some.1 (no_verdict some.0) (λ script. (answer.1, tt)) after
+opens_schema m n job (F.Input Role.Script T.Absent) answer after = absurd (other_role answer.0)
+opens_schema m n job (F.Input Role.Script T.Long) answer after = absurd (other_role answer.0)
+opens_schema m n job (F.Input Role.Script T.Failed) answer after = absurd (other_role answer.0)
+opens_schema m n job F.Memory answer after =
+    let some = some_taken m.files (schema_name job) in opens_before m n job some.0 None _ some.1 (no_verdict some.0) (λ script. tt) after
+opens_schema m n job F.Words answer after = absurd answer
+opens_schema m n job F.NotBuilt answer after = absurd answer
+opens_schema m n job (F.Schema f) answer after = absurd answer
+opens_schema m n job F.Store answer after = absurd answer
+opens_schema m n job (F.Clash id) answer after = absurd answer
+
+-- a call that ends at the schema's compilation
+pub opens_faulty : (m n : Supply) (job : Job) (b : List ℕ) (f : Fault) → MayBe m.files (schema_name job) (Taken.Bytes b) → CompileAnswer b (Err f) → After m n → Opens m job (Err f) n
+opens_faulty m n job b (F.Schema f) is answer after = opens_before m n job (Taken.Bytes b) (Some (faulty f)) _ is answer (λ script. refl) after
+opens_faulty m n job b F.Memory is answer after = opens_before m n job (Taken.Bytes b) None _ is tt (λ script. tt) after
+opens_faulty m n job b (F.Input role trouble) is answer after = absurd answer
+opens_faulty m n job b F.Words is answer after = absurd answer
+opens_faulty m n job b F.NotBuilt is answer after = absurd answer
+opens_faulty m n job b F.Store is answer after = absurd answer
+opens_faulty m n job b (F.Clash id) is answer after = absurd answer
+
+-- a call that ends at a schema which nothing is built for
+pub opens_checked : (m n : Supply) (name : List ℕ) (b : List ℕ) (rows : List Row) → MayBe m.files name (Taken.Bytes b) → Compiles b (table rows) → After m n → Opens m (checks name) (Err F.NotBuilt) n
+opens_checked m n name b rows is compiles after = opens_before m n (checks name) (Taken.Bytes b) (Some (table rows)) _ is compiles (λ script. refl) after
+
+pub opens_not_built : (m n : Supply) (name other : List ℕ) (b : List ℕ) (rows : List Row) → MayBe m.files name (Taken.Bytes b) → Compiles b (table rows) → is_built rows ≡ false → After m n → Opens m (runs name other) (Err F.NotBuilt) n
+opens_not_built m n name other b rows is compiles refused after =
+    opens_before m n (runs name other) (Taken.Bytes b) (Some (table rows)) _ is compiles (λ script. ap (λ t. built_work t script) refused) after
+
+-- a call that comes to the script's input
+abbrev taking : List ℕ → List Row → Taken → Taking
+taking b rows script = record { schema = Taken.Bytes b; verdict = Some (table rows); script = script }
+
+is_open : (b : List ℕ) (rows : List Row) (script : Taken) → is_built rows ≡ true → IsOpen (taking b rows script)
+is_open b rows script built = record { bytes = b; rows = rows; schema = refl; verdict = refl; built = built }
+
+script_answer : (m k n : Supply) (name other : List ℕ) (b : List ℕ) (rows : List Row) (result : Result (List ℕ) Fault) → is_built rows ≡ true → k.files ≡ m.files → m.lacks ≤ k.lacks → m.faults ≤ k.faults
+    → InputAnswer k Role.Script other result n → (t : Taken) × MayBe m.files other t × OpensAnswer m (runs name other) (taking b rows t) result n
+script_answer m k n name other b rows (Ok c) built same lacks faults answer =
+    (Taken.Bytes c, subst (λ (x : Option (List (List ℕ × List ℕ))). MayBe x other (Taken.Bytes c)) same answer, ap (λ t. built_work t (Taken.Bytes c)) built)
+script_answer m k n name other b rows (Err (F.Input Role.Script T.Absent)) built same lacks faults answer =
+    (Taken.Absent, subst (λ (x : Option (List (List ℕ × List ℕ))). MayBe x other Taken.Absent) same answer.1, (ap (λ t. built_work t Taken.Absent) built, let rose = answer.2 in omega arith))
+script_answer m k n name other b rows (Err (F.Input Role.Script T.Long)) built same lacks faults answer =
+    (Taken.Long, subst (λ (x : Option (List (List ℕ × List ℕ))). MayBe x other Taken.Long) same answer.1, (ap (λ t. built_work t Taken.Long) built, let rose = answer.2 in omega arith))
+script_answer m k n name other b rows (Err (F.Input Role.Script T.Failed)) built same lacks faults answer =
+    let some = some_taken m.files other in (some.0, some.1, (let rose = answer.1 in omega arith, is_open b rows some.0 built))
+script_answer m k n name other b rows (Err (F.Input Role.Schema T.Absent)) built same lacks faults answer = absurd (other_role (sym answer.0))
+script_answer m k n name other b rows (Err (F.Input Role.Schema T.Long)) built same lacks faults answer = absurd (other_role (sym answer.0))
+script_answer m k n name other b rows (Err (F.Input Role.Schema T.Failed)) built same lacks faults answer = absurd (other_role (sym answer.0))
+script_answer m k n name other b rows (Err F.Memory) built same lacks faults answer = let some = some_taken m.files other in (some.0, some.1, tt)
+script_answer m k n name other b rows (Err F.Words) built same lacks faults answer = absurd answer
+script_answer m k n name other b rows (Err F.NotBuilt) built same lacks faults answer = absurd answer
+script_answer m k n name other b rows (Err (F.Schema f)) built same lacks faults answer = absurd answer
+script_answer m k n name other b rows (Err F.Store) built same lacks faults answer = absurd answer
+script_answer m k n name other b rows (Err (F.Clash id)) built same lacks faults answer = absurd answer
+
+pub opens_script : (m k n : Supply) (name other : List ℕ) (b : List ℕ) (rows : List Row) (result : Result (List ℕ) Fault) → MayBe m.files name (Taken.Bytes b) → Compiles b (table rows) → is_built rows ≡ true → After m k → TakesInput k Role.Script other result n
+    → Opens m (runs name other) result n
+opens_script m k n name other b rows result is compiles built after takes =
+    let t = script_answer m k n name other b rows result built after.files after.lacks after.faults takes.answer in
+    record {
+      taking = taking b rows t.0;
+      taken = record { schema = is; verdict = compiles; script = t.1 };
+      answer = t.2;
+      after = After-trans m k n after takes.after;
+    }

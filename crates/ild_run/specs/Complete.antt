@@ -15,7 +15,10 @@ use Rattle.ild_run.specs.Session.{State, Meaning, idle}
 use Rattle.ild_run.specs.Step.{Collides}
 use Rattle.ild_run.specs.Run.{texts}
 use Rattle.ild_run.specs.Plain.{plain_map}
-use Rattle.ild_run.specs.Words.{Names, is_schema}
+use Rattle.ild_compile.specs.Compile.{Compiles, table}
+use Rattle.ild_schema.specs.declared.row.Row.{Row}
+use Rattle.ild_run.specs.Built.{is_built}
+use Rattle.ild_run.specs.Words.{runs}
 use Rattle.ild_run.specs.Ended.{Call}
 use Rattle.ild_run.specs.declared.status.Status.{Status}
 use Rattle.ild_run.specs.declared.status.Status.TheVariants as S
@@ -29,16 +32,19 @@ abbrev pub PlainRun : {V : Type 0} → Meaning V → State V → List (List ℕ)
 PlainRun M s [] replies t = (replies ≡ []) × (t ≡ s)
 PlainRun {V} M s (l ∷ ls) replies t = (reply : Option Reply) × (u : State V) × (more : List Reply) × PlainStep M s l reply u × (replies ≡ cons_option reply more) × PlainRun M u ls more t
 
--- the inputs tell and hold what the words name, and the schema is accepted
+-- the words ask for a run, the inputs tell and hold what they name, and the schema is one that scripts are run under
 pub record IsGiven (c : Call) (script : List ℕ) : Type 0 where
-  pub names : Names
+  pub schema_name : List ℕ
+  pub script_name : List ℕ
+  pub job : c.job ≡ Some (runs schema_name script_name)
   pub files : List (List ℕ × List ℕ)
-  pub schema : List ℕ
-  pub named : c.names ≡ Some names
   pub told : c.before.supply.files ≡ Some files
-  pub schema_held : taken_of (file_at files names.schema) ≡ Taken.Bytes schema
-  pub accepted : is_schema schema ≡ true
-  pub script_held : taken_of (file_at files names.script) ≡ Taken.Bytes script
+  pub schema : List ℕ
+  pub schema_held : taken_of (file_at files schema_name) ≡ Taken.Bytes schema
+  pub rows : List Row
+  pub compiles : Compiles schema (table rows)
+  pub built : is_built rows ≡ true
+  pub script_held : taken_of (file_at files script_name) ≡ Taken.Bytes script
 
 -- no count of faults rose, and no block of a value collides with one that is held
 pub record IsUndisturbed (c : Call) : Type 0 where

@@ -5,7 +5,6 @@ use Rattle.ild_edges.specs.Count.{Rose}
 use Rattle.ild_edges.specs.Inputs.{Supply}
 use Rattle.ild_edges.specs.Sink.{Output, Appends, AppendsFront}
 use Rattle.ild_edges.specs.Store.{Moment, Later}
-use Rattle.ild_edges.specs.declared.inputs.Taken.{Taken}
 use Rattle.ild_script.specs.declared.reply.Reply.{Reply}
 use Rattle.ild_script.specs.Line.{lines_of}
 use Rattle.ild_script.specs.Reply.{is_no}
@@ -14,9 +13,10 @@ use Rattle.ild_run.specs.Session.{State, idle}
 use Rattle.ild_run.specs.Step.{Holds, AddsOnly, Collides}
 use Rattle.ild_run.specs.Run.{Run, texts}
 use Rattle.ild_run.specs.Plain.{plain_map}
-use Rattle.ild_run.specs.Words.{Names}
+use Rattle.ild_compile.specs.declared.error.SchemaFault.{SchemaFault}
+use Rattle.ild_run.specs.Words.{Job}
 use Rattle.ild_data.specs.declared.id.BlockId.{BlockId}
-use Rattle.ild_run.specs.Work.{Work, ends, answers, work_of, AreTaken, Reaches}
+use Rattle.ild_run.specs.Work.{Work, Taking, ends, answers, work_of, AreTaken, Reaches}
 use Rattle.ild_run.specs.Fault.{fault_text, status_of}
 use Rattle.ild_run.specs.declared.fault.Fault.{Fault}
 use Rattle.ild_run.specs.declared.fault.Fault.TheVariants as F
@@ -34,14 +34,14 @@ pub record World : Type 0 where
 
 -- a call from the world before to the world after
 pub record Call : Type 0 where
-  pub names : Option Names
+  pub job : Option Job
   pub before : World
   pub after : World
 
--- a call of these names, over the outside before it and after it
-abbrev pub call_of : Option Names → Supply → Moment → Output → Supply → Moment → Output → Call
-call_of names supply moment output supply' moment' output' =
-    record { names = names; before = record { supply = supply; moment = moment; output = output }; after = record { supply = supply'; moment = moment'; output = output' } }
+-- a call with this job, over the outside before it and after it
+abbrev pub call_of : Option Job → Supply → Moment → Output → Supply → Moment → Output → Call
+call_of job supply moment output supply' moment' output' =
+    record { job = job; before = record { supply = supply; moment = moment; output = output }; after = record { supply = supply'; moment = moment'; output = output' } }
 
 -- there are lines to answer
 abbrev pub HasScript : Work → Type 0
@@ -49,13 +49,13 @@ HasScript (ends f) = ⊥
 HasScript (answers b) = Unit {0}
 
 -- the cause of a fault
-abbrev pub IsDue : Call → Taken → Taken → Fault → Type 0
-IsDue c schema script (F.Input role T.Failed) = Rose c.before.supply.faults c.after.supply.faults × Reaches role c.names schema
-IsDue c schema script (F.Input role trouble) = (work_of c.names schema script ≡ ends (F.Input role trouble)) × Rose c.before.supply.lacks c.after.supply.lacks
-IsDue c schema script F.Store = Rose c.before.moment.faults c.after.moment.faults × HasScript (work_of c.names schema script)
-IsDue c schema script (F.Clash id) = (id.0 ≡ root_of []) × Collides c.after.moment (blocks_of []) × HasScript (work_of c.names schema script)
-IsDue c schema script F.Memory = Unit {0}
-IsDue c schema script f = work_of c.names schema script ≡ ends f
+abbrev pub IsDue : Call → Taking → Fault → Type 0
+IsDue c t (F.Input role T.Failed) = Rose c.before.supply.faults c.after.supply.faults × Reaches role c.job t
+IsDue c t (F.Input role trouble) = (work_of c.job t ≡ ends (F.Input role trouble)) × Rose c.before.supply.lacks c.after.supply.lacks
+IsDue c t F.Store = Rose c.before.moment.faults c.after.moment.faults × HasScript (work_of c.job t)
+IsDue c t (F.Clash id) = (id.0 ≡ root_of []) × Collides c.after.moment (blocks_of []) × HasScript (work_of c.job t)
+IsDue c t F.Memory = Unit {0}
+IsDue c t f = work_of c.job t ≡ ends f
 
 -- the empty map's block was put, and these lines were answered from it
 pub record Answers (c : Call) (lines : List (List ℕ)) (replies : List Reply) (last : Value) : Type 0 where
@@ -68,9 +68,9 @@ pub record Answers (c : Call) (lines : List (List ℕ)) (replies : List Reply) (
   pub run : Run plain_map opened (idle []) lines replies c.after.moment (idle last)
 
 -- every line of the script was answered, and all replies were written
-pub record AnswersAll (c : Call) (schema taken : Taken) (refused : Bool) : Type 0 where
+pub record AnswersAll (c : Call) (t : Taking) (refused : Bool) : Type 0 where
   pub bytes : List ℕ
-  pub work : work_of c.names schema taken ≡ answers bytes
+  pub work : work_of c.job t ≡ answers bytes
   pub replies : List Reply
   pub last : Value
   pub answered : Answers c (lines_of bytes) replies last
@@ -79,9 +79,9 @@ pub record AnswersAll (c : Call) (schema taken : Taken) (refused : Bool) : Type 
   pub refused_is : refused ≡ list_any is_no replies
 
 -- the first lines of the script were answered, and a front of their replies was written
-pub record AnswersSome (c : Call) (schema taken : Taken) : Type 0 where
+pub record AnswersSome (c : Call) (t : Taking) : Type 0 where
   pub bytes : List ℕ
-  pub work : work_of c.names schema taken ≡ answers bytes
+  pub work : work_of c.job t ≡ answers bytes
   pub first : List (List ℕ)
   pub rest : List (List ℕ)
   pub lines : lines_of bytes ≡ first ++ rest
@@ -91,19 +91,19 @@ pub record AnswersSome (c : Call) (schema taken : Taken) : Type 0 where
   pub written : AppendsFront c.before.output.written c.after.output.written (texts replies)
 
 -- a fault was due, and its line was written
-pub record Tells (c : Call) (schema taken : Taken) (f : Fault) : Type 0 where
-  pub due : IsDue c schema taken f
+pub record Tells (c : Call) (t : Taking) (f : Fault) : Type 0 where
+  pub due : IsDue c t f
   pub written : Appends c.before.output.written c.after.output.written (fault_text f)
 
 -- a fault was due, and a front of its line was written
-pub record TellsFront (c : Call) (schema taken : Taken) : Type 0 where
+pub record TellsFront (c : Call) (t : Taking) : Type 0 where
   pub f : Fault
-  pub due : IsDue c schema taken f
+  pub due : IsDue c t f
   pub written : AppendsFront c.before.output.written c.after.output.written (fault_text f)
 
 -- the text that was due was cut off
-abbrev pub IsCut : Call → Taken → Taken → Type 0
-IsCut c schema taken = TellsFront c schema taken ⊎ AnswersSome c schema taken
+abbrev pub IsCut : Call → Taking → Type 0
+IsCut c t = TellsFront c t ⊎ AnswersSome c t
 
 -- the statuses of a text that was cut off, with their causes
 abbrev pub CutAs : Output → Status → Output → Type 0
@@ -117,24 +117,23 @@ pub record ToldAs (f : Fault) (m : Output) (status : Status) (n : Output) : Type
   pub faults : m.faults ≤ n.faults
 
 -- what a status says
-abbrev pub Says : Call → Taken → Taken → Status → Type 0
-Says c schema taken S.Done = AnswersAll c schema taken false
-Says c schema taken S.Refused = AnswersAll c schema taken true
-Says c schema taken S.Words = Tells c schema taken F.Words
-Says c schema taken S.Schema = Tells c schema taken F.NotBuilt
-Says c schema taken S.Root = ⊥
-Says c schema taken S.Input = (role : Role) × (trouble : Trouble) × Tells c schema taken (F.Input role trouble)
-Says c schema taken S.StoreFault = Tells c schema taken F.Store ⊎ ((id : BlockId) × Tells c schema taken (F.Clash id))
-Says c schema taken S.SinkFault = Rose c.before.output.faults c.after.output.faults × IsCut c schema taken
-Says c schema taken S.Memory = Tells c schema taken F.Memory ⊎ IsCut c schema taken
-Says c schema taken S.Value = ⊥
+abbrev pub Says : Call → Taking → Status → Type 0
+Says c t S.Done = AnswersAll c t false
+Says c t S.Refused = AnswersAll c t true
+Says c t S.Words = Tells c t F.Words
+Says c t S.Schema = Tells c t F.NotBuilt ⊎ ((f : SchemaFault) × Tells c t (F.Schema f))
+Says c t S.Root = ⊥
+Says c t S.Input = (role : Role) × (trouble : Trouble) × Tells c t (F.Input role trouble)
+Says c t S.StoreFault = Tells c t F.Store ⊎ ((id : BlockId) × Tells c t (F.Clash id))
+Says c t S.SinkFault = Rose c.before.output.faults c.after.output.faults × IsCut c t
+Says c t S.Memory = Tells c t F.Memory ⊎ IsCut c t
+Says c t S.Value = ⊥
 
--- a call ended with this status: what is taken of its inputs, and what the status says of it
+-- a call ended with this status: what is taken of its inputs and what the schema is compiled to, and what the status says of them
 pub record Ended (c : Call) (status : Status) : Type 0 where
-  pub schema : Taken
-  pub script : Taken
-  pub taken : AreTaken c.names c.before.supply schema script
-  pub says : Says c schema script status
+  pub taking : Taking
+  pub taken : AreTaken c.job c.before.supply taking
+  pub says : Says c taking status
 
 -- the statuses of a call that ended before the store was asked
 abbrev pub IsBeforeStore : Status → Type 0

@@ -1,5 +1,8 @@
 -- The faults that end a run before its lines, each with its status and its line.
 use Rattle.std.specs.Prelude.{ℕ, List, [], ◌∷◌, ◌++◌, codes}
+use Rattle.std.specs.Fmt.{decimal}
+use Rattle.ild_compile.specs.Line.{flaw_text}
+use Rattle.ild_compile.specs.declared.error.SchemaFault.{SchemaFault}
 use Rattle.ild_data.specs.Spell.{cid_of}
 use Rattle.ild_data.specs.CidText.{cid_text_of}
 use Rattle.ild_run.specs.declared.fault.Fault.{Fault}
@@ -16,6 +19,7 @@ use Rattle.ild_run.specs.declared.status.Status.TheVariants as S
 abbrev pub status_of : Fault → Status
 status_of F.Words = S.Words
 status_of F.NotBuilt = S.Schema
+status_of (F.Schema f) = S.Schema
 status_of (F.Input role trouble) = S.Input
 status_of F.Store = S.StoreFault
 status_of (F.Clash id) = S.StoreFault
@@ -29,10 +33,15 @@ input_text Role.Script T.Failed = codes "fault 5 input script failed\n"
 input_text Role.Script T.Absent = codes "fault 5 input script absent\n"
 input_text Role.Script T.Long = codes "fault 5 input script long\n"
 
+-- `fault 3 schema STAGE N NAME at OFFSET`
+abbrev pub schema_text : SchemaFault → List ℕ
+schema_text f = codes "fault 3 schema " ++ flaw_text f.flaw ++ codes " at " ++ decimal f.at ++ 10 ∷ []
+
 -- the line of a fault, with its line feed
 abbrev pub fault_text : Fault → List ℕ
 fault_text F.Words = codes "fault 2 words\n"
 fault_text F.NotBuilt = codes "fault 3 schema notbuilt\n"
+fault_text (F.Schema f) = schema_text f
 fault_text (F.Input role trouble) = input_text role trouble
 fault_text F.Store = codes "fault 6 store\n"
 fault_text (F.Clash id) = codes "fault 6 clash " ++ (cid_text_of (cid_of id.0) ++ 10 ∷ [])

@@ -6,6 +6,7 @@ pub mod Plain
 pub mod Puts
 pub mod Lines
 pub mod Words
+pub mod Built
 pub mod Fault
 pub mod Work
 pub mod Opening

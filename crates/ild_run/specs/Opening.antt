@@ -1,5 +1,6 @@
 -- What each step before the lines answers.
-use Rattle.std.specs.Prelude.{◌≡◌, ℕ, ◌+◌, ◌≤◌, List, [], ◌∷◌, Bool, true, false, Option, Some, None, Result, Ok, Err}
+use Rattle.std.specs.Prelude.{◌≡◌, ℕ, ◌+◌, ◌≤◌, List, [], ◌∷◌, Option, Some, None, Result, Ok, Err}
+use Rattle.ild_compile.specs.Compile.{Verdict, table, faulty, Compiles}
 use Rattle.ild_data.specs.Spell.{id_of}
 use Rattle.ild_edges.specs.Count.{Rose}
 use Rattle.ild_edges.specs.Inputs.{Supply, After, MayBe}
@@ -7,19 +8,22 @@ use Rattle.ild_edges.specs.Store.{Moment, Later}
 use Rattle.ild_edges.specs.declared.inputs.Taken.{Taken}
 use Rattle.ild_edges.specs.declared.inputs.Taken.TheVariants as Taken
 use Rattle.ild_plain.specs.Value.{Value, block_of, blocks_of}
+use Rattle.ild_schema.specs.declared.row.Row.{Row}
 use Rattle.ild_run.specs.declared.fault.Fault.{Fault}
 use Rattle.ild_run.specs.declared.fault.Fault.TheVariants as F
 use Rattle.ild_run.specs.declared.fault.Role.{Role}
 use Rattle.ild_run.specs.declared.fault.Role.TheVariants as Role
 use Rattle.ild_run.specs.declared.fault.Trouble.TheVariants as T
-use Rattle.ild_run.specs.declared.open.Names.{Names as Held}
+use Rattle.ild_run.specs.declared.open.Job.{Job as Held}
+use Rattle.ild_run.specs.declared.open.Job.TheVariants as J
 use Rattle.ild_run.specs.Step.{Holds, AddsOnly, Collides}
-use Rattle.ild_run.specs.Words.{Names, is_schema}
-use Rattle.ild_run.specs.Work.{Work, ends, answers, schema_work, IsAccepted}
+use Rattle.ild_run.specs.Words.{Job, checks, runs}
+use Rattle.ild_run.specs.Work.{Taking, ends, answers, job_work, IsTaking, Takes}
 
--- the names that the program holds
-abbrev pub names_seen : Held → Names
-names_seen h = record { schema = h.schema.now; script = h.script.now }
+-- the job that the program holds
+abbrev pub job_seen : Held → Job
+job_seen (J.Check schema) = checks schema.now
+job_seen (J.Run schema script) = runs schema.now script.now
 
 abbrev pub InputAnswer : Supply → Role → List ℕ → Result (List ℕ) Fault → Supply → Type 0
 InputAnswer m role name (Ok b) n = MayBe m.files name (Taken.Bytes b)
@@ -34,26 +38,31 @@ pub record TakesInput (m : Supply) (role : Role) (name : List ℕ) (result : Res
   pub answer : InputAnswer m role name result n
   pub after : After m n
 
--- the cause of a fault of the inputs, by what is taken of the schema and the script
-abbrev pub InputsFault : Supply → Taken → Taken → Fault → Supply → Type 0
-InputsFault m schema script (F.Input Role.Schema T.Failed) n = Rose m.faults n.faults
-InputsFault m schema script (F.Input Role.Script T.Failed) n = Rose m.faults n.faults × IsAccepted schema
-InputsFault m schema script (F.Input role trouble) n = (schema_work schema script ≡ ends (F.Input role trouble)) × Rose m.lacks n.lacks
-InputsFault m schema script F.NotBuilt n = schema_work schema script ≡ ends F.NotBuilt
-InputsFault m schema script F.Memory n = Unit {0}
-InputsFault m schema script f n = ⊥
+-- compiling the bytes of a schema
+abbrev pub CompileAnswer : List ℕ → Result (List Row) Fault → Type 0
+CompileAnswer b (Ok rows) = Compiles b (table rows)
+CompileAnswer b (Err (F.Schema f)) = Compiles b (faulty f)
+CompileAnswer b (Err F.Memory) = Unit {0}
+CompileAnswer b (Err f) = ⊥
 
-abbrev pub OpensAnswer : Supply → Taken → Taken → Result (List ℕ) Fault → Supply → Type 0
-OpensAnswer m schema script (Ok b) n = schema_work schema script ≡ answers b
-OpensAnswer m schema script (Err f) n = InputsFault m schema script f n
+-- the cause of a fault of the inputs
+abbrev pub InputsFault : Supply → Job → Taking → Fault → Supply → Type 0
+InputsFault m job t (F.Input role T.Failed) n = Rose m.faults n.faults × Takes role job t
+InputsFault m job t (F.Input role trouble) n = (job_work job t ≡ ends (F.Input role trouble)) × Rose m.lacks n.lacks
+InputsFault m job t F.NotBuilt n = job_work job t ≡ ends F.NotBuilt
+InputsFault m job t (F.Schema f) n = job_work job t ≡ ends (F.Schema f)
+InputsFault m job t F.Memory n = Unit {0}
+InputsFault m job t f n = ⊥
+
+abbrev pub OpensAnswer : Supply → Job → Taking → Result (List ℕ) Fault → Supply → Type 0
+OpensAnswer m job t (Ok b) n = job_work job t ≡ answers b
+OpensAnswer m job t (Err f) n = InputsFault m job t f n
 
 -- the inputs are taken in order, as far as they lead
-pub record Opens (m : Supply) (names : Names) (result : Result (List ℕ) Fault) (n : Supply) : Type 0 where
-  pub schema : Taken
-  pub script : Taken
-  pub schema_is : MayBe m.files names.schema schema
-  pub script_is : MayBe m.files names.script script
-  pub answer : OpensAnswer m schema script result n
+pub record Opens (m : Supply) (job : Job) (result : Result (List ℕ) Fault) (n : Supply) : Type 0 where
+  pub taking : Taking
+  pub taken : IsTaking job m taking
+  pub answer : OpensAnswer m job taking result n
   pub after : After m n
 
 abbrev pub EmptyAnswer : Moment → Value → Result (Unit {0}) Fault → Moment → Type 0

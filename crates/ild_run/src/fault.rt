@@ -2,9 +2,10 @@
 ghost use Rattle.std.specs.Prelude.{◌≡◌, ◌++◌, ◌∷◌, [], IfOk, codes};
 ghost use Rattle.ild_data.specs.Spell.{cid_of};
 ghost use Rattle.ild_data.specs.CidText.{cid_text_of};
-ghost use Rattle.ild_run.specs.Fault.{status_of, input_text, fault_text};
+ghost use Rattle.ild_run.specs.Fault.{status_of, input_text, schema_text, fault_text};
 
 use crate::Status;
+use ild_compile::SchemaFault;
 use ild_data::{BlockId, Octets};
 use std::alloc::{AllocError, Global};
 
@@ -28,6 +29,7 @@ pub enum Trouble {
 pub enum Fault {
     Words,
     NotBuilt,
+    Schema(SchemaFault),
     Input(Role, Trouble),
     Store,
     Clash(BlockId),
@@ -45,6 +47,18 @@ fn input_text(role: Role, trouble: Trouble) -> &'static [u8]
         (Role::Script, Trouble::Absent) => b"fault 5 input script absent\n",
         (Role::Script, Trouble::Long) => b"fault 5 input script long\n",
     }
+}
+
+/// The line of a schema's fault.
+fn schema_text(alloc: Global, fault: SchemaFault) -> Result<Octets, AllocError>
+    ensures { IfOk result (λ line. line ≡ schema_text fault) }
+{
+    let mut line = b"fault 3 schema ".to_vec(alloc)?;
+    line.extend_from_slice(fault.flaw.text().as_bytes())?;
+    line.extend_from_slice(b" at ")?;
+    line.extend_from_slice(fault.at.to_string(alloc)?.as_bytes())?;
+    line.push(b'\n')?;
+    Ok(Octets::from_vec(line))
 }
 
 /// The line of a clash over the block with this id.
@@ -65,7 +79,7 @@ impl Fault {
     {
         match self {
             Fault::Words => Status::Words,
-            Fault::NotBuilt => Status::Schema,
+            Fault::NotBuilt | Fault::Schema(_) => Status::Schema,
             Fault::Input(_, _) => Status::Input,
             Fault::Store | Fault::Clash(_) => Status::StoreFault,
             Fault::Memory => Status::Memory,
@@ -79,6 +93,7 @@ impl Fault {
         match self {
             Fault::Words => Octets::of(alloc, b"fault 2 words\n"),
             Fault::NotBuilt => Octets::of(alloc, b"fault 3 schema notbuilt\n"),
+            Fault::Schema(fault) => schema_text(alloc, fault),
             Fault::Input(role, trouble) => Octets::of(alloc, input_text(role, trouble)),
             Fault::Store => Octets::of(alloc, b"fault 6 store\n"),
             Fault::Clash(id) => clash_text(alloc, id),

@@ -1,6 +1,7 @@
-//! The top call: a script over a plain map from texts to integers, in one block.
+//! The top call: a schema is checked, or a script is run over a plain map from texts to integers, in one block.
 #![tactic(auto)]
 
+mod built;
 mod edit;
 mod fault;
 mod open;

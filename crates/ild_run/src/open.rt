@@ -1,45 +1,52 @@
-//! What comes before the lines: the words, the inputs, and the empty map's block.
+//! What comes before the lines: the words, the inputs, the schema, and the empty map's block.
 ghost use Rattle.std.specs.Prelude.{◌≡◌, option_map};
-ghost use Rattle.ild_run.specs.Words.{names_of, is_schema};
-ghost use Rattle.ild_run.specs.Opening.{names_seen, TakesInput, Opens, PutsEmpty};
+ghost use Rattle.ild_run.specs.Words.{job_of, schema_name};
+ghost use Rattle.ild_run.specs.Opening.{job_seen, CompileAnswer, TakesInput, Opens, PutsEmpty};
 
+use crate::built::is_built;
 use crate::fault::{Fault, Role, Trouble};
 use crate::publish::{PutFault, publish};
+use ild_compile::{CompileErr, compile};
 use ild_data::Octets;
 use ild_edges::{EdgeErr, Inputs, Store, Taken};
 use ild_plain::PlainMap;
+use ild_schema::Schema;
 use std::alloc::Global;
 
-/// The names of the inputs.
+/// What the words ask for, with the names of its inputs: the schema's, and for a run the script's.
 #[derive(Clone, Copy)]
-pub struct Names<'w> {
-    pub schema: &'w str,
-    pub script: &'w str,
+pub enum Job<'w> {
+    Check(&'w str),
+    Run(&'w str, &'w str),
 }
 
-/// The names in the words `run SCHEMA N - SCRIPT`, or `None` where they have another form.
-pub fn names_of(words: &[String]) -> Option<Names<'_>>
-    ensures { option_map names_seen result ≡ names_of words.now }
+impl Job<'_> {
+    /// The name of the schema's input.
+    fn schema(&self) -> &str
+        ensures { result.now ≡ schema_name (job_seen self.now) }
+    {
+        match self {
+            Job::Check(schema) => schema,
+            Job::Run(schema, _) => schema,
+        }
+    }
+}
+
+/// What the words ask for, or `None` where they have no form.
+pub fn job_of(words: &[String]) -> Option<Job<'_>>
+    ensures { option_map job_seen result ≡ job_of words.now }
 {
     match words {
+        [verb, schema] if verb.as_str() == "check" => Some(Job::Check(schema.as_str())),
         [verb, schema, ty, root, script] => {
             if verb.as_str() == "run" && ty.as_str() == "N" && root.as_str() == "-" {
-                Some(Names {
-                    schema: schema.as_str(),
-                    script: script.as_str(),
-                })
+                Some(Job::Run(schema.as_str(), script.as_str()))
             } else {
                 None
             }
         }
         _ => None,
     }
-}
-
-fn is_schema(bytes: &[u8]) -> bool
-    ensures { result ≡ is_schema bytes.now }
-{
-    bytes == b"type N {String:Int}".as_slice() || bytes == b"type N {String:Int}\n".as_slice()
 }
 
 /// Takes the input of a role.
@@ -55,15 +62,30 @@ fn take_input<I: Inputs>(inputs: &mut I, role: Role, name: &str) -> Result<Octet
     }
 }
 
-/// Takes the inputs in order, and answers the script's bytes.
-pub fn take_script<I: Inputs>(inputs: &mut I, names: &Names<'_>) -> Result<Octets, Fault>
-    ensures { Opens (I.supply inputs.old) (names_seen names.now) result (I.supply inputs.new) }
+/// The table of types of a schema.
+fn table_of(alloc: Global, bytes: &[u8]) -> Result<Schema, Fault>
+    ensures { CompileAnswer bytes.now result }
 {
-    let schema = take_input(inputs, Role::Schema, names.schema)?;
-    if !is_schema(schema.as_slice()) {
+    match compile(alloc, bytes) {
+        Ok(schema) => Ok(schema),
+        Err(CompileErr::Fault(fault)) => Err(Fault::Schema(fault)),
+        Err(CompileErr::Memory) => Err(Fault::Memory),
+    }
+}
+
+/// Takes the inputs in order, and answers the script's bytes.
+pub fn take_script<I: Inputs>(alloc: Global, inputs: &mut I, job: &Job<'_>) -> Result<Octets, Fault>
+    ensures { Opens (I.supply inputs.old) (job_seen job.now) result (I.supply inputs.new) }
+{
+    let bytes = take_input(inputs, Role::Schema, job.schema())?;
+    let schema = table_of(alloc, bytes.as_slice())?;
+    let Job::Run(_, script) = job else {
+        return Err(Fault::NotBuilt);
+    };
+    if !is_built(&schema) {
         return Err(Fault::NotBuilt);
     }
-    take_input(inputs, Role::Script, names.script)
+    take_input(inputs, Role::Script, script)
 }
 
 /// Puts the block of the empty map.

@@ -2,13 +2,13 @@
 ghost use Rattle.std.specs.Prelude.{◌≡◌, ◌≤◌};
 ghost use Rattle.ild_edges.specs.Inputs.{After};
 ghost use Rattle.ild_edges.specs.Store.{Later};
-ghost use Rattle.ild_run.specs.Words.{names_of};
+ghost use Rattle.ild_run.specs.Words.{job_of};
 ghost use Rattle.ild_run.specs.Fault.{cut_status};
 ghost use Rattle.ild_run.specs.Ended.{Ended, IsBeforeStore, ToldAs, call_of};
 ghost use Rattle.ild_run.specs.Complete.{IsComplete};
 
 use crate::fault::Fault;
-use crate::open::{names_of, put_empty, take_script};
+use crate::open::{job_of, put_empty, take_script};
 use crate::script::{Cut, answer_all, write};
 use crate::status::Status;
 use ild_edges::{Inputs, Sink, Store};
@@ -46,16 +46,16 @@ fn carry_out<I: Inputs, K: Store, W: Sink>(
     store: &mut K,
     out: &mut W,
 ) -> Status
-    ensures ended { Ended (call_of (names_of words.now) (I.supply inputs.old) (K.moment store.old) (W.output out.old) (I.supply inputs.new) (K.moment store.new) (W.output out.new)) result }
+    ensures ended { Ended (call_of (job_of words.now) (I.supply inputs.old) (K.moment store.old) (W.output out.old) (I.supply inputs.new) (K.moment store.new) (W.output out.new)) result }
     ensures inputs { After (I.supply inputs.old) (I.supply inputs.new) }
     ensures later { Later (K.moment store.old) (K.moment store.new) }
     ensures sink { (W.output out.old).faults ≤ (W.output out.new).faults }
     ensures untouched { IsBeforeStore result → K.moment store.new ≡ K.moment store.old }
 {
-    let Some(names) = names_of(words) else {
+    let Some(job) = job_of(words) else {
         return tell(alloc, Fault::Words, out);
     };
-    let script = match take_script(inputs, &names) {
+    let script = match take_script(alloc, inputs, &job) {
         Ok(script) => script,
         Err(fault) => return tell(alloc, fault, out),
     };
@@ -72,7 +72,7 @@ fn carry_out<I: Inputs, K: Store, W: Sink>(
 
 /// Does what the words say, and answers how it ended.
 ///
-/// Each line of the script is answered as the same command is on the plain value of the map, from the empty map on. A
+/// Under `check` a schema is compiled, and its first fault is told. Under `run` each line of the script is answered as the same command is on the plain value of the map, from the empty map on. A
 /// root that is printed is the id of the block built from scratch from the value at that line. A line that is refused
 /// changes nothing, and its cause is there.
 pub fn run<I: Inputs, K: Store, W: Sink>(
@@ -83,10 +83,10 @@ pub fn run<I: Inputs, K: Store, W: Sink>(
     out: &mut W,
 ) -> Status
     // The status, the text that was written and the cause of both.
-    ensures ended { Ended (call_of (names_of words.now) (I.supply inputs.old) (K.moment store.old) (W.output out.old) (I.supply inputs.new) (K.moment store.new) (W.output out.new)) result }
+    ensures ended { Ended (call_of (job_of words.now) (I.supply inputs.old) (K.moment store.old) (W.output out.old) (I.supply inputs.new) (K.moment store.new) (W.output out.new)) result }
 
     // Where no call of the outside failed and no blocks collide, all that the words ask for is done.
-    ensures complete { IsComplete (call_of (names_of words.now) (I.supply inputs.old) (K.moment store.old) (W.output out.old) (I.supply inputs.new) (K.moment store.new) (W.output out.new)) result }
+    ensures complete { IsComplete (call_of (job_of words.now) (I.supply inputs.old) (K.moment store.old) (W.output out.old) (I.supply inputs.new) (K.moment store.new) (W.output out.new)) result }
 
     // What was held is held, and no count falls.
     ensures inputs { After (I.supply inputs.old) (I.supply inputs.new) }

@@ -1,50 +1,50 @@
 use Rattle.std.proofs.Common.{◌≡◌, true, false, sym, ap, ◌∙◌, subst}
 use Rattle.ild_edges.proofs.Later.{Later-trans}
-use Rattle.ild_run.specs.Words.{names_of}
-use Rattle.ild_run.specs.Opening.{names_seen}
+use Rattle.ild_run.specs.Words.{job_of}
+use Rattle.ild_run.specs.Opening.{job_seen}
 use Rattle.ild_run.specs.Ended.{Call, call_of}
 use Rattle.ild_run.proofs.Endings.{ended_inputs, ended_empty, ended_done, ended_refused, ended_cut, answered_all, answered_some, cut_cause}
 use Rattle.ild_run.proofs.top.carry_out.Goals as goal
 
 pub returns-in-Err-clause-ended : goal.returns-in-Err-clause-ended
 returns-in-Err-clause-ended g c =
-    let call : Call = call_of (names_of c.args.words.now) (g.I.Inputs.supply c.args.inputs.now) (g.K.Store.moment c.args.store.now) (g.W.Sink.output c.args.out.now) (g.I.Inputs.supply c.take_script.new.inputs) (g.K.Store.moment c.args.store.now) (g.W.Sink.output c.tell-in-Err.new.out) in
+    let call : Call = call_of (job_of c.args.words.now) (g.I.Inputs.supply c.args.inputs.now) (g.K.Store.moment c.args.store.now) (g.W.Sink.output c.args.out.now) (g.I.Inputs.supply c.take_script.new.inputs) (g.K.Store.moment c.args.store.now) (g.W.Sink.output c.tell-in-Err.new.out) in
     let opens = c.in-Err.ensures in
-    ended_inputs call (names_seen c.in-Some.names) opens.schema opens.script c.in-Err.fault c.tell-in-Err.result (sym c.in-Some.ensures) opens.schema_is opens.script_is opens.answer c.tell-in-Err.ensures
+    ended_inputs call (job_seen c.in-Some.job) opens.taking c.in-Err.fault c.tell-in-Err.result (sym c.in-Some.ensures) opens.taken opens.answer c.tell-in-Err.ensures
 
 pub returns-in-Err-put_empty-clause-ended : goal.returns-in-Err-put_empty-clause-ended
 returns-in-Err-put_empty-clause-ended g c =
-    let call : Call = call_of (names_of c.args.words.now) (g.I.Inputs.supply c.args.inputs.now) (g.K.Store.moment c.args.store.now) (g.W.Sink.output c.args.out.now) (g.I.Inputs.supply c.take_script.new.inputs) (g.K.Store.moment c.put_empty.new.store) (g.W.Sink.output c.tell-in-Err-put_empty.new.out) in
+    let call : Call = call_of (job_of c.args.words.now) (g.I.Inputs.supply c.args.inputs.now) (g.K.Store.moment c.args.store.now) (g.W.Sink.output c.args.out.now) (g.I.Inputs.supply c.take_script.new.inputs) (g.K.Store.moment c.put_empty.new.store) (g.W.Sink.output c.tell-in-Err-put_empty.new.out) in
     let opens = c.in-Ok.ensures in
-    ended_empty call (names_seen c.in-Some.names) opens.schema opens.script c.in-Ok.script c.new-value.result c.in-Err-put_empty.fault c.tell-in-Err-put_empty.result
-    (sym c.in-Some.ensures) opens.schema_is opens.script_is opens.answer c.new-value.ensures c.in-Err-put_empty.ensures.answer c.tell-in-Err-put_empty.ensures
+    ended_empty call (job_seen c.in-Some.job) opens.taking c.in-Ok.script c.new-value.result c.in-Err-put_empty.fault c.tell-in-Err-put_empty.result
+    (sym c.in-Some.ensures) opens.taken opens.answer c.new-value.ensures c.in-Err-put_empty.ensures.answer c.tell-in-Err-put_empty.ensures
 
 pub returns-in-Ok-true-clause-ended : goal.returns-in-Ok-true-clause-ended
 returns-in-Ok-true-clause-ended g c =
-    let call : Call = call_of (names_of c.args.words.now) (g.I.Inputs.supply c.args.inputs.now) (g.K.Store.moment c.args.store.now) (g.W.Sink.output c.args.out.now) (g.I.Inputs.supply c.take_script.new.inputs) (g.K.Store.moment c.answer_all.new.store) (g.W.Sink.output c.answer_all.new.out) in
+    let call : Call = call_of (job_of c.args.words.now) (g.I.Inputs.supply c.args.inputs.now) (g.K.Store.moment c.args.store.now) (g.W.Sink.output c.args.out.now) (g.I.Inputs.supply c.take_script.new.inputs) (g.K.Store.moment c.answer_all.new.store) (g.W.Sink.output c.answer_all.new.out) in
     let opens = c.in-Ok.ensures in
     let done = rw (c.as_slice.ensures, c.in-Ok-true.field-0-test) at c.in-Ok-true.ensures.done in
-    ended_refused call (names_seen c.in-Some.names) opens.schema opens.script (sym c.in-Some.ensures) opens.schema_is opens.script_is
-    (answered_all call (names_seen c.in-Some.names) opens.schema opens.script c.in-Ok.script c.new-value.result c.put_empty.result c.in_default-put_empty.field-0 (g.K.Store.moment c.put_empty.new.store) c.answer_all.new.value true
+    ended_refused call (job_seen c.in-Some.job) opens.taking (sym c.in-Some.ensures) opens.taken
+    (answered_all call (job_seen c.in-Some.job) opens.taking c.in-Ok.script c.new-value.result c.put_empty.result c.in_default-put_empty.field-0 (g.K.Store.moment c.put_empty.new.store) c.answer_all.new.value true
     (sym c.in-Some.ensures) opens.answer c.new-value.ensures c.in_default-put_empty.is c.put_empty.ensures done)
 
 pub returns-in-Ok-false-clause-ended : goal.returns-in-Ok-false-clause-ended
 returns-in-Ok-false-clause-ended g c =
-    let call : Call = call_of (names_of c.args.words.now) (g.I.Inputs.supply c.args.inputs.now) (g.K.Store.moment c.args.store.now) (g.W.Sink.output c.args.out.now) (g.I.Inputs.supply c.take_script.new.inputs) (g.K.Store.moment c.answer_all.new.store) (g.W.Sink.output c.answer_all.new.out) in
+    let call : Call = call_of (job_of c.args.words.now) (g.I.Inputs.supply c.args.inputs.now) (g.K.Store.moment c.args.store.now) (g.W.Sink.output c.args.out.now) (g.I.Inputs.supply c.take_script.new.inputs) (g.K.Store.moment c.answer_all.new.store) (g.W.Sink.output c.answer_all.new.out) in
     let opens = c.in-Ok.ensures in
     let done = rw (c.as_slice.ensures, c.in-Ok-false.field-0-test) at c.in-Ok-false.ensures.done in
-    ended_done call (names_seen c.in-Some.names) opens.schema opens.script (sym c.in-Some.ensures) opens.schema_is opens.script_is
-    (answered_all call (names_seen c.in-Some.names) opens.schema opens.script c.in-Ok.script c.new-value.result c.put_empty.result c.in_default-put_empty.field-0 (g.K.Store.moment c.put_empty.new.store) c.answer_all.new.value false
+    ended_done call (job_seen c.in-Some.job) opens.taking (sym c.in-Some.ensures) opens.taken
+    (answered_all call (job_seen c.in-Some.job) opens.taking c.in-Ok.script c.new-value.result c.put_empty.result c.in_default-put_empty.field-0 (g.K.Store.moment c.put_empty.new.store) c.answer_all.new.value false
     (sym c.in-Some.ensures) opens.answer c.new-value.ensures c.in_default-put_empty.is c.put_empty.ensures done)
 
 pub returns-clause-ended : goal.returns-clause-ended
 returns-clause-ended g c =
-    let call : Call = call_of (names_of c.args.words.now) (g.I.Inputs.supply c.args.inputs.now) (g.K.Store.moment c.args.store.now) (g.W.Sink.output c.args.out.now) (g.I.Inputs.supply c.take_script.new.inputs) (g.K.Store.moment c.answer_all.new.store) (g.W.Sink.output c.answer_all.new.out) in
+    let call : Call = call_of (job_of c.args.words.now) (g.I.Inputs.supply c.args.inputs.now) (g.K.Store.moment c.args.store.now) (g.W.Sink.output c.args.out.now) (g.I.Inputs.supply c.take_script.new.inputs) (g.K.Store.moment c.answer_all.new.store) (g.W.Sink.output c.answer_all.new.out) in
     let opens = c.in-Ok.ensures in
     let cut = rw c.as_slice.ensures at c.in-Err-answer_all.ensures.part in
-    let some = answered_some call (names_seen c.in-Some.names) opens.schema opens.script c.in-Ok.script c.new-value.result c.put_empty.result c.in_default-put_empty.field-0 (g.K.Store.moment c.put_empty.new.store) c.answer_all.new.value
+    let some = answered_some call (job_seen c.in-Some.job) opens.taking c.in-Ok.script c.new-value.result c.put_empty.result c.in_default-put_empty.field-0 (g.K.Store.moment c.put_empty.new.store) c.answer_all.new.value
     (sym c.in-Some.ensures) opens.answer c.new-value.ensures c.in_default-put_empty.is c.put_empty.ensures cut in
-    rw c.cut_status.ensures (ended_cut call (names_seen c.in-Some.names) opens.schema opens.script c.in-Err-answer_all.cut (sym c.in-Some.ensures) opens.schema_is opens.script_is some
+    rw c.cut_status.ensures (ended_cut call (job_seen c.in-Some.job) opens.taking c.in-Err-answer_all.cut (sym c.in-Some.ensures) opens.taken some
     (cut_cause c.in-Err-answer_all.cut (g.W.Sink.output c.args.out.now) (g.W.Sink.output c.answer_all.new.out) c.in-Err-answer_all.ensures.sink))
 
 pub returns-in-Ok-true-clause-later : goal.returns-in-Ok-true-clause-later
