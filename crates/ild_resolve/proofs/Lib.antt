@@ -1,3 +1,6 @@
 pub mod Opened
 pub mod Counts
 pub mod Limits
+pub mod Within
+pub mod Named
+pub mod Once
