@@ -4,3 +4,4 @@ pub mod Limits
 pub mod Within
 pub mod Named
 pub mod Once
+pub mod Tables

@@ -2,5 +2,7 @@
 #![tactic(auto)]
 
 mod error;
+mod laws;
 
 pub use error::ResolveErr;
+pub use laws::faultless_have_tables;
