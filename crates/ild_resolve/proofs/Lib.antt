@@ -5,3 +5,4 @@ pub mod Within
 pub mod Named
 pub mod Once
 pub mod Tables
+pub mod Results

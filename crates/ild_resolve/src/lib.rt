@@ -5,4 +5,4 @@ mod error;
 mod laws;
 
 pub use error::ResolveErr;
-pub use laws::faultless_have_tables;
+pub use laws::{faultless_have_tables, one_result};
