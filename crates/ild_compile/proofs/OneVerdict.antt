@@ -14,7 +14,7 @@ use Rattle.ild_schema.specs.declared.row.Row.{Row}
 use Rattle.ild_resolve.specs.Table.{Resolves}
 use Rattle.ild_resolve.specs.declared.error.ResolveErr.{ResolveErr}
 use Rattle.ild_resolve.specs.declared.error.ResolveErr.TheVariants as R
-use Rattle.ild_resolve.proofs.OneResult.{one_result}
+use Rattle.ild_resolve.proofs.Results.{one_result_lem}
 use Rattle.ild_compile.specs.declared.error.Flaw.{Flaw}
 use Rattle.ild_compile.specs.declared.error.Flaw.TheVariants as F
 use Rattle.ild_compile.specs.Compile.{Verdict, table, faulty, HasTree, IsUngrammatical, IsFlaw, Compiles}
@@ -121,7 +121,7 @@ one_tree src a b p q =
 resolved_twice : (src : List ℕ) (v w : Verdict) → Resolved src v → Resolved src w → v ≡ w
 resolved_twice src v w p q =
     let same = one_tree src p.ast q.ast p.tree q.tree in
-    p.is ∙ ap resolving_verdict (one_result q.ast p.result q.result (subst (λ (a : Ast). Resolves a p.result) same p.resolves) q.resolves) ∙ sym q.is
+    p.is ∙ ap resolving_verdict (one_result_lem q.ast p.result q.result (subst (λ (a : Ast). Resolves a p.result) same p.resolves) q.resolves) ∙ sym q.is
 
 one_staged : (src : List ℕ) (v w : Verdict) → Staged src v → Staged src w → v ≡ w
 one_staged src v w (inl p) (inl q) = p.1 ∙ sym q.1

@@ -2,7 +2,9 @@
 #![tactic(auto)]
 
 mod error;
+mod laws;
 mod resolving;
 
 pub use error::ResolveErr;
+pub use laws::{faultless_have_tables, one_result};
 pub use resolving::resolve;

@@ -122,13 +122,13 @@ says_cut c t C.Sink some rose = (rose, inr some)
 says_cut c t C.Memory some rose = inr (inr some)
 
 pub ended_cut : (c : Call) (job : Job) (t : Taking) (cut : Cut) → c.job ≡ Some job → IsTaking job c.before.supply t → AnswersSome c t → CutAs c.before.output (cut_status cut) c.after.output → Ended c (cut_status cut)
-ended_cut c job t cut named a some rose = record { taking = t; taken = are_taken c job t named a s; says = says_cut c t cut some rose }
+ended_cut c job t cut named a some rose = record { taking = t; taken = are_taken c job t named a; says = says_cut c t cut some rose }
 
 pub ended_done : (c : Call) (job : Job) (t : Taking) → c.job ≡ Some job → IsTaking job c.before.supply t → AnswersAll c t false → Ended c S.Done
-ended_done c job t named a all = record { taking = t; taken = are_taken c job t named a s; says = all }
+ended_done c job t named a all = record { taking = t; taken = are_taken c job t named a; says = all }
 
 pub ended_refused : (c : Call) (job : Job) (t : Taking) → c.job ≡ Some job → IsTaking job c.before.supply t → AnswersAll c t true → Ended c S.Refused
-ended_refused c job t named a all = record { taking = t; taken = are_taken c job t named a s; says = all }
+ended_refused c job t named a all = record { taking = t; taken = are_taken c job t named a; says = all }
 
 -- why a text was cut off
 pub cut_cause : (cut : Cut) (m n : Output) → (IsErrOf {T = Bool} (Err cut) C.Sink → Rose m.faults n.faults) → CutAs m (cut_status cut) n
