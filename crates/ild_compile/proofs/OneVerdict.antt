@@ -17,7 +17,7 @@ use Rattle.ild_resolve.specs.declared.error.ResolveErr.TheVariants as R
 use Rattle.ild_resolve.proofs.Results.{one_result_lem}
 use Rattle.ild_compile.specs.declared.error.Flaw.{Flaw}
 use Rattle.ild_compile.specs.declared.error.Flaw.TheVariants as F
-use Rattle.ild_compile.specs.Compile.{Verdict, table, faulty, HasTree, IsUngrammatical, IsFlaw, Compiles}
+use Rattle.ild_compile.specs.Compile.{Verdict, table, faulty, HasTree, HasWrongName, IsUngrammatical, IsFlaw, Compiles}
 
 -- ---- each verdict by the stage that gives it
 
@@ -64,23 +64,23 @@ record Resolved (src : List ℕ) (v : Verdict) : Type 0 where
 abbrev Staged : List ℕ → Verdict → Type 0
 Staged src v = NoText src v ⊎ (NoTokens src v ⊎ (NoTree src v ⊎ Resolved src v))
 
-resolved : (src : List ℕ) (v : Verdict) (r : Result (List Row) ResolveErr) (h : (ast : Ast) × HasTree src ast × Resolves ast r) → v ≡ resolving_verdict r → Staged src v
-resolved src v r h is = inr (inr (inr (record { ast = h.0; tree = h.1; result = r; resolves = h.2; is = is })))
+misnamed : (src : List ℕ) (v : Verdict) (e : ResolveErr) → HasWrongName src e → v ≡ resolving_verdict (Err e) → Staged src v
+misnamed src v e h is = inr (inr (inr (record { ast = h.ast; tree = h.tree; result = Err e; resolves = h.resolves; is = is })))
 
 staged_flaw : (src : List ℕ) (flaw : Flaw) (at : ℕ) → IsFlaw src flaw at → Staged src (faulty (record { flaw = flaw; at = at }))
 staged_flaw src F.Char at (inl h) = inl (h.0, ap (λ n. faulty (record { flaw = F.Char; at = n })) h.1)
 staged_flaw src F.Char at (inr h) = inr (inl (record { text = h.0; tokens = h.1.0; stop = wrong_char at; lexed = h.1.1; stops = tt; is = refl }))
 staged_flaw src F.Unended at h = inr (inl (record { text = h.0; tokens = h.1.0; stop = unended_text at; lexed = h.1.1; stops = tt; is = refl }))
 staged_flaw src F.Syntax at h = inr (inr (inl (at, h, refl)))
-staged_flaw src F.Twice at h = resolved src _ (Err (R.Twice at)) h refl
-staged_flaw src F.Unknown at h = resolved src _ (Err (R.Unknown at)) h refl
-staged_flaw src F.Float at h = resolved src _ (Err (R.Float at)) h refl
-staged_flaw src F.CopyCycle at h = resolved src _ (Err (R.CopyCycle at)) h refl
-staged_flaw src F.Advanced at h = resolved src _ (Err (R.Advanced at)) h refl
-staged_flaw src F.Many at h = resolved src _ (Err (R.Many at)) h refl
+staged_flaw src F.Twice at h = misnamed src _ (R.Twice at) h refl
+staged_flaw src F.Unknown at h = misnamed src _ (R.Unknown at) h refl
+staged_flaw src F.Float at h = misnamed src _ (R.Float at) h refl
+staged_flaw src F.CopyCycle at h = misnamed src _ (R.CopyCycle at) h refl
+staged_flaw src F.Advanced at h = misnamed src _ (R.Advanced at) h refl
+staged_flaw src F.Many at h = misnamed src _ (R.Many at) h refl
 
 staged : (src : List ℕ) (v : Verdict) → Compiles src v → Staged src v
-staged src (table rows) h = resolved src (table rows) (Ok rows) h refl
+staged src (table rows) h = inr (inr (inr (record { ast = h.ast; tree = h.tree; result = Ok rows; resolves = h.resolves; is = refl })))
 staged src (faulty f) h = staged_flaw src f.flaw f.at h
 
 -- ---- one reading, one tree, one result

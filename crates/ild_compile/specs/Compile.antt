@@ -9,6 +9,7 @@ use Rattle.ild_parse.specs.Fault.{IsWrongAt}
 use Rattle.ild_parse.specs.Grammar.{parse_of}
 use Rattle.ild_schema.specs.declared.row.Row.{Row}
 use Rattle.ild_resolve.specs.Table.{Resolves}
+use Rattle.ild_resolve.specs.declared.error.ResolveErr.{ResolveErr}
 use Rattle.ild_resolve.specs.declared.error.ResolveErr.TheVariants as R
 use Rattle.ild_compile.specs.declared.error.Flaw.{Flaw}
 use Rattle.ild_compile.specs.declared.error.Flaw.TheVariants as F
@@ -40,20 +41,32 @@ pub record IsUngrammatical (src : List ℕ) (at : ℕ) : Type 0 where
 abbrev pub IsWrongChar : List ℕ → ℕ → Type 0
 IsWrongChar src at = ((IsUtf8 src → ⊥) × (at ≡ utf8_valid_len src)) ⊎ (IsUtf8 src × ((ts : List Token) × Lexes 0 src ts (wrong_char at)))
 
+-- they are a text of the grammar, and these are the rows of its table
+pub record HasTable (src : List ℕ) (rows : List Row) : Type 0 where
+  pub ast : Ast
+  pub tree : HasTree src ast
+  pub resolves : Resolves ast (Ok rows)
+
+-- they are a text of the grammar, whose names have this first fault
+pub record HasWrongName (src : List ℕ) (e : ResolveErr) : Type 0 where
+  pub ast : Ast
+  pub tree : HasTree src ast
+  pub resolves : Resolves ast (Err e)
+
 -- the first fault of the bytes is this one
 abbrev pub IsFlaw : List ℕ → Flaw → ℕ → Type 0
 IsFlaw src F.Char at = IsWrongChar src at
 IsFlaw src F.Unended at = IsUtf8 src × ((ts : List Token) × Lexes 0 src ts (unended_text at))
 IsFlaw src F.Syntax at = IsUngrammatical src at
-IsFlaw src F.Twice at = (ast : Ast) × HasTree src ast × Resolves ast (Err (R.Twice at))
-IsFlaw src F.Unknown at = (ast : Ast) × HasTree src ast × Resolves ast (Err (R.Unknown at))
-IsFlaw src F.Float at = (ast : Ast) × HasTree src ast × Resolves ast (Err (R.Float at))
-IsFlaw src F.CopyCycle at = (ast : Ast) × HasTree src ast × Resolves ast (Err (R.CopyCycle at))
-IsFlaw src F.Advanced at = (ast : Ast) × HasTree src ast × Resolves ast (Err (R.Advanced at))
-IsFlaw src F.Many at = (ast : Ast) × HasTree src ast × Resolves ast (Err (R.Many at))
+IsFlaw src F.Twice at = HasWrongName src (R.Twice at)
+IsFlaw src F.Unknown at = HasWrongName src (R.Unknown at)
+IsFlaw src F.Float at = HasWrongName src (R.Float at)
+IsFlaw src F.CopyCycle at = HasWrongName src (R.CopyCycle at)
+IsFlaw src F.Advanced at = HasWrongName src (R.Advanced at)
+IsFlaw src F.Many at = HasWrongName src (R.Many at)
 
 abbrev pub Compiles : List ℕ → Verdict → Type 0
-Compiles src (table rows) = (ast : Ast) × HasTree src ast × Resolves ast (Ok rows)
+Compiles src (table rows) = HasTable src rows
 Compiles src (faulty f) = IsFlaw src f.flaw f.at
 
 -- what an answer says of the bytes

@@ -1,7 +1,6 @@
 -- Where nothing stands in the way, a call ends as the plain value says.
-use Rattle.std.proofs.Common.{◌≡◌, ◌⊎◌, ℕ, ◌<◌, ◌≤◌, List, [], ◌∷◌, Bool, true, false, cond, Option, Some, None, refl, sym, ap, ◌∙◌, subst, inl, inr, arith}
-use Rattle.std.specs.Prelude.{Contains}
-use Rattle.std.specs.List.{AllByRecursion, list_any, cons_option}
+use Rattle.std.proofs.Common.{◌≡◌, ◌⊎◌, ℕ, ◌≤◌, List, [], ◌∷◌, Bool, true, false, cond, Option, Some, None, refl, sym, ap, ◌∙◌, subst, inl, inr, arith}
+use Rattle.std.specs.List.{AllByRecursion}
 use Rattle.ild_data.specs.Spell.{id_of}
 use Rattle.ild_edges.specs.Count.{Rose, bumped}
 use Rattle.ild_edges.specs.Inputs.{MayBe}
@@ -9,16 +8,12 @@ use Rattle.ild_edges.specs.Store.{Moment, Later, Keeps, block_at}
 use Rattle.ild_edges.specs.Told.{IfTold, BothTold}
 use Rattle.ild_edges.proofs.Later.{Later-refl, Later-trans}
 use Rattle.ild_edges.specs.declared.inputs.Taken.{Taken}
-use Rattle.ild_edges.specs.declared.inputs.Taken.TheVariants as Taken
-use Rattle.ild_plain.specs.Value.{Value, blocks_of}
-use Rattle.ild_script.specs.declared.reply.No.{No}
 use Rattle.ild_script.specs.declared.reply.No.TheVariants as N
 use Rattle.ild_script.specs.declared.reply.Reply.{Reply}
 use Rattle.ild_script.specs.declared.reply.Reply.TheVariants as R
 use Rattle.ild_script.specs.Line.{lines_of}
-use Rattle.ild_script.specs.Reply.{is_no}
 use Rattle.ild_run.specs.Session.{State, Meaning, idle}
-use Rattle.ild_run.specs.Step.{Holds, Collides, blocks_put, HasCause, IsExcused, Step}
+use Rattle.ild_run.specs.Step.{Collides, blocks_put, IsExcused}
 use Rattle.ild_run.specs.Run.{Run}
 use Rattle.ild_run.specs.Plain.{plain_map}
 use Rattle.ild_compile.specs.Compile.{Verdict, table}
@@ -26,10 +21,9 @@ use Rattle.ild_compile.proofs.OneVerdict.{one_verdict_lem}
 use Rattle.ild_run.specs.Work.{Work, Taking, ends, answers, built_work, compiled_work, schema_work, job_work, work_of, IsVerdict, IsTaking, AreTaken}
 use Rattle.ild_run.specs.Words.{Job, runs}
 use Rattle.ild_run.specs.Ended.{Call, IsDue, AnswersAll, Says, Ended}
-use Rattle.ild_run.specs.Complete.{PlainStep, PlainRun, IsGiven, IsUndisturbed, AnswersPlainly, IsComplete}
+use Rattle.ild_run.specs.Complete.{PlainRun, IsGiven, IsUndisturbed, AnswersPlainly, IsComplete}
 use Rattle.ild_run.specs.declared.fault.Fault.{Fault}
 use Rattle.ild_run.specs.declared.fault.Fault.TheVariants as F
-use Rattle.ild_run.specs.declared.fault.Role.TheVariants as Role
 use Rattle.ild_run.specs.declared.fault.Trouble.TheVariants as T
 use Rattle.ild_run.specs.declared.status.Status.{Status}
 use Rattle.ild_run.specs.declared.status.Status.TheVariants as S

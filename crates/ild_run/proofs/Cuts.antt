@@ -1,10 +1,9 @@
 -- The first line of a script, and what is left.
-use Rattle.std.proofs.Common.{◌≡◌, ◌≢◌, ℕ, ◌+◌, ◌-◌, ◌<◌, ◌≤◌, List, [], ◌∷◌, length, get_or, length-drop, take, drop, Bool, true, false, cond, not, Option, Some, None, ltb, refl, sym, ap, ◌∙◌, arith}
-use Rattle.std.specs.List.{slice_split, position, position_or_len, before_first, after_first}
+use Rattle.std.proofs.Common.{◌≡◌, ℕ, ◌+◌, ◌-◌, ◌<◌, ◌≤◌, List, [], ◌∷◌, length, get_or, length-drop, take, drop, Bool, true, false, cond, not, Some, None, ltb, refl, arith}
+use Rattle.std.specs.List.{position, position_or_len}
 use Rattle.std.proofs.lemmas.List.Splits.{slice_split_first, slice_split_none}
 use Rattle.std.proofs.lemmas.List.{take_all}
 use Rattle.std.proofs.lemmas.List.Sums.{prefix_len_passes}
-use Rattle.std.proofs.lemmas.Option.{same_Some}
 use Rattle.std.proofs.lemmas.Bool.Decides.{nat_tests}
 use Rattle.ild_script.specs.Line.{lines_of, is_feed}
 

@@ -1,22 +1,21 @@
 -- How a call ends, from how its steps ended.
-use Rattle.std.proofs.Common.{◌≡◌, ◌⊎◌, ℕ, ◌+◌, ◌≤◌, List, [], ◌∷◌, Bool, true, false, Option, Some, None, Result, Ok, Err, refl, sym, ap, ◌∙◌, subst, inl, inr, arith}
+use Rattle.std.proofs.Common.{◌≡◌, ◌⊎◌, ℕ, List, [], Bool, true, false, Option, Some, None, Result, Ok, Err, refl, sym, ap, ◌∙◌, subst, inl, inr}
 use Rattle.std.specs.Prelude.{IsErrOf}
 use Rattle.ild_edges.specs.Count.{Rose}
-use Rattle.ild_data.specs.declared.id.BlockId.{BlockId}
 use Rattle.ild_edges.specs.Sink.{Output, Appends, AppendsFront}
-use Rattle.ild_edges.specs.Store.{Moment, Later}
-use Rattle.ild_plain.specs.Value.{Value, blocks_of}
+use Rattle.ild_edges.specs.Store.{Moment}
+use Rattle.ild_edges.specs.declared.inputs.Taken.TheVariants as Taken
+use Rattle.ild_plain.specs.Value.{Value}
 use Rattle.ild_script.specs.Line.{lines_of}
 use Rattle.ild_run.specs.Lines.{LinesDone, LinesCut}
 use Rattle.ild_run.specs.Opening.{PutsEmpty, EmptyAnswer, InputsFault}
 use Rattle.ild_run.specs.Fault.{fault_text, status_of, cut_status}
-use Rattle.ild_run.specs.Work.{Work, Taking, ends, answers, work_of, job_work, IsTaking, AreTaken, Takes, Reaches}
+use Rattle.ild_run.specs.Work.{Work, Taking, answers, work_of, job_work, IsTaking, AreTaken, Takes, Reaches}
 use Rattle.ild_run.specs.Words.{Job}
-use Rattle.ild_run.specs.Ended.{Call, IsDue, HasScript, Answers, AnswersAll, AnswersSome, Tells, TellsFront, CutAs, ToldAs, Says, Ended}
+use Rattle.ild_run.specs.Ended.{Call, IsDue, HasScript, AnswersAll, AnswersSome, Tells, TellsFront, CutAs, ToldAs, Says, Ended}
 use Rattle.ild_run.specs.declared.fault.Fault.{Fault}
 use Rattle.ild_run.specs.declared.fault.Fault.TheVariants as F
 use Rattle.ild_run.specs.declared.fault.Role.{Role}
-use Rattle.ild_run.specs.declared.fault.Role.TheVariants as Role
 use Rattle.ild_run.specs.declared.fault.Trouble.TheVariants as T
 use Rattle.ild_run.specs.declared.script.Cut.{Cut}
 use Rattle.ild_run.specs.declared.script.Cut.TheVariants as C
@@ -54,6 +53,14 @@ says_by c t f status due (inr cut) = says_front c t status (record { f = f; due 
 
 pub ended_told : (c : Call) (t : Taking) (f : Fault) (status : Status) → AreTaken c.job c.before.supply t → IsDue c t f → ToldAs f c.before.output status c.after.output → Ended c status
 ended_told c t f status taken due told = record { taking = t; taken = taken; says = says_by c t f status due told.told }
+
+-- a call whose words have no form
+no_taking : Taking
+no_taking = record { schema = Taken.Absent; verdict = None; script = Taken.Absent }
+
+pub ended_words : (c : Call) (status : Status) → c.job ≡ None → ToldAs F.Words c.before.output status c.after.output → Ended c status
+ended_words c status none told =
+    ended_told c no_taking F.Words status (subst (λ (j : Option Job). AreTaken j c.before.supply no_taking) (sym none) tt) (ap (λ j. work_of j no_taking) none) told
 
 -- the work of a call whose inputs were taken
 has_script : (found : Option Job) (job : Job) (t : Taking) (b : List ℕ) → found ≡ Some job → job_work job t ≡ answers b → work_of found t ≡ answers b

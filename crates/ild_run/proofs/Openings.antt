@@ -1,22 +1,18 @@
 -- Taking the inputs in order.
-use Rattle.std.proofs.Common.{◌≡◌, ℕ, ◌≤◌, List, Bool, true, false, Option, Some, None, Result, Ok, Err, refl, sym, ap, ◌∙◌, subst, arith}
+use Rattle.std.proofs.Common.{◌≡◌, ℕ, ◌≤◌, List, true, false, Option, Some, None, Result, Ok, Err, refl, sym, ap, subst, arith}
 use Rattle.ild_compile.specs.Compile.{Verdict, table, faulty, Compiles}
-use Rattle.ild_edges.specs.Count.{Rose, bumped}
 use Rattle.ild_edges.specs.Inputs.{Supply, After, MayBe, taken_of, file_at}
 use Rattle.ild_edges.proofs.After.{After-trans}
 use Rattle.ild_edges.specs.declared.inputs.Taken.{Taken}
-use Rattle.ild_edges.specs.declared.inputs.Taken.TheVariants as Taken
 use Rattle.ild_schema.specs.declared.row.Row.{Row}
 use Rattle.ild_run.specs.declared.fault.Fault.{Fault}
 use Rattle.ild_run.specs.declared.fault.Fault.TheVariants as F
 use Rattle.ild_run.specs.declared.fault.Role.{Role}
-use Rattle.ild_run.specs.declared.fault.Role.TheVariants as Role
-use Rattle.ild_run.specs.declared.fault.Trouble.{Trouble}
 use Rattle.ild_run.specs.declared.fault.Trouble.TheVariants as T
 use Rattle.ild_run.specs.Built.{is_built}
 use Rattle.ild_run.specs.Words.{Job, checks, runs, schema_name}
-use Rattle.ild_run.specs.Work.{Taking, ends, answers, built_work, job_work, IsVerdict, IsScript, IsTaking, IsOpen}
-use Rattle.ild_run.specs.Opening.{InputAnswer, TakesInput, CompileAnswer, InputsFault, OpensAnswer, Opens}
+use Rattle.ild_run.specs.Work.{Taking, built_work, IsVerdict, IsScript, IsOpen}
+use Rattle.ild_run.specs.Opening.{InputAnswer, TakesInput, CompileAnswer, OpensAnswer, Opens}
 
 -- something may be taken under each name
 some_taken : (files : Option (List (List ℕ × List ℕ))) (name : List ℕ) → (t : Taken) × MayBe files name t

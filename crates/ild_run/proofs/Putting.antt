@@ -1,14 +1,13 @@
 -- What a put of one block leaves: which blocks came, and what is held.
-use Rattle.std.proofs.Common.{◌≡◌, ◌≢◌, ◌⊎◌, ℕ, ◌+◌, ◌≤◌, List, [], ◌∷◌, Bool, true, false, Option, Some, None, Result, Ok, Err, refl, sym, ap, ◌∙◌, subst, inl, inr, arith}
-use Rattle.std.specs.Prelude.{Contains, ◌-◌, ◌^◌, min}
+use Rattle.std.proofs.Common.{◌≡◌, ◌⊎◌, ℕ, ◌+◌, ◌≤◌, List, [], ◌∷◌, Bool, true, false, Option, Some, None, Ok, Err, refl, sym, ap, ◌∙◌, subst, inl, inr, arith}
+use Rattle.std.specs.Prelude.{Contains}
 use Rattle.std.proofs.lemmas.Option.{same_Some}
 use Rattle.std.specs.Cmp.Lexicographic.{same_text as text_same, other_text}
 use Rattle.ild_data.specs.Key.{same_text}
 use Rattle.ild_data.specs.Spell.{id_of}
-use Rattle.ild_edges.specs.Count.{Rose, bumped}
-use Rattle.ild_edges.specs.Store.{Moment, Later, Adds, IsFree, block_at, Puts, PutsAnswer}
+use Rattle.ild_edges.specs.Count.{bumped}
+use Rattle.ild_edges.specs.Store.{Moment, Adds, IsFree, block_at, PutsAnswer}
 use Rattle.ild_edges.specs.Told.{IfTold, BothTold}
-use Rattle.ild_edges.specs.declared.error.EdgeErr.{EdgeErr}
 use Rattle.ild_edges.specs.declared.error.EdgeErr.TheVariants as E
 use Rattle.ild_run.specs.Step.{Holds, AddsOnly, Collides}
 

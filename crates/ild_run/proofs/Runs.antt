@@ -1,18 +1,18 @@
 -- One line more of a run.
-use Rattle.std.proofs.Common.{◌≡◌, ℕ, List, [], ◌∷◌, ◌++◌, Bool, true, false, Option, Some, None, refl, sym, ap, ◌∙◌, subst, append_assoc, append-nil}
+use Rattle.std.proofs.Common.{◌≡◌, ℕ, List, [], ◌∷◌, ◌++◌, Bool, false, Option, Some, None, refl, sym, ap, ◌∙◌, subst, append_assoc, append-nil}
 use Rattle.std.specs.Prelude.{◌||◌}
 use Rattle.std.specs.List.{list_any, cons_option}
 use Rattle.std.proofs.lemmas.Grind.{flat_map-append}
 use Rattle.std.proofs.lemmas.List.Folds.{list_any-append}
 use Rattle.ild_edges.specs.Sink.{Appends, AppendsFront}
-use Rattle.ild_edges.specs.Store.{Moment, Later}
+use Rattle.ild_edges.specs.Store.{Moment}
 use Rattle.ild_edges.proofs.Later.{Later-refl, Later-trans}
 use Rattle.ild_edges.proofs.Written.{appends_none, appends_then, front_then}
-use Rattle.ild_plain.specs.Value.{Value, blocks_of}
+use Rattle.ild_plain.specs.Value.{Value}
 use Rattle.ild_script.specs.declared.reply.Reply.{Reply}
 use Rattle.ild_script.specs.Reply.{reply_text, is_no}
 use Rattle.ild_run.specs.Session.{State, Meaning, idle}
-use Rattle.ild_run.specs.Step.{Step, Holds}
+use Rattle.ild_run.specs.Step.{Step}
 use Rattle.ild_run.specs.Run.{Run, texts}
 use Rattle.ild_run.specs.Plain.{plain_map}
 use Rattle.ild_run.specs.Lines.{LineDone, LineCut, LinesDone, LinesCut}

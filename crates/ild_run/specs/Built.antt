@@ -1,5 +1,5 @@
 -- The schemas that scripts are run under so far: one declared type N, a plain map from String to Int.
-use Rattle.std.specs.Prelude.{ℕ, List, Bool, false, ◌==◌, ◌&&◌, not, Option, Some, None, codes, length, slice_get}
+use Rattle.std.specs.Prelude.{List, Bool, false, ◌==◌, ◌&&◌, not, Option, Some, None, codes, length, slice_get}
 use Rattle.ild_data.specs.Key.{same_text}
 use Rattle.ild_schema.specs.declared.def.TypeDef.{TypeDef}
 use Rattle.ild_schema.specs.declared.def.TypeDef.TheVariants as D

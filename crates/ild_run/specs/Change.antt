@@ -1,5 +1,5 @@
 -- What an edit of a plain map changes, and how it is judged.
-use Rattle.std.specs.Prelude.{ℕ, ℤ, List, [], ◌∷◌, Bool, Option, Some, None, Result, Ok, Err, is_some, if◌then◌else◌}
+use Rattle.std.specs.Prelude.{ℕ, ℤ, List, [], ◌∷◌, Option, Some, None, Result, Ok, Err, is_some, if◌then◌else◌}
 use Rattle.ild_data.specs.Key.{put, value_at, without}
 use Rattle.ild_script.specs.declared.reply.No.{No}
 use Rattle.ild_script.specs.declared.reply.No.TheVariants as N

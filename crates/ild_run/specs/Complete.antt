@@ -1,5 +1,5 @@
 -- A call that nothing outside stands in the way of does all that its words ask for, unless memory is wanting.
-use Rattle.std.specs.Prelude.{◌≡◌, ◌⊎◌, ℕ, List, [], ◌∷◌, Bool, true, Option, Some, if◌then◌else◌}
+use Rattle.std.specs.Prelude.{◌≡◌, ◌⊎◌, ℕ, List, [], ◌∷◌, true, Option, Some, if◌then◌else◌}
 use Rattle.std.specs.List.{list_any, cons_option}
 use Rattle.ild_edges.specs.Count.{Rose}
 use Rattle.ild_edges.specs.Inputs.{taken_of, file_at}

@@ -1,5 +1,5 @@
 -- How a call ends: the status, what is written, and the cause.
-use Rattle.std.specs.Prelude.{◌≡◌, ◌⊎◌, ℕ, ◌+◌, ◌≤◌, List, [], ◌∷◌, ◌++◌, Bool, true, false, Option}
+use Rattle.std.specs.Prelude.{◌≡◌, ◌⊎◌, ℕ, ◌+◌, ◌≤◌, List, [], ◌++◌, Bool, true, false, Option}
 use Rattle.std.specs.List.{list_any}
 use Rattle.ild_edges.specs.Count.{Rose}
 use Rattle.ild_edges.specs.Inputs.{Supply}
@@ -9,7 +9,7 @@ use Rattle.ild_script.specs.declared.reply.Reply.{Reply}
 use Rattle.ild_script.specs.Line.{lines_of}
 use Rattle.ild_script.specs.Reply.{is_no}
 use Rattle.ild_plain.specs.Value.{Value, root_of, blocks_of}
-use Rattle.ild_run.specs.Session.{State, idle}
+use Rattle.ild_run.specs.Session.{idle}
 use Rattle.ild_run.specs.Step.{Holds, AddsOnly, Collides}
 use Rattle.ild_run.specs.Run.{Run, texts}
 use Rattle.ild_run.specs.Plain.{plain_map}

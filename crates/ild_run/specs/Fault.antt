@@ -8,7 +8,6 @@ use Rattle.ild_data.specs.CidText.{cid_text_of}
 use Rattle.ild_run.specs.declared.fault.Fault.{Fault}
 use Rattle.ild_run.specs.declared.fault.Fault.TheVariants as F
 use Rattle.ild_run.specs.declared.fault.Role.{Role}
-use Rattle.ild_run.specs.declared.fault.Role.TheVariants as Role
 use Rattle.ild_run.specs.declared.fault.Trouble.{Trouble}
 use Rattle.ild_run.specs.declared.fault.Trouble.TheVariants as T
 use Rattle.ild_run.specs.declared.script.Cut.{Cut}

@@ -1,5 +1,5 @@
 -- What answering lines leaves, one at a time and all of a script.
-use Rattle.std.specs.Prelude.{◌≡◌, ℕ, ◌+◌, List, [], ◌∷◌, ◌++◌, length, Bool, Option, Some, None}
+use Rattle.std.specs.Prelude.{◌≡◌, ℕ, ◌+◌, List, [], ◌++◌, length, Bool, Option, Some, None}
 use Rattle.std.specs.List.{list_any, cons_option}
 use denote.Ref.{Bor}
 use Rattle.ild_edges.specs.Sink.{Appends, AppendsFront}

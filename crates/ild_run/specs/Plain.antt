@@ -1,10 +1,10 @@
 -- The lines of a script on the values of a plain map from texts to integers.
-use Rattle.std.specs.Prelude.{ℕ, ℤ, List, [], ◌∷◌, Option, Some, None, Result, Ok, Err}
+use Rattle.std.specs.Prelude.{ℕ, ℤ, List, Option, Some, None, Result, Ok, Err}
 use Rattle.std.specs.Result.{result_ok}
 use Rattle.ild_data.specs.Data.{integer}
 use Rattle.ild_data.specs.Key.{value_at}
 use Rattle.ild_json.specs.Printing.{json_text}
-use Rattle.ild_script.specs.Line.{Command, Reading, blank, command, outside, reads}
+use Rattle.ild_script.specs.Line.{Reading, blank, command, outside, reads}
 use Rattle.ild_script.specs.declared.word.Word.{Word}
 use Rattle.ild_script.specs.declared.word.Word.TheVariants as W
 use Rattle.ild_script.specs.declared.reply.No.{No}

@@ -79,8 +79,9 @@ pub fn take_script<I: Inputs>(alloc: Global, inputs: &mut I, job: &Job<'_>) -> R
 {
     let bytes = take_input(inputs, Role::Schema, job.schema())?;
     let schema = table_of(alloc, bytes.as_slice())?;
-    let Job::Run(_, script) = job else {
-        return Err(Fault::NotBuilt);
+    let script = match job {
+        Job::Check(_) => return Err(Fault::NotBuilt),
+        Job::Run(_, script) => script,
     };
     if !is_built(&schema) {
         return Err(Fault::NotBuilt);

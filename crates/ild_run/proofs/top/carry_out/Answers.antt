@@ -1,9 +1,9 @@
-use Rattle.std.proofs.Common.{◌≡◌, true, false, sym, ap, ◌∙◌, subst}
+use Rattle.std.proofs.Common.{option_map, true, false, sym, ap, ◌∙◌}
 use Rattle.ild_edges.proofs.Later.{Later-trans}
 use Rattle.ild_run.specs.Words.{job_of}
 use Rattle.ild_run.specs.Opening.{job_seen}
 use Rattle.ild_run.specs.Ended.{Call, call_of}
-use Rattle.ild_run.proofs.Endings.{ended_inputs, ended_empty, ended_done, ended_refused, ended_cut, answered_all, answered_some, cut_cause}
+use Rattle.ild_run.proofs.Endings.{ended_words, ended_inputs, ended_empty, ended_done, ended_refused, ended_cut, answered_all, answered_some, cut_cause}
 use Rattle.ild_run.proofs.top.carry_out.Goals as goal
 
 pub returns-in-Err-clause-ended : goal.returns-in-Err-clause-ended
@@ -55,3 +55,8 @@ returns-in-Ok-false-clause-later g c = Later-trans _ (g.K.Store.moment c.put_emp
 
 pub returns-clause-later : goal.returns-clause-later
 returns-clause-later g c = Later-trans _ (g.K.Store.moment c.put_empty.new.store) _ c.put_empty.ensures.later c.in-Err-answer_all.ensures.part.later
+
+pub returns-in_default-clause-ended : goal.returns-in_default-clause-ended
+returns-in_default-clause-ended g c =
+    let call : Call = call_of (job_of c.args.words.now) (g.I.Inputs.supply c.args.inputs.now) (g.K.Store.moment c.args.store.now) (g.W.Sink.output c.args.out.now) (g.I.Inputs.supply c.args.inputs.now) (g.K.Store.moment c.args.store.now) (g.W.Sink.output c.tell.new.out) in
+    ended_words call c.tell.result (sym c.job_of.ensures ∙ ap (option_map job_seen) c.in_default.is) c.tell.ensures
