@@ -5,3 +5,4 @@ pub mod Forms
 pub mod Rows
 pub mod Table
 pub mod Counts
+pub mod Survey

@@ -3,5 +3,6 @@
 
 mod count;
 mod error;
+mod survey;
 
 pub use error::ResolveErr;
