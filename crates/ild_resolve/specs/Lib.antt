@@ -4,3 +4,5 @@ pub mod Faults
 pub mod Forms
 pub mod Rows
 pub mod Table
+pub mod Counts
+pub mod Survey

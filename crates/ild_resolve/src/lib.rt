@@ -1,9 +1,13 @@
 //! From a syntax tree to the table of types (IPLD Schemas): names become numbers, and the faults of names are found.
 #![tactic(auto)]
 
+mod circular;
+mod count;
 mod error;
 mod laws;
 mod resolving;
+mod survey;
+mod table;
 
 pub use error::ResolveErr;
 pub use laws::{faultless_have_tables, one_result};

@@ -1,3 +1,2 @@
-mod Namings
 mod Copying
 mod Parts

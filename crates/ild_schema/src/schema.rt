@@ -1,8 +1,7 @@
 //! Schemas: a table of types, with the look-ups by number and by name, none of which takes memory.
-ghost use Rattle.std.specs.Prelude.{◌≡◌, ◌<◌, ◌≤◌, ℕ, List, cond, length, Some, IfOk, OnOk, bytes_eq, option_map};
-ghost use Rattle.std.specs.BTreeMap.{get_by_text};
+ghost use Rattle.std.specs.Prelude.{◌≡◌, ◌<◌, length, Some, IfOk, option_map};
 ghost use Rattle.ild_schema.specs.Names.{declared_names, number_named};
-ghost use Rattle.ild_schema.specs.Table.{AreNamedOnce, IsTable, IsWithin, def_at, name_at, place_at};
+ghost use Rattle.ild_schema.specs.Table.{IsTable, IsWithin, def_at, name_at, place_at};
 ghost use Rattle.ild_schema.specs.Copies.{base};
 ghost use Rattle.ild_schema.specs.Held.{IsIndex};
 
@@ -46,43 +45,18 @@ fn names_in(alloc: Global, rows: &[Row]) -> Result<Vec<Txt>, AllocError>
     Ok(names)
 }
 
-/// Lets a name stand for a number.
-fn put_number(
-    numbers: &mut BTreeMap<String, u32>,
-    alloc: Global,
-    name: &str,
-    number: u32,
-) -> Result<(), AllocError>
-    ensures { OnOk result ((q : List ℕ) → get_by_text numbers.new q ≡ cond (bytes_eq name.now q) (Some number) (get_by_text numbers.old q)) }
-{
-    let key = String::from_str(alloc, name)?;
-    numbers.insert(key, number)?;
-    Ok(())
-}
-
-/// The numbers for which the names of a table stand.
-fn numbers_in(alloc: Global, rows: &[Row]) -> Result<BTreeMap<String, u32>, AllocError>
-    requires small { length rows.now ≤ 65543 }
-    requires once { AreNamedOnce rows.now }
-    ensures { IfOk result (λ numbers. IsIndex rows.now numbers) }
-{
-    let mut numbers = BTreeMap::new(alloc);
-    for (i, row) in rows.iter().enumerate() {
-        if row.origin.is_open() {
-            put_number(&mut numbers, alloc, row.name.as_str(), i as u32)?;
-        }
-    }
-    Ok(numbers)
-}
-
 impl Schema {
-    /// The schema of a table.
-    pub fn of(alloc: Global, rows: Vec<Row>) -> Result<Schema, AllocError>
-        requires { IsTable rows.items }
+    /// The schema of a table, with the numbers for which its names stand.
+    pub fn of(
+        alloc: Global,
+        rows: Vec<Row>,
+        numbers: BTreeMap<String, u32>,
+    ) -> Result<Schema, AllocError>
+        requires table { IsTable rows.items }
+        requires numbers { IsIndex rows.items numbers }
         ensures { IfOk result (λ schema. schema ≡ rows.items) }
     {
         let names = names_in(alloc, &rows)?;
-        let numbers = numbers_in(alloc, &rows)?;
         Ok(Schema {
             rows,
             names,
