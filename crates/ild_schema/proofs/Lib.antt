@@ -1,3 +1,6 @@
 mod Namings
 mod Copying
+mod Doubles
+pub mod Circles
+mod Ends
 mod Parts
