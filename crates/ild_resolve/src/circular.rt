@@ -1,6 +1,6 @@
-//! Types that are, through copies, copies of themselves. One leap over as many copies as there are types, or over more,
-//! ends at such a type or nowhere, and at each of them some leap ends. Leaps are made long by taking each twice, so that
-//! the time grows as the number of types, times its logarithm.
+//! Types that are, through copies, copies of themselves. A leap over more copies than there are types ends at such a type
+//! or nowhere, and at each such type some leap ends. Leaps over one copy are made long by doubling them, so a table is
+//! gone through once for each binary digit of its size: seventeen times at the most types that a schema can have.
 ghost use Rattle.std.specs.Prelude.{◌≡◌, ◌<◌, ◌≤◌, Err, IfOk, IfSome, None, Ok, length, map};
 ghost use Rattle.std.specs.Option.{option_and_then};
 ghost use Rattle.ild_schema.specs.Copies.{FirstIsCircular, NoneIsCircular, target_of};
@@ -49,7 +49,6 @@ fn twice(alloc: Global, leaps: &[Option<u32>]) -> Result<Vec<Option<u32>>, Alloc
 
 /// Leaps over more copies than there are types.
 fn long_leaps(alloc: Global, rows: &[Row]) -> Result<Vec<Option<u32>>, AllocError>
-    requires small { length rows.now ≤ 65543 }
     ensures { IfOk result (λ leaps. AreLongLeaps rows.now leaps.items) }
 {
     let mut leaps = targets(alloc, rows)?;
@@ -85,7 +84,6 @@ fn least_end(leaps: &[Option<u32>]) -> Option<u32>
 
 /// The first type of a table that is, through copies, a copy of itself, if there is one.
 pub(crate) fn first_circular(alloc: Global, rows: &[Row]) -> Result<Option<u32>, AllocError>
-    requires small { length rows.now ≤ 65543 }
     ensures none { result ≡ Ok None → NoneIsCircular rows.now }
     ensures first { IfOk result (λ found. IfSome found (λ n. (n < length rows.now) × FirstIsCircular rows.now n)) }
 {

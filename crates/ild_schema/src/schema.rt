@@ -107,8 +107,8 @@ impl Schema {
         &self.rows[ty.0 as usize].def
     }
 
-    /// The type to which a type leads through copies: itself, where it is no copy. Where no type is a copy of itself,
-    /// it is the one that is no copy.
+    /// The type to which a type leads through copies: itself, where it is no copy. Where no type is, through copies, a
+    /// copy of itself, the answer is no copy.
     pub fn base(&self, ty: TypeNo) -> TypeNo
         requires { ty.0 < length self.now }
         ensures same { result.0 ≡ base self.now ty.0 }
