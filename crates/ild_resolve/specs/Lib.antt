@@ -1,1 +1,1 @@
-pub mod Leaps
+pub mod Marks

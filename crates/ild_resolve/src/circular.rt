@@ -1,92 +1,103 @@
-//! Types that are, through copies, copies of themselves. A leap over more copies than there are types ends at such a type
-//! or nowhere, and at each such type some leap ends. Leaps over one copy are made long by doubling them, so a table is
-//! gone through once for each binary digit of its size: seventeen times at the most types that a schema can have.
-ghost use Rattle.std.specs.Prelude.{◌≡◌, ◌<◌, ◌≤◌, Err, IfOk, IfSome, None, Ok, length, map};
-ghost use Rattle.std.specs.Option.{option_and_then};
-ghost use Rattle.ild_schema.specs.Copies.{FirstIsCircular, NoneIsCircular, target_of};
-ghost use Rattle.ild_resolve.specs.Leaps.{AreLongLeaps, IsLeastEnd, leap_at, lesser};
+//! Types that are, through copies, copies of themselves. Walks along copies mark each type once, with the number of the
+//! walk, so the time grows as the number of types: a walk that meets its own mark has met such a type.
+ghost use Rattle.std.specs.Prelude.{◌≡◌, ◌+◌, ◌<◌, ◌≤◌, Err, IfOk, IfSome, MatchOption, None, Ok, Some, length, ℕ};
+ghost use Rattle.ild_schema.specs.Copies.{FirstIsCircular, IsCircular, NoneIsCircular, target_in};
+ghost use Rattle.ild_schema.specs.Table.{def_at};
+ghost use Rattle.ild_resolve.specs.Marks.{IsClosed, IsLeastOfRound, Sought, Walked, lesser, mark_at};
 
 use ild_schema::{Row, TypeDef};
 use std::alloc::{AllocError, Global};
 
-/// The type of which a type is a copy.
-fn target(row: &Row) -> Option<u32>
-    ensures { result ≡ target_of row.now.def }
+/// The type of which a type is a copy, if it is in the table.
+fn next(rows: &[Row], n: u32) -> Option<u32>
+    requires { n < length rows.now }
+    ensures { MatchOption result ((t : ℕ) → target_in (def_at rows.now n) ≡ Some t → length rows.now ≤ t) (λ t. (t < length rows.now) × (target_in (def_at rows.now n) ≡ Some t)) }
 {
-    match &row.def {
-        TypeDef::Copy(target) => Some(target.0),
+    match &rows[n as usize].def {
+        TypeDef::Copy(target) if (target.0 as usize) < rows.len() => Some(target.0),
         _ => None,
     }
 }
 
-/// The leaps over one copy.
-fn targets(alloc: Global, rows: &[Row]) -> Result<Vec<Option<u32>>, AllocError>
-    ensures { IfOk result (λ leaps. leaps.items ≡ map (λ row. target_of row.def) rows.now) }
+/// Marks the types to which a type leads, up to one that was seen. It gives that one where this walk saw it before.
+fn walk(rows: &[Row], marks: &mut [u32], from: u32) -> Option<u32>
+    requires same { length marks.old ≡ length rows.now }
+    requires within { from < length rows.now }
+    requires small { length rows.now ≤ 65543 }
+    requires low { (n : ℕ) → n < length rows.now → mark_at marks.old n ≤ from }
+    requires closed { IsClosed rows.now marks.old }
+    ensures { Walked rows.now marks.old marks.new from (from + 1) result }
 {
-    let mut leaps = Vec::new(alloc);
-    for row in rows {
-        leaps.push(target(row))?;
+    let mut at = from;
+    while marks[at as usize] == 0 {
+        marks[at as usize] = from + 1;
+        match next(rows, at) {
+            Some(target) => at = target,
+            None => return None,
+        }
     }
-    Ok(leaps)
-}
-
-/// The end of the leap from the end of another.
-fn leap_on(leaps: &[Option<u32>], end: Option<u32>) -> Option<u32>
-    ensures { result ≡ option_and_then (λ n. leap_at leaps.now n) end }
-{
-    match end {
-        Some(n) if (n as usize) < leaps.len() => leaps[n as usize],
-        _ => None,
-    }
-}
-
-/// Leaps over twice as many copies.
-fn twice(alloc: Global, leaps: &[Option<u32>]) -> Result<Vec<Option<u32>>, AllocError>
-    ensures { IfOk result (λ longer. longer.items ≡ map (λ end. option_and_then (λ n. leap_at leaps.now n) end) leaps.now) }
-{
-    leaps.iter().map(|end| leap_on(leaps, *end)).collect(alloc)
-}
-
-/// Leaps over more copies than there are types.
-fn long_leaps(alloc: Global, rows: &[Row]) -> Result<Vec<Option<u32>>, AllocError>
-    ensures { IfOk result (λ leaps. AreLongLeaps rows.now leaps.items) }
-{
-    let mut leaps = targets(alloc, rows)?;
-    let mut count: usize = 1;
-    while count <= rows.len() {
-        leaps = twice(alloc, &leaps)?;
-        count *= 2;
-    }
-    Ok(leaps)
-}
-
-/// The lesser of two numbers, where there are any.
-fn lesser(a: Option<u32>, b: Option<u32>) -> Option<u32>
-    ensures { result ≡ lesser a b }
-{
-    match (a, b) {
-        (Some(m), Some(n)) => Some(m.min(n)),
-        (None, found) => found,
-        (found, None) => found,
+    if marks[at as usize] == from + 1 {
+        Some(at)
+    } else {
+        None
     }
 }
 
-/// The least number to which a leap leads.
-fn least_end(leaps: &[Option<u32>]) -> Option<u32>
-    ensures { IsLeastEnd leaps.now result }
+/// The least of the types to which a type leads that is a copy of itself.
+fn least_of_round(rows: &[Row], from: u32) -> u32
+    requires within { from < length rows.now }
+    requires circular { IsCircular rows.now from }
+    ensures { IsLeastOfRound rows.now from result }
 {
-    let mut least: Option<u32> = None;
-    for end in leaps {
-        least = lesser(least, *end);
+    let mut at = from;
+    let mut least = from;
+    for _ in 0..rows.len() {
+        match next(rows, at) {
+            None => return least,
+            Some(target) => at = target,
+        }
+        if at == from {
+            return least;
+        }
+        least = least.min(at);
     }
     least
 }
 
+/// The lesser of two numbers, where there is a first.
+fn lesser(first: Option<u32>, n: u32) -> u32
+    ensures { result ≡ lesser first n }
+{
+    match first {
+        None => n,
+        Some(m) => m.min(n),
+    }
+}
+
+/// Walks from a type. It gives the first type that is a copy of itself, of all that were seen.
+fn search_from(rows: &[Row], marks: &mut [u32], from: u32, first: Option<u32>) -> Option<u32>
+    requires same { length marks.old ≡ length rows.now }
+    requires within { from < length rows.now }
+    requires small { length rows.now ≤ 65543 }
+    requires so_far { Sought rows.now marks.old from first }
+    ensures { Sought rows.now marks.new (from + 1) result }
+{
+    match walk(rows, marks, from) {
+        None => first,
+        Some(at) => Some(lesser(first, least_of_round(rows, at))),
+    }
+}
+
 /// The first type of a table that is, through copies, a copy of itself, if there is one.
 pub(crate) fn first_circular(alloc: Global, rows: &[Row]) -> Result<Option<u32>, AllocError>
+    requires small { length rows.now ≤ 65543 }
     ensures none { result ≡ Ok None → NoneIsCircular rows.now }
     ensures first { IfOk result (λ found. IfSome found (λ n. (n < length rows.now) × FirstIsCircular rows.now n)) }
 {
-    let leaps = long_leaps(alloc, rows)?;
-    Ok(least_end(&leaps))
+    let mut marks = vec![in alloc; 0u32; rows.len()]?;
+    let mut first = None;
+    for n in 0..rows.len() {
+        first = search_from(rows, &mut marks, n as u32, first);
+    }
+    Ok(first)
 }

@@ -36,31 +36,38 @@ leads_parts rows a b c n l e h = by (leads rows a n) refl (sym (leads_on rows a 
 pub leads_same : (rows : List Row) (k n m l : ℕ) → n ≡ m → leads rows k n ≡ Some l → leads rows k m ≡ Some l
 leads_same rows k n m l e h = subst (λ x. leads rows k x ≡ Some l) e h
 
--- what a type leads to that is a copy of itself is a copy of itself
-pub circular_on : (rows : List Row) (t v m : ℕ) → IsCircular rows v → leads rows t v ≡ Some m → IsCircular rows m
-circular_on rows t v m round h =
-    let whole : leads rows (t + suc round.0) v ≡ Some m = leads_through rows (suc round.0) t (t + suc round.0) v v m (omega arith) round.1 h in
-    let parts : Halts rows t (suc round.0) v m = leads_parts rows t (suc round.0) (t + suc round.0) v m refl whole in
+-- what a type leads to comes back to itself in as many copies as the type does
+pub round_on : (rows : List Row) (d t v m : ℕ) → leads rows (suc d) v ≡ Some v → leads rows t v ≡ Some m → leads rows (suc d) m ≡ Some m
+round_on rows d t v m round h =
+    let whole : leads rows (t + suc d) v ≡ Some m = leads_through rows (suc d) t (t + suc d) v v m (omega arith) round h in
+    let parts : Halts rows t (suc d) v m = leads_parts rows t (suc d) (t + suc d) v m refl whole in
     let same : parts.at ≡ m = cc (parts.before, h) in
-    (round.0, leads_same rows (suc round.0) parts.at m m same parts.after)
+    leads_same rows (suc d) parts.at m m same parts.after
+
+pub circular_on : (rows : List Row) (t v m : ℕ) → IsCircular rows v → leads rows t v ≡ Some m → IsCircular rows m
+circular_on rows t v m round h = (round.0, round_on rows round.0 t v m round.1 h)
 
 -- a chain that meets a type twice
-pub circular_twice : (rows : List Row) (i j n v : ℕ) → i < j → leads rows i n ≡ Some v → leads rows j n ≡ Some v → IsCircular rows v
-circular_twice rows i j n v apart first second =
+pub round_twice : (rows : List Row) (i j n v : ℕ) → i < j → leads rows i n ≡ Some v → leads rows j n ≡ Some v → leads rows (suc (j - suc i)) v ≡ Some v
+round_twice rows i j n v apart first second =
     let parts : Halts rows i (suc (j - suc i)) n v = leads_parts rows i (suc (j - suc i)) j n v (omega arith) second in
     let same : parts.at ≡ v = cc (parts.before, first) in
-    (j - suc i, leads_same rows (suc (j - suc i)) parts.at v v same parts.after)
+    leads_same rows (suc (j - suc i)) parts.at v v same parts.after
+
+pub circular_twice : (rows : List Row) (i j n v : ℕ) → i < j → leads rows i n ≡ Some v → leads rows j n ≡ Some v → IsCircular rows v
+circular_twice rows i j n v apart first second = (j - suc i, round_twice rows i j n v apart first second)
 
 -- a type that is a copy of itself, as often as you like
 pub circular_rounds : (rows : List Row) (c d n : ℕ) → leads rows (suc d) n ≡ Some n → leads rows (c * suc d) n ≡ Some n
 circular_rounds rows zero d n h = let e : zero * suc d ≡ zero = omega arith in ap (λ k. leads rows k n) e
 circular_rounds rows (suc c) d n h = leads_through rows (suc d) (c * suc d) (suc c * suc d) n n n (omega arith) h (circular_rounds rows c d n h)
 
--- some type leads to it in any number of copies
-pub circular_before : (rows : List Row) (k n : ℕ) → IsCircular rows n → (m : ℕ) × (leads rows k m ≡ Some n)
-circular_before rows k n round =
-    let parts : Halts rows (k * round.0) k n n = leads_parts rows (k * round.0) k (k * suc round.0) n n (omega arith) (circular_rounds rows k round.0 n round.1) in
-    (parts.at, parts.after)
+-- what it leads to leads back to it
+pub circular_back : (rows : List Row) (k n m : ℕ) → IsCircular rows n → leads rows k n ≡ Some m → (j : ℕ) × (leads rows j m ≡ Some n)
+circular_back rows k n m round h =
+    let parts : Halts rows k (k * round.0) n n = leads_parts rows k (k * round.0) (k * suc round.0) n n (omega arith) (circular_rounds rows k round.0 n round.1) in
+    let same : parts.at ≡ m = cc (parts.before, h) in
+    (k * round.0, leads_same rows (k * round.0) parts.at m n same parts.after)
 
 -- the type to which so many copies lead, or the number 0
 spot : List Row → ℕ → ℕ → ℕ
@@ -125,3 +132,28 @@ followed_or rows (suc k) n = by (target_in (def_at rows n)) refl (λ t. followed
       | inl ends ↦ inl (ap (λ o. target_in (def_at rows (option_map_or (λ t. followed rows k t) o n))) e ∙ ends)
       | inr goes ↦ inr (ap (λ o. option_and_then (λ t. leads rows k t) o) e ∙ goes ∙ ap (λ o. Some (option_map_or (λ t. followed rows k t) o n)) (sym e))
     ]
+
+-- a type that is a copy of itself is so through no more copies than there are types
+pub circular_short : (rows : List Row) (n : ℕ) → IsCircular rows n → (d : ℕ) × (d < length rows) × (leads rows (suc d) n ≡ Some n)
+circular_short rows n round =
+    let twice : Meets (spot rows n) (suc (length rows)) = meets (length rows) (spot rows n) (λ i low. copy_here rows (length rows * suc round.0 + round.0 - i) (spot rows n i) n (after i (omega arith))) in
+    let first : leads rows twice.first n ≡ Some (spot rows n twice.first) = found twice.first (omega (arith, twice.apart, twice.within)) in
+    let second : leads rows twice.second n ≡ Some (spot rows n twice.first) = found twice.second (omega (arith, twice.within)) ∙ ap Some (sym twice.same) in
+    let back = circular_back rows twice.first n (spot rows n twice.first) round first in
+    let again : leads rows (suc (twice.second - suc twice.first)) (spot rows n twice.first) ≡ Some (spot rows n twice.first) = round_twice rows twice.first twice.second n (spot rows n twice.first) twice.apart first second in (
+      twice.second - suc twice.first,
+      omega (arith, twice.apart, twice.within),
+      round_on rows (twice.second - suc twice.first) back.0 (spot rows n twice.first) n again back.1,
+    )
+  where
+    whole : leads rows (suc (length rows) * suc round.0) n ≡ Some n
+    whole = circular_rounds rows (suc (length rows)) round.0 n round.1
+
+    halts : (i : ℕ) → i ≤ length rows → Halts rows i (suc (length rows * suc round.0 + round.0 - i)) n n
+    halts i low = leads_parts rows i (suc (length rows * suc round.0 + round.0 - i)) (suc (length rows) * suc round.0) n n (omega arith) whole
+
+    found : (i : ℕ) → i ≤ length rows → leads rows i n ≡ Some (spot rows n i)
+    found i low = (halts i low).before ∙ ap Some (spot_is rows n i (halts i low).at (halts i low).before)
+
+    after : (i : ℕ) → i ≤ length rows → leads rows (suc (length rows * suc round.0 + round.0 - i)) (spot rows n i) ≡ Some n
+    after i low = leads_same rows (suc (length rows * suc round.0 + round.0 - i)) (halts i low).at (spot rows n i) n (spot_is rows n i (halts i low).at (halts i low).before) (halts i low).after
