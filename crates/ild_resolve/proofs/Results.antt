@@ -9,7 +9,7 @@ use Rattle.ild_schema.specs.Copies.{NoneIsCircular, FirstIsCircular}
 use Rattle.ild_schema.specs.declared.row.Row.{Row}
 use Rattle.ild_resolve.specs.Events.{events_of}
 use Rattle.ild_resolve.specs.Faults.{fault_in}
-use Rattle.ild_resolve.specs.Table.{rows_of, IsCopyCycle, IsFault, Resolves}
+use Rattle.ild_resolve.specs.Table.{rows_of, IsCopyCycle, IsOfCopies, IsFault, Resolves}
 use Rattle.ild_resolve.specs.declared.error.ResolveErr.{ResolveErr}
 use Rattle.ild_resolve.specs.declared.error.ResolveErr.TheVariants as E
 
@@ -28,9 +28,18 @@ pub record IsCycle (ast : Ast) (e : ResolveErr) : Type 0 where
   pub clean : fault_in (events_of ast) ≡ None
   pub cycle : IsCopyCycle (rows_of ast) at
 
+of_copies : (ast : Ast) (e : ResolveErr) → fault_in (events_of ast) ≡ None → IsOfCopies (rows_of ast) e → IsCycle ast e
+of_copies ast (E.CopyCycle at) clean cycle = record { at = at; is = refl; clean = clean; cycle = cycle }
+of_copies ast (E.Twice at) clean cycle = absurd cycle
+of_copies ast (E.Unknown at) clean cycle = absurd cycle
+of_copies ast (E.Float at) clean cycle = absurd cycle
+of_copies ast (E.Advanced at) clean cycle = absurd cycle
+of_copies ast (E.Many at) clean cycle = absurd cycle
+of_copies ast E.Memory clean cycle = absurd cycle
+
 pub fault_or_cycle : (ast : Ast) (e : ResolveErr) → IsFault ast e → (fault_in (events_of ast) ≡ Some e) ⊎ IsCycle ast e
-fault_or_cycle ast (E.CopyCycle at) h = inr (record { at = at; is = refl; clean = h.0; cycle = h.1 })
-fault_or_cycle ast e h = inl h
+fault_or_cycle ast e (inl fault) = inl fault
+fault_or_cycle ast e (inr h) = inr (of_copies ast e h.0 h.1)
 
 not_both : (ast : Ast) (rows : List Row) (e : ResolveErr) → Resolves ast (Ok rows) → IsFault ast e → ⊥
 not_both ast rows e h k =

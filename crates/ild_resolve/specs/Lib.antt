@@ -6,3 +6,4 @@ pub mod Rows
 pub mod Table
 pub mod Counts
 pub mod Survey
+pub mod Marks

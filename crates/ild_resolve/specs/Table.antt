@@ -1,5 +1,5 @@
 -- The table of a syntax tree, or its first fault.
-use Rattle.std.specs.Prelude.{◌≡◌, ℕ, List, ◌++◌, Some, None, Result, Ok, Err}
+use Rattle.std.specs.Prelude.{◌≡◌, ◌⊎◌, ℕ, List, ◌++◌, Some, None, Result, Ok, Err}
 use Rattle.ild_parse.specs.declared.ast.Ast.{Ast}
 use Rattle.ild_schema.specs.Prelude.{prelude}
 use Rattle.ild_schema.specs.Table.{place_at}
@@ -20,9 +20,13 @@ rows_of ast = prelude ++ decls_rows (λ name. number_of name (events_of ast)) 8 
 abbrev pub IsCopyCycle : List Row → ℕ → Type 0
 IsCopyCycle rows at = (n : ℕ) × FirstIsCircular rows n × (place_at rows n ≡ Some at)
 
+abbrev pub IsOfCopies : List Row → ResolveErr → Type 0
+IsOfCopies rows (E.CopyCycle at) = IsCopyCycle rows at
+IsOfCopies rows e = ⊥
+
+-- the first fault of the limits, the declared names and the words, or where there is none, that of the copies
 abbrev pub IsFault : Ast → ResolveErr → Type 0
-IsFault ast (E.CopyCycle at) = (fault_in (events_of ast) ≡ None) × IsCopyCycle (rows_of ast) at
-IsFault ast e = fault_in (events_of ast) ≡ Some e
+IsFault ast e = (fault_in (events_of ast) ≡ Some e) ⊎ ((fault_in (events_of ast) ≡ None) × IsOfCopies (rows_of ast) e)
 
 -- what resolving a syntax tree gives
 abbrev pub Resolves : Ast → Result (List Row) ResolveErr → Type 0

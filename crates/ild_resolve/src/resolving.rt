@@ -1,5 +1,6 @@
 //! From a syntax tree to the table of types.
-ghost use Rattle.std.specs.Prelude.{◌≡◌, ◌⊎◌, IfOk, IfErr, Ok, Err};
+ghost use Rattle.std.specs.Prelude.{◌≡◌, ◌⊎◌, ◌<◌, length, Some, IfOk, IfErr, Ok, Err};
+ghost use Rattle.ild_schema.specs.Table.{place_at};
 ghost use Rattle.ild_resolve.specs.Table.{Resolves};
 
 use crate::ResolveErr;
@@ -7,8 +8,16 @@ use crate::circular::first_circular;
 use crate::survey::survey;
 use crate::table::table_of;
 use ild_parse::Ast;
-use ild_schema::Schema;
+use ild_schema::{Row, Schema};
 use std::alloc::Global;
+
+/// The place of a type in the text.
+fn place_of(rows: &[Row], n: u32) -> usize
+    requires { n < length rows.now }
+    ensures { place_at rows.now n ≡ Some result }
+{
+    rows[n as usize].at
+}
 
 /// The table of types of a syntax tree, or its first fault.
 pub fn resolve(alloc: Global, ast: Ast) -> Result<Schema, ResolveErr>
@@ -21,7 +30,7 @@ pub fn resolve(alloc: Global, ast: Ast) -> Result<Schema, ResolveErr>
     let rows = table_of(alloc, &numbers, ast)?;
     if let Some(n) = first_circular(alloc, &rows)? {
         return Err(ResolveErr::CopyCycle {
-            at: rows[n as usize].at,
+            at: place_of(&rows, n),
         });
     }
     Ok(Schema::of(alloc, rows, numbers)?)

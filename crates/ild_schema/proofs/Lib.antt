@@ -1,2 +1,5 @@
 mod Copying
+mod Doubles
+pub mod Circles
+mod Ends
 mod Parts

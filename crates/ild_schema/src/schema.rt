@@ -1,8 +1,8 @@
 //! Schemas: a table of types, with the look-ups by number and by name, none of which takes memory.
-ghost use Rattle.std.specs.Prelude.{◌≡◌, ◌<◌, length, Some, IfOk, option_map};
+ghost use Rattle.std.specs.Prelude.{◌≡◌, ◌<◌, ℕ, length, None, Some, IfOk, option_map};
 ghost use Rattle.ild_schema.specs.Names.{declared_names, number_named};
 ghost use Rattle.ild_schema.specs.Table.{IsTable, IsWithin, def_at, name_at, place_at};
-ghost use Rattle.ild_schema.specs.Copies.{base};
+ghost use Rattle.ild_schema.specs.Copies.{NoneIsCircular, base, leads, target_in};
 ghost use Rattle.ild_schema.specs.Held.{IsIndex};
 
 use crate::{Row, TypeDef, TypeNo};
@@ -81,11 +81,14 @@ impl Schema {
         &self.rows[ty.0 as usize].def
     }
 
-    /// The type to which a type leads through copies: itself, where it is no copy.
+    /// The type to which a type leads through copies: itself, where it is no copy. Where no type is, through copies, a
+    /// copy of itself, the answer is no copy.
     pub fn base(&self, ty: TypeNo) -> TypeNo
         requires { ty.0 < length self.now }
         ensures same { result.0 ≡ base self.now ty.0 }
         ensures within { result.0 < length self.now }
+        ensures reached { (k : ℕ) × (leads self.now k ty.0 ≡ Some result.0) }
+        ensures end { NoneIsCircular self.now → target_in (def_at self.now result.0) ≡ None }
     {
         let mut end = ty;
         for _ in 0..self.rows.len() {
