@@ -4,3 +4,4 @@ pub mod Faults
 pub mod Forms
 pub mod Rows
 pub mod Table
+pub mod Judged

@@ -2,5 +2,7 @@
 #![tactic(auto)]
 
 mod error;
+mod reference;
+mod word;
 
 pub use error::ResolveErr;

@@ -1,0 +1,33 @@
+-- Words that are wrong, in the order of the text.
+use Rattle.std.proofs.Common.{◌≡◌, ◌⊎◌, inl, inr, ℕ, List, [], ◌∷◌, ◌++◌, Bool, true, false, Option, Some, None, Result, Ok, Err, bytes_eq, codes, refl, ap, sym, ◌∙◌, arith}
+use Rattle.std.specs.Option.{is_some, option_or}
+use Rattle.ild_parse.specs.declared.ast.TypeName.{TypeName}
+use Rattle.ild_resolve.specs.Events.{Event, uses}
+use Rattle.ild_resolve.specs.Faults.{name_fault, event_fault, first_wrong}
+use Rattle.ild_resolve.specs.Judged.{Judged}
+use Rattle.ild_resolve.specs.declared.error.ResolveErr.{ResolveErr}
+use Rattle.ild_resolve.specs.declared.error.ResolveErr.TheVariants as E
+
+-- a name that is not `Float` and stands for no type
+pub unknown : (numbers : List ℕ → Option ℕ) (t : TypeName) → bytes_eq t.name (codes "Float") ≡ false → numbers t.name ≡ None → first_wrong numbers (uses t ∷ []) ≡ Some (E.Unknown t.at)
+unknown numbers t other none = rw (other, none) refl
+
+-- the first wrong word of two parts is that of the first, or else that of the second
+pub first_wrong-append : (numbers : List ℕ → Option ℕ) (xs ys : List Event) → first_wrong numbers (xs ++ ys) ≡ option_or (first_wrong numbers xs) (first_wrong numbers ys)
+first_wrong-append numbers [] ys = refl
+first_wrong-append numbers (x ∷ xs) ys = ap (option_or (event_fault numbers x)) (first_wrong-append numbers xs ys) ∙ either (event_fault numbers x)
+  where
+    either : (o : Option ResolveErr) → option_or o (option_or (first_wrong numbers xs) (first_wrong numbers ys)) ≡ option_or (option_or o (first_wrong numbers xs)) (first_wrong numbers ys)
+    either (Some e) = refl
+    either None = refl
+
+-- what is said of a part where nothing was wrong before it
+pub judged-then : {A : Type 0} (numbers : List ℕ → Option ℕ) (xs ys : List Event) (r : Result A ResolveErr) → first_wrong numbers xs ≡ None → Judged numbers ys r → Judged numbers (xs ++ ys) r
+judged-then numbers xs ys (Ok a) right next = rw (first_wrong-append numbers xs ys, right) next
+judged-then numbers xs ys (Err e) right (inl memory) = inl memory
+judged-then numbers xs ys (Err e) right (inr wrong) = inr (rw (first_wrong-append numbers xs ys, right) wrong)
+
+-- what is wrong stays the first where more follows
+pub wrong-first : (numbers : List ℕ → Option ℕ) (xs ys : List Event) (e : ResolveErr) → (e ≡ E.Memory) ⊎ (first_wrong numbers xs ≡ Some e) → (e ≡ E.Memory) ⊎ (first_wrong numbers (xs ++ ys) ≡ Some e)
+wrong-first numbers xs ys e (inl memory) = inl memory
+wrong-first numbers xs ys e (inr wrong) = inr (rw (first_wrong-append numbers xs ys, wrong) refl)

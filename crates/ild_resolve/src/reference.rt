@@ -1,0 +1,69 @@
+//! References to types, and the rows of their inline types.
+ghost use Rattle.std.specs.Prelude.{◌≡◌, ◌+◌, ◌<◌, ◌≤◌, ◌++◌, ◌∷◌, [], List, length, IfOk, IfErr, OnOk};
+ghost use Rattle.std.specs.BTreeMap.{get_by_text};
+ghost use Rattle.ild_parse.specs.Reference.{list, link, map};
+ghost use Rattle.ild_parse.specs.ReferenceSeen.{refers_of};
+ghost use Rattle.ild_schema.specs.Prelude.{number};
+ghost use Rattle.ild_schema.specs.declared.row.Row.{Row};
+ghost use Rattle.ild_schema.specs.declared.def.TypeDef.{TypeDef};
+ghost use Rattle.ild_schema.specs.declared.def.TypeDef.TheVariants as D;
+ghost use Rattle.ild_resolve.specs.Events.{inline_events, reference_events, types_in, begins, uses};
+ghost use Rattle.ild_resolve.specs.Judged.{Judged};
+ghost use Rattle.ild_resolve.specs.declared.error.ResolveErr.TheVariants as E;
+ghost use Rattle.ild_resolve.specs.Rows.{inline_rows, reference_rows, slot, type_in};
+
+use crate::ResolveErr;
+use crate::word::type_no;
+use ild_data::Txt;
+use ild_parse::{Inline, Ref, TypeName};
+use ild_schema::{MapForm, Origin, Row, Slot, TypeDef, TypeNo};
+use std::collections::BTreeMap;
+
+/// Appends the row of a type whose definition comes later, and gives its number.
+pub(crate) fn begin(
+    rows: &mut Vec<Row>,
+    name: Txt,
+    at: usize,
+    origin: Origin,
+) -> Result<TypeNo, ResolveErr>
+    requires small { length rows.old.items < 65543 }
+    ensures rows { OnOk result (rows.new.items ≡ rows.old.items ++ record { def = D.Any; name = name; at = at; origin = origin } ∷ []) }
+    ensures number { IfOk result (λ ty. ty.0 ≡ length rows.old.items) }
+    ensures fault { IfErr result (λ e. e ≡ E.Memory) }
+{
+    let number = rows.len() as u32;
+    rows.push(Row {
+        def: TypeDef::Any,
+        name,
+        at,
+        origin,
+    })?;
+    Ok(TypeNo(number))
+}
+
+/// Gives the type with a number its definition.
+pub(crate) fn define(rows: &mut Vec<Row>, ty: TypeNo, def: TypeDef)
+    requires within { ty.0 < length rows.old.items }
+    ensures { (front after : List Row) (r : Row) → length front ≡ ty.0 → rows.old.items ≡ front ++ r ∷ after → rows.new.items ≡ front ++ record r { def = def } ∷ after }
+{
+    rows[ty.0 as usize].def = def;
+}
+
+/// The row of an inline type `&T`.
+fn link_row(
+    rows: &mut Vec<Row>,
+    numbers: &BTreeMap<String, u32>,
+    at: usize,
+    target: &TypeName,
+) -> Result<TypeNo, ResolveErr>
+    requires small { length rows.old.items < 65543 }
+    ensures words { Judged (get_by_text numbers.now) (inline_events at (link target.now)) result }
+    ensures rows { OnOk result (rows.new.items ≡ rows.old.items ++ inline_rows (get_by_text numbers.now) (length rows.old.items) at (link target.now)) }
+    ensures same { IfOk result (λ ty. ty ≡ number (length rows.old.items)) }
+{
+    let name = Txt::of(*rows.allocator(), "")?;
+    let ty = begin(rows, name, at, Origin::Inline)?;
+    let target = type_no(numbers, target)?;
+    define(rows, ty, TypeDef::Link(target));
+    Ok(ty)
+}
