@@ -67,3 +67,96 @@ fn link_row(
     define(rows, ty, TypeDef::Link(target));
     Ok(ty)
 }
+
+/// The row of an inline type `[R]`, and the rows inside it.
+#[cycle(reference)]
+fn list_row(
+    rows: &mut Vec<Row>,
+    numbers: &BTreeMap<String, u32>,
+    at: usize,
+    elem: &Ref,
+) -> Result<TypeNo, ResolveErr>
+    requires small { length rows.old.items + types_in (inline_events at (list elem.now)) ≤ 65543 }
+    ensures words { Judged (get_by_text numbers.now) (inline_events at (list elem.now)) result }
+    ensures rows { OnOk result (rows.new.items ≡ rows.old.items ++ inline_rows (get_by_text numbers.now) (length rows.old.items) at (list elem.now)) }
+    ensures same { IfOk result (λ ty. ty ≡ number (length rows.old.items)) }
+{
+    let name = Txt::of(*rows.allocator(), "")?;
+    let ty = begin(rows, name, at, Origin::Inline)?;
+    let slot = slot_in(rows, numbers, elem)?;
+    let def = TypeDef::List {
+        elem: slot,
+        at: elem.at,
+    };
+    define(rows, ty, def);
+    Ok(ty)
+}
+
+/// The row of an inline type `{K:R}`, and the rows inside it.
+#[cycle(reference)]
+fn map_row(
+    rows: &mut Vec<Row>,
+    numbers: &BTreeMap<String, u32>,
+    at: usize,
+    key: &TypeName,
+    value: &Ref,
+) -> Result<TypeNo, ResolveErr>
+    requires small { length rows.old.items + types_in (inline_events at (map key.now value.now)) ≤ 65543 }
+    ensures words { Judged (get_by_text numbers.now) (inline_events at (map key.now value.now)) result }
+    ensures rows { OnOk result (rows.new.items ≡ rows.old.items ++ inline_rows (get_by_text numbers.now) (length rows.old.items) at (map key.now value.now)) }
+    ensures same { IfOk result (λ ty. ty ≡ number (length rows.old.items)) }
+{
+    let name = Txt::of(*rows.allocator(), "")?;
+    let ty = begin(rows, name, at, Origin::Inline)?;
+    let key_no = type_no(numbers, key)?;
+    let slot = slot_in(rows, numbers, value)?;
+    let def = TypeDef::Map {
+        key: key_no,
+        key_at: key.at,
+        value: slot,
+        at: value.at,
+        form: MapForm::Map,
+    };
+    define(rows, ty, def);
+    Ok(ty)
+}
+
+/// The number of an inline type: its own rows are appended, unless it is a bare name.
+#[cycle(reference)]
+fn inline_type(
+    rows: &mut Vec<Row>,
+    numbers: &BTreeMap<String, u32>,
+    at: usize,
+    inline: &Inline,
+) -> Result<TypeNo, ResolveErr>
+    requires small { length rows.old.items + types_in (inline_events at (refers_of inline.now)) ≤ 65543 }
+    ensures words { Judged (get_by_text numbers.now) (inline_events at (refers_of inline.now)) result }
+    ensures rows { OnOk result (rows.new.items ≡ rows.old.items ++ inline_rows (get_by_text numbers.now) (length rows.old.items) at (refers_of inline.now)) }
+    ensures same { IfOk result (λ ty. ty ≡ type_in (get_by_text numbers.now) (length rows.old.items) (refers_of inline.now)) }
+{
+    match inline {
+        Inline::Type(name) => type_no(numbers, name),
+        Inline::Link(name) => link_row(rows, numbers, at, name),
+        Inline::List(elem) => list_row(rows, numbers, at, elem),
+        Inline::Map(key, value) => map_row(rows, numbers, at, key, value),
+    }
+}
+
+/// What a reference stands for: a type, whose rows are appended unless it is a bare name, and whether null may stand there.
+#[cycle(reference)]
+pub(crate) fn slot_in(
+    rows: &mut Vec<Row>,
+    numbers: &BTreeMap<String, u32>,
+    reference: &Ref,
+) -> Result<Slot, ResolveErr>
+    requires small { length rows.old.items + types_in (reference_events reference.now) ≤ 65543 }
+    ensures words { Judged (get_by_text numbers.now) (reference_events reference.now) result }
+    ensures rows { OnOk result (rows.new.items ≡ rows.old.items ++ reference_rows (get_by_text numbers.now) (length rows.old.items) reference.now) }
+    ensures same { IfOk result (λ s. s ≡ slot (get_by_text numbers.now) (length rows.old.items) reference.now) }
+{
+    let ty = inline_type(rows, numbers, reference.type_at, &reference.inline)?;
+    Ok(Slot {
+        ty,
+        nullable: reference.nullable,
+    })
+}
