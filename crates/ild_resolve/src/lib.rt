@@ -2,6 +2,7 @@
 #![tactic(auto)]
 
 mod error;
+mod form;
 mod reference;
 mod word;
 
