@@ -1,6 +1,7 @@
 //! From a syntax tree to the table of types (IPLD Schemas): names become numbers, and the faults of names are found.
 #![tactic(auto)]
 
+mod body;
 mod error;
 mod form;
 mod reference;

@@ -10,7 +10,7 @@ ghost use Rattle.ild_schema.specs.declared.def.TypeDef.TheVariants as D;
 ghost use Rattle.ild_resolve.specs.Events.{inline_events, reference_events, types_in, begins, uses};
 ghost use Rattle.ild_resolve.specs.Judged.{Judged};
 ghost use Rattle.ild_resolve.specs.declared.error.ResolveErr.TheVariants as E;
-ghost use Rattle.ild_resolve.specs.Rows.{inline_rows, reference_rows, slot, type_in};
+ghost use Rattle.ild_resolve.specs.Rows.{inline, inline_rows, reference_rows, slot, type_in, type_of};
 
 use crate::ResolveErr;
 use crate::word::type_no;
@@ -49,8 +49,27 @@ pub(crate) fn define(rows: &mut Vec<Row>, ty: TypeNo, def: TypeDef)
     rows[ty.0 as usize].def = def;
 }
 
-/// The row of an inline type `&T`.
-fn link_row(
+/// The row of an inline type `&T`, under a name of its own.
+pub(crate) fn link_row(
+    rows: &mut Vec<Row>,
+    numbers: &BTreeMap<String, u32>,
+    name: Txt,
+    at: usize,
+    target: &TypeName,
+) -> Result<TypeNo, ResolveErr>
+    requires small { length rows.old.items < 65543 }
+    ensures words { Judged (get_by_text numbers.now) (begins at ∷ uses target.now ∷ []) result }
+    ensures rows { OnOk result (rows.new.items ≡ rows.old.items ++ inline (get_by_text numbers.now) name (D.Link (type_of (get_by_text numbers.now) target.now)) at ∷ []) }
+    ensures same { IfOk result (λ ty. ty ≡ number (length rows.old.items)) }
+{
+    let ty = begin(rows, name, at, Origin::Inline)?;
+    let target = type_no(numbers, target)?;
+    define(rows, ty, TypeDef::Link(target));
+    Ok(ty)
+}
+
+/// The row of an inline type `&T` without a name.
+fn bare_link_row(
     rows: &mut Vec<Row>,
     numbers: &BTreeMap<String, u32>,
     at: usize,
@@ -62,10 +81,7 @@ fn link_row(
     ensures same { IfOk result (λ ty. ty ≡ number (length rows.old.items)) }
 {
     let name = Txt::of(*rows.allocator(), "")?;
-    let ty = begin(rows, name, at, Origin::Inline)?;
-    let target = type_no(numbers, target)?;
-    define(rows, ty, TypeDef::Link(target));
-    Ok(ty)
+    link_row(rows, numbers, name, at, target)
 }
 
 /// The row of an inline type `[R]`, and the rows inside it.
@@ -136,7 +152,7 @@ fn inline_type(
 {
     match inline {
         Inline::Type(name) => type_no(numbers, name),
-        Inline::Link(name) => link_row(rows, numbers, at, name),
+        Inline::Link(name) => bare_link_row(rows, numbers, at, name),
         Inline::List(elem) => list_row(rows, numbers, at, elem),
         Inline::Map(key, value) => map_row(rows, numbers, at, key, value),
     }
