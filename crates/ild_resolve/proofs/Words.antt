@@ -21,11 +21,14 @@ first_wrong-append numbers (x ∷ xs) ys = ap (option_or (event_fault numbers x)
     either (Some e) = refl
     either None = refl
 
--- what is said of a part where nothing was wrong before it
-pub judged-then : {A : Type 0} (numbers : List ℕ → Option ℕ) (xs ys : List Event) (r : Result A ResolveErr) → first_wrong numbers xs ≡ None → Judged numbers ys r → Judged numbers (xs ++ ys) r
-judged-then numbers xs ys (Ok a) right next = rw (first_wrong-append numbers xs ys, right) next
-judged-then numbers xs ys (Err e) right (inl memory) = inl memory
-judged-then numbers xs ys (Err e) right (inr wrong) = inr (rw (first_wrong-append numbers xs ys, right) wrong)
+-- parts in which nothing is wrong
+pub right-both : (numbers : List ℕ → Option ℕ) (xs ys : List Event) → first_wrong numbers xs ≡ None → first_wrong numbers ys ≡ None → first_wrong numbers (xs ++ ys) ≡ None
+right-both numbers xs ys first next = rw (first_wrong-append numbers xs ys, first) next
+
+-- what is wrong where nothing is before it
+pub wrong-next : (numbers : List ℕ → Option ℕ) (xs ys : List Event) (e : ResolveErr) → first_wrong numbers xs ≡ None → (e ≡ E.Memory) ⊎ (first_wrong numbers ys ≡ Some e) → (e ≡ E.Memory) ⊎ (first_wrong numbers (xs ++ ys) ≡ Some e)
+wrong-next numbers xs ys e right (inl memory) = inl memory
+wrong-next numbers xs ys e right (inr wrong) = inr (rw (first_wrong-append numbers xs ys, right) wrong)
 
 -- what is wrong stays the first where more follows
 pub wrong-first : (numbers : List ℕ → Option ℕ) (xs ys : List Event) (e : ResolveErr) → (e ≡ E.Memory) ⊎ (first_wrong numbers xs ≡ Some e) → (e ≡ E.Memory) ⊎ (first_wrong numbers (xs ++ ys) ≡ Some e)
