@@ -1,8 +1,9 @@
 -- Words that are wrong, in the order of the text.
-use Rattle.std.proofs.Common.{◌≡◌, ◌⊎◌, inl, inr, ℕ, List, [], ◌∷◌, ◌++◌, Bool, true, false, Option, Some, None, Result, Ok, Err, bytes_eq, codes, refl, ap, sym, ◌∙◌, arith}
+use Rattle.std.proofs.Common.{◌≡◌, ◌⊎◌, inl, inr, ℕ, suc, List, [], ◌∷◌, ◌++◌, Bool, true, false, Option, Some, None, Result, Ok, Err, bytes_eq, codes, refl, ap, sym, ◌∙◌, arith}
 use Rattle.std.specs.Option.{is_some, option_or}
 use Rattle.ild_parse.specs.declared.ast.TypeName.{TypeName}
-use Rattle.ild_resolve.specs.Events.{Event, uses}
+use Rattle.ild_parse.specs.declared.ast.EnumMember.{EnumMember}
+use Rattle.ild_resolve.specs.Events.{Event, uses, each_events, enum_member_events}
 use Rattle.ild_resolve.specs.Faults.{name_fault, event_fault, first_wrong}
 use Rattle.ild_resolve.specs.Judged.{Judged}
 use Rattle.ild_resolve.specs.declared.error.ResolveErr.{ResolveErr}
@@ -34,3 +35,8 @@ wrong-next numbers xs ys e right (inr wrong) = inr (rw (first_wrong-append numbe
 pub wrong-first : (numbers : List ℕ → Option ℕ) (xs ys : List Event) (e : ResolveErr) → (e ≡ E.Memory) ⊎ (first_wrong numbers xs ≡ Some e) → (e ≡ E.Memory) ⊎ (first_wrong numbers (xs ++ ys) ≡ Some e)
 wrong-first numbers xs ys e (inl memory) = inl memory
 wrong-first numbers xs ys e (inr wrong) = inr (rw (first_wrong-append numbers xs ys, wrong) refl)
+
+-- no word of an enum is looked up
+pub enum_members-right : (numbers : List ℕ → Option ℕ) (before : ℕ) (ms : List EnumMember) → first_wrong numbers (each_events enum_member_events before ms) ≡ None
+enum_members-right numbers before [] = refl
+enum_members-right numbers before (m ∷ ms) = enum_members-right numbers (suc before) ms

@@ -7,11 +7,12 @@ ghost use Rattle.ild_resolve.specs.Forms.{map_form, enum_form, enum_members};
 ghost use Rattle.ild_parse.specs.declared.ast.Target.TheVariants as T;
 ghost use Rattle.ild_resolve.specs.Events.{reference_events, each_events, field_events, member_events, target_events, mark_events, map_form_events, uses, body_events, types_in};
 ghost use Rattle.ild_resolve.specs.Judged.{Judged};
-ghost use Rattle.ild_resolve.specs.Rows.{reference_rows, field, fields, field_rows, target_name, target_type, target_rows, member, members, member_rows, body_def, type_of, slot, first_token};
+ghost use Rattle.ild_resolve.specs.Rows.{reference_rows, field, fields, field_rows, target_name, target_type, target_rows, member, members, member_rows, body_def, body_rows, type_of, slot, first_token};
 
 use crate::ResolveErr;
 use crate::form::{
     enum_form_of, enum_members_of, map_form_of, mark_in, settings, struct_form_of, union_form_of,
+    unit_form_of,
 };
 use crate::reference::{link_row, slot_in};
 use crate::word::type_no;
@@ -233,4 +234,54 @@ fn enum_def(alloc: Global, body: EnumBody) -> Result<TypeDef, AllocError>
     let members = enum_members_of(alloc, body.members)?;
     let form = enum_form_of(body.form);
     Ok(TypeDef::Enum(EnumDef { members, form }))
+}
+
+/// The element of a list, and the rows of the inline types in it.
+fn list_def(
+    rows: &mut Vec<Row>,
+    numbers: &BTreeMap<String, u32>,
+    elem: &Ref,
+) -> Result<TypeDef, ResolveErr>
+    requires small { length rows.old.items + types_in (reference_events elem.now) ≤ 65543 }
+    ensures words { Judged (get_by_text numbers.now) (reference_events elem.now) result }
+    ensures rows { OnOk result (rows.new.items ≡ rows.old.items ++ reference_rows (get_by_text numbers.now) (length rows.old.items) elem.now) }
+    ensures same { IfOk result (λ d. d ≡ D.List (slot (get_by_text numbers.now) (length rows.old.items) elem.now) (first_token (get_by_text numbers.now) elem.now)) }
+{
+    let slot = slot_in(rows, numbers, elem)?;
+    Ok(TypeDef::List {
+        elem: slot,
+        at: elem.at,
+    })
+}
+
+/// What a declaration says of its type, and the rows of the inline types in it.
+pub(crate) fn def_of(
+    rows: &mut Vec<Row>,
+    numbers: &BTreeMap<String, u32>,
+    body: Body,
+) -> Result<TypeDef, ResolveErr>
+    requires small { length rows.old.items + types_in (body_events body) ≤ 65543 }
+    ensures words { Judged (get_by_text numbers.now) (body_events body) result }
+    ensures rows { OnOk result (rows.new.items ≡ rows.old.items ++ body_rows (get_by_text numbers.now) (length rows.old.items) body) }
+    ensures same { IfOk result (λ d. d ≡ body_def (get_by_text numbers.now) (length rows.old.items) body) }
+{
+    match body {
+        Body::Copy(name) => Ok(TypeDef::Copy(type_no(numbers, &name)?)),
+        Body::Bool => Ok(TypeDef::Bool),
+        Body::String => Ok(TypeDef::Text),
+        Body::Bytes => Ok(TypeDef::Bytes),
+        Body::Int => Ok(TypeDef::Int),
+        Body::Float(at) => Err(ResolveErr::Float { at }),
+        Body::Any => Ok(TypeDef::Any),
+        Body::Link(name) => Ok(TypeDef::Link(type_no(numbers, &name)?)),
+        Body::List(elem) => list_def(rows, numbers, &elem),
+        Body::Map(map) => {
+            let form = map.form;
+            map_def(rows, numbers, &map.key, &map.value, form)
+        }
+        Body::Struct(body) => struct_def(rows, numbers, body),
+        Body::Union(body) => union_def(rows, numbers, body),
+        Body::Enum(body) => Ok(enum_def(*rows.allocator(), body)?),
+        Body::Unit(form) => Ok(TypeDef::Unit(unit_form_of(form))),
+    }
 }

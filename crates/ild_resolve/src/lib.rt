@@ -5,6 +5,7 @@ mod body;
 mod error;
 mod form;
 mod reference;
+mod table;
 mod word;
 
 pub use error::ResolveErr;
