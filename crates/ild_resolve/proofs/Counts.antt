@@ -1,5 +1,5 @@
 -- How many types begin in a part of the text: as many as it has rows.
-use Rattle.std.proofs.Common.{◌≡◌, ℕ, suc, ◌+◌, List, [], ◌∷◌, ◌++◌, Option, Some, None, length, length-append, refl, ap, sym, ◌∙◌, arith}
+use Rattle.std.proofs.Common.{◌≡◌, ℕ, suc, ◌+◌, List, [], ◌∷◌, ◌++◌, Option, Some, None, length, length-append, refl, ap, arith}
 use Rattle.ild_parse.specs.Reference.{Reference, refer, Refers, named, link, list, map}
 use Rattle.ild_parse.specs.declared.ast.Target.{Target}
 use Rattle.ild_parse.specs.declared.ast.Target.TheVariants as T
@@ -16,7 +16,7 @@ use Rattle.ild_parse.specs.declared.ast.Body.{Body}
 use Rattle.ild_parse.specs.declared.ast.Body.TheVariants as B
 use Rattle.ild_parse.specs.declared.ast.Decl.{Decl}
 use Rattle.ild_parse.specs.declared.ast.Decl.TheVariants as A
-use Rattle.ild_resolve.specs.Events.{map_form_events, mark_events, each_events, field_events, member_events, enum_member_events, body_events, decl_events, target_events, Event, declares, begins, uses, advances, floats, part, reference_events, inline_events, types_in}
+use Rattle.ild_resolve.specs.Events.{map_form_events, mark_events, each_events, field_events, member_events, enum_member_events, body_events, decl_events, target_events, Event, declares, begins, reference_events, inline_events, types_in}
 use Rattle.ild_resolve.specs.Rows.{field_rows, member_rows, body_rows, decl_rows, target_rows, reference_rows, inline_rows}
 
 pub types_in-append : (xs ys : List Event) → types_in (xs ++ ys) ≡ types_in xs + types_in ys

@@ -1,5 +1,5 @@
 -- Fields, one after the other: what was made of those before, and what is left.
-use Rattle.std.proofs.Common.{◌≡◌, ◌⊎◌, inl, inr, ℕ, suc, ◌+◌, ◌≤◌, List, [], ◌∷◌, ◌++◌, Option, Some, None, length, length-append, append_assoc, append-nil, refl, ap, sym, ◌∙◌, arith}
+use Rattle.std.proofs.Common.{◌≡◌, ◌⊎◌, ℕ, suc, ◌+◌, ◌≤◌, List, [], ◌∷◌, ◌++◌, Option, Some, None, length, length-append, append_assoc, ap, sym, ◌∙◌, arith}
 use Rattle.ild_parse.specs.declared.ast.Field.{Field as AstField}
 use Rattle.ild_schema.specs.declared.def.Field.{Field}
 use Rattle.ild_schema.specs.declared.row.Row.{Row}
@@ -16,9 +16,6 @@ pub record FieldsLeft (numbers : List ℕ → Option ℕ) (before : List Row) (a
   pub appended : before ++ field_rows numbers (length before) all ≡ rows ++ field_rows numbers (length rows) left
   pub same : fields numbers (length before) all ≡ made ++ fields numbers (length rows) left
   pub room : length rows + types_in (each_events field_events (length made) left) ≤ 65543
-
-pub fields_left-start : (numbers : List ℕ → Option ℕ) (rows : List Row) (all : List AstField) → length rows + types_in (each_events field_events 0 all) ≤ 65543 → FieldsLeft numbers rows all rows [] all
-fields_left-start numbers rows all room = record { words = refl; appended = refl; same = refl; room = room }
 
 -- the next field has room for its inline types
 pub fields_left-room : (numbers : List ℕ → Option ℕ) (before : List Row) (all : List AstField) (rows : List Row) (made : List Field) (f : AstField) (left : List AstField)

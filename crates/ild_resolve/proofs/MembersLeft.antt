@@ -1,5 +1,5 @@
 -- Members, one after the other: what was made of those before, and what is left.
-use Rattle.std.proofs.Common.{◌≡◌, ◌⊎◌, inl, inr, ℕ, suc, ◌+◌, ◌≤◌, List, [], ◌∷◌, ◌++◌, Option, Some, None, length, length-append, append_assoc, append-nil, refl, ap, sym, ◌∙◌, arith}
+use Rattle.std.proofs.Common.{◌≡◌, ◌⊎◌, ℕ, suc, ◌+◌, ◌≤◌, List, [], ◌∷◌, ◌++◌, Option, Some, None, length, length-append, append_assoc, ap, sym, ◌∙◌, arith}
 use Rattle.ild_parse.specs.declared.ast.Member.{Member as AstMember}
 use Rattle.ild_schema.specs.declared.def.Member.{Member}
 use Rattle.ild_schema.specs.declared.row.Row.{Row}
@@ -20,9 +20,6 @@ pub record MembersLeft (numbers : List ℕ → Option ℕ) (before : List Row) (
   pub appended : before ++ member_rows numbers all ≡ rows ++ member_rows numbers left
   pub same : members numbers (length before) all ≡ made ++ members numbers (length rows) left
   pub room : length rows + types_in (each_events member_events (length made) left) ≤ 65543
-
-pub members_left-start : (numbers : List ℕ → Option ℕ) (rows : List Row) (all : List AstMember) → length rows + types_in (each_events member_events 0 all) ≤ 65543 → MembersLeft numbers rows all rows [] all
-members_left-start numbers rows all room = record { words = refl; appended = refl; same = refl; room = room }
 
 -- the next member has room for its inline types
 pub members_left-room : (numbers : List ℕ → Option ℕ) (before : List Row) (all : List AstMember) (rows : List Row) (made : List Member) (m : AstMember) (left : List AstMember)

@@ -1,5 +1,5 @@
--- Rows that are appended, and one whose definition comes after the rows behind it.
-use Rattle.std.proofs.Common.{◌≡◌, ℕ, suc, ◌+◌, ◌<◌, ◌≤◌, List, [], ◌∷◌, ◌++◌, length, length-append, append_assoc, slice_set, get_or, refl, ap, sym, ◌∙◌, arith}
+-- A row whose definition comes after the rows behind it.
+use Rattle.std.proofs.Common.{◌≡◌, ℕ, List, ◌∷◌, ◌++◌, length, slice_set, get_or, ap, sym, ◌∙◌}
 use Rattle.std.proofs.Math.Seq.{set-append_seam, get_or-append_seam}
 use Rattle.ild_schema.specs.declared.row.Row.{Row}
 use Rattle.ild_schema.specs.declared.def.TypeDef.{TypeDef}
@@ -10,9 +10,3 @@ define-between rows front after r s n d here size is =
     let same : s ≡ r = here ∙ ap (λ xs. get_or xs n s) is ∙ ap (λ k. get_or (front ++ r ∷ after) k s) (sym size) ∙ get_or-append_seam front r after s in
     ap (λ xs. slice_set xs n (record s { def = d })) is ∙ ap (λ k. slice_set (front ++ r ∷ after) k (record s { def = d })) (sym size)
     ∙ set-append_seam front r after (record s { def = d }) ∙ ap (λ (t : Row). front ++ record t { def = d } ∷ after) same
-
--- a row that is begun, with rows behind it, and then its definition
-pub define-begun : (rows begun more defined : List Row) (r : Row) (n : ℕ) (d : TypeDef) → length rows ≡ n → begun ≡ rows ++ r ∷ []
-    → ((front after : List Row) (s : Row) → length front ≡ n → begun ++ more ≡ front ++ s ∷ after → defined ≡ front ++ record s { def = d } ∷ after)
-    → defined ≡ rows ++ record r { def = d } ∷ more
-define-begun rows begun more defined r n d size is def = def rows more r size (ap (λ xs. xs ++ more) is ∙ append_assoc rows (r ∷ []) more)

@@ -5,7 +5,6 @@ ghost use Rattle.ild_parse.specs.Reference.{list, link, map};
 ghost use Rattle.ild_parse.specs.ReferenceSeen.{refers_of};
 ghost use Rattle.ild_schema.specs.Prelude.{number};
 ghost use Rattle.ild_schema.specs.declared.row.Row.{Row};
-ghost use Rattle.ild_schema.specs.declared.def.TypeDef.{TypeDef};
 ghost use Rattle.ild_schema.specs.declared.def.TypeDef.TheVariants as D;
 ghost use Rattle.ild_resolve.specs.Events.{inline_events, reference_events, types_in, begins, uses};
 ghost use Rattle.ild_resolve.specs.Judged.{Judged};

@@ -1,5 +1,5 @@
 //! The rows of a table: the prelude, and then the declared types with their inline types.
-ghost use Rattle.std.specs.Prelude.{◌≡◌, ◌⊎◌, ◌+◌, ◌≤◌, ◌++◌, ◌∷◌, [], List, length, None, Some, IfErr, IfOk, OnOk};
+ghost use Rattle.std.specs.Prelude.{◌≡◌, ◌⊎◌, ◌+◌, ◌≤◌, ◌++◌, length, None, Some, IfErr, IfOk, OnOk};
 ghost use Rattle.std.specs.List.{flat_map};
 ghost use Rattle.std.specs.BTreeMap.{get_by_text};
 ghost use Rattle.ild_parse.specs.declared.ast.Decl.TheVariants as A;

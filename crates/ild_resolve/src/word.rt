@@ -1,9 +1,9 @@
 //! Words: the names of types, and the name of the advanced layout.
 ghost use Rattle.std.specs.Prelude.{◌≡◌, ℕ, List, Option, [], ◌∷◌, IfOk};
 ghost use Rattle.std.specs.BTreeMap.{get_by_text};
+ghost use Rattle.ild_schema.specs.declared.def.MapForm.TheVariants as M;
 ghost use Rattle.ild_resolve.specs.Events.{advances, uses};
 ghost use Rattle.ild_resolve.specs.Judged.{Judged};
-ghost use Rattle.ild_schema.specs.declared.def.MapForm.TheVariants as M;
 ghost use Rattle.ild_resolve.specs.Rows.{type_of};
 
 use crate::ResolveErr;
