@@ -18,8 +18,8 @@ use crate::reference::{link_row, slot_in};
 use crate::word::type_no;
 use ild_data::Txt;
 use ild_parse::{
-    Body, EnumBody, Field as AstField, List as AstList, MapBody, MapForm as AstMapForm,
-    Member as AstMember, Ref, StructBody, Target, TypeName, UnionBody,
+    Body, EnumBody, Field as AstField, List as AstList, MapForm as AstMapForm, Member as AstMember,
+    Ref, StructBody, Target, TypeName, UnionBody,
 };
 use ild_schema::{
     EnumDef, Field, Fields, Member, Members, Row, Slot, StructDef, TypeDef, TypeNo, UnionDef,
