@@ -8,9 +8,11 @@ use Rattle.ild_parse.specs.declared.ast.Decl.{Decl}
 use Rattle.ild_parse.specs.declared.ast.Body.{Body}
 use Rattle.ild_parse.specs.declared.ast.Field.{Field}
 use Rattle.ild_parse.specs.declared.ast.Member.{Member}
+use Rattle.ild_parse.specs.declared.ast.Target.{Target}
+use Rattle.ild_parse.specs.declared.ast.Target.TheVariants as T
 use Rattle.ild_schema.specs.declared.row.Row.{Row}
-use Rattle.ild_resolve.specs.Events.{Event, declares, begins, types_in, reference_events, field_events, member_events, each_events, body_events, decl_events, events_of}
-use Rattle.ild_resolve.specs.Rows.{reference_rows, field_rows, member_rows, body_rows, decl_rows, decls_rows}
+use Rattle.ild_resolve.specs.Events.{Event, declares, begins, types_in, reference_events, target_events, field_events, member_events, each_events, body_events, decl_events, events_of}
+use Rattle.ild_resolve.specs.Rows.{reference_rows, target_rows, field_rows, member_rows, body_rows, decl_rows, decls_rows}
 use Rattle.ild_resolve.specs.Table.{rows_of}
 use Rattle.ild_resolve.specs.Names.{number_of}
 use Rattle.ild_resolve.proofs.Opened.{opened, open_name, AreOf, reference_opened, fields_opened, members_opened, body_opened, decl_opened, decls_opened}
@@ -31,6 +33,10 @@ counted : (es : List Event) (rows : List Row) → AreOf es rows → length rows 
 counted es rows h = sym (length-map rows open_name) ∙ ap length h ∙ length-opened es
 
 module _ (numbers : List ℕ → Option ℕ) where
+  pub target_count : (at : ℕ) (t : Target) → length (target_rows numbers at t) ≡ types_in (target_events at t)
+  target_count at (T.Type t) = refl
+  target_count at (T.Link t) = refl
+
   pub reference_count : (n : ℕ) (r : Reference) → length (reference_rows numbers n r) ≡ types_in (reference_events r)
   reference_count n r = counted (reference_events r) (reference_rows numbers n r) (reference_opened numbers n r)
 

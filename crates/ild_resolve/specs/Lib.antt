@@ -7,3 +7,4 @@ pub mod Table
 pub mod Counts
 pub mod Survey
 pub mod Marks
+pub mod Judged

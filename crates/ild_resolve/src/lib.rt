@@ -1,13 +1,17 @@
 //! From a syntax tree to the table of types (IPLD Schemas): names become numbers, and the faults of names are found.
 #![tactic(auto)]
 
+mod body;
 mod circular;
 mod count;
 mod error;
+mod form;
 mod laws;
+mod reference;
 mod resolving;
 mod survey;
 mod table;
+mod word;
 
 pub use error::ResolveErr;
 pub use laws::{faultless_have_tables, one_result};

@@ -1,0 +1,10 @@
+use Rattle.std.proofs.Common.{inr, sym}
+use Rattle.std.specs.BTreeMap.{get_by_text}
+use Rattle.ild_resolve.proofs.Words.{unknown}
+use Rattle.ild_resolve.proofs.word.type_no.Goals as goal
+
+pub returns-in-None-clause-words : goal.returns-in-None-clause-words
+returns-in-None-clause-words c =
+    let other = rw c.as_str-text.ensures.same at c.if-eq.ensures in
+    let none = rw c.as_str-text.ensures.same at c.in-None.ensures.value in
+    inr (unknown (get_by_text c.args.numbers.now) c.args.name.now (sym other) (sym none))
