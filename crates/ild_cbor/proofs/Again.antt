@@ -12,7 +12,7 @@ use Rattle.ild_data.specs.Key.{IsBelow}
 use Rattle.ild_cbor.specs.Reading.{Read, may_follow, key_at, items_at, members_at, simple_at, body_at, item_by, item_at, part_at}
 use Rattle.ild_cbor.proofs.Heads.{cut_again, IsHead, head_reads, head_of}
 use Rattle.ild_cbor.proofs.Strings.{first_major, first_low, key_again, link_again}
-use Rattle.ild_cbor.proofs.Sizes.{items_count, members_count}
+use Rattle.ild_data.proofs.Sizes.{items_count, members_count}
 
 -- what a reader of parts, beneath a container with this much room, reads again
 abbrev pub ReadsAgain : ℕ → (List ℕ → Read Data) → Type 0

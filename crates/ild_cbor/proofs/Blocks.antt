@@ -1,12 +1,12 @@
 -- Whole blocks, and what follows for spellings.
-use Rattle.std.proofs.Common.{inl, inr, ◌≡◌, ℕ, ◌+◌, ◌^◌, ◌<◌, ◌≤◌, false, ltb, List, [], ◌∷◌, ◌++◌, length, drop, Some, None, Result, Ok, Err, refl, sym, ap, subst, ◌∙◌, append-nil, arith}
+use Rattle.std.proofs.Common.{inl, inr, ◌≡◌, ℕ, ◌≤◌, false, ltb, List, [], ◌∷◌, ◌++◌, length, drop, Some, None, Result, Ok, Err, refl, sym, ap, subst, ◌∙◌, append-nil, arith}
 use Rattle.std.specs.Prelude.{◌==◌}
 use Rattle.std.proofs.lemmas.Bool.{eqb-true, ltb-false, le-ltb}
 use Rattle.std.proofs.lemmas.List.{drop_at}
-use Rattle.ild_data.specs.Data.{Data, depth}
+use Rattle.ild_data.specs.Data.{Data}
 use Rattle.ild_data.specs.Spell.{spell}
-use Rattle.ild_data.specs.Tree.{IsTree}
 use Rattle.ild_data.specs.Limits.{IsWithin, deepest, longest_block}
+use Rattle.ild_data.proofs.Apart.{one_spelling}
 use Rattle.ild_cbor.specs.declared.fault.Stop.{Stop}
 use Rattle.ild_cbor.specs.declared.fault.CborKind.TheVariants.{Rest, Size}
 use Rattle.ild_cbor.specs.Reading.{◌>>=◌, demand, stop_at, item_at, all_at, fault_in, fault_of}
@@ -66,23 +66,12 @@ block_taken b fits e =
           (d.0, all_taken b d.0 fits (ltb-false _ _ a.0) d.1)
     ]
 
-pub one_spelling_lem : (d e : Data) (x y : List ℕ) → IsTree d → IsTree e → length (spell d) < 2 ^ 64 → length (spell e) < 2 ^ 64 → spell d ++ x ≡ spell e ++ y → (d ≡ e) × (x ≡ y)
-one_spelling_lem d e x y p q s t same =
-    let a : depth d ≤ depth d + depth e = omega arith in
-    let b : depth e ≤ depth d + depth e = omega arith in
-    let both = sym (item_again (depth d + depth e) d x p a s) ∙ ap (item_at (depth d + depth e)) same ∙ item_again (depth d + depth e) e y q b t in
-    let pair : (d, x) ≡ (e, y) = ok_is (d, x) (e, y) both in
-    (ap (λ (p : Data × List ℕ). p.0) pair, ap (λ (p : Data × List ℕ). p.1) pair)
-
--- the same of trees within the limits
+-- no spelling of a tree within the limits begins another
 pub one_spelling_within : (d e : Data) (x y : List ℕ) → IsWithin d → IsWithin e → spell d ++ x ≡ spell e ++ y → (d ≡ e) × (x ≡ y)
 one_spelling_within d e x y u v same =
     let a = u.sized in
     let b = v.sized in
-    one_spelling_lem d e x y u.tree v.tree (omega arith) (omega arith) same
-
-pub spell_injective : (d e : Data) → IsWithin d → IsWithin e → spell d ≡ spell e → d ≡ e
-spell_injective d e u v same = (one_spelling_within d e [] [] u v (ap (λ (b : List ℕ). b ++ []) same)).0
+    one_spelling d e x y u.tree v.tree (omega arith) (omega arith) same
 
 -- what stands at a place of a block begins the block from there on
 pub held_from : (block piece : List ℕ) (from : ℕ) (h : Holds block from piece) → drop from block ≡ piece ++ h.after

@@ -1,23 +1,26 @@
 -- A part of an item, inside the block.
 use Rattle.std.proofs.Common.{◌≡◌, ℕ, zero, suc, ◌+◌, ◌-◌, ◌^◌, ◌<◌, ◌≤◌, List, [], ◌∷◌, ◌++◌, length, length-append, append_assoc, append-nil, take, drop, Option, Some, None, refl, sym, ap, subst, ◌∙◌, arith}
-use Rattle.std.specs.Prelude.{slice_get, pos, negsuc, IsUtf8}
+use Rattle.std.specs.Prelude.{slice_get, pos, negsuc, IsUtf8, true}
 use Rattle.std.proofs.lemmas.List.{take_all}
 use Rattle.ild_data.specs.Data.{Data, null, boolean, integer, text, bytes, list, map, link, Items, no_items, item, Members, items_list, members_list, depth, items_depth}
 use Rattle.ild_data.specs.Spell.{head, spell, spell_bytes, spell_items, spell_members}
 use Rattle.ild_data.specs.Tree.{IsTree, AreTrees}
 use Rattle.ild_data.specs.Limits.{IsWithin}
 use Rattle.ild_data.specs.Key.{value_at}
+use Rattle.ild_data.specs.CidRead.{is_cid}
+use Rattle.ild_data.proofs.Cids.{IsCid-is_cid, is_link_cid}
 use Rattle.ild_cbor.specs.declared.node.Node.{Node}
 use Rattle.ild_cbor.specs.declared.start.Start.{Start}
 use Rattle.ild_cbor.specs.Row.{IsRow, IsEntryRow}
-use Rattle.ild_cbor.specs.Shape.{major_of, string_of, parts_of, StartsAs}
+use Rattle.ild_data.specs.Shape.{major_of, string_of, parts_of}
+use Rattle.ild_data.proofs.Shapes.{keys_and_values-spell}
+use Rattle.ild_cbor.specs.Shape.{StartsAs}
 use Rattle.ild_cbor.specs.Spelled.{Spells}
 use Rattle.ild_cbor.specs.Nodes.{Stands, IsPart, Finds, HasPart}
 use Rattle.ild_cbor.specs.Span.{items_before, values_before, before_part, place_of, item_of, key_index, index_of, entry_of}
 use Rattle.ild_cbor.specs.Scalar.{text_of}
 use Rattle.ild_cbor.specs.OfHead.{string_in}
 use Rattle.ild_cbor.specs.Search.{CutsValue}
-use Rattle.ild_cbor.proofs.Shapes.{keys_and_values-spell}
 use Rattle.ild_cbor.proofs.Steps.{some_is}
 
 -- ---- a part by the bytes that begin with it
@@ -262,6 +265,10 @@ link_if n s string t h st six opened = go t (h.within) (st.rest_is) (sym st.majo
         let l1 = length-append (head 2 (length (0 ∷ x))) (0 ∷ x) in
         let flat : s.rest.now ≡ head 2 (length (0 ∷ x)) ++ (0 ∷ x) = r ∙ append-nil (spell_bytes (0 ∷ x)) in
         record { cid = x; is = refl; string_is = opened 2 (length (0 ∷ x)) (0 ∷ x) (omega arith) flat }
+
+-- the CID of a link in a tree is one
+pub link_form : (t : Data) (cid : List ℕ) → IsTree t → t ≡ link cid → is_cid cid ≡ true
+link_form t cid tree is = IsCid-is_cid cid (is_link_cid cid (subst (λ (u : Data). IsTree u) is tree))
 
 pub behind_first : (b cid : List ℕ) → b ≡ 0 ∷ cid → take (length b - 1) (drop 1 b) ≡ cid
 behind_first b cid e =

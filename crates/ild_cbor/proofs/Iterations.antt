@@ -11,7 +11,7 @@ use Rattle.ild_cbor.specs.Shape.{StartsAs}
 use Rattle.ild_cbor.specs.Spelled.{Holds, Spells, SpellsItems, SpellsMembers}
 use Rattle.ild_cbor.specs.Nodes.{Stands}
 use Rattle.ild_cbor.proofs.Blocks.{held_from}
-use Rattle.ild_cbor.proofs.Shapes.{keys_and_values-spell}
+use Rattle.ild_data.proofs.Shapes.{keys_and_values-spell}
 use Rattle.ild_cbor.proofs.Insides.{one_row, list_if, map_if}
 
 -- `&b[i..]` as it is seen

@@ -1,7 +1,6 @@
 pub mod Steps
 pub mod Walks
 pub mod Heads
-pub mod Sizes
 pub mod Strings
 pub mod Again
 pub mod Taken

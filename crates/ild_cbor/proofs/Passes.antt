@@ -5,12 +5,14 @@ use Rattle.ild_data.specs.Data.{Data, null, boolean, integer, text, bytes, list,
 use Rattle.ild_data.specs.Spell.{head, spell, spell_items}
 use Rattle.ild_data.specs.Tree.{AreTrees}
 use Rattle.ild_cbor.specs.Row.{IsRow}
-use Rattle.ild_cbor.specs.Shape.{major_of, argument_of, string_of, keys_and_values, parts_of, IsStart}
+use Rattle.ild_data.specs.Shape.{major_of, argument_of, string_of, keys_and_values, parts_of}
+use Rattle.ild_data.proofs.Sizes.{items_count, spell_some}
+use Rattle.ild_data.proofs.Shapes.{spell_shape, argument_small}
+use Rattle.ild_cbor.specs.Shape.{IsStart}
 use Rattle.ild_cbor.specs.Passing.{passing}
 use Rattle.ild_cbor.specs.declared.start.Start.{Start}
 use Rattle.ild_cbor.proofs.Heads.{split_again}
-use Rattle.ild_cbor.proofs.Sizes.{items_count, spell_some}
-use Rattle.ild_cbor.proofs.Shapes.{spell_shape, argument_small, parts_trees}
+use Rattle.ild_cbor.proofs.Shapes.{parts_trees}
 
 pub record RowLeft (b : List ℕ) (n : ℕ) (rest : List ℕ) : Type 0 where
   pub of : Items

@@ -1,17 +1,12 @@
--- Laws of spellings, faults and spans.
-use Rattle.std.specs.Prelude.{ℕ, ◌≡◌, ◌<◌, ◌^◌, ◌↔◌, List, length, ◌++◌, Some, None, slice_range, ◌+◌}
+-- Laws of nodes, faults and spans.
+use Rattle.std.specs.Prelude.{ℕ, ◌≡◌, ◌↔◌, List, Some, None, slice_range, ◌+◌}
 use Rattle.ild_data.specs.Data.{Data, Members, map}
 use Rattle.ild_data.specs.Spell.{spell}
-use Rattle.ild_data.specs.Tree.{IsTree}
 use Rattle.ild_cbor.specs.declared.node.Node.{Node}
 use Rattle.ild_cbor.specs.Nodes.{Stands}
 use Rattle.ild_cbor.specs.Block.{AreBytes, IsBlockOf}
 use Rattle.ild_cbor.specs.Reading.{fault_of}
 use Rattle.ild_cbor.specs.Span.{Span, tree_at, span_of, part_of, index_of, entry_of}
-
--- no spelling begins another, and two trees have two spellings
-abbrev pub OneSpelling : Type 0
-OneSpelling = (d e : Data) (x y : List ℕ) → IsTree d → IsTree e → length (spell d) < 2 ^ 64 → length (spell e) < 2 ^ 64 → spell d ++ x ≡ spell e ++ y → (d ≡ e) × (x ≡ y)
 
 -- a node stands for one tree
 abbrev pub OneTree : Type 0

@@ -1,7 +1,8 @@
 //! What an item is by itself.
-ghost use Rattle.std.specs.Prelude.{◌≡◌, ◌<◌, ℕ, length, option_map};
+ghost use Rattle.std.specs.Prelude.{◌≡◌, ◌<◌, ℕ, length, option_map, true, IfSome};
 ghost use Rattle.ild_data.specs.Data.{Data};
 ghost use Rattle.ild_data.specs.Spell.{spell};
+ghost use Rattle.ild_data.specs.CidRead.{is_cid};
 ghost use Rattle.ild_data.specs.CidView.{cid_bytes};
 ghost use Rattle.ild_cbor.specs.Nodes.{Stands, block_of, start_of};
 ghost use Rattle.ild_cbor.specs.Shape.{StartsAs};
@@ -88,7 +89,8 @@ impl<'b> Node<'b> {
 
     // The binary CID of a link.
     fn cid(&self) -> Option<&'b [u8]>
-        ensures { (t : Data) → Stands self.now t → option_map (λ s. s.now) result ≡ link_of t }
+        ensures form { IfSome result (λ s. is_cid s.now ≡ true) }
+        ensures same { (t : Data) → Stands self.now t → option_map (λ s. s.now) result ≡ link_of t }
     {
         let start = self.start();
         if start.major != 6 {
@@ -106,7 +108,7 @@ impl<'b> Node<'b> {
         ensures { (t : Data) → Stands self.now t → option_map cid_bytes result ≡ link_of t }
     {
         match self.cid() {
-            Some(cid) => CidRef::read(cid).ok(),
+            Some(cid) => Some(CidRef::known(cid)),
             None => None,
         }
     }

@@ -1,10 +1,5 @@
-//! Laws of spellings, faults and spans.
-ghost use Rattle.ild_cbor.specs.Laws.{OneSpelling, OneTree, FaultlessAreSpelled, SpansSpell, EntriesAreParts};
-
-/// No spelling begins another, and two trees have two spellings.
-pub fn one_spelling()
-    ensures { OneSpelling }
-{}
+//! Laws of nodes, faults and spans.
+ghost use Rattle.ild_cbor.specs.Laws.{OneTree, FaultlessAreSpelled, SpansSpell, EntriesAreParts};
 
 /// A node stands for one tree.
 pub fn one_tree()

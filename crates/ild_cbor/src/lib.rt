@@ -23,7 +23,7 @@ pub use block::check;
 pub use fault::{CborFault, CborKind};
 pub use items::Items;
 pub use kind::Kind;
-pub use laws::{entries_are_parts, faultless_are_spelled, one_spelling, one_tree, spans_spell};
+pub use laws::{entries_are_parts, faultless_are_spelled, one_tree, spans_spell};
 pub use node::Node;
 pub use pairs::Pairs;
 

@@ -9,6 +9,8 @@ use Rattle.ild_data.specs.CidTextRead.{checked_by}
 use Rattle.ild_data.proofs.Varints.{bind_ok, read_varint-sound, read_varint-complete, one_form}
 use Rattle.ild_data.specs.Varint.{AreGroups, IsVarint}
 use Rattle.ild_data.specs.Cid.{CidOf, IsCid}
+use Rattle.ild_data.specs.Data.{link}
+use Rattle.ild_data.specs.Tree.{IsTree}
 use Rattle.ild_data.specs.Spell.{cid_of}
 use Rattle.ild_data.specs.CidRead.{read_varint, read_version, read_digest, read_cid, is_cid, cid_parts, parts_or_none, CidParts, ◌>>=◌}
 
@@ -20,6 +22,11 @@ parts_read s p is = rw is refl
 pub is_cid_read : (s : List ℕ) (p : CidParts) → read_cid s ≡ Ok p → is_cid s ≡ true
 unfolding is_cid
 is_cid_read s p is = rw is refl
+
+-- a CID is read without a fault
+pub is_read : (s : List ℕ) (e : CidFault) → is_cid s ≡ true → read_cid s ≡ Err e → ⊥
+unfolding is_cid
+is_read s e is err = let wrong : is_ok (read_cid s) ≡ false = ap is_ok err in let same : true ≡ false = sym is ∙ wrong in cc
 
 ok_parts : (r : Result CidParts CidFault) → is_ok r ≡ true → r ≡ Ok (parts_or_none r)
 ok_parts (Ok p) is = refl
@@ -141,6 +148,10 @@ is_cid-IsCid s is = record { codec = (cid_parts s).codec; hash = (cid_parts s).h
 
 pub IsCid-is_cid : (s : List ℕ) → IsCid s → is_cid s ≡ true
 IsCid-is_cid s of = is_cid_read s _ (read_cid-complete s of.codec of.hash of.digest of.parts)
+
+-- a link of a tree is a CID
+pub is_link_cid : (s : List ℕ) → IsTree (link s) → IsCid s
+is_link_cid s tree = tree
 
 pub not_read : (s : List ℕ) (e : CidFault) → read_cid s ≡ Err e → IsCid s → ⊥
 not_read s e is of = let h = read_cid-complete s of.codec of.hash of.digest of.parts in cc

@@ -2,6 +2,10 @@ pub mod Lists
 pub mod Places
 pub mod Rising
 pub mod Spelling
+pub mod Sizes
+pub mod Shapes
+pub mod Heads
+pub mod Apart
 pub mod Regroup
 pub mod Varints
 pub mod Cids

@@ -11,6 +11,8 @@ pub mod CidView
 pub mod CidTextRead
 pub mod Tree
 pub mod Spell
+pub mod Shape
+pub mod Spellings
 pub mod Limits
 pub mod Seen
 pub mod Falls

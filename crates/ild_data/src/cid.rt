@@ -70,9 +70,6 @@ impl Cid {
     pub fn view(&self) -> CidRef<'_>
         ensures { cid_bytes result ≡ self.now }
     {
-        match CidRef::read(self.as_slice()) {
-            Ok(cid) => cid,
-            Err(_) => unreachable!(),
-        }
+        CidRef::known(self.as_slice())
     }
 }

@@ -15,13 +15,7 @@ const SHA2_256: u64 = 0x12;
 #[derive(Clone, Copy)]
 pub struct CidRef<'b> {
     bytes: &'b [u8],
-    codec: u64,
-    hash: u64,
-    digest: &'b [u8],
     ghost form: { is_cid bytes.now ≡ true },
-    ghost codec_is: { codec ≡ (cid_parts bytes.now).codec },
-    ghost hash_is: { hash ≡ (cid_parts bytes.now).hash },
-    ghost digest_is: { digest.now ≡ (cid_parts bytes.now).digest },
 }
 
 impl<'b> CidRef<'b> {
@@ -38,13 +32,16 @@ impl<'b> CidRef<'b> {
         ensures whole { IfOk result (λ c. cid_bytes c ≡ bytes.now) }
         ensures fault { IfErr result (λ e. read_cid bytes.now ≡ Err e) }
     {
-        let (codec, hash, digest) = read_parts(bytes)?;
-        Ok(CidRef {
-            bytes,
-            codec,
-            hash,
-            digest,
-        })
+        read_parts(bytes)?;
+        Ok(CidRef { bytes })
+    }
+
+    /// The CID that the bytes were found to be before: nothing is read.
+    pub fn known(bytes: &'b [u8]) -> CidRef<'b>
+        requires { is_cid bytes.now ≡ true }
+        ensures { cid_bytes result ≡ bytes.now }
+    {
+        CidRef { bytes }
     }
 
     /// The bytes of the CID.
@@ -55,25 +52,35 @@ impl<'b> CidRef<'b> {
         self.bytes
     }
 
+    // The codec, the hash code and the digest, read where they are asked for.
+    fn parts(&self) -> (u64, u64, &'b [u8])
+        ensures { cid_parts (cid_bytes self.now) ≡ record { codec = result.0; hash = result.1; digest = result.2.now } }
+    {
+        match read_parts(self.bytes) {
+            Ok(parts) => parts,
+            Err(_) => unreachable!(),
+        }
+    }
+
     /// The code of the codec (multicodec).
     pub fn codec(&self) -> u64
         ensures { result ≡ (cid_parts (cid_bytes self.now)).codec }
     {
-        self.codec
+        self.parts().0
     }
 
     /// The code of the hash function (multihash).
     pub fn hash(&self) -> u64
         ensures { result ≡ (cid_parts (cid_bytes self.now)).hash }
     {
-        self.hash
+        self.parts().1
     }
 
     /// The digest.
     pub fn digest(&self) -> &'b [u8]
         ensures { result.now ≡ (cid_parts (cid_bytes self.now)).digest }
     {
-        self.digest
+        self.parts().2
     }
 
     /// The id of the block, where the CID is one of DAG-CBOR by sha2-256 with 32 bytes.
@@ -83,11 +90,12 @@ impl<'b> CidRef<'b> {
         ensures whole { IfSome result (λ id. cid_bytes self.now ≡ cid_of id.0) }
         ensures only { (id : List ℕ) → length id ≡ 32 → cid_bytes self.now ≡ cid_of id → IsSome result }
     {
-        if self.codec != DAG_CBOR || self.hash != SHA2_256 || self.digest.len() != 32 {
+        let (codec, hash, digest) = self.parts();
+        if codec != DAG_CBOR || hash != SHA2_256 || digest.len() != 32 {
             return None;
         }
         let mut id = [0; 32];
-        id.copy_from_slice(self.digest);
+        id.copy_from_slice(digest);
         Some(BlockId(id))
     }
 

@@ -28,7 +28,7 @@ pub use fault::{CidFault, TextErr};
 pub use id::{BlockId, block_id};
 pub use int::Int;
 pub use key::{key_less, key_order};
-pub use laws::{cids_are_read, texts_are_read};
+pub use laws::{cids_are_read, spellings_are_apart, texts_are_read};
 pub use path::Path;
 pub use place::key_place;
 pub use text::{Octets, Txt};

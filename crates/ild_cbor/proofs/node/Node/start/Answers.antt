@@ -1,8 +1,8 @@
 use Rattle.std.proofs.Common.{◌∙◌, arith}
-use Rattle.ild_cbor.specs.Shape.{major_of, argument_of, string_of, parts_of}
+use Rattle.ild_data.specs.Shape.{major_of, argument_of, string_of, parts_of}
 use Rattle.ild_data.specs.Spell.{spell_items}
 use Rattle.std.proofs.Common.{◌++◌}
-use Rattle.ild_cbor.proofs.Shapes.{spell_shape, argument_small}
+use Rattle.ild_data.proofs.Shapes.{spell_shape, argument_small}
 use Rattle.ild_cbor.proofs.node.Node.start.Goals as goal
 
 pub returns : goal.returns
