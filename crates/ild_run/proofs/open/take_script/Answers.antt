@@ -13,9 +13,9 @@ returns-in_err-schema g c =
 pub returns-then-not-is_schema : goal.returns-then-not-is_schema
 returns-then-not-is_schema g c =
     opens_not_built (g.I.Inputs.supply c.args.inputs.now) (g.I.Inputs.supply c.take_input.new.inputs) (names_seen c.args.names.now) c.in_ok-schema.schema c.in_ok-schema.ensures.answer
-    (ap is_schema (sym c.as_slice.ensures) ∙ sym c.if-not-is_schema.ensures) c.in_ok-schema.ensures.after
+    (ap is_schema (sym c.as_slice.ensures.same) ∙ sym c.if-not-is_schema.ensures) c.in_ok-schema.ensures.after
 
 pub returns : goal.returns
 returns g c =
     opens_script (g.I.Inputs.supply c.args.inputs.now) (g.I.Inputs.supply c.take_input.new.inputs) (g.I.Inputs.supply c.take_input-2.new.inputs) (names_seen c.args.names.now) c.in_ok-schema.schema c.take_input-2.result c.in_ok-schema.ensures.answer
-    (ap is_schema (sym c.as_slice.ensures) ∙ sym c.if-not-is_schema.ensures) c.in_ok-schema.ensures.after c.take_input-2.ensures
+    (ap is_schema (sym c.as_slice.ensures.same) ∙ sym c.if-not-is_schema.ensures) c.in_ok-schema.ensures.after c.take_input-2.ensures
