@@ -105,7 +105,7 @@ item_by_again room r again (map ms) rest tree shallow short =
     (λ from. rw (t, members_again room r again None ms rest tree tt (omega arith) (omega arith)) refl)
 item_by_again room r again (link s) rest tree shallow short =
     let len = length-append (head 2 (length (0 ∷ s))) (0 ∷ s) in
-    item_head room r 6 42 (spell_bytes (0 ∷ s) ++ rest) (Ok (link s, rest)) (omega arith) (omega arith) (λ from. link_again from s rest tree (omega arith))
+    item_head room r 6 42 (spell_bytes (0 ∷ s) ++ rest) (Ok (link s, rest)) (omega arith) (omega arith) (λ from. link_again from s rest tree.0 (omega arith))
 
 pub parts_again : (room : ℕ) → ReadsAgain room (part_at room)
 unfolding part_at

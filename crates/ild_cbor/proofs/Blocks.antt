@@ -3,6 +3,7 @@ use Rattle.std.proofs.Common.{inl, inr, ◌≡◌, ℕ, ◌≤◌, false, ltb, L
 use Rattle.std.specs.Prelude.{◌==◌}
 use Rattle.std.proofs.lemmas.Bool.{eqb-true, ltb-false, le-ltb}
 use Rattle.std.proofs.lemmas.List.{drop_at}
+use Rattle.ild_data.specs.Bytes.{AreBytes}
 use Rattle.ild_data.specs.Data.{Data}
 use Rattle.ild_data.specs.Spell.{spell}
 use Rattle.ild_data.specs.Limits.{IsWithin, deepest, longest_block}
@@ -11,7 +12,7 @@ use Rattle.ild_cbor.specs.declared.fault.Stop.{Stop}
 use Rattle.ild_cbor.specs.declared.fault.CborKind.TheVariants.{Rest, Size}
 use Rattle.ild_cbor.specs.Reading.{◌>>=◌, demand, stop_at, item_at, all_at, fault_in, fault_of}
 use Rattle.ild_cbor.specs.Spelled.{Holds, Spells}
-use Rattle.ild_cbor.specs.Block.{AreBytes, IsBlockOf}
+use Rattle.ild_cbor.specs.Block.{IsBlockOf}
 use Rattle.ild_cbor.proofs.Steps.{bind_ok, demand_ok, chosen, ok_is}
 use Rattle.ild_cbor.proofs.Again.{item_again}
 use Rattle.ild_cbor.proofs.Taken.{item_taken}

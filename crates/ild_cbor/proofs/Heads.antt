@@ -5,14 +5,16 @@ use Rattle.std.specs.Int.{Width, w8, w16, w32, w64, byte_len, from_be_bytes, to_
 use Rattle.std.proofs.lemmas.Bool.{cases_lt, ltb-true, ltb-false, lt-ltb, le-ltb, eqb-true, ne_eqb}
 use Rattle.std.proofs.lemmas.List.{take_at, drop_at, take-append-drop, length-append, length-take}
 use Rattle.std.proofs.lemmas.Nat.{be_bytes_2, be_bytes_4, be_bytes_8, from_be_bytes-to_be_bytes_2, from_be_bytes-to_be_bytes_4, from_be_bytes-to_be_bytes_8}
+use Rattle.ild_data.specs.Bytes.{AreBytes}
 use Rattle.ild_data.specs.Spell.{head}
+use Rattle.ild_data.proofs.Bytes.{AreBytes-places, AreBytes-take, AreBytes-drop}
 use Rattle.ild_cbor.specs.declared.fault.CborKind.TheVariants.{Head}
 use Rattle.ild_cbor.specs.Reading.{◌>>=◌, refuse, or_short, stop_at, split_at, cut_at, wide_from, wide_at, argument_at, least_of, number_at}
-use Rattle.ild_cbor.proofs.Steps.{IsBytes, IsBytes-drop, IsBytes-take, bind_ok, refuse_ok, or_short_ok, chosen, Takes, ok_is, some_is}
+use Rattle.ild_cbor.proofs.Steps.{bind_ok, refuse_ok, or_short_ok, chosen, Takes, ok_is, some_is}
 
 -- ---- n bytes
 
-pub split_takes : (n : ℕ) (b : List ℕ) (x : List ℕ × List ℕ) → IsBytes b → split_at n b ≡ Some x → Takes b x.0 x.1 × (length x.0 ≡ n) × IsBytes x.0
+pub split_takes : (n : ℕ) (b : List ℕ) (x : List ℕ × List ℕ) → AreBytes b → split_at n b ≡ Some x → Takes b x.0 x.1 × (length x.0 ≡ n) × AreBytes x.0
 unfolding split_at
 split_takes n b x fits e =
     elim (chosen (ltb (length b) n) None (Some (take n b, drop n b)) (Some x) e) [
@@ -20,8 +22,8 @@ split_takes n b x fits e =
       | inr a ↦
           let long : n ≤ length b = ltb-false _ _ a.0 in
           let is : (take n b, drop n b) ≡ x = some_is (take n b, drop n b) x a.1 in
-          let P : List ℕ × List ℕ → Type 0 = λ y. Takes b y.0 y.1 × (length y.0 ≡ n) × IsBytes y.0 in
-          subst P is (record { parts = sym (take-append-drop n b); fits = IsBytes-drop n b fits }, omega (arith, length-take n b), IsBytes-take n b fits)
+          let P : List ℕ × List ℕ → Type 0 = λ y. Takes b y.0 y.1 × (length y.0 ≡ n) × AreBytes y.0 in
+          subst P is (record { parts = sym (take-append-drop n b); fits = AreBytes-drop n b fits }, omega (arith, length-take n b), AreBytes-take n b fits)
     ]
 
 pub split_again : (n : ℕ) (s rest : List ℕ) → length s ≡ n → split_at n (s ++ rest) ≡ Some (s, rest)
@@ -30,7 +32,7 @@ split_again n s rest len =
     let long : ltb (length (s ++ rest)) n ≡ false = le-ltb _ _ (omega (arith, length-append s rest)) in
     rw (long, take_at s rest n len, drop_at s rest n len) refl
 
-pub cut_takes : (n : ℕ) (b : List ℕ) (x : List ℕ × List ℕ) → IsBytes b → cut_at n b ≡ Ok x → Takes b x.0 x.1 × (length x.0 ≡ n) × IsBytes x.0
+pub cut_takes : (n : ℕ) (b : List ℕ) (x : List ℕ × List ℕ) → AreBytes b → cut_at n b ≡ Ok x → Takes b x.0 x.1 × (length x.0 ≡ n) × AreBytes x.0
 unfolding cut_at
 cut_takes n b x fits e = split_takes n b x fits (or_short_ok (split_at n b) x e)
 
@@ -42,9 +44,9 @@ cut_again n s rest len = rw (split_again n s rest len) refl
 
 pub record IsWide (w : Width) (limit : ℕ) (code : ℕ → List ℕ) : Type 0 where
   pub len : (n : ℕ) → length (code n) ≡ byte_len w
-  pub back : (b : List ℕ) → length b ≡ byte_len w → IsBytes b → code (from_be_bytes w b) ≡ b
+  pub back : (b : List ℕ) → length b ≡ byte_len w → AreBytes b → code (from_be_bytes w b) ≡ b
   pub again : (n : ℕ) → n < limit → from_be_bytes w (code n) ≡ n
-  pub below : (b : List ℕ) → IsBytes b → from_be_bytes w b < limit
+  pub below : (b : List ℕ) → AreBytes b → from_be_bytes w b < limit
 
 abbrev pub one : ℕ → List ℕ
 one n = n ∷ []
@@ -59,38 +61,38 @@ wide8 = record {
   len = λ n. refl;
   back = λ b len fits. one_back b len;
   again = λ n lt. omega arith;
-  below = λ b fits. omega (arith, fits 0);
+  below = λ b all. let fits = AreBytes-places b all in omega (arith, fits 0);
 }
 
 wide16 : IsWide w16 (2 ^ 16) (to_be_bytes w16)
 wide16 = record {
   len = λ n. refl;
-  back = λ b len fits. be_bytes_2 b _ len fits refl;
+  back = λ b len fits. be_bytes_2 b _ len (AreBytes-places b fits) refl;
   again = λ n lt. from_be_bytes-to_be_bytes_2 n lt;
-  below = λ b fits. omega (arith, fits 0, fits 1);
+  below = λ b all. let fits = AreBytes-places b all in omega (arith, fits 0, fits 1);
 }
 
 wide32 : IsWide w32 (2 ^ 32) (to_be_bytes w32)
 wide32 = record {
   len = λ n. refl;
-  back = λ b len fits. be_bytes_4 b _ len fits refl;
+  back = λ b len fits. be_bytes_4 b _ len (AreBytes-places b fits) refl;
   again = λ n lt. from_be_bytes-to_be_bytes_4 n lt;
-  below = λ b fits. omega (arith, fits 0, fits 1, fits 2, fits 3);
+  below = λ b all. let fits = AreBytes-places b all in omega (arith, fits 0, fits 1, fits 2, fits 3);
 }
 
 wide64 : IsWide w64 (2 ^ 64) (to_be_bytes w64)
 wide64 = record {
   len = λ n. refl;
-  back = λ b len fits. be_bytes_8 b _ len fits refl;
+  back = λ b len fits. be_bytes_8 b _ len (AreBytes-places b fits) refl;
   again = λ n lt. from_be_bytes-to_be_bytes_8 n lt;
-  below = λ b fits. omega (arith, fits 0, fits 1, fits 2, fits 3, fits 4, fits 5, fits 6, fits 7);
+  below = λ b all. let fits = AreBytes-places b all in omega (arith, fits 0, fits 1, fits 2, fits 3, fits 4, fits 5, fits 6, fits 7);
 }
 
 wide_some : (w : Width) (o : Option (List ℕ × List ℕ)) (x : ℕ × List ℕ) → wide_from w o ≡ Some x → (s : List ℕ × List ℕ) × (o ≡ Some s) × ((from_be_bytes w s.0, s.1) ≡ x)
 wide_some w None x e = absurd cc
 wide_some w (Some s) x e = (s, refl, some_is (from_be_bytes w s.0, s.1) x e)
 
-wide_takes : (w : Width) (limit : ℕ) (code : ℕ → List ℕ) (wide : IsWide w limit code) (b : List ℕ) (x : ℕ × List ℕ) → IsBytes b → wide_at w b ≡ Some x → Takes b (code x.0) x.1 × (x.0 < limit)
+wide_takes : (w : Width) (limit : ℕ) (code : ℕ → List ℕ) (wide : IsWide w limit code) (b : List ℕ) (x : ℕ × List ℕ) → AreBytes b → wide_at w b ≡ Some x → Takes b (code x.0) x.1 × (x.0 < limit)
 wide_takes w limit code wide b x fits e =
     let s = wide_some w (split_at (byte_len w) b) x e in
     let cut = split_takes (byte_len w) b s.0 fits s.1 in
@@ -202,7 +204,7 @@ took low k b x tail e t h = rw e (record { tail = tail; takes = t; is = h })
 least : (low k n : ℕ) → low ≡ k → ltb n (least_of low) ≡ false → least_of k ≤ n
 least low k n e h = subst (λ (j : ℕ). least_of j ≤ n) e (ltb-false _ _ h)
 
-argument_took : (low : ℕ) (b : List ℕ) (x : ℕ × List ℕ) → IsBytes b → argument_at low b ≡ Some x → ltb x.0 (least_of low) ≡ false → NumberTook low b x
+argument_took : (low : ℕ) (b : List ℕ) (x : ℕ × List ℕ) → AreBytes b → argument_at low b ≡ Some x → ltb x.0 (least_of low) ≡ false → NumberTook low b x
 unfolding argument_at
 argument_took low b x fits e long =
     elim (chosen (ltb low 24) _ _ _ e) [
@@ -224,7 +226,7 @@ argument_took low b x fits e long =
       ]
     ]
 
-pub number_takes : (from : List ℕ) (low : ℕ) (b : List ℕ) (x : ℕ × List ℕ) → IsBytes b → number_at from low b ≡ Ok x → NumberTook low b x
+pub number_takes : (from : List ℕ) (low : ℕ) (b : List ℕ) (x : ℕ × List ℕ) → AreBytes b → number_at from low b ≡ Ok x → NumberTook low b x
 unfolding number_at
 number_takes from low b x fits e =
     let g = refuse_ok (ltb 27 low) (stop_at Head from) (or_short (argument_at low b) >>= λ y. (refuse (ltb y.0 (least_of low)) (stop_at Head from) >>= λ u. Ok y)) x e in

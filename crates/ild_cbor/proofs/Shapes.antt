@@ -22,7 +22,7 @@ parts_trees (text s) tree = tt
 parts_trees (bytes s) tree = tt
 parts_trees (list ds) tree = tree
 parts_trees (map ms) tree = keys_trees ms tree
-parts_trees (link s) tree = (tt, tt)
+parts_trees (link s) tree = ((omega arith, tree.1), tt)
 
 -- ---- the first byte of a head, and what stands behind it
 

@@ -1,26 +1,8 @@
 -- Steps of reading that did not stop, and what they took from the front.
-use Rattle.std.proofs.Common.{◌≡◌, ℕ, suc, ◌+◌, ◌<◌, Bool, true, false, cond, List, ◌∷◌, ◌++◌, get_or, take, drop, Option, Some, None, Result, Ok, Err, refl, sym, ap, ◌∙◌, append_assoc, arith, inl, inr, ◌⊎◌}
-use Rattle.std.proofs.lemmas.Bool.{cases_lt}
-use Rattle.std.proofs.lemmas.List.{length-take, get_or-drop, get_or-take, get_or_past}
+use Rattle.std.proofs.Common.{◌≡◌, ℕ, Bool, true, false, cond, List, ◌++◌, Option, Some, None, Result, Ok, Err, refl, sym, ap, ◌∙◌, append_assoc, inl, inr, ◌⊎◌}
+use Rattle.ild_data.specs.Bytes.{AreBytes}
 use Rattle.ild_cbor.specs.declared.fault.Stop.{Stop}
 use Rattle.ild_cbor.specs.Reading.{◌>>=◌, refuse, demand, or_short}
-
--- numbers that are bytes
-abbrev pub IsBytes : List ℕ → Type 0
-IsBytes b = (i : ℕ) → get_or b i 0 < 256
-
-pub IsBytes-drop : (n : ℕ) (b : List ℕ) → IsBytes b → IsBytes (drop n b)
-IsBytes-drop n b h i = rw get_or-drop (h (n + i))
-
-pub IsBytes-take : (n : ℕ) (b : List ℕ) → IsBytes b → IsBytes (take n b)
-IsBytes-take n b h i =
-    elim (cases_lt i n) [
-      | inl lt ↦ rw (get_or-take n b i 0 lt) (h i)
-      | inr le ↦ rw (get_or_past (take n b) i 0 (omega (arith, length-take n b))) (omega arith)
-    ]
-
-pub IsBytes-rest : (c : ℕ) (b : List ℕ) → IsBytes (c ∷ b) → IsBytes b
-IsBytes-rest c b h i = h (suc i)
 
 -- the value of a step that did not stop
 pub bind_ok : {A B : Type 0} (r : Result A Stop) (f : A → Result B Stop) (y : B) → (r >>= f) ≡ Ok y → (x : A) × (r ≡ Ok x) × (f x ≡ Ok y)
@@ -61,7 +43,7 @@ chosen false x y z e = inr (refl, e)
 -- front was taken from the front of b, and rest is left
 pub record Takes (b front rest : List ℕ) : Type 0 where
   pub parts : b ≡ front ++ rest
-  pub fits : IsBytes rest
+  pub fits : AreBytes rest
 
 pub Takes-then : (a x b y c : List ℕ) → Takes a x b → Takes b y c → Takes a (x ++ y) c
 Takes-then a x b y c p q = record { parts = p.parts ∙ ap (λ (t : List ℕ). x ++ t) q.parts ∙ sym (append_assoc x y c); fits = q.fits }

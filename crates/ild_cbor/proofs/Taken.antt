@@ -8,13 +8,14 @@ use Rattle.std.specs.Str.{is_utf8}
 use Rattle.std.proofs.lemmas.Bool.{eqb-true, eqb-false, ltb-true}
 use Rattle.std.proofs.lemmas.Int.{ints}
 use Rattle.std.proofs.lemmas.Str.{IsUtf8-from_is_utf8}
+use Rattle.ild_data.specs.Bytes.{AreBytes}
 use Rattle.ild_data.specs.Data.{Data, null, boolean, integer, text, bytes, list, map, Items, no_items, item, Members, no_members, member, items_list, members_list, depth, items_depth, members_depth}
 use Rattle.ild_data.specs.Spell.{head, spell, spell_text, spell_bytes, spell_items, spell_members}
 use Rattle.ild_data.specs.Tree.{IsTree, AreTrees, AreEntries}
 use Rattle.ild_data.specs.Key.{key_cmp}
 use Rattle.ild_cbor.specs.declared.fault.CborKind.TheVariants.{KeyOrder, Range, Utf8, Depth, Tag}
 use Rattle.ild_cbor.specs.Reading.{◌>>=◌, Read, demand, stop_at, may_follow, cut_at, number_at, key_at, link_at, items_at, members_at, simple_at, body_at, item_by, item_at, part_at}
-use Rattle.ild_cbor.proofs.Steps.{IsBytes, IsBytes-rest, bind_ok, refuse_ok, demand_ok, chosen, Takes, Takes-then, ok_is}
+use Rattle.ild_cbor.proofs.Steps.{bind_ok, refuse_ok, demand_ok, chosen, Takes, Takes-then, ok_is}
 use Rattle.ild_cbor.proofs.Heads.{cut_takes, number_takes}
 use Rattle.ild_cbor.proofs.Strings.{key_takes, link_takes, head_front}
 use Rattle.ild_cbor.proofs.Again.{Follows}
@@ -27,7 +28,7 @@ pub record Took (room : ℕ) (b : List ℕ) (x : Data × List ℕ) : Type 0 wher
 
 -- what a reader of parts, beneath a container with this much room, reads is spelled
 abbrev pub ReadsSpelled : ℕ → (List ℕ → Read Data) → Type 0
-ReadsSpelled room r = (b : List ℕ) (x : Data × List ℕ) → IsBytes b → 0 < room → r b ≡ Ok x → Took room b x
+ReadsSpelled room r = (b : List ℕ) (x : Data × List ℕ) → AreBytes b → 0 < room → r b ≡ Ok x → Took room b x
 
 -- ---- lists
 
@@ -37,7 +38,7 @@ record TookItems (room n : ℕ) (b : List ℕ) (x : Items × List ℕ) : Type 0 
   pub shallow : items_depth x.0 < room
   pub count : length (items_list x.0) ≡ n
 
-items_taken : (room : ℕ) (r : List ℕ → Read Data) (spelled : ReadsSpelled room r) (n : ℕ) (b : List ℕ) (x : Items × List ℕ) → IsBytes b → 0 < room → items_at r n b ≡ Ok x → TookItems room n b x
+items_taken : (room : ℕ) (r : List ℕ → Read Data) (spelled : ReadsSpelled room r) (n : ℕ) (b : List ℕ) (x : Items × List ℕ) → AreBytes b → 0 < room → items_at r n b ≡ Ok x → TookItems room n b x
 unfolding items_at
 items_taken room r spelled zero b x fits lt e =
     subst (TookItems room 0 b) (ok_is (no_items, b) x e) (record { takes = record { parts = refl; fits = fits }; trees = tt; shallow = lt; count = refl })
@@ -76,7 +77,7 @@ follows_if None k d ms e = tt
 follows_if (Some l) k d ms e = is_less (key_cmp l k) e
 
 members_taken : (room : ℕ) (r : List ℕ → Read Data) (spelled : ReadsSpelled room r) (before : Option (List ℕ)) (n : ℕ) (b : List ℕ) (x : Members × List ℕ)
-    → IsBytes b → 0 < room → members_at r before n b ≡ Ok x → TookMembers room before n b x
+    → AreBytes b → 0 < room → members_at r before n b ≡ Ok x → TookMembers room before n b x
 unfolding members_at
 members_taken room r spelled before zero b x fits lt e =
     subst (TookMembers room before 0 b) (ok_is (no_members, b) x e) (record { takes = record { parts = refl; fits = fits }; entries = tt; follows = nothing_follows before; shallow = lt; count = refl })
@@ -111,7 +112,7 @@ some_room zero e = absurd cc
 some_room (suc room) e = omega arith
 
 body_taken : (room : ℕ) (r : List ℕ → Read Data) (spelled : ReadsSpelled room r) (from : List ℕ) (major n : ℕ) (b : List ℕ) (x : Data × List ℕ)
-    → IsBytes b → major < 7 → n < 2 ^ 64 → body_at room r from major n b ≡ Ok x → TookBody room major n b x
+    → AreBytes b → major < 7 → n < 2 ^ 64 → body_at room r from major n b ≡ Ok x → TookBody room major n b x
 unfolding body_at
 body_taken room r spelled from zero n b x fits lt limit e =
     subst (TookBody room 0 n b) (ok_is (integer (pos n), b) x e) (record { tail = []; takes = record { parts = refl; fits = fits }; spells = append-nil (head 0 n); tree = omega (arith, ints); shallow = omega arith })
@@ -122,7 +123,7 @@ body_taken room r spelled from (suc zero) n b x fits lt limit e =
 body_taken room r spelled from (suc (suc zero)) n b x fits lt limit e =
     let s = bind_ok (cut_at n b) (λ s. Ok (bytes s.0, s.1)) x e in
     let cut = cut_takes n b s.0 fits s.1 in
-    subst (TookBody room 2 n b) (ok_is (bytes s.0.0, s.0.1) x s.2) (record { tail = s.0.0; takes = cut.0; spells = ap (λ (k : ℕ). head 2 k ++ s.0.0) (sym cut.1); tree = tt; shallow = omega arith })
+    subst (TookBody room 2 n b) (ok_is (bytes s.0.0, s.0.1) x s.2) (record { tail = s.0.0; takes = cut.0; spells = ap (λ (k : ℕ). head 2 k ++ s.0.0) (sym cut.1); tree = cut.2; shallow = omega arith })
 body_taken room r spelled from (suc (suc (suc zero))) n b x fits lt limit e =
     let s = bind_ok (cut_at n b) (λ s. demand (is_utf8 s.0) (stop_at Utf8 from) >>= λ u. Ok (text s.0, s.1)) x e in
     let g = demand_ok (is_utf8 s.0.0) (stop_at Utf8 from) (Ok (text s.0.0, s.0.1)) x s.2 in
@@ -145,15 +146,15 @@ body_taken room r spelled from (suc (suc (suc (suc (suc (suc zero)))))) n b x fi
     let l = link_takes from b x fits g.1 in
     let tag : n ≡ 42 = eqb-true _ _ g.0 in
     subst (λ (y : Data). TookBody room 6 n b (y, x.1)) (sym l.is)
-    (record { tail = spell_bytes (0 ∷ l.cid); takes = l.takes; spells = ap (λ (k : ℕ). head 6 k ++ spell_bytes (0 ∷ l.cid)) tag; tree = l.form; shallow = omega arith })
+    (record { tail = spell_bytes (0 ∷ l.cid); takes = l.takes; spells = ap (λ (k : ℕ). head 6 k ++ spell_bytes (0 ∷ l.cid)) tag; tree = (l.form, l.all); shallow = omega arith })
 body_taken room r spelled from (suc (suc (suc (suc (suc (suc (suc m))))))) n b x fits lt limit e = absurd (omega arith)
 
-simple_is : (c k : ℕ) (b : List ℕ) (d : Data) (x : Data × List ℕ) (room : ℕ) → c / 32 ≡ 7 → c % 32 ≡ k → spell d ≡ (224 + k) ∷ [] → IsTree d → depth d ≡ 0 → IsBytes b → (d, b) ≡ x → Took (suc room) (c ∷ b) x
+simple_is : (c k : ℕ) (b : List ℕ) (d : Data) (x : Data × List ℕ) (room : ℕ) → c / 32 ≡ 7 → c % 32 ≡ k → spell d ≡ (224 + k) ∷ [] → IsTree d → depth d ≡ 0 → AreBytes b → (d, b) ≡ x → Took (suc room) (c ∷ b) x
 simple_is c k b d x room high low spells tree flat fits is =
     let first : 224 + k ≡ c = omega arith in
     subst (Took (suc room) (c ∷ b)) is (record { takes = record { parts = rw (spells, first) refl; fits = fits }; tree = tree; shallow = omega arith })
 
-simple_taken : (room c : ℕ) (from b : List ℕ) (x : Data × List ℕ) → IsBytes b → c / 32 ≡ 7 → simple_at from (c % 32) b ≡ Ok x → Took (suc room) (c ∷ b) x
+simple_taken : (room c : ℕ) (from b : List ℕ) (x : Data × List ℕ) → AreBytes b → c / 32 ≡ 7 → simple_at from (c % 32) b ≡ Ok x → Took (suc room) (c ∷ b) x
 unfolding simple_at
 simple_taken room c from b x fits high e =
     elim (chosen (c % 32 == 20) _ _ _ e) [
@@ -173,16 +174,16 @@ simple_taken room c from b x fits high e =
       ]
     ]
 
-item_by_taken : (room : ℕ) (r : List ℕ → Read Data) (spelled : ReadsSpelled room r) (b : List ℕ) (x : Data × List ℕ) → IsBytes b → item_by room r b ≡ Ok x → Took (suc room) b x
+item_by_taken : (room : ℕ) (r : List ℕ → Read Data) (spelled : ReadsSpelled room r) (b : List ℕ) (x : Data × List ℕ) → AreBytes b → item_by room r b ≡ Ok x → Took (suc room) b x
 unfolding item_by
 item_by_taken room r spelled [] x fits e = absurd cc
 item_by_taken room r spelled (c ∷ b) x fits e =
-    let byte : c < 256 = fits 0 in
+    let byte : c < 256 = fits.0 in
     elim (chosen (c / 32 == 7) _ _ _ e) [
-      | inl a ↦ simple_taken room c (c ∷ b) b x (IsBytes-rest c b fits) (eqb-true _ _ a.0) a.1
+      | inl a ↦ simple_taken room c (c ∷ b) b x fits.1 (eqb-true _ _ a.0) a.1
       | inr a ↦
           let n = bind_ok (number_at (c ∷ b) (c % 32) b) (λ n. body_at room r (c ∷ b) (c / 32) n.0 n.1) x a.1 in
-          let t = number_takes (c ∷ b) (c % 32) b n.0 (IsBytes-rest c b fits) n.1 in
+          let t = number_takes (c ∷ b) (c % 32) b n.0 fits.1 n.1 in
           let not_seven = eqb-false (c / 32) 7 a.0 in
           let body = body_taken room r spelled (c ∷ b) (c / 32) n.0.0 n.0.1 x t.takes.fits (omega arith) t.is.limit n.2 in
           let front = head_front c (c / 32) n.0.0 b t.tail n.0.1 refl t.is t.takes in
@@ -195,5 +196,5 @@ unfolding part_at
 parts_taken zero b x fits lt e = absurd (omega arith)
 parts_taken (suc room) b x fits lt e = item_by_taken room (part_at room) (parts_taken room) b x fits e
 
-pub item_taken : (room : ℕ) (b : List ℕ) (x : Data × List ℕ) → IsBytes b → item_at room b ≡ Ok x → Took (suc room) b x
+pub item_taken : (room : ℕ) (b : List ℕ) (x : Data × List ℕ) → AreBytes b → item_at room b ≡ Ok x → Took (suc room) b x
 item_taken room b x fits e = item_by_taken room (part_at room) (parts_taken room) b x fits e

@@ -1,12 +1,8 @@
 -- Blocks: the spellings of trees within the limits.
-use Rattle.std.specs.Prelude.{ℕ, ◌≡◌, ◌<◌, List, slice_index}
+use Rattle.std.specs.Prelude.{ℕ, ◌≡◌, List}
 use Rattle.ild_data.specs.Data.{Data}
 use Rattle.ild_data.specs.Spell.{spell}
 use Rattle.ild_data.specs.Limits.{IsWithin}
-
--- numbers that are bytes
-abbrev pub AreBytes : List ℕ → Type 0
-AreBytes b = (i : ℕ) → slice_index b i < 256
 
 -- the bytes are the spelling of a tree within the limits
 pub record IsBlockOf (b : List ℕ) (d : Data) : Type 0 where

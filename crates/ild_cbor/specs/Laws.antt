@@ -1,10 +1,11 @@
 -- Laws of nodes, faults and spans.
 use Rattle.std.specs.Prelude.{ℕ, ◌≡◌, ◌↔◌, List, Some, None, slice_range, ◌+◌}
+use Rattle.ild_data.specs.Bytes.{AreBytes}
 use Rattle.ild_data.specs.Data.{Data, Members, map}
 use Rattle.ild_data.specs.Spell.{spell}
 use Rattle.ild_cbor.specs.declared.node.Node.{Node}
 use Rattle.ild_cbor.specs.Nodes.{Stands}
-use Rattle.ild_cbor.specs.Block.{AreBytes, IsBlockOf}
+use Rattle.ild_cbor.specs.Block.{IsBlockOf}
 use Rattle.ild_cbor.specs.Reading.{fault_of}
 use Rattle.ild_cbor.specs.Span.{Span, tree_at, span_of, part_of, index_of, entry_of}
 

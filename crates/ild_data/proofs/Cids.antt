@@ -151,7 +151,7 @@ IsCid-is_cid s of = is_cid_read s _ (read_cid-complete s of.codec of.hash of.dig
 
 -- a link of a tree is a CID
 pub is_link_cid : (s : List ℕ) → IsTree (link s) → IsCid s
-is_link_cid s tree = tree
+is_link_cid s tree = tree.0
 
 pub not_read : (s : List ℕ) (e : CidFault) → read_cid s ≡ Err e → IsCid s → ⊥
 not_read s e is of = let h = read_cid-complete s of.codec of.hash of.digest of.parts in cc

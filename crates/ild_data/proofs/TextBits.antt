@@ -8,7 +8,8 @@ use Rattle.std.proofs.lemmas.List.Sums.{sum_by-append, sum_by-cons}
 use Rattle.std.proofs.lemmas.Bool.{lt-ltb}
 use Rattle.std.proofs.lemmas.Bool.Decides.{nat_tests}
 use Rattle.ild_data.specs.declared.fault.TextErr.TheVariants.{Digit, Bits}
-use Rattle.ild_data.specs.Base32.{bits, bytes_bits, AreBytes}
+use Rattle.ild_data.specs.Base32.{bits, bytes_bits}
+use Rattle.ild_data.specs.Bytes.{AreBytes}
 use Rattle.ild_data.specs.CidTextRead.{number_of, before, text_bits, eight, whole_bytes, left_bits, is_filling, bytes_of, read_base32}
 use Rattle.ild_data.proofs.Regroup.{length-bits}
 
@@ -127,10 +128,6 @@ whole_of (b ∷ out) held all lt = ap whole_bytes (append_assoc (bits 8 b) (byte
 pub left_of : (out held : List ℕ) → length held < 8 → left_bits (bytes_bits out ++ held) ≡ held
 left_of [] held lt = left_all held lt
 left_of (b ∷ out) held lt = ap left_bits (append_assoc (bits 8 b) (bytes_bits out) held) ∙ left_one b (bytes_bits out ++ held) ∙ left_of out held lt
-
-pub AreBytes-push : (bs : List ℕ) (b : ℕ) → AreBytes bs → b < 256 → AreBytes (bs ++ b ∷ [])
-AreBytes-push [] b all lt = (lt, tt)
-AreBytes-push (a ∷ bs) b all lt = (all.0, AreBytes-push bs b all.1 lt)
 
 none_more : (s : List ℕ) (i : ℕ) → length s ≤ i → text_bits (drop i s) ≡ Some []
 unfolding text_bits

@@ -7,7 +7,8 @@ use Rattle.std.proofs.lemmas.Bool.{eq-eqb, eqb-true, lt-ltb}
 use Rattle.std.proofs.lemmas.Bool.Decides.{nat_tests}
 use Rattle.ild_data.specs.declared.fault.TextErr.{TextErr}
 use Rattle.ild_data.specs.declared.fault.TextErr.TheVariants.{Prefix, Bits}
-use Rattle.ild_data.specs.Base32.{bits, five, fives, letter, letters, bytes_bits, base32, AreBytes}
+use Rattle.ild_data.specs.Base32.{bits, five, fives, letter, letters, bytes_bits, base32}
+use Rattle.ild_data.specs.Bytes.{AreBytes}
 use Rattle.ild_data.specs.declared.fault.CidFault.{CidFault}
 use Rattle.ild_data.specs.Cid.{IsCid}
 use Rattle.ild_data.specs.CidRead.{CidParts, read_cid, is_cid}

@@ -1,5 +1,5 @@
 -- Base32 (RFC 4648, section 6) in lower case and without padding, as a regrouping of bits.
-use Rattle.std.specs.Prelude.{ℕ, zero, suc, ◌+◌, ◌*◌, ◌/◌, ◌%◌, ◌<◌, List, [], ◌∷◌, ◌++◌, map, nat_lt, if◌then◌else◌}
+use Rattle.std.specs.Prelude.{ℕ, zero, suc, ◌+◌, ◌*◌, ◌/◌, ◌%◌, List, [], ◌∷◌, ◌++◌, map, nat_lt, if◌then◌else◌}
 use Rattle.std.specs.List.{flat_map}
 
 -- the low bits of a number, this many, the most significant first
@@ -32,7 +32,3 @@ bytes_bits bytes = flat_map (bits 8) bytes
 
 unfoldable pub base32 : List ℕ → List ℕ
 base32 bytes = letters (bytes_bits bytes)
-
-abbrev pub AreBytes : List ℕ → Type 0
-AreBytes [] = Unit {0}
-AreBytes (b ∷ bs) = (b < 256) × AreBytes bs

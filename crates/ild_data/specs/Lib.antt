@@ -3,6 +3,7 @@ pub mod DataCode
 pub mod Integer
 pub mod Key
 pub mod Varint
+pub mod Bytes
 pub mod Cid
 pub mod Base32
 pub mod CidText

@@ -1,8 +1,10 @@
--- The trees: data whose integers are in range, whose texts are UTF-8, whose keys rise strictly and whose links are CIDs.
+-- The trees: data whose integers are in range, whose texts are UTF-8, whose byte strings are bytes, whose keys rise
+-- strictly and whose links are CIDs in bytes.
 use Rattle.std.specs.Prelude.{IsUtf8}
 use Rattle.ild_data.specs.Data.{Data, null, boolean, integer, text, bytes, list, map, link, Items, no_items, item, Members, no_members, member, members_list}
 use Rattle.ild_data.specs.Key.{IsBelow}
 use Rattle.ild_data.specs.Integer.{IsInt}
+use Rattle.ild_data.specs.Bytes.{AreBytes}
 use Rattle.ild_data.specs.Cid.{IsCid}
 
 abbrev mutual
@@ -11,10 +13,10 @@ abbrev mutual
   IsTree (boolean b) = Unit {0}
   IsTree (integer n) = IsInt n
   IsTree (text s) = IsUtf8 s
-  IsTree (bytes s) = Unit {0}
+  IsTree (bytes s) = AreBytes s
   IsTree (list ds) = AreTrees ds
   IsTree (map ms) = AreEntries ms
-  IsTree (link s) = IsCid s
+  IsTree (link s) = IsCid s × AreBytes s
 
   pub AreTrees : Items → Type 0
   AreTrees no_items = Unit {0}

@@ -1,6 +1,7 @@
 //! Base32 (RFC 4648, section 6) in lower case and without padding.
 ghost use Rattle.std.specs.Prelude.{◌≡◌, List, ℕ, ◌+◌, ◌<◌, ◌≤◌, ◌⊎◌, ◌++◌, OnOk, IfOk, IfErr, IfSome, length, string_bytes};
-ghost use Rattle.ild_data.specs.Base32.{bits, letter, letters, base32, bytes_bits, AreBytes};
+ghost use Rattle.ild_data.specs.Base32.{bits, letter, letters, base32, bytes_bits};
+ghost use Rattle.ild_data.specs.Bytes.{AreBytes};
 ghost use Rattle.ild_data.specs.CidTextRead.{number_of, read_base32};
 
 use crate::TextErr;

@@ -23,6 +23,7 @@ impl Model for Cid {
 }
 
 impl Cid {
+    ghost use Rattle.ild_data.specs.Bytes.{AreBytes};
     ghost use Rattle.ild_data.specs.Cid.{IsCid};
     ghost use Rattle.std.specs.Prelude.{◌↔◌, IfErr, IsOk};
     ghost use Rattle.ild_data.specs.CidRead.{read_cid};
@@ -62,6 +63,7 @@ impl Cid {
     pub fn as_slice(&self) -> &[u8]
         ensures same { result.now ≡ self.now }
         ensures form { IsCid self.now }
+        ensures bytes { AreBytes self.now }
     {
         self.bytes.as_slice()
     }

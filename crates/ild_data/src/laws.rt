@@ -1,6 +1,6 @@
 //! Laws of CIDs, of their texts and of spellings, which hold of the definitions that the calls meet.
 ghost use Rattle.std.specs.Prelude.{◌≡◌, true, List, ℕ, ◌↔◌, Ok, length};
-ghost use Rattle.ild_data.specs.Base32.{AreBytes};
+ghost use Rattle.ild_data.specs.Bytes.{AreBytes};
 ghost use Rattle.ild_data.specs.Cid.{CidOf, IsCid};
 ghost use Rattle.ild_data.specs.CidRead.{CidParts, read_cid, cid_parts, is_cid};
 ghost use Rattle.ild_data.specs.CidText.{cid_text_of};

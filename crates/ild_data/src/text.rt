@@ -1,5 +1,6 @@
 //! Owned texts and bytes, which contracts see as lists of bytes.
 ghost use Rattle.std.specs.Prelude.{◌≡◌, IfOk, IsUtf8, string_bytes};
+ghost use Rattle.ild_data.specs.Bytes.{AreBytes};
 
 use std::alloc::{AllocError, Global};
 use std::marker::Model;
@@ -63,6 +64,11 @@ impl Txt {
     }
 }
 
+/// The items of a slice of bytes are bytes; a caller that needs the fact makes this call, which does no work.
+fn are_bytes(bytes: &[u8])
+    ensures { AreBytes bytes.now }
+{}
+
 /// Owned bytes.
 #[derive(Drop)]
 pub struct Octets {
@@ -71,10 +77,13 @@ pub struct Octets {
 
 impl Model for Octets {
     ghost use Rattle.std.specs.Prelude.{List, ℕ};
+    ghost use Rattle.ild_data.specs.Bytes.{AreBytes};
 
     ghost Value = { List ℕ };
 
     ghost view = { λ a. a.bytes.items };
+
+    ghost invariant = { λ a. AreBytes a.bytes.items };
 }
 
 impl Octets {
@@ -82,15 +91,14 @@ impl Octets {
     pub fn of(alloc: Global, b: &[u8]) -> Result<Octets, AllocError>
         ensures { IfOk result (λ t. t ≡ b.now) }
     {
-        Ok(Octets {
-            bytes: b.to_vec(alloc)?,
-        })
+        Ok(Octets::from_vec(b.to_vec(alloc)?))
     }
 
     /// The bytes of a vector, without a copy.
     pub fn from_vec(bytes: Vec<u8>) -> Octets
         ensures { result ≡ bytes.items }
     {
+        are_bytes(&bytes);
         Octets { bytes }
     }
 
@@ -112,7 +120,8 @@ impl Octets {
 
     /// The bytes as a borrow.
     pub fn as_slice(&self) -> &[u8]
-        ensures { result.now ≡ self.now }
+        ensures same { result.now ≡ self.now }
+        ensures bytes { AreBytes self.now }
     {
         &self.bytes
     }

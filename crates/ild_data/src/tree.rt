@@ -99,7 +99,9 @@ impl Tree {
             Tree::Text(text) => {
                 let _ = text.as_str();
             }
-            Tree::Bytes(_) => {}
+            Tree::Bytes(bytes) => {
+                let _ = bytes.as_slice();
+            }
             Tree::List(trees) => {
                 let _ = trees.len();
             }

@@ -1,25 +1,24 @@
 -- What is printed is read back as the same data.
-use Rattle.std.proofs.Common.{◌≡◌, ℕ, zero, suc, ◌≤◌, ℤ, pos, negsuc, List, [], ◌∷◌, Some, None, option_and_then, Ok, Ordering, Less, Equal, Greater, nat_cmp, true, false, refl, sym, ap, ◌∙◌, subst, arith}
+use Rattle.std.proofs.Common.{◌≡◌, ℕ, ◌≤◌, ℤ, pos, negsuc, List, [], ◌∷◌, Some, None, option_and_then, Ok, Ordering, Less, Equal, Greater, nat_cmp, true, false, refl, sym, ap, ◌∙◌, subst, arith}
 use Rattle.std.proofs.lemmas.Map.Lookups.{exact_bytes}
 use Rattle.std.specs.Cmp.Lexicographic.{slice_cmp}
 use Rattle.std.specs.Ordering.{match_ordering}
 use Rattle.base64.specs.Engines.{standard_no_pad}
-use Rattle.base64.specs.GeneralPurpose.{IsBytes}
 use Rattle.base64.proofs.EngineFacts.{decode_of-encode_of}
 use Rattle.serde_json.specs.Data as json
 use Rattle.serde_json.specs.Events.{members_len}
 use Rattle.serde_json.specs.Find.{as_str, of_integer}
-use Rattle.ild_data.specs.Base32.{AreBytes}
+use Rattle.ild_data.specs.Bytes.{AreBytes}
 use Rattle.ild_data.specs.CidText.{cid_text_of}
 use Rattle.ild_data.specs.Data.{Data, null, boolean, integer, text, bytes, list, map, link, Items, no_items, item, Members, no_members, member, items_list, members_of, members_list}
 use Rattle.ild_data.specs.Key.{same_text, Rises}
 use Rattle.ild_data.specs.Tree.{IsTree, AreTrees, AreEntries}
+use Rattle.ild_data.proofs.Bytes.{AreBytes-places}
 use Rattle.ild_data.proofs.Lists.{items_of-items_list, members_of-members_list}
 use Rattle.ild_data.proofs.Texts.{read-cid_text}
 use Rattle.ild_json.specs.Slash.{slash, bytes_word, only_member}
 use Rattle.ild_json.specs.Reading.{and_others, under_key, number_read, link_or_fault, link_read, bytes_or_fault, bytes_read, data_read, items_read, members_read, object_read, bytes_form, map_or_fault, list_or_fault}
 use Rattle.ild_json.specs.Printing.{bytes_text, json_of, items_json, members_json, put_members, is_slash_alone, has_reserved, items_have_reserved, members_have_reserved}
-use Rattle.ild_json.specs.Law.{HoldsBytes, ItemsHoldBytes, MembersHoldBytes}
 use Rattle.ild_json.proofs.Order.{put_bytewise, put_all_bytewise, bytewise_and_back, apart_below}
 use Rattle.ild_json.proofs.Shows.{not_first, not_second}
 use Rattle.ild_json.proofs.Slashes.{only_member-one, only_member-others}
@@ -28,18 +27,13 @@ integer_back : (n : ℤ) → number_read (of_integer n) ≡ Ok (integer n)
 integer_back (pos n) = refl
 integer_back (negsuc n) = refl
 
-each_byte : (b : List ℕ) → AreBytes b → IsBytes b
-each_byte [] all i = omega arith
-each_byte (x ∷ b) all zero = all.0
-each_byte (x ∷ b) all (suc i) = each_byte b all.1 i
-
 bytes_back : (b : List ℕ) → AreBytes b → bytes_read (bytes_text b) ≡ Ok (bytes b)
 unfolding bytes_read bytes_text
-bytes_back b all = ap bytes_or_fault (decode_of-encode_of standard_no_pad b refl (each_byte b all))
+bytes_back b all = ap bytes_or_fault (decode_of-encode_of standard_no_pad b refl (AreBytes-places b all))
 
-link_back : (cid : List ℕ) → IsTree (link cid) → AreBytes cid → link_read (cid_text_of cid) ≡ Ok (link cid)
+link_back : (cid : List ℕ) → IsTree (link cid) → link_read (cid_text_of cid) ≡ Ok (link cid)
 unfolding link_read
-link_back cid is all = ap link_or_fault (read-cid_text cid is all)
+link_back cid is = ap link_or_fault (read-cid_text cid is.0 is.1)
 
 slash_only : (j : json.Data) → only_member slash (json.member slash j json.no_members) ≡ Some j
 unfolding only_member
@@ -131,36 +125,36 @@ rises_members no_members all = tt
 rises_members (member k d ms) all = (all.2, rises_members ms all.3)
 
 mutual
-  pub back : (d : Data) → IsTree d → HoldsBytes d → has_reserved d ≡ false → data_read (json_of d) ≡ Ok d
-  back null is all free = refl
-  back (boolean b) is all free = refl
-  back (integer n) is all free = integer_back n
-  back (text s) is all free = refl
-  back (bytes b) is all free =
+  pub back : (d : Data) → IsTree d → has_reserved d ≡ false → data_read (json_of d) ≡ Ok d
+  back null is free = refl
+  back (boolean b) is free = refl
+  back (integer n) is free = integer_back n
+  back (text s) is free = refl
+  back (bytes b) is free =
       let inner = json.member bytes_word (json.string (bytes_text b)) json.no_members in
       ap (λ o. object_read o (members_read (json.member slash (json.object inner) json.no_members))) (slash_only (json.object inner))
-      ∙ ap (λ o. bytes_form (option_and_then as_str o)) (word_only (json.string (bytes_text b))) ∙ bytes_back b all
-  back (list ds) is all free = ap list_or_fault (items_back ds is all free) ∙ ap (λ es. Ok (list es)) (items_of-items_list ds)
-  back (map ms) is all free =
+      ∙ ap (λ o. bytes_form (option_and_then as_str o)) (word_only (json.string (bytes_text b))) ∙ bytes_back b is
+  back (list ds) is free = ap list_or_fault (items_back ds is free) ∙ ap (λ es. Ok (list es)) (items_of-items_list ds)
+  back (map ms) is free =
       let js = put_members (members_json ms) json.no_members in
       let up = rises_members ms is in
-      let each = members_back ms is all (not_second (is_slash_alone ms) (members_have_reserved ms) free) in
+      let each = members_back ms is (not_second (is_slash_alone ms) (members_have_reserved ms) free) in
       ap (λ o. object_read o (members_read js)) (not_alone ms up (not_first (is_slash_alone ms) (members_have_reserved ms) free))
       ∙ ap map_or_fault (held_read js (put_all_bytewise (members_list ms) []) (held_all ms json.no_members [] each tt))
       ∙ ap (λ xs. Ok (map (members_of xs))) (bytewise_and_back (members_list ms) up) ∙ ap (λ es. Ok (map es)) (members_of-members_list ms)
-  back (link cid) is all free =
-      ap (λ o. object_read o (members_read (json.member slash (json.string (cid_text_of cid)) json.no_members))) (slash_only (json.string (cid_text_of cid))) ∙ link_back cid is all
+  back (link cid) is free =
+      ap (λ o. object_read o (members_read (json.member slash (json.string (cid_text_of cid)) json.no_members))) (slash_only (json.string (cid_text_of cid))) ∙ link_back cid is
 
-  items_back : (ds : Items) → AreTrees ds → ItemsHoldBytes ds → items_have_reserved ds ≡ false → items_read (items_json ds) ≡ Ok (items_list ds)
-  items_back no_items is all free = refl
-  items_back (item d ds) is all free =
-      let one = back d is.0 all.0 (not_first (has_reserved d) (items_have_reserved ds) free) in
-      let others = items_back ds is.1 all.1 (not_second (has_reserved d) (items_have_reserved ds) free) in
+  items_back : (ds : Items) → AreTrees ds → items_have_reserved ds ≡ false → items_read (items_json ds) ≡ Ok (items_list ds)
+  items_back no_items is free = refl
+  items_back (item d ds) is free =
+      let one = back d is.0 (not_first (has_reserved d) (items_have_reserved ds) free) in
+      let others = items_back ds is.1 (not_second (has_reserved d) (items_have_reserved ds) free) in
       ap (λ r. and_others r (items_read (items_json ds))) one ∙ ap (λ r. and_others (Ok d) r) others
 
-  members_back : (ms : Members) → AreEntries ms → MembersHoldBytes ms → members_have_reserved ms ≡ false → AllBack ms
-  members_back no_members is all free = tt
-  members_back (member k d ms) is all free = (
-    back d is.1 all.0 (not_first (has_reserved d) (members_have_reserved ms) free),
-    members_back ms is.3 all.1 (not_second (has_reserved d) (members_have_reserved ms) free),
+  members_back : (ms : Members) → AreEntries ms → members_have_reserved ms ≡ false → AllBack ms
+  members_back no_members is free = tt
+  members_back (member k d ms) is free = (
+    back d is.1 (not_first (has_reserved d) (members_have_reserved ms) free),
+    members_back ms is.3 (not_second (has_reserved d) (members_have_reserved ms) free),
   )

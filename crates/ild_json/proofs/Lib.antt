@@ -5,3 +5,4 @@ pub mod Texts
 pub mod Keys
 pub mod Order
 pub mod Back
+pub mod Depths

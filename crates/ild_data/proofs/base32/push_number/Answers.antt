@@ -1,6 +1,6 @@
 use Rattle.std.proofs.Common.{subst, sym}
-use Rattle.ild_data.specs.Base32.{AreBytes}
-use Rattle.ild_data.proofs.TextBits.{AreBytes-push}
+use Rattle.ild_data.specs.Bytes.{AreBytes}
+use Rattle.ild_data.proofs.Bytes.{AreBytes-push}
 use Rattle.ild_data.proofs.base32.push_number.Goals as goal
 
 pub returns-in_ok-push-clause-bytes : goal.returns-in_ok-push-clause-bytes

@@ -1,6 +1,7 @@
 use Rattle.std.proofs.Common.{◌≡◌, ◌<◌, ◌++◌, length, drop}
 use Rattle.std.specs.Prelude.{option_map}
-use Rattle.ild_data.specs.Base32.{bytes_bits, AreBytes}
+use Rattle.ild_data.specs.Base32.{bytes_bits}
+use Rattle.ild_data.specs.Bytes.{AreBytes}
 use Rattle.ild_data.specs.CidTextRead.{text_bits}
 use Rattle.ild_data.proofs.base32.read_base32.Given as goal
 

@@ -15,23 +15,23 @@ pub returns-in_err-schema : goal.returns-in_err-schema
 returns-in_err-schema g c =
     let p = err_from_is_err_and c.from_residual-in_err-schema.result c.from_residual-in_err-schema.ensures.1 in
     let taken = rw c.schema.ensures at c.in_ok-bytes.ensures.answer in
-    let answer = subst (λ (b : List ℕ). CompileAnswer b (Err c.in_err-schema.field-0.0)) c.as_slice.ensures c.in_err-schema.ensures in
+    let answer = subst (λ (b : List ℕ). CompileAnswer b (Err c.in_err-schema.field-0.0)) c.as_slice.ensures.same c.in_err-schema.ensures in
     rw (p.1, p.2) (opens_faulty (g.I.Inputs.supply c.args.inputs.now) (g.I.Inputs.supply c.take_input.new.inputs) (job_seen c.args.job.now) c.in_ok-bytes.bytes c.in_err-schema.field-0.0 taken answer c.in_ok-bytes.ensures.after)
 
 pub returns-in-Check : goal.returns-in-Check
 returns-in-Check g c =
     let taken = rw (c.schema.ensures, c.in-Check.is) at c.in_ok-bytes.ensures.answer in
-    let compiled = rw c.as_slice.ensures at c.in_ok-schema.ensures in
+    let compiled = rw c.as_slice.ensures.same at c.in_ok-schema.ensures in
     rw c.in-Check.is (opens_checked (g.I.Inputs.supply c.args.inputs.now) (g.I.Inputs.supply c.take_input.new.inputs) c.in-Check.field-0.now c.in_ok-bytes.bytes c.in_ok-schema.schema taken compiled c.in_ok-bytes.ensures.after)
 
 pub returns-then-not-is_built : goal.returns-then-not-is_built
 returns-then-not-is_built g c =
     let taken = rw (c.schema.ensures, c.in-Run.is) at c.in_ok-bytes.ensures.answer in
-    let compiled = rw c.as_slice.ensures at c.in_ok-schema.ensures in
+    let compiled = rw c.as_slice.ensures.same at c.in_ok-schema.ensures in
     rw c.in-Run.is (opens_not_built (g.I.Inputs.supply c.args.inputs.now) (g.I.Inputs.supply c.take_input.new.inputs) c.in-Run.field-0.now c.in-Run.script.now c.in_ok-bytes.bytes c.in_ok-schema.schema taken compiled (sym c.if-not-is_built.ensures) c.in_ok-bytes.ensures.after)
 
 pub returns : goal.returns
 returns g c =
     let taken = rw (c.schema.ensures, c.in-Run.is) at c.in_ok-bytes.ensures.answer in
-    let compiled = rw c.as_slice.ensures at c.in_ok-schema.ensures in
+    let compiled = rw c.as_slice.ensures.same at c.in_ok-schema.ensures in
     rw c.in-Run.is (opens_script (g.I.Inputs.supply c.args.inputs.now) (g.I.Inputs.supply c.take_input.new.inputs) (g.I.Inputs.supply c.take_input-2.new.inputs) c.in-Run.field-0.now c.in-Run.script.now c.in_ok-bytes.bytes c.in_ok-schema.schema c.take_input-2.result taken compiled (sym c.if-not-is_built.ensures) c.in_ok-bytes.ensures.after c.take_input-2.ensures)

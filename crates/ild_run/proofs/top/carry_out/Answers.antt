@@ -23,7 +23,7 @@ pub returns-in-Ok-true-clause-ended : goal.returns-in-Ok-true-clause-ended
 returns-in-Ok-true-clause-ended g c =
     let call : Call = call_of (job_of c.args.words.now) (g.I.Inputs.supply c.args.inputs.now) (g.K.Store.moment c.args.store.now) (g.W.Sink.output c.args.out.now) (g.I.Inputs.supply c.take_script.new.inputs) (g.K.Store.moment c.answer_all.new.store) (g.W.Sink.output c.answer_all.new.out) in
     let opens = c.in-Ok.ensures in
-    let done = rw (c.as_slice.ensures, c.in-Ok-true.field-0-test) at c.in-Ok-true.ensures.done in
+    let done = rw (c.as_slice.ensures.same, c.in-Ok-true.field-0-test) at c.in-Ok-true.ensures.done in
     ended_refused call (job_seen c.in-Some.job) opens.taking (sym c.in-Some.ensures) opens.taken
     (answered_all call (job_seen c.in-Some.job) opens.taking c.in-Ok.script c.new-value.result c.put_empty.result c.in_default-put_empty.field-0 (g.K.Store.moment c.put_empty.new.store) c.answer_all.new.value true
     (sym c.in-Some.ensures) opens.answer c.new-value.ensures c.in_default-put_empty.is c.put_empty.ensures done)
@@ -32,7 +32,7 @@ pub returns-in-Ok-false-clause-ended : goal.returns-in-Ok-false-clause-ended
 returns-in-Ok-false-clause-ended g c =
     let call : Call = call_of (job_of c.args.words.now) (g.I.Inputs.supply c.args.inputs.now) (g.K.Store.moment c.args.store.now) (g.W.Sink.output c.args.out.now) (g.I.Inputs.supply c.take_script.new.inputs) (g.K.Store.moment c.answer_all.new.store) (g.W.Sink.output c.answer_all.new.out) in
     let opens = c.in-Ok.ensures in
-    let done = rw (c.as_slice.ensures, c.in-Ok-false.field-0-test) at c.in-Ok-false.ensures.done in
+    let done = rw (c.as_slice.ensures.same, c.in-Ok-false.field-0-test) at c.in-Ok-false.ensures.done in
     ended_done call (job_seen c.in-Some.job) opens.taking (sym c.in-Some.ensures) opens.taken
     (answered_all call (job_seen c.in-Some.job) opens.taking c.in-Ok.script c.new-value.result c.put_empty.result c.in_default-put_empty.field-0 (g.K.Store.moment c.put_empty.new.store) c.answer_all.new.value false
     (sym c.in-Some.ensures) opens.answer c.new-value.ensures c.in_default-put_empty.is c.put_empty.ensures done)
@@ -41,7 +41,7 @@ pub returns-clause-ended : goal.returns-clause-ended
 returns-clause-ended g c =
     let call : Call = call_of (job_of c.args.words.now) (g.I.Inputs.supply c.args.inputs.now) (g.K.Store.moment c.args.store.now) (g.W.Sink.output c.args.out.now) (g.I.Inputs.supply c.take_script.new.inputs) (g.K.Store.moment c.answer_all.new.store) (g.W.Sink.output c.answer_all.new.out) in
     let opens = c.in-Ok.ensures in
-    let cut = rw c.as_slice.ensures at c.in-Err-answer_all.ensures.part in
+    let cut = rw c.as_slice.ensures.same at c.in-Err-answer_all.ensures.part in
     let some = answered_some call (job_seen c.in-Some.job) opens.taking c.in-Ok.script c.new-value.result c.put_empty.result c.in_default-put_empty.field-0 (g.K.Store.moment c.put_empty.new.store) c.answer_all.new.value
     (sym c.in-Some.ensures) opens.answer c.new-value.ensures c.in_default-put_empty.is c.put_empty.ensures cut in
     rw c.cut_status.ensures (ended_cut call (job_seen c.in-Some.job) opens.taking c.in-Err-answer_all.cut (sym c.in-Some.ensures) opens.taken some

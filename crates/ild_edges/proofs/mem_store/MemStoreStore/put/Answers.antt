@@ -10,7 +10,7 @@ pub returns-in_ok-copy-clause-puts : goal.returns-in_ok-copy-clause-puts
 returns-in_ok-copy-clause-puts c =
     let was : block_at (blocks_of c.args.self.now.held) (id_of c.args.bytes.now) ≡ Some c.in_ok-copy.field-0 =
     rw (c.in_ok-copy.ensures, ← c.requires) (sym c.in-Some.ensures) in
-    let apart : c.in_ok-copy.field-0 ≢ c.args.bytes.now = rw (c.in_ok-copy.ensures, ← c.as_slice.ensures) (other_text _ _ c.if-eq.ensures) in record {
+    let apart : c.in_ok-copy.field-0 ≢ c.args.bytes.now = rw (c.in_ok-copy.ensures, ← c.as_slice.ensures.same) (other_text _ _ c.if-eq.ensures) in record {
       answer = (block_at_id (blocks_of c.args.self.now.held) _ _ was, apart, refl, was, refl);
       later = record { keeps = keeps_all (blocks_of c.args.self.now.held); gets = omega arith; puts = omega arith; lacks = omega arith; faults = omega arith };
       gets = refl;
