@@ -290,8 +290,12 @@ fn words_and_inputs(rt: HostRuntime) -> Result<(), Fail> {
             ..script("root", EMPTY, 0)
         },
         Case {
-            schema: "type N {String:Int}\n\n",
-            ..script("root", "fault 3 schema notbuilt\n", 3)
+            words: &["check"],
+            ..script("root", "fault 2 words\n", 2)
+        },
+        Case {
+            words: &["check", "t"],
+            ..script("root", "fault 5 input schema absent\n", 5)
         },
         Case {
             schema: "",
@@ -301,6 +305,100 @@ fn words_and_inputs(rt: HostRuntime) -> Result<(), Fail> {
     ];
     for case in cases {
         try_case(&rt, rt.alloc(), &case)?;
+    }
+    Ok(())
+}
+
+/// Schemas that scripts are run under, in other spellings.
+const OPEN: [&str; 6] = [
+    "type N {String:Int}\n\n",
+    "\ttype\r\nN{ String :Int }",
+    "# é\ntype N {String:Int} # {}",
+    "type N {String:Int} representation map",
+    "advanced HAMT type N {String:Int}",
+    "type N {String:Int} representation\n\nmap advanced HAMT",
+];
+
+/// Schemas with a table that scripts aren't run under.
+const NOT_BUILT: [&str; 14] = [
+    "",
+    "advanced HAMT",
+    "type M {String:Int}",
+    "type N {String:nullable Int}",
+    "type N {String:Any}",
+    "type N {String:N}",
+    "type N {N:Int}",
+    "type N {Int:Int}",
+    "type N {String:[Int]}",
+    "type N {String:Int} representation listpairs",
+    "type N {String:Int} representation advanced HAMT",
+    "type N = Map",
+    "type N {String:Int} type M bool",
+    "type M {String:Int} type N = M",
+];
+
+/// Schemas with a fault, and what is told of it.
+const FAULTY: [(&str, &str); 10] = [
+    ("type A ;", "lex 1 char at 7"),
+    ("# é\ntype A struct { a \"x", "lex 2 unended at 23"),
+    ("type A strut {}", "parse 1 syntax at 7"),
+    ("type A {String:Int", "parse 1 syntax at 18"),
+    ("type A bool type A int", "resolve 1 twice at 17"),
+    ("type A = B", "resolve 2 unknown at 9"),
+    ("type F float", "resolve 3 float at 7"),
+    ("type A = B type B = A", "resolve 4 copycycle at 5"),
+    ("advanced Hamt", "resolve 5 advanced at 9"),
+    ("type Int int type A = B", "resolve 1 twice at 5"),
+];
+
+#[test]
+fn schemas(rt: HostRuntime) -> Result<(), Fail> {
+    let check: [&str; 2] = ["check", "s"];
+    for schema in OPEN {
+        let run = Case {
+            schema,
+            ..script("root", EMPTY, 0)
+        };
+        try_case(&rt, rt.alloc(), &run)?;
+        let checked = Case {
+            words: &check,
+            ..Case {
+                schema,
+                ..script("root", "fault 3 schema notbuilt\n", 3)
+            }
+        };
+        try_case(&rt, rt.alloc(), &checked)?;
+    }
+    for schema in NOT_BUILT {
+        let run = Case {
+            schema,
+            ..script("root", "fault 3 schema notbuilt\n", 3)
+        };
+        try_case(&rt, rt.alloc(), &run)?;
+        try_case(
+            &rt,
+            rt.alloc(),
+            &Case {
+                words: &check,
+                ..run
+            },
+        )?;
+    }
+    for (schema, fault) in FAULTY {
+        let text = format!(in rt.alloc(); "fault 3 schema {fault}\n")?;
+        let run = Case {
+            schema,
+            ..script("root", text.as_str(), 3)
+        };
+        try_case(&rt, rt.alloc(), &run)?;
+        try_case(
+            &rt,
+            rt.alloc(),
+            &Case {
+                words: &check,
+                ..run
+            },
+        )?;
     }
     Ok(())
 }
