@@ -1,5 +1,5 @@
 -- From the survey, the rows and the copies to the result.
-use Rattle.std.proofs.Common.{◌≡◌, ℕ, ◌≤◌, List, ◌++◌, Option, Some, None, length, refl, sym, ap, ◌∙◌, subst, inl, inr}
+use Rattle.std.proofs.Common.{◌≡◌, ℕ, ◌≤◌, List, Option, Some, None, sym, ap, ◌∙◌, subst, inl, inr}
 use Rattle.std.specs.Option.{option_or}
 use Rattle.std.proofs.Math.Path.{fun_ext}
 use Rattle.ild_parse.specs.declared.ast.Ast.{Ast}

@@ -1,5 +1,5 @@
 -- What the text of a schema says that resolving looks at, in the order of the text.
-use Rattle.std.specs.Prelude.{ℕ, zero, suc, ◌+◌, List, [], ◌∷◌, ◌++◌, Option, Some, None}
+use Rattle.std.specs.Prelude.{ℕ, suc, List, [], ◌∷◌, ◌++◌, Option, Some}
 use Rattle.std.specs.List.{flat_map}
 use Rattle.ild_parse.specs.Reference.{Reference, refer, Refers, named, link, list, map}
 use Rattle.ild_parse.specs.declared.ast.Ast.{Ast}
@@ -15,7 +15,6 @@ use Rattle.ild_parse.specs.declared.ast.Target.{Target}
 use Rattle.ild_parse.specs.declared.ast.Target.TheVariants as T
 use Rattle.ild_parse.specs.declared.ast.Mark.{Mark}
 use Rattle.ild_parse.specs.declared.ast.Mark.TheVariants as M
-use Rattle.ild_parse.specs.declared.ast.KindWord.{KindWord}
 use Rattle.ild_parse.specs.declared.ast.KindWord.TheVariants as K
 use Rattle.ild_parse.specs.declared.ast.EnumMember.{EnumMember}
 use Rattle.ild_parse.specs.declared.ast.TypeName.{TypeName}

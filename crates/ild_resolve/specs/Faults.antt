@@ -1,11 +1,10 @@
 -- The faults of a schema's names, each the first of its sort in the text.
-use Rattle.std.specs.Prelude.{ℕ, zero, suc, ◌+◌, List, [], ◌∷◌, ◌++◌, Bool, Option, Some, None, codes, map, nat_lt, is_some, bytes_eq, option_map, if◌then◌else◌}
+use Rattle.std.specs.Prelude.{ℕ, suc, List, [], ◌∷◌, Bool, Option, Some, None, codes, map, nat_lt, is_some, bytes_eq, option_map, if◌then◌else◌}
 use Rattle.std.specs.List.{list_any}
 use Rattle.std.specs.Option.{option_or}
 use Rattle.ild_schema.specs.Prelude.{prelude}
-use Rattle.ild_parse.specs.declared.ast.Ast.{Ast}
 use Rattle.ild_parse.specs.declared.ast.TypeName.{TypeName}
-use Rattle.ild_resolve.specs.Events.{Event, declares, begins, uses, advances, floats, part, events_of}
+use Rattle.ild_resolve.specs.Events.{Event, declares, begins, uses, advances, floats, part}
 use Rattle.ild_resolve.specs.Names.{number_of}
 use Rattle.ild_resolve.specs.declared.error.ResolveErr.{ResolveErr}
 use Rattle.ild_resolve.specs.declared.error.ResolveErr.TheVariants as E

@@ -33,7 +33,6 @@ use Rattle.ild_schema.specs.declared.def.Scalar.{Scalar}
 use Rattle.ild_schema.specs.declared.def.Scalar.TheVariants as C
 use Rattle.ild_schema.specs.declared.def.Mark.{Mark}
 use Rattle.ild_schema.specs.declared.def.Mark.TheVariants as K
-use Rattle.ild_schema.specs.declared.def.KindWord.{KindWord}
 use Rattle.ild_schema.specs.declared.def.KindWord.TheVariants as W
 use Rattle.ild_schema.specs.declared.def.EnumMember.{EnumMember}
 

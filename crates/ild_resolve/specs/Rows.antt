@@ -1,6 +1,6 @@
 -- The rows of the declared types and of their inline types, in the order in which they begin. `numbers` says for which
 -- numbers names stand (one that stands for none is refused), and n is the number of the next type.
-use Rattle.std.specs.Prelude.{ℕ, suc, ◌+◌, List, [], ◌∷◌, ◌++◌, Option, Some, None, codes, length}
+use Rattle.std.specs.Prelude.{ℕ, suc, ◌+◌, List, [], ◌∷◌, ◌++◌, Option, None, codes, length}
 use Rattle.std.specs.Option.{unwrap_or}
 use Rattle.ild_parse.specs.Reference.{Reference, refer, Refers, named, link, list, map}
 use Rattle.ild_parse.specs.declared.ast.Decl.{Decl}
@@ -22,7 +22,6 @@ use Rattle.ild_schema.specs.declared.def.Field.{Field}
 use Rattle.ild_schema.specs.declared.def.Member.{Member}
 use Rattle.ild_schema.specs.declared.row.Row.{Row}
 use Rattle.ild_schema.specs.declared.row.Origin.TheVariants as O
-use Rattle.ild_resolve.specs.Events.{types_in, reference_events, target_events, decl_events}
 use Rattle.ild_resolve.specs.Forms.{map_form, struct_form, union_form, enum_form, unit_form, renamed, implied, mark_of, enum_members}
 
 module _ (numbers : List ℕ → Option ℕ) where

@@ -1,11 +1,10 @@
-use Rattle.std.proofs.Common.{◌≡◌, ℕ, ◌<◌, ◌≤◌, List, length, Some, Ok, inl, inr, refl, sym, ap, ◌∙◌, subst}
+use Rattle.std.proofs.Common.{◌≡◌, ◌≤◌, List, length, Some, Ok, inl, inr, sym, ap, ◌∙◌, subst}
 use Rattle.std.specs.BTreeMap.{get_by_text}
 use Rattle.std.proofs.lemmas.Result.{err_from_is_err_and}
 use Rattle.ild_schema.specs.Table.{IsTable, place_at}
 use Rattle.ild_schema.specs.Held.{IsIndex}
-use Rattle.ild_schema.specs.Copies.{IsCircular, NoneIsCircular, FirstIsCircular}
+use Rattle.ild_schema.specs.Copies.{NoneIsCircular, FirstIsCircular}
 use Rattle.ild_schema.specs.declared.row.Row.{Row}
-use Rattle.ild_resolve.specs.Table.{rows_of}
 use Rattle.ild_resolve.proofs.Tables.{declared_table, index, rows_by, rows_few}
 use Rattle.ild_resolve.proofs.Together.{types_small, fault_free, fault_of_word, copy_cycle}
 use Rattle.ild_resolve.proofs.resolving.resolve.Goals as goal
