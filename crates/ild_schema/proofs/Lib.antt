@@ -1,4 +1,5 @@
 mod Copying
+mod Cycling
 mod Doubles
 pub mod Circles
 mod Ends

@@ -1,21 +1,27 @@
 //! The table of types of a schema (IPLD Schemas), and the values of its types.
 #![tactic(auto)]
 
+mod accepted;
 mod def;
+mod kinds;
 mod list;
 mod number;
 mod prelude;
 mod row;
+mod rule;
 mod schema;
 mod val;
 
+pub use accepted::Accepted;
 pub use def::{
     EnumDef, EnumForm, EnumMember, EnumMembers, Field, Fields, KindWord, MapForm, Mark, Member,
     Members, Scalar, StructDef, StructForm, TypeDef, UnionDef, UnionForm, UnitForm,
 };
+pub use kinds::Kinds;
 pub use list::List;
 pub use number::{Slot, TypeNo};
 pub use prelude::prelude_rows;
 pub use row::{Origin, Row};
+pub use rule::Rule;
 pub use schema::Schema;
 pub use val::{Val, ValFields, ValPairs, ValPart, Vals};

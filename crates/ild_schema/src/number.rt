@@ -1,7 +1,7 @@
 //! Numbers of types, and the places that a value of a type may fill.
 
 /// The number of a type in the table of its schema.
-#[derive(Clone, Copy, PartialEq, Eq)]
+#[derive(Clone, Copy, Debug, PartialEq, Eq)]
 pub struct TypeNo(pub u32);
 
 /// What a field, an element or a map's value may hold: a value of a type and, where it is nullable, null.

@@ -1,0 +1,13 @@
+mod Digits
+mod Occurring
+mod Stepping
+mod Prefixing
+mod Hexing
+mod Failings
+mod Stepwise
+mod Searches
+mod Telling
+mod Among
+mod Texts
+mod Verdicts
+mod Orders

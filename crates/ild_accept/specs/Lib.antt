@@ -1,0 +1,5 @@
+pub mod Seen
+pub mod Judged
+pub mod Search
+pub mod Verdict
+pub mod Ordered

@@ -1,0 +1,202 @@
+//! The rules that look at each part of a type alone.
+ghost use Rattle.std.specs.Prelude.{◌≡◌, ◌&&◌, not, Some};
+ghost use Rattle.ild_schema.specs.Places.{first_place};
+ghost use Rattle.ild_schema.specs.Rules.{implicit_fault, inline_fault, is_implicit_wrong, is_inline, is_map_struct, is_no_text, is_null_twice, is_of, is_text_map, is_text_struct, is_text_union, key_fault, null_fault, text_fault};
+ghost use Rattle.ild_schema.specs.Kinds.{has_text_form, meant};
+
+use crate::kinds::{has_text_form, kinds_at, meant};
+use ild_schema::{
+    Field, MapForm, Scalar, Schema, Slot, StructDef, StructForm, TypeDef, TypeNo, UnionDef,
+    UnionForm,
+};
+
+/// Whether what may be null has a value of its type that stands as null too.
+fn is_null_twice(schema: &Schema, slot: &Slot) -> bool
+    ensures { result ≡ is_null_twice schema.now slot.now }
+{
+    slot.nullable && kinds_at(schema, slot.ty).null
+}
+
+fn null_field(schema: &Schema, def: &StructDef) -> Option<usize>
+    ensures { result ≡ first_place (λ f. is_null_twice schema.now f.slot) (λ f. f.at) def.now.fields }
+{
+    def.fields
+        .as_slice()
+        .iter()
+        .find(|field| is_null_twice(schema, &field.slot))
+        .map(|field| field.at)
+}
+
+/// What may be null has no other value that stands as null.
+pub(crate) fn null_fault(schema: &Schema, def: &TypeDef) -> Option<usize>
+    ensures { result ≡ null_fault schema.now def.now }
+{
+    match def {
+        TypeDef::List { elem, at } => is_null_twice(schema, elem).then_some(*at),
+        TypeDef::Map { value, at, .. } => is_null_twice(schema, value).then_some(*at),
+        TypeDef::Struct(s) => null_field(schema, s),
+        _ => None,
+    }
+}
+
+/// Whether a part of a text may be null, or its type is none in text form.
+fn is_no_text(schema: &Schema, slot: &Slot) -> bool
+    ensures { result ≡ is_no_text schema.now slot.now }
+{
+    slot.nullable || !has_text_form(schema, slot.ty)
+}
+
+fn is_text_struct(form: &StructForm) -> bool
+    ensures { result ≡ is_text_struct form.now }
+{
+    matches!(
+        form,
+        StructForm::StringPairs(_, _) | StructForm::StringJoin(_)
+    )
+}
+
+fn is_text_map(form: &MapForm) -> bool
+    ensures { result ≡ is_text_map form.now }
+{
+    matches!(form, MapForm::StringPairs(_, _))
+}
+
+fn is_text_union(form: &UnionForm) -> bool
+    ensures { result ≡ is_text_union form.now }
+{
+    matches!(form, UnionForm::StringPrefix)
+}
+
+fn no_text_field(schema: &Schema, def: &StructDef) -> Option<usize>
+    ensures { result ≡ first_place (λ f. is_text_struct def.now.form && is_no_text schema.now f.slot) (λ f. f.at) def.now.fields }
+{
+    def.fields
+        .as_slice()
+        .iter()
+        .find(|field| is_text_struct(&def.form) && is_no_text(schema, &field.slot))
+        .map(|field| field.at)
+}
+
+fn no_text_member(schema: &Schema, def: &UnionDef) -> Option<usize>
+    ensures { result ≡ first_place (λ m. is_text_union def.now.form && not (has_text_form schema.now m.ty.0)) (λ m. m.at) def.now.members }
+{
+    def.members
+        .as_slice()
+        .iter()
+        .find(|member| is_text_union(&def.form) && !has_text_form(schema, member.ty))
+        .map(|member| member.at)
+}
+
+/// The parts of a text are texts.
+pub(crate) fn text_fault(schema: &Schema, def: &TypeDef) -> Option<usize>
+    ensures { result ≡ text_fault schema.now def.now }
+{
+    match def {
+        TypeDef::Struct(s) => no_text_field(schema, s),
+        TypeDef::Map {
+            value,
+            at,
+            form,
+            ..
+        } => (is_text_map(form) && is_no_text(schema, value)).then_some(*at),
+        TypeDef::Union(u) => no_text_member(schema, u),
+        _ => None,
+    }
+}
+
+/// Whether a value that stands for a field is one of a type, and no text that is too long.
+fn is_of(value: &Scalar, def: &TypeDef) -> bool
+    ensures { result ≡ is_of value.now (Some def.now) }
+{
+    match (value, def) {
+        (Scalar::Bool(_), TypeDef::Bool) => true,
+        (Scalar::Int(_), TypeDef::Int) => true,
+        (Scalar::Text(text), TypeDef::Text) => text.as_str().len() <= 4_194_299,
+        _ => false,
+    }
+}
+
+/// Whether a value that stands for a field is one of its type.
+fn is_of_type(schema: &Schema, value: &Scalar, ty: TypeNo) -> bool
+    ensures { result ≡ is_of value.now (meant schema.now ty.0) }
+{
+    match meant(schema, ty) {
+        None => false,
+        Some(def) => is_of(value, def),
+    }
+}
+
+fn is_implicit_wrong(schema: &Schema, field: &Field) -> bool
+    ensures { result ≡ is_implicit_wrong schema.now field.now }
+{
+    match &field.implicit {
+        None => false,
+        Some(value) => field.optional || !is_of_type(schema, value, field.slot.ty),
+    }
+}
+
+fn implicit_field(schema: &Schema, def: &StructDef) -> Option<usize>
+    ensures { result ≡ first_place (is_implicit_wrong schema.now) (λ f. f.at) def.now.fields }
+{
+    def.fields
+        .as_slice()
+        .iter()
+        .find(|field| is_implicit_wrong(schema, field))
+        .map(|field| field.at)
+}
+
+/// A value that stands for a field left out is one of its type, and no longer than a block can hold.
+pub(crate) fn implicit_fault(schema: &Schema, def: &TypeDef) -> Option<usize>
+    ensures { result ≡ implicit_fault schema.now def.now }
+{
+    match def {
+        TypeDef::Struct(s) => implicit_field(schema, s),
+        _ => None,
+    }
+}
+
+/// Whether a type is a struct that stands as a map.
+fn is_map_struct(schema: &Schema, ty: TypeNo) -> bool
+    ensures { result ≡ is_map_struct (meant schema.now ty.0) }
+{
+    match meant(schema, ty) {
+        Some(TypeDef::Struct(s)) => matches!(s.form, StructForm::Map),
+        _ => false,
+    }
+}
+
+fn is_inline(form: &UnionForm) -> bool
+    ensures { result ≡ is_inline form.now }
+{
+    matches!(form, UnionForm::Inline(_))
+}
+
+fn inline_member(schema: &Schema, def: &UnionDef) -> Option<usize>
+    ensures { result ≡ first_place (λ m. is_inline def.now.form && not (is_map_struct (meant schema.now m.ty.0))) (λ m. m.at) def.now.members }
+{
+    def.members
+        .as_slice()
+        .iter()
+        .find(|member| is_inline(&def.form) && !is_map_struct(schema, member.ty))
+        .map(|member| member.at)
+}
+
+/// The members of an inline union are structs that stand as maps.
+pub(crate) fn inline_fault(schema: &Schema, def: &TypeDef) -> Option<usize>
+    ensures { result ≡ inline_fault schema.now def.now }
+{
+    match def {
+        TypeDef::Union(u) => inline_member(schema, u),
+        _ => None,
+    }
+}
+
+/// The keys of a map are texts.
+pub(crate) fn key_fault(schema: &Schema, def: &TypeDef) -> Option<usize>
+    ensures { result ≡ key_fault schema.now def.now }
+{
+    match def {
+        TypeDef::Map { key, key_at, .. } => (!has_text_form(schema, *key)).then_some(*key_at),
+        _ => None,
+    }
+}

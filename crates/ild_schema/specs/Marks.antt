@@ -1,0 +1,39 @@
+-- What stands behind the members of unions and enums, and what their representation asks for.
+use Rattle.std.specs.Prelude.{ℕ, List, Bool, true, Option, Some, None, is_some}
+use Rattle.std.specs.Option.{unwrap_or}
+use Rattle.ild_schema.specs.declared.def.UnionForm.{UnionForm}
+use Rattle.ild_schema.specs.declared.def.UnionForm.TheVariants as U
+use Rattle.ild_schema.specs.declared.def.EnumForm.{EnumForm}
+use Rattle.ild_schema.specs.declared.def.EnumForm.TheVariants as E
+use Rattle.ild_schema.specs.declared.def.EnumMember.{EnumMember}
+use Rattle.ild_schema.specs.declared.def.Field.{Field}
+use Rattle.ild_schema.specs.declared.def.Member.{Member}
+use Rattle.ild_schema.specs.declared.def.Mark.{Mark}
+use Rattle.ild_schema.specs.declared.def.Mark.TheVariants as K
+use Rattle.ild_schema.specs.declared.def.KindWord.{KindWord}
+
+abbrev pub text_of : Mark → Option (List ℕ)
+text_of (K.Text t) = Some t
+text_of mark = None
+
+abbrev pub kind_of : Mark → Option KindWord
+kind_of (K.Kind w) = Some w
+kind_of mark = None
+
+-- a union of kinds asks for a kind, every other one for a text
+abbrev pub is_marked : UnionForm → Member → Bool
+is_marked U.Kinded m = is_some (kind_of m.mark)
+is_marked form m = is_some (text_of m.mark)
+
+-- an enum of integers asks for a text
+abbrev pub is_valued : EnumForm → EnumMember → Bool
+is_valued E.Text m = true
+is_valued E.Int m = is_some m.text
+
+-- the name of a field in a block
+abbrev pub field_text : Field → List ℕ
+field_text f = unwrap_or f.rename f.name
+
+-- the text of an enum's member
+abbrev pub member_text : EnumMember → List ℕ
+member_text m = unwrap_or m.text m.name

@@ -1,0 +1,10 @@
+pub mod Apart
+pub mod Begins
+pub mod Cuts
+pub mod Steps
+pub mod Walks
+pub mod Counts
+pub mod Finding
+pub mod Keyed
+pub mod Behind
+pub mod ByCount

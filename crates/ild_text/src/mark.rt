@@ -1,0 +1,76 @@
+//! What stands behind the prefix of one member.
+ghost use Rattle.std.specs.Prelude.{◌≡◌, ◌≤◌, List, MatchOption, length, option_map, ℕ};
+ghost use Rattle.ild_text.specs.Prefix.{bytes_mark, hex_byte, hex_bytes, hex_digit, IsBehind, Passes, Strips, text_mark};
+
+use ild_schema::Mark;
+
+/// What stands behind the text of a mark.
+pub fn behind_text<'b>(text: &'b str, mark: &Mark) -> Option<&'b str>
+    ensures { Strips (text_mark mark.now) text.now (option_map (λ rest. rest.now) result) }
+{
+    match mark {
+        Mark::Text(prefix) => text.strip_prefix(prefix.as_str()),
+        Mark::Bare | Mark::Kind(_) => None,
+    }
+}
+
+/// The number of a hexadecimal digit, of either case.
+fn hex_digit(c: u8) -> Option<u8>
+    ensures { result ≡ hex_digit c }
+{
+    match c {
+        b'0'..=b'9' => Some(c - b'0'),
+        b'a'..=b'f' => Some(c - b'a' + 10),
+        b'A'..=b'F' => Some(c - b'A' + 10),
+        _ => None,
+    }
+}
+
+/// The byte that two hexadecimal digits stand for.
+fn hex_byte(high: u8, low: u8) -> Option<u8>
+    ensures { result ≡ hex_byte high low }
+{
+    let high = hex_digit(high)?;
+    let low = hex_digit(low)?;
+    Some(high * 16 + low)
+}
+
+/// One byte of a prefix is passed over: what stands behind it, and the digits that are left.
+fn pass<'b, 'd>(rest: &'b [u8], left: &'d [u8]) -> Option<(&'b [u8], &'d [u8])>
+    requires { 2 ≤ length left.now }
+    ensures { MatchOption result ((r : List ℕ) → IsBehind (hex_bytes left.now) rest.now r → ⊥) (λ p. Passes left.now rest.now p.1.now p.0.now) }
+{
+    let byte = hex_byte(left[0], left[1])?;
+    if rest.is_empty() || rest[0] != byte {
+        return None;
+    }
+    Some((&rest[1..], &left[2..]))
+}
+
+/// What stands behind the bytes that hexadecimal digits stand for.
+fn behind_digits<'b>(bytes: &'b [u8], digits: &[u8]) -> Option<&'b [u8]>
+    ensures { Strips (hex_bytes digits.now) bytes.now (option_map (λ rest. rest.now) result) }
+{
+    let mut rest = bytes;
+    let mut left = digits;
+    while left.len() >= 2 {
+        match pass(rest, left) {
+            Some((behind, more)) => {
+                rest = behind;
+                left = more;
+            }
+            None => return None,
+        }
+    }
+    if left.is_empty() { Some(rest) } else { None }
+}
+
+/// What stands behind the bytes of a mark.
+pub fn behind_bytes<'b>(bytes: &'b [u8], mark: &Mark) -> Option<&'b [u8]>
+    ensures { Strips (bytes_mark mark.now) bytes.now (option_map (λ rest. rest.now) result) }
+{
+    match mark {
+        Mark::Text(digits) => behind_digits(bytes, digits.as_str().as_bytes()),
+        Mark::Bare | Mark::Kind(_) => None,
+    }
+}
