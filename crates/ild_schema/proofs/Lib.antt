@@ -3,5 +3,6 @@ mod Doubles
 pub mod Circles
 mod Ending
 mod Keeping
+mod Finding
 mod Parts
 mod Writing

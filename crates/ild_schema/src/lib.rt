@@ -2,6 +2,7 @@
 #![tactic(auto)]
 
 mod accepted;
+mod by_text;
 mod def;
 mod ends;
 mod kinds;
