@@ -29,7 +29,9 @@ use Rattle.ild_typed.specs.Hamt.{alone, whole}
 use Rattle.ild_typed.specs.Represented.{represented, represented_values, represented_pairs, represented_fields}
 use Rattle.ild_typed.specs.Levels.{levels_of}
 use Rattle.ild_typed.specs.Fits.{IsNotNull, FieldsFit, LayerFits, FormFits, ValueFits, FitsPast, Fits}
-use Rattle.ild_typed.specs.Stands.{Typed, Storable, nodes, is_whole, are_whole, pairs_whole, fields_whole}
+use Rattle.ild_typed.specs.Whole.{Typed, is_whole, are_whole, pairs_whole, fields_whole}
+use Rattle.ild_typed.specs.StandLaws.{StorableWhere}
+use Rattle.ild_typed.specs.Blocks.{nodes}
 use Rattle.ild_typed.specs.Judged.{some_layer, some_value, some_pair, some_field, some_present, hole_in, tuple_hole, is_hole, has_hole, struct_breaks, map_breaks, breaks, breaks_delimiter, map_exhausts, is_exhausted, exhausts}
 use Rattle.ild_typed.specs.Made.{IsTextSlot, MadeStruct, MadeMap, MadeMember, MadeEnum, MadeType, IsMade}
 use Rattle.ild_typed.proofs.Flat.{FlatPairs, FlatFields, flat_text, pairs_alone, fields_alone}
@@ -416,10 +418,7 @@ pub typed_tree : (h : List ℕ → List ℕ) (rows : List Row) → IsMade rows �
     → has_hole rows s v ≡ false → breaks_delimiter rows s v ≡ false → exhausts h rows s v ≡ false → (d : Data) × (represented (whole h) rows s v ≡ Some d)
 typed_tree h rows made s v t a b c = let x = representation h rows made t.0 s v t.1 t.2 a b c in (x.item, x.is)
 
-pub can_be_held : (h : List ℕ → List ℕ) (rows : List Row) → IsMade rows → (s : Slot) (v : Value) → Typed rows s v
-    → has_hole rows s v ≡ false → breaks_delimiter rows s v ≡ false → Fits rows deepest s v → exhausts h rows s v ≡ false
-    → ((d : Data) → represented (whole h) rows s v ≡ Some d → AllByRecursion (λ b. length b ≤ longest_block) (spell d ∷ nodes h rows s v))
-    → (d : Data) × Storable h rows s v d
-can_be_held h rows made s v t a b f c small =
-    let x = typed_tree h rows made s v t a b c in
-    (x.0, record { fits = f; tree = x.1; sized = small x.0 x.1 })
+pub can_be_held : StorableWhere
+can_be_held = λ f h rows made n v t a b fits c small.
+    let x = typed_tree h rows made (plainly n) v t a b c in
+    (x.0, record { fits = fits; tree = x.1; sized = small x.0 x.1 })

@@ -7,6 +7,7 @@ use Rattle.ild_data.specs.Tree.{IsTree}
 use Rattle.ild_data.specs.Limits.{deepest, longest_block}
 use Rattle.ild_data.specs.Spell.{spell}
 use Rattle.ild_schema.specs.declared.number.Slot.{Slot}
+use Rattle.ild_schema.specs.declared.number.TypeNo.{TypeNo}
 use Rattle.ild_schema.specs.declared.def.TypeDef.{TypeDef}
 use Rattle.ild_schema.specs.declared.def.TypeDef.TheVariants as D
 use Rattle.ild_schema.specs.declared.def.MapForm.TheVariants as MF
@@ -18,17 +19,18 @@ use Rattle.ild_data.specs.TrieShape.{TrieShape, trie_levels}
 use Rattle.ild_data.specs.ByteOrder.{in_byte_order}
 use Rattle.ild_data.specs.Trie.{part, at_depth, node_of, trie}
 use Rattle.ild_data.specs.TrieBlocks.{nodes_beneath, node_and_beneath, none_or, block_of}
-use Rattle.ild_typed.specs.Slots.{form_of, element_of, fields_of, member_of}
+use Rattle.ild_typed.specs.Slots.{form_of, plainly, element_of, fields_of, member_of}
 use Rattle.ild_typed.specs.Composed.{usual}
 use Rattle.ild_typed.specs.Hamt.{whole}
 use Rattle.ild_typed.specs.Represented.{represented, represented_pairs}
 use Rattle.ild_typed.specs.Levels.{levels_of}
 use Rattle.ild_typed.specs.Fits.{FieldsFit, FormFits, ValueFits, FitsPast, Fits}
-use Rattle.ild_typed.specs.Stands.{hamt_nodes, nodes, nodes_of_values, nodes_of_pairs, nodes_of_fields, Storable}
+use Rattle.ild_typed.specs.Blocks.{hamt_nodes, nodes, nodes_of_values, nodes_of_pairs, nodes_of_fields}
+use Rattle.ild_typed.specs.Stands.{Frame, IsFrame, blocks_of, Storable}
 use Rattle.ild_typed.specs.Nested.{TreeIn, BlockIn, IsBlock}
 use Rattle.ild_typed.specs.Spelled.{IsSpelled}
 use Rattle.ild_typed.proofs.Treed.{all_append, EntryIn, in_more}
-use Rattle.ild_typed.proofs.TreeNodes.{part_in, sorted_in, node_of_in}
+use Rattle.ild_typed.proofs.TreeNodes.{all_split, part_in, sorted_in, node_of_in}
 use Rattle.ild_typed.proofs.TreeParts.{list_fits, struct_fits, union_fits, map_fits, pairs_in}
 use Rattle.ild_typed.proofs.TreeValues.{whole_past, whole_tree}
 use Rattle.ild_typed.proofs.Rooms.{all_more}
@@ -164,5 +166,14 @@ within_limits (c ∷ bs) a b =
     let size : length (spell a.0.of) ≤ longest_block = subst (λ x. length x ≤ longest_block) a.0.is b.0 in
     (record { of = a.0.of; is = a.0.is; within = record { tree = a.0.fits.tree; nested = a.0.fits.nested; sized = size } }, within_limits bs a.1 b.1)
 
-pub blocks_within : (h : List ℕ → List ℕ) (rows : List Row) → IsSpelled rows → (s : Slot) (v : Value) (d : Data) → Storable h rows s v d → AllByRecursion IsBlock (spell d ∷ nodes h rows s v)
-blocks_within h rows spelled s v d st = within_limits (spell d ∷ nodes h rows s v) (blocks_nested h rows spelled deepest s v d st.fits st.tree) st.sized
+-- all blocks of a value that a store can hold
+pub blocks_within : (f : Frame) → IsFrame f → (h : List ℕ → List ℕ) (rows : List Row) → IsSpelled rows → (n : TypeNo) (v : Value) (d : Data)
+    → Storable f h rows n v d → AllByRecursion IsBlock (blocks_of f h rows n v d)
+blocks_within f frame h rows spelled n v d st =
+    let s = plainly n in
+    let own = blocks_nested h rows spelled f.room s v d st.fits st.tree in
+    let root : BlockIn deepest (spell (f.wrap d)) = record { of = f.wrap d; is = refl; fits = frame.fits d (whole_tree h rows spelled f.room s v d st.fits st.tree) } in
+    let nested = all_more (BlockIn f.room) (BlockIn deepest) (λ c x. block_more f.room deepest c frame.less x) (nodes h rows s v) own.1 in
+    let sized = all_split (λ b. length b ≤ longest_block) (nodes h rows s v) f.beside st.sized.1 in
+    let top = within_limits (spell (f.wrap d) ∷ []) (root, tt) (st.sized.0, tt) in
+    (top.0, all_append IsBlock (nodes h rows s v) f.beside (within_limits (nodes h rows s v) nested sized.0) frame.blocks)

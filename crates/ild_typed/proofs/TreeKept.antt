@@ -11,6 +11,7 @@ use Rattle.ild_data.specs.Tree.{IsTree}
 use Rattle.ild_data.specs.Limits.{deepest, IsWithin}
 use Rattle.ild_data.specs.Spell.{spell, id_of}
 use Rattle.ild_schema.specs.declared.number.Slot.{Slot}
+use Rattle.ild_schema.specs.declared.number.TypeNo.{TypeNo}
 use Rattle.ild_schema.specs.declared.def.TypeDef.{TypeDef}
 use Rattle.ild_schema.specs.declared.def.TypeDef.TheVariants as D
 use Rattle.ild_schema.specs.declared.def.MapForm.TheVariants as MF
@@ -24,7 +25,7 @@ use Rattle.ild_data.specs.Trie.{part, at_depth, node_of, trie}
 use Rattle.ild_data.specs.TrieBlocks.{nodes_beneath, node_and_beneath, none_or, block_of}
 use Rattle.ild_typed.specs.Layer as L
 use Rattle.ild_typed.specs.Layer.{Layer}
-use Rattle.ild_typed.specs.Slots.{form_of, element_of, fields_of, member_of}
+use Rattle.ild_typed.specs.Slots.{form_of, plainly, element_of, fields_of, member_of}
 use Rattle.ild_typed.specs.Composed.{usual, composed}
 use Rattle.ild_typed.specs.Hamt.{root_map, whole}
 use Rattle.ild_typed.specs.Represented.{represented, represented_values, represented_pairs, represented_fields}
@@ -32,14 +33,15 @@ use Rattle.ild_typed.specs.Levels.{levels_of}
 use Rattle.ild_typed.specs.Fits.{FieldsFit, FormFits, ValueFits, FitsPast, Fits}
 use Rattle.ild_typed.specs.Known as G
 use Rattle.ild_typed.specs.Known.{AreKnown, Kept, LayerOk, IsKept, HeldNode}
-use Rattle.ild_typed.specs.Stands.{hamt_nodes, nodes, nodes_of_values, nodes_of_pairs, nodes_of_fields, Storable}
+use Rattle.ild_typed.specs.Blocks.{hamt_nodes, nodes, nodes_of_values, nodes_of_pairs, nodes_of_fields}
+use Rattle.ild_typed.specs.Stands.{Frame, IsFrame, blocks_of, Storable}
 use Rattle.ild_typed.specs.Nested.{TreeIn, IsBlock}
-use Rattle.ild_typed.specs.Laws.{OneStands}
+use Rattle.ild_typed.specs.StandLaws.{OneStands}
 use Rattle.ild_typed.specs.Spelled.{IsSpelled}
 use Rattle.ild_typed.specs.Clear.{IsClear, IsSafe}
 use Rattle.ild_typed.proofs.Basics.{map_from}
 use Rattle.ild_typed.proofs.Entries.{both_from}
-use Rattle.ild_typed.proofs.OneValue.{Way, as_null, as_layer, way_of, layer_data}
+use Rattle.ild_typed.proofs.OneValue.{plain_safe, Way, as_null, as_layer, way_of, layer_data}
 use Rattle.ild_typed.proofs.Wholes.{one_block, one_within, whole_law}
 use Rattle.ild_trie.proofs.Index.{index_below}
 use Rattle.ild_typed.proofs.Treed.{EntryIn}
@@ -238,23 +240,31 @@ all_both P Q (x ∷ xs) a b = ((a.0, b.0), all_both P Q xs a.1 b.1)
 within_block : (n : Data) → IsTree n → IsBlock (spell n) → IsWithin n
 within_block n tree b = subst IsWithin (one_within b.of n b.within tree (sym b.is)) b.within
 
-module _ (block : List ℕ → Option (List ℕ)) (h : List ℕ → List ℕ) (rows : List Row) (clear : IsClear rows) (spelled : IsSpelled rows) (s : Slot) where
+module _ (f : Frame) (frame : IsFrame f) (block : List ℕ → Option (List ℕ)) (h : List ℕ → List ℕ) (rows : List Row) (spelled : IsSpelled rows) (n : TypeNo) where
   abbrev Held : List ℕ → Type 0
   Held b = block (id_of b) ≡ Some b
 
   -- the nodes of the HAMTs of a value that stands are held
-  pub kept_storable : (v : Value) (d : Data) → Storable h rows s v d → AllByRecursion Held (spell d ∷ nodes h rows s v) → IsKept h (HeldNode block) rows s v
+  pub kept_storable : (v : Value) (d : Data) → Storable f h rows n v d → AllByRecursion Held (blocks_of f h rows n v d) → IsKept h (HeldNode block) rows (plainly n) v
   kept_storable v d st all =
-      kept_value (λ b. IsBlock b × Held b) (HeldNode block) (λ n tree x. record { within = within_block n tree x.0; there = x.1 }) h rows spelled deepest s v d st.fits st.tree
-      (all_both IsBlock Held (nodes h rows s v) (blocks_within h rows spelled s v d st).1 all.1)
+      let s = plainly n in
+      let within = all_split IsBlock (nodes h rows s v) f.beside (blocks_within f frame h rows spelled n v d st).1 in
+      let held = all_split Held (nodes h rows s v) f.beside all.1 in
+      kept_value (λ b. IsBlock b × Held b) (HeldNode block) (λ node tree x. record { within = within_block node tree x.0; there = x.1 }) h rows spelled f.room s v d st.fits st.tree
+      (all_both IsBlock Held (nodes h rows s v) within.0 held.0)
 
-  pub one_storable : IsSafe rows s → (v w : Value) (d e : Data) → Storable h rows s v d → Storable h rows s w e
-      → AllByRecursion Held (spell d ∷ nodes h rows s v) → AllByRecursion Held (spell e ∷ nodes h rows s w) → id_of (spell d) ≡ id_of (spell e) → v ≡ w
-  one_storable safe v w d e a b p q ids =
-      let td : IsWithin d = within_block d (whole_tree h rows spelled deepest s v d a.fits a.tree).tree (blocks_within h rows spelled s v d a).0 in
-      let same : d ≡ e = one_within d e td (whole_tree h rows spelled deepest s w e b.fits b.tree).tree (one_block block (spell d) (spell e) p.0 q.0 ids) in
-      whole_law h block rows clear s safe v w d (kept_storable v d a p) (kept_storable w e b q) a.tree (b.tree ∙ ap Some (sym same))
+  -- what a frame makes of the data of a value that fits
+  root_tree : (v : Value) (d : Data) → Storable f h rows n v d → IsTree (f.wrap d)
+  root_tree v d st = (frame.fits d (whole_tree h rows spelled f.room (plainly n) v d st.fits st.tree)).tree
+
+  pub one_storable : IsClear rows → (v w : Value) (d e : Data) → Storable f h rows n v d → Storable f h rows n w e
+      → AllByRecursion Held (blocks_of f h rows n v d) → AllByRecursion Held (blocks_of f h rows n w e) → id_of (spell (f.wrap d)) ≡ id_of (spell (f.wrap e)) → v ≡ w
+  one_storable clear v w d e a b p q ids =
+      let td : IsWithin (f.wrap d) = within_block (f.wrap d) (root_tree v d a) (blocks_within f frame h rows spelled n v d a).0 in
+      let roots : f.wrap d ≡ f.wrap e = one_within (f.wrap d) (f.wrap e) td (root_tree w e b) (one_block block (spell (f.wrap d)) (spell (f.wrap e)) p.0 q.0 ids) in
+      let same : d ≡ e = frame.apart d e roots in
+      whole_law h block rows clear (plainly n) (plain_safe rows (plainly n) refl) v w d (kept_storable v d a p) (kept_storable w e b q) a.tree (b.tree ∙ ap Some (sym same))
 
 pub one_stands : OneStands
-one_stands = λ block h rows clear spelled s safe id v w a b.
-    one_storable block h rows clear spelled s safe v w a.tree b.tree a.storable b.storable a.all b.all (sym a.root ∙ b.root)
+one_stands = λ f frame block h rows clear spelled n id v w a b.
+    one_storable f frame block h rows spelled n clear v w a.tree b.tree a.storable b.storable a.all b.all (sym a.root ∙ b.root)

@@ -10,6 +10,9 @@ pub mod Represented
 pub mod Levels
 pub mod Node
 pub mod Fits
+pub mod Whole
+pub mod Blocks
+pub mod Nested
 pub mod Stands
 pub mod Tells
 pub mod Clear
@@ -29,6 +32,7 @@ pub mod Pieces
 pub mod Refused
 pub mod WhyLaws
 pub mod Laws
+pub mod TreeLaws
+pub mod StandLaws
 pub mod Spelled
-pub mod Nested
 pub mod Made

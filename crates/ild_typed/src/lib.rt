@@ -4,7 +4,9 @@
 
 ghost use Rattle.ild_typed.specs.WhyLaws.{FrontOrRefused, LayerOrWhy, OneRefusal, RefusedHaveNoFront};
 ghost use Rattle.ild_typed.specs.Ways.{WaysLead};
-ghost use Rattle.ild_typed.specs.Laws.{BlocksAreNested, FrontsAreTrees, InLayersAll, LayersTell, OneFront, OneStands, OneText, OneWhole, ShownAreTrees, StorableBlocks, StorableWhere, TreesAreSound, ValuesAreTrees, ValuesHaveTrees};
+ghost use Rattle.ild_typed.specs.TreeLaws.{BlocksAreNested, FrontsAreTrees, ShownAreTrees, StorableBlocks, ValuesAreTrees};
+ghost use Rattle.ild_typed.specs.Laws.{InLayersAll, LayersTell, OneFront, OneText, OneWhole};
+ghost use Rattle.ild_typed.specs.StandLaws.{BareIsFrame, OneStands, StorableWhere, TreesAreSound, ValuesHaveTrees};
 
 /// The data of a layer tell its form and the data of its parts.
 pub fn layers_tell()
@@ -79,6 +81,11 @@ pub fn storable_blocks()
 /// The shown form of a value is a tree, nested no deeper than the room in which the value fits.
 pub fn shown_are_trees()
     ensures { ShownAreTrees }
+{}
+
+/// A bare root is a frame of the kind that the laws speak of.
+pub fn bare_roots_are_frames()
+    ensures { BareIsFrame }
 {}
 
 /// One value at most stands under an id.
