@@ -1,6 +1,7 @@
 mod Copying
-mod Cycling
 mod Doubles
 pub mod Circles
-mod Ends
+mod Ending
+mod Keeping
 mod Parts
+mod Writing

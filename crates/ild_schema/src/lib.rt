@@ -3,6 +3,7 @@
 
 mod accepted;
 mod def;
+mod ends;
 mod kinds;
 mod list;
 mod number;
@@ -10,6 +11,7 @@ mod prelude;
 mod row;
 mod rule;
 mod schema;
+mod texts;
 mod val;
 
 pub use accepted::Accepted;
@@ -24,4 +26,5 @@ pub use prelude::prelude_rows;
 pub use row::{Origin, Row};
 pub use rule::Rule;
 pub use schema::Schema;
+pub use texts::texts_of;
 pub use val::{Val, ValFields, ValPairs, ValPart, Vals};

@@ -2,9 +2,10 @@
 ghost use Rattle.std.specs.Prelude.{◌≡◌, ◌<◌, ℕ, length, None, Some, IfOk, option_map};
 ghost use Rattle.ild_schema.specs.Names.{declared_names, number_named};
 ghost use Rattle.ild_schema.specs.Table.{IsTable, IsWithin, def_at, name_at, place_at};
-ghost use Rattle.ild_schema.specs.Copies.{NoneIsCircular, base, leads, target_in};
+ghost use Rattle.ild_schema.specs.Copies.{base, leads, target_in};
 ghost use Rattle.ild_schema.specs.Held.{IsIndex};
 
+use crate::ends::ends_of;
 use crate::{Row, TypeDef, TypeNo};
 use ild_data::Txt;
 use std::alloc::{AllocError, Global};
@@ -18,6 +19,7 @@ pub struct Schema {
     rows: Vec<Row>,
     names: Vec<Txt>,
     numbers: BTreeMap<String, u32>,
+    ends: Vec<Option<TypeNo>>,
 }
 
 impl Model for Schema {
@@ -29,7 +31,7 @@ impl Model for Schema {
 
     ghost view = { λ a. a.rows.items };
 
-    ghost invariant = { λ a. IsHeld a.rows.items a.names.items a.numbers };
+    ghost invariant = { λ a. IsHeld a.rows.items a.names.items a.numbers a.ends.items };
 }
 
 /// The declared names of a table.
@@ -57,10 +59,12 @@ impl Schema {
         ensures { IfOk result (λ schema. schema ≡ rows.items) }
     {
         let names = names_in(alloc, &rows)?;
+        let ends = ends_of(alloc, &rows)?;
         Ok(Schema {
             rows,
             names,
             numbers,
+            ends,
         })
     }
 
@@ -81,23 +85,18 @@ impl Schema {
         &self.rows[ty.0 as usize].def
     }
 
-    /// The type to which a type leads through copies: itself, where it is no copy. Where no type is, through copies, a
-    /// copy of itself, the answer is no copy.
+    /// The type to which a type leads through copies: itself, where it is no copy.
     pub fn base(&self, ty: TypeNo) -> TypeNo
         requires { ty.0 < length self.now }
         ensures same { result.0 ≡ base self.now ty.0 }
         ensures within { result.0 < length self.now }
         ensures reached { (k : ℕ) × (leads self.now k ty.0 ≡ Some result.0) }
-        ensures end { NoneIsCircular self.now → target_in (def_at self.now result.0) ≡ None }
+        ensures end { target_in (def_at self.now result.0) ≡ None }
     {
-        let mut end = ty;
-        for _ in 0..self.rows.len() {
-            match self.def(end) {
-                TypeDef::Copy(target) => end = *target,
-                _ => return end,
-            }
+        match self.ends[ty.0 as usize] {
+            Some(end) => end,
+            None => ty,
         }
-        end
     }
 
     /// The name of a type: empty for an inline type, but `&T` for a union's member `&T`.

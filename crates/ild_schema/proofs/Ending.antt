@@ -6,7 +6,7 @@ use Rattle.std.proofs.lemmas.Option.{slice_get_within, get_or_from_slice_get}
 use Rattle.ild_schema.specs.declared.def.TypeDef.{TypeDef}
 use Rattle.ild_schema.specs.declared.def.TypeDef.TheVariants as D
 use Rattle.ild_schema.specs.declared.row.Row.{Row}
-use Rattle.ild_schema.specs.Copies.{target_of, target_in, followed, leads, NoneIsCircular, base}
+use Rattle.ild_schema.specs.Copies.{target_of, target_in, leads, NoneIsCircular, base}
 use Rattle.ild_schema.specs.Table.{IsTable, IsWithin, def_at}
 use Rattle.ild_schema.proofs.Circles.{circular_after, followed_or, followed_reached}
 
@@ -49,7 +49,3 @@ base_reached rows n m e = let way = followed_reached rows (length rows) n in (wa
 
 pub base_no_copy : (rows : List Row) (n m : ℕ) → m ≡ base rows n → IsTable rows → n < length rows → NoneIsCircular rows → target_in (def_at rows m) ≡ None
 base_no_copy rows n m e table here none = ap (λ k. target_in (def_at rows k)) e ∙ base_ends rows n table.within here none
-
--- nothing is left to follow
-pub followed_none : (rows : List Row) (k n m : ℕ) → k ≡ 0 → followed rows k n ≡ m → n ≡ m
-followed_none rows k n m none h = sym (ap (λ j. followed rows j n) none) ∙ h
