@@ -4,3 +4,4 @@ mod Doubles
 pub mod Circles
 mod Ends
 mod Parts
+pub mod Kinding
