@@ -5,3 +5,4 @@ mod Ending
 mod Keeping
 mod Parts
 mod Writing
+pub mod Kinding

@@ -5,6 +5,7 @@ mod accepted;
 mod def;
 mod ends;
 mod kinds;
+mod laws;
 mod list;
 mod number;
 mod prelude;
@@ -20,6 +21,7 @@ pub use def::{
     Members, Scalar, StructDef, StructForm, TypeDef, UnionDef, UnionForm, UnitForm,
 };
 pub use kinds::Kinds;
+pub use laws::kinds_are_told;
 pub use list::List;
 pub use number::{Slot, TypeNo};
 pub use prelude::prelude_rows;
