@@ -6,7 +6,6 @@ mod body;
 mod error;
 mod form;
 mod input;
-mod list;
 mod nested;
 mod part;
 mod reference;
@@ -21,7 +20,7 @@ pub use ast::{
     TypeDecl, TypeName, UnionBody, UnionForm, UnitForm,
 };
 pub use error::ParseErr;
-pub use list::List;
+pub use ild_data::List;
 pub use reference::{Inline, Ref};
 pub use schema::parse;
 

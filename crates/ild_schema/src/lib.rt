@@ -4,7 +4,6 @@
 mod accepted;
 mod def;
 mod kinds;
-mod list;
 mod number;
 mod prelude;
 mod row;
@@ -17,8 +16,8 @@ pub use def::{
     EnumDef, EnumForm, EnumMember, EnumMembers, Field, Fields, KindWord, MapForm, Mark, Member,
     Members, Scalar, StructDef, StructForm, TypeDef, UnionDef, UnionForm, UnitForm,
 };
+pub use ild_data::List;
 pub use kinds::Kinds;
-pub use list::List;
 pub use number::{Slot, TypeNo};
 pub use prelude::prelude_rows;
 pub use row::{Origin, Row};

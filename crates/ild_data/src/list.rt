@@ -1,10 +1,10 @@
-//! Lists of the parts of a type.
+//! Lists of parts: those that a rule of a grammar repeats, and those of a type.
 ghost use Rattle.std.specs.Prelude.{◌≡◌, ◌++◌, ◌∷◌, [], length, slice_get, option_map, OnOk, OnErr};
 
 use std::alloc::{AllocError, Global};
 use std::marker::Model;
 
-/// The parts of a type, in the order of the schema's text.
+/// Parts in their order.
 #[derive(Drop)]
 pub struct List<T> {
     items: Vec<T>,
@@ -18,7 +18,7 @@ impl<T> Model for List<T> {
     ghost view = { λ a. a.items.items };
 }
 
-impl<T: Drop> List<T> {
+impl<T> List<T> {
     /// No part.
     pub fn new(alloc: Global) -> List<T>
         ensures { result ≡ [] }
@@ -35,13 +35,11 @@ impl<T: Drop> List<T> {
         List { items }
     }
 
-    /// Appends a part.
-    pub fn push(&mut self, part: T) -> Result<(), AllocError>
-        ensures ok { OnOk result (self.new ≡ self.old ++ part ∷ []) }
-        ensures err { OnErr result (self.new ≡ self.old) }
+    /// The vector of the parts, without a copy.
+    pub fn into_vec(self) -> Vec<T>
+        ensures { result.items ≡ self }
     {
-        self.items.push(part)?;
-        Ok(())
+        self.items
     }
 
     /// How many parts there are.
@@ -67,5 +65,16 @@ impl<T: Drop> List<T> {
         ensures { result.now ≡ self.now }
     {
         &self.items
+    }
+}
+
+impl<T: Drop> List<T> {
+    /// Appends a part.
+    pub fn push(&mut self, part: T) -> Result<(), AllocError>
+        ensures ok { OnOk result (self.new ≡ self.old ++ part ∷ []) }
+        ensures err { OnErr result (self.new ≡ self.old) }
+    {
+        self.items.push(part)?;
+        Ok(())
     }
 }
