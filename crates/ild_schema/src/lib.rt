@@ -6,7 +6,6 @@ mod def;
 mod ends;
 mod kinds;
 mod laws;
-mod list;
 mod number;
 mod prelude;
 mod row;
@@ -20,9 +19,9 @@ pub use def::{
     EnumDef, EnumForm, EnumMember, EnumMembers, Field, Fields, KindWord, MapForm, Mark, Member,
     Members, Scalar, StructDef, StructForm, TypeDef, UnionDef, UnionForm, UnitForm,
 };
+pub use ild_data::List;
 pub use kinds::Kinds;
 pub use laws::kinds_are_told;
-pub use list::List;
 pub use number::{Slot, TypeNo};
 pub use prelude::prelude_rows;
 pub use row::{Origin, Row};
