@@ -1,9 +1,7 @@
 -- Runs without faults and collisions are runs on plain values, and what a run asks of the store.
-use Rattle.std.proofs.Common.{◌≡◌, ◌≢◌, ◌⊎◌, ℕ, ◌+◌, ◌≤◌, List, [], ◌∷◌, Option, Some, None, refl, sym, ap, ◌∙◌, subst, inl, inr, arith}
-use Rattle.std.specs.Prelude.{Contains}
+use Rattle.std.proofs.Common.{◌≡◌, ◌≢◌, ◌⊎◌, ℕ, ◌+◌, ◌≤◌, List, [], ◌∷◌, Option, Some, None, refl, sym, ap, subst, inl, inr, arith}
 use Rattle.std.specs.List.{AllByRecursion, cons_option}
 use Rattle.ild_data.specs.Spell.{id_of}
-use Rattle.ild_edges.specs.Collide.{Collide}
 use Rattle.ild_edges.specs.Count.{Rose, bumped}
 use Rattle.ild_edges.specs.Store.{Moment, Later, Keeps, block_at}
 use Rattle.ild_edges.specs.Told.{IfTold, BothTold}
@@ -14,17 +12,24 @@ use Rattle.ild_script.specs.declared.reply.Reply.TheVariants as R
 use Rattle.ild_session.specs.Session.{State, Due, Meaning}
 use Rattle.ild_session.specs.Step.{Holds, Collides, IsExcused}
 use Rattle.ild_session.specs.Run.{Run, most_gets, most_puts}
-use Rattle.ild_session.specs.Plain.{PlainStep, PlainRun, MayPut, AreApart}
+use Rattle.ild_session.specs.Plain.{PlainRun, MayPut, AreApart}
 
-holds_keeps : (b : List ℕ) (was now : Option (List (List ℕ))) → BothTold was now Keeps → IfTold was (λ held. AllByRecursion (λ b. block_at held (id_of b) ≡ Some b) (b ∷ [])) → IfTold now (λ held. AllByRecursion (λ b. block_at held (id_of b) ≡ Some b) (b ∷ []))
-holds_keeps b None None keeps held = tt
-holds_keeps b None (Some n) keeps held = absurd keeps
-holds_keeps b (Some m) None keeps held = absurd keeps
-holds_keeps b (Some m) (Some n) keeps held = (keeps (id_of b) b held.0, tt)
+abbrev AreHeld : List (List ℕ) → List (List ℕ) → Type 0
+AreHeld held bs = AllByRecursion (λ b. block_at held (id_of b) ≡ Some b) bs
 
--- a block that is held stays held
-pub holds_later : (m n : Moment) (b : List ℕ) → Later m n → Holds m (b ∷ []) → Holds n (b ∷ [])
-holds_later m n b later held = holds_keeps b m.blocks n.blocks later.keeps held
+all_keeps : (was now bs : List (List ℕ)) → Keeps was now → AreHeld was bs → AreHeld now bs
+all_keeps was now [] keeps held = tt
+all_keeps was now (b ∷ bs) keeps held = (keeps (id_of b) b held.0, all_keeps was now bs keeps held.1)
+
+hold_all : (bs : List (List ℕ)) (was now : Option (List (List ℕ))) → BothTold was now Keeps → IfTold was (λ held. AreHeld held bs) → IfTold now (λ held. AreHeld held bs)
+hold_all bs None None keeps held = tt
+hold_all bs None (Some n) keeps held = absurd keeps
+hold_all bs (Some m) None keeps held = absurd keeps
+hold_all bs (Some m) (Some n) keeps held = all_keeps m n bs keeps held
+
+-- blocks that are held stay held
+pub holds_all_later : (m n : Moment) (bs : List (List ℕ)) → Later m n → Holds m bs → Holds n bs
+holds_all_later m n bs later held = hold_all bs m.blocks n.blocks later.keeps held
 
 told_keeps : (was now : Option (List (List ℕ))) → BothTold was now Keeps → was ≢ None → now ≢ None
 told_keeps None now keeps told e = told refl
@@ -88,7 +93,7 @@ module _ {V : Type 0} (M : Meaning V) where
         let told_rest = told_later m k step.later told in
         let calm_here : Rose m.faults k.faults → ⊥ = λ rose. calm (let r : bumped m.faults ≤ k.faults = rose in let le = rest.faults in omega arith) in
         let calm_rest : Rose k.faults n.faults → ⊥ = λ rose. calm (let r : bumped k.faults ≤ n.faults = rose in let le = step.later.faults in omega arith) in
-        let apart_here : Collides k (due s l).adds → ⊥ = λ c. apart c.kept c.new (inl c.among) (holds_later k n c.kept rest c.held) c.collide in
+        let apart_here : Collides k (due s l).adds → ⊥ = λ c. apart c.kept c.new (inl c.among) (holds_all_later k n (c.kept ∷ []) rest c.held) c.collide in
         let answered = subst (λ (d : Due V). ((run.0 ≡ d.reply) × (run.1 ≡ d.next)) ⊎ (IsExcused m d.adds run.0 k × (run.1 ≡ s))) (blind m.blocks s l) step.answered in
         by_answer m s l ls run.0 run.1 k run.3 rs n t run.5 told calm_here apart_here answered
         (λ (is : run.1 ≡ (due s l).next). plain_run k run.1 ls run.3 n t run.6 told_rest calm_rest (λ kept new may. apart kept new (inr (inl (subst (λ (u : State V). MayPut due u ls new) is may)))))
