@@ -5,3 +5,7 @@ pub mod Circles
 mod Ends
 mod Parts
 pub mod Kinding
+mod Passing
+mod Ruling
+mod Telling
+mod Legibly
