@@ -21,7 +21,7 @@ pub use def::{
     Members, Scalar, StructDef, StructForm, TypeDef, UnionDef, UnionForm, UnitForm,
 };
 pub use kinds::Kinds;
-pub use laws::kinds_are_told;
+pub use laws::{accepted_are_legible, kinds_are_told};
 pub use list::List;
 pub use number::{Slot, TypeNo};
 pub use prelude::prelude_rows;
