@@ -1,7 +1,6 @@
 -- Sets of kinds, asked of one kind.
 use Rattle.std.proofs.Common.{◌≡◌, ◌⊎◌, inl, inr, Bool, true, false, ◌&&◌, ◌||◌, not, List, [], ◌∷◌, Option, Some, None, refl, sym, ap, ◌∙◌}
 use Rattle.std.specs.List.{list_any}
-use Rattle.ild_schema.specs.declared.number.Slot.{Slot}
 use Rattle.ild_schema.specs.declared.def.TypeDef.{TypeDef}
 use Rattle.ild_schema.specs.declared.def.TypeDef.TheVariants as D
 use Rattle.ild_schema.specs.declared.def.UnitForm.{UnitForm}
@@ -20,10 +19,9 @@ use Rattle.ild_schema.specs.declared.def.Mark.TheVariants as K
 use Rattle.ild_schema.specs.declared.def.KindWord.{KindWord}
 use Rattle.ild_schema.specs.declared.def.KindWord.TheVariants as W
 use Rattle.ild_schema.specs.declared.kinds.Kinds.{Kinds}
-use Rattle.ild_schema.specs.declared.row.Row.{Row}
 use Rattle.ild_schema.specs.DataKinds as asked
 use Rattle.ild_schema.specs.DataKinds.{same_kind, is_marked, slot_has, kind_in, unit_kind, map_kind, struct_kind, enum_kind, union_has, KindsAreTold}
-use Rattle.ild_schema.specs.Kinds.{no_kinds, all_but_null, with_kind, without_kind, has_kind, has_none, has_only, only, with_mark, with_declared, declared_kinds, struct_kinds, map_kinds, union_kinds, enum_kinds, unit_kinds, def_kinds, kinds_in, kinds_of, meant}
+use Rattle.ild_schema.specs.Kinds.{no_kinds, all_but_null, with_kind, without_kind, has_kind, has_none, has_only, only, with_mark, with_declared, declared_kinds, struct_kinds, map_kinds, union_kinds, enum_kinds, unit_kinds, def_kinds, kinds_in, meant}
 use Rattle.ild_schema.specs.Marks.{kind_of}
 
 only_has : (k w : KindWord) → has_kind w (only k) ≡ same_kind k w

@@ -6,3 +6,7 @@ mod Keeping
 mod Parts
 mod Writing
 pub mod Kinding
+mod Passing
+mod Ruling
+mod Telling
+mod Legibly

@@ -21,7 +21,7 @@ pub use def::{
 };
 pub use ild_data::List;
 pub use kinds::Kinds;
-pub use laws::kinds_are_told;
+pub use laws::{accepted_are_legible, kinds_are_told};
 pub use number::{Slot, TypeNo};
 pub use prelude::prelude_rows;
 pub use row::{Origin, Row};

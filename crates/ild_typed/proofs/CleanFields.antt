@@ -12,7 +12,7 @@ use Rattle.ild_schema.specs.declared.def.Scalar.{Scalar}
 use Rattle.ild_schema.specs.declared.def.Scalar.TheVariants as C
 use Rattle.ild_typed.specs.Fields.{same_bool, same_int, is_scalar, is_implicit, entries_of, field_entries}
 use Rattle.ild_schema.specs.Marks.{field_text}
-use Rattle.ild_typed.specs.Clear.{AreNamesApart}
+use Rattle.ild_schema.specs.Clear.{AreNamesApart}
 use Rattle.ild_typed.specs.Named.{names, is_among, has_twice}
 use Rattle.ild_typed.specs.StructWhy.{is_name_of, has_stranger, must_stand, lacks_field, place_of, has_fall, is_out_of_order, is_needless, writes_implicit}
 use Rattle.ild_typed.proofs.Entries.{same_text_self}

@@ -10,7 +10,8 @@ use Rattle.ild_data.proofs.Lists.{items_list-items_of}
 use Rattle.ild_schema.specs.declared.def.KindWord.TheVariants as K
 use Rattle.ild_schema.specs.declared.def.Field.{Field}
 use Rattle.ild_schema.specs.declared.def.StructForm.TheVariants as S
-use Rattle.ild_typed.specs.Kinds.{kind_of, same_kind}
+use Rattle.ild_typed.specs.Kinds.{kind_of}
+use Rattle.ild_schema.specs.DataKinds.{same_kind}
 use Rattle.ild_typed.specs.Fields.{are_absent, tuple_items}
 use Rattle.ild_typed.specs.Strings.{pair_data, listpairs}
 use Rattle.ild_typed.specs.Named.{is_text, has_name, is_pair, pair_names, pair_entries, is_two, has_odd_pair, has_odd_count, names}

@@ -11,13 +11,14 @@ use Rattle.ild_schema.specs.declared.def.StructForm.{StructForm}
 use Rattle.ild_schema.specs.declared.def.StructForm.TheVariants as S
 use Rattle.ild_schema.specs.declared.def.Field.{Field}
 use Rattle.ild_typed.specs.Texts.{join, join_pairs}
-use Rattle.ild_typed.specs.Kinds.{kind_of, same_kind}
+use Rattle.ild_typed.specs.Kinds.{kind_of}
+use Rattle.ild_schema.specs.DataKinds.{same_kind, struct_kind}
 use Rattle.ild_typed.specs.Fields.{field_entries, tuple_items, all_items}
 use Rattle.ild_typed.specs.Strings.{text_in, texts_in, text_pairs, in_key_order, map_data, listpairs, stringpairs, stringjoin, cons_both}
 use Rattle.ild_typed.specs.Composed.{struct_form}
-use Rattle.ild_typed.proofs.KindWords.{struct_kind}
-use Rattle.ild_typed.specs.Clear.{ClearStruct, IsGiven}
-use Rattle.ild_typed.specs.WhyLaws.{HasDelims, KeysRise}
+use Rattle.ild_schema.specs.Clear.{ClearStruct, IsGiven}
+use Rattle.ild_schema.specs.Delims.{HasDelims}
+use Rattle.ild_typed.specs.WhyLaws.{KeysRise}
 use Rattle.ild_typed.specs.Cuts.{parted, pairs_in, is_split, is_split_pairs}
 use Rattle.ild_typed.specs.Named.{where_some, names, has_twice, split_entries, text_entries, is_unsplit}
 use Rattle.ild_typed.specs.StructWhy.{names_in, has_stranger, lacks_field, is_out_of_order, writes_implicit, misses_items, struct_kind_why, struct_name_why, struct_missing, struct_count, struct_order, struct_repeat, struct_implicit, is_unjoined, struct_delimiter}

@@ -19,15 +19,16 @@ use Rattle.ild_schema.specs.declared.def.EnumMember.{EnumMember}
 use Rattle.ild_schema.specs.declared.def.KindWord.TheVariants as K
 use Rattle.ild_typed.specs.Layer as L
 use Rattle.ild_typed.specs.Layer.{Layer, as_list, as_map, as_struct, as_union, as_enum, as_unit}
-use Rattle.ild_typed.specs.Kinds.{kind_of, same_kind, may_be}
+use Rattle.ild_typed.specs.Kinds.{kind_of}
+use Rattle.ild_schema.specs.DataKinds.{same_kind, has_kind, map_kind, unit_kind}
 use Rattle.ild_schema.specs.Decimal.{decimal_of}
 use Rattle.ild_typed.specs.Strings.{listpairs, stringpairs}
 use Rattle.ild_typed.specs.Composed.{unit_data, map_form, struct_form, union_form, enum_form, composed}
 use Rattle.ild_typed.specs.Hamt.{alone}
-use Rattle.ild_typed.proofs.KindWords.{has_word, words_agree, map_kind, unit_kind}
-use Rattle.ild_typed.specs.Clear.{ClearType, ClearMap}
+use Rattle.ild_schema.specs.Clear.{ClearType, ClearMap}
 use Rattle.ild_typed.specs.Causes.{is_kind_why, map_kind_why, map_count, map_delimiter, unit_count, unit_member, is_value}
-use Rattle.ild_typed.specs.WhyLaws.{MapDelims, Delims, KeysRise, LayerOrWhy}
+use Rattle.ild_schema.specs.Delims.{MapDelims, Delims}
+use Rattle.ild_typed.specs.WhyLaws.{KeysRise, LayerOrWhy}
 use Rattle.ild_typed.proofs.Basics.{map_from, then_from}
 use Rattle.ild_typed.proofs.Structs.{int_same}
 use Rattle.ild_typed.proofs.Entries.{same_text_self}
@@ -41,8 +42,8 @@ use Rattle.ild_typed.proofs.CleanUnions.{union_clean, union_for}
 -- ---- data of a layer
 
 -- the kind is the type's, and nothing else is asked
-its_kind : (d : TypeDef) (t : Data) (c : Bool) → may_be d (kind_of t) ≡ true → c ≡ false → (not (may_be d (kind_of t)) || c) ≡ false
-its_kind d t c h k = kind_fine (may_be d (kind_of t)) c h k
+its_kind : (d : TypeDef) (t : Data) (c : Bool) → has_kind d (kind_of t) ≡ true → c ≡ false → (not (has_kind d (kind_of t)) || c) ≡ false
+its_kind d t c h k = kind_fine (has_kind d (kind_of t)) c h k
 
 unit_clean : (form : UnitForm) → Clean (D.Unit form) (unit_data form)
 unit_clean U.Null = record {
@@ -274,11 +275,11 @@ pub record LayerFor (d : TypeDef) (t : Data) : Type 0 where
   pub layer : Layer Data
   pub there : composed alone d layer ≡ Some t
 
-kind_of_clean : (d : TypeDef) (t : Data) → Clean d t → has_word d (kind_of t) ≡ true
-kind_of_clean d t c = sym (words_agree d (kind_of t)) ∙ not_false (may_be d (kind_of t)) (or_false (not (may_be d (kind_of t))) (is_kind_why d t) c.kind).0
+kind_of_clean : (d : TypeDef) (t : Data) → Clean d t → has_kind d (kind_of t) ≡ true
+kind_of_clean d t c = not_false (has_kind d (kind_of t)) (or_false (not (has_kind d (kind_of t))) (is_kind_why d t) c.kind).0
 
 own_kind : (d : TypeDef) (t : Data) → Clean d t → is_kind_why d t ≡ false
-own_kind d t c = (or_false (not (may_be d (kind_of t))) (is_kind_why d t) c.kind).1
+own_kind d t c = (or_false (not (has_kind d (kind_of t))) (is_kind_why d t) c.kind).1
 
 bool_for : (t : Data) → same_kind K.Bool (kind_of t) ≡ true → LayerFor D.Bool t
 bool_for (T.boolean b) k = record { layer = L.boolean b; there = refl }

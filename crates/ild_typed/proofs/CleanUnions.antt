@@ -14,13 +14,13 @@ use Rattle.ild_schema.specs.declared.def.KindWord.{KindWord}
 use Rattle.ild_schema.specs.declared.def.UnionForm.{UnionForm}
 use Rattle.ild_schema.specs.declared.def.UnionForm.TheVariants as UF
 use Rattle.ild_schema.specs.declared.def.Member.{Member}
-use Rattle.ild_typed.specs.Texts.{begins}
-use Rattle.ild_typed.specs.Kinds.{kind_of, same_kind}
+use Rattle.ild_schema.specs.Prefixes.{begins}
+use Rattle.ild_typed.specs.Kinds.{kind_of}
+use Rattle.ild_schema.specs.DataKinds.{same_kind, is_marked, union_has}
 use Rattle.ild_schema.specs.Marks.{text_of as mark_text, kind_of as mark_kind}
 use Rattle.ild_schema.specs.Hex.{bytes_of_hex}
 use Rattle.ild_typed.specs.Strings.{text_in, bytes_in, members_in, map_data}
 use Rattle.ild_typed.specs.Composed.{inlined, marked_form, member_form, union_form}
-use Rattle.ild_typed.proofs.KindWords.{is_marked, union_has}
 use Rattle.ild_typed.specs.Named.{where_some, names, is_among}
 use Rattle.ild_typed.specs.UnionWhy.{is_discriminant, is_no_member, has_prefix, has_bytes_prefix, union_name, union_missing, union_count, union_prefix, union_member}
 use Rattle.ild_typed.proofs.Basics.{then_from, map_from, true_from}

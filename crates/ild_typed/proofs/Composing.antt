@@ -24,7 +24,7 @@ use Rattle.ild_schema.specs.Decimal.{decimal_of}
 use Rattle.ild_typed.specs.Composed.{Hamts, usual, any_data, unit_data, map_form, struct_form, union_form, enum_form, composed}
 use Rattle.ild_typed.specs.Hamt.{a_map, alone}
 use Rattle.ild_typed.specs.Tells.{Tells}
-use Rattle.ild_typed.specs.Clear.{ClearStruct, ClearMap, ClearEnum, ClearType}
+use Rattle.ild_schema.specs.Clear.{ClearStruct, ClearMap, ClearEnum, ClearType}
 use Rattle.ild_typed.proofs.Basics.{then_from, map_from, tells_then, tells_map}
 use Rattle.ild_typed.proofs.Onlies.{only_boolean, only_integer, only_text, only_bytes, only_link, only_any, only_unit, only_enum, only_list, only_map, only_struct, only_union, only_hamt}
 use Rattle.ild_typed.proofs.Entries.{list_tells, map_tells, listpairs_tell, value_sorted}

@@ -23,7 +23,7 @@ use Rattle.ild_schema.specs.declared.row.Row.{Row}
 use Rattle.ild_schema.specs.Value as V
 use Rattle.ild_schema.specs.Value.{Value}
 use Rattle.ild_schema.specs.Prelude.{prelude, given, number}
-use Rattle.ild_typed.specs.Slots.{plainly}
+use Rattle.ild_schema.specs.Slots.{plainly}
 use Rattle.ild_typed.specs.Hamt.{whole, alone}
 use Rattle.ild_typed.specs.Represented.{represented}
 use Rattle.ild_typed.specs.Strings.{map_data}

@@ -22,17 +22,19 @@ use Rattle.ild_schema.specs.declared.row.Row.{Row}
 use Rattle.ild_schema.specs.Value as V
 use Rattle.ild_schema.specs.Value.{Value, Pairs, Optionals}
 use Rattle.ild_typed.specs.Layer as L
-use Rattle.ild_typed.specs.Layer.{Layer, as_map}
+use Rattle.ild_typed.specs.Layer.{as_hamt, Layer, as_map}
 use Rattle.ild_typed.specs.Texts.{join, join_pairs}
 use Rattle.ild_typed.specs.Fields.{is_implicit, is_scalar, entries_of, field_entries, tuple_items, all_items}
 use Rattle.ild_schema.specs.Marks.{field_text, text_of as mark_text, kind_of as mark_kind}
 use Rattle.ild_typed.specs.Strings.{text_in, bytes_in, members_in, texts_in, text_pairs, in_key_order, map_data, listpairs, stringpairs, stringjoin, cons_both}
-use Rattle.ild_typed.specs.Kinds.{kind_of, same_kind}
+use Rattle.ild_typed.specs.Kinds.{kind_of}
+use Rattle.ild_schema.specs.DataKinds.{same_kind}
 use Rattle.ild_schema.specs.Hex.{bytes_of_hex}
-use Rattle.ild_typed.specs.Slots.{form_of, element_of, fields_of, member_of}
+use Rattle.ild_schema.specs.Slots.{form_of}
+use Rattle.ild_typed.specs.Slots.{element_of, fields_of, member_of}
 use Rattle.ild_data.specs.Trie.{trie}
-use Rattle.ild_typed.specs.Composed.{usual, composed, struct_form, marked_form, member_form, inlined}
-use Rattle.ild_typed.specs.Hamt.{root_map, whole, alone}
+use Rattle.ild_typed.specs.Composed.{Hamts, usual, composed, struct_form, marked_form, member_form, inlined}
+use Rattle.ild_typed.specs.Hamt.{root_map, whole, a_map, alone}
 use Rattle.ild_typed.specs.Represented.{layered, represented, represented_values, represented_pairs, represented_fields}
 use Rattle.ild_typed.proofs.Basics.{then_from, map_from, true_from, if_from}
 use Rattle.ild_typed.proofs.Entries.{both_from}
@@ -157,120 +159,146 @@ member_flat UF.BytesPrefix d m t e flat = let x = then_from (marked_form UF.Byte
 member_flat (UF.Envelope key content) d m t e flat = let x = then_from (marked_form (UF.Envelope key content) d) (mark_text m.mark) t e in marked_flat (UF.Envelope key content) d x.item t x.made flat
 member_flat (UF.Inline key) d m t e flat = let x = then_from (marked_form (UF.Inline key) d) (mark_text m.mark) t e in marked_flat (UF.Inline key) d x.item t x.made flat
 
-module _ (h : List ℕ → List ℕ) (rows : List Row) where
-  whole_not_flat : (l : Layer Data) (t : Data) → whole h usual l ≡ Some t → IsFlat t → ⊥
-  whole_not_flat l t e flat = let x = map_from (root_map usual) (option_and_then (λ es. trie h usual es 0) (as_map l)) t e in is_flat (root_map usual x.item) t x.made flat
+-- what stands for a HAMT is no flat data
+abbrev NeverFlat : Hamts → Type 0
+NeverFlat at = (l : Layer Data) (t : Data) → at usual l ≡ Some t → IsFlat t → ⊥
 
-  not_list : (d : TypeDef) (ds : List Data) (t : Data) → composed (whole h) d (L.list ds) ≡ Some t → IsFlat t → ⊥
+-- Flat data are those of a value whatever stands for HAMTs: none is in it.
+module _ (at bt : Hamts) (never : NeverFlat at) (rows : List Row) where
+  not_list : (d : TypeDef) (ds : List Data) (t : Data) → composed at d (L.list ds) ≡ Some t → IsFlat t → ⊥
   not_list (D.List elem place) ds t e flat = is_flat (T.list (T.items_of ds)) t e flat
   not_list (D.Map key key_at value place MF.Map) ds t e flat = none-some t e
   not_list (D.Map key key_at value place MF.ListPairs) ds t e flat = none-some t e
   not_list (D.Map key key_at value place (MF.StringPairs i k)) ds t e flat = none-some t e
-  not_list (D.Map key key_at value place MF.Hamt) ds t e flat = none-some t e
+  not_list (D.Map key key_at value place MF.Hamt) ds t e flat = never (L.list ds) t e flat
   not_list d ds t e flat = none-some t e
 
-  map_flat : (d : TypeDef) (ps : List (List ℕ × Data)) (t : Data) → composed (whole h) d (L.map ps) ≡ Some t → IsFlat t → FlatPairs ps
+  map_flat : (d : TypeDef) (ps : List (List ℕ × Data)) (t : Data) → composed at d (L.map ps) ≡ Some t → IsFlat t → FlatPairs ps
   map_flat (D.Map key key_at value place MF.Map) ps t e flat = absurd (is_flat (map_data ps) t e flat)
   map_flat (D.Map key key_at value place MF.ListPairs) ps t e flat = absurd (is_flat (listpairs ps) t e flat)
   map_flat (D.Map key key_at value place (MF.StringPairs inner entry)) ps t e flat = stringpairs_flat inner entry ps t e
-  map_flat (D.Map key key_at value place MF.Hamt) ps t e flat = absurd (whole_not_flat (L.map ps) t e flat)
+  map_flat (D.Map key key_at value place MF.Hamt) ps t e flat = absurd (never (L.map ps) t e flat)
   map_flat d ps t e flat = absurd (none-some t e)
 
-  fields_flat : (d : TypeDef) (os : List (Option Data)) (t : Data) → composed (whole h) d (L.struct os) ≡ Some t → IsFlat t → FlatFields os
+  fields_flat : (d : TypeDef) (os : List (Option Data)) (t : Data) → composed at d (L.struct os) ≡ Some t → IsFlat t → FlatFields os
   fields_flat (D.Struct s) os t e flat = struct_flat s.form s.fields os t e flat
   fields_flat (D.Map key key_at value place MF.Map) os t e flat = absurd (none-some t e)
   fields_flat (D.Map key key_at value place MF.ListPairs) os t e flat = absurd (none-some t e)
   fields_flat (D.Map key key_at value place (MF.StringPairs i k)) os t e flat = absurd (none-some t e)
-  fields_flat (D.Map key key_at value place MF.Hamt) os t e flat = absurd (none-some t e)
+  fields_flat (D.Map key key_at value place MF.Hamt) os t e flat = absurd (never (L.struct os) t e flat)
   fields_flat d os t e flat = absurd (none-some t e)
 
-  union_flat : (d : TypeDef) (n : ℕ) (c t : Data) → composed (whole h) d (L.union n c) ≡ Some t → IsFlat t → IsFlat c
+  union_flat : (d : TypeDef) (n : ℕ) (c t : Data) → composed at d (L.union n c) ≡ Some t → IsFlat t → IsFlat c
   union_flat (D.Union u) n c t e flat = let x = then_from (member_form u.form c) (slice_get u.members n) t e in member_flat u.form c x.item t x.made flat
   union_flat (D.Map key key_at value place MF.Map) n c t e flat = absurd (none-some t e)
   union_flat (D.Map key key_at value place MF.ListPairs) n c t e flat = absurd (none-some t e)
   union_flat (D.Map key key_at value place (MF.StringPairs i k)) n c t e flat = absurd (none-some t e)
-  union_flat (D.Map key key_at value place MF.Hamt) n c t e flat = absurd (none-some t e)
+  union_flat (D.Map key key_at value place MF.Hamt) n c t e flat = absurd (never (L.union n c) t e flat)
   union_flat d n c t e flat = absurd (none-some t e)
 
   -- the layer itself
-  composed_alone : (d : TypeDef) (l : Layer Data) (t : Data) → composed (whole h) d l ≡ Some t → IsFlat t → composed alone d l ≡ Some t
-  composed_alone (D.Map key key_at value place MF.Map) l t e flat = e
-  composed_alone (D.Map key key_at value place MF.ListPairs) l t e flat = e
-  composed_alone (D.Map key key_at value place (MF.StringPairs i k)) l t e flat = e
-  composed_alone (D.Map key key_at value place MF.Hamt) l t e flat = absurd (whole_not_flat l t e flat)
-  composed_alone d l t e flat = e
+  composed_same : (d : TypeDef) (l : Layer Data) (t : Data) → composed at d l ≡ Some t → IsFlat t → composed bt d l ≡ Some t
+  composed_same (D.Map key key_at value place MF.Map) l t e flat = e
+  composed_same (D.Map key key_at value place MF.ListPairs) l t e flat = e
+  composed_same (D.Map key key_at value place (MF.StringPairs i k)) l t e flat = e
+  composed_same (D.Map key key_at value place MF.Hamt) l t e flat = absurd (never l t e flat)
+  composed_same d l t e flat = e
 
-  layer_alone : (o : Option TypeDef) (p q : Option (Layer Data)) (t : Data) → layered (whole h) o p ≡ Some t → IsFlat t
-      → ((d : TypeDef) (l : Layer Data) → p ≡ Some l → composed (whole h) d l ≡ Some t → q ≡ Some l) → layered alone o q ≡ Some t
-  layer_alone None p q t e flat same = absurd (none-some t e)
-  layer_alone (Some d) p q t e flat same =
-      let x = then_from (composed (whole h) d) p t e in
-      ap (option_and_then (composed alone d)) (same d x.item x.there x.made) ∙ composed_alone d x.item t x.made flat
+  layer_same : (o : Option TypeDef) (p q : Option (Layer Data)) (t : Data) → layered at o p ≡ Some t → IsFlat t
+      → ((d : TypeDef) (l : Layer Data) → p ≡ Some l → composed at d l ≡ Some t → q ≡ Some l) → layered bt o q ≡ Some t
+  layer_same None p q t e flat same = absurd (none-some t e)
+  layer_same (Some d) p q t e flat same =
+      let x = then_from (composed at d) p t e in
+      ap (option_and_then (composed bt d)) (same d x.item x.there x.made) ∙ composed_same d x.item t x.made flat
 
   both_into : {A : Type 0} (o : Option A) (os : Option (List A)) (x : A) (xs ys : List A) → o ≡ Some x → os ≡ Some xs → x ∷ xs ≡ ys → cons_both o os ≡ Some ys
   both_into o os x xs ys a b c = ap (λ z. cons_both z os) a ∙ ap (option_map (λ zs. x ∷ zs)) b ∙ ap Some c
 
   mutual
-    pub flat_alone : (s : Slot) (v : Value) (t : Data) → represented (whole h) rows s v ≡ Some t → IsFlat t → represented alone rows s v ≡ Some t
-    flat_alone s V.null t e flat = e
-    flat_alone s (V.boolean x) t e flat = layer_alone (form_of rows s) (Some (L.boolean x)) (Some (L.boolean x)) t e flat (λ d l is made. is)
-    flat_alone s (V.integer x) t e flat = layer_alone (form_of rows s) (Some (L.integer x)) (Some (L.integer x)) t e flat (λ d l is made. is)
-    flat_alone s (V.text x) t e flat = layer_alone (form_of rows s) (Some (L.text x)) (Some (L.text x)) t e flat (λ d l is made. is)
-    flat_alone s (V.bytes x) t e flat = layer_alone (form_of rows s) (Some (L.bytes x)) (Some (L.bytes x)) t e flat (λ d l is made. is)
-    flat_alone s (V.link x) t e flat = layer_alone (form_of rows s) (Some (L.link x)) (Some (L.link x)) t e flat (λ d l is made. is)
-    flat_alone s (V.any x) t e flat = layer_alone (form_of rows s) (Some (L.any x)) (Some (L.any x)) t e flat (λ d l is made. is)
-    flat_alone s V.unit t e flat = layer_alone (form_of rows s) (Some L.unit) (Some L.unit) t e flat (λ d l is made. is)
-    flat_alone s (V.enum x) t e flat = layer_alone (form_of rows s) (Some (L.enum x)) (Some (L.enum x)) t e flat (λ d l is made. is)
-    flat_alone s (V.hamt x) t e flat = layer_alone (form_of rows s) (Some (L.hamt x)) (Some (L.hamt x)) t e flat (λ d l is made. is)
-    flat_alone s (V.list vs) t e flat =
+    pub flat_same : (s : Slot) (v : Value) (t : Data) → represented at rows s v ≡ Some t → IsFlat t → represented bt rows s v ≡ Some t
+    flat_same s V.null t e flat = e
+    flat_same s (V.boolean x) t e flat = layer_same (form_of rows s) (Some (L.boolean x)) (Some (L.boolean x)) t e flat (λ d l is made. is)
+    flat_same s (V.integer x) t e flat = layer_same (form_of rows s) (Some (L.integer x)) (Some (L.integer x)) t e flat (λ d l is made. is)
+    flat_same s (V.text x) t e flat = layer_same (form_of rows s) (Some (L.text x)) (Some (L.text x)) t e flat (λ d l is made. is)
+    flat_same s (V.bytes x) t e flat = layer_same (form_of rows s) (Some (L.bytes x)) (Some (L.bytes x)) t e flat (λ d l is made. is)
+    flat_same s (V.link x) t e flat = layer_same (form_of rows s) (Some (L.link x)) (Some (L.link x)) t e flat (λ d l is made. is)
+    flat_same s (V.any x) t e flat = layer_same (form_of rows s) (Some (L.any x)) (Some (L.any x)) t e flat (λ d l is made. is)
+    flat_same s V.unit t e flat = layer_same (form_of rows s) (Some L.unit) (Some L.unit) t e flat (λ d l is made. is)
+    flat_same s (V.enum x) t e flat = layer_same (form_of rows s) (Some (L.enum x)) (Some (L.enum x)) t e flat (λ d l is made. is)
+    flat_same s (V.hamt x) t e flat = layer_same (form_of rows s) (Some (L.hamt x)) (Some (L.hamt x)) t e flat (λ d l is made. is)
+    flat_same s (V.list vs) t e flat =
         let u = element_of (form_of rows s) in
-        layer_alone (form_of rows s) (option_map L.list (represented_values (whole h) rows u vs)) (option_map L.list (represented_values alone rows u vs)) t e flat
+        layer_same (form_of rows s) (option_map L.list (represented_values at rows u vs)) (option_map L.list (represented_values bt rows u vs)) t e flat
         (λ d l is made.
-        let x = map_from L.list (represented_values (whole h) rows u vs) l is in
-        absurd (not_list d x.item t (ap (composed (whole h) d) (same_Some (L.list x.item) l x.made) ∙ made) flat))
-    flat_alone s (V.map ps) t e flat =
+        let x = map_from L.list (represented_values at rows u vs) l is in
+        absurd (not_list d x.item t (ap (composed at d) (same_Some (L.list x.item) l x.made) ∙ made) flat))
+    flat_same s (V.map ps) t e flat =
         let u = element_of (form_of rows s) in
-        layer_alone (form_of rows s) (option_map L.map (represented_pairs (whole h) rows u ps)) (option_map L.map (represented_pairs alone rows u ps)) t e flat
+        layer_same (form_of rows s) (option_map L.map (represented_pairs at rows u ps)) (option_map L.map (represented_pairs bt rows u ps)) t e flat
         (λ d l is made.
-        let x = map_from L.map (represented_pairs (whole h) rows u ps) l is in
-        ap (option_map L.map) (pairs_alone u ps x.item x.there (map_flat d x.item t (ap (composed (whole h) d) (same_Some (L.map x.item) l x.made) ∙ made) flat)) ∙ x.made)
-    flat_alone s (V.struct os) t e flat =
+        let x = map_from L.map (represented_pairs at rows u ps) l is in
+        ap (option_map L.map) (pairs_same u ps x.item x.there (map_flat d x.item t (ap (composed at d) (same_Some (L.map x.item) l x.made) ∙ made) flat)) ∙ x.made)
+    flat_same s (V.struct os) t e flat =
         let fs = fields_of (form_of rows s) in
-        layer_alone (form_of rows s) (option_map L.struct (represented_fields (whole h) rows fs os)) (option_map L.struct (represented_fields alone rows fs os)) t e flat
+        layer_same (form_of rows s) (option_map L.struct (represented_fields at rows fs os)) (option_map L.struct (represented_fields bt rows fs os)) t e flat
         (λ d l is made.
-        let x = map_from L.struct (represented_fields (whole h) rows fs os) l is in
-        ap (option_map L.struct) (fields_alone fs os x.item x.there (fields_flat d x.item t (ap (composed (whole h) d) (same_Some (L.struct x.item) l x.made) ∙ made) flat)) ∙ x.made)
-    flat_alone s (V.union n v) t e flat =
+        let x = map_from L.struct (represented_fields at rows fs os) l is in
+        ap (option_map L.struct) (fields_same fs os x.item x.there (fields_flat d x.item t (ap (composed at d) (same_Some (L.struct x.item) l x.made) ∙ made) flat)) ∙ x.made)
+    flat_same s (V.union n v) t e flat =
         let u = member_of (form_of rows s) n in
-        layer_alone (form_of rows s) (option_map (L.union n) (represented (whole h) rows u v)) (option_map (L.union n) (represented alone rows u v)) t e flat
+        layer_same (form_of rows s) (option_map (L.union n) (represented at rows u v)) (option_map (L.union n) (represented bt rows u v)) t e flat
         (λ d l is made.
-        let x = map_from (L.union n) (represented (whole h) rows u v) l is in
-        ap (option_map (L.union n)) (flat_alone u v x.item x.there (union_flat d n x.item t (ap (composed (whole h) d) (same_Some (L.union n x.item) l x.made) ∙ made) flat)) ∙ x.made)
+        let x = map_from (L.union n) (represented at rows u v) l is in
+        ap (option_map (L.union n)) (flat_same u v x.item x.there (union_flat d n x.item t (ap (composed at d) (same_Some (L.union n x.item) l x.made) ∙ made) flat)) ∙ x.made)
 
-    pub pairs_alone : (s : Slot) (ps : Pairs) (ds : List (List ℕ × Data)) → represented_pairs (whole h) rows s ps ≡ Some ds → FlatPairs ds → represented_pairs alone rows s ps ≡ Some ds
-    pairs_alone s V.no_pairs ds e flat = e
-    pairs_alone s (V.pair k v ps) ds e flat =
-        let b = both_from (option_map {U = List ℕ × Data} (λ d. (k, d)) (represented (whole h) rows s v)) (represented_pairs (whole h) rows s ps) ds e in
-        let x = map_from {B = List ℕ × Data} (λ d. (k, d)) (represented (whole h) rows s v) b.item b.first in
+    pub pairs_same : (s : Slot) (ps : Pairs) (ds : List (List ℕ × Data)) → represented_pairs at rows s ps ≡ Some ds → FlatPairs ds → represented_pairs bt rows s ps ≡ Some ds
+    pairs_same s V.no_pairs ds e flat = e
+    pairs_same s (V.pair k v ps) ds e flat =
+        let b = both_from (option_map {U = List ℕ × Data} (λ d. (k, d)) (represented at rows s v)) (represented_pairs at rows s ps) ds e in
+        let x = map_from {B = List ℕ × Data} (λ d. (k, d)) (represented at rows s v) b.item b.first in
         let same : (k, x.item) ≡ b.item = same_Some (k, x.item) b.item x.made in
         let all : FlatPairs (b.item ∷ b.items) = subst FlatPairs (sym b.all) flat in
-        let here = flat_alone s v x.item x.there (subst (λ (p : List ℕ × Data). IsFlat p.1) (sym same) all.0) in
-        both_into (option_map {U = List ℕ × Data} (λ d. (k, d)) (represented alone rows s v)) (represented_pairs alone rows s ps) b.item b.items ds
-        (ap (option_map {U = List ℕ × Data} (λ d. (k, d))) here ∙ x.made) (pairs_alone s ps b.items b.rest all.1) b.all
+        let here = flat_same s v x.item x.there (subst (λ (p : List ℕ × Data). IsFlat p.1) (sym same) all.0) in
+        both_into (option_map {U = List ℕ × Data} (λ d. (k, d)) (represented bt rows s v)) (represented_pairs bt rows s ps) b.item b.items ds
+        (ap (option_map {U = List ℕ × Data} (λ d. (k, d))) here ∙ x.made) (pairs_same s ps b.items b.rest all.1) b.all
 
-    pub fields_alone : (fs : List Field) (os : Optionals) (ds : List (Option Data)) → represented_fields (whole h) rows fs os ≡ Some ds → FlatFields ds → represented_fields alone rows fs os ≡ Some ds
-    fields_alone fs V.no_optionals ds e flat = e
-    fields_alone [] (V.absent os) ds e flat = absurd (none-some ds e)
-    fields_alone [] (V.present v os) ds e flat = absurd (none-some ds e)
-    fields_alone (f ∷ fs) (V.absent os) ds e flat =
-        let b = map_from (λ xs. None ∷ xs) (represented_fields (whole h) rows fs os) ds e in
+    pub fields_same : (fs : List Field) (os : Optionals) (ds : List (Option Data)) → represented_fields at rows fs os ≡ Some ds → FlatFields ds → represented_fields bt rows fs os ≡ Some ds
+    fields_same fs V.no_optionals ds e flat = e
+    fields_same [] (V.absent os) ds e flat = absurd (none-some ds e)
+    fields_same [] (V.present v os) ds e flat = absurd (none-some ds e)
+    fields_same (f ∷ fs) (V.absent os) ds e flat =
+        let b = map_from (λ xs. None ∷ xs) (represented_fields at rows fs os) ds e in
         let all : FlatFields (None ∷ b.item) = subst FlatFields (sym (same_Some (None ∷ b.item) ds b.made)) flat in
-        ap (option_map (λ xs. None ∷ xs)) (fields_alone fs os b.item b.there all.1) ∙ b.made
-    fields_alone (f ∷ fs) (V.present v os) ds e flat =
-        let b = both_from (option_map Some (represented (whole h) rows f.slot v)) (represented_fields (whole h) rows fs os) ds e in
-        let x = map_from Some (represented (whole h) rows f.slot v) b.item b.first in
+        ap (option_map (λ xs. None ∷ xs)) (fields_same fs os b.item b.there all.1) ∙ b.made
+    fields_same (f ∷ fs) (V.present v os) ds e flat =
+        let b = both_from (option_map Some (represented at rows f.slot v)) (represented_fields at rows fs os) ds e in
+        let x = map_from Some (represented at rows f.slot v) b.item b.first in
         let same : Some x.item ≡ b.item = same_Some (Some x.item) b.item x.made in
         let all : FlatFields (b.item ∷ b.items) = subst FlatFields (sym b.all) flat in
-        let here = flat_alone f.slot v x.item x.there (subst (λ o. IfSome o IsFlat) (sym same) all.0) in
-        both_into (option_map Some (represented alone rows f.slot v)) (represented_fields alone rows fs os) b.item b.items ds
-        (ap (option_map Some) here ∙ x.made) (fields_alone fs os b.items b.rest all.1) b.all
+        let here = flat_same f.slot v x.item x.there (subst (λ o. IfSome o IsFlat) (sym same) all.0) in
+        both_into (option_map Some (represented bt rows f.slot v)) (represented_fields bt rows fs os) b.item b.items ds
+        (ap (option_map Some) here ∙ x.made) (fields_same fs os b.items b.rest all.1) b.all
+
+-- ---- whole values and fronts
+
+whole_never : (h : List ℕ → List ℕ) → NeverFlat (whole h)
+whole_never h l t e flat = let x = map_from (root_map usual) (option_and_then (λ es. trie h usual es 0) (as_map l)) t e in is_flat (root_map usual x.item) t x.made flat
+
+map_never : (d t : Data) → a_map d ≡ Some t → IsFlat t → ⊥
+map_never (T.map ms) t e flat = is_flat (T.map ms) t e flat
+map_never d t e flat = none-some t e
+
+alone_never : NeverFlat alone
+alone_never l t e flat = let x = then_from a_map (as_hamt l) t e in map_never x.item t x.made flat
+
+pub flat_alone : (h : List ℕ → List ℕ) (rows : List Row) (s : Slot) (v : Value) (t : Data) → represented (whole h) rows s v ≡ Some t → IsFlat t → represented alone rows s v ≡ Some t
+flat_alone h rows s v t e flat = flat_same (whole h) alone (whole_never h) rows s v t e flat
+
+pub flat_whole : (h : List ℕ → List ℕ) (rows : List Row) (s : Slot) (v : Value) (t : Data) → represented alone rows s v ≡ Some t → IsFlat t → represented (whole h) rows s v ≡ Some t
+flat_whole h rows s v t e flat = flat_same alone (whole h) alone_never rows s v t e flat
+
+pub pairs_alone : (h : List ℕ → List ℕ) (rows : List Row) (s : Slot) (ps : Pairs) (ds : List (List ℕ × Data)) → represented_pairs (whole h) rows s ps ≡ Some ds → FlatPairs ds → represented_pairs alone rows s ps ≡ Some ds
+pairs_alone h rows s ps ds e flat = pairs_same (whole h) alone (whole_never h) rows s ps ds e flat
+
+pub fields_alone : (h : List ℕ → List ℕ) (rows : List Row) (fs : List Field) (os : Optionals) (ds : List (Option Data)) → represented_fields (whole h) rows fs os ≡ Some ds → FlatFields ds → represented_fields alone rows fs os ≡ Some ds
+fields_alone h rows fs os ds e flat = fields_same (whole h) alone (whole_never h) rows fs os ds e flat

@@ -14,7 +14,8 @@ use Rattle.ild_schema.specs.Value.{Value, Values, Pairs, Optionals, values_list,
 use Rattle.ild_typed.specs.Layer as L
 use Rattle.ild_typed.specs.Layer.{Layer, as_list, as_map, as_struct, as_union}
 use Rattle.ild_typed.specs.Strings.{cons_both}
-use Rattle.ild_typed.specs.Slots.{form_of, element_of, fields_of, member_of}
+use Rattle.ild_schema.specs.Slots.{form_of}
+use Rattle.ild_typed.specs.Slots.{element_of, fields_of, member_of}
 use Rattle.ild_typed.specs.Composed.{Hamts, composed}
 use Rattle.ild_typed.specs.Represented.{layered, represented, represented_values, represented_pairs, represented_fields}
 use Rattle.ild_typed.specs.Fits.{layer_of}

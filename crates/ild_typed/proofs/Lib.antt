@@ -21,14 +21,12 @@ pub mod Structs
 pub mod Unions
 pub mod Strings
 pub mod Composing
-pub mod KindWords
 pub mod OfKinds
 pub mod OneValue
 pub mod Rising
 pub mod Views
 pub mod Layers
 pub mod ViewMaps
-mod Small
 pub mod TrieTells
 pub mod OneWhole
 pub mod Wholes
@@ -44,5 +42,6 @@ pub mod Flat
 pub mod Making
 pub mod MakingValues
 pub mod Judging
+pub mod TextLaws
 mod SmallMade
 pub mod TreeShown

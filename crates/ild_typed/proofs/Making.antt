@@ -26,13 +26,13 @@ use Rattle.ild_schema.specs.declared.row.Row.{Row}
 use Rattle.ild_data.specs.TrieShape.{TrieShape}
 use Rattle.ild_typed.specs.Layer as L
 use Rattle.ild_typed.specs.Layer.{Layer, as_struct}
-use Rattle.ild_typed.specs.Slots.{plainly}
+use Rattle.ild_schema.specs.Slots.{plainly}
 use Rattle.ild_typed.specs.Texts.{join, join_pairs}
 use Rattle.ild_typed.specs.Fields.{is_implicit, entries_of, field_entries, are_absent, tuple_items, all_items}
 use Rattle.ild_schema.specs.Marks.{field_text, text_of as mark_text, kind_of as mark_kind}
 use Rattle.ild_typed.specs.Strings.{text_in, bytes_in, members_in, texts_in, text_pairs, cons_both, in_key_order, map_data, listpairs, stringpairs, stringjoin}
-use Rattle.ild_schema.specs.Kinds.{has_kind, kinds_in}
-use Rattle.ild_typed.specs.Kinds.{kind_of, same_kind, slot_has}
+use Rattle.ild_typed.specs.Kinds.{kind_of}
+use Rattle.ild_schema.specs.DataKinds.{kind_in, same_kind, slot_has}
 use Rattle.ild_schema.specs.Hex.{bytes_of_hex}
 use Rattle.ild_schema.specs.Decimal.{decimal_of}
 use Rattle.ild_typed.specs.Composed.{usual, map_form, struct_form, inlined, marked_form, member_form, enum_form, composed}
@@ -40,7 +40,7 @@ use Rattle.ild_typed.specs.Hamt.{root_map, whole}
 use Rattle.ild_data.specs.Trie.{trie}
 use Rattle.ild_typed.specs.Represented.{represented}
 use Rattle.ild_typed.specs.Judged.{is_refused, struct_breaks, map_breaks, map_exhausts}
-use Rattle.ild_typed.specs.Made.{IsTextSlot, IsInlined, MadeMember, MadeEnum}
+use Rattle.ild_schema.specs.Made.{IsTextSlot, IsInlined, MadeMember, MadeEnum}
 use Rattle.ild_schema.specs.Value.{Value}
 use Rattle.ild_typed.proofs.Basics.{then_from, map_from, if_from}
 use Rattle.ild_typed.proofs.Entries.{value_sorted}
@@ -84,7 +84,7 @@ module _ (h : List ℕ → List ℕ) (rows : List Row) where
   kind_there s v t plain e = by (way_of (whole h) rows s v t e) where
     by : Way (whole h) rows s v t → slot_has rows s (kind_of t) ≡ true
     by (as_null v_null nullable is_null) = let k : false ≡ true = sym plain ∙ nullable in absurd cc
-    by (as_layer d l is there made) = ap (λ o. has_kind (kind_of t) (kinds_in o)) is ∙ composed_kind (whole h) (whole_kind h) d l t made
+    by (as_layer d l is there made) = ap (λ o. kind_in o (kind_of t)) is ∙ composed_kind (whole h) (whole_kind h) d l t made
 
 pub record TextData (d : Data) : Type 0 where
   pub text : List ℕ

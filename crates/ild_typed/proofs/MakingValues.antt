@@ -23,17 +23,19 @@ use Rattle.ild_schema.specs.Value as V
 use Rattle.ild_schema.specs.Value.{Value, Values, Pairs, Optionals, values_list, pairs_list, optionals_list}
 use Rattle.ild_typed.specs.Layer as L
 use Rattle.ild_typed.specs.Layer.{Layer}
-use Rattle.ild_typed.specs.Slots.{form_of, plainly, slot_of_member, element_of, fields_of, member_of}
+use Rattle.ild_schema.specs.Slots.{form_of, plainly}
+use Rattle.ild_typed.specs.Slots.{slot_of_member, element_of, fields_of, member_of}
 use Rattle.ild_typed.specs.Composed.{composed, member_form, enum_form, any_data, unit_data}
 use Rattle.ild_typed.specs.Hamt.{alone, whole}
 use Rattle.ild_typed.specs.Represented.{represented, represented_values, represented_pairs, represented_fields}
 use Rattle.ild_typed.specs.Levels.{levels_of}
 use Rattle.ild_typed.specs.Fits.{IsNotNull, FieldsFit, LayerFits, FormFits, ValueFits, FitsPast, Fits}
-use Rattle.ild_typed.specs.Whole.{Typed, is_whole, are_whole, pairs_whole, fields_whole}
+use Rattle.ild_typed.specs.Typed.{Typed}
+use Rattle.ild_schema.specs.Whole.{is_whole, are_whole, pairs_whole, fields_whole}
 use Rattle.ild_typed.specs.StandLaws.{StorableWhere}
 use Rattle.ild_typed.specs.Blocks.{nodes}
 use Rattle.ild_typed.specs.Judged.{some_layer, some_value, some_pair, some_field, some_present, hole_in, tuple_hole, is_hole, has_hole, struct_breaks, map_breaks, breaks, breaks_delimiter, map_exhausts, is_exhausted, exhausts}
-use Rattle.ild_typed.specs.Made.{IsTextSlot, MadeStruct, MadeMap, MadeMember, MadeEnum, MadeType, IsMade}
+use Rattle.ild_schema.specs.Made.{IsTextSlot, MadeStruct, MadeMap, MadeMember, MadeEnum, MadeType, IsMade}
 use Rattle.ild_typed.proofs.Flat.{FlatPairs, FlatFields, flat_text, pairs_alone, fields_alone}
 use Rattle.ild_typed.proofs.Basics.{map_from, both_true}
 use Rattle.ild_typed.proofs.Entries.{both_from}
@@ -419,6 +421,6 @@ pub typed_tree : (h : List ℕ → List ℕ) (rows : List Row) → IsMade rows �
 typed_tree h rows made s v t a b c = let x = representation h rows made t.0 s v t.1 t.2 a b c in (x.item, x.is)
 
 pub can_be_held : StorableWhere
-can_be_held = λ f h rows made n v t a b fits c small.
-    let x = typed_tree h rows made (plainly n) v t a b c in
+can_be_held = λ f h rows schema n v t a b fits c small.
+    let x = typed_tree h rows schema.legible.made (plainly n) v t a b c in
     (x.0, record { fits = fits; tree = x.1; sized = small x.0 x.1 })

@@ -28,13 +28,13 @@ use Rattle.ild_typed.specs.Layer.{Layer, as_boolean, as_integer, as_text, as_byt
 use Rattle.ild_typed.specs.Texts.{join, join_pairs}
 use Rattle.ild_typed.specs.Fields.{field_entries, tuple_items, all_items}
 use Rattle.ild_typed.specs.Strings.{text_in, bytes_in, members_in, texts_in, text_pairs, map_data, listpairs, stringpairs, stringjoin, in_key_order}
-use Rattle.ild_typed.specs.Kinds.{kind_of, same_kind, may_be}
+use Rattle.ild_typed.specs.Kinds.{kind_of}
+use Rattle.ild_schema.specs.DataKinds.{same_kind, has_kind, unit_kind, map_kind, struct_kind, enum_kind, is_marked, union_has}
 use Rattle.ild_schema.specs.Marks.{text_of as mark_text, kind_of as mark_kind}
 use Rattle.ild_schema.specs.Hex.{bytes_of_hex}
 use Rattle.ild_schema.specs.Decimal.{decimal_of}
 use Rattle.ild_typed.specs.Composed.{Hamts, usual, any_data, unit_data, map_form, struct_form, inlined, marked_form, member_form, union_form, enum_form, composed}
 use Rattle.ild_typed.specs.Hamt.{a_map, alone}
-use Rattle.ild_typed.proofs.KindWords.{has_word, words_agree, unit_kind, map_kind, struct_kind, enum_kind, is_marked, union_has}
 use Rattle.ild_typed.proofs.Basics.{then_from, map_from, true_from}
 
 -- one of the members passes
@@ -140,29 +140,25 @@ enum_kinds : (form : EnumForm) (m : EnumMember) (t : Data) → enum_form form m 
 enum_kinds E.Text m t e = some_made (T.text (unwrap_or m.text m.name)) K.Text t refl e
 enum_kinds E.Int m t e = made T.integer (option_and_then decimal_of m.text) K.Int t (λ n. refl) e
 
-composed_word : (at : Hamts) → ((p : TrieShape) (l : Layer Data) (t : Data) → at p l ≡ Some t → kind_of t ≡ K.Map) → (d : TypeDef) (l : Layer Data) (t : Data)
-    → composed at d l ≡ Some t → has_word d (kind_of t) ≡ true
-composed_word at hamts D.Bool l t e = is_kind K.Bool t (made T.boolean (as_boolean l) K.Bool t (λ b. refl) e)
-composed_word at hamts D.Text l t e = is_kind K.Text t (made T.text (as_text l) K.Text t (λ b. refl) e)
-composed_word at hamts D.Bytes l t e = is_kind K.Bytes t (made T.bytes (as_bytes l) K.Bytes t (λ b. refl) e)
-composed_word at hamts D.Int l t e = is_kind K.Int t (made T.integer (as_integer l) K.Int t (λ b. refl) e)
-composed_word at hamts D.Any l t e = let x = then_from any_data (as_any l) t e in any_kind x.item t x.made
-composed_word at hamts (D.Link target) l t e = is_kind K.Link t (made T.link (as_link l) K.Link t (λ b. refl) e)
-composed_word at hamts (D.Unit form) l t e = is_kind (unit_kind form) t (made (λ u. unit_data form) (as_unit l) (unit_kind form) t (λ u. unit_kinds form) e)
-composed_word at hamts (D.List elem place) l t e = is_kind K.List t (made (λ ds. T.list (T.items_of ds)) (as_list l) K.List t (λ b. refl) e)
-composed_word at hamts (D.Map key key_place value place form) l t e = is_kind (map_kind form) t (map_kinds at hamts form l t e)
-composed_word at hamts (D.Struct s) l t e =
-    is_kind (struct_kind s.form) t (then_made (struct_form s.form s.fields) (as_struct l) (struct_kind s.form) t (λ os h. struct_kinds s.form s.fields os t h) e)
-composed_word at hamts (D.Union u) l t e = let x = then_from (union_form u.form u.members) (as_union l) t e in union_kinds u.form u.members x.item t x.made
-composed_word at hamts (D.Enum en) l t e =
-    is_kind (enum_kind en.form) t (then_made (λ n. option_and_then (enum_form en.form) (slice_get en.members n)) (as_enum l) (enum_kind en.form) t
-    (λ n h. then_made (enum_form en.form) (slice_get en.members n) (enum_kind en.form) t (λ m j. enum_kinds en.form m t j) h) e)
-composed_word at hamts (D.Copy target) l t e = absurd (none-some t e)
-
 -- data of a layer are of a kind of the type
 pub composed_kind : (at : Hamts) → ((p : TrieShape) (l : Layer Data) (t : Data) → at p l ≡ Some t → kind_of t ≡ K.Map) → (d : TypeDef) (l : Layer Data) (t : Data)
-    → composed at d l ≡ Some t → may_be d (kind_of t) ≡ true
-composed_kind at hamts d l t e = words_agree d (kind_of t) ∙ composed_word at hamts d l t e
+    → composed at d l ≡ Some t → has_kind d (kind_of t) ≡ true
+composed_kind at hamts D.Bool l t e = is_kind K.Bool t (made T.boolean (as_boolean l) K.Bool t (λ b. refl) e)
+composed_kind at hamts D.Text l t e = is_kind K.Text t (made T.text (as_text l) K.Text t (λ b. refl) e)
+composed_kind at hamts D.Bytes l t e = is_kind K.Bytes t (made T.bytes (as_bytes l) K.Bytes t (λ b. refl) e)
+composed_kind at hamts D.Int l t e = is_kind K.Int t (made T.integer (as_integer l) K.Int t (λ b. refl) e)
+composed_kind at hamts D.Any l t e = let x = then_from any_data (as_any l) t e in any_kind x.item t x.made
+composed_kind at hamts (D.Link target) l t e = is_kind K.Link t (made T.link (as_link l) K.Link t (λ b. refl) e)
+composed_kind at hamts (D.Unit form) l t e = is_kind (unit_kind form) t (made (λ u. unit_data form) (as_unit l) (unit_kind form) t (λ u. unit_kinds form) e)
+composed_kind at hamts (D.List elem place) l t e = is_kind K.List t (made (λ ds. T.list (T.items_of ds)) (as_list l) K.List t (λ b. refl) e)
+composed_kind at hamts (D.Map key key_place value place form) l t e = is_kind (map_kind form) t (map_kinds at hamts form l t e)
+composed_kind at hamts (D.Struct s) l t e =
+    is_kind (struct_kind s.form) t (then_made (struct_form s.form s.fields) (as_struct l) (struct_kind s.form) t (λ os h. struct_kinds s.form s.fields os t h) e)
+composed_kind at hamts (D.Union u) l t e = let x = then_from (union_form u.form u.members) (as_union l) t e in union_kinds u.form u.members x.item t x.made
+composed_kind at hamts (D.Enum en) l t e =
+    is_kind (enum_kind en.form) t (then_made (λ n. option_and_then (enum_form en.form) (slice_get en.members n)) (as_enum l) (enum_kind en.form) t
+    (λ n h. then_made (enum_form en.form) (slice_get en.members n) (enum_kind en.form) t (λ m j. enum_kinds en.form m t j) h) e)
+composed_kind at hamts (D.Copy target) l t e = absurd (none-some t e)
 
 a_map_kind : (d t : Data) → a_map d ≡ Some t → kind_of t ≡ K.Map
 a_map_kind (T.map ms) t e = some_made (T.map ms) K.Map t refl e
@@ -172,5 +168,5 @@ pub alone_kind : (p : TrieShape) (l : Layer Data) (t : Data) → alone p l ≡ S
 alone_kind p l t e = then_made a_map (as_hamt l) K.Map t (λ d h. a_map_kind d t h) e
 
 -- null is the data of no layer of a type without the kind null
-pub no_null : (d : TypeDef) → may_be d K.Null ≡ false → (l : Layer Data) → composed alone d l ≡ Some T.null → ⊥
+pub no_null : (d : TypeDef) → has_kind d K.Null ≡ false → (l : Layer Data) → composed alone d l ≡ Some T.null → ⊥
 no_null d never l e = let h : false ≡ true = sym never ∙ composed_kind alone alone_kind d l T.null e in absurd cc

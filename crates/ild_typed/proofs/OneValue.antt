@@ -18,14 +18,15 @@ use Rattle.ild_data.specs.TrieShape.{TrieShape}
 use Rattle.ild_typed.specs.Layer as L
 use Rattle.ild_typed.specs.Layer.{Layer, as_list, as_map, as_struct, as_union}
 use Rattle.ild_typed.specs.Strings.{cons_both}
-use Rattle.ild_typed.specs.Slots.{form_of, element_of, fields_of, member_of, slot_of_member}
+use Rattle.ild_schema.specs.Slots.{form_of}
+use Rattle.ild_typed.specs.Slots.{element_of, fields_of, member_of, slot_of_member}
 use Rattle.ild_typed.specs.Composed.{Hamts, composed}
 use Rattle.ild_typed.specs.Hamt.{alone}
-use Rattle.ild_schema.specs.Kinds.{has_kind, kinds_in}
-use Rattle.ild_typed.specs.Kinds.{may_be, kind_of}
+use Rattle.ild_schema.specs.DataKinds.{kind_in, has_kind}
+use Rattle.ild_typed.specs.Kinds.{kind_of}
 use Rattle.ild_typed.specs.Represented.{layered, represented, represented_values, represented_pairs, represented_fields}
 use Rattle.ild_typed.specs.Tells.{Tells}
-use Rattle.ild_typed.specs.Clear.{AreSafe, IsSafe, IsClear}
+use Rattle.ild_schema.specs.Clear.{AreSafe, IsSafe, IsClear}
 use Rattle.ild_typed.proofs.Basics.{then_from, map_from}
 use Rattle.ild_typed.proofs.Entries.{Both, both_from}
 use Rattle.ild_typed.proofs.Composing.{alone_tells, composed_tells}
@@ -164,9 +165,9 @@ pub data Alike (at : Hamts) (rows : List Row) (s : Slot) (v w : Value) : Type 0 
   both_null : v ≡ V.null → w ≡ V.null → Alike at rows s v w
   one_layer : SameLayer at rows s v w → Alike at rows s v w
 
-pub unsafe : (rows : List Row) (s : Slot) → IsSafe rows s → s.nullable ≡ true → (d : TypeDef) → form_of rows s ≡ Some d → may_be d K.Null ≡ true → ⊥
+pub unsafe : (rows : List Row) (s : Slot) → IsSafe rows s → s.nullable ≡ true → (d : TypeDef) → form_of rows s ≡ Some d → has_kind d K.Null ≡ true → ⊥
 unsafe rows s safe nullable d is null =
-    let h : false ≡ true = sym (safe nullable) ∙ ap (λ o. has_kind K.Null (kinds_in o)) is ∙ null in absurd cc
+    let h : false ≡ true = sym (safe nullable) ∙ ap (λ o. kind_in o K.Null) is ∙ null in absurd cc
 
 pub record IsExact (at : Hamts) : Type 0 where
   pub tells : (p : TrieShape) → Tells (at p)

@@ -18,22 +18,21 @@ use Rattle.ild_data.specs.TrieShape.{TrieShape}
 use Rattle.ild_typed.specs.Layer as L
 use Rattle.ild_typed.specs.Layer.{Layer, as_list, as_map, as_struct, as_union}
 use Rattle.ild_typed.specs.Strings.{cons_both}
-use Rattle.ild_typed.specs.Slots.{form_of, element_of, fields_of, member_of}
-use Rattle.ild_typed.specs.Composed.{Hamts, composed}
+use Rattle.ild_schema.specs.Slots.{form_of}
+use Rattle.ild_typed.specs.Slots.{element_of, fields_of, member_of}
+use Rattle.ild_typed.specs.Composed.{Hamts, composed, usual, map_form}
 use Rattle.ild_typed.specs.Hamt.{alone}
 use Rattle.ild_typed.specs.Kinds.{kind_of}
 use Rattle.ild_typed.specs.Represented.{represented, represented_values, represented_pairs, represented_fields}
 use Rattle.ild_typed.specs.Known as G
 use Rattle.ild_typed.specs.Known.{FormOk, LayerOk}
-use Rattle.ild_typed.specs.Clear.{IsSafe, IsClear}
+use Rattle.ild_schema.specs.Clear.{IsSafe, IsClear, ClearMap, ClearType}
 use Rattle.ild_typed.proofs.Basics.{map_from}
 use Rattle.ild_typed.proofs.Entries.{Both, both_from}
 use Rattle.ild_typed.proofs.Composing.{alone_tells, composed_tells, map_form_tells}
 use Rattle.ild_typed.proofs.OfKinds.{composed_kind}
 use Rattle.ild_schema.specs.declared.def.MapForm.{MapForm}
 use Rattle.ild_schema.specs.declared.def.MapForm.TheVariants as MF
-use Rattle.ild_typed.specs.Composed.{usual, map_form}
-use Rattle.ild_typed.specs.Clear.{ClearMap, ClearType}
 use Rattle.ild_typed.proofs.OneValue.{layer_data, Way, as_null, as_layer, way_of, list_in, map_in, struct_in, union_in, list_value, map_value, struct_value, union_value, Alike, both_null, one_layer, unsafe, scalar_of, scalar_value, plain_safe, element_safe, fields_safe, member_plain, safe_parts}
 
 form_other : (ok : List (List ℕ × Data) → Type 0) (form : MapForm) (l : Layer Data) → as_map l ≡ None → FormOk ok form l

@@ -15,7 +15,7 @@ use Rattle.ild_schema.specs.declared.row.Row.{Row}
 use Rattle.ild_schema.specs.Value as V
 use Rattle.ild_schema.specs.Value.{Value}
 use Rattle.ild_typed.specs.Layer.{Layer, as_list, as_map, as_struct, as_union, as_hamt}
-use Rattle.ild_typed.specs.Slots.{form_of, plainly}
+use Rattle.ild_schema.specs.Slots.{form_of, plainly}
 use Rattle.ild_typed.specs.Levels.{levels_of}
 use Rattle.ild_typed.specs.Node as N
 use Rattle.ild_typed.specs.Fits.{layer_of, Shows, FieldsFit, EntriesFit, RootFits, MapFits, LayerFits, FormFits, ValueFits, FitsPast, Fits}

@@ -19,15 +19,15 @@ use Rattle.ild_schema.specs.declared.def.Mark.TheVariants as M
 use Rattle.ild_schema.specs.declared.row.Row.{Row}
 use Rattle.ild_schema.specs.Table.{def_at}
 use Rattle.ild_schema.specs.Prelude.{prelude, given, number}
-use Rattle.ild_typed.specs.Slots.{plainly}
+use Rattle.ild_schema.specs.Slots.{plainly}
 use Rattle.ild_typed.specs.Composed.{usual}
 use Rattle.ild_typed.specs.Hamt.{root_map}
 use Rattle.ild_data.specs.Trie.{bucket, node_data}
-use Rattle.ild_typed.specs.Kinds.{same_kind}
+use Rattle.ild_schema.specs.DataKinds.{same_kind}
 use Rattle.ild_schema.specs.Marks.{kind_of as mark_kind}
-use Rattle.ild_typed.specs.Clear.{Clash, ClearType, AreSafe, IsClear}
-use Rattle.ild_typed.specs.Spelled.{SpelledType, IsSpelled, NamedType, IsNamed}
-use Rattle.ild_typed.specs.Made.{HasOnly, IsTextSlot, MadeType, IsMade}
+use Rattle.ild_schema.specs.Clear.{Clash, ClearType, AreSafe, IsClear}
+use Rattle.ild_schema.specs.Spelled.{SpelledType, IsSpelled, NamedType, IsNamed}
+use Rattle.ild_schema.specs.Made.{HasOnly, IsTextSlot, MadeType, IsMade}
 use Rattle.ild_typed.proofs.Entries.{same_text_self}
 
 abbrev field : List ℕ → ℕ → Field
@@ -113,7 +113,7 @@ made = by_number (MadeType rows) (each_row (MadeType rows) rows (tt, (tt, (tt, (
 
 spelled : IsSpelled rows
 unfolding encode
-spelled = by_number SpelledType (each_row SpelledType rows (tt, (tt, (tt, (tt, (tt, (tt, (tt, (tt, ((codes ",", (refl, refl)), (record { marks = (tt, (tt, tt)); keys = tt }, (((codes "w", (refl, refl)), tt), (record { marks = ((codes "box", (refl, refl)), tt); keys = (codes "tag", (refl, refl)) }, (tt, tt))))))))))))))
+spelled = by_number SpelledType (each_row SpelledType rows (tt, (tt, (tt, (tt, (tt, (tt, (tt, (tt, (record { delims = (codes ",", (refl, refl)); texts = ((codes "a", (refl, refl)), ((codes "b", (refl, refl)), tt)) }, (record { marks = (tt, (tt, tt)); keys = tt }, (record { delims = tt; texts = ((codes "w", (refl, refl)), tt) }, (record { marks = ((codes "box", (refl, refl)), tt); keys = (codes "tag", (refl, refl)) }, (tt, tt))))))))))))))
 
 named : IsNamed rows
 unfolding encode

@@ -10,7 +10,7 @@ use Rattle.ild_typed.specs.Texts.{joined, join, pair_text, is_parted, join_pairs
 use Rattle.ild_typed.specs.Fields.{all_items}
 use Rattle.ild_typed.specs.Strings.{texts_in, text_in, text_pairs, stringpairs, stringjoin}
 use Rattle.ild_typed.specs.Tells.{Tells}
-use Rattle.ild_typed.specs.Clear.{IsGiven}
+use Rattle.ild_schema.specs.Clear.{IsGiven}
 use Rattle.ild_typed.proofs.Basics.{then_from, map_from, if_from}
 use Rattle.ild_typed.proofs.Joints.{is_nil, join_says, join_tells, pairs_tell}
 use Rattle.ild_typed.proofs.Entries.{both_from, texts_tell, text_pairs_tell}

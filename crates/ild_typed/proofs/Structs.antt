@@ -13,7 +13,7 @@ use Rattle.ild_schema.specs.declared.def.Scalar.{Scalar}
 use Rattle.ild_schema.specs.declared.def.Scalar.TheVariants as C
 use Rattle.ild_typed.specs.Fields.{same_bool, same_int, is_scalar, is_implicit, entries_of, field_entries, are_absent, tuple_items, all_items}
 use Rattle.ild_schema.specs.Marks.{field_text}
-use Rattle.ild_typed.specs.Clear.{AreNamesApart, IsRequired, AreClearFields}
+use Rattle.ild_schema.specs.Clear.{AreNamesApart, IsRequired, AreClearFields}
 use Rattle.ild_typed.proofs.Basics.{map_from, true_from, both_true}
 use Rattle.ild_typed.proofs.Entries.{value_first}
 

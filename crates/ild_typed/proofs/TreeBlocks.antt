@@ -19,7 +19,8 @@ use Rattle.ild_data.specs.TrieShape.{TrieShape, trie_levels}
 use Rattle.ild_data.specs.ByteOrder.{in_byte_order}
 use Rattle.ild_data.specs.Trie.{part, at_depth, node_of, trie}
 use Rattle.ild_data.specs.TrieBlocks.{nodes_beneath, node_and_beneath, none_or, block_of}
-use Rattle.ild_typed.specs.Slots.{form_of, plainly, element_of, fields_of, member_of}
+use Rattle.ild_schema.specs.Slots.{form_of, plainly}
+use Rattle.ild_typed.specs.Slots.{element_of, fields_of, member_of}
 use Rattle.ild_typed.specs.Composed.{usual}
 use Rattle.ild_typed.specs.Hamt.{whole}
 use Rattle.ild_typed.specs.Represented.{represented, represented_pairs}
@@ -28,7 +29,7 @@ use Rattle.ild_typed.specs.Fits.{FieldsFit, FormFits, ValueFits, FitsPast, Fits}
 use Rattle.ild_typed.specs.Blocks.{hamt_nodes, nodes, nodes_of_values, nodes_of_pairs, nodes_of_fields}
 use Rattle.ild_typed.specs.Stands.{Frame, IsFrame, blocks_of, Storable}
 use Rattle.ild_typed.specs.Nested.{TreeIn, BlockIn, IsBlock}
-use Rattle.ild_typed.specs.Spelled.{IsSpelled}
+use Rattle.ild_schema.specs.Spelled.{IsSpelled}
 use Rattle.ild_typed.proofs.Treed.{all_append, EntryIn, in_more}
 use Rattle.ild_typed.proofs.TreeNodes.{all_split, part_in, sorted_in, node_of_in}
 use Rattle.ild_typed.proofs.TreeParts.{list_fits, struct_fits, union_fits, map_fits, pairs_in}

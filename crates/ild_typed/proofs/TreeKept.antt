@@ -25,7 +25,8 @@ use Rattle.ild_data.specs.Trie.{part, at_depth, node_of, trie}
 use Rattle.ild_data.specs.TrieBlocks.{nodes_beneath, node_and_beneath, none_or, block_of}
 use Rattle.ild_typed.specs.Layer as L
 use Rattle.ild_typed.specs.Layer.{Layer}
-use Rattle.ild_typed.specs.Slots.{form_of, plainly, element_of, fields_of, member_of}
+use Rattle.ild_schema.specs.Slots.{form_of, plainly}
+use Rattle.ild_typed.specs.Slots.{element_of, fields_of, member_of}
 use Rattle.ild_typed.specs.Composed.{usual, composed}
 use Rattle.ild_typed.specs.Hamt.{root_map, whole}
 use Rattle.ild_typed.specs.Represented.{represented, represented_values, represented_pairs, represented_fields}
@@ -37,8 +38,8 @@ use Rattle.ild_typed.specs.Blocks.{hamt_nodes, nodes, nodes_of_values, nodes_of_
 use Rattle.ild_typed.specs.Stands.{Frame, IsFrame, blocks_of, Storable}
 use Rattle.ild_typed.specs.Nested.{TreeIn, IsBlock}
 use Rattle.ild_typed.specs.StandLaws.{OneStands}
-use Rattle.ild_typed.specs.Spelled.{IsSpelled}
-use Rattle.ild_typed.specs.Clear.{IsClear, IsSafe}
+use Rattle.ild_schema.specs.Spelled.{IsSpelled}
+use Rattle.ild_schema.specs.Clear.{IsClear, IsSafe}
 use Rattle.ild_typed.proofs.Basics.{map_from}
 use Rattle.ild_typed.proofs.Entries.{both_from}
 use Rattle.ild_typed.proofs.OneValue.{plain_safe, Way, as_null, as_layer, way_of, layer_data}
@@ -266,5 +267,5 @@ module _ (f : Frame) (frame : IsFrame f) (block : List ℕ → Option (List ℕ)
       whole_law h block rows clear (plainly n) (plain_safe rows (plainly n) refl) v w d (kept_storable v d a p) (kept_storable w e b q) a.tree (b.tree ∙ ap Some (sym same))
 
 pub one_stands : OneStands
-one_stands = λ f frame block h rows clear spelled n id v w a b.
-    one_storable f frame block h rows spelled n clear v w a.tree b.tree a.storable b.storable a.all b.all (sym a.root ∙ b.root)
+one_stands = λ f frame block h rows schema n id v w a b.
+    one_storable f frame block h rows schema.table.texts.spelled n schema.legible.clear v w a.tree b.tree a.storable b.storable a.all b.all (sym a.root ∙ b.root)

@@ -23,7 +23,8 @@ use Rattle.ild_schema.specs.Value as V
 use Rattle.ild_schema.specs.Value.{Value, Values, Pairs, Optionals, values_list, pairs_list, optionals_list}
 use Rattle.ild_typed.specs.Layer as L
 use Rattle.ild_typed.specs.Layer.{Layer, as_map, as_hamt}
-use Rattle.ild_typed.specs.Slots.{plainly, slot_of_member, element_of, fields_of, member_of}
+use Rattle.ild_schema.specs.Slots.{plainly}
+use Rattle.ild_typed.specs.Slots.{slot_of_member, element_of, fields_of, member_of}
 use Rattle.ild_typed.specs.Composed.{Hamts}
 use Rattle.ild_typed.specs.Represented.{represented, represented_values, represented_pairs, represented_fields}
 use Rattle.ild_typed.specs.Fits.{AreKeys, Shows, FieldsFit, EntriesFit, RootFits, MapFits, LayerFits}

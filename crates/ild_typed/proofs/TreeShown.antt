@@ -22,7 +22,8 @@ use Rattle.ild_schema.specs.Copies.{base}
 use Rattle.ild_schema.specs.Value as V
 use Rattle.ild_schema.specs.Value.{Value, Values, Pairs, Optionals, values_list, pairs_list, optionals_list}
 use Rattle.ild_typed.specs.Layer as L
-use Rattle.ild_typed.specs.Slots.{form_of, element_of, fields_of, member_of}
+use Rattle.ild_schema.specs.Slots.{form_of}
+use Rattle.ild_typed.specs.Slots.{element_of, fields_of, member_of}
 use Rattle.ild_typed.specs.Strings.{map_data, in_key_order}
 use Rattle.ild_typed.specs.Composed.{usual, composed}
 use Rattle.ild_typed.specs.Hamt.{alone, a_map, root_map}
@@ -32,7 +33,7 @@ use Rattle.ild_typed.specs.Levels.{map_levels, struct_levels, levels_of}
 use Rattle.ild_typed.specs.Fits.{FieldsFit, LayerFits, FormFits, ValueFits, FitsPast, Fits}
 use Rattle.ild_typed.specs.Shown.{member_name, enum_name, shown, shown_values, shown_pairs, shown_fields}
 use Rattle.ild_typed.specs.Nested.{TreeIn}
-use Rattle.ild_typed.specs.Spelled.{IsSpelled, NamedType, IsNamed}
+use Rattle.ild_schema.specs.Spelled.{IsSpelled, NamedType, IsNamed}
 use Rattle.ild_typed.proofs.Rising.{rises_sorted}
 use Rattle.ild_typed.proofs.Treed.{EntryIn, all_sorted, in_more, map_in, text_is}
 use Rattle.ild_typed.proofs.TreeParts.{RootOf, list_fits, struct_fits, union_fits, map_fits, hamt_fits, no_type_map, text_fits, bytes_fit, link_fits, int_fits}

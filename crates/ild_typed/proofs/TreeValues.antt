@@ -19,7 +19,8 @@ use Rattle.ild_schema.specs.Value as V
 use Rattle.ild_schema.specs.Value.{Value, Values, Pairs, Optionals, values_list, pairs_list, optionals_list}
 use Rattle.ild_typed.specs.Layer as L
 use Rattle.ild_typed.specs.Layer.{Layer, as_map, as_hamt, as_any}
-use Rattle.ild_typed.specs.Slots.{form_of, plainly, element_of, fields_of, member_of}
+use Rattle.ild_schema.specs.Slots.{form_of, plainly}
+use Rattle.ild_typed.specs.Slots.{element_of, fields_of, member_of}
 use Rattle.ild_typed.specs.Composed.{Hamts, usual}
 use Rattle.ild_typed.specs.Hamt.{whole, alone, a_map}
 use Rattle.ild_typed.specs.Node.{entries_in}
@@ -27,7 +28,7 @@ use Rattle.ild_typed.specs.Represented.{represented, represented_values, represe
 use Rattle.ild_typed.specs.Levels.{levels_of}
 use Rattle.ild_typed.specs.Fits.{Shows, RootFits, LayerFits, FormFits, ValueFits, FitsPast, Fits}
 use Rattle.ild_typed.specs.Nested.{TreeIn}
-use Rattle.ild_typed.specs.Spelled.{IsSpelled}
+use Rattle.ild_schema.specs.Spelled.{IsSpelled}
 use Rattle.ild_typed.proofs.Basics.{map_from}
 use Rattle.ild_typed.proofs.OneValue.{Way, as_null, as_layer, way_of, layer_data}
 use Rattle.ild_typed.proofs.Treed.{EntryIn, LayerTrees, TypeMore, IsEnough, composed_in}

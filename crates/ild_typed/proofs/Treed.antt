@@ -38,13 +38,14 @@ use Rattle.ild_typed.specs.Texts.{join, join_pairs}
 use Rattle.ild_typed.specs.Fields.{is_implicit, entries_of, field_entries, are_absent, tuple_items, all_items}
 use Rattle.ild_schema.specs.Marks.{field_text, text_of as mark_text, kind_of as mark_kind}
 use Rattle.ild_typed.specs.Strings.{text_in, bytes_in, members_in, texts_in, text_pairs, in_key_order, map_data, pair_data, listpairs, stringpairs, stringjoin}
-use Rattle.ild_typed.specs.Kinds.{kind_of, same_kind}
+use Rattle.ild_typed.specs.Kinds.{kind_of}
+use Rattle.ild_schema.specs.DataKinds.{same_kind}
 use Rattle.ild_schema.specs.Hex.{bytes_of_hex}
 use Rattle.ild_schema.specs.Decimal.{decimal_of}
 use Rattle.ild_typed.specs.Composed.{Hamts, usual, any_data, unit_data, map_form, struct_form, inlined, marked_form, member_form, union_form, enum_form, composed}
 use Rattle.ild_typed.specs.Levels.{map_levels, struct_levels, levels_of}
 use Rattle.ild_typed.specs.Nested.{TreeIn}
-use Rattle.ild_typed.specs.Spelled.{AreNamed, SpelledStruct, SpelledMap, SpelledKeys, SpelledType}
+use Rattle.ild_schema.specs.Spelled.{SpelledStruct, SpelledMap, SpelledKeys, SpelledType}
 use Rattle.ild_typed.proofs.Basics.{then_from, map_from, true_from, if_from}
 use Rattle.ild_typed.proofs.Onlies.{only_integer, only_text, only_bytes, only_link, only_any, only_list, only_map, only_struct, only_union}
 use Rattle.ild_typed.proofs.Entries.{both_from, only_text_data, only_bytes_data}
@@ -161,7 +162,7 @@ one_entry : (n : ℕ) (f : Field) (d : Data) (b : Bool) → IsUtf8 (field_text f
 one_entry n f d true u x = tt
 one_entry n f d false u x = ((u, x), tt)
 
-entries_in : (n : ℕ) (fs : List Field) (os : List (Option Data)) (es : List (List ℕ × Data)) → AreNamed fs → AllByRecursion (MaybeIn n) os → field_entries fs os ≡ Some es → AllByRecursion (EntryIn n) es
+entries_in : (n : ℕ) (fs : List Field) (os : List (Option Data)) (es : List (List ℕ × Data)) → AllByRecursion (λ f. IsUtf8 (field_text f)) fs → AllByRecursion (MaybeIn n) os → field_entries fs os ≡ Some es → AllByRecursion (EntryIn n) es
 entries_in n [] [] es named all e = subst (AllByRecursion (EntryIn n)) (same_Some [] es e) tt
 entries_in n [] (o ∷ os) es named all e = absurd (none-some es e)
 entries_in n (f ∷ fs) [] es named all e = absurd (none-some es e)
@@ -201,19 +202,19 @@ unit_in n U.EmptyMap = record { tree = tt; nested = omega arith }
 struct_in : (n : ℕ) (form : StructForm) (fs : List Field) (os : List (Option Data)) (t : Data) → SpelledStruct form fs → AllByRecursion (MaybeIn n) os → struct_form form fs os ≡ Some t → TreeIn (n + struct_levels form) t
 struct_in n S.Map fs os t u all e =
     let x = map_from (λ es. map_data (in_key_order es)) (field_entries fs os) t e in
-    subst (TreeIn (n + 1)) (same_Some (map_data (in_key_order x.item)) t x.made) (map_in n (in_key_order x.item) (all_sorted (EntryIn n) x.item (entries_in n fs os x.item u all x.there)) (rises_sorted x.item))
+    subst (TreeIn (n + 1)) (same_Some (map_data (in_key_order x.item)) t x.made) (map_in n (in_key_order x.item) (all_sorted (EntryIn n) x.item (entries_in n fs os x.item u.texts all x.there)) (rises_sorted x.item))
 struct_in n S.Tuple fs os t u all e =
     let x = map_from (λ ds. T.list (T.items_of ds)) (tuple_items fs os) t e in
     subst (TreeIn (n + 1)) (same_Some (T.list (T.items_of x.item)) t x.made) (list_in n x.item (tuple_in n fs os x.item all x.there))
 struct_in n S.ListPairs fs os t u all e =
     let x = map_from listpairs (field_entries fs os) t e in
-    subst (TreeIn (n + 2)) (same_Some (listpairs x.item) t x.made) (listpairs_in n x.item (entries_in n fs os x.item u all x.there))
+    subst (TreeIn (n + 2)) (same_Some (listpairs x.item) t x.made) (listpairs_in n x.item (entries_in n fs os x.item u.texts all x.there))
 struct_in n (S.StringPairs inner entry) fs os t u all e =
     let x = then_from (stringpairs inner entry) (field_entries fs os) t e in
-    stringpairs_in n (n + 1) inner entry x.item t u.0 u.1 (entries_in n fs os x.item u.2 all x.there) x.made
+    stringpairs_in n (n + 1) inner entry x.item t u.delims.0 u.delims.1 (entries_in n fs os x.item u.texts all x.there) x.made
 struct_in n (S.StringJoin delim) fs os t u all e =
     let x = then_from (stringjoin delim) (all_items fs os) t e in
-    stringjoin_in n (n + 1) delim x.item t u (all_in n fs os x.item all x.there) x.made
+    stringjoin_in n (n + 1) delim x.item t u.delims (all_in n fs os x.item all x.there) x.made
 
 -- what a map's form asks beyond trees in its entries
 abbrev pub MapMore : Hamts → ℕ → MapForm → Layer Data → Type 0

@@ -14,13 +14,14 @@ use Rattle.ild_data.proofs.Rising.{key_exact}
 use Rattle.ild_schema.specs.declared.def.UnionForm.{UnionForm}
 use Rattle.ild_schema.specs.declared.def.UnionForm.TheVariants as UF
 use Rattle.ild_schema.specs.declared.def.Member.{Member}
-use Rattle.ild_typed.specs.Texts.{begins}
+use Rattle.ild_schema.specs.Prefixes.{begins}
 use Rattle.ild_typed.specs.Strings.{text_in, bytes_in, members_in, map_data}
-use Rattle.ild_typed.specs.Kinds.{kind_of, kind_number, same_kind}
+use Rattle.ild_typed.specs.Kinds.{kind_of}
+use Rattle.ild_schema.specs.DataKinds.{kind_number, same_kind}
 use Rattle.ild_schema.specs.Marks.{text_of as mark_text, kind_of as mark_kind}
 use Rattle.ild_schema.specs.Hex.{bytes_of_hex}
 use Rattle.ild_typed.specs.Composed.{inlined, marked_form, member_form, union_form}
-use Rattle.ild_typed.specs.Clear.{SameText, Clash, KeysApart, ClearUnion}
+use Rattle.ild_schema.specs.Clear.{SameText, Clash, KeysApart, ClearUnion}
 use Rattle.ild_typed.proofs.Basics.{then_from, map_from, true_from, behind_front}
 use Rattle.ild_typed.proofs.Entries.{map_tells, only_text_data, only_bytes_data, value_put, value_first, same_text_self}
 

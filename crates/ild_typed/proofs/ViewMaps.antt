@@ -19,13 +19,14 @@ use Rattle.ild_schema.specs.Value.{Value, Pairs, pairs_list}
 use Rattle.ild_typed.specs.Layer as L
 use Rattle.ild_typed.specs.Layer.{Layer}
 use Rattle.ild_typed.specs.Strings.{cons_both}
-use Rattle.ild_typed.specs.Slots.{form_of, element_of, plainly}
+use Rattle.ild_schema.specs.Slots.{form_of, plainly}
+use Rattle.ild_typed.specs.Slots.{element_of}
 use Rattle.ild_typed.specs.Composed.{composed, map_form}
 use Rattle.ild_typed.specs.Hamt.{alone}
 use Rattle.ild_typed.specs.Represented.{layered, represented, represented_pairs}
 use Rattle.ild_typed.specs.Levels.{map_levels}
 use Rattle.ild_typed.specs.Fits.{AreApart, AreKeys, Shows, EntriesFit, MapFits, FormFits, ValueFits, FitsPast}
-use Rattle.ild_typed.specs.Clear.{IsClear, IsSafe}
+use Rattle.ild_schema.specs.Clear.{IsClear, IsSafe}
 use Rattle.ild_typed.proofs.Basics.{map_from}
 use Rattle.ild_typed.proofs.Entries.{both_from}
 use Rattle.ild_typed.proofs.OfKinds.{composed_kind, alone_kind}

@@ -17,8 +17,9 @@ use Rattle.ild_schema.specs.declared.def.KindWord.TheVariants as K
 use Rattle.ild_schema.specs.declared.def.StructForm.{StructForm}
 use Rattle.ild_schema.specs.declared.def.StructForm.TheVariants as S
 use Rattle.ild_schema.specs.declared.number.TypeNo.{TypeNo}
-use Rattle.ild_schema.specs.Kinds.{has_kind, struct_kinds}
-use Rattle.ild_typed.specs.Slots.{plainly, slot_of_member, member_of}
+use Rattle.ild_schema.specs.DataKinds.{struct_kind, same_kind}
+use Rattle.ild_schema.specs.Slots.{plainly, form_of}
+use Rattle.ild_typed.specs.Slots.{slot_of_member, member_of, element_of, fields_of}
 use Rattle.ild_schema.specs.declared.def.Field.{Field}
 use Rattle.ild_schema.specs.declared.row.Row.{Row}
 use Rattle.ild_schema.specs.Copies.{base}
@@ -27,13 +28,12 @@ use Rattle.ild_schema.specs.Value.{Value, Values, Optionals, values_list, option
 use Rattle.ild_typed.specs.Layer as L
 use Rattle.ild_typed.specs.Layer.{Layer}
 use Rattle.ild_typed.specs.Strings.{cons_both}
-use Rattle.ild_typed.specs.Slots.{form_of, element_of, fields_of}
 use Rattle.ild_typed.specs.Composed.{composed, struct_form, union_form}
 use Rattle.ild_typed.specs.Hamt.{alone}
 use Rattle.ild_typed.specs.Represented.{layered, represented, represented_values, represented_fields}
 use Rattle.ild_typed.specs.Levels.{struct_levels}
 use Rattle.ild_typed.specs.Fits.{Shows, RootFits, MapFits, FieldsFit, FormFits, ValueFits, FitsPast}
-use Rattle.ild_typed.specs.Clear.{IsClear, IsSafe}
+use Rattle.ild_schema.specs.Clear.{IsClear, IsSafe}
 use Rattle.ild_typed.proofs.Basics.{map_from}
 use Rattle.ild_typed.proofs.Entries.{both_from}
 use Rattle.ild_typed.proofs.OfKinds.{composed_kind, alone_kind, no_null}
@@ -114,7 +114,7 @@ module _ (rows : List Row) (below : Slot → Value → Type 0) where
 one_room : (room : ℕ) → 1 ≤ suc room
 one_room room = omega arith
 
-struct_never : (form : StructForm) → has_kind K.Null (struct_kinds form) ≡ false
+struct_never : (form : StructForm) → same_kind (struct_kind form) K.Null ≡ false
 struct_never S.Map = refl
 struct_never S.Tuple = refl
 struct_never S.ListPairs = refl

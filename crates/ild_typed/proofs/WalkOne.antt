@@ -17,17 +17,18 @@ use Rattle.ild_schema.specs.Copies.{base}
 use Rattle.ild_schema.specs.Value.{Value}
 use Rattle.ild_typed.specs.Layer as L
 use Rattle.ild_typed.specs.Layer.{Layer}
-use Rattle.ild_typed.specs.Slots.{form_of, plainly, member_of}
+use Rattle.ild_schema.specs.Slots.{form_of, plainly}
+use Rattle.ild_typed.specs.Slots.{member_of}
 use Rattle.ild_typed.specs.Fields.{is_implicit}
 use Rattle.ild_typed.specs.Composed.{composed}
 use Rattle.ild_typed.specs.Hamt.{alone}
 use Rattle.ild_typed.specs.Fits.{Shows, FitsPast}
-use Rattle.ild_typed.specs.Clear.{ClearType, IsClear, IsSafe, AreSafe}
+use Rattle.ild_schema.specs.Clear.{ClearType, IsClear, IsSafe, AreSafe}
 use Rattle.ild_typed.specs.Why.{Why}
 use Rattle.ild_typed.specs.Spots.{Spot, value_spot, element_spots, entry_spots, field_steps, field_spots, spots_of, bucket_spots, root_spots}
 use Rattle.ild_typed.specs.Pieces.{needs, why_at, HasNoRoot, IsWhy}
 use Rattle.ild_typed.specs.Refused.{Refusal, part_refusal, AreParts, FirstRefused, PieceRefused, RefusedPast}
-use Rattle.ild_typed.specs.WhyLaws.{AllDelims}
+use Rattle.ild_schema.specs.Delims.{AllDelims}
 use Rattle.ild_data.specs.Trie as Trie
 use Rattle.ild_typed.proofs.Composing.{composed_tells, alone_tells}
 use Rattle.ild_typed.proofs.OneValue.{safe_parts, plain_safe, member_plain}

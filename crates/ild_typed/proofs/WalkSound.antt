@@ -23,14 +23,15 @@ use Rattle.ild_schema.specs.Value as V
 use Rattle.ild_schema.specs.Value.{Value}
 use Rattle.ild_typed.specs.Layer as L
 use Rattle.ild_typed.specs.Layer.{Layer, as_list, as_map, as_struct, as_union, as_hamt}
-use Rattle.ild_typed.specs.Slots.{form_of, plainly, member_of, slot_of_member}
+use Rattle.ild_schema.specs.Slots.{form_of, plainly}
+use Rattle.ild_typed.specs.Slots.{member_of, slot_of_member}
 use Rattle.ild_typed.specs.Fields.{is_implicit}
 use Rattle.ild_typed.specs.Strings.{map_data, listpairs, stringpairs}
 use Rattle.ild_typed.specs.Composed.{usual, composed, map_form, struct_form, union_form, member_form, any_data}
 use Rattle.ild_typed.specs.Hamt.{alone, a_map}
 use Rattle.ild_typed.specs.Represented.{represented}
 use Rattle.ild_typed.specs.Fits.{AreApart, Shows, FormFits, ValueFits, FitsPast}
-use Rattle.ild_typed.specs.Clear.{IsClear, IsSafe}
+use Rattle.ild_schema.specs.Clear.{IsClear, IsSafe}
 use Rattle.ild_typed.specs.Named.{where_some, names, is_among, has_twice}
 use Rattle.ild_typed.specs.Causes.{why_of}
 use Rattle.ild_typed.specs.Why.{Why}
@@ -38,7 +39,7 @@ use Rattle.ild_typed.specs.Why as W
 use Rattle.ild_typed.specs.Spots.{Spot, value_spot, element_spots, entry_spots, field_steps, field_spots, spots_of, bucket_spots, root_spots}
 use Rattle.ild_typed.specs.Pieces.{is_null_there, repeats_key, keys_why, needs, room_why, root_why, hamt_why, why_at, HasNoRoot, IsWhy}
 use Rattle.ild_typed.specs.Refused.{Refusal, AreParts, FirstRefused, RefusedPast}
-use Rattle.ild_typed.specs.WhyLaws.{AllDelims}
+use Rattle.ild_schema.specs.Delims.{AllDelims}
 use Rattle.ild_typed.specs.Node.{IsRoot, entries_in}
 use Rattle.ild_data.specs.Trie as Trie
 use Rattle.ild_typed.proofs.Basics.{map_from, then_from}

@@ -28,7 +28,8 @@ use Rattle.ild_schema.specs.Value as V
 use Rattle.ild_schema.specs.Value.{Value}
 use Rattle.ild_typed.specs.Layer as L
 use Rattle.ild_typed.specs.Layer.{Layer, as_boolean, as_integer, as_text, as_bytes, as_link, as_any, as_unit, as_enum, as_list, as_map, as_struct, as_union, as_hamt}
-use Rattle.ild_typed.specs.Slots.{form_of, plainly, member_of, slot_of_member}
+use Rattle.ild_schema.specs.Slots.{form_of, plainly}
+use Rattle.ild_typed.specs.Slots.{member_of, slot_of_member}
 use Rattle.ild_typed.specs.Fields.{is_implicit, field_entries, are_absent, tuple_items, all_items}
 use Rattle.ild_typed.specs.Strings.{map_data, listpairs, stringpairs, stringjoin, in_key_order}
 use Rattle.ild_typed.specs.Composed.{usual, composed, map_form, struct_form, member_form, union_form, enum_form, unit_data, any_data}
@@ -36,7 +37,7 @@ use Rattle.ild_typed.specs.Hamt.{alone}
 use Rattle.ild_typed.specs.Levels.{struct_levels}
 use Rattle.ild_typed.specs.Represented.{layered}
 use Rattle.ild_typed.specs.Fits.{Front, AreApart, AreKeys, Shows, FormFits, ValueFits, FitsPast, IsNotNull}
-use Rattle.ild_typed.specs.Clear.{IsClear}
+use Rattle.ild_schema.specs.Clear.{IsClear}
 use Rattle.ild_typed.specs.Named.{where_some, names, is_among, has_twice}
 use Rattle.ild_typed.specs.Why.{Why}
 use Rattle.ild_typed.specs.Why as W
@@ -44,7 +45,8 @@ use Rattle.ild_typed.specs.Causes.{why_of}
 use Rattle.ild_typed.specs.Spots.{Spot, value_spot, element_spots, entry_spots, field_steps, field_spots, spots_of, bucket_spots, root_spots}
 use Rattle.ild_typed.specs.Pieces.{HasNoRoot, is_null_there, repeats_key, keys_why, needs, room_why, hamt_why, why_at, IsNoRoot}
 use Rattle.ild_typed.specs.Refused.{Refused, Refusal, part_refusal, AreParts, FirstRefused, RefusedPast}
-use Rattle.ild_typed.specs.WhyLaws.{KeysRise, AllDelims, HasForm, IsWalked}
+use Rattle.ild_typed.specs.WhyLaws.{KeysRise, HasForm, IsWalked}
+use Rattle.ild_schema.specs.Delims.{AllDelims}
 use Rattle.ild_typed.specs.Node.{IsRoot, entries_in}
 use Rattle.ild_data.specs.Trie as Trie
 use Rattle.ild_typed.proofs.Basics.{map_from, then_from, true_from, both_true}

@@ -19,11 +19,15 @@ use Rattle.ild_typed.proofs.Onlies.{only_map}
 use Rattle.ild_typed.proofs.Entries.{map_tells}
 use Rattle.ild_typed.proofs.TrieTells.{trie_tells, sorted_tells}
 use Rattle.ild_typed.proofs.OneWhole.{IsExactFor, one_whole}
-use Rattle.ild_typed.specs.Known.{FormOk, Kept, IdsTell, HeldNode}
+use Rattle.ild_typed.specs.Known.{FormOk, Kept, IdsTell, IsKept, HeldNode}
+use Rattle.ild_schema.specs.declared.number.Slot.{Slot}
+use Rattle.ild_schema.specs.declared.row.Row.{Row}
+use Rattle.ild_schema.specs.Clear.{IsClear, IsSafe}
+use Rattle.ild_schema.specs.Value.{Value}
+use Rattle.ild_typed.specs.Represented.{represented}
 use Rattle.ild_data.specs.Limits.{longest_block, IsWithin}
 use Rattle.ild_data.specs.Tree.{IsTree}
 use Rattle.ild_data.proofs.Apart.{one_meaning}
-use Rattle.ild_typed.specs.Laws.{OneWhole}
 
 abbrev node_in : Data → List (List ℕ × Data) → Data
 node_in z [] = z
@@ -70,6 +74,8 @@ one_within d e a b same = one_meaning d e a.tree b (small (length (spell d)) a.s
 pub ids_tell : (block : List ℕ → Option (List ℕ)) → IdsTell (HeldNode block)
 ids_tell block n m a b e = one_within n m a.within b.within.tree (one_block block (spell n) (spell m) a.there b.there e)
 
-pub whole_law : OneWhole
+pub whole_law : (h : List ℕ → List ℕ) (block : List ℕ → Option (List ℕ)) (rows : List Row) → IsClear rows → (s : Slot) → IsSafe rows s
+    → (v w : Value) (d : Data) → IsKept h (HeldNode block) rows s v → IsKept h (HeldNode block) rows s w
+    → represented (whole h) rows s v ≡ Some d → represented (whole h) rows s w ≡ Some d → v ≡ w
 whole_law = λ h block rows clear s safe v w t gv gw e k.
     one_whole (whole h) (Kept h (HeldNode block)) (whole_exact h (HeldNode block) (ids_tell block)) rows clear s safe v w t gv gw e k

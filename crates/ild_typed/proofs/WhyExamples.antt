@@ -23,19 +23,17 @@ use Rattle.ild_schema.specs.declared.row.Row.{Row}
 use Rattle.std.proofs.Common.{inl, inr, ap}
 use Rattle.std.specs.Prelude.{is_some}
 use Rattle.ild_data.specs.Key.{value_at}
-use Rattle.ild_typed.specs.Strings.{members_in}
+use Rattle.ild_typed.specs.Strings.{members_in, map_data}
 use Rattle.ild_typed.specs.Named.{where_some}
-use Rattle.ild_typed.specs.Pieces.{IsNoRoot}
+use Rattle.ild_typed.specs.Pieces.{IsNoRoot, why_at}
 use Rattle.ild_typed.specs.Layer as L
 use Rattle.ild_typed.specs.Spots.{Step, item, key, under, element_spots}
 use Rattle.ild_typed.specs.Ways.{found_at}
 use Rattle.ild_typed.specs.Refused.{Refusal, RefusedPast, Refused}
-use Rattle.ild_typed.specs.Slots.{plainly}
-use Rattle.ild_typed.specs.Strings.{map_data}
+use Rattle.ild_schema.specs.Slots.{plainly}
 use Rattle.ild_typed.specs.Why as W
 use Rattle.ild_typed.specs.Why.{Why}
 use Rattle.ild_typed.specs.Causes.{why_of}
-use Rattle.ild_typed.specs.Pieces.{why_at}
 
 abbrev field : List ℕ → ℕ → Bool → Field
 field name n optional = record { name = name; at = 0; optional = optional; slot = plainly (number n); rename = None; implicit = None }

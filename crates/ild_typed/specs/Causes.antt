@@ -14,7 +14,8 @@ use Rattle.ild_schema.specs.declared.def.MapForm.TheVariants as MF
 use Rattle.ild_schema.specs.declared.def.EnumForm.{EnumForm}
 use Rattle.ild_schema.specs.declared.def.EnumMember.{EnumMember}
 use Rattle.ild_typed.specs.Fields.{same_int}
-use Rattle.ild_typed.specs.Kinds.{kind_of, may_be}
+use Rattle.ild_typed.specs.Kinds.{kind_of}
+use Rattle.ild_schema.specs.DataKinds.{has_kind}
 use Rattle.ild_typed.specs.Composed.{enum_form}
 use Rattle.ild_typed.specs.Why as W
 use Rattle.ild_typed.specs.Why.{Why, in_order, first_that}
@@ -118,7 +119,7 @@ is_member d t = false
 
 -- the other causes are none of a layer by itself
 abbrev pub is_cause : TypeDef → Data → Why → Bool
-is_cause d t W.Kind = not (may_be d (kind_of t)) || is_kind_why d t
+is_cause d t W.Kind = not (has_kind d (kind_of t)) || is_kind_why d t
 is_cause d t W.Name = is_name_why d t
 is_cause d t W.Missing = is_missing d t
 is_cause d t W.Count = is_count d t

@@ -24,8 +24,9 @@ use Rattle.ild_data.specs.TrieShape.{TrieShape}
 use Rattle.ild_typed.specs.Layer.{Layer, as_boolean, as_integer, as_text, as_bytes, as_link, as_any, as_unit, as_enum, as_list, as_map, as_struct, as_union}
 use Rattle.ild_typed.specs.Fields.{field_entries, tuple_items, all_items}
 use Rattle.ild_typed.specs.Strings.{text_in, bytes_in, members_in, in_key_order, map_data, listpairs, stringpairs, stringjoin}
-use Rattle.ild_typed.specs.Kinds.{kind_of, same_kind}
-use Rattle.ild_schema.specs.Marks.{member_text, text_of as mark_text, kind_of as mark_kind}
+use Rattle.ild_typed.specs.Kinds.{kind_of}
+use Rattle.ild_schema.specs.DataKinds.{same_kind}
+use Rattle.ild_schema.specs.Marks.{member_text, member_integer, text_of as mark_text, kind_of as mark_kind}
 use Rattle.ild_schema.specs.Hex.{bytes_of_hex}
 use Rattle.ild_schema.specs.Decimal.{decimal_of}
 
@@ -83,7 +84,7 @@ union_form form ms p = option_and_then (member_form form p.1) (slice_get ms p.0)
 
 abbrev pub enum_form : EnumForm → EnumMember → Option Data
 enum_form E.Text m = Some (T.text (member_text m))
-enum_form E.Int m = option_map T.integer (option_and_then decimal_of m.text)
+enum_form E.Int m = option_map T.integer (member_integer m)
 
 abbrev pub composed : Hamts → TypeDef → Layer Data → Option Data
 composed at D.Bool l = option_map T.boolean (as_boolean l)

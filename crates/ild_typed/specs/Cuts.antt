@@ -2,7 +2,8 @@
 -- Schemas, "stringjoin", "stringpairs").
 use Rattle.std.specs.Prelude.{ℕ, zero, suc, ◌+◌, ◌-◌, Bool, false, cond, List, [], ◌∷◌, length, map, drop, Option, Some, None}
 use Rattle.ild_data.specs.Key.{same_text}
-use Rattle.ild_typed.specs.Texts.{begins, join, join_pairs}
+use Rattle.ild_schema.specs.Prefixes.{begins}
+use Rattle.ild_typed.specs.Texts.{join, join_pairs}
 
 abbrev pub begin_first : ℕ → List (List ℕ) → List (List ℕ)
 begin_first c [] = (c ∷ []) ∷ []

@@ -18,7 +18,8 @@ use Rattle.ild_data.specs.ByteOrder.{in_byte_order}
 use Rattle.ild_data.specs.Trie.{part, at_depth, node_of}
 use Rattle.ild_typed.specs.Layer as L
 use Rattle.ild_typed.specs.Layer.{Layer}
-use Rattle.ild_typed.specs.Slots.{form_of, element_of, fields_of, member_of}
+use Rattle.ild_schema.specs.Slots.{form_of}
+use Rattle.ild_typed.specs.Slots.{element_of, fields_of, member_of}
 use Rattle.ild_typed.specs.Composed.{Hamts, usual}
 use Rattle.ild_typed.specs.Hamt.{whole}
 use Rattle.ild_typed.specs.Represented.{represented_pairs}

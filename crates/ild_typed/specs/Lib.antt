@@ -10,12 +10,12 @@ pub mod Represented
 pub mod Levels
 pub mod Node
 pub mod Fits
-pub mod Whole
+pub mod Typed
 pub mod Blocks
 pub mod Nested
 pub mod Stands
 pub mod Tells
-pub mod Clear
+pub mod Schema
 pub mod Parts
 pub mod Shown
 pub mod Judged
@@ -34,5 +34,3 @@ pub mod WhyLaws
 pub mod Laws
 pub mod TreeLaws
 pub mod StandLaws
-pub mod Spelled
-pub mod Made

@@ -10,7 +10,7 @@ use Rattle.ild_schema.specs.declared.def.MapForm.TheVariants as MF
 use Rattle.ild_schema.specs.declared.row.Row.{Row}
 use Rattle.ild_schema.specs.Value.{Value}
 use Rattle.ild_typed.specs.Layer.{Layer}
-use Rattle.ild_typed.specs.Slots.{form_of}
+use Rattle.ild_schema.specs.Slots.{form_of}
 use Rattle.ild_typed.specs.Composed.{usual, composed}
 use Rattle.ild_typed.specs.Hamt.{alone}
 use Rattle.ild_typed.specs.Node.{IsRoot}

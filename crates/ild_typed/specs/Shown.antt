@@ -13,7 +13,8 @@ use Rattle.ild_schema.specs.declared.row.Row.{Row}
 use Rattle.ild_schema.specs.Value as V
 use Rattle.ild_schema.specs.Value.{Value, Values, Pairs, Optionals}
 use Rattle.ild_typed.specs.Strings.{map_data, in_key_order}
-use Rattle.ild_typed.specs.Slots.{form_of, element_of, fields_of, member_of}
+use Rattle.ild_schema.specs.Slots.{form_of}
+use Rattle.ild_typed.specs.Slots.{element_of, fields_of, member_of}
 
 abbrev pub member_name : Option TypeDef → ℕ → List ℕ
 member_name (Some (D.Union u)) n = name (slice_get u.members n) where

@@ -17,7 +17,8 @@ use Rattle.ild_schema.specs.declared.def.UnionDef.{UnionDef}
 use Rattle.ild_schema.specs.declared.def.Field.{Field}
 use Rattle.ild_schema.specs.declared.def.Member.{Member}
 use Rattle.ild_typed.specs.Layer.{Layer, list, map, struct, union}
-use Rattle.ild_typed.specs.Slots.{plainly, member_of}
+use Rattle.ild_schema.specs.Slots.{plainly}
+use Rattle.ild_typed.specs.Slots.{member_of}
 use Rattle.ild_typed.specs.Fields.{is_implicit}
 use Rattle.ild_schema.specs.Marks.{field_text, text_of as mark_text}
 use Rattle.ild_data.specs.Trie as Trie

@@ -7,7 +7,7 @@ use Rattle.ild_data.specs.Spell.{spell, id_of}
 use Rattle.ild_schema.specs.declared.number.TypeNo.{TypeNo}
 use Rattle.ild_schema.specs.declared.row.Row.{Row}
 use Rattle.ild_schema.specs.Value.{Value}
-use Rattle.ild_typed.specs.Slots.{plainly}
+use Rattle.ild_schema.specs.Slots.{plainly}
 use Rattle.ild_typed.specs.Hamt.{whole}
 use Rattle.ild_typed.specs.Represented.{represented}
 use Rattle.ild_typed.specs.Fits.{Fits}

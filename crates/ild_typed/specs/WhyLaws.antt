@@ -5,6 +5,8 @@ use Rattle.std.specs.List.{AllByRecursion}
 use Rattle.ild_data.specs.Data as T
 use Rattle.ild_data.specs.Data.{Data}
 use Rattle.ild_data.specs.Key.{Rises}
+use Rattle.ild_schema.specs.Delims.{Delims}
+use Rattle.ild_typed.specs.Schema.{IsSchema}
 use Rattle.ild_schema.specs.declared.def.TypeDef.{TypeDef}
 use Rattle.ild_schema.specs.declared.def.TypeDef.TheVariants as D
 use Rattle.ild_schema.specs.declared.def.MapForm.{MapForm}
@@ -17,36 +19,18 @@ use Rattle.ild_schema.specs.declared.number.Slot.{Slot}
 use Rattle.ild_schema.specs.declared.row.Row.{Row}
 use Rattle.ild_schema.specs.Table.{IsTable, def_at}
 use Rattle.ild_schema.specs.Value.{Value}
-use Rattle.ild_typed.specs.Slots.{form_of}
-use Rattle.ild_typed.specs.Composed.{usual}
+use Rattle.ild_schema.specs.Slots.{form_of}
+use Rattle.ild_typed.specs.Composed.{usual, composed}
 use Rattle.ild_typed.specs.Node.{IsRoot}
 use Rattle.ild_data.specs.Trie as Trie
 use Rattle.ild_typed.specs.Fits.{Front}
-use Rattle.ild_typed.specs.Clear.{IsClear, IsSafe}
+use Rattle.ild_schema.specs.Clear.{IsClear, IsSafe, ClearType, IsGiven}
 use Rattle.ild_typed.specs.Spots.{Spot}
 use Rattle.ild_typed.specs.Pieces.{IsNoRoot}
 use Rattle.ild_typed.specs.Refused.{Refusal, AreParts, Refused}
 use Rattle.ild_typed.specs.Layer.{Layer}
-use Rattle.ild_typed.specs.Composed.{composed}
 use Rattle.ild_typed.specs.Hamt.{alone}
-use Rattle.ild_typed.specs.Clear.{ClearType, IsGiven}
 use Rattle.ild_typed.specs.Causes.{why_of}
-
--- the delimiters of texts are given, and a joined struct has a field
-abbrev pub HasDelims : StructForm → List Field → Type 0
-HasDelims (S.StringPairs inner entry) fs = IsGiven entry
-HasDelims (S.StringJoin delim) [] = ⊥
-HasDelims (S.StringJoin delim) (f ∷ fs) = IsGiven delim
-HasDelims form fs = Unit {0}
-
-abbrev pub MapDelims : MapForm → Type 0
-MapDelims (MF.StringPairs inner entry) = IsGiven entry
-MapDelims form = Unit {0}
-
-abbrev pub Delims : TypeDef → Type 0
-Delims (D.Map key key_at value at form) = MapDelims form
-Delims (D.Struct s) = HasDelims s.form s.fields
-Delims d = Unit {0}
 
 -- the keys of a map rise
 abbrev pub KeysRise : Data → Type 0
@@ -60,9 +44,6 @@ LayerOrWhy =
 
 -- ---- the walk of a view
 
-abbrev pub AllDelims : List Row → Type 0
-AllDelims rows = (n : ℕ) (d : TypeDef) → def_at rows n ≡ Some d → Delims d
-
 -- a slot whose type is in the table, copies followed
 abbrev pub HasForm : List Row → Slot → Type 0
 HasForm rows s = (d : TypeDef) × (form_of rows s ≡ Some d)
@@ -75,17 +56,17 @@ pub record IsWalked (rows : List Row) : Type 0 where
 -- what is refused has no front
 abbrev pub RefusedHaveNoFront : Type 0
 RefusedHaveNoFront =
-    (rows : List Row) → IsClear rows → AllDelims rows → (room : ℕ) (s : Slot) → IsSafe rows s
+    (rows : List Row) → IsSchema rows → (room : ℕ) (s : Slot) → IsSafe rows s
     → (t : Data) (r : Refusal) → Refused rows room s t r → (f : Value) → Front rows room s f t → ⊥
 
 -- and a tree is refused or has one
 abbrev pub FrontOrRefused : Type 0
 FrontOrRefused =
-    (rows : List Row) → IsClear rows → AllDelims rows → IsTable rows → IsWalked rows → (room : ℕ) (s : Slot) → s.ty.0 < length rows
+    (rows : List Row) → IsSchema rows → IsWalked rows → (room : ℕ) (s : Slot) → s.ty.0 < length rows
     → (t : Data) → IsTree t → ((f : Value) × Front rows room s f t) ⊎ ((r : Refusal) × Refused rows room s t r)
 
 -- of the walk there is one refusal at most
 abbrev pub OneRefusal : Type 0
 OneRefusal =
-    (rows : List Row) → IsClear rows → AllDelims rows → (room : ℕ) (s : Slot) (t : Data) (q r : Refusal)
+    (rows : List Row) → IsSchema rows → (room : ℕ) (s : Slot) (t : Data) (q r : Refusal)
     → Refused rows room s t q → Refused rows room s t r → q ≡ r

@@ -5,7 +5,7 @@
 ghost use Rattle.ild_typed.specs.WhyLaws.{FrontOrRefused, LayerOrWhy, OneRefusal, RefusedHaveNoFront};
 ghost use Rattle.ild_typed.specs.Ways.{WaysLead};
 ghost use Rattle.ild_typed.specs.TreeLaws.{BlocksAreNested, FrontsAreTrees, ShownAreTrees, StorableBlocks, ValuesAreTrees};
-ghost use Rattle.ild_typed.specs.Laws.{InLayersAll, LayersTell, OneFront, OneText, OneWhole};
+ghost use Rattle.ild_typed.specs.Laws.{InLayersAll, LayersTell, OneFront, OneText, OneWhole, TextsRepresent};
 ghost use Rattle.ild_typed.specs.StandLaws.{BareIsFrame, OneStands, StorableWhere, TreesAreSound, ValuesHaveTrees};
 
 /// The data of a layer tell its form and the data of its parts.
@@ -18,9 +18,14 @@ pub fn one_front()
     ensures { OneFront }
 {}
 
-/// A text stands for one value of a type at most.
+/// A text represents one value of a type at most.
 pub fn one_text()
     ensures { OneText }
+{}
+
+/// The texts of a type are those that represent a value of it, whatever the hash of keys.
+pub fn texts_represent()
+    ensures { TextsRepresent }
 {}
 
 /// A value is represented as null, or by one layer whose parts are represented.

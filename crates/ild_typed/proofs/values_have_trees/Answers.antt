@@ -2,4 +2,4 @@ use Rattle.ild_typed.proofs.MakingValues.{typed_tree}
 use Rattle.ild_typed.proofs.values_have_trees.Goals as goal
 
 pub returns : goal.returns
-returns c = typed_tree
+returns c = λ h rows schema. typed_tree h rows schema.legible.made
