@@ -7,6 +7,7 @@ import importlib.machinery
 import importlib.util
 import os
 import pathlib
+import re
 import resource
 import subprocess
 import time
@@ -199,6 +200,40 @@ def a_long_text_reaches_a_slow_reader(program, place):
     yield from differs(run, text.encode(), status)
 
 
+def sessions(text):
+    """The sessions that a document shows: the files that `cat` shows, and each run with its words, output and status."""
+    for block in re.findall(r"^```\n(\$ .*?)^```$", text, re.M | re.S):
+        files, runs = {}, []
+        for step in block.split("$ ")[1:]:
+            command, _, shown = step.partition("\n")
+            verb, *given = command.split()
+            if verb == "cat":
+                files[given[0]] = shown
+            elif verb.endswith("ild"):
+                runs.append([given, shown, 0])
+            elif command == "echo $?":
+                runs[-1][2] = int(shown)
+        yield files, runs
+
+
+def documents_show_what_comes(program, place):
+    top, number = HERE.parents[1], 0
+    for document in (top / "README.md", *sorted(top.glob("examples/*/README.md"))):
+        for files, runs in sessions(document.read_text()):
+            room = place / str(number := number + 1)
+            room.mkdir()
+            for file in document.parent.iterdir() if document.parent != top else []:
+                if file.is_file():
+                    (room / file.name).write_bytes(file.read_bytes())
+            for name, content in files.items():
+                (room / name).write_text(content)
+            for given, shown, status in runs:
+                for wrong in differs(start(program, room, given), shown.encode(), status):
+                    yield f"{document.relative_to(top)}: ild {' '.join(given)}: {wrong}"
+    if number < 2:
+        yield "the documents show no sessions"
+
+
 BIG_KEY = "k" * 70_000
 LONG_CID = "b" + plain.base64.b32encode(b"\x01\xff\xff\xff\xff\xff\xff\xff\xff\x7f\xff\xff\xff\xff\xff\xff\xff\xff\x7f\x40" + b"\x5a" * 64).decode().lower().rstrip("=")
 
@@ -241,5 +276,6 @@ TESTS = (
     words,
     standard_output_that_fails,
     a_long_text_reaches_a_slow_reader,
+    documents_show_what_comes,
     big_inputs,
 )
