@@ -2,18 +2,18 @@
 use Rattle.std.proofs.Common.{◌≡◌, ℕ, List, Result, Ok, Err, refl, sym, ◌∙◌, subst, inl, inr}
 use Rattle.std.specs.Prelude.{◌⊎◌, IfOk, IfErr}
 use Rattle.ild_lex.specs.declared.token.Token.{Token}
-use Rattle.ild_parse.specs.declared.ast.Ast.{Ast}
+use Rattle.ild_grammar.specs.declared.ast.Ast.{Ast}
 use Rattle.ild_parse.specs.declared.error.ParseErr.{ParseErr}
 use Rattle.ild_parse.specs.declared.error.ParseErr.TheVariants as E
-use Rattle.ild_parse.specs.Stream.{stream}
-use Rattle.ild_parse.specs.Read.{Gives}
-use Rattle.ild_parse.specs.Grammar.{schema_at}
-use Rattle.ild_parse.specs.DerivePart.{Derives}
-use Rattle.ild_parse.proofs.SoundParts.{schema-sound}
-use Rattle.ild_parse.proofs.CompleteParts.{schema-complete}
-use Rattle.ild_parse.proofs.Fault.{schema_wrong}
-use Rattle.ild_parse.specs.Fault.{IsWrong}
-use Rattle.ild_parse.proofs.Sound.{ok_is, no_value}
+use Rattle.ild_grammar.proofs.Stream.{stream}
+use Rattle.ild_parse.specs.Seen.{Gives}
+use Rattle.ild_grammar.proofs.Grammar.{schema_at}
+use Rattle.ild_grammar.specs.DerivePart.{Derives}
+use Rattle.ild_grammar.proofs.SoundParts.{schema-sound}
+use Rattle.ild_grammar.proofs.CompleteParts.{schema-complete}
+use Rattle.ild_grammar.proofs.Fault.{schema_wrong}
+use Rattle.ild_parse.specs.Wrong.{IsWrong}
+use Rattle.ild_grammar.proofs.Sound.{ok_is, no_value}
 
 pub answer_derived : (src bytes : List ℕ) (ts slice : List Token) (answer : Result Ast ParseErr) → bytes ≡ src → slice ≡ ts → Gives (λ a. a) answer (schema_at (stream bytes slice)) → IfOk answer (Derives src ts)
 answer_derived src bytes ts slice (Ok tree) same_bytes same_tokens h =
@@ -29,9 +29,6 @@ pub derived_answered : (src bytes : List ℕ) (ts slice : List Token) (answer : 
     → (tree : Ast) → Derives src ts tree → (answer ≡ Ok tree) ⊎ (answer ≡ Err E.Memory)
 derived_answered src bytes ts slice answer same_bytes same_tokens h tree d =
     here tree answer (schema_at (stream bytes slice)) (rw (same_bytes, same_tokens) (schema-complete src ts tree d)) h
-
-pub derived_one : (src : List ℕ) (ts : List Token) (tree other : Ast) → Derives src ts tree → Derives src ts other → tree ≡ other
-derived_one src ts tree other d e = ok_is tree other (sym (schema-complete src ts tree d) ∙ schema-complete src ts other e)
 
 pub fault_wrong : (src bytes : List ℕ) (ts slice : List Token) (answer : Result Ast ParseErr) → bytes ≡ src → slice ≡ ts → Gives (λ a. a) answer (schema_at (stream bytes slice)) → IfErr answer (IsWrong src ts)
 fault_wrong src bytes ts slice (Ok tree) same_bytes same_tokens h = tt

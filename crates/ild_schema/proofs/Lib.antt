@@ -6,3 +6,8 @@ mod Keeping
 mod Finding
 mod Parts
 mod Writing
+pub mod Kinding
+mod Passing
+mod Ruling
+mod Telling
+mod Legibly

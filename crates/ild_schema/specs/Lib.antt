@@ -26,3 +26,11 @@ pub mod ValueCode
 pub mod ValueSeen
 pub mod ValueFalls
 pub mod Joins
+pub mod Slots
+pub mod DataKinds
+pub mod Clear
+pub mod Made
+pub mod Delims
+pub mod Apart
+pub mod Fitting
+pub mod Legible

@@ -3,10 +3,12 @@ ghost use Rattle.std.specs.Prelude.{◌≡◌, ◌<◌, length, None, Some, IfSo
 ghost use Rattle.std.specs.Option.{option_and_then};
 ghost use Rattle.ild_schema.specs.Accept.{IsAccepted};
 ghost use Rattle.ild_schema.specs.Copies.{base, target_in};
+ghost use Rattle.ild_schema.specs.Legible.{IsLegible};
 ghost use Rattle.ild_schema.specs.Names.{declared_names, number_named};
 ghost use Rattle.ild_schema.specs.Parts.{IsPartOf, part_named, part_spelled};
 ghost use Rattle.ild_schema.specs.Table.{IsTable, IsWithin, def_at, name_at};
 
+use crate::laws::accepted_are_legible;
 use crate::{Schema, TypeDef, TypeNo};
 use ild_data::Txt;
 use std::marker::Model;
@@ -43,7 +45,9 @@ impl Accepted {
         ensures count { result ≡ length self.now }
         ensures table { IsTable self.now }
         ensures accepted { IsAccepted self.now }
+        ensures legible { IsLegible self.now }
     {
+        accepted_are_legible();
         self.schema.types()
     }
 

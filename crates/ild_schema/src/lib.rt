@@ -6,7 +6,7 @@ mod by_text;
 mod def;
 mod ends;
 mod kinds;
-mod list;
+mod laws;
 mod number;
 mod prelude;
 mod row;
@@ -20,8 +20,9 @@ pub use def::{
     EnumDef, EnumForm, EnumMember, EnumMembers, Field, Fields, KindWord, MapForm, Mark, Member,
     Members, Scalar, StructDef, StructForm, TypeDef, UnionDef, UnionForm, UnitForm,
 };
+pub use ild_data::List;
 pub use kinds::Kinds;
-pub use list::List;
+pub use laws::{accepted_are_legible, kinds_are_told};
 pub use number::{Slot, TypeNo};
 pub use prelude::prelude_rows;
 pub use row::{Origin, Row};
