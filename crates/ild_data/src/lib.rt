@@ -13,6 +13,7 @@ mod id;
 mod int;
 mod key;
 mod laws;
+mod limit;
 mod path;
 mod place;
 #[cfg(test)]
@@ -29,6 +30,7 @@ pub use id::{BlockId, block_id};
 pub use int::Int;
 pub use key::{key_less, key_order};
 pub use laws::{cids_are_read, spellings_are_apart, texts_are_read};
+pub use limit::LONGEST_BLOCK;
 pub use path::Path;
 pub use place::key_place;
 pub use text::{Octets, Txt};
