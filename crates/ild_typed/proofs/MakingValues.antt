@@ -21,6 +21,7 @@ use Rattle.ild_schema.specs.declared.row.Row.{Row}
 use Rattle.ild_schema.specs.Copies.{base}
 use Rattle.ild_schema.specs.Value as V
 use Rattle.ild_schema.specs.Value.{Value, Values, Pairs, Optionals, values_list, pairs_list, optionals_list}
+use Rattle.ild_schema.proofs.Legibly.{legible}
 use Rattle.ild_typed.specs.Layer as L
 use Rattle.ild_typed.specs.Layer.{Layer}
 use Rattle.ild_schema.specs.Slots.{form_of, plainly}
@@ -422,5 +423,5 @@ typed_tree h rows made s v t a b c = let x = representation h rows made t.0 s v 
 
 pub can_be_held : StorableWhere
 can_be_held = λ f h rows schema n v t a b fits c small.
-    let x = typed_tree h rows schema.legible.made (plainly n) v t a b c in
+    let x = typed_tree h rows (legible rows schema.accepted).made (plainly n) v t a b c in
     (x.0, record { fits = fits; tree = x.1; sized = small x.0 x.1 })
