@@ -34,3 +34,8 @@ pub mod WhyLaws
 pub mod Laws
 pub mod TreeLaws
 pub mod StandLaws
+pub mod OfType
+pub mod Holder
+pub mod Segment
+pub mod At
+pub mod AtLaws
