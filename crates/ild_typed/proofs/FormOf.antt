@@ -25,7 +25,7 @@ use Rattle.ild_schema.specs.Value.{Value}
 use Rattle.ild_typed.specs.Layer as L
 use Rattle.ild_typed.specs.Layer.{Layer, as_map, as_hamt}
 use Rattle.ild_schema.specs.Slots.{plainly}
-use Rattle.ild_typed.specs.Fits.{IsNotNull, FieldsFit, EntriesFit, RootFits, MapFits, LayerFits}
+use Rattle.ild_typed.specs.Layers.{IsNotNull, FieldsFit, EntriesFit, RootFits, MapFits, LayerFits}
 
 -- the place of an enum's member, or of a union's
 pub got_below : {X : Type 0} (xs : List X) (n : ℕ) → n < length xs → (x : X) × (slice_get xs n ≡ Some x)

@@ -30,12 +30,14 @@ use Rattle.ild_typed.specs.Composed.{composed, member_form, enum_form, any_data,
 use Rattle.ild_typed.specs.Hamt.{alone, whole}
 use Rattle.ild_typed.specs.Represented.{represented, represented_values, represented_pairs, represented_fields}
 use Rattle.ild_typed.specs.Levels.{levels_of}
-use Rattle.ild_typed.specs.Fits.{IsNotNull, FieldsFit, LayerFits, FormFits, ValueFits, FitsPast, Fits}
+use Rattle.ild_typed.specs.Fits.{FormFits, ValueFits, FitsPast, Fits}
+use Rattle.ild_typed.specs.Layers.{IsNotNull, FieldsFit, LayerFits}
 use Rattle.ild_typed.specs.Typed.{Typed}
 use Rattle.ild_schema.specs.Whole.{is_whole, are_whole, pairs_whole, fields_whole}
 use Rattle.ild_typed.specs.StandLaws.{StorableWhere}
 use Rattle.ild_typed.specs.Blocks.{nodes}
-use Rattle.ild_typed.specs.Judged.{some_layer, some_value, some_pair, some_field, some_present, hole_in, tuple_hole, is_hole, has_hole, struct_breaks, map_breaks, breaks, breaks_delimiter, map_exhausts, is_exhausted, exhausts}
+use Rattle.ild_typed.specs.Judged.{some_present, hole_in, tuple_hole, is_hole, has_hole, struct_breaks, map_breaks, breaks, breaks_delimiter, map_exhausts, is_exhausted, exhausts}
+use Rattle.ild_typed.specs.EachLayer.{some_layer, some_value, some_pair, some_field}
 use Rattle.ild_schema.specs.Made.{IsTextSlot, MadeStruct, MadeMap, MadeMember, MadeEnum, MadeType, IsMade}
 use Rattle.ild_typed.proofs.Flat.{FlatPairs, FlatFields, flat_text, pairs_alone, fields_alone}
 use Rattle.ild_typed.proofs.Basics.{map_from, both_true}

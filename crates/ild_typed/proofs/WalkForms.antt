@@ -23,7 +23,8 @@ use Rattle.ild_typed.specs.Layer.{Layer}
 use Rattle.ild_schema.specs.Slots.{form_of}
 use Rattle.ild_typed.specs.Slots.{slot_of_member}
 use Rattle.ild_typed.specs.Fields.{is_implicit}
-use Rattle.ild_typed.specs.Spots.{Spot, value_spot, element_spots, entry_spots, field_steps, field_spots, spots_of, bucket_spots, root_spots}
+use Rattle.ild_typed.specs.Spots.{Spot, value_spot, element_spots, entry_spots, field_steps, field_spots, spots_of}
+use Rattle.ild_typed.specs.RootSpots.{bucket_spots, root_spots}
 use Rattle.ild_typed.specs.Refused.{AreParts}
 use Rattle.ild_typed.specs.WhyLaws.{HasForm, FrontOrRefused}
 use Rattle.ild_data.specs.Trie as Trie
