@@ -5,6 +5,8 @@
 #[cfg(test)]
 mod compile;
 #[cfg(test)]
+mod keys;
+#[cfg(test)]
 mod large;
 #[cfg(test)]
 mod lex;
@@ -12,5 +14,7 @@ mod lex;
 mod parse;
 #[cfg(test)]
 mod run;
+#[cfg(test)]
+mod splits;
 #[cfg(test)]
 mod tests;
