@@ -2,6 +2,10 @@
 #![tactic(auto)]
 
 #[cfg(test)]
+mod parts;
+#[cfg(test)]
 mod run;
 #[cfg(test)]
 mod tests;
+#[cfg(test)]
+mod values;
