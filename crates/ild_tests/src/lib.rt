@@ -13,8 +13,12 @@ mod lex;
 #[cfg(test)]
 mod parse;
 #[cfg(test)]
+mod parts;
+#[cfg(test)]
 mod run;
 #[cfg(test)]
 mod splits;
 #[cfg(test)]
 mod tests;
+#[cfg(test)]
+mod values;
