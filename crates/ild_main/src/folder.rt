@@ -5,14 +5,11 @@ ghost use Rattle.ild_data.specs.Spell.{id_of};
 use crate::cause::cause;
 use crate::load::load;
 use crate::name::{block_path, part_path};
-use ild_data::{BlockId, Octets, block_id};
+use ild_data::{BlockId, LONGEST_BLOCK as LONGEST, Octets, block_id};
 use ild_edges::{EdgeErr, Store};
 use std::io::{ErrorKind, Write};
 use std::rt::Files;
 use std::{fs, io};
-
-/// 4 MiB.
-const LONGEST: usize = 4_194_304;
 
 /// A folder with one file a block, named by the text of the block's CID. It tells nothing of what there is.
 ///

@@ -5,3 +5,5 @@
 mod run;
 #[cfg(test)]
 mod tests;
+#[cfg(test)]
+mod trees;
