@@ -214,7 +214,8 @@ impl Entries {
 
     /// The entries in the key order, without a copy.
     pub fn into_vec(self) -> Vec<(Txt, Tree)>
-        ensures { map pair_of result.items ≡ members_list self }
+        ensures same { map pair_of result.items ≡ members_list self }
+        ensures rises { Rises (map pair_of result.items) }
     {
         self.pairs
     }

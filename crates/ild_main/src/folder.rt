@@ -6,13 +6,10 @@ use crate::cause::cause;
 use crate::load::load;
 use crate::name::block_path;
 use crate::part::place;
-use ild_data::{BlockId, Octets, block_id};
+use ild_data::{BlockId, LONGEST_BLOCK as LONGEST, Octets, block_id};
 use ild_edges::{EdgeErr, Store};
 use std::io::ErrorKind;
 use std::rt::Files;
-
-/// 4 MiB.
-const LONGEST: usize = 4_194_304;
 
 /// A folder with one file a block, named by the text of the block's CID. It tells nothing of what there is.
 ///

@@ -9,14 +9,12 @@ ghost use Rattle.ild_plain.specs.Plain.{edited, plain_map};
 ghost use Rattle.ild_plain.specs.Puts.{refusal_of, StoresOrRefuses};
 
 use crate::PlainMap;
-use ild_data::{BlockId, Int, Path, Tree, Txt};
+use ild_data::{BlockId, Int, LONGEST_BLOCK, Path, Tree, Txt};
 use ild_edges::Store;
 use ild_json::{JsonErr, read};
 use ild_script::{No, Reply};
 use ild_session::{PutFault, publish};
 use std::alloc::Global;
-
-const LONGEST_BLOCK: usize = 4_194_304;
 
 /// Why a line is refused whose block was not put.
 fn refusal_of(fault: PutFault) -> No

@@ -21,4 +21,6 @@ mod splits;
 #[cfg(test)]
 mod tests;
 #[cfg(test)]
+mod trees;
+#[cfg(test)]
 mod values;
