@@ -5,7 +5,7 @@ use Rattle.ild_edges.specs.Inputs.{Supply, MayBe}
 use Rattle.ild_edges.specs.declared.inputs.Taken.TheVariants as Taken
 use Rattle.ild_run.specs.Opening.{job_seen, CompileAnswer}
 use Rattle.ild_run.proofs.Openings.{opens_schema, opens_faulty, opens_checked, opens_not_built, opens_script}
-use Rattle.ild_run.proofs.open.take_script.Goals as goal
+use Rattle.ild_run.proofs.open.plan.Goals as goal
 
 -- what was taken under the schema's name, by its name in the words
 by_name : (m : Supply) (name found b : List ℕ) → Some name ≡ Some found → MayBe m.files found (Taken.Bytes b) → MayBe m.files name (Taken.Bytes b)
