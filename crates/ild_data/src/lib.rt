@@ -15,8 +15,6 @@ mod key;
 mod laws;
 mod path;
 mod place;
-#[cfg(test)]
-mod tests;
 mod text;
 mod tree;
 mod varint;

@@ -10,8 +10,6 @@ mod mem_sink;
 mod mem_store;
 mod sink;
 mod store;
-#[cfg(test)]
-mod tests;
 mod through;
 
 pub use error::EdgeErr;

@@ -1,9 +1,9 @@
 //! Each call once, and the borders between its answers. The expected parts were split by hand.
 ghost use Rattle.std.specs.Prelude.{◌≡◌, IfOk, length};
 
-use crate::{Split, bytes_prefix, join_parts, pairs, prefix};
 use ild_data::Txt;
 use ild_schema::{List, Mark, Member, TypeNo, UnionDef, UnionForm};
+use ild_text::{Split, bytes_prefix, join_parts, pairs, prefix};
 use std::alloc::{AllocError, Global};
 use std::test::Fail;
 
