@@ -14,6 +14,8 @@ mod int;
 mod key;
 mod key_hash;
 mod laws;
+mod limit;
+mod list;
 mod path;
 mod place;
 #[cfg(test)]
@@ -31,6 +33,8 @@ pub use int::Int;
 pub use key::{key_less, key_order};
 pub use key_hash::{KeyHash, PadKeys, Sha256Keys};
 pub use laws::{cids_are_read, spellings_are_apart, texts_are_read};
+pub use limit::LONGEST_BLOCK;
+pub use list::List;
 pub use path::Path;
 pub use place::key_place;
 pub use text::{Octets, Txt};

@@ -5,7 +5,7 @@ use Rattle.std.specs.List.{All}
 use Rattle.std.specs.BTreeMap.{BTreeMap, get_by_text}
 use Rattle.std.proofs.Math.Path.{fun_ext}
 use Rattle.std.proofs.lemmas.List.Elements.{All-append}
-use Rattle.ild_parse.specs.declared.ast.Ast.{Ast}
+use Rattle.ild_grammar.specs.declared.ast.Ast.{Ast}
 use Rattle.ild_schema.specs.Prelude.{prelude}
 use Rattle.ild_schema.specs.Copies.{NoneIsCircular}
 use Rattle.ild_schema.specs.Spelled.{HasTexts}

@@ -7,7 +7,7 @@ use crate::ResolveErr;
 use crate::circular::first_circular;
 use crate::survey::survey;
 use crate::table::table_of;
-use ild_parse::Ast;
+use ild_grammar::Ast;
 use ild_schema::{Row, Schema, texts_of};
 use std::alloc::Global;
 

@@ -3,6 +3,7 @@ mod Doubles
 pub mod Circles
 mod Ending
 mod Keeping
+mod Finding
 mod Parts
 mod Writing
 pub mod Kinding

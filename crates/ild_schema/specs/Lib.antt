@@ -16,6 +16,8 @@ pub mod Clashes
 pub mod Rules
 pub mod Cycles
 pub mod Accept
+pub mod Parts
+pub mod Indexed
 pub mod Ends
 pub mod Held
 pub mod Value

@@ -2,11 +2,11 @@
 #![tactic(auto)]
 
 mod accepted;
+mod by_text;
 mod def;
 mod ends;
 mod kinds;
 mod laws;
-mod list;
 mod number;
 mod prelude;
 mod row;
@@ -20,9 +20,9 @@ pub use def::{
     EnumDef, EnumForm, EnumMember, EnumMembers, Field, Fields, KindWord, MapForm, Mark, Member,
     Members, Scalar, StructDef, StructForm, TypeDef, UnionDef, UnionForm, UnitForm,
 };
+pub use ild_data::List;
 pub use kinds::Kinds;
 pub use laws::{accepted_are_legible, kinds_are_told};
-pub use list::List;
 pub use number::{Slot, TypeNo};
 pub use prelude::prelude_rows;
 pub use row::{Origin, Row};

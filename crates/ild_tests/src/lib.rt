@@ -1,10 +1,26 @@
 //! Tests of public calls, a file a subject: one tree from its JSON text to its block, and back, beside blocks of another
-//! tool; splits of texts; the hashes of keys.
+//! tool; and schemas, from their tokens to their tables.
 #![tactic(auto)]
 
 #[cfg(test)]
+mod compile;
+#[cfg(test)]
 mod keys;
+#[cfg(test)]
+mod large;
+#[cfg(test)]
+mod lex;
+#[cfg(test)]
+mod parse;
+#[cfg(test)]
+mod parts;
+#[cfg(test)]
+mod run;
 #[cfg(test)]
 mod splits;
 #[cfg(test)]
 mod tests;
+#[cfg(test)]
+mod trees;
+#[cfg(test)]
+mod values;
