@@ -3,7 +3,17 @@
 #![tactic(auto)]
 
 #[cfg(test)]
+mod blocks;
+#[cfg(test)]
+mod cbor;
+#[cfg(test)]
 mod compile;
+#[cfg(test)]
+mod data;
+#[cfg(test)]
+mod edges;
+#[cfg(test)]
+mod json;
 #[cfg(test)]
 mod keys;
 #[cfg(test)]
