@@ -50,6 +50,12 @@ def differs(run, text, status, given=None):
         yield f"wrote {out[:200]!r} .. ({len(out)} bytes), and {text[:200]!r} .. ({len(text)} bytes) is wanted"
 
 
+def zeros(file, size):
+    """A file of so many zeros, which takes no disk."""
+    with open(file, "wb") as made:
+        made.truncate(size)
+
+
 def files_in(place):
     """The bytes of the files in the folder of blocks; None for what is no plain file."""
     folder = place / "blocks"
@@ -109,7 +115,7 @@ def what_stands_under_the_name_of_a_block(program, place):
         ("block", lambda file: file.write_bytes(ONE_BLOCK), None, 0),
         ("front", lambda file: file.write_bytes(ONE_BLOCK[:2]), None, 0),
         ("other", lambda file: file.write_bytes(b"other"), None, 0),
-        ("long", lambda file: os.truncate(os.open(file, os.O_CREAT | os.O_WRONLY), 4_194_305), None, 0),
+        ("long", lambda file: zeros(file, 4_194_305), None, 0),
         ("link to nothing", lambda file: file.symlink_to("nothing"), None, 0),
         ("folder", lambda file: file.mkdir(), fault, 1),
     ):
@@ -147,8 +153,7 @@ def inputs(program, place):
     give(place, script=b"root\n")
     (place / "folder").mkdir()
     for name, size in (("limit", 16_777_216), ("long", 16_777_217), ("huge", 1 << 40)):
-        with open(place / name, "wb") as file:
-            file.truncate(size)
+        zeros(place / name, size)
     root = f"root {EMPTY}\n"
     for name, text, status in (
         ("x", root, 0),

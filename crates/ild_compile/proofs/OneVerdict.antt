@@ -1,4 +1,4 @@
--- The bytes of a schema have one table or one first fault.
+-- The bytes of a schema have one accepted table or one first fault.
 use Rattle.std.proofs.Common.{◌≡◌, ◌⊎◌, ℕ, List, [], length, Result, Ok, Err, refl, sym, ap, subst, ◌∙◌, inl, inr, arith}
 use Rattle.std.specs.Prelude.{IsUtf8}
 use Rattle.std.specs.Str.Lossy.{utf8_valid_len}
@@ -11,13 +11,16 @@ use Rattle.ild_grammar.specs.Fault.{IsWrongAt}
 use Rattle.ild_grammar.proofs.OnePlace.{one_wrong_place_lem, tree_or_place_lem}
 use Rattle.ild_grammar.proofs.OneTree.{one_tree_lem}
 use Rattle.ild_schema.specs.declared.row.Row.{Row}
+use Rattle.ild_schema.specs.declared.rule.Rule.{Rule}
+use Rattle.ild_schema.specs.Accept.{Fault, IsAccepted, IsFirstFault}
+use Rattle.ild_accept.proofs.Verdicts.{one_fault, no_fault}
 use Rattle.ild_resolve.specs.Table.{Resolves}
 use Rattle.ild_resolve.specs.declared.error.ResolveErr.{ResolveErr}
 use Rattle.ild_resolve.specs.declared.error.ResolveErr.TheVariants as R
 use Rattle.ild_resolve.proofs.Results.{one_result_lem}
 use Rattle.ild_compile.specs.declared.error.Flaw.{Flaw}
 use Rattle.ild_compile.specs.declared.error.Flaw.TheVariants as F
-use Rattle.ild_compile.specs.Compile.{Verdict, table, faulty, HasTree, HasWrongName, IsUngrammatical, IsFlaw, Compiles}
+use Rattle.ild_compile.specs.Compile.{Verdict, table, faulty, HasTree, HasWrongName, FailsRule, IsUngrammatical, IsFlaw, Compiles}
 
 -- ---- each verdict by the stage that gives it
 
@@ -30,15 +33,22 @@ abbrev Stops : Stop → Type 0
 Stops all_read = ⊥
 Stops stop = Unit {0}
 
-abbrev resolving_verdict : Result (List Row) ResolveErr → Verdict
-resolving_verdict (Ok rows) = table rows
-resolving_verdict (Err (R.Twice at)) = faulty (record { flaw = F.Twice; at = at })
-resolving_verdict (Err (R.Unknown at)) = faulty (record { flaw = F.Unknown; at = at })
-resolving_verdict (Err (R.Float at)) = faulty (record { flaw = F.Float; at = at })
-resolving_verdict (Err (R.CopyCycle at)) = faulty (record { flaw = F.CopyCycle; at = at })
-resolving_verdict (Err (R.Advanced at)) = faulty (record { flaw = F.Advanced; at = at })
-resolving_verdict (Err (R.Many at)) = faulty (record { flaw = F.Many; at = at })
-resolving_verdict (Err R.Memory) = table []
+abbrev naming_verdict : ResolveErr → Verdict
+naming_verdict (R.Twice at) = faulty (record { flaw = F.Twice; at = at })
+naming_verdict (R.Unknown at) = faulty (record { flaw = F.Unknown; at = at })
+naming_verdict (R.Float at) = faulty (record { flaw = F.Float; at = at })
+naming_verdict (R.CopyCycle at) = faulty (record { flaw = F.CopyCycle; at = at })
+naming_verdict (R.Advanced at) = faulty (record { flaw = F.Advanced; at = at })
+naming_verdict (R.Many at) = faulty (record { flaw = F.Many; at = at })
+naming_verdict R.Memory = table []
+
+-- of a table, by the rules
+abbrev ruling_verdict : Fault → Verdict
+ruling_verdict f = faulty (record { flaw = F.Rule f.rule; at = f.at })
+
+abbrev Judged : Verdict → Result (List Row) ResolveErr → Type 0
+Judged v (Ok rows) = (IsAccepted rows × (v ≡ table rows)) ⊎ ((f : Fault) × IsFirstFault rows f × (v ≡ ruling_verdict f))
+Judged v (Err e) = v ≡ naming_verdict e
 
 abbrev NoText : List ℕ → Verdict → Type 0
 NoText src v = (IsUtf8 src → ⊥) × (v ≡ faulty (record { flaw = F.Char; at = utf8_valid_len src }))
@@ -59,13 +69,22 @@ record Resolved (src : List ℕ) (v : Verdict) : Type 0 where
   pub tree : HasTree src ast
   pub result : Result (List Row) ResolveErr
   pub resolves : Resolves ast result
-  pub is : v ≡ resolving_verdict result
+  pub judged : Judged v result
 
 abbrev Staged : List ℕ → Verdict → Type 0
 Staged src v = NoText src v ⊎ (NoTokens src v ⊎ (NoTree src v ⊎ Resolved src v))
 
-misnamed : (src : List ℕ) (v : Verdict) (e : ResolveErr) → HasWrongName src e → v ≡ resolving_verdict (Err e) → Staged src v
-misnamed src v e h is = inr (inr (inr (record { ast = h.ast; tree = h.tree; result = Err e; resolves = h.resolves; is = is })))
+misnamed : (src : List ℕ) (v : Verdict) (e : ResolveErr) → HasWrongName src e → v ≡ naming_verdict e → Staged src v
+misnamed src v e h is = inr (inr (inr (record { ast = h.ast; tree = h.tree; result = Err e; resolves = h.resolves; judged = is })))
+
+ruled : (src : List ℕ) (rule : Rule) (at : ℕ) → FailsRule src rule at → Staged src (faulty (record { flaw = F.Rule rule; at = at }))
+ruled src rule at h = inr (inr (inr (record {
+  ast = h.table.ast;
+  tree = h.table.tree;
+  result = Ok h.rows;
+  resolves = h.table.resolves;
+  judged = inr (h.fault, h.first, λ i. faulty (record { flaw = F.Rule (sym h.same_rule i); at = sym h.same_place i }));
+})))
 
 staged_flaw : (src : List ℕ) (flaw : Flaw) (at : ℕ) → IsFlaw src flaw at → Staged src (faulty (record { flaw = flaw; at = at }))
 staged_flaw src F.Char at (inl h) = inl (h.0, ap (λ n. faulty (record { flaw = F.Char; at = n })) h.1)
@@ -78,9 +97,10 @@ staged_flaw src F.Float at h = misnamed src _ (R.Float at) h refl
 staged_flaw src F.CopyCycle at h = misnamed src _ (R.CopyCycle at) h refl
 staged_flaw src F.Advanced at h = misnamed src _ (R.Advanced at) h refl
 staged_flaw src F.Many at h = misnamed src _ (R.Many at) h refl
+staged_flaw src (F.Rule rule) at h = ruled src rule at h
 
 staged : (src : List ℕ) (v : Verdict) → Compiles src v → Staged src v
-staged src (table rows) h = inr (inr (inr (record { ast = h.ast; tree = h.tree; result = Ok rows; resolves = h.resolves; is = refl })))
+staged src (table rows) h = inr (inr (inr (record { ast = h.table.ast; tree = h.table.tree; result = Ok rows; resolves = h.table.resolves; judged = inl (h.accepted, refl) })))
 staged src (faulty f) h = staged_flaw src f.flaw f.at h
 
 -- ---- one reading, one tree, one result
@@ -113,10 +133,18 @@ one_tree src a b p q =
     let same = (one_lexing src p.tokens q.tokens all_read all_read p.lexed q.lexed).0 in
     one_tree_lem src p.tokens a b p.derived (subst (λ (ts : List Token). Derives src ts b) (sym same) q.derived)
 
+judged_once : (v w : Verdict) (r : Result (List Row) ResolveErr) → Judged v r → Judged w r → v ≡ w
+judged_once v w (Ok rows) (inl p) (inl q) = p.1 ∙ sym q.1
+judged_once v w (Ok rows) (inl p) (inr q) = absurd (no_fault rows p.0 q.0 q.1)
+judged_once v w (Ok rows) (inr p) (inl q) = absurd (no_fault rows q.0 p.0 p.1)
+judged_once v w (Ok rows) (inr p) (inr q) = p.2 ∙ ap ruling_verdict (one_fault rows p.0 q.0 p.1 q.1) ∙ sym q.2
+judged_once v w (Err e) p q = p ∙ sym q
+
 resolved_twice : (src : List ℕ) (v w : Verdict) → Resolved src v → Resolved src w → v ≡ w
 resolved_twice src v w p q =
     let same = one_tree src p.ast q.ast p.tree q.tree in
-    p.is ∙ ap resolving_verdict (one_result_lem q.ast p.result q.result (subst (λ (a : Ast). Resolves a p.result) same p.resolves) q.resolves) ∙ sym q.is
+    let result = one_result_lem q.ast p.result q.result (subst (λ (a : Ast). Resolves a p.result) same p.resolves) q.resolves in
+    judged_once v w q.result (subst (Judged v) result p.judged) q.judged
 
 one_staged : (src : List ℕ) (v w : Verdict) → Staged src v → Staged src w → v ≡ w
 one_staged src v w (inl p) (inl q) = p.1 ∙ sym q.1

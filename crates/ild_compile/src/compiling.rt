@@ -1,16 +1,19 @@
-//! From the bytes of a schema to its table of types.
+//! From the bytes of a schema to its accepted table of types.
 ghost use Rattle.std.specs.Prelude.{◌≡◌, ◌⊎◌, ℕ, List, IfOk, IfErr, IsUtf8, Err};
 ghost use Rattle.ild_lex.specs.Lex.{AreTokens};
 ghost use Rattle.ild_grammar.specs.declared.ast.Ast.{Ast};
+ghost use Rattle.ild_schema.specs.declared.row.Row.{Row};
 ghost use Rattle.ild_resolve.specs.Table.{Resolves};
-ghost use Rattle.ild_compile.specs.Compile.{Answers, HasTree};
+ghost use Rattle.ild_accept.specs.Judged.{IsFaultOf};
+ghost use Rattle.ild_compile.specs.Compile.{Answers, HasTable, HasTree};
 
 use crate::{CompileErr, Flaw, SchemaFault};
+use ild_accept::{AcceptErr, accept};
 use ild_grammar::Ast;
 use ild_lex::{LexErr, Tokens, tokens};
 use ild_parse::{ParseErr, parse};
 use ild_resolve::{ResolveErr, resolve};
-use ild_schema::Schema;
+use ild_schema::{Accepted, Schema};
 use std::alloc::Global;
 
 fn fault(flaw: Flaw, at: usize) -> CompileErr
@@ -73,15 +76,38 @@ fn fault_of(e: ResolveErr) -> CompileErr
     }
 }
 
-/// The table of types of a schema, or its first fault: of its characters, else of its tokens, else of its grammar, else
-/// of its names.
-pub fn compile(alloc: Global, bytes: &[u8]) -> Result<Schema, CompileErr>
-    ensures { Answers bytes.now result }
+/// The table of types of a schema, before it is judged by the rules of accepted schemas; or the first fault of the
+/// schema's characters, else of its tokens, else of its grammar, else of its names.
+pub fn table_of(alloc: Global, bytes: &[u8]) -> Result<Schema, CompileErr>
+    ensures table { IfOk result (HasTable bytes.now) }
+    ensures fault { IfErr result (λ e. Answers bytes.now (Err e)) }
 {
     let src = text_of(bytes)?;
     let tree = tree_of(alloc, src)?;
     match resolve(alloc, tree) {
         Ok(schema) => Ok(schema),
         Err(e) => Err(fault_of(e)),
+    }
+}
+
+/// The rule that fails for a table.
+fn failing(e: AcceptErr) -> CompileErr
+    ensures { (src : List ℕ) (rows : List Row) → HasTable src rows → IsFaultOf rows e → Answers src (Err result) }
+{
+    match e {
+        AcceptErr::Fault { rule, at, .. } => fault(Flaw::Rule(rule), at),
+        AcceptErr::Memory => CompileErr::Memory,
+    }
+}
+
+/// The accepted table of types of a schema, or its first fault: of its characters, else of its tokens, else of its
+/// grammar, else of its names, else by the rules of accepted schemas.
+pub fn compile(alloc: Global, bytes: &[u8]) -> Result<Accepted, CompileErr>
+    ensures { Answers bytes.now result }
+{
+    let schema = table_of(alloc, bytes)?;
+    match accept(alloc, schema) {
+        Ok(accepted) => Ok(accepted),
+        Err(e) => Err(failing(e)),
     }
 }

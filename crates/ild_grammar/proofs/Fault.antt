@@ -16,7 +16,7 @@ use Rattle.ild_grammar.proofs.CompleteParts.{decls-complete}
 use Rattle.ild_grammar.proofs.Local.{Same, same_self}
 use Rattle.ild_grammar.proofs.Opens.{Grows}
 use Rattle.ild_grammar.proofs.OpensBodies.{decls-opens}
-use Rattle.ild_grammar.proofs.Sound.{failed, no_value}
+use Rattle.ild_grammar.proofs.Results.{failed, no_value}
 
 decls_at : Stream → Result (List Decl × Stream) ℕ
 decls_at s = many_at decl_at is_end (most s) s

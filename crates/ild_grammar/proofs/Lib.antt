@@ -5,9 +5,7 @@ pub mod Form
 pub mod Part
 pub mod Grammar
 pub mod Literal
-pub mod Sound
-pub mod SoundForms
-pub mod SoundParts
+pub mod Results
 pub mod Complete
 pub mod CompleteForms
 pub mod Shorter

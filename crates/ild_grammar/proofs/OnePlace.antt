@@ -3,7 +3,7 @@ use Rattle.std.proofs.Common.{◌≡◌, ◌⊎◌, ℕ, List, [], ◌∷◌, �
 use Rattle.std.proofs.lemmas.List.{append-nil}
 use Rattle.ild_lex.specs.declared.token.Token.{Token}
 use Rattle.ild_grammar.specs.declared.ast.Ast.{Ast}
-use Rattle.ild_grammar.specs.Sign.{Sign, signs_of, place_of}
+use Rattle.ild_grammar.specs.Sign.{Sign, place_of}
 use Rattle.ild_grammar.specs.Derive.{AreParts}
 use Rattle.ild_grammar.specs.DerivePart.{IsDecl, Derives}
 use Rattle.ild_grammar.specs.Fault.{BeginText, IsDead, IsWrongAt}

@@ -6,8 +6,8 @@ use Rattle.ild_grammar.proofs.Stream.{Stream, begins, is_literal, rest_of}
 use Rattle.ild_grammar.proofs.Read.{◌>>=◌, literal_at}
 use Rattle.ild_grammar.specs.Derive.{BeginsAt}
 use Rattle.ild_grammar.proofs.Complete.{reading, word_sign}
-use Rattle.ild_grammar.proofs.Sound.{word_next}
-use Rattle.ild_grammar.proofs.Local.{Same, Found, Stops, IsNext, same_behind, see_same, see_behind, joined, token_read}
+use Rattle.ild_grammar.proofs.Results.{word_next, ok_is, no_value}
+use Rattle.ild_grammar.proofs.Local.{Same, same_self, Found, Stops, IsNext, same_behind, see_same, see_behind, joined, token_read}
 
 -- these tokens are a text of the rule for this part, whatever comes behind
 abbrev pub IsWhole : {A : Type 0} → (A → List Sign → List Sign → Type 0) → A → List Sign → Type 0
@@ -244,3 +244,72 @@ opens_token {A} part F end step none each g whole (t ∷ xs) =
     wrong : step t ≡ None → (zs : List Sign) → Same (t ∷ xs) zs → F (reading end zs) ≡ Err t.at
     wrong q [] same = absurd same
     wrong q (u ∷ us) same = subst (λ (v : Sign). F (reading end (v ∷ us)) ≡ Err t.at) same (rw (each t us, q) refl)
+
+-- ---- rules put together from their parts
+
+abbrev pub Opened : {A : Type 0} → (Stream → Result (A × Stream) ℕ) → (A → List Sign → List Sign → Type 0) → ℕ → Type 0
+Opened F part end = (xs : List Sign) → Opens F part end xs
+
+-- a part, and what is read behind it
+pub part_then : {A B : Type 0} {first : A → List Sign → List Sign → Type 0} {part : B → List Sign → List Sign → Type 0} {end : ℕ} {f : Stream → Result (A × Stream) ℕ} (k : A × Stream → Result (B × Stream) ℕ)
+    → Opened f first end → ((a : A) (front : List Sign) → IsWhole first a front → Opened (λ s. k (a, s)) (Behind part front) end) → Opened (λ s. f s >>= k) part end
+part_then {first = first} {part = part} {end = end} {f = f} k o og xs = opens_bind first part end f (λ a s. k (a, s)) og xs (o xs)
+
+-- a word or mark that has to come, and what is read behind it
+pub word_then : {A : Type 0} {part : A → List Sign → List Sign → Type 0} {end : ℕ} {w : List ℕ} {f : Stream → Result (A × Stream) ℕ}
+    → ((t : Sign) → IsSign w t → Opened f (Behind part (t ∷ [])) end) → Opened (λ s. literal_at w s >>= f) part end
+word_then {part = part} {end = end} {w = w} {f = f} of xs = opens_after part end w f of xs
+
+-- nothing more
+pub all_read : {A : Type 0} {a : A} {part : A → List Sign → List Sign → Type 0} {end : ℕ} → ((ws : List Sign) → part a ws ws) → Opened (λ s. Ok (a, s)) part end
+all_read {a = a} {part = part} {end = end} d xs = opens_pure a part end d xs
+
+-- a rule of which each text is one of another rule
+pub read_as : {A : Type 0} {first part : A → List Sign → List Sign → Type 0} {end : ℕ} {F : Stream → Result (A × Stream) ℕ}
+    → Opened F first end → ((a : A) (front : List Sign) → IsWhole first a front → IsWhole part a front) → Opened F part end
+read_as {first = first} {part = part} {end = end} {F = F} o into xs = opens_weak first part end F into xs (o xs)
+
+-- one of two, by a test of the next token
+pub either : {A : Type 0} {part : A → List Sign → List Sign → Type 0} {end : ℕ} {f g : Stream → Result (A × Stream) ℕ} (test : List Sign → Bool) → IsNext test
+    → Opened f part end → Opened g part end → Opened (λ s. cond (test s.signs) (f s) (g s)) part end
+either {part = part} {end = end} {f = f} {g = g} test next of og xs = opens_if part end test next f g of og xs
+
+-- what is read behind a word or mark, or else
+pub choice : {A : Type 0} {part : A → List Sign → List Sign → Type 0} {end : ℕ} {g : Stream → Result (A × Stream) ℕ} (w : List ℕ) (f : ℕ → Stream → Result (A × Stream) ℕ)
+    → ((t : Sign) → IsSign w t → Opened (f t.at) (Behind part (t ∷ [])) end) → Opened g part end → Opened (λ s. cond (begins w s.signs) (f (place_of s.end s.signs) (rest_of s)) (g s)) part end
+choice {part = part} {end = end} {g = g} w f of og xs = opens_word part end w f g of og xs
+
+pub last_choice : {A : Type 0} {part : A → List Sign → List Sign → Type 0} {end : ℕ} (w : List ℕ) (f : ℕ → Stream → Result (A × Stream) ℕ)
+    → ((t : Sign) → IsSign w t → Opened (f t.at) (Behind part (t ∷ [])) end) → Opened (λ s. cond (begins w s.signs) (f (place_of s.end s.signs) (rest_of s)) (Err (place_of s.end s.signs))) part end
+last_choice {part = part} {end = end} w f of xs = opens_last part end w f of xs
+
+-- a word or mark alone, or else
+abbrev pub IsAlone : {A : Type 0} → (A → List Sign → List Sign → Type 0) → List ℕ → A → Type 0
+IsAlone part w a = (t : Sign) → IsSign w t → (ws : List Sign) → part a (t ∷ ws) ws
+
+pub alone : {A : Type 0} {part : A → List Sign → List Sign → Type 0} {end : ℕ} {g : Stream → Result (A × Stream) ℕ} (w : List ℕ) (a : A) → IsAlone part w a
+    → Opened g part end → Opened (λ s. cond (begins w s.signs) (Ok (a, rest_of s)) (g s)) part end
+alone {part = part} {end = end} {g = g} w a is og xs = opens_word part end w (λ n s. Ok (a, s)) g (λ t e. opens_pure a (Behind part (t ∷ [])) end (is t e)) og xs
+
+pub last_alone : {A : Type 0} {part : A → List Sign → List Sign → Type 0} {end : ℕ} (w : List ℕ) (a : A) → IsAlone part w a
+    → Opened (λ s. cond (begins w s.signs) (Ok (a, rest_of s)) (Err (place_of s.end s.signs))) part end
+last_alone {part = part} {end = end} w a is xs = opens_last part end w (λ n s. Ok (a, s)) (λ t e. opens_pure a (Behind part (t ∷ [])) end (is t e)) xs
+
+-- ---- what is read is a text of the rule
+
+read_is : {A : Type 0} (r : Result (A × Stream) ℕ) (x y : A × Stream) → r ≡ Ok x → r ≡ Ok y → x ≡ y
+read_is r x y e f = ok_is x y (sym e ∙ f)
+
+pub opens_sound : {A : Type 0} (F : Stream → Result (A × Stream) ℕ) (part : A → List Sign → List Sign → Type 0) (end : ℕ) (xs : List Sign) (y : A × Stream) → Opens F part end xs → F (reading end xs) ≡ Ok y → part y.0 xs y.1.signs
+opens_sound {A} F part end xs y o e =
+    elim o.is [
+      | inl h ↦
+          let f = h.found in
+          let here : F (reading end xs) ≡ Ok (f.part, reading end f.rest) = subst (λ (us : List Sign). F (reading end us) ≡ Ok (f.part, reading end f.rest)) (sym f.are) (f.read f.rest (same_self f.rest)) in
+          let derived : part f.part xs f.rest = subst (λ (us : List Sign). part f.part us f.rest) (sym f.are) (h.whole f.rest) in
+          subst (λ (z : A × Stream). part z.0 xs z.1.signs) (read_is (F (reading end xs)) (f.part, reading end f.rest) y here e) derived
+      | inr w ↦
+          let h = w.stops in
+          let here : F (reading end xs) ≡ Err (place_of end h.rest) = subst (λ (us : List Sign). F (reading end us) ≡ Err (place_of end h.rest)) (sym h.are) (h.fails h.rest (same_self h.rest)) in
+          absurd (no_value (place_of end h.rest) y (sym here ∙ e))
+    ]

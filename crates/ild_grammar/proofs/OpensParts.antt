@@ -1,7 +1,9 @@
 -- References, fields and members go on to a text of their rule.
-use Rattle.std.proofs.Common.{◌≡◌, ℕ, zero, suc, ◌+◌, Bool, true, false, cond, List, [], ◌∷◌, ◌++◌, Result, Ok, Err, Option, Some, None, refl, ap, arith}
-use Rattle.std.specs.Prelude.{codes}
+use Rattle.std.proofs.Common.{ℕ, zero, suc, ◌+◌, Bool, true, false, cond, List, [], ◌∷◌, ◌++◌, Result, Ok, Err, Option, Some, None, refl, ap, arith, ◌≡◌, ◌≤◌}
+use Rattle.std.specs.Prelude.{codes, count_by, if◌then◌else◌}
 use Rattle.ild_grammar.specs.declared.ast.Name.{Name}
+use Rattle.ild_grammar.specs.declared.ast.Text.{Text}
+use Rattle.ild_grammar.specs.declared.ast.Implicit.{Implicit}
 use Rattle.ild_grammar.specs.declared.ast.Field.{Field}
 use Rattle.ild_grammar.specs.declared.ast.Opt.{Opt}
 use Rattle.ild_grammar.specs.declared.ast.Opt.TheVariants as OV
@@ -13,19 +15,19 @@ use Rattle.ild_grammar.specs.declared.ast.Mark.{Mark}
 use Rattle.ild_grammar.specs.declared.ast.Mark.TheVariants as MV
 use Rattle.ild_grammar.specs.declared.ast.KindWord.{KindWord}
 use Rattle.ild_grammar.specs.declared.ast.KindWord.TheVariants as KV
-use Rattle.ild_grammar.specs.Reference.{Reference, refer, Refers, named, link, list, map}
+use Rattle.ild_grammar.specs.Reference.{Reference, refer, Refers}
 use Rattle.ild_grammar.specs.Sign.{Sign, is_text, is_number}
 use Rattle.ild_grammar.proofs.Stream.{Stream, place, begins, next_is, rest_of}
-use Rattle.ild_grammar.proofs.Read.{◌>>=◌, literal_at, type_name_at, name_at, text_at, number_at}
+use Rattle.ild_grammar.proofs.Read.{◌>>=◌, literal_at, type_name_at, name_at, text_at}
 use Rattle.ild_grammar.proofs.Refer.{behind_word, named_at, link_at, ref_with, list_with, map_with, inline_at, ref_at}
 use Rattle.ild_grammar.specs.Derive.{deepest}
 use Rattle.ild_grammar.proofs.Part.{implicit_at, rename_opt_at, implicit_opt_at, opt_at, other_opt_at, opts_behind, opts_at, field_at, target_at, kind_of, kind_mark, mark_at, member_at, quoted_at, enum_member_at}
-use Rattle.ild_grammar.specs.Derive.{IsTypeName, IsName, IsText, IsNumber, IsOptional, IsReference, IsInline}
+use Rattle.ild_grammar.specs.Derive.{IsOptional, IsReference, IsInline}
 use Rattle.ild_grammar.specs.DerivePart.{IsImplicit, IsOpt, renames, is_implicit, AreOpts, IsField, IsTarget, IsMark, IsMember, IsQuoted, IsEnumMember}
-use Rattle.ild_grammar.proofs.Sound.{done}
-use Rattle.ild_grammar.proofs.SoundParts.{AreTwo, one_opt, rename_then, implicit_then}
+use Rattle.ild_grammar.proofs.Results.{done}
+use Rattle.std.proofs.lemmas.Bool.{false≢true}
 use Rattle.ild_grammar.proofs.Shorter.{inline_shorter, target_shorter}
-use Rattle.ild_grammar.proofs.Opens.{Opens, Behind, IsSign, begins_more, opens_equal, opens_weak, opens_pure, opens_bind, opens_placed, opens_if, opens_word, opens_last, opens_after}
+use Rattle.ild_grammar.proofs.Opens.{Opens, Opened, Behind, IsSign, IsWhole, begins_more, opens_equal, opens_pure, opens_bind, opens_placed, opens_word, opens_after, part_then, word_then, all_read, read_as, either, choice, alone, last_alone}
 use Rattle.ild_grammar.proofs.OpensForms.{type-opens, name-opens, text-opens, number-opens}
 
 -- ---- references
@@ -33,13 +35,13 @@ use Rattle.ild_grammar.proofs.OpensForms.{type-opens, name-opens, text-opens, nu
 one_more : (room : ℕ) → suc room ≡ room + 1
 one_more room = omega arith
 
-pub named-opens : (room : ℕ) → (end : ℕ) (xs : List Sign) → Opens named_at (IsInline room) end xs
+pub named-opens : (room end : ℕ) → Opened named_at (IsInline room) end
 unfolding named_at
-named-opens room end xs = opens_bind IsTypeName (IsInline room) end type_name_at (λ a6 s5. Ok (named a6, s5)) (λ a1 front2 d3. opens_pure (named a1) (Behind (IsInline room) front2) end (λ ws. d3 ws)) xs (type-opens end xs)
+named-opens room end = part_then _ (type-opens end) (λ n front d. all_read d)
 
-pub link-opens : (room : ℕ) → (end : ℕ) (xs : List Sign) → Opens link_at (IsInline (suc room)) end xs
+pub link-opens : (room end : ℕ) → Opened link_at (IsInline (suc room)) end
 unfolding link_at
-link-opens room end xs = (opens_after (IsInline (suc room)) end (codes "&") (λ s9. type_name_at s9 >>= (λ y10. Ok (link y10.0, y10.1))) (λ t7 e8. (λ xs14. opens_bind IsTypeName (Behind (IsInline (suc room)) (t7 ∷ [])) end type_name_at (λ a16 s15. Ok (link a16, s15)) (λ a11 front12 d13. opens_pure (link a11) (Behind (Behind (IsInline (suc room)) (t7 ∷ [])) front12) end (λ ws. (room, one_more room, (front12 ++ ws, (e8.0, e8.1, refl), d13 ws)))) xs14 (type-opens end xs14)))) xs
+link-opens room end = word_then (λ t e. part_then _ (type-opens end) (λ n front d. all_read (λ ws. (room, one_more room, (front ++ ws, (e.0, e.1, refl), d ws)))))
 
 -- behind `nullable` or without it
 ref_from : (Stream → Result (Refers × Stream) ℕ) → ℕ → Bool → Stream → Result (Reference × Stream) ℕ
@@ -71,21 +73,28 @@ ref-opens room inline end each xs =
         opens_placed (IsInline room) (IsReference room) end inline (λ n i s. Ok (refer n false n i, s)) (nothing_inline room)
         (λ n i front b d. opens_pure (refer n false n i) (Behind (IsReference room) front) end (λ ws. (front ++ ws, refl, begins_more n front ws b, begins_more n front ws b, d ws))) us (each us)
 
-pub list_with-opens : (room : ℕ) (inline : Stream → Result (Refers × Stream) ℕ) (end : ℕ) → ((xs : List Sign) → Opens inline (IsInline room) end xs) → (xs : List Sign) → Opens (list_with inline) (IsInline (suc room)) end xs
+pub list_with-opens : (room : ℕ) (inline : Stream → Result (Refers × Stream) ℕ) (end : ℕ) → Opened inline (IsInline room) end → Opened (list_with inline) (IsInline (suc room)) end
 unfolding list_with
-list_with-opens room inline end each xs = (opens_after (IsInline (suc room)) end (codes "[") (λ s19. (ref_with inline) s19 >>= (λ y20. literal_at (codes "]") y20.1 >>= (λ s21. Ok (list y20.0, s21)))) (λ t17 e18. (λ xs25. opens_bind (IsReference room) (Behind (IsInline (suc room)) (t17 ∷ [])) end (ref_with inline) (λ a27 s26. literal_at (codes "]") s26 >>= (λ s28. Ok (list a27, s28))) (λ a22 front23 d24. opens_after (Behind (Behind (IsInline (suc room)) (t17 ∷ [])) front23) end (codes "]") (λ s31. Ok (list a22, s31)) (λ t29 e30. opens_pure (list a22) (Behind (Behind (Behind (IsInline (suc room)) (t17 ∷ [])) front23) (t29 ∷ [])) end (λ ws. (room, one_more room, (front23 ++ (t29 ∷ ws), t29 ∷ ws, (e18.0, e18.1, refl), d24 (t29 ∷ ws), (e30.0, e30.1, refl)))))) xs25 (ref-opens room inline end each xs25)))) xs
+list_with-opens room inline end each =
+    word_then (λ t e. part_then _ (ref-opens room inline end each) (λ r front d. word_then (λ u c. all_read (λ ws. (room, one_more room, (front ++ (u ∷ ws), u ∷ ws, (e.0, e.1, refl), d (u ∷ ws), (c.0, c.1, refl)))))))
 
-pub map_with-opens : (room : ℕ) (inline : Stream → Result (Refers × Stream) ℕ) (end : ℕ) → ((xs : List Sign) → Opens inline (IsInline room) end xs) → (xs : List Sign) → Opens (map_with inline) (IsInline (suc room)) end xs
+pub map_with-opens : (room : ℕ) (inline : Stream → Result (Refers × Stream) ℕ) (end : ℕ) → Opened inline (IsInline room) end → Opened (map_with inline) (IsInline (suc room)) end
 unfolding map_with
-map_with-opens room inline end each xs = (opens_after (IsInline (suc room)) end (codes "{") (λ s34. type_name_at s34 >>= (λ y35. literal_at (codes ":") y35.1 >>= (λ s36. (ref_with inline) s36 >>= (λ y37. literal_at (codes "}") y37.1 >>= (λ s38. Ok (map y35.0 y37.0, s38)))))) (λ t32 e33. (λ xs42. opens_bind IsTypeName (Behind (IsInline (suc room)) (t32 ∷ [])) end type_name_at (λ a44 s43. literal_at (codes ":") s43 >>= (λ s45. (ref_with inline) s45 >>= (λ y46. literal_at (codes "}") y46.1 >>= (λ s47. Ok (map a44 y46.0, s47))))) (λ a39 front40 d41. opens_after (Behind (Behind (IsInline (suc room)) (t32 ∷ [])) front40) end (codes ":") (λ s50. (ref_with inline) s50 >>= (λ y51. literal_at (codes "}") y51.1 >>= (λ s52. Ok (map a39 y51.0, s52)))) (λ t48 e49. (λ xs56. opens_bind (IsReference room) (Behind (Behind (Behind (IsInline (suc room)) (t32 ∷ [])) front40) (t48 ∷ [])) end (ref_with inline) (λ a58 s57. literal_at (codes "}") s57 >>= (λ s59. Ok (map a39 a58, s59))) (λ a53 front54 d55. opens_after (Behind (Behind (Behind (Behind (IsInline (suc room)) (t32 ∷ [])) front40) (t48 ∷ [])) front54) end (codes "}") (λ s62. Ok (map a39 a53, s62)) (λ t60 e61. opens_pure (map a39 a53) (Behind (Behind (Behind (Behind (Behind (IsInline (suc room)) (t32 ∷ [])) front40) (t48 ∷ [])) front54) (t60 ∷ [])) end (λ ws. (room, one_more room, (front40 ++ (t48 ∷ (front54 ++ (t60 ∷ ws))), t48 ∷ (front54 ++ (t60 ∷ ws)), front54 ++ (t60 ∷ ws), t60 ∷ ws, (e33.0, e33.1, refl), d41 (t48 ∷ (front54 ++ (t60 ∷ ws))), (e49.0, e49.1, refl), d55 (t60 ∷ ws), (e61.0, e61.1, refl)))))) xs56 (ref-opens room inline end each xs56)))) xs42 (type-opens end xs42)))) xs
+map_with-opens room inline end each =
+    word_then (λ t e. part_then _ (type-opens end) (λ k front d. word_then (λ u c. part_then _ (ref-opens room inline end each) (λ r other o. word_then (λ v f. all_read (λ ws.
+    let last : List Sign = other ++ (v ∷ ws) in
+    (room, one_more room, (front ++ (u ∷ last), u ∷ last, last, v ∷ ws, (e.0, e.1, refl), d (u ∷ last), (c.0, c.1, refl), o (v ∷ ws), (f.0, f.1, refl)))))))))
 
-pub inline-opens : (room : ℕ) (end : ℕ) (xs : List Sign) → Opens (inline_at room) (IsInline room) end xs
+pub inline-opens : (room end : ℕ) → Opened (inline_at room) (IsInline room) end
 unfolding inline_at
-inline-opens zero end xs = named-opens zero end xs
-inline-opens (suc room) end xs = (opens_if (IsInline (suc room)) end (begins (codes "&")) (λ t us zs. refl) (λ s63. link_at s63) (λ s64. cond ((begins (codes "[")) s64.signs) (list_with (inline_at room) s64) (cond ((begins (codes "{")) s64.signs) (map_with (inline_at room) s64) (named_at s64))) ((link-opens room end)) (opens_if (IsInline (suc room)) end (begins (codes "[")) (λ t us zs. refl) (λ s65. list_with (inline_at room) s65) (λ s66. cond ((begins (codes "{")) s66.signs) (map_with (inline_at room) s66) (named_at s66)) ((list_with-opens room (inline_at room) end (inline-opens room end))) (opens_if (IsInline (suc room)) end (begins (codes "{")) (λ t us zs. refl) (λ s67. map_with (inline_at room) s67) (λ s68. named_at s68) ((map_with-opens room (inline_at room) end (inline-opens room end))) ((named-opens (suc room) end))))) xs
+inline-opens zero end = named-opens zero end
+inline-opens (suc room) end =
+    either (begins (codes "&")) (λ t us zs. refl) (link-opens room end)
+    (either (begins (codes "[")) (λ t us zs. refl) (list_with-opens room (inline_at room) end (inline-opens room end))
+    (either (begins (codes "{")) (λ t us zs. refl) (map_with-opens room (inline_at room) end (inline-opens room end)) (named-opens (suc room) end)))
 
-pub reference-opens : (end : ℕ) (xs : List Sign) → Opens (ref_at deepest) (IsReference deepest) end xs
-reference-opens end xs = ref-opens deepest (inline_at deepest) end (inline-opens deepest end) xs
+pub reference-opens : (end : ℕ) → Opened (ref_at deepest) (IsReference deepest) end
+reference-opens end = ref-opens deepest (inline_at deepest) end (inline-opens deepest end)
 
 -- ---- fields
 
@@ -96,33 +105,62 @@ IsRename o xs ys = IsOpt o xs ys × (renames o ≡ true)
 abbrev IsOther : Opt → List Sign → List Sign → Type 0
 IsOther o xs ys = IsOpt o xs ys × (is_implicit o ≡ true)
 
+pub implicit-opens : (end : ℕ) → Opened implicit_at IsImplicit end
+unfolding implicit_at
+implicit-opens end =
+    either is_text (λ t us zs. refl) (part_then _ (text-opens end) (λ x front d. all_read d))
+    (either is_number (λ t us zs. refl) (part_then _ (number-opens end) (λ n front d. all_read d))
+    (alone (codes "true") IV.True (λ t e ws. (e.0, e.1, refl)) (last_alone (codes "false") IV.False (λ t e ws. (e.0, e.1, refl)))))
+
+pub rename_opt-opens : (end : ℕ) → Opened rename_opt_at IsRename end
+unfolding rename_opt_at
+rename_opt-opens end = word_then (λ t e. part_then _ (text-opens end) (λ x front d. all_read (λ ws. ((front ++ ws, (e.0, e.1, refl), d ws), refl))))
+
+pub implicit_opt-opens : (end : ℕ) → Opened implicit_opt_at IsOther end
+unfolding implicit_opt_at
+implicit_opt-opens end = word_then (λ t e. part_then _ (implicit-opens end) (λ v front d. all_read (λ ws. ((front ++ ws, (e.0, e.1, refl), d ws), refl))))
+
+pub opt-opens : (end : ℕ) → Opened opt_at IsOpt end
+unfolding opt_at
+opt-opens end =
+    either (begins (codes "rename")) (λ t us zs. refl) (read_as (rename_opt-opens end) (λ o front d ws. (d ws).0)) (read_as (implicit_opt-opens end) (λ o front d ws. (d ws).0))
+
+-- two opts that differ
+abbrev AreTwo : Opt → Opt → Type 0
+AreTwo a b = (count_by renames (a ∷ b ∷ []) ≤ 1) × (count_by is_implicit (a ∷ b ∷ []) ≤ 1)
+
+rename_then : (t : Text) (b : Opt) → is_implicit b ≡ true → AreTwo (OV.Rename t) b
+rename_then t (OV.Rename u) h = absurd (false≢true h)
+rename_then t (OV.Implicit v) h = (omega arith, omega arith)
+
+implicit_then : (v : Implicit) (b : Opt) → renames b ≡ true → AreTwo (OV.Implicit v) b
+implicit_then v (OV.Rename u) h = (omega arith, omega arith)
+implicit_then v (OV.Implicit w) h = absurd (false≢true h)
+
+one_opt : (a : Opt) → (count_by renames (a ∷ []) ≤ 1) × (count_by is_implicit (a ∷ []) ≤ 1)
+one_opt (OV.Rename t) = (omega arith, omega arith)
+one_opt (OV.Implicit v) = (omega arith, omega arith)
+
 abbrev IsSecond : Opt → Opt → List Sign → List Sign → Type 0
 IsSecond first o xs ys = IsOpt o xs ys × AreTwo first o
 
-pub implicit-opens : (end : ℕ) (xs : List Sign) → Opens implicit_at IsImplicit end xs
-unfolding implicit_at
-implicit-opens end xs = (opens_if IsImplicit end is_text (λ t us zs. refl) (λ s69. text_at s69 >>= (λ y71. Ok (IV.Text y71.0, y71.1))) (λ s70. cond (is_number s70.signs) (number_at s70 >>= (λ y72. Ok (IV.Number y72.0, y72.1))) (cond (next_is (codes "true") s70) (Ok (IV.True, (rest_of s70))) (cond (next_is (codes "false") s70) (Ok (IV.False, (rest_of s70))) (Err (place s70))))) ((λ xs76. opens_bind IsText IsImplicit end text_at (λ a78 s77. Ok (IV.Text a78, s77)) (λ a73 front74 d75. opens_pure (IV.Text a73) (Behind IsImplicit front74) end (λ ws. d75 ws)) xs76 (text-opens end xs76))) (opens_if IsImplicit end is_number (λ t us zs. refl) (λ s79. number_at s79 >>= (λ y81. Ok (IV.Number y81.0, y81.1))) (λ s80. cond (next_is (codes "true") s80) (Ok (IV.True, (rest_of s80))) (cond (next_is (codes "false") s80) (Ok (IV.False, (rest_of s80))) (Err (place s80)))) ((λ xs85. opens_bind IsNumber IsImplicit end number_at (λ a87 s86. Ok (IV.Number a87, s86)) (λ a82 front83 d84. opens_pure (IV.Number a82) (Behind IsImplicit front83) end (λ ws. d84 ws)) xs85 (number-opens end xs85))) (opens_word IsImplicit end (codes "true") (λ n90 s91. Ok (IV.True, s91)) (λ s92. cond (next_is (codes "false") s92) (Ok (IV.False, (rest_of s92))) (Err (place s92))) (λ t88 e89. opens_pure (IV.True) (Behind IsImplicit (t88 ∷ [])) end (λ ws. (e89.0, e89.1, refl))) (opens_last IsImplicit end (codes "false") (λ n95 s96. Ok (IV.False, s96)) (λ t93 e94. opens_pure (IV.False) (Behind IsImplicit (t93 ∷ [])) end (λ ws. (e94.0, e94.1, refl))))))) xs
-
-pub rename_opt-opens : (end : ℕ) (xs : List Sign) → Opens rename_opt_at IsRename end xs
-unfolding rename_opt_at
-rename_opt-opens end xs = (opens_after IsRename end (codes "rename") (λ s100. text_at s100 >>= (λ y101. Ok (OV.Rename y101.0, y101.1))) (λ t98 e99. (λ xs105. opens_bind IsText (Behind IsRename (t98 ∷ [])) end text_at (λ a107 s106. Ok (OV.Rename a107, s106)) (λ a102 front103 d104. opens_pure (OV.Rename a102) (Behind (Behind IsRename (t98 ∷ [])) front103) end (λ ws. ((front103 ++ ws, (e99.0, e99.1, refl), d104 ws), refl))) xs105 (text-opens end xs105)))) xs
-
-pub implicit_opt-opens : (end : ℕ) (xs : List Sign) → Opens implicit_opt_at IsOther end xs
-unfolding implicit_opt_at
-implicit_opt-opens end xs = (opens_after IsOther end (codes "implicit") (λ s110. implicit_at s110 >>= (λ y111. Ok (OV.Implicit y111.0, y111.1))) (λ t108 e109. (λ xs115. opens_bind IsImplicit (Behind IsOther (t108 ∷ [])) end implicit_at (λ a117 s116. Ok (OV.Implicit a117, s116)) (λ a112 front113 d114. opens_pure (OV.Implicit a112) (Behind (Behind IsOther (t108 ∷ [])) front113) end (λ ws. ((front113 ++ ws, (e109.0, e109.1, refl), d114 ws), refl))) xs115 (implicit-opens end xs115)))) xs
-
-pub opt-opens : (end : ℕ) (xs : List Sign) → Opens opt_at IsOpt end xs
-unfolding opt_at
-opt-opens end xs = (opens_if IsOpt end (begins (codes "rename")) (λ t us zs. refl) (λ s118. rename_opt_at s118) (λ s119. implicit_opt_at s119) ((λ xs123. opens_weak IsRename IsOpt end rename_opt_at (λ a120 front121 d122 ws. (d122 ws).0) xs123 (rename_opt-opens end xs123))) ((λ xs127. opens_weak IsOther IsOpt end implicit_opt_at (λ a124 front125 d126 ws. (d126 ws).0) xs127 (implicit_opt-opens end xs127)))) xs
-
-pub other_opt-opens : (p : Opt) (end : ℕ) (xs : List Sign) → Opens (other_opt_at p) (IsSecond p) end xs
+pub other_opt-opens : (p : Opt) (end : ℕ) → Opened (other_opt_at p) (IsSecond p) end
 unfolding other_opt_at
-other_opt-opens (OV.Rename t) end xs = opens_weak IsOther (IsSecond (OV.Rename t)) end implicit_opt_at (λ a front d ws. ((d ws).0, rename_then t a (d ws).1)) xs (implicit_opt-opens end xs)
-other_opt-opens (OV.Implicit v) end xs = opens_weak IsRename (IsSecond (OV.Implicit v)) end rename_opt_at (λ a front d ws. ((d ws).0, implicit_then v a (d ws).1)) xs (rename_opt-opens end xs)
+other_opt-opens (OV.Rename t) end = read_as (implicit_opt-opens end) (λ o front d ws. ((d ws).0, rename_then t o (d ws).1))
+other_opt-opens (OV.Implicit v) end = read_as (rename_opt-opens end) (λ o front d ws. ((d ws).0, implicit_then v o (d ws).1))
 
-pub opts-opens : (end : ℕ) (xs : List Sign) → Opens opts_at AreOpts end xs
+pub opts-opens : (end : ℕ) → Opened opts_at AreOpts end
 unfolding opts_at opts_behind
-opts-opens end xs = (opens_word AreOpts end (codes "(") (λ n130 s131. opt_at s131 >>= (λ y133. cond (next_is (codes ")") y133.1) (Ok (y133.0 ∷ [], (rest_of y133.1))) ((other_opt_at y133.0) y133.1 >>= (λ y134. literal_at (codes ")") y134.1 >>= (λ s135. Ok (y133.0 ∷ y134.0 ∷ [], s135)))))) (λ s132. Ok ([], s132)) (λ t128 e129. (λ xs139. opens_bind IsOpt (Behind AreOpts (t128 ∷ [])) end opt_at (λ a141 s140. cond (next_is (codes ")") s140) (Ok (a141 ∷ [], (rest_of s140))) ((other_opt_at a141) s140 >>= (λ y142. literal_at (codes ")") y142.1 >>= (λ s143. Ok (a141 ∷ y142.0 ∷ [], s143))))) (λ a136 front137 d138. opens_word (Behind (Behind AreOpts (t128 ∷ [])) front137) end (codes ")") (λ n146 s147. Ok (a136 ∷ [], s147)) (λ s148. (other_opt_at a136) s148 >>= (λ y149. literal_at (codes ")") y149.1 >>= (λ s150. Ok (a136 ∷ y149.0 ∷ [], s150)))) (λ t144 e145. opens_pure (a136 ∷ []) (Behind (Behind (Behind AreOpts (t128 ∷ [])) front137) (t144 ∷ [])) end (λ ws. (front137 ++ (t144 ∷ ws), t144 ∷ ws, (e129.0, e129.1, refl), (t144 ∷ ws, d138 (t144 ∷ ws), refl), (e145.0, e145.1, refl), (one_opt a136).0, (one_opt a136).1))) ((λ xs154. opens_bind (IsSecond a136) (Behind (Behind AreOpts (t128 ∷ [])) front137) end (other_opt_at a136) (λ a156 s155. literal_at (codes ")") s155 >>= (λ s157. Ok (a136 ∷ a156 ∷ [], s157))) (λ a151 front152 d153. opens_after (Behind (Behind (Behind AreOpts (t128 ∷ [])) front137) front152) end (codes ")") (λ s160. Ok (a136 ∷ a151 ∷ [], s160)) (λ t158 e159. opens_pure (a136 ∷ a151 ∷ []) (Behind (Behind (Behind (Behind AreOpts (t128 ∷ [])) front137) front152) (t158 ∷ [])) end (λ ws. (front137 ++ (front152 ++ (t158 ∷ ws)), t158 ∷ ws, (e129.0, e129.1, refl), (front152 ++ (t158 ∷ ws), d138 (front152 ++ (t158 ∷ ws)), (t158 ∷ ws, (d153 (t158 ∷ ws)).0, refl)), (e159.0, e159.1, refl), (d153 (t158 ∷ ws)).1.0, (d153 (t158 ∷ ws)).1.1)))) xs154 (other_opt-opens a136 end xs154)))) xs139 (opt-opens end xs139))) (opens_pure ([]) AreOpts end (λ ws. refl))) xs
+opts-opens end =
+    choice (codes "(") (λ n s. opt_at s >>= (λ first. opts_behind first.0 first.1))
+    (λ t e. part_then _ (opt-opens end) (λ p front d.
+    choice (codes ")") (λ n s. Ok (p ∷ [], s))
+    (λ u c. all_read (λ ws. (front ++ (u ∷ ws), u ∷ ws, (e.0, e.1, refl), (u ∷ ws, d (u ∷ ws), refl), (c.0, c.1, refl), (one_opt p).0, (one_opt p).1)))
+    (part_then _ (other_opt-opens p end) (λ q other o. word_then (λ u c. all_read (λ ws.
+    let last : List Sign = other ++ (u ∷ ws) in
+    let second = o (u ∷ ws) in
+    (front ++ last, u ∷ ws, (e.0, e.1, refl), (last, d last, (u ∷ ws, second.0, refl)), (c.0, c.1, refl), second.1.0, second.1.1)))))))
+    (all_read (λ ws. refl))
 
 -- a field, behind its name and behind `optional`
 field_from : Name → Bool → Stream → Result (Field × Stream) ℕ
@@ -144,18 +182,47 @@ field_is s = each (name_at s)
     each (Ok n) = from n.0 n.1
     each (Err e) = refl
 
-pub field-opens : (end : ℕ) (xs : List Sign) → Opens field_at IsField end xs
-unfolding behind_name field_from
-field-opens end xs = opens_equal field_at (λ s. name_at s >>= (λ n. behind_name n.0 n.1)) IsField field_is end xs (opens_bind IsName IsField end name_at (λ a166 s165. cond (next_is (codes "optional") s165) ((ref_at deepest) (rest_of s165) >>= (λ y167. opts_at y167.1 >>= (λ y168. Ok (record { name = a166; optional = true; value = y167.0; opts = y168.0 }, y168.1)))) ((ref_at deepest) s165 >>= (λ y169. opts_at y169.1 >>= (λ y170. Ok (record { name = a166; optional = false; value = y169.0; opts = y170.0 }, y170.1))))) (λ a161 front162 d163. opens_word (Behind IsField front162) end (codes "optional") (λ n173 s174. (ref_at deepest) s174 >>= (λ y176. opts_at y176.1 >>= (λ y177. Ok (record { name = a161; optional = true; value = y176.0; opts = y177.0 }, y177.1)))) (λ s175. (ref_at deepest) s175 >>= (λ y191. opts_at y191.1 >>= (λ y192. Ok (record { name = a161; optional = false; value = y191.0; opts = y192.0 }, y192.1)))) (λ t171 e172. (λ xs181. opens_bind (IsReference deepest) (Behind (Behind IsField front162) (t171 ∷ [])) end (ref_at deepest) (λ a183 s182. opts_at s182 >>= (λ y184. Ok (record { name = a161; optional = true; value = a183; opts = y184.0 }, y184.1))) (λ a178 front179 d180. (λ xs188. opens_bind AreOpts (Behind (Behind (Behind IsField front162) (t171 ∷ [])) front179) end opts_at (λ a190 s189. Ok (record { name = a161; optional = true; value = a178; opts = a190 }, s189)) (λ a185 front186 d187. opens_pure (record { name = a161; optional = true; value = a178; opts = a185 }) (Behind (Behind (Behind (Behind IsField front162) (t171 ∷ [])) front179) front186) end (λ ws. (t171 ∷ (front179 ++ (front186 ++ ws)), front179 ++ (front186 ++ ws), front186 ++ ws, d163 (t171 ∷ (front179 ++ (front186 ++ ws))), (e172.0, e172.1, refl), d180 (front186 ++ ws), d187 ws))) xs188 (opts-opens end xs188))) xs181 (reference-opens end xs181))) ((λ xs196. opens_bind (IsReference deepest) (Behind IsField front162) end (ref_at deepest) (λ a198 s197. opts_at s197 >>= (λ y199. Ok (record { name = a161; optional = false; value = a198; opts = y199.0 }, y199.1))) (λ a193 front194 d195. (λ xs203. opens_bind AreOpts (Behind (Behind IsField front162) front194) end opts_at (λ a205 s204. Ok (record { name = a161; optional = false; value = a193; opts = a205 }, s204)) (λ a200 front201 d202. opens_pure (record { name = a161; optional = false; value = a193; opts = a200 }) (Behind (Behind (Behind IsField front162) front194) front201) end (λ ws. (front194 ++ (front201 ++ ws), front194 ++ (front201 ++ ws), front201 ++ ws, d163 (front194 ++ (front201 ++ ws)), refl, d195 (front201 ++ ws), d202 ws))) xs203 (opts-opens end xs203))) xs196 (reference-opens end xs196)))) xs (name-opens end xs))
+-- behind the name, with `optional` or without it
+value-opens : (end : ℕ) (n : Name) (b : Bool) (part : Field → List Sign → List Sign → Type 0)
+    → ((r : Reference) (os : List Opt) (front other : List Sign) → IsWhole (IsReference deepest) r front → IsWhole AreOpts os other
+    → (ws : List Sign) → part (record { name = n; optional = b; value = r; opts = os }) (front ++ (other ++ ws)) ws)
+    → Opened (field_from n b) part end
+unfolding field_from
+value-opens end n b part whole = part_then _ (reference-opens end) (λ r front d. part_then _ (opts-opens end) (λ os other o. all_read (whole r os front other d o)))
+
+pub field-opens : (end : ℕ) → Opened field_at IsField end
+unfolding behind_name
+field-opens end xs =
+    opens_equal field_at (λ s. name_at s >>= (λ n. behind_name n.0 n.1)) IsField field_is end xs
+    (part_then (λ n. behind_name n.0 n.1) (name-opens end) (λ n front d.
+    choice (codes "optional") (λ at s. field_from n true s)
+    (λ t e. value-opens end n true (Behind (Behind IsField front) (t ∷ [])) (λ r os more other m o ws.
+    let last : List Sign = more ++ (other ++ ws) in
+    (t ∷ last, last, other ++ ws, d (t ∷ last), (e.0, e.1, refl), m (other ++ ws), o ws)))
+    (value-opens end n false (Behind IsField front) (λ r os more other m o ws.
+    let last : List Sign = more ++ (other ++ ws) in
+    (last, last, other ++ ws, d last, refl, m (other ++ ws), o ws)))) xs)
 
 -- ---- members
 
-pub target-opens : (end : ℕ) (xs : List Sign) → Opens target_at IsTarget end xs
+pub target-opens : (end : ℕ) → Opened target_at IsTarget end
 unfolding target_at
-target-opens end xs = (opens_word IsTarget end (codes "&") (λ n208 s209. type_name_at s209 >>= (λ y211. Ok (TV.Link y211.0, y211.1))) (λ s210. type_name_at s210 >>= (λ y218. Ok (TV.Type y218.0, y218.1))) (λ t206 e207. (λ xs215. opens_bind IsTypeName (Behind IsTarget (t206 ∷ [])) end type_name_at (λ a217 s216. Ok (TV.Link a217, s216)) (λ a212 front213 d214. opens_pure (TV.Link a212) (Behind (Behind IsTarget (t206 ∷ [])) front213) end (λ ws. (front213 ++ ws, (e207.0, e207.1, refl), d214 ws))) xs215 (type-opens end xs215))) ((λ xs222. opens_bind IsTypeName IsTarget end type_name_at (λ a224 s223. Ok (TV.Type a224, s223)) (λ a219 front220 d221. opens_pure (TV.Type a219) (Behind IsTarget front220) end (λ ws. d221 ws)) xs222 (type-opens end xs222)))) xs
+target-opens end =
+    choice (codes "&") (λ n s. type_name_at s >>= (λ m. Ok (TV.Link m.0, m.1))) (λ t e. part_then _ (type-opens end) (λ m front d. all_read (λ ws. (front ++ ws, (e.0, e.1, refl), d ws))))
+    (part_then _ (type-opens end) (λ m front d. all_read d))
 
 kinds : Stream → Result (Option Mark × Stream) ℕ
-kinds s = cond (next_is (codes "null") s) (Ok (Some (MV.Kind KV.Null), (rest_of s))) (cond (next_is (codes "bool") s) (Ok (Some (MV.Kind KV.Bool), (rest_of s))) (cond (next_is (codes "int") s) (Ok (Some (MV.Kind KV.Int), (rest_of s))) (cond (next_is (codes "float") s) (Ok (Some (MV.Kind (KV.Float (place s))), rest_of s)) (cond (next_is (codes "string") s) (Ok (Some (MV.Kind KV.String), (rest_of s))) (cond (next_is (codes "bytes") s) (Ok (Some (MV.Kind KV.Bytes), (rest_of s))) (cond (next_is (codes "list") s) (Ok (Some (MV.Kind KV.List), (rest_of s))) (cond (next_is (codes "map") s) (Ok (Some (MV.Kind KV.Map), (rest_of s))) (cond (next_is (codes "link") s) (Ok (Some (MV.Kind KV.Link), (rest_of s))) (Ok (None, s))))))))))
+kinds s =
+    if next_is (codes "null") s then Ok (Some (MV.Kind KV.Null), rest_of s)
+    else if next_is (codes "bool") s then Ok (Some (MV.Kind KV.Bool), rest_of s)
+    else if next_is (codes "int") s then Ok (Some (MV.Kind KV.Int), rest_of s)
+    else if next_is (codes "float") s then Ok (Some (MV.Kind (KV.Float (place s))), rest_of s)
+    else if next_is (codes "string") s then Ok (Some (MV.Kind KV.String), rest_of s)
+    else if next_is (codes "bytes") s then Ok (Some (MV.Kind KV.Bytes), rest_of s)
+    else if next_is (codes "list") s then Ok (Some (MV.Kind KV.List), rest_of s)
+    else if next_is (codes "map") s then Ok (Some (MV.Kind KV.Map), rest_of s)
+    else if next_is (codes "link") s then Ok (Some (MV.Kind KV.Link), rest_of s)
+    else Ok (None, s)
 
 -- a choice of kinds is a choice of marks
 chosen_mark : (b : Bool) (k : KindWord) (more : Option KindWord) (s : Stream) (r : Result (Option Mark × Stream) ℕ) → done {A = Option Mark × Stream} (kind_mark more s) ≡ r
@@ -174,13 +241,23 @@ mark_is : (s : Stream) → mark_at s ≡ marks s
 unfolding mark_at marks
 mark_is s = ap (λ (r : Result (Option Mark × Stream) ℕ). cond (is_text s.signs) (text_at s >>= (λ t. Ok (Some (MV.Text t.0), t.1))) r) (kinds_is s)
 
-kinds-opens : (end : ℕ) (xs : List Sign) → Opens kinds (IsOptional IsMark) end xs
+kinds-opens : (end : ℕ) → Opened kinds (IsOptional IsMark) end
 unfolding kinds
-kinds-opens end xs = (opens_word (IsOptional IsMark) end (codes "null") (λ n227 s228. Ok (Some (MV.Kind KV.Null), s228)) (λ s229. cond (next_is (codes "bool") s229) (Ok (Some (MV.Kind KV.Bool), (rest_of s229))) (cond (next_is (codes "int") s229) (Ok (Some (MV.Kind KV.Int), (rest_of s229))) (cond (next_is (codes "float") s229) (Ok (Some (MV.Kind (KV.Float (place s229))), (rest_of s229))) (cond (next_is (codes "string") s229) (Ok (Some (MV.Kind KV.String), (rest_of s229))) (cond (next_is (codes "bytes") s229) (Ok (Some (MV.Kind KV.Bytes), (rest_of s229))) (cond (next_is (codes "list") s229) (Ok (Some (MV.Kind KV.List), (rest_of s229))) (cond (next_is (codes "map") s229) (Ok (Some (MV.Kind KV.Map), (rest_of s229))) (cond (next_is (codes "link") s229) (Ok (Some (MV.Kind KV.Link), (rest_of s229))) (Ok (None, s229)))))))))) (λ t225 e226. opens_pure (Some (MV.Kind KV.Null)) (Behind (IsOptional IsMark) (t225 ∷ [])) end (λ ws. (e226.0, e226.1, refl))) (opens_word (IsOptional IsMark) end (codes "bool") (λ n232 s233. Ok (Some (MV.Kind KV.Bool), s233)) (λ s234. cond (next_is (codes "int") s234) (Ok (Some (MV.Kind KV.Int), (rest_of s234))) (cond (next_is (codes "float") s234) (Ok (Some (MV.Kind (KV.Float (place s234))), (rest_of s234))) (cond (next_is (codes "string") s234) (Ok (Some (MV.Kind KV.String), (rest_of s234))) (cond (next_is (codes "bytes") s234) (Ok (Some (MV.Kind KV.Bytes), (rest_of s234))) (cond (next_is (codes "list") s234) (Ok (Some (MV.Kind KV.List), (rest_of s234))) (cond (next_is (codes "map") s234) (Ok (Some (MV.Kind KV.Map), (rest_of s234))) (cond (next_is (codes "link") s234) (Ok (Some (MV.Kind KV.Link), (rest_of s234))) (Ok (None, s234))))))))) (λ t230 e231. opens_pure (Some (MV.Kind KV.Bool)) (Behind (IsOptional IsMark) (t230 ∷ [])) end (λ ws. (e231.0, e231.1, refl))) (opens_word (IsOptional IsMark) end (codes "int") (λ n237 s238. Ok (Some (MV.Kind KV.Int), s238)) (λ s239. cond (next_is (codes "float") s239) (Ok (Some (MV.Kind (KV.Float (place s239))), (rest_of s239))) (cond (next_is (codes "string") s239) (Ok (Some (MV.Kind KV.String), (rest_of s239))) (cond (next_is (codes "bytes") s239) (Ok (Some (MV.Kind KV.Bytes), (rest_of s239))) (cond (next_is (codes "list") s239) (Ok (Some (MV.Kind KV.List), (rest_of s239))) (cond (next_is (codes "map") s239) (Ok (Some (MV.Kind KV.Map), (rest_of s239))) (cond (next_is (codes "link") s239) (Ok (Some (MV.Kind KV.Link), (rest_of s239))) (Ok (None, s239)))))))) (λ t235 e236. opens_pure (Some (MV.Kind KV.Int)) (Behind (IsOptional IsMark) (t235 ∷ [])) end (λ ws. (e236.0, e236.1, refl))) (opens_word (IsOptional IsMark) end (codes "float") (λ n242 s243. Ok (Some (MV.Kind (KV.Float n242)), s243)) (λ s244. cond (next_is (codes "string") s244) (Ok (Some (MV.Kind KV.String), (rest_of s244))) (cond (next_is (codes "bytes") s244) (Ok (Some (MV.Kind KV.Bytes), (rest_of s244))) (cond (next_is (codes "list") s244) (Ok (Some (MV.Kind KV.List), (rest_of s244))) (cond (next_is (codes "map") s244) (Ok (Some (MV.Kind KV.Map), (rest_of s244))) (cond (next_is (codes "link") s244) (Ok (Some (MV.Kind KV.Link), (rest_of s244))) (Ok (None, s244))))))) (λ t240 e241. opens_pure (Some (MV.Kind (KV.Float t240.at))) (Behind (IsOptional IsMark) (t240 ∷ [])) end (λ ws. ((e241.0, e241.1, refl), refl))) (opens_word (IsOptional IsMark) end (codes "string") (λ n247 s248. Ok (Some (MV.Kind KV.String), s248)) (λ s249. cond (next_is (codes "bytes") s249) (Ok (Some (MV.Kind KV.Bytes), (rest_of s249))) (cond (next_is (codes "list") s249) (Ok (Some (MV.Kind KV.List), (rest_of s249))) (cond (next_is (codes "map") s249) (Ok (Some (MV.Kind KV.Map), (rest_of s249))) (cond (next_is (codes "link") s249) (Ok (Some (MV.Kind KV.Link), (rest_of s249))) (Ok (None, s249)))))) (λ t245 e246. opens_pure (Some (MV.Kind KV.String)) (Behind (IsOptional IsMark) (t245 ∷ [])) end (λ ws. (e246.0, e246.1, refl))) (opens_word (IsOptional IsMark) end (codes "bytes") (λ n252 s253. Ok (Some (MV.Kind KV.Bytes), s253)) (λ s254. cond (next_is (codes "list") s254) (Ok (Some (MV.Kind KV.List), (rest_of s254))) (cond (next_is (codes "map") s254) (Ok (Some (MV.Kind KV.Map), (rest_of s254))) (cond (next_is (codes "link") s254) (Ok (Some (MV.Kind KV.Link), (rest_of s254))) (Ok (None, s254))))) (λ t250 e251. opens_pure (Some (MV.Kind KV.Bytes)) (Behind (IsOptional IsMark) (t250 ∷ [])) end (λ ws. (e251.0, e251.1, refl))) (opens_word (IsOptional IsMark) end (codes "list") (λ n257 s258. Ok (Some (MV.Kind KV.List), s258)) (λ s259. cond (next_is (codes "map") s259) (Ok (Some (MV.Kind KV.Map), (rest_of s259))) (cond (next_is (codes "link") s259) (Ok (Some (MV.Kind KV.Link), (rest_of s259))) (Ok (None, s259)))) (λ t255 e256. opens_pure (Some (MV.Kind KV.List)) (Behind (IsOptional IsMark) (t255 ∷ [])) end (λ ws. (e256.0, e256.1, refl))) (opens_word (IsOptional IsMark) end (codes "map") (λ n262 s263. Ok (Some (MV.Kind KV.Map), s263)) (λ s264. cond (next_is (codes "link") s264) (Ok (Some (MV.Kind KV.Link), (rest_of s264))) (Ok (None, s264))) (λ t260 e261. opens_pure (Some (MV.Kind KV.Map)) (Behind (IsOptional IsMark) (t260 ∷ [])) end (λ ws. (e261.0, e261.1, refl))) (opens_word (IsOptional IsMark) end (codes "link") (λ n267 s268. Ok (Some (MV.Kind KV.Link), s268)) (λ s269. Ok (None, s269)) (λ t265 e266. opens_pure (Some (MV.Kind KV.Link)) (Behind (IsOptional IsMark) (t265 ∷ [])) end (λ ws. (e266.0, e266.1, refl))) (opens_pure (None) (IsOptional IsMark) end (λ ws. refl))))))))))) xs
+kinds-opens end =
+    alone (codes "null") (Some (MV.Kind KV.Null)) (λ t e ws. (e.0, e.1, refl))
+    (alone (codes "bool") (Some (MV.Kind KV.Bool)) (λ t e ws. (e.0, e.1, refl))
+    (alone (codes "int") (Some (MV.Kind KV.Int)) (λ t e ws. (e.0, e.1, refl))
+    (choice (codes "float") (λ n s. Ok (Some (MV.Kind (KV.Float n)), s)) (λ t e. all_read (λ ws. ((e.0, e.1, refl), refl)))
+    (alone (codes "string") (Some (MV.Kind KV.String)) (λ t e ws. (e.0, e.1, refl))
+    (alone (codes "bytes") (Some (MV.Kind KV.Bytes)) (λ t e ws. (e.0, e.1, refl))
+    (alone (codes "list") (Some (MV.Kind KV.List)) (λ t e ws. (e.0, e.1, refl))
+    (alone (codes "map") (Some (MV.Kind KV.Map)) (λ t e ws. (e.0, e.1, refl))
+    (alone (codes "link") (Some (MV.Kind KV.Link)) (λ t e ws. (e.0, e.1, refl))
+    (all_read (λ ws. refl))))))))))
 
-pub mark-opens : (end : ℕ) (xs : List Sign) → Opens mark_at (IsOptional IsMark) end xs
+pub mark-opens : (end : ℕ) → Opened mark_at (IsOptional IsMark) end
 unfolding marks
-mark-opens end xs = opens_equal mark_at marks (IsOptional IsMark) mark_is end xs ((opens_if (IsOptional IsMark) end is_text (λ t us zs. refl) (λ s270. text_at s270 >>= (λ y272. Ok (Some (MV.Text y272.0), y272.1))) (λ s271. kinds s271) ((λ xs276. opens_bind IsText (IsOptional IsMark) end text_at (λ a278 s277. Ok (Some (MV.Text a278), s277)) (λ a273 front274 d275. opens_pure (Some (MV.Text a273)) (Behind (IsOptional IsMark) front274) end (λ ws. d275 ws)) xs276 (text-opens end xs276))) ((kinds-opens end))) xs)
+mark-opens end xs = opens_equal mark_at marks (IsOptional IsMark) mark_is end xs (either is_text (λ t us zs. refl) (part_then _ (text-opens end) (λ x front d. all_read d)) (kinds-opens end) xs)
 
 nothing_target : (a : Target) → IsTarget a [] [] → ⊥
 nothing_target a h = absurd (omega (arith, target_shorter a [] [] h))
@@ -194,10 +271,14 @@ member-opens end xs =
     (λ m other o. opens_pure (record { at = n; target = a; mark = m }) (Behind (Behind (Behind IsMember (t ∷ [])) front) other) end
     (λ ws. (front ++ (other ++ ws), other ++ ws, (e.0, e.1, refl), begins_more n front (other ++ ws) b, d (other ++ ws), o ws))) vs (mark-opens end vs)) us (target-opens end us)) xs
 
-pub quoted-opens : (end : ℕ) (xs : List Sign) → Opens quoted_at (IsOptional IsQuoted) end xs
+pub quoted-opens : (end : ℕ) → Opened quoted_at (IsOptional IsQuoted) end
 unfolding quoted_at
-quoted-opens end xs = (opens_word (IsOptional IsQuoted) end (codes "(") (λ n281 s282. text_at s282 >>= (λ y284. literal_at (codes ")") y284.1 >>= (λ s285. Ok (Some y284.0, s285)))) (λ s283. Ok (None, s283)) (λ t279 e280. (λ xs289. opens_bind IsText (Behind (IsOptional IsQuoted) (t279 ∷ [])) end text_at (λ a291 s290. literal_at (codes ")") s290 >>= (λ s292. Ok (Some a291, s292))) (λ a286 front287 d288. opens_after (Behind (Behind (IsOptional IsQuoted) (t279 ∷ [])) front287) end (codes ")") (λ s295. Ok (Some a286, s295)) (λ t293 e294. opens_pure (Some a286) (Behind (Behind (Behind (IsOptional IsQuoted) (t279 ∷ [])) front287) (t293 ∷ [])) end (λ ws. (front287 ++ (t293 ∷ ws), t293 ∷ ws, (e280.0, e280.1, refl), d288 (t293 ∷ ws), (e294.0, e294.1, refl))))) xs289 (text-opens end xs289))) (opens_pure (None) (IsOptional IsQuoted) end (λ ws. refl))) xs
+quoted-opens end =
+    choice (codes "(") (λ n s. text_at s >>= (λ x. literal_at (codes ")") x.1 >>= (λ u. Ok (Some x.0, u))))
+    (λ t e. part_then _ (text-opens end) (λ x front d. word_then (λ u c. all_read (λ ws. (front ++ (u ∷ ws), u ∷ ws, (e.0, e.1, refl), d (u ∷ ws), (c.0, c.1, refl))))))
+    (all_read (λ ws. refl))
 
-pub enum_member-opens : (end : ℕ) (xs : List Sign) → Opens enum_member_at IsEnumMember end xs
+pub enum_member-opens : (end : ℕ) → Opened enum_member_at IsEnumMember end
 unfolding enum_member_at
-enum_member-opens end xs = (opens_after IsEnumMember end (codes "|") (λ s298. name_at s298 >>= (λ y299. quoted_at y299.1 >>= (λ y300. Ok (record { name = y299.0; text = y300.0 }, y300.1)))) (λ t296 e297. (λ xs304. opens_bind IsName (Behind IsEnumMember (t296 ∷ [])) end name_at (λ a306 s305. quoted_at s305 >>= (λ y307. Ok (record { name = a306; text = y307.0 }, y307.1))) (λ a301 front302 d303. (λ xs311. opens_bind (IsOptional IsQuoted) (Behind (Behind IsEnumMember (t296 ∷ [])) front302) end quoted_at (λ a313 s312. Ok (record { name = a301; text = a313 }, s312)) (λ a308 front309 d310. opens_pure (record { name = a301; text = a308 }) (Behind (Behind (Behind IsEnumMember (t296 ∷ [])) front302) front309) end (λ ws. (front302 ++ (front309 ++ ws), front309 ++ ws, (e297.0, e297.1, refl), d303 (front309 ++ ws), d310 ws))) xs311 (quoted-opens end xs311))) xs304 (name-opens end xs304)))) xs
+enum_member-opens end =
+    word_then (λ t e. part_then _ (name-opens end) (λ n front d. part_then _ (quoted-opens end) (λ q other o. all_read (λ ws. (front ++ (other ++ ws), other ++ ws, (e.0, e.1, refl), d (other ++ ws), o ws)))))

@@ -1,6 +1,6 @@
 -- The kind of a token follows from its text.
 use Rattle.std.proofs.Common.{◌≡◌, ℕ, Bool, true, false, List, [], ◌∷◌, refl, sym, subst, arith}
-use Rattle.std.specs.Prelude.{◌||◌, ◌&&◌, ◌==◌, ◌≤◌, nat_eq, if◌then◌else◌, eqb, slice_index_or, length}
+use Rattle.std.specs.Prelude.{◌||◌, ◌&&◌, ◌==◌, ◌≤◌, nat_eq, if◌then◌else◌, slice_index_or, length}
 use Rattle.std.proofs.Math.Logic.{∥∥₁_elim}
 use Rattle.std.proofs.Math.Bool.{Bool-set}
 use Rattle.std.specs.List.{AllByRecursion, list_all}
@@ -13,7 +13,7 @@ use Rattle.ild_lex.specs.Form.{IsToken, is_number, are_digits}
 use Rattle.ild_lex.specs.Span.{IsSpan, bytes_of}
 use Rattle.ild_grammar.specs.Sign.{Sign, kind_of_text}
 use Rattle.ild_grammar.proofs.Stream.{kind_code, is_literal, begins, same_text, stream}
-use Rattle.ild_grammar.proofs.Literal.{kind_is, same_is, kind_code_same}
+use Rattle.ild_grammar.proofs.Literal.{same_is, kind_code_same}
 
 last_of : (P : ℕ → Type 0) (b c : ℕ) (others : Bool) → P c → (others ≡ true → P b) → (others || b == c) ≡ true → P b
 last_of P b c true here there e = there refl

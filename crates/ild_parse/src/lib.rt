@@ -20,6 +20,3 @@ pub use ild_grammar::{
     Text, TypeDecl, TypeName, UnionBody, UnionForm, UnitForm,
 };
 pub use schema::parse;
-
-#[cfg(test)]
-mod tests;

@@ -10,4 +10,4 @@ pub mod Kinding
 mod Passing
 mod Ruling
 mod Telling
-mod Legibly
+pub mod Legibly

@@ -26,7 +26,8 @@ use Rattle.ild_typed.specs.Strings.{listpairs, stringpairs}
 use Rattle.ild_typed.specs.Composed.{unit_data, map_form, struct_form, union_form, enum_form, composed}
 use Rattle.ild_typed.specs.Hamt.{alone}
 use Rattle.ild_schema.specs.Clear.{ClearType, ClearMap}
-use Rattle.ild_typed.specs.Causes.{is_kind_why, map_kind_why, map_count, map_delimiter, unit_count, unit_member, is_value}
+use Rattle.ild_typed.specs.Causes.{is_kind_why}
+use Rattle.ild_typed.specs.PlainWhy.{map_kind_why, map_count, map_delimiter, unit_count, unit_member, is_value}
 use Rattle.ild_schema.specs.Delims.{MapDelims, Delims}
 use Rattle.ild_typed.specs.WhyLaws.{KeysRise, LayerOrWhy}
 use Rattle.ild_typed.proofs.Basics.{map_from, then_from}

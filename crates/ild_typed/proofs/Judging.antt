@@ -26,7 +26,8 @@ use Rattle.ild_typed.specs.Composed.{usual, composed, map_form, struct_form}
 use Rattle.ild_typed.specs.Hamt.{root_map, whole, alone}
 use Rattle.ild_typed.specs.Represented.{represented, represented_values, represented_pairs, represented_fields}
 use Rattle.ild_schema.specs.Whole.{is_whole, are_whole, pairs_whole, fields_whole}
-use Rattle.ild_typed.specs.Judged.{some_layer, some_value, some_pair, some_field, some_present, hole_in, tuple_hole, is_hole, is_refused, struct_breaks, map_breaks, breaks, map_exhausts, is_exhausted}
+use Rattle.ild_typed.specs.Judged.{some_present, hole_in, tuple_hole, is_hole, is_refused, struct_breaks, map_breaks, breaks, map_exhausts, is_exhausted}
+use Rattle.ild_typed.specs.EachLayer.{some_layer, some_value, some_pair, some_field}
 use Rattle.ild_typed.proofs.Basics.{then_from, map_from, true_from, both_true}
 use Rattle.ild_typed.proofs.Entries.{both_from}
 use Rattle.ild_typed.proofs.Flat.{stringpairs_flat, struct_pairs_flat, struct_join_flat, pairs_alone, fields_alone}

@@ -18,7 +18,7 @@ use Rattle.ild_schema.specs.Slots.{form_of}
 use Rattle.ild_typed.specs.Slots.{element_of, fields_of, member_of}
 use Rattle.ild_typed.specs.Composed.{Hamts, composed}
 use Rattle.ild_typed.specs.Represented.{layered, represented, represented_values, represented_pairs, represented_fields}
-use Rattle.ild_typed.specs.Fits.{layer_of}
+use Rattle.ild_typed.specs.Layers.{layer_of}
 use Rattle.ild_typed.specs.Parts.{Part, layer_map, present, FieldSlots, AreSlots, AreRepresented, ByNull, ByLayer, InLayers}
 use Rattle.ild_typed.proofs.Basics.{map_from}
 use Rattle.ild_typed.proofs.Entries.{both_from}

@@ -45,3 +45,8 @@ pub mod Judging
 pub mod TextLaws
 mod SmallMade
 pub mod TreeShown
+pub mod Lists
+pub mod OneLayer
+pub mod FormOf
+pub mod Index
+pub mod Reaching

@@ -21,6 +21,7 @@ use Rattle.ild_schema.specs.declared.row.Row.{Row}
 use Rattle.ild_schema.specs.Copies.{base}
 use Rattle.ild_schema.specs.Value as V
 use Rattle.ild_schema.specs.Value.{Value, Values, Pairs, Optionals, values_list, pairs_list, optionals_list}
+use Rattle.ild_schema.proofs.Legibly.{legible}
 use Rattle.ild_typed.specs.Layer as L
 use Rattle.ild_typed.specs.Layer.{Layer}
 use Rattle.ild_schema.specs.Slots.{form_of, plainly}
@@ -29,12 +30,14 @@ use Rattle.ild_typed.specs.Composed.{composed, member_form, enum_form, any_data,
 use Rattle.ild_typed.specs.Hamt.{alone, whole}
 use Rattle.ild_typed.specs.Represented.{represented, represented_values, represented_pairs, represented_fields}
 use Rattle.ild_typed.specs.Levels.{levels_of}
-use Rattle.ild_typed.specs.Fits.{IsNotNull, FieldsFit, LayerFits, FormFits, ValueFits, FitsPast, Fits}
+use Rattle.ild_typed.specs.Fits.{FormFits, ValueFits, FitsPast, Fits}
+use Rattle.ild_typed.specs.Layers.{IsNotNull, FieldsFit, LayerFits}
 use Rattle.ild_typed.specs.Typed.{Typed}
 use Rattle.ild_schema.specs.Whole.{is_whole, are_whole, pairs_whole, fields_whole}
 use Rattle.ild_typed.specs.StandLaws.{StorableWhere}
 use Rattle.ild_typed.specs.Blocks.{nodes}
-use Rattle.ild_typed.specs.Judged.{some_layer, some_value, some_pair, some_field, some_present, hole_in, tuple_hole, is_hole, has_hole, struct_breaks, map_breaks, breaks, breaks_delimiter, map_exhausts, is_exhausted, exhausts}
+use Rattle.ild_typed.specs.Judged.{some_present, hole_in, tuple_hole, is_hole, has_hole, struct_breaks, map_breaks, breaks, breaks_delimiter, map_exhausts, is_exhausted, exhausts}
+use Rattle.ild_typed.specs.EachLayer.{some_layer, some_value, some_pair, some_field}
 use Rattle.ild_schema.specs.Made.{IsTextSlot, MadeStruct, MadeMap, MadeMember, MadeEnum, MadeType, IsMade}
 use Rattle.ild_typed.proofs.Flat.{FlatPairs, FlatFields, flat_text, pairs_alone, fields_alone}
 use Rattle.ild_typed.proofs.Basics.{map_from, both_true}
@@ -422,5 +425,5 @@ typed_tree h rows made s v t a b c = let x = representation h rows made t.0 s v 
 
 pub can_be_held : StorableWhere
 can_be_held = λ f h rows schema n v t a b fits c small.
-    let x = typed_tree h rows schema.legible.made (plainly n) v t a b c in
+    let x = typed_tree h rows (legible rows schema.accepted).made (plainly n) v t a b c in
     (x.0, record { fits = fits; tree = x.1; sized = small x.0 x.1 })

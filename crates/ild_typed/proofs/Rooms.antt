@@ -18,7 +18,8 @@ use Rattle.ild_typed.specs.Layer.{Layer, as_list, as_map, as_struct, as_union, a
 use Rattle.ild_schema.specs.Slots.{form_of, plainly}
 use Rattle.ild_typed.specs.Levels.{levels_of}
 use Rattle.ild_typed.specs.Node as N
-use Rattle.ild_typed.specs.Fits.{layer_of, Shows, FieldsFit, EntriesFit, RootFits, MapFits, LayerFits, FormFits, ValueFits, FitsPast, Fits}
+use Rattle.ild_typed.specs.Fits.{FormFits, ValueFits, FitsPast, Fits}
+use Rattle.ild_typed.specs.Layers.{layer_of, Shows, FieldsFit, EntriesFit, RootFits, MapFits, LayerFits}
 
 pub all_more : {X : Type 0} (P Q : X → Type 0) → ((x : X) → P x → Q x) → (xs : List X) → AllByRecursion P xs → AllByRecursion Q xs
 all_more P Q m [] all = tt

@@ -3,6 +3,7 @@ use Rattle.std.proofs.Common.{◌≡◌, ℕ, List, Some, refl}
 use Rattle.ild_data.specs.Data as T
 use Rattle.ild_data.specs.Data.{Data, text}
 use Rattle.ild_schema.specs.Slots.{plainly}
+use Rattle.ild_schema.proofs.Legibly.{legible}
 use Rattle.ild_typed.specs.Hamt.{alone}
 use Rattle.ild_typed.specs.Laws.{OneText, TextsRepresent}
 use Rattle.ild_typed.proofs.Flat.{flat_alone, flat_whole}
@@ -12,7 +13,7 @@ use Rattle.ild_typed.proofs.OneValue.{one_value, alone_exact, plain_safe}
 pub one_value_of_text : OneText
 one_value_of_text = λ h rows schema n v w k a b.
     let s = plainly n in
-    one_value alone alone_exact rows schema.legible.clear s (plain_safe rows s refl) v w (text k)
+    one_value alone alone_exact rows (legible rows schema.accepted).clear s (plain_safe rows s refl) v w (text k)
     (flat_alone h rows s v (text k) a tt) (flat_alone h rows s w (text k) b tt)
 
 pub texts_represent : TextsRepresent

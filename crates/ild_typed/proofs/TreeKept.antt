@@ -23,6 +23,7 @@ use Rattle.ild_data.specs.TrieShape.{TrieShape, trie_levels}
 use Rattle.ild_data.specs.ByteOrder.{in_byte_order}
 use Rattle.ild_data.specs.Trie.{part, at_depth, node_of, trie}
 use Rattle.ild_data.specs.TrieBlocks.{nodes_beneath, node_and_beneath, none_or, block_of}
+use Rattle.ild_schema.proofs.Legibly.{legible}
 use Rattle.ild_typed.specs.Layer as L
 use Rattle.ild_typed.specs.Layer.{Layer}
 use Rattle.ild_schema.specs.Slots.{form_of, plainly}
@@ -31,7 +32,8 @@ use Rattle.ild_typed.specs.Composed.{usual, composed}
 use Rattle.ild_typed.specs.Hamt.{root_map, whole}
 use Rattle.ild_typed.specs.Represented.{represented, represented_values, represented_pairs, represented_fields}
 use Rattle.ild_typed.specs.Levels.{levels_of}
-use Rattle.ild_typed.specs.Fits.{FieldsFit, FormFits, ValueFits, FitsPast, Fits}
+use Rattle.ild_typed.specs.Fits.{FormFits, ValueFits, FitsPast, Fits}
+use Rattle.ild_typed.specs.Layers.{FieldsFit}
 use Rattle.ild_typed.specs.Known as G
 use Rattle.ild_typed.specs.Known.{AreKnown, Kept, LayerOk, IsKept, HeldNode}
 use Rattle.ild_typed.specs.Blocks.{hamt_nodes, nodes, nodes_of_values, nodes_of_pairs, nodes_of_fields}
@@ -268,4 +270,4 @@ module _ (f : Frame) (frame : IsFrame f) (block : List ℕ → Option (List ℕ)
 
 pub one_stands : OneStands
 one_stands = λ f frame block h rows schema n id v w a b.
-    one_storable f frame block h rows schema.table.texts.spelled n schema.legible.clear v w a.tree b.tree a.storable b.storable a.all b.all (sym a.root ∙ b.root)
+    one_storable f frame block h rows schema.table.texts.spelled n (legible rows schema.accepted).clear v w a.tree b.tree a.storable b.storable a.all b.all (sym a.root ∙ b.root)

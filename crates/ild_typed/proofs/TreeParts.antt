@@ -27,7 +27,7 @@ use Rattle.ild_schema.specs.Slots.{plainly}
 use Rattle.ild_typed.specs.Slots.{slot_of_member, element_of, fields_of, member_of}
 use Rattle.ild_typed.specs.Composed.{Hamts}
 use Rattle.ild_typed.specs.Represented.{represented, represented_values, represented_pairs, represented_fields}
-use Rattle.ild_typed.specs.Fits.{AreKeys, Shows, FieldsFit, EntriesFit, RootFits, MapFits, LayerFits}
+use Rattle.ild_typed.specs.Layers.{AreKeys, Shows, FieldsFit, EntriesFit, RootFits, MapFits, LayerFits}
 use Rattle.ild_typed.specs.Nested.{TreeIn}
 use Rattle.ild_typed.proofs.Basics.{map_from}
 use Rattle.ild_typed.proofs.Entries.{both_from}

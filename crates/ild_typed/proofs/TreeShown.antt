@@ -30,7 +30,8 @@ use Rattle.ild_typed.specs.Hamt.{alone, a_map, root_map}
 use Rattle.ild_data.specs.Trie.{node_data, TrieSlot as Slots}
 use Rattle.ild_typed.specs.Represented.{layered, represented}
 use Rattle.ild_typed.specs.Levels.{map_levels, struct_levels, levels_of}
-use Rattle.ild_typed.specs.Fits.{FieldsFit, LayerFits, FormFits, ValueFits, FitsPast, Fits}
+use Rattle.ild_typed.specs.Fits.{FormFits, ValueFits, FitsPast, Fits}
+use Rattle.ild_typed.specs.Layers.{FieldsFit, LayerFits}
 use Rattle.ild_typed.specs.Shown.{member_name, enum_name, shown, shown_values, shown_pairs, shown_fields}
 use Rattle.ild_typed.specs.Nested.{TreeIn}
 use Rattle.ild_schema.specs.Spelled.{IsSpelled, NamedType, IsNamed}

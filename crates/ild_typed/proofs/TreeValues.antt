@@ -26,7 +26,8 @@ use Rattle.ild_typed.specs.Hamt.{whole, alone, a_map}
 use Rattle.ild_typed.specs.Node.{entries_in}
 use Rattle.ild_typed.specs.Represented.{represented, represented_values, represented_pairs, represented_fields}
 use Rattle.ild_typed.specs.Levels.{levels_of}
-use Rattle.ild_typed.specs.Fits.{Shows, RootFits, LayerFits, FormFits, ValueFits, FitsPast, Fits}
+use Rattle.ild_typed.specs.Fits.{FormFits, ValueFits, FitsPast, Fits}
+use Rattle.ild_typed.specs.Layers.{Shows, RootFits, LayerFits}
 use Rattle.ild_typed.specs.Nested.{TreeIn}
 use Rattle.ild_schema.specs.Spelled.{IsSpelled}
 use Rattle.ild_typed.proofs.Basics.{map_from}

@@ -25,7 +25,8 @@ use Rattle.ild_typed.specs.Composed.{composed, map_form}
 use Rattle.ild_typed.specs.Hamt.{alone}
 use Rattle.ild_typed.specs.Represented.{layered, represented, represented_pairs}
 use Rattle.ild_typed.specs.Levels.{map_levels}
-use Rattle.ild_typed.specs.Fits.{AreApart, AreKeys, Shows, EntriesFit, MapFits, FormFits, ValueFits, FitsPast}
+use Rattle.ild_typed.specs.Fits.{FormFits, ValueFits, FitsPast}
+use Rattle.ild_typed.specs.Layers.{AreApart, AreKeys, Shows, EntriesFit, MapFits}
 use Rattle.ild_schema.specs.Clear.{IsClear, IsSafe}
 use Rattle.ild_typed.proofs.Basics.{map_from}
 use Rattle.ild_typed.proofs.Entries.{both_from}

@@ -32,7 +32,8 @@ use Rattle.ild_typed.specs.Composed.{composed, struct_form, union_form}
 use Rattle.ild_typed.specs.Hamt.{alone}
 use Rattle.ild_typed.specs.Represented.{layered, represented, represented_values, represented_fields}
 use Rattle.ild_typed.specs.Levels.{struct_levels}
-use Rattle.ild_typed.specs.Fits.{Shows, RootFits, MapFits, FieldsFit, FormFits, ValueFits, FitsPast}
+use Rattle.ild_typed.specs.Fits.{FormFits, ValueFits, FitsPast}
+use Rattle.ild_typed.specs.Layers.{Shows, RootFits, MapFits, FieldsFit}
 use Rattle.ild_schema.specs.Clear.{IsClear, IsSafe}
 use Rattle.ild_typed.proofs.Basics.{map_from}
 use Rattle.ild_typed.proofs.Entries.{both_from}

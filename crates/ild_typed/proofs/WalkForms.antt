@@ -17,12 +17,14 @@ use Rattle.ild_schema.specs.declared.def.Member.{Member}
 use Rattle.ild_schema.specs.declared.row.Row.{Row}
 use Rattle.ild_schema.specs.Copies.{target_of, target_in, followed, base}
 use Rattle.ild_schema.specs.Table.{IsWithin, numbers_of, def_at}
+use Rattle.ild_schema.proofs.Legibly.{legible}
 use Rattle.ild_typed.specs.Layer as L
 use Rattle.ild_typed.specs.Layer.{Layer}
 use Rattle.ild_schema.specs.Slots.{form_of}
 use Rattle.ild_typed.specs.Slots.{slot_of_member}
 use Rattle.ild_typed.specs.Fields.{is_implicit}
-use Rattle.ild_typed.specs.Spots.{Spot, value_spot, element_spots, entry_spots, field_steps, field_spots, spots_of, bucket_spots, root_spots}
+use Rattle.ild_typed.specs.Spots.{Spot, value_spot, element_spots, entry_spots, field_steps, field_spots, spots_of}
+use Rattle.ild_typed.specs.RootSpots.{bucket_spots, root_spots}
 use Rattle.ild_typed.specs.Refused.{AreParts}
 use Rattle.ild_typed.specs.WhyLaws.{HasForm, FrontOrRefused}
 use Rattle.ild_data.specs.Trie as Trie
@@ -181,4 +183,4 @@ part_forms rows within s d t ps is parts =
 pub table_walk : FrontOrRefused
 table_walk rows schema walked room s low t tree =
     let within = schema.table.within in
-    front_or_refused rows schema.legible.clear schema.legible.delims walked (part_forms rows within) room s (form_there rows within s low) t tree
+    front_or_refused rows (legible rows schema.accepted).clear (legible rows schema.accepted).delims walked (part_forms rows within) room s (form_there rows within s low) t tree

@@ -22,10 +22,12 @@ use Rattle.ild_typed.specs.Slots.{member_of}
 use Rattle.ild_typed.specs.Fields.{is_implicit}
 use Rattle.ild_typed.specs.Composed.{composed}
 use Rattle.ild_typed.specs.Hamt.{alone}
-use Rattle.ild_typed.specs.Fits.{Shows, FitsPast}
+use Rattle.ild_typed.specs.Fits.{FitsPast}
+use Rattle.ild_typed.specs.Layers.{Shows}
 use Rattle.ild_schema.specs.Clear.{ClearType, IsClear, IsSafe, AreSafe}
 use Rattle.ild_typed.specs.Why.{Why}
-use Rattle.ild_typed.specs.Spots.{Spot, value_spot, element_spots, entry_spots, field_steps, field_spots, spots_of, bucket_spots, root_spots}
+use Rattle.ild_typed.specs.Spots.{Spot, value_spot, element_spots, entry_spots, field_steps, field_spots, spots_of}
+use Rattle.ild_typed.specs.RootSpots.{bucket_spots, root_spots}
 use Rattle.ild_typed.specs.Pieces.{needs, why_at, HasNoRoot, IsWhy}
 use Rattle.ild_typed.specs.Refused.{Refusal, part_refusal, AreParts, FirstRefused, PieceRefused, RefusedPast}
 use Rattle.ild_schema.specs.Delims.{AllDelims}

@@ -30,13 +30,15 @@ use Rattle.ild_typed.specs.Strings.{map_data, listpairs, stringpairs}
 use Rattle.ild_typed.specs.Composed.{usual, composed, map_form, struct_form, union_form, member_form, any_data}
 use Rattle.ild_typed.specs.Hamt.{alone, a_map}
 use Rattle.ild_typed.specs.Represented.{represented}
-use Rattle.ild_typed.specs.Fits.{AreApart, Shows, FormFits, ValueFits, FitsPast}
+use Rattle.ild_typed.specs.Fits.{FormFits, ValueFits, FitsPast}
+use Rattle.ild_typed.specs.Layers.{AreApart, Shows}
 use Rattle.ild_schema.specs.Clear.{IsClear, IsSafe}
 use Rattle.ild_typed.specs.Named.{where_some, names, is_among, has_twice}
 use Rattle.ild_typed.specs.Causes.{why_of}
 use Rattle.ild_typed.specs.Why.{Why}
 use Rattle.ild_typed.specs.Why as W
-use Rattle.ild_typed.specs.Spots.{Spot, value_spot, element_spots, entry_spots, field_steps, field_spots, spots_of, bucket_spots, root_spots}
+use Rattle.ild_typed.specs.Spots.{Spot, value_spot, element_spots, entry_spots, field_steps, field_spots, spots_of}
+use Rattle.ild_typed.specs.RootSpots.{bucket_spots, root_spots}
 use Rattle.ild_typed.specs.Pieces.{is_null_there, repeats_key, keys_why, needs, room_why, root_why, hamt_why, why_at, HasNoRoot, IsWhy}
 use Rattle.ild_typed.specs.Refused.{Refusal, AreParts, FirstRefused, RefusedPast}
 use Rattle.ild_schema.specs.Delims.{AllDelims}

@@ -36,13 +36,15 @@ use Rattle.ild_typed.specs.Composed.{usual, composed, map_form, struct_form, mem
 use Rattle.ild_typed.specs.Hamt.{alone}
 use Rattle.ild_typed.specs.Levels.{struct_levels}
 use Rattle.ild_typed.specs.Represented.{layered}
-use Rattle.ild_typed.specs.Fits.{Front, AreApart, AreKeys, Shows, FormFits, ValueFits, FitsPast, IsNotNull}
+use Rattle.ild_typed.specs.Fits.{Front, FormFits, ValueFits, FitsPast}
+use Rattle.ild_typed.specs.Layers.{AreApart, AreKeys, Shows, IsNotNull}
 use Rattle.ild_schema.specs.Clear.{IsClear}
 use Rattle.ild_typed.specs.Named.{where_some, names, is_among, has_twice}
 use Rattle.ild_typed.specs.Why.{Why}
 use Rattle.ild_typed.specs.Why as W
 use Rattle.ild_typed.specs.Causes.{why_of}
-use Rattle.ild_typed.specs.Spots.{Spot, value_spot, element_spots, entry_spots, field_steps, field_spots, spots_of, bucket_spots, root_spots}
+use Rattle.ild_typed.specs.Spots.{Spot, value_spot, element_spots, entry_spots, field_steps, field_spots, spots_of}
+use Rattle.ild_typed.specs.RootSpots.{bucket_spots, root_spots}
 use Rattle.ild_typed.specs.Pieces.{HasNoRoot, is_null_there, repeats_key, keys_why, needs, room_why, hamt_why, why_at, IsNoRoot}
 use Rattle.ild_typed.specs.Refused.{Refused, Refusal, part_refusal, AreParts, FirstRefused, RefusedPast}
 use Rattle.ild_typed.specs.WhyLaws.{KeysRise, HasForm, IsWalked}

@@ -21,31 +21,7 @@ use Rattle.ild_data.specs.Trie.{trie}
 use Rattle.ild_typed.specs.Composed.{usual}
 use Rattle.ild_typed.specs.Hamt.{whole, alone}
 use Rattle.ild_typed.specs.Represented.{represented_pairs, represented_fields}
-
--- ---- a test of every layer
-
-abbrev mutual
-  pub some_layer : (Option TypeDef → Value → Bool) → List Row → Slot → Value → Bool
-  some_layer test rows s (V.list vs) = test (form_of rows s) (V.list vs) || some_value test rows (element_of (form_of rows s)) vs
-  some_layer test rows s (V.map ps) = test (form_of rows s) (V.map ps) || some_pair test rows (element_of (form_of rows s)) ps
-  some_layer test rows s (V.struct os) = test (form_of rows s) (V.struct os) || some_field test rows (fields_of (form_of rows s)) os
-  some_layer test rows s (V.union n v) = test (form_of rows s) (V.union n v) || some_layer test rows (member_of (form_of rows s) n) v
-  some_layer test rows s v = false
-
-  pub some_value : (Option TypeDef → Value → Bool) → List Row → Slot → Values → Bool
-  some_value test rows s V.no_values = false
-  some_value test rows s (V.value v vs) = some_layer test rows s v || some_value test rows s vs
-
-  pub some_pair : (Option TypeDef → Value → Bool) → List Row → Slot → Pairs → Bool
-  some_pair test rows s V.no_pairs = false
-  some_pair test rows s (V.pair k v ps) = some_layer test rows s v || some_pair test rows s ps
-
-  pub some_field : (Option TypeDef → Value → Bool) → List Row → List Field → Optionals → Bool
-  some_field test rows fs V.no_optionals = false
-  some_field test rows [] (V.absent os) = false
-  some_field test rows [] (V.present v os) = false
-  some_field test rows (f ∷ fs) (V.absent os) = some_field test rows fs os
-  some_field test rows (f ∷ fs) (V.present v os) = some_layer test rows f.slot v || some_field test rows fs os
+use Rattle.ild_typed.specs.EachLayer.{some_layer}
 
 -- ---- a hole: an absent field of a tuple before a present one
 

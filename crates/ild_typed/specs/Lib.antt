@@ -9,6 +9,7 @@ pub mod Hamt
 pub mod Represented
 pub mod Levels
 pub mod Node
+pub mod Layers
 pub mod Fits
 pub mod Typed
 pub mod Blocks
@@ -18,6 +19,7 @@ pub mod Tells
 pub mod Schema
 pub mod Parts
 pub mod Shown
+pub mod EachLayer
 pub mod Judged
 pub mod Known
 pub mod Why
@@ -25,8 +27,10 @@ pub mod Cuts
 pub mod Named
 pub mod StructWhy
 pub mod UnionWhy
+pub mod PlainWhy
 pub mod Causes
 pub mod Spots
+pub mod RootSpots
 pub mod Ways
 pub mod Pieces
 pub mod Refused
@@ -34,3 +38,8 @@ pub mod WhyLaws
 pub mod Laws
 pub mod TreeLaws
 pub mod StandLaws
+pub mod OfType
+pub mod Holder
+pub mod Segment
+pub mod At
+pub mod AtLaws

@@ -14,7 +14,7 @@ use Rattle.ild_schema.specs.Slots.{form_of}
 use Rattle.ild_typed.specs.Slots.{element_of, fields_of, member_of}
 use Rattle.ild_typed.specs.Composed.{Hamts, composed}
 use Rattle.ild_typed.specs.Represented.{represented}
-use Rattle.ild_typed.specs.Fits.{layer_of}
+use Rattle.ild_typed.specs.Layers.{layer_of}
 
 pub record Part : Type 0 where
   pub slot : Slot

@@ -15,10 +15,12 @@ use Rattle.ild_typed.specs.Composed.{usual, composed}
 use Rattle.ild_typed.specs.Hamt.{alone}
 use Rattle.ild_typed.specs.Node.{IsRoot}
 use Rattle.ild_data.specs.Trie as Trie
-use Rattle.ild_typed.specs.Fits.{Shows, FitsPast}
+use Rattle.ild_typed.specs.Fits.{FitsPast}
+use Rattle.ild_typed.specs.Layers.{Shows}
 use Rattle.ild_typed.specs.Why as W
 use Rattle.ild_typed.specs.Why.{Why}
-use Rattle.ild_typed.specs.Spots.{Step, Spot, spots_of, root_spots}
+use Rattle.ild_typed.specs.Spots.{Step, Spot, spots_of}
+use Rattle.ild_typed.specs.RootSpots.{root_spots}
 use Rattle.ild_typed.specs.Pieces.{is_null_there, needs, why_at, IsWhy}
 
 pub record Refusal : Type 0 where

@@ -92,18 +92,3 @@ spots_of (D.Map k key_at value at form) (map es) = entry_spots form k value 0 es
 spots_of (D.Struct s) (struct os) = field_spots s.form 0 s.fields os
 spots_of (D.Union u) (union n d) = value_spot (member_of (Some (D.Union u)) n) d (member_steps u.form (member_text u n)) ∷ []
 spots_of d l = []
-
--- ---- the entries in the block of a HAMT's root: so many elements of the node stand before
-
-abbrev pub in_node : ℕ → ℕ → ℕ → List Step
-in_node element entry part = under (codes "hamt") ∷ item 1 ∷ item element ∷ item entry ∷ item part ∷ []
-
-abbrev pub bucket_spots : TypeNo → Slot → ℕ → ℕ → List (List ℕ × Data) → List Spot
-bucket_spots n s element i [] = []
-bucket_spots n s element i (e ∷ es) = key_spot n e.0 (in_node element i 0) ∷ value_spot s e.1 (in_node element i 1) ∷ bucket_spots n s element (i + 1) es
-
-abbrev pub root_spots : TypeNo → Slot → ℕ → List Trie.TrieSlot → List Spot
-root_spots n s element [] = []
-root_spots n s element (Trie.empty ∷ slots) = root_spots n s element slots
-root_spots n s element (Trie.bucket es ∷ slots) = bucket_spots n s element 0 es ++ root_spots n s (element + 1) slots
-root_spots n s element (Trie.child id ∷ slots) = root_spots n s (element + 1) slots

@@ -5,6 +5,7 @@
 ghost use Rattle.ild_typed.specs.WhyLaws.{FrontOrRefused, LayerOrWhy, OneRefusal, RefusedHaveNoFront};
 ghost use Rattle.ild_typed.specs.Ways.{WaysLead};
 ghost use Rattle.ild_typed.specs.TreeLaws.{BlocksAreNested, FrontsAreTrees, ShownAreTrees, StorableBlocks, ValuesAreTrees};
+ghost use Rattle.ild_typed.specs.AtLaws.{IndicesAreDecimals, ReachesParts};
 ghost use Rattle.ild_typed.specs.Laws.{InLayersAll, LayersTell, OneFront, OneText, OneWhole, TextsRepresent};
 ghost use Rattle.ild_typed.specs.StandLaws.{BareIsFrame, OneStands, StorableWhere, TreesAreSound, ValuesHaveTrees};
 
@@ -111,4 +112,14 @@ pub fn trees_are_sound()
 /// A typed value can be held unless one of five causes stands against it.
 pub fn storable_where()
     ensures { StorableWhere }
+{}
+
+/// A path leads to a part exactly where it leads to it with no root of a HAMT to be entered on the way.
+pub fn paths_reach_parts()
+    ensures { ReachesParts }
+{}
+
+/// A segment is an index exactly where it is the decimal of one.
+pub fn indices_are_decimals()
+    ensures { IndicesAreDecimals }
 {}

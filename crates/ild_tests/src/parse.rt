@@ -1,6 +1,6 @@
 //! Schemas that are read, and the places of the first token with which nothing goes on.
-use super::*;
 use ild_lex::{LexErr, tokens};
+use ild_parse::{ParseErr, parse};
 use std::alloc::Global;
 use std::test::Fail;
 
