@@ -9,5 +9,5 @@ mod Searches
 mod Telling
 mod Among
 mod Texts
-mod Verdicts
+pub mod Verdicts
 mod Orders

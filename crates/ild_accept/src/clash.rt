@@ -1,15 +1,18 @@
 //! The rule on names and texts by which parts are told apart.
-ghost use Rattle.std.specs.Prelude.{◌≡◌, [], ◌&&◌, ◌||◌, ℕ, List, IfOk, OnOk, Some, bytes_eq, cond, false, if◌then◌else◌, option_map, true};
-ghost use Rattle.std.specs.BTreeSet.{contains_text};
+ghost use Rattle.std.specs.Prelude.{◌≡◌, [], ◌&&◌, ◌||◌, ℕ, ℤ, List, IfOk, OnOk, Some, bytes_eq, cond, false, if◌then◌else◌, option_map, true};
+ghost use Rattle.std.specs.BTreeSet.{contains, contains_text};
 ghost use Rattle.std.specs.List.{list_any};
 ghost use Rattle.std.specs.Option.{option_map_or};
-ghost use Rattle.ild_schema.specs.Clashes.{are_same, discriminant_of, has_field, has_one_key, is_field_again, is_key_taken, is_member_again, is_value_again, name_fault};
+ghost use Rattle.std.specs.Ordering.{int_cmp};
+ghost use Rattle.ild_schema.specs.Clashes.{are_equal, are_same, discriminant_of, has_field, has_one_key, is_field_again, is_key_taken, is_member_again, is_value_again, name_fault};
 ghost use Rattle.ild_schema.specs.Kinds.{meant};
-ghost use Rattle.ild_schema.specs.Marks.{field_text, is_marked, is_valued, member_text};
+ghost use Rattle.ild_schema.specs.Marks.{field_text, is_marked, is_valued, member_integer, member_text};
 ghost use Rattle.ild_schema.specs.Places.{first_beside};
+ghost use Rattle.ild_schema.specs.declared.def.EnumForm.TheVariants as E;
 
+use crate::decimal::decimal_of;
 use crate::kinds::meant;
-use crate::seen::see;
+use crate::seen::{see, see_number};
 use ild_data::Txt;
 use ild_schema::{
     EnumDef, EnumForm, EnumMember, Field, Mark, Member, Schema, StructDef, TypeDef, TypeNo,
@@ -79,48 +82,83 @@ fn again_in_struct(alloc: Global, def: &StructDef) -> Result<Option<usize>, Allo
     field_again(alloc, def.fields.as_slice())
 }
 
-/// Whether a member of an enum has what the enum asks for.
-fn is_valued(form: EnumForm, member: &EnumMember) -> bool
-    ensures { result ≡ is_valued form member.now }
-{
-    match form {
-        EnumForm::Text => true,
-        EnumForm::Int => member.text.is_some(),
-    }
-}
-
-/// Puts the name and the text of a member into sets, where it has what the enum asks for. The answer tells whether one of
-/// them was there.
-fn is_value_seen(
+/// Puts the name and the text of a member into sets. The answer tells whether one of them was there.
+fn is_text_seen(
     alloc: Global,
     names: &mut BTreeSet<String>,
     texts: &mut BTreeSet<String>,
-    form: EnumForm,
     member: &EnumMember,
 ) -> Result<bool, AllocError>
-    ensures was { IfOk result (λ b. b ≡ is_valued form member.now && (contains_text names.old member.now.name || contains_text texts.old (member_text member.now))) }
-    ensures names { OnOk result ((q : List ℕ) → contains_text names.new q ≡ cond (is_valued form member.now && bytes_eq q member.now.name) true (contains_text names.old q)) }
-    ensures texts { OnOk result ((q : List ℕ) → contains_text texts.new q ≡ cond (is_valued form member.now && bytes_eq q (member_text member.now)) true (contains_text texts.old q)) }
+    ensures was { IfOk result (λ b. b ≡ contains_text names.old member.now.name || contains_text texts.old (member_text member.now)) }
+    ensures names { OnOk result ((q : List ℕ) → contains_text names.new q ≡ cond (bytes_eq q member.now.name) true (contains_text names.old q)) }
+    ensures texts { OnOk result ((q : List ℕ) → contains_text texts.new q ≡ cond (bytes_eq q (member_text member.now)) true (contains_text texts.old q)) }
 {
-    if !is_valued(form, member) {
-        return Ok(false);
-    }
     let named = see(alloc, names, member.name.as_str())?;
     let told = see(alloc, texts, member_text(member).as_str())?;
     Ok(named || told)
 }
 
-fn value_again(
-    alloc: Global,
-    form: EnumForm,
-    members: &[EnumMember],
-) -> Result<Option<usize>, AllocError>
-    ensures { IfOk result (λ place. place ≡ first_beside (is_value_again form) (λ m. m.at) [] members.now) }
+fn text_again(alloc: Global, members: &[EnumMember]) -> Result<Option<usize>, AllocError>
+    ensures { IfOk result (λ place. place ≡ first_beside (is_value_again E.Text) (λ m. m.at) [] members.now) }
 {
     let mut names = BTreeSet::new(alloc);
     let mut texts = BTreeSet::new(alloc);
     for member in members {
-        if is_value_seen(alloc, &mut names, &mut texts, form, member)? {
+        if is_text_seen(alloc, &mut names, &mut texts, member)? {
+            return Ok(Some(member.at));
+        }
+    }
+    Ok(None)
+}
+
+/// The integer of a member, where its text is one.
+pub(crate) fn member_integer(member: &EnumMember) -> Option<i128>
+    ensures { result ≡ member_integer member.now }
+{
+    match &member.text {
+        Some(text) => decimal_of(text.as_str().as_bytes()),
+        None => None,
+    }
+}
+
+/// Puts the integer of a member into a set, if it has one. The answer tells whether it was there.
+fn is_integer_told(numbers: &mut BTreeSet<i128>, member: &EnumMember) -> Result<bool, AllocError>
+    ensures was { IfOk result (λ b. b ≡ option_map_or (contains int_cmp numbers.old) (member_integer member.now) false) }
+    ensures numbers { OnOk result ((q : ℤ) → contains int_cmp numbers.new q ≡ cond (are_equal (Some q) (member_integer member.now)) true (contains int_cmp numbers.old q)) }
+{
+    match member_integer(member) {
+        None => Ok(false),
+        Some(number) => see_number(numbers, number),
+    }
+}
+
+/// Puts the name and the integer of a member into sets, where it has a text. The answer tells whether one of them was
+/// there.
+fn is_integer_seen(
+    alloc: Global,
+    names: &mut BTreeSet<String>,
+    numbers: &mut BTreeSet<i128>,
+    member: &EnumMember,
+) -> Result<bool, AllocError>
+    ensures was { IfOk result (λ b. b ≡ is_valued E.Int member.now && (contains_text names.old member.now.name || option_map_or (contains int_cmp numbers.old) (member_integer member.now) false)) }
+    ensures names { OnOk result ((q : List ℕ) → contains_text names.new q ≡ cond (is_valued E.Int member.now && bytes_eq q member.now.name) true (contains_text names.old q)) }
+    ensures numbers { OnOk result ((q : ℤ) → contains int_cmp numbers.new q ≡ cond (is_valued E.Int member.now && are_equal (Some q) (member_integer member.now)) true (contains int_cmp numbers.old q)) }
+{
+    if member.text.is_none() {
+        return Ok(false);
+    }
+    let named = see(alloc, names, member.name.as_str())?;
+    let told = is_integer_told(numbers, member)?;
+    Ok(named || told)
+}
+
+fn integer_again(alloc: Global, members: &[EnumMember]) -> Result<Option<usize>, AllocError>
+    ensures { IfOk result (λ place. place ≡ first_beside (is_value_again E.Int) (λ m. m.at) [] members.now) }
+{
+    let mut names = BTreeSet::new(alloc);
+    let mut numbers = BTreeSet::new(alloc);
+    for member in members {
+        if is_integer_seen(alloc, &mut names, &mut numbers, member)? {
             return Ok(Some(member.at));
         }
     }
@@ -130,7 +168,10 @@ fn value_again(
 fn again_in_enum(alloc: Global, def: &EnumDef) -> Result<Option<usize>, AllocError>
     ensures { IfOk result (λ place. place ≡ first_beside (is_value_again def.now.form) (λ m. m.at) [] def.now.members) }
 {
-    value_again(alloc, def.form, def.members.as_slice())
+    match def.form {
+        EnumForm::Text => text_again(alloc, def.members.as_slice()),
+        EnumForm::Int => integer_again(alloc, def.members.as_slice()),
+    }
 }
 
 /// Whether a member of a union has what the union asks for.

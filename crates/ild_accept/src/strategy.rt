@@ -3,7 +3,7 @@ ghost use Rattle.std.specs.Prelude.{◌≡◌, Some, if◌then◌else◌};
 ghost use Rattle.ild_schema.specs.Places.{first_place};
 ghost use Rattle.ild_schema.specs.Rules.{is_bare_join, is_field_wrong, is_member_wrong, is_value_wrong, strategy_fault};
 
-use crate::decimal::is_decimal;
+use crate::clash::member_integer;
 use crate::hex::is_hex;
 use ild_schema::{
     EnumDef, EnumForm, EnumMember, Field, Mark, Member, StructDef, StructForm, TypeDef, UnionDef,
@@ -65,10 +65,9 @@ fn wrong_member(def: &UnionDef) -> Option<usize>
 fn is_value_wrong(form: EnumForm, member: &EnumMember) -> bool
     ensures { result ≡ is_value_wrong form member.now }
 {
-    match (form, &member.text) {
-        (EnumForm::Text, _) => false,
-        (EnumForm::Int, None) => true,
-        (EnumForm::Int, Some(text)) => !is_decimal(text.as_str().as_bytes()),
+    match form {
+        EnumForm::Text => false,
+        EnumForm::Int => member_integer(member).is_none(),
     }
 }
 

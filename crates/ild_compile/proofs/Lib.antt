@@ -1,1 +1,2 @@
 pub mod OneVerdict
+mod Failing

@@ -1,13 +1,14 @@
--- What the bytes of a schema are compiled to: the table of its types, or its first fault, stage after stage.
+-- What the bytes of a schema are compiled to: the accepted table of its types, or its first fault, stage after stage.
 use Rattle.std.specs.Prelude.{◌≡◌, ◌⊎◌, ℕ, List, Result, Ok, Err, IsUtf8}
 use Rattle.std.specs.Str.Lossy.{utf8_valid_len}
 use Rattle.ild_lex.specs.declared.token.Token.{Token}
 use Rattle.ild_lex.specs.Lex.{Lexes, AreTokens, wrong_char, unended_text}
-use Rattle.ild_parse.specs.declared.ast.Ast.{Ast}
-use Rattle.ild_parse.specs.DerivePart.{Derives}
-use Rattle.ild_parse.specs.Fault.{IsWrongAt}
-use Rattle.ild_parse.specs.Grammar.{parse_of}
+use Rattle.ild_grammar.specs.declared.ast.Ast.{Ast}
+use Rattle.ild_grammar.specs.DerivePart.{Derives}
+use Rattle.ild_grammar.specs.Fault.{IsWrongAt}
 use Rattle.ild_schema.specs.declared.row.Row.{Row}
+use Rattle.ild_schema.specs.declared.rule.Rule.{Rule}
+use Rattle.ild_schema.specs.Accept.{Fault, IsAccepted, IsFirstFault}
 use Rattle.ild_resolve.specs.Table.{Resolves}
 use Rattle.ild_resolve.specs.declared.error.ResolveErr.{ResolveErr}
 use Rattle.ild_resolve.specs.declared.error.ResolveErr.TheVariants as R
@@ -35,7 +36,6 @@ pub record IsUngrammatical (src : List ℕ) (at : ℕ) : Type 0 where
   pub tokens : List Token
   pub lexed : AreTokens src tokens
   pub wrong : IsWrongAt src tokens at
-  pub read : parse_of src tokens ≡ Err at
 
 -- they stop being UTF-8 at this place, or they are a text in which no token begins there
 abbrev pub IsWrongChar : List ℕ → ℕ → Type 0
@@ -53,6 +53,20 @@ pub record HasWrongName (src : List ℕ) (e : ResolveErr) : Type 0 where
   pub tree : HasTree src ast
   pub resolves : Resolves ast (Err e)
 
+-- they have a table of which none of the rules fails
+pub record HasAccepted (src : List ℕ) (rows : List Row) : Type 0 where
+  pub table : HasTable src rows
+  pub accepted : IsAccepted rows
+
+-- they have a table, and this rule is the first that fails, at this place
+pub record FailsRule (src : List ℕ) (rule : Rule) (at : ℕ) : Type 0 where
+  pub rows : List Row
+  pub table : HasTable src rows
+  pub fault : Fault
+  pub first : IsFirstFault rows fault
+  pub same_rule : fault.rule ≡ rule
+  pub same_place : fault.at ≡ at
+
 -- the first fault of the bytes is this one
 abbrev pub IsFlaw : List ℕ → Flaw → ℕ → Type 0
 IsFlaw src F.Char at = IsWrongChar src at
@@ -64,9 +78,10 @@ IsFlaw src F.Float at = HasWrongName src (R.Float at)
 IsFlaw src F.CopyCycle at = HasWrongName src (R.CopyCycle at)
 IsFlaw src F.Advanced at = HasWrongName src (R.Advanced at)
 IsFlaw src F.Many at = HasWrongName src (R.Many at)
+IsFlaw src (F.Rule rule) at = FailsRule src rule at
 
 abbrev pub Compiles : List ℕ → Verdict → Type 0
-Compiles src (table rows) = HasTable src rows
+Compiles src (table rows) = HasAccepted src rows
 Compiles src (faulty f) = IsFlaw src f.flaw f.at
 
 -- what an answer says of the bytes

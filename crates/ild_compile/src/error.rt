@@ -1,11 +1,12 @@
 //! What is wrong with a schema.
 ghost use Rattle.std.specs.Prelude.{◌≡◌};
-ghost use Rattle.ild_compile.specs.Line.{flaw_text};
+ghost use Rattle.ild_compile.specs.Line.{flaw_text, rule_text};
 ghost use Rattle.ild_compile.specs.declared.error.CompileErr.TheVariants.{Memory};
 
+use ild_schema::Rule;
 use std::alloc::{AllocError, AllocFailed};
 
-/// What is wrong with a schema: of its tokens, of its grammar, or of its names.
+/// What is wrong with a schema: of its tokens, of its grammar, of its names, or by the rules of accepted schemas.
 #[derive(Clone, Copy, Debug, PartialEq, Eq)]
 pub enum Flaw {
     /// A byte with which no token begins, or at which the text stops being UTF-8.
@@ -26,6 +27,8 @@ pub enum Flaw {
     Advanced,
     /// More types or parts than there may be.
     Many,
+    /// A rule of accepted schemas that fails.
+    Rule(Rule),
 }
 
 /// The first fault of a schema, at its byte.
@@ -35,11 +38,30 @@ pub struct SchemaFault {
     pub at: usize,
 }
 
-/// Why a schema has no table.
+/// Why a schema has no accepted table.
 #[derive(Clone, Copy, Debug, PartialEq, Eq)]
 pub enum CompileErr {
     Fault(SchemaFault),
     Memory,
+}
+
+fn rule_text(rule: Rule) -> &'static str
+    ensures { result.now ≡ rule_text rule }
+{
+    match rule {
+        Rule::Cycle => "accept 1 cycle",
+        Rule::NullClash => "accept 2 nullclash",
+        Rule::KindClash => "accept 3 kindclash",
+        Rule::PrefixClash => "accept 4 prefixclash",
+        Rule::Delim => "accept 5 delim",
+        Rule::NotText => "accept 6 nottext",
+        Rule::OptionalPlace => "accept 7 optionalplace",
+        Rule::Implicit => "accept 8 implicit",
+        Rule::NameClash => "accept 9 nameclash",
+        Rule::InlineMember => "accept 10 inlinemember",
+        Rule::MapKey => "accept 11 mapkey",
+        Rule::Strategy => "accept 12 strategy",
+    }
 }
 
 impl Flaw {
@@ -57,6 +79,7 @@ impl Flaw {
             Flaw::CopyCycle => "resolve 4 copycycle",
             Flaw::Advanced => "resolve 5 advanced",
             Flaw::Many => "resolve 6 many",
+            Flaw::Rule(rule) => rule_text(rule),
         }
     }
 }

@@ -10,13 +10,11 @@ mod mem_sink;
 mod mem_store;
 mod sink;
 mod store;
-mod through;
 
 pub use error::EdgeErr;
-pub use inputs::{Inputs, Taken};
+pub use inputs::{Inputs, LONGEST_INPUT, Taken};
 pub use mem_inputs::MemInputs;
 pub use mem_sink::MemSink;
 pub use mem_store::MemStore;
 pub use sink::Sink;
 pub use store::Store;
-pub use through::Through;

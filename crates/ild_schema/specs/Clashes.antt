@@ -1,26 +1,38 @@
 -- Names and texts by which parts are told apart: no two are equal.
-use Rattle.std.specs.Prelude.{ℕ, List, [], Bool, false, ◌&&◌, ◌||◌, bytes_eq, Option, Some, None, if◌then◌else◌}
+use Rattle.std.specs.Prelude.{ℕ, ℤ, List, [], Bool, false, ◌&&◌, ◌||◌, bytes_eq, Option, Some, None, if◌then◌else◌}
 use Rattle.std.specs.List.{list_any}
+use Rattle.std.specs.Ordering.{int_eq}
 use Rattle.ild_schema.specs.declared.def.TypeDef.{TypeDef}
 use Rattle.ild_schema.specs.declared.def.TypeDef.TheVariants as D
 use Rattle.ild_schema.specs.declared.def.UnionForm.{UnionForm}
 use Rattle.ild_schema.specs.declared.def.UnionForm.TheVariants as U
 use Rattle.ild_schema.specs.declared.def.EnumForm.{EnumForm}
+use Rattle.ild_schema.specs.declared.def.EnumForm.TheVariants as E
 use Rattle.ild_schema.specs.declared.def.EnumMember.{EnumMember}
 use Rattle.ild_schema.specs.declared.def.Field.{Field}
 use Rattle.ild_schema.specs.declared.def.Member.{Member}
 use Rattle.ild_schema.specs.declared.row.Row.{Row}
 use Rattle.ild_schema.specs.Kinds.{meant}
-use Rattle.ild_schema.specs.Marks.{text_of, is_marked, is_valued, field_text, member_text}
+use Rattle.ild_schema.specs.Marks.{text_of, is_marked, is_valued, field_text, member_text, member_integer}
 use Rattle.ild_schema.specs.Places.{first_beside}
 
 -- a field beside those before it: its name, or its name in a block
 abbrev pub is_field_again : List Field → Field → Bool
 is_field_again before f = list_any (λ g. bytes_eq f.name g.name || bytes_eq (field_text f) (field_text g)) before
 
--- a member of an enum, where it has what the enum asks for: its name, or its text in a block
+abbrev pub are_equal : Option ℤ → Option ℤ → Bool
+are_equal (Some a) (Some b) = int_eq a b
+are_equal (Some a) None = false
+are_equal None b = false
+
+-- whether two members of an enum have one value in a block, which is a text or an integer. A text that is no integer has none
+abbrev pub is_same_value : EnumForm → EnumMember → EnumMember → Bool
+is_same_value E.Text m o = bytes_eq (member_text m) (member_text o)
+is_same_value E.Int m o = are_equal (member_integer m) (member_integer o)
+
+-- a member of an enum, where it has what the enum asks for: its name, or its value in a block
 abbrev pub is_value_again : EnumForm → List EnumMember → EnumMember → Bool
-is_value_again form before m = is_valued form m && list_any (λ o. is_valued form o && (bytes_eq m.name o.name || bytes_eq (member_text m) (member_text o))) before
+is_value_again form before m = is_valued form m && list_any (λ o. is_valued form o && (bytes_eq m.name o.name || is_same_value form m o)) before
 
 -- the text that tells a union's member in a block, where it is one that stands for itself
 abbrev pub discriminant_of : UnionForm → Member → Option (List ℕ)

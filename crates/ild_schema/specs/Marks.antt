@@ -1,5 +1,5 @@
 -- What stands behind the members of unions and enums, and what their representation asks for.
-use Rattle.std.specs.Prelude.{ℕ, List, Bool, true, Option, Some, None, is_some}
+use Rattle.std.specs.Prelude.{ℕ, ℤ, List, Bool, true, Option, Some, None, is_some, option_and_then}
 use Rattle.std.specs.Option.{unwrap_or}
 use Rattle.ild_schema.specs.declared.def.UnionForm.{UnionForm}
 use Rattle.ild_schema.specs.declared.def.UnionForm.TheVariants as U
@@ -11,6 +11,7 @@ use Rattle.ild_schema.specs.declared.def.Member.{Member}
 use Rattle.ild_schema.specs.declared.def.Mark.{Mark}
 use Rattle.ild_schema.specs.declared.def.Mark.TheVariants as K
 use Rattle.ild_schema.specs.declared.def.KindWord.{KindWord}
+use Rattle.ild_schema.specs.Decimal.{decimal_of}
 
 abbrev pub text_of : Mark → Option (List ℕ)
 text_of (K.Text t) = Some t
@@ -37,3 +38,7 @@ field_text f = unwrap_or f.rename f.name
 -- the text of an enum's member
 abbrev pub member_text : EnumMember → List ℕ
 member_text m = unwrap_or m.text m.name
+
+-- the integer of an enum's member, where its text is one
+abbrev pub member_integer : EnumMember → Option ℤ
+member_integer m = option_and_then decimal_of m.text

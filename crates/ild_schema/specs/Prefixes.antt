@@ -1,6 +1,6 @@
 -- The prefixes of unions, by which a text or bytes tell their member: none begins another.
-use Rattle.std.specs.Prelude.{ℕ, List, [], Bool, false, ◌||◌, nat_eq, Option, None, option_and_then}
-use Rattle.std.specs.List.{list_any, starts_with}
+use Rattle.std.specs.Prelude.{ℕ, List, [], ◌∷◌, Bool, true, false, ◌&&◌, ◌||◌, nat_eq, Option, None, option_and_then}
+use Rattle.std.specs.List.{list_any}
 use Rattle.std.specs.Option.{option_map_or}
 use Rattle.ild_schema.specs.declared.def.TypeDef.{TypeDef}
 use Rattle.ild_schema.specs.declared.def.TypeDef.TheVariants as D
@@ -18,9 +18,15 @@ prefix_of U.StringPrefix m = text_of m.mark
 prefix_of U.BytesPrefix m = option_and_then bytes_of_hex (text_of m.mark)
 prefix_of form m = None
 
+-- whether a text or bytes begin with others
+abbrev pub begins : List ℕ → List ℕ → Bool
+begins [] s = true
+begins (c ∷ cs) [] = false
+begins (c ∷ cs) (d ∷ s) = nat_eq c d && begins cs s
+
 -- one of two prefixes begins with the other
 abbrev pub touch : List ℕ → List ℕ → Bool
-touch a b = starts_with nat_eq a b || starts_with nat_eq b a
+touch a b = begins b a || begins a b
 
 -- a prefix beside those of the members before it
 abbrev pub is_unclear : UnionForm → List Member → List ℕ → Bool

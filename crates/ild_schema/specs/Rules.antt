@@ -20,10 +20,9 @@ use Rattle.ild_schema.specs.declared.def.Member.{Member}
 use Rattle.ild_schema.specs.declared.def.KindWord.TheVariants as W
 use Rattle.ild_schema.specs.declared.number.Slot.{Slot}
 use Rattle.ild_schema.specs.declared.row.Row.{Row}
-use Rattle.ild_schema.specs.Decimal.{decimal_of}
 use Rattle.ild_schema.specs.Hex.{bytes_of_hex}
 use Rattle.ild_schema.specs.Kinds.{kinds_of, meant, has_kind, has_only, has_text_form, declared_kinds}
-use Rattle.ild_schema.specs.Marks.{text_of, kind_of}
+use Rattle.ild_schema.specs.Marks.{text_of, kind_of, member_integer}
 use Rattle.ild_schema.specs.Places.{first_place, first_beside, place_if}
 
 -- ---- what may be null has no other value that stands as null
@@ -154,7 +153,7 @@ is_member_wrong form m = is_none (text_of m.mark)
 
 abbrev pub is_value_wrong : EnumForm → EnumMember → Bool
 is_value_wrong E.Text m = false
-is_value_wrong E.Int m = is_none (option_and_then decimal_of m.text)
+is_value_wrong E.Int m = is_none (member_integer m)
 
 -- the rule for the type at a place
 abbrev pub strategy_fault : ℕ → TypeDef → Option ℕ

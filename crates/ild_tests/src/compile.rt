@@ -1,5 +1,5 @@
 //! Schemas and their first faults, the tables of schemas, and the limits. All places were counted in the texts.
-use ild_compile::{CompileErr, Flaw, SchemaFault, compile};
+use ild_compile::{CompileErr, Flaw, SchemaFault, compile, table_of};
 use ild_schema::{Schema, TypeNo};
 use std::alloc::{AllocError, Global};
 use std::fmt::Write;
@@ -12,7 +12,7 @@ use said::row;
 
 /// The first fault of a schema, if it has one.
 fn fault(alloc: Global, bytes: &[u8]) -> Result<Option<SchemaFault>, &'static str> {
-    match compile(alloc, bytes) {
+    match table_of(alloc, bytes) {
         Ok(_) => Ok(None),
         Err(CompileErr::Fault(f)) => Ok(Some(f)),
         Err(CompileErr::Memory) => Err("memory"),
@@ -246,7 +246,7 @@ const COMPILED: [(&str, u32); 20] = [
 
 /// The number of types in the table of a schema.
 fn types(rt: &impl Abort, alloc: Global, src: &str) -> u32 {
-    match compile(alloc, src.as_bytes()) {
+    match table_of(alloc, src.as_bytes()) {
         Ok(schema) => schema.types(),
         Err(e) => {
             assert!(rt; false, "{e:?} in {src}");
@@ -388,7 +388,7 @@ const TABLES: [Table<'static>; 11] = [
 
 /// The row of each type, which begin with the prelude's.
 fn try_table(rt: &impl Abort, alloc: Global, table: &Table<'_>) -> Result<(), Fail> {
-    let schema = compile(alloc, table.src.as_bytes())?;
+    let schema = table_of(alloc, table.src.as_bytes())?;
     assert_eq!(rt;
         schema.types() as usize,
         PRELUDE.len() + table.rows.len(),
@@ -414,7 +414,7 @@ fn rows_by_number(rt: HostRuntime) -> Result<(), Fail> {
 /// The club's names in the order of the text, and the first types that they and others stand for.
 #[test]
 fn names_of_the_club(rt: HostRuntime) -> Result<(), Fail> {
-    let schema = compile(rt.alloc(), CLUB.as_bytes())?;
+    let schema = table_of(rt.alloc(), CLUB.as_bytes())?;
     let names = ["Club", "Users", "User", "Role", "Contact", "Phone", "Room"];
     assert_eq!(rt; schema.names().len(), names.len());
     for (found, name) in schema.names().iter().zip(names) {
@@ -436,7 +436,7 @@ fn named(schema: &Schema, name: &str) -> Option<u32> {
 #[test]
 fn names_of_the_prelude_and_none(rt: HostRuntime) -> Result<(), Fail> {
     let src = "type U union { | &B \"b\" } representation keyed type B [[Int]] advanced HAMT";
-    let schema = compile(rt.alloc(), src.as_bytes())?;
+    let schema = table_of(rt.alloc(), src.as_bytes())?;
     for (name, number) in [
         ("Any", 0),
         ("Bool", 1),
@@ -471,7 +471,7 @@ fn base(schema: &Schema, n: u32) -> Option<u32> {
 #[test]
 fn bases(rt: HostRuntime) -> Result<(), Fail> {
     let src = "type A = B type B = C type C = Int type D [A] type E = D";
-    let schema = compile(rt.alloc(), src.as_bytes())?;
+    let schema = table_of(rt.alloc(), src.as_bytes())?;
     let bases = [0, 1, 2, 3, 4, 5, 6, 7, 3, 3, 3, 11, 11];
     for (n, want) in (0..).zip(bases) {
         assert_eq!(rt; base(&schema, n), Some(want), "the base of {n}");

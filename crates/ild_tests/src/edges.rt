@@ -1,6 +1,6 @@
 //! Each call once, and the failing ones by their numbers.
 use ild_data::{BlockId, Octets, block_id};
-use ild_edges::{EdgeErr, Inputs, MemInputs, MemSink, MemStore, Sink, Store, Taken, Through};
+use ild_edges::{EdgeErr, Inputs, MemInputs, MemSink, MemStore, Sink, Store, Taken};
 use std::test::Fail;
 
 /// What a take gives, as a text for a table.
@@ -83,7 +83,6 @@ fn puts_and_gets(rt: HostRuntime) -> Result<(), Fail> {
     ] {
         assert_eq!(rt; get_by(&mut store, id), wanted);
     }
-    assert_eq!(rt; get_by(&mut Through::new(&mut store), &map), "a0");
     Ok(())
 }
 

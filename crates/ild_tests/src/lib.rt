@@ -1,4 +1,5 @@
-//! Tests of the public calls of the crates, which are proved once so, and tests that go across crates.
+//! Tests of public calls, a file a subject: the crates below are proved once so. And what goes across crates: one tree from
+//! its JSON text to its block, and back, beside blocks of another tool; schemas, from their tokens to their tables.
 #![tactic(auto)]
 
 #[cfg(test)]
@@ -14,4 +15,20 @@ mod edges;
 #[cfg(test)]
 mod json;
 #[cfg(test)]
-mod text;
+mod keys;
+#[cfg(test)]
+mod large;
+#[cfg(test)]
+mod lex;
+#[cfg(test)]
+mod parse;
+#[cfg(test)]
+mod parts;
+#[cfg(test)]
+mod run;
+#[cfg(test)]
+mod splits;
+#[cfg(test)]
+mod trees;
+#[cfg(test)]
+mod values;
