@@ -2,4 +2,6 @@
 #![tactic(auto)]
 
 #[cfg(test)]
+mod acceptance;
+#[cfg(test)]
 mod tests;
