@@ -10,7 +10,7 @@ use ild_compile::{CompileErr, compile};
 use ild_data::Octets;
 use ild_edges::{EdgeErr, Inputs, Store, Taken};
 use ild_plain::PlainMap;
-use ild_schema::Schema;
+use ild_schema::Accepted;
 use std::alloc::Global;
 
 /// What the words ask for, with the names of its inputs: the schema's, and for a run the script's.
@@ -63,7 +63,7 @@ fn take_input<I: Inputs>(inputs: &mut I, role: Role, name: &str) -> Result<Octet
 }
 
 /// The table of types of a schema.
-fn table_of(alloc: Global, bytes: &[u8]) -> Result<Schema, Fault>
+fn table_of(alloc: Global, bytes: &[u8]) -> Result<Accepted, Fault>
     ensures { CompileAnswer bytes.now result }
 {
     match compile(alloc, bytes) {
