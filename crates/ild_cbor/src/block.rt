@@ -10,8 +10,7 @@ ghost use Rattle.ild_cbor.specs.Nodes.{IsRoot};
 use crate::fault::{CborFault, CborKind, Stop, stop_before};
 use crate::item::item;
 use crate::node::Node;
-
-const LONGEST: usize = 4_194_304;
+use ild_data::LONGEST_BLOCK;
 
 const DEEPEST: u8 = 96;
 
@@ -32,10 +31,10 @@ fn walk(bytes: &[u8]) -> Result<(), Stop>
 fn fault(bytes: &[u8]) -> Option<CborFault>
     ensures { result ≡ fault_of bytes.now }
 {
-    if bytes.len() > LONGEST {
+    if bytes.len() > LONGEST_BLOCK {
         return Some(CborFault {
             kind: CborKind::Size,
-            at: LONGEST,
+            at: LONGEST_BLOCK,
         });
     }
     match walk(bytes) {

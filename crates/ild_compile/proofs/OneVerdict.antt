@@ -5,11 +5,11 @@ use Rattle.std.specs.Str.Lossy.{utf8_valid_len}
 use Rattle.ild_lex.specs.declared.token.Token.{Token}
 use Rattle.ild_lex.specs.Lex.{Stop, Lexes, all_read, wrong_char, unended_text}
 use Rattle.ild_lex.proofs.Once.{one_reading}
-use Rattle.ild_parse.specs.declared.ast.Ast.{Ast}
-use Rattle.ild_parse.specs.DerivePart.{Derives}
-use Rattle.ild_parse.specs.Grammar.{parse_of}
-use Rattle.ild_parse.proofs.CompleteParts.{schema-complete}
-use Rattle.ild_parse.proofs.Derived.{derived_one}
+use Rattle.ild_grammar.specs.declared.ast.Ast.{Ast}
+use Rattle.ild_grammar.specs.DerivePart.{Derives}
+use Rattle.ild_grammar.specs.Fault.{IsWrongAt}
+use Rattle.ild_grammar.proofs.OnePlace.{one_wrong_place_lem, tree_or_place_lem}
+use Rattle.ild_grammar.proofs.OneTree.{one_tree_lem}
 use Rattle.ild_schema.specs.declared.row.Row.{Row}
 use Rattle.ild_schema.specs.declared.rule.Rule.{Rule}
 use Rattle.ild_schema.specs.Accept.{Fault, IsAccepted, IsFirstFault}
@@ -111,9 +111,6 @@ one_lexing src ts us s r p q = one_reading (length src) 0 src ts us s r (omega a
 never : (stop : Stop) → stop ≡ all_read → Stops stop → ⊥
 never stop e h = subst Stops e h
 
-tree_read : (src : List ℕ) (ast : Ast) (h : HasTree src ast) → parse_of src h.tokens ≡ Ok ast
-tree_read src ast h = schema-complete src h.tokens ast h.derived
-
 no_tokens_twice : (src : List ℕ) (v w : Verdict) → NoTokens src v → NoTokens src w → v ≡ w
 no_tokens_twice src v w p q = p.is ∙ ap lexing_verdict (one_lexing src p.tokens q.tokens p.stop q.stop p.lexed q.lexed).1 ∙ sym q.is
 
@@ -123,20 +120,18 @@ all_or_some src v ts lexed p = never p.stop (one_lexing src p.tokens ts p.stop a
 no_tree_twice : (src : List ℕ) (v w : Verdict) → NoTree src v → NoTree src w → v ≡ w
 no_tree_twice src v w p q =
     let same = (one_lexing src p.1.tokens q.1.tokens all_read all_read p.1.lexed q.1.lexed).0 in
-    let e : Err p.0 ≡ Err q.0 = sym p.1.read ∙ ap (parse_of src) same ∙ q.1.read in
-    let place : p.0 ≡ q.0 = cc in
+    let place = one_wrong_place_lem src p.1.tokens p.0 q.0 p.1.wrong (subst (λ (ts : List Token). IsWrongAt src ts q.0) (sym same) q.1.wrong) in
     p.2 ∙ ap (λ n. faulty (record { flaw = F.Syntax; at = n })) place ∙ sym q.2
 
 tree_or_none : (src : List ℕ) (at : ℕ) (ast : Ast) → IsUngrammatical src at → HasTree src ast → ⊥
 tree_or_none src at ast p h =
     let same = (one_lexing src p.tokens h.tokens all_read all_read p.lexed h.lexed).0 in
-    let e : Err at ≡ Ok ast = sym p.read ∙ ap (parse_of src) same ∙ tree_read src ast h in
-    cc
+    tree_or_place_lem src p.tokens ast at (subst (λ (ts : List Token). Derives src ts ast) (sym same) h.derived) p.wrong
 
 one_tree : (src : List ℕ) (a b : Ast) → HasTree src a → HasTree src b → a ≡ b
 one_tree src a b p q =
     let same = (one_lexing src p.tokens q.tokens all_read all_read p.lexed q.lexed).0 in
-    derived_one src p.tokens a b p.derived (subst (λ (ts : List Token). Derives src ts b) (sym same) q.derived)
+    one_tree_lem src p.tokens a b p.derived (subst (λ (ts : List Token). Derives src ts b) (sym same) q.derived)
 
 judged_once : (v w : Verdict) (r : Result (List Row) ResolveErr) → Judged v r → Judged w r → v ≡ w
 judged_once v w (Ok rows) (inl p) (inl q) = p.1 ∙ sym q.1

@@ -3,10 +3,9 @@ use Rattle.std.specs.Prelude.{◌≡◌, ◌⊎◌, ℕ, List, Result, Ok, Err, 
 use Rattle.std.specs.Str.Lossy.{utf8_valid_len}
 use Rattle.ild_lex.specs.declared.token.Token.{Token}
 use Rattle.ild_lex.specs.Lex.{Lexes, AreTokens, wrong_char, unended_text}
-use Rattle.ild_parse.specs.declared.ast.Ast.{Ast}
-use Rattle.ild_parse.specs.DerivePart.{Derives}
-use Rattle.ild_parse.specs.Fault.{IsWrongAt}
-use Rattle.ild_parse.specs.Grammar.{parse_of}
+use Rattle.ild_grammar.specs.declared.ast.Ast.{Ast}
+use Rattle.ild_grammar.specs.DerivePart.{Derives}
+use Rattle.ild_grammar.specs.Fault.{IsWrongAt}
 use Rattle.ild_schema.specs.declared.row.Row.{Row}
 use Rattle.ild_schema.specs.declared.rule.Rule.{Rule}
 use Rattle.ild_schema.specs.Accept.{Fault, IsAccepted, IsFirstFault}
@@ -37,7 +36,6 @@ pub record IsUngrammatical (src : List ℕ) (at : ℕ) : Type 0 where
   pub tokens : List Token
   pub lexed : AreTokens src tokens
   pub wrong : IsWrongAt src tokens at
-  pub read : parse_of src tokens ≡ Err at
 
 -- they stop being UTF-8 at this place, or they are a text in which no token begins there
 abbrev pub IsWrongChar : List ℕ → ℕ → Type 0

@@ -1,7 +1,7 @@
 //! From the bytes of a schema to its accepted table of types.
 ghost use Rattle.std.specs.Prelude.{◌≡◌, ◌⊎◌, ℕ, List, IfOk, IfErr, IsUtf8, Err};
 ghost use Rattle.ild_lex.specs.Lex.{AreTokens};
-ghost use Rattle.ild_parse.specs.declared.ast.Ast.{Ast};
+ghost use Rattle.ild_grammar.specs.declared.ast.Ast.{Ast};
 ghost use Rattle.ild_schema.specs.declared.row.Row.{Row};
 ghost use Rattle.ild_resolve.specs.Table.{Resolves};
 ghost use Rattle.ild_accept.specs.Judged.{IsFaultOf};
@@ -9,8 +9,9 @@ ghost use Rattle.ild_compile.specs.Compile.{Answers, HasTable, HasTree};
 
 use crate::{CompileErr, Flaw, SchemaFault};
 use ild_accept::{AcceptErr, accept};
+use ild_grammar::Ast;
 use ild_lex::{LexErr, Tokens, tokens};
-use ild_parse::{Ast, ParseErr, parse};
+use ild_parse::{ParseErr, parse};
 use ild_resolve::{ResolveErr, resolve};
 use ild_schema::{Accepted, Schema};
 use std::alloc::Global;
@@ -46,14 +47,14 @@ fn tokens_of(alloc: Global, src: &str) -> Result<Tokens, CompileErr>
     }
 }
 
-/// The tree that the grammar derives from the tokens.
-fn tree_of(alloc: Global, src: &str, tokens: &Tokens) -> Result<Ast, CompileErr>
-    requires { AreTokens src.now tokens.now }
+/// The tree that the grammar derives from the tokens of the text, which are gone when it stands.
+fn tree_of(alloc: Global, src: &str) -> Result<Ast, CompileErr>
     ensures tree { IfOk result (HasTree src.now) }
     ensures fault { IfErr result (λ e. Answers src.now (Err e)) }
 {
     let _utf8 = src.as_bytes();
-    match parse(alloc, src, tokens) {
+    let tokens = tokens_of(alloc, src)?;
+    match parse(alloc, src, &tokens) {
         Ok(tree) => Ok(tree),
         Err(ParseErr::Syntax { at }) => Err(fault(Flaw::Syntax, at)),
         Err(ParseErr::Memory) => Err(CompileErr::Memory),
@@ -82,8 +83,7 @@ pub fn table_of(alloc: Global, bytes: &[u8]) -> Result<Schema, CompileErr>
     ensures fault { IfErr result (λ e. Answers bytes.now (Err e)) }
 {
     let src = text_of(bytes)?;
-    let tokens = tokens_of(alloc, src)?;
-    let tree = tree_of(alloc, src, &tokens)?;
+    let tree = tree_of(alloc, src)?;
     match resolve(alloc, tree) {
         Ok(schema) => Ok(schema),
         Err(e) => Err(fault_of(e)),

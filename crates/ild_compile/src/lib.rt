@@ -4,8 +4,6 @@
 mod compiling;
 mod error;
 mod laws;
-#[cfg(test)]
-mod tests;
 
 pub use compiling::{compile, table_of};
 pub use error::{CompileErr, Flaw, SchemaFault};

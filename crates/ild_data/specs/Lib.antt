@@ -17,3 +17,8 @@ pub mod Spellings
 pub mod Limits
 pub mod Seen
 pub mod Falls
+pub mod TrieShape
+pub mod ByteOrder
+pub mod Trie
+pub mod TrieBlocks
+pub mod Padded

@@ -3,12 +3,13 @@ use Rattle.std.specs.Prelude.{ℕ, ◌≤◌, length}
 use Rattle.ild_data.specs.Data.{Data, depth}
 use Rattle.ild_data.specs.Tree.{IsTree}
 use Rattle.ild_data.specs.Spell.{spell}
+use Rattle.ild_data.specs.declared.limit.TheConstants.{LONGEST_BLOCK}
 
 abbrev pub deepest : ℕ
 deepest = 96
 
 abbrev pub longest_block : ℕ
-longest_block = 4194304
+longest_block = LONGEST_BLOCK
 
 -- a tree that a block can hold
 pub record IsWithin (d : Data) : Type 0 where

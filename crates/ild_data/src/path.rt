@@ -29,6 +29,20 @@ impl Path {
         }
     }
 
+    /// The path of these segments, which are taken over.
+    pub fn from_vec(segments: Vec<Txt>) -> Path
+        ensures { result ≡ segments.items }
+    {
+        Path { segments }
+    }
+
+    /// The segments, without a copy.
+    pub fn into_vec(self) -> Vec<Txt>
+        ensures { result.items ≡ self }
+    {
+        self.segments
+    }
+
     /// How many segments there are.
     pub fn len(&self) -> usize
         ensures { result ≡ length self.now }

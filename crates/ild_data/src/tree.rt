@@ -130,6 +130,23 @@ impl Trees {
         }
     }
 
+    /// The list of these items, which are taken over.
+    pub fn from_vec(items: Vec<Tree>) -> Trees
+        ensures { items_list result ≡ map data_of items.items }
+    {
+        for tree in &items {
+            tree.well_formed();
+        }
+        Trees { items }
+    }
+
+    /// The items, without a copy.
+    pub fn into_vec(self) -> Vec<Tree>
+        ensures { map data_of result.items ≡ items_list self }
+    {
+        self.items
+    }
+
     /// How many items there are.
     pub fn len(&self) -> usize
         ensures count { result ≡ length (items_list self.now) }
@@ -172,7 +189,7 @@ impl Entries {
     ghost use Rattle.ild_data.specs.Data.{no_members, members_list};
     ghost use Rattle.ild_data.specs.Tree.{AreEntries};
     ghost use Rattle.ild_data.specs.Seen.{data_of, pair_of};
-    ghost use Rattle.ild_data.specs.Key.{put};
+    ghost use Rattle.ild_data.specs.Key.{put, Rises};
 
     /// No entry.
     pub fn new(alloc: Global) -> Entries
@@ -181,6 +198,26 @@ impl Entries {
         Entries {
             pairs: Vec::new(alloc),
         }
+    }
+
+    /// The map of these entries, which are taken over, under rising keys.
+    pub fn from_vec(pairs: Vec<(Txt, Tree)>) -> Entries
+        requires { Rises (map pair_of pairs.items) }
+        ensures { members_list result ≡ map pair_of pairs.items }
+    {
+        for pair in &pairs {
+            let _text = pair.0.as_str();
+            pair.1.well_formed();
+        }
+        Entries { pairs }
+    }
+
+    /// The entries in the key order, without a copy.
+    pub fn into_vec(self) -> Vec<(Txt, Tree)>
+        ensures same { map pair_of result.items ≡ members_list self }
+        ensures rises { Rises (map pair_of result.items) }
+    {
+        self.pairs
     }
 
     /// How many entries there are.

@@ -2,6 +2,7 @@
 use Rattle.std.specs.Prelude.{◌≡◌, ℕ, ◌≤◌, List, [], ◌∷◌, length, Option, Some, None, Result, Ok, Err, nat_le, if◌then◌else◌}
 use Rattle.ild_data.specs.Key.{same_text}
 use Rattle.ild_edges.specs.Count.{Rose}
+use Rattle.ild_edges.specs.declared.inputs.TheConstants.{LONGEST_INPUT}
 use Rattle.ild_edges.specs.declared.error.EdgeErr.{EdgeErr}
 use Rattle.ild_edges.specs.declared.error.EdgeErr.TheVariants.{Failed, Memory}
 use Rattle.ild_edges.specs.declared.inputs.Taken.{Taken}
@@ -13,10 +14,6 @@ pub record Supply : Type 0 where
   pub lacks : ℕ
   pub faults : ℕ
 
--- 16 MiB
-abbrev pub longest_input : ℕ
-longest_input = 16777216
-
 -- the bytes under a name; of two files with one name the first counts
 abbrev pub file_at : List (List ℕ × List ℕ) → List ℕ → Option (List ℕ)
 file_at [] name = None
@@ -25,11 +22,11 @@ file_at (f ∷ fs) name = if same_text f.0 name then Some f.1 else file_at fs na
 -- what is taken of a file
 abbrev pub taken_of : Option (List ℕ) → Taken
 taken_of None = Absent
-taken_of (Some b) = if nat_le (length b) longest_input then Bytes b else Long
+taken_of (Some b) = if nat_le (length b) LONGEST_INPUT then Bytes b else Long
 
 -- where no files are told, what is taken is within the limit
 abbrev pub IsShort : Taken → Type 0
-IsShort (Bytes b) = length b ≤ longest_input
+IsShort (Bytes b) = length b ≤ LONGEST_INPUT
 IsShort Absent = Unit {0}
 IsShort Long = Unit {0}
 

@@ -1,6 +1,7 @@
 pub mod Count
 pub mod Told
 pub mod Store
+pub mod Collide
 pub mod Inputs
 pub mod Sink
 pub mod Own

@@ -1,5 +1,5 @@
 -- What the calls of a store say. A content is a list of blocks, each under its id; of two with one id the first counts.
-use Rattle.std.specs.Prelude.{◌≡◌, ◌≢◌, ◌⊎◌, ℕ, ◌≤◌, List, [], ◌∷◌, ◌++◌, Option, Some, None, Result, Ok, Err, find}
+use Rattle.std.specs.Prelude.{◌≡◌, ◌≢◌, ◌⊎◌, ◌↔◌, ℕ, ◌≤◌, List, Option, Some, None, Result, Ok, Err, find, Contains}
 use Rattle.ild_data.specs.Key.{same_text}
 use Rattle.ild_data.specs.Spell.{id_of}
 use Rattle.ild_edges.specs.Count.{Rose, bumped}
@@ -34,9 +34,18 @@ IsFree block blocks = (block_at blocks (id_of block) ≡ None) ⊎ (block_at blo
 abbrev pub Keeps : List (List ℕ) → List (List ℕ) → Type 0
 Keeps was now = (id b : List ℕ) → block_at was id ≡ Some b → block_at now id ≡ Some b
 
--- no count falls, and what was held is held
+-- this id is given, beside those that were
+abbrev pub Gives : List ℕ → List (List ℕ) → List (List ℕ) → Type 0
+Gives id was now = (j : List ℕ) → Contains now j ↔ (Contains was j ⊎ (j ≡ id))
+
+-- what was given is given
+abbrev pub StaysGiven : List (List ℕ) → List (List ℕ) → Type 0
+StaysGiven was now = (id : List ℕ) → Contains was id → Contains now id
+
+-- no count falls, what was held is held, and what was given is given
 pub record Later (m n : Moment) : Type 0 where
   pub keeps : BothTold m.blocks n.blocks Keeps
+  pub given : BothTold m.given n.given StaysGiven
   pub gets : m.gets ≤ n.gets
   pub puts : m.puts ≤ n.puts
   pub lacks : m.lacks ≤ n.lacks
@@ -61,7 +70,7 @@ pub record Gets (m : Moment) (id : List ℕ) (result : Result (Option (List ℕ)
 -- what a put answers: the block is held now and was the only one under its id, or another is kept there
 abbrev pub PutsAnswer : Moment → List ℕ → Result (Option (List ℕ)) EdgeErr → Moment → Type 0
 PutsAnswer m block (Ok None) n =
-    BothTold m.blocks n.blocks (λ was now. IsFree block was × Adds block was now) × BothTold m.given n.given (λ was now. now ≡ was ++ id_of block ∷ [])
+    BothTold m.blocks n.blocks (λ was now. IsFree block was × Adds block was now) × BothTold m.given n.given (Gives (id_of block))
 PutsAnswer m block (Ok (Some kept)) n =
     (id_of kept ≡ id_of block) × (kept ≢ block) × (n.blocks ≡ m.blocks) × IfTold m.blocks (λ blocks. block_at blocks (id_of block) ≡ Some kept) × (n.given ≡ m.given)
 PutsAnswer m block (Err Failed) n =

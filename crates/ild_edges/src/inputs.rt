@@ -4,7 +4,10 @@ ghost use Rattle.ild_edges.specs.Inputs.{Supply, Takes};
 use crate::EdgeErr;
 use ild_data::Octets;
 
-/// What a take gives: the whole content, or that it isn't there, or that it has more than 16,777,216 bytes.
+/// How many bytes an input has at most: 16 MiB.
+pub const LONGEST_INPUT: usize = 16_777_216;
+
+/// What a take gives: the whole content, or that it isn't there, or that it is longer than an input may be.
 #[derive(Drop)]
 pub enum Taken {
     Bytes(Octets),

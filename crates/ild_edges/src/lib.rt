@@ -12,13 +12,11 @@ mod sink;
 mod store;
 #[cfg(test)]
 mod tests;
-mod through;
 
 pub use error::EdgeErr;
-pub use inputs::{Inputs, Taken};
+pub use inputs::{Inputs, LONGEST_INPUT, Taken};
 pub use mem_inputs::MemInputs;
 pub use mem_sink::MemSink;
 pub use mem_store::MemStore;
 pub use sink::Sink;
 pub use store::Store;
-pub use through::Through;

@@ -4,12 +4,9 @@ ghost use Rattle.ild_edges.specs.Count.{bumped};
 ghost use Rattle.ild_edges.specs.Inputs.{Takes, file_at};
 
 use crate::due::is_due;
-use crate::{EdgeErr, Inputs, Taken};
+use crate::{EdgeErr, Inputs, LONGEST_INPUT, Taken};
 use ild_data::{Octets, Txt};
 use std::alloc::{AllocError, Global};
-
-/// 16 MiB.
-const LONGEST: usize = 16_777_216;
 
 /// A file.
 #[derive(Drop)]
@@ -89,7 +86,7 @@ impl Inputs for MemInputs {
             self.lacks = self.lacks.saturating_add(1);
             return Ok(Taken::Absent);
         };
-        if bytes.as_slice().len() <= LONGEST {
+        if bytes.as_slice().len() <= LONGEST_INPUT {
             Ok(Taken::Bytes(bytes.copy()?))
         } else {
             self.lacks = self.lacks.saturating_add(1);

@@ -1,5 +1,5 @@
 //! Each call once, and the failing ones by their numbers.
-use crate::{EdgeErr, Inputs, MemInputs, MemSink, MemStore, Sink, Store, Taken, Through};
+use crate::{EdgeErr, Inputs, MemInputs, MemSink, MemStore, Sink, Store, Taken};
 use ild_data::{BlockId, Octets, block_id};
 use std::test::Fail;
 
@@ -83,7 +83,6 @@ fn puts_and_gets(rt: HostRuntime) -> Result<(), Fail> {
     ] {
         assert_eq!(rt; get_by(&mut store, id), wanted);
     }
-    assert_eq!(rt; get_by(&mut Through::new(&mut store), &map), "a0");
     Ok(())
 }
 

@@ -4,12 +4,9 @@ ghost use Rattle.std.specs.Prelude.{◌≡◌, None};
 use crate::cause::cause;
 use crate::load::load;
 use ild_data::Octets;
-use ild_edges::{EdgeErr, Inputs, Taken};
+use ild_edges::{EdgeErr, Inputs, LONGEST_INPUT as LONGEST, Taken};
 use std::io::ErrorKind;
 use std::rt::Files;
-
-/// 16 MiB.
-const LONGEST: usize = 16_777_216;
 
 /// Files by their names. They tell nothing of what there is.
 #[derive(Drop)]

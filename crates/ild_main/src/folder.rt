@@ -4,15 +4,12 @@ ghost use Rattle.ild_data.specs.Spell.{id_of};
 
 use crate::cause::cause;
 use crate::load::load;
-use crate::name::{block_path, part_path};
-use ild_data::{BlockId, Octets, block_id};
+use crate::name::block_path;
+use crate::part::place;
+use ild_data::{BlockId, LONGEST_BLOCK as LONGEST, Octets, block_id};
 use ild_edges::{EdgeErr, Store};
-use std::io::{ErrorKind, Write};
+use std::io::ErrorKind;
 use std::rt::Files;
-use std::{fs, io};
-
-/// 4 MiB.
-const LONGEST: usize = 4_194_304;
 
 /// A folder with one file a block, named by the text of the block's CID. It tells nothing of what there is.
 ///
@@ -68,36 +65,6 @@ fn held<R: Files + AllocGlobal>(rt: &R, path: &str, id: &BlockId) -> Result<Opti
             }
         }
     }
-}
-
-/// Makes a file anew, and the folder where it isn't there.
-fn create<R: Files + AllocGlobal>(rt: &R, folder: &str, path: &str) -> io::Result<R::File> {
-    match fs::create(rt, path) {
-        Err(error) if error.kind() == ErrorKind::NotFound => {
-            fs::create_dir(rt, folder)?;
-            fs::create(rt, path)
-        }
-        made => made,
-    }
-}
-
-/// Writes the whole of a file.
-fn write<R: Files + AllocGlobal>(rt: &R, folder: &str, path: &str, bytes: &[u8]) -> io::Result<()> {
-    create(rt, folder, path)?.write_all(bytes)
-}
-
-/// Writes a file beside its name, and moves it there when it is whole. A part that stays behind is taken away.
-fn place<R: Files + AllocGlobal>(rt: &R, folder: &str, path: &str, bytes: &[u8]) -> io::Result<()> {
-    let part = part_path(rt.alloc(), path)?;
-    let placed = write(rt, folder, part.as_str(), bytes).and_then(|()| fs::rename(
-        rt,
-        part.as_str(),
-        path,
-    ));
-    if placed.is_err() {
-        let _ = fs::remove_file(rt, part.as_str());
-    }
-    placed
 }
 
 /// Puts a block into its file, unless the file holds a block of its id already: other bytes are handed back.

@@ -7,6 +7,7 @@ mod folder;
 mod load;
 mod name;
 mod output;
+mod part;
 #[cfg(test)]
 mod tests;
 mod words;

@@ -1,5 +1,6 @@
 //! The names of the files of blocks.
-ghost use Rattle.std.specs.Prelude.{◌≡◌, ◌++◌, codes, string_bytes, IfOk};
+ghost use Rattle.std.specs.Prelude.{◌≡◌, ◌≢◌, ◌++◌, codes, string_bytes, IfOk};
+ghost use Rattle.std.specs.Fmt.{decimal};
 ghost use Rattle.ild_data.specs.CidText.{cid_text_of};
 ghost use Rattle.ild_data.specs.Spell.{cid_of};
 
@@ -17,11 +18,13 @@ pub(crate) fn block_path(alloc: Global, folder: &str, id: &BlockId) -> Result<St
     Ok(path)
 }
 
-/// The path of what is not yet a block's file.
-pub(crate) fn part_path(alloc: Global, path: &str) -> Result<String, AllocError>
-    ensures { IfOk result (λ part. string_bytes part ≡ path.now ++ codes ".part") }
+/// The path of what is not yet a block's file: the first, or one with a number beside it.
+pub(crate) fn part_path(alloc: Global, path: &str, number: u16) -> Result<String, AllocError>
+    ensures first { number ≡ 0 → IfOk result (λ part. string_bytes part ≡ path.now ++ codes ".part") }
+    ensures beside { number ≢ 0 → IfOk result (λ part. string_bytes part ≡ path.now ++ (codes ".part" ++ decimal number)) }
 {
-    let mut part = String::from_str(alloc, path)?;
-    part.push_str(".part")?;
-    Ok(part)
+    if number == 0 {
+        return format!(in alloc; "{path}.part");
+    }
+    format!(in alloc; "{path}.part{number}")
 }

@@ -1,173 +1,114 @@
-//! The adapters over real files, in a folder of each test's own, and the ways to fail that can be made by hand.
-use crate::files::FileInputs;
+//! What files on a disk don't show: a block that is too long, a file that can't be moved, a terminal that takes nothing.
+//! The built program's own tests over files and folders stand in tests/conformance.
 use crate::folder::FolderStore;
 use crate::output::StdSink;
-use ild_data::{Octets, block_id};
-use ild_edges::{EdgeErr, Inputs, Sink, Store, Taken};
+use ild_data::block_id;
+use ild_edges::{EdgeErr, Sink, Store};
+use std::alloc::{Allocator, Global};
+use std::cell::Cell;
 use std::fmt::Display;
-use std::fs::OpenFile;
+use std::fs::{Metadata, OpenOptions};
 use std::io::ErrorKind;
+use std::rt::Files;
 use std::test::Fail;
 use std::{env, fs, io, process};
 
-/// The file of the block `a0`, by python3's hashlib and base64.
-const MAP: &str = "bafyreigbtj4x7ip5legnfznufuopl4sg4knzc2cof6duas4b3q2fy6swua";
+/// A file system on which nothing can be moved.
+#[derive(Drop)]
+struct Unmoved<'r> {
+    rt: &'r HostRuntime,
+}
 
-/// A fresh folder.
-fn fresh(rt: &HostRuntime, name: &str) -> Result<String, Fail> {
+impl<'r> Alloc for Unmoved<'r> {
+    type A = Global;
+
+    fn alloc(&self) -> Global {
+        self.rt.alloc()
+    }
+}
+
+impl<'r> Files for Unmoved<'r> {
+    type File = <HostRuntime as Files>::File;
+
+    type Dir = <HostRuntime as Files>::Dir;
+
+    fn open_file(&self, how: &OpenOptions, path: &str) -> io::Result<Self::File> {
+        self.rt.open_file(how, path)
+    }
+
+    fn open_dir(&self, path: &str) -> io::Result<Self::Dir> {
+        self.rt.open_dir(path)
+    }
+
+    fn metadata(&self, path: &str) -> io::Result<Metadata> {
+        Files::metadata(self.rt, path)
+    }
+
+    fn symlink_metadata(&self, path: &str) -> io::Result<Metadata> {
+        self.rt.symlink_metadata(path)
+    }
+
+    fn copy(&self, from: &str, to: &str) -> io::Result<u64> {
+        self.rt.copy(from, to)
+    }
+
+    fn rename(&self, _: &str, _: &str) -> io::Result<()> {
+        Err(io::Error::from(ErrorKind::CrossesDevices))
+    }
+
+    fn remove_file(&self, path: &str) -> io::Result<()> {
+        self.rt.remove_file(path)
+    }
+
+    fn create_dir(&self, path: &str) -> io::Result<()> {
+        self.rt.create_dir(path)
+    }
+
+    fn remove_dir(&self, path: &str) -> io::Result<()> {
+        self.rt.remove_dir(path)
+    }
+
+    fn remove_dir_all<B: Allocator>(&self, alloc: B, path: &str) -> io::Result<()> {
+        self.rt.remove_dir_all(alloc, path)
+    }
+}
+
+/// A folder in which nothing is.
+fn fresh(rt: &HostRuntime) -> Result<String, Fail> {
     let above = env::temp_dir(rt)?;
     let above = above.as_path();
     let number = process::id(rt.process());
-    let path = format!(in rt.alloc(); "{}/ild-{name}-{number}", above.display())?;
+    let path = format!(in rt.alloc(); "{}/ild-{number}", above.display())?;
     let _ = fs::remove_dir_all(rt, path.as_str());
     fs::create_dir(rt, path.as_str())?;
     Ok(path)
 }
 
-fn join(rt: &HostRuntime, folder: &str, name: &str) -> Result<String, Fail> {
-    Ok(format!(in rt.alloc(); "{folder}/{name}")?)
-}
-
-/// A file of zeros.
-fn zeros(rt: &HostRuntime, path: &str, size: u64) -> Result<(), Fail> {
-    fs::create(rt, path)?.set_len(size)?;
-    Ok(())
-}
-
-fn take_by<I: Inputs>(inputs: &mut I, name: &str) -> (&'static str, usize) {
-    match inputs.take(name) {
-        Ok(Taken::Bytes(bytes)) => ("bytes", bytes.as_slice().len()),
-        Ok(Taken::Absent) => ("absent", 0),
-        Ok(Taken::Long) => ("long", 0),
-        Err(EdgeErr::Failed) => ("failed", 0),
-        Err(EdgeErr::Memory) => ("memory", 0),
-    }
+/// Whether a put fails.
+fn fails<K: Store>(store: &mut K, bytes: &[u8]) -> bool {
+    matches!(store.put(&block_id(bytes), bytes), Err(EdgeErr::Failed))
 }
 
 #[test]
-fn inputs_from_files(rt: HostRuntime) -> Result<(), Fail> {
-    let folder = fresh(&rt, "inputs")?;
-    let folder = folder.as_str();
-    fs::write(&rt, join(&rt, folder, "five")?, "12345")?;
-    zeros(&rt, join(&rt, folder, "limit")?.as_str(), 16_777_216)?;
-    zeros(&rt, join(&rt, folder, "long")?.as_str(), 16_777_217)?;
-    zeros(&rt, join(&rt, folder, "huge")?.as_str(), 1 << 40)?;
-    let mut inputs = FileInputs::new(&rt);
-    for (name, wanted) in [
-        ("five", ("bytes", 5)),
-        ("limit", ("bytes", 16_777_216)),
-        ("long", ("long", 0)),
-        ("huge", ("long", 0)),
-        ("none", ("absent", 0)),
-        ("none/five", ("absent", 0)),
-        ("five/none", ("absent", 0)),
-        (".", ("failed", 0)),
-        ("", ("failed", 0)),
-    ] {
-        let path = join(&rt, folder, name)?;
-        assert_eq!(rt; take_by(&mut inputs, path.as_str()), wanted, "{name}");
-    }
-    fs::remove_dir_all(&rt, folder)?;
-    Ok(())
-}
-
-fn shown(answer: Result<Option<Octets>, EdgeErr>) -> &'static str {
-    match answer {
-        Ok(Some(bytes)) => match bytes.as_slice() {
-            b"\xa0" => "a0",
-            _ => "bytes",
-        },
-        Ok(None) => "none",
-        Err(EdgeErr::Failed) => "failed",
-        Err(EdgeErr::Memory) => "memory",
-    }
-}
-
-fn get_by<K: Store>(store: &mut K) -> &'static str {
-    shown(store.get(&block_id(b"\xa0")))
-}
-
-fn put_by<K: Store>(store: &mut K) -> &'static str {
-    shown(store.put(&block_id(b"\xa0"), b"\xa0"))
-}
-
-/// What stands in the file of the block, before a get, a put and a get.
-#[derive(Clone, Copy)]
-enum Before {
-    Nothing,
-    Block,
-    Part,
-    OtherBytes,
-    LongFile,
-    Folder,
-    BlockAndNoRoom,
-    NoRoom,
-}
-
-fn prepare(rt: &HostRuntime, file: &str, part: &str, before: Before) -> Result<(), Fail> {
-    match before {
-        Before::Nothing => {}
-        Before::Block => fs::write(rt, file, b"\xa0".as_slice())?,
-        Before::Part => fs::write(rt, part, "half")?,
-        Before::OtherBytes => fs::write(rt, file, "other")?,
-        Before::LongFile => zeros(rt, file, 4_194_305)?,
-        Before::Folder => fs::create_dir(rt, file)?,
-        Before::BlockAndNoRoom => {
-            fs::write(rt, file, b"\xa0".as_slice())?;
-            fs::create_dir(rt, part)?;
-        }
-        Before::NoRoom => fs::create_dir(rt, part)?,
-    }
-    Ok(())
-}
-
-#[test]
-fn blocks_in_a_folder(rt: HostRuntime) -> Result<(), Fail> {
-    for (name, before, wanted) in [
-        ("nothing", Before::Nothing, ["none", "none", "a0"]),
-        ("block", Before::Block, ["a0", "none", "a0"]),
-        ("part", Before::Part, ["none", "none", "a0"]),
-        ("other", Before::OtherBytes, ["none", "none", "a0"]),
-        ("long", Before::LongFile, ["none", "none", "a0"]),
-        ("folder", Before::Folder, ["failed", "failed", "failed"]),
-        ("held", Before::BlockAndNoRoom, ["a0", "none", "a0"]),
-        ("full", Before::NoRoom, ["none", "failed", "none"]),
-    ] {
-        let folder = fresh(&rt, name)?;
-        let file = join(&rt, folder.as_str(), MAP)?;
-        let part = format!(in rt.alloc(); "{}.part", file.as_str())?;
-        prepare(&rt, file.as_str(), part.as_str(), before)?;
-        let mut store = FolderStore::new(&rt, folder.as_str());
-        let answers = [get_by(&mut store), put_by(&mut store), get_by(&mut store)];
-        assert_eq!(rt; answers, wanted, "{name}");
-        fs::remove_dir_all(&rt, folder.as_str())?;
-    }
-    Ok(())
-}
-
-#[test]
-fn a_folder_is_made_at_the_first_put(rt: HostRuntime) -> Result<(), Fail> {
-    let above = fresh(&rt, "made")?;
-    let folder = join(&rt, above.as_str(), "blocks")?;
-    let mut store = FolderStore::new(&rt, folder.as_str());
-    assert_eq!(rt; get_by(&mut store), "none");
-    assert!(rt; fs::metadata(&rt, folder.as_str()).is_err());
-    assert_eq!(rt; put_by(&mut store), "none");
-    let file = join(&rt, folder.as_str(), MAP)?;
-    let bytes = fs::read(&rt, file.as_str())?;
-    assert_eq!(rt; bytes.as_slice(), b"\xa0".as_slice());
+fn a_put_that_fails_leaves_nothing(rt: HostRuntime) -> Result<(), Fail> {
+    let folder = fresh(&rt)?;
+    let unmoved = Unmoved { rt: &rt };
+    assert!(rt; fails(&mut FolderStore::new(&unmoved, folder.as_str()), b"\xa0"));
+    let mut long = Vec::new(rt.alloc());
+    long.resize(4_194_305, 0)?;
+    assert!(rt; fails(&mut FolderStore::new(&rt, folder.as_str()), &long));
+    assert_eq!(rt; fs::read_dir(&rt, folder.as_str())?.count(), 0);
     fs::remove_dir_all(&rt, folder.as_str())?;
-    fs::write(&rt, folder.as_str(), "a file")?;
-    assert_eq!(rt; get_by(&mut store), "failed");
-    assert_eq!(rt; put_by(&mut store), "failed");
-    fs::remove_dir_all(&rt, above.as_str())?;
     Ok(())
 }
 
-/// A terminal that takes nothing.
-struct Full;
+/// A terminal that counts what it is given to write at once.
+#[derive(Drop)]
+struct Counting {
+    most: Cell<usize>,
+}
 
-impl Print for Full {
+impl Print for Counting {
     fn print<D: Display + Drop>(&self, _: D) -> io::Result<()> {
         Err(io::Error::from(ErrorKind::StorageFull))
     }
@@ -176,14 +117,18 @@ impl Print for Full {
         Err(io::Error::from(ErrorKind::StorageFull))
     }
 
-    fn write_all(&self, _: &[u8]) -> io::Result<()> {
-        Err(io::Error::from(ErrorKind::StorageFull))
+    fn write_all(&self, bytes: &[u8]) -> io::Result<()> {
+        self.most.set(bytes.len());
+        Ok(())
     }
 }
 
 #[test]
-fn writes_to_standard_output(rt: HostRuntime) -> Result<(), Fail> {
-    assert_eq!(rt; StdSink::new(&rt).write(b"ok\n"), Ok(()));
-    assert_eq!(rt; StdSink::new(&Full).write(b"ok\n"), Err(EdgeErr::Failed));
+fn a_long_reply_is_one_write(rt: HostRuntime) -> Result<(), Fail> {
+    let mut reply = Vec::new(rt.alloc());
+    reply.resize(100_000, b'x')?;
+    let out = Counting { most: Cell::new(0) };
+    assert_eq!(rt; StdSink::new(&out).write(&reply), Ok(()));
+    assert_eq!(rt; out.most.get(), 100_000);
     Ok(())
 }

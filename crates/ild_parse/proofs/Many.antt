@@ -3,8 +3,9 @@ use Rattle.std.proofs.Common.{◌≡◌, ℕ, suc, ◌-◌, ◌+◌, ◌≤◌, 
 use Rattle.std.proofs.lemmas.List.{append-nil}
 use Rattle.ild_parse.specs.declared.error.ParseErr.{ParseErr}
 use Rattle.ild_parse.specs.declared.error.ParseErr.TheVariants as E
-use Rattle.ild_parse.specs.Stream.{Stream, place}
-use Rattle.ild_parse.specs.Read.{◌>>=◌, Fails, many_at}
+use Rattle.ild_grammar.proofs.Stream.{Stream, place}
+use Rattle.ild_grammar.proofs.Read.{◌>>=◌, many_at}
+use Rattle.ild_parse.specs.Seen.{Fails}
 
 -- what was read before, and what is still read
 abbrev pub with_front : {A : Type 0} → List A → Result (List A × Stream) ℕ → Result (List A × Stream) ℕ

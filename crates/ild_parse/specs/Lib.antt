@@ -1,15 +1,2 @@
-pub mod Reference
-pub mod ReferenceCode
-pub mod ReferenceSeen
-pub mod ReferenceFalls
-pub mod Stream
-pub mod Value
-pub mod Read
-pub mod Refer
-pub mod Form
-pub mod Part
-pub mod Grammar
-pub mod Derive
-pub mod DeriveForm
-pub mod DerivePart
-pub mod Fault
+pub mod Wrong
+pub mod Seen

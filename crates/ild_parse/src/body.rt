@@ -1,8 +1,10 @@
 //! Bodies of types.
-ghost use Rattle.ild_parse.specs.Stream.{stream_of, most};
-ghost use Rattle.ild_parse.specs.Read.{Gives, many_at};
-ghost use Rattle.ild_parse.specs.Part.{field_at, member_at, enum_member_at};
-ghost use Rattle.ild_parse.specs.Grammar.{closes, braced_at, map_at, struct_at, union_at, enum_at, unit_at, list_at, scalar_at, body_at};
+ghost use Rattle.ild_parse.specs.Seen.{stream_of};
+ghost use Rattle.ild_grammar.proofs.Stream.{most};
+ghost use Rattle.ild_parse.specs.Seen.{Gives};
+ghost use Rattle.ild_grammar.proofs.Read.{many_at};
+ghost use Rattle.ild_grammar.proofs.Part.{field_at, member_at, enum_member_at};
+ghost use Rattle.ild_grammar.proofs.Grammar.{closes, braced_at, map_at, struct_at, union_at, enum_at, unit_at, list_at, scalar_at, body_at};
 
 use crate::form::{
     needed_union_form, needed_unit_form, optional_enum_form, optional_map_form,
@@ -67,7 +69,7 @@ fn enum_members(alloc: Global, input: Input<'_>) -> Result<(List<EnumMember>, In
 }
 
 /// map = "{" Type ":" ref "}" [ "representation" form ]
-#[tactic(auto, unfolding(crate::specs::Grammar::map_at))]
+#[tactic(auto, unfolding(ild_grammar::proofs::Grammar::map_at))]
 fn read_map_body(alloc: Global, input: Input<'_>) -> Result<(MapBody, Input<'_>), ParseErr>
     ensures { Gives (λ x. (x.0, stream_of x.1)) result (map_at (stream_of input.entry)) }
 {
@@ -80,7 +82,7 @@ fn read_map_body(alloc: Global, input: Input<'_>) -> Result<(MapBody, Input<'_>)
     Ok((MapBody { key, value, form }, input))
 }
 
-#[tactic(auto, unfolding(crate::specs::Grammar::braced_at))]
+#[tactic(auto, unfolding(ild_grammar::proofs::Grammar::braced_at))]
 fn braced_fields(alloc: Global, input: Input<'_>) -> Result<(List<Field>, Input<'_>), ParseErr>
     ensures { Gives (λ x. (x.0, stream_of x.1)) result (braced_at field_at (stream_of input.entry)) }
 {
@@ -90,7 +92,7 @@ fn braced_fields(alloc: Global, input: Input<'_>) -> Result<(List<Field>, Input<
     Ok((parts, input))
 }
 
-#[tactic(auto, unfolding(crate::specs::Grammar::braced_at))]
+#[tactic(auto, unfolding(ild_grammar::proofs::Grammar::braced_at))]
 fn braced_members(alloc: Global, input: Input<'_>) -> Result<(List<Member>, Input<'_>), ParseErr>
     ensures { Gives (λ x. (x.0, stream_of x.1)) result (braced_at member_at (stream_of input.entry)) }
 {
@@ -100,7 +102,7 @@ fn braced_members(alloc: Global, input: Input<'_>) -> Result<(List<Member>, Inpu
     Ok((parts, input))
 }
 
-#[tactic(auto, unfolding(crate::specs::Grammar::braced_at))]
+#[tactic(auto, unfolding(ild_grammar::proofs::Grammar::braced_at))]
 fn braced_enum_members(
     alloc: Global,
     input: Input<'_>,
@@ -113,7 +115,7 @@ fn braced_enum_members(
     Ok((parts, input))
 }
 
-#[tactic(auto, unfolding(crate::specs::Grammar::struct_at))]
+#[tactic(auto, unfolding(ild_grammar::proofs::Grammar::struct_at))]
 fn read_struct(alloc: Global, input: Input<'_>) -> Result<(StructBody, Input<'_>), ParseErr>
     ensures { Gives (λ x. (x.0, stream_of x.1)) result (struct_at (stream_of input.entry)) }
 {
@@ -123,7 +125,7 @@ fn read_struct(alloc: Global, input: Input<'_>) -> Result<(StructBody, Input<'_>
     Ok((StructBody { fields, form }, input))
 }
 
-#[tactic(auto, unfolding(crate::specs::Grammar::union_at))]
+#[tactic(auto, unfolding(ild_grammar::proofs::Grammar::union_at))]
 fn read_union(alloc: Global, input: Input<'_>) -> Result<(UnionBody, Input<'_>), ParseErr>
     ensures { Gives (λ x. (x.0, stream_of x.1)) result (union_at (stream_of input.entry)) }
 {
@@ -133,7 +135,7 @@ fn read_union(alloc: Global, input: Input<'_>) -> Result<(UnionBody, Input<'_>),
     Ok((UnionBody { members, form }, input))
 }
 
-#[tactic(auto, unfolding(crate::specs::Grammar::enum_at))]
+#[tactic(auto, unfolding(ild_grammar::proofs::Grammar::enum_at))]
 fn read_enum(alloc: Global, input: Input<'_>) -> Result<(EnumBody, Input<'_>), ParseErr>
     ensures { Gives (λ x. (x.0, stream_of x.1)) result (enum_at (stream_of input.entry)) }
 {
@@ -143,7 +145,7 @@ fn read_enum(alloc: Global, input: Input<'_>) -> Result<(EnumBody, Input<'_>), P
     Ok((EnumBody { members, form }, input))
 }
 
-#[tactic(auto, unfolding(crate::specs::Grammar::unit_at))]
+#[tactic(auto, unfolding(ild_grammar::proofs::Grammar::unit_at))]
 fn read_unit(input: Input<'_>) -> Result<(UnitForm, Input<'_>), ParseErr>
     ensures { Gives (λ x. (x.0, stream_of x.1)) result (unit_at (stream_of input.entry)) }
 {
@@ -151,7 +153,7 @@ fn read_unit(input: Input<'_>) -> Result<(UnitForm, Input<'_>), ParseErr>
     needed_unit_form(input)
 }
 
-#[tactic(auto, unfolding(crate::specs::Grammar::list_at))]
+#[tactic(auto, unfolding(ild_grammar::proofs::Grammar::list_at))]
 fn read_list_body(alloc: Global, input: Input<'_>) -> Result<(Body, Input<'_>), ParseErr>
     ensures { Gives (λ x. (x.0, stream_of x.1)) result (list_at (stream_of input.entry)) }
 {
@@ -161,7 +163,7 @@ fn read_list_body(alloc: Global, input: Input<'_>) -> Result<(Body, Input<'_>), 
     Ok((Body::List(element), input))
 }
 
-#[tactic(auto, unfolding(crate::specs::Grammar::scalar_at))]
+#[tactic(auto, unfolding(ild_grammar::proofs::Grammar::scalar_at))]
 fn read_scalar(input: Input<'_>) -> Result<(Body, Input<'_>), ParseErr>
     ensures { Gives (λ x. (x.0, stream_of x.1)) result (scalar_at (stream_of input.entry)) }
 {
@@ -187,7 +189,7 @@ fn read_scalar(input: Input<'_>) -> Result<(Body, Input<'_>), ParseErr>
 }
 
 /// body
-#[tactic(auto, unfolding(crate::specs::Grammar::body_at))]
+#[tactic(auto, unfolding(ild_grammar::proofs::Grammar::body_at))]
 pub(crate) fn read_body(alloc: Global, input: Input<'_>) -> Result<(Body, Input<'_>), ParseErr>
     ensures { Gives (λ x. (x.0, stream_of x.1)) result (body_at (stream_of input.entry)) }
 {

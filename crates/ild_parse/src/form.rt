@@ -1,7 +1,7 @@
 //! Representations.
-ghost use Rattle.ild_parse.specs.Stream.{stream_of};
-ghost use Rattle.ild_parse.specs.Read.{Gives};
-ghost use Rattle.ild_parse.specs.Form.{pairs_at, map_form_at, struct_form_at, envelope_at, union_form_at, enum_form_at, unit_form_at, optional_form_at, needed_form_at};
+ghost use Rattle.ild_parse.specs.Seen.{stream_of};
+ghost use Rattle.ild_parse.specs.Seen.{Gives};
+ghost use Rattle.ild_grammar.proofs.Form.{pairs_at, map_form_at, struct_form_at, envelope_at, union_form_at, enum_form_at, unit_form_at, optional_form_at, needed_form_at};
 
 use crate::input::Input;
 use crate::setting::{one_setting, two_settings};
@@ -9,7 +9,7 @@ use crate::terminal::read_type_name;
 use crate::{EnumForm, Envelope, MapForm, Pairs, ParseErr, StructForm, UnionForm, UnitForm};
 use std::alloc::Global;
 
-#[tactic(auto, unfolding(crate::specs::Form::pairs_at))]
+#[tactic(auto, unfolding(ild_grammar::proofs::Form::pairs_at))]
 fn read_pairs(alloc: Global, input: Input<'_>) -> Result<(Pairs, Input<'_>), ParseErr>
     ensures { Gives (λ x. (x.0, stream_of x.1)) result (pairs_at (stream_of input.entry)) }
 {
@@ -17,7 +17,7 @@ fn read_pairs(alloc: Global, input: Input<'_>) -> Result<(Pairs, Input<'_>), Par
     Ok((Pairs { inner, entry }, input))
 }
 
-#[tactic(auto, unfolding(crate::specs::Form::map_form_at))]
+#[tactic(auto, unfolding(ild_grammar::proofs::Form::map_form_at))]
 fn map_form(alloc: Global, input: Input<'_>) -> Result<(MapForm, Input<'_>), ParseErr>
     ensures { Gives (λ x. (x.0, stream_of x.1)) result (map_form_at (stream_of input.entry)) }
 {
@@ -38,7 +38,7 @@ fn map_form(alloc: Global, input: Input<'_>) -> Result<(MapForm, Input<'_>), Par
     Err(input.fault())
 }
 
-#[tactic(auto, unfolding(crate::specs::Form::struct_form_at))]
+#[tactic(auto, unfolding(ild_grammar::proofs::Form::struct_form_at))]
 fn struct_form(alloc: Global, input: Input<'_>) -> Result<(StructForm, Input<'_>), ParseErr>
     ensures { Gives (λ x. (x.0, stream_of x.1)) result (struct_form_at (stream_of input.entry)) }
 {
@@ -62,7 +62,7 @@ fn struct_form(alloc: Global, input: Input<'_>) -> Result<(StructForm, Input<'_>
     Err(input.fault())
 }
 
-#[tactic(auto, unfolding(crate::specs::Form::envelope_at))]
+#[tactic(auto, unfolding(ild_grammar::proofs::Form::envelope_at))]
 fn read_envelope(alloc: Global, input: Input<'_>) -> Result<(Envelope, Input<'_>), ParseErr>
     ensures { Gives (λ x. (x.0, stream_of x.1)) result (envelope_at (stream_of input.entry)) }
 {
@@ -81,7 +81,7 @@ fn read_envelope(alloc: Global, input: Input<'_>) -> Result<(Envelope, Input<'_>
     ))
 }
 
-#[tactic(auto, unfolding(crate::specs::Form::union_form_at))]
+#[tactic(auto, unfolding(ild_grammar::proofs::Form::union_form_at))]
 fn union_form(alloc: Global, input: Input<'_>) -> Result<(UnionForm, Input<'_>), ParseErr>
     ensures { Gives (λ x. (x.0, stream_of x.1)) result (union_form_at (stream_of input.entry)) }
 {
@@ -108,7 +108,7 @@ fn union_form(alloc: Global, input: Input<'_>) -> Result<(UnionForm, Input<'_>),
     Err(input.fault())
 }
 
-#[tactic(auto, unfolding(crate::specs::Form::enum_form_at))]
+#[tactic(auto, unfolding(ild_grammar::proofs::Form::enum_form_at))]
 fn enum_form(input: Input<'_>) -> Result<(EnumForm, Input<'_>), ParseErr>
     ensures { Gives (λ x. (x.0, stream_of x.1)) result (enum_form_at (stream_of input.entry)) }
 {
@@ -121,7 +121,7 @@ fn enum_form(input: Input<'_>) -> Result<(EnumForm, Input<'_>), ParseErr>
     Err(input.fault())
 }
 
-#[tactic(auto, unfolding(crate::specs::Form::unit_form_at))]
+#[tactic(auto, unfolding(ild_grammar::proofs::Form::unit_form_at))]
 fn unit_form(input: Input<'_>) -> Result<(UnitForm, Input<'_>), ParseErr>
     ensures { Gives (λ x. (x.0, stream_of x.1)) result (unit_form_at (stream_of input.entry)) }
 {
@@ -140,7 +140,7 @@ fn unit_form(input: Input<'_>) -> Result<(UnitForm, Input<'_>), ParseErr>
     Err(input.fault())
 }
 
-#[tactic(auto, unfolding(crate::specs::Form::optional_form_at))]
+#[tactic(auto, unfolding(ild_grammar::proofs::Form::optional_form_at))]
 pub(crate) fn optional_map_form(
     alloc: Global,
     input: Input<'_>,
@@ -154,7 +154,7 @@ pub(crate) fn optional_map_form(
     Ok((Some(form), input))
 }
 
-#[tactic(auto, unfolding(crate::specs::Form::optional_form_at))]
+#[tactic(auto, unfolding(ild_grammar::proofs::Form::optional_form_at))]
 pub(crate) fn optional_struct_form(
     alloc: Global,
     input: Input<'_>,
@@ -168,7 +168,7 @@ pub(crate) fn optional_struct_form(
     Ok((Some(form), input))
 }
 
-#[tactic(auto, unfolding(crate::specs::Form::optional_form_at))]
+#[tactic(auto, unfolding(ild_grammar::proofs::Form::optional_form_at))]
 pub(crate) fn optional_enum_form(
     input: Input<'_>,
 ) -> Result<(Option<EnumForm>, Input<'_>), ParseErr>
@@ -181,7 +181,7 @@ pub(crate) fn optional_enum_form(
     Ok((Some(form), input))
 }
 
-#[tactic(auto, unfolding(crate::specs::Form::needed_form_at))]
+#[tactic(auto, unfolding(ild_grammar::proofs::Form::needed_form_at))]
 pub(crate) fn needed_union_form(
     alloc: Global,
     input: Input<'_>,
@@ -192,7 +192,7 @@ pub(crate) fn needed_union_form(
     union_form(alloc, input)
 }
 
-#[tactic(auto, unfolding(crate::specs::Form::needed_form_at))]
+#[tactic(auto, unfolding(ild_grammar::proofs::Form::needed_form_at))]
 pub(crate) fn needed_unit_form(input: Input<'_>) -> Result<(UnitForm, Input<'_>), ParseErr>
     ensures { Gives (λ x. (x.0, stream_of x.1)) result (needed_form_at unit_form_at (stream_of input.entry)) }
 {

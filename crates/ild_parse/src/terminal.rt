@@ -1,13 +1,14 @@
 //! Names, texts and numbers with their places.
-ghost use Rattle.ild_parse.specs.Stream.{stream_of};
-ghost use Rattle.ild_parse.specs.Read.{Gives, type_name_at, name_at, text_at, number_at};
+ghost use Rattle.ild_parse.specs.Seen.{stream_of};
+ghost use Rattle.ild_parse.specs.Seen.{Gives};
+ghost use Rattle.ild_grammar.proofs.Read.{type_name_at, name_at, text_at, number_at};
 
 use crate::input::Input;
 use crate::value::number_of;
 use crate::{Name, Number, ParseErr, Text, TypeName};
 use std::alloc::Global;
 
-#[tactic(auto, unfolding(crate::specs::Read::type_name_at))]
+#[tactic(auto, unfolding(ild_grammar::proofs::Read::type_name_at))]
 pub(crate) fn read_type_name(
     alloc: Global,
     input: Input<'_>,
@@ -22,7 +23,7 @@ pub(crate) fn read_type_name(
     Ok((TypeName { at, name }, input.rest()))
 }
 
-#[tactic(auto, unfolding(crate::specs::Read::name_at))]
+#[tactic(auto, unfolding(ild_grammar::proofs::Read::name_at))]
 pub(crate) fn read_name(alloc: Global, input: Input<'_>) -> Result<(Name, Input<'_>), ParseErr>
     ensures { Gives (λ x. (x.0, stream_of x.1)) result (name_at (stream_of input.entry)) }
 {
@@ -34,7 +35,7 @@ pub(crate) fn read_name(alloc: Global, input: Input<'_>) -> Result<(Name, Input<
     Ok((Name { at, name }, input.rest()))
 }
 
-#[tactic(auto, unfolding(crate::specs::Read::text_at))]
+#[tactic(auto, unfolding(ild_grammar::proofs::Read::text_at))]
 pub(crate) fn read_text(alloc: Global, input: Input<'_>) -> Result<(Text, Input<'_>), ParseErr>
     ensures { Gives (λ x. (x.0, stream_of x.1)) result (text_at (stream_of input.entry)) }
 {
@@ -46,7 +47,7 @@ pub(crate) fn read_text(alloc: Global, input: Input<'_>) -> Result<(Text, Input<
     Ok((Text { at, text }, input.rest()))
 }
 
-#[tactic(auto, unfolding(crate::specs::Read::number_at))]
+#[tactic(auto, unfolding(ild_grammar::proofs::Read::number_at))]
 pub(crate) fn read_number(input: Input<'_>) -> Result<(Number, Input<'_>), ParseErr>
     ensures { Gives (λ x. (x.0, stream_of x.1)) result (number_at (stream_of input.entry)) }
 {

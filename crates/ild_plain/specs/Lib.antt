@@ -1,1 +1,4 @@
 pub mod Value
+pub mod Change
+pub mod Plain
+pub mod Puts

@@ -56,8 +56,8 @@ fn block_between(
     Ok(emit.finish())
 }
 
-/// The block of entries.
-fn block_without(
+/// The block of entries, and behind them of others.
+fn block_joined(
     alloc: Global,
     before: &[(Txt, Int)],
     after: &[(Txt, Int)],
@@ -99,7 +99,7 @@ fn block_removed(
 {
     match key_place(entries, key) {
         Ok(i) => {
-            let block = block_without(alloc, &entries[..i], &entries[i + 1..])?;
+            let block = block_joined(alloc, &entries[..i], &entries[i + 1..])?;
             Ok(Some(block))
         }
         Err(_) => Ok(None),
@@ -156,7 +156,7 @@ impl PlainMap {
     pub fn block(&self, alloc: Global) -> Result<Octets, AllocError>
         ensures { IfOk result (λ b. b ≡ block_of self.now) }
     {
-        block_without(alloc, &self.entries, &[])
+        block_joined(alloc, &self.entries, &[])
     }
 
     /// The block of the map with this integer at the key.

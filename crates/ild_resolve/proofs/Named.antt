@@ -3,7 +3,7 @@ use Rattle.std.proofs.Common.{◌≡◌, ℕ, suc, ◌+◌, ◌<◌, ◌≤◌, 
 use Rattle.std.specs.List.{position_from}
 use Rattle.std.specs.Option.{option_or, unwrap_or}
 use Rattle.std.specs.Prelude.{◌&&◌}
-use Rattle.ild_parse.specs.declared.ast.Ast.{Ast}
+use Rattle.ild_grammar.specs.declared.ast.Ast.{Ast}
 use Rattle.ild_schema.specs.Names.{is_open, is_named, number_named}
 use Rattle.ild_schema.specs.Prelude.{prelude}
 use Rattle.ild_schema.specs.declared.row.Row.{Row}

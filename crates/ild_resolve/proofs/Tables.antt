@@ -5,8 +5,10 @@ use Rattle.std.specs.List.{All}
 use Rattle.std.specs.BTreeMap.{BTreeMap, get_by_text}
 use Rattle.std.proofs.Math.Path.{fun_ext}
 use Rattle.std.proofs.lemmas.List.Elements.{All-append}
-use Rattle.ild_parse.specs.declared.ast.Ast.{Ast}
+use Rattle.ild_grammar.specs.declared.ast.Ast.{Ast}
 use Rattle.ild_schema.specs.Prelude.{prelude}
+use Rattle.ild_schema.specs.Copies.{NoneIsCircular}
+use Rattle.ild_schema.specs.Spelled.{HasTexts}
 use Rattle.ild_schema.specs.Table.{AreNamedOnce, IsTable}
 use Rattle.ild_schema.specs.Held.{IsIndex}
 use Rattle.ild_resolve.specs.Events.{types_in, events_of}
@@ -39,18 +41,21 @@ rows_once ast h =
     let numbers : List ℕ → Option ℕ = λ name. number_of name (events_of ast) in
     named_once (events_of ast) (decls_rows numbers 8 ast.decls) (decls_opened numbers 8 ast.decls) h
 
--- the limits and the declared names are enough for a table: a name that is refused still stands for some type
-pub declared_table : (ast : Ast) → declared_fault (events_of ast) ≡ None → IsTable (rows_of ast)
-declared_table ast h =
+-- the limits and the declared names are enough for a table whose types are no copies of themselves and whose texts are
+-- UTF-8: a name that is refused still stands for some type
+pub declared_table : (ast : Ast) → declared_fault (events_of ast) ≡ None → NoneIsCircular (rows_of ast) → HasTexts (rows_of ast) → IsTable (rows_of ast)
+declared_table ast h none texts =
     record {
       prelude_first = refl;
       size = rows_few ast h;
       within = rows_within ast h;
       named_once = rows_once ast (none_declared (events_of ast) h).again;
+      none_circular = none;
+      texts = texts;
     }
 
-pub table : (ast : Ast) → fault_in (events_of ast) ≡ None → IsTable (rows_of ast)
-table ast h = declared_table ast (no_faults (events_of ast) h).0
+pub table : (ast : Ast) → fault_in (events_of ast) ≡ None → NoneIsCircular (rows_of ast) → HasTexts (rows_of ast) → IsTable (rows_of ast)
+table ast h none texts = declared_table ast (no_faults (events_of ast) h).0 none texts
 
 pub index : {Y : Type 0} (ast : Ast) (numbers : BTreeMap (String Y) ℕ) → ((name : List ℕ) → get_by_text numbers name ≡ number_of name (events_of ast)) → IsIndex (rows_of ast) numbers
 index ast numbers h name = h name ∙ sym (numbers_same ast name)

@@ -8,3 +8,4 @@ pub mod Counts
 pub mod Survey
 pub mod Marks
 pub mod Judged
+pub mod Rise

@@ -14,5 +14,5 @@ mod table;
 mod word;
 
 pub use error::ResolveErr;
-pub use laws::{faultless_have_tables, one_result};
+pub use laws::{events_rise, faultless_have_tables, one_result};
 pub use resolving::resolve;

@@ -7,8 +7,8 @@ use crate::ResolveErr;
 use crate::circular::first_circular;
 use crate::survey::survey;
 use crate::table::table_of;
-use ild_parse::Ast;
-use ild_schema::{Row, Schema};
+use ild_grammar::Ast;
+use ild_schema::{Row, Schema, texts_of};
 use std::alloc::Global;
 
 /// The place of a type in the text.
@@ -33,5 +33,6 @@ pub fn resolve(alloc: Global, ast: Ast) -> Result<Schema, ResolveErr>
             at: place_of(&rows, n),
         });
     }
+    texts_of(&rows);
     Ok(Schema::of(alloc, rows, numbers)?)
 }

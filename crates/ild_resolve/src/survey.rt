@@ -13,7 +13,7 @@ ghost use Rattle.ild_resolve.specs.declared.error.ResolveErr.TheVariants.{Memory
 
 use crate::ResolveErr;
 use crate::count::{begin, body};
-use ild_parse::{Ast, Decl, TypeName};
+use ild_grammar::{Ast, Decl, TypeName};
 use std::alloc::{AllocError, Global};
 use std::collections::BTreeMap;
 

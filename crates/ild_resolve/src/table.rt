@@ -2,7 +2,7 @@
 ghost use Rattle.std.specs.Prelude.{◌≡◌, ◌⊎◌, ◌+◌, ◌≤◌, ◌++◌, length, None, Some, IfErr, IfOk, OnOk};
 ghost use Rattle.std.specs.List.{flat_map};
 ghost use Rattle.std.specs.BTreeMap.{get_by_text};
-ghost use Rattle.ild_parse.specs.declared.ast.Decl.TheVariants as A;
+ghost use Rattle.ild_grammar.specs.declared.ast.Decl.TheVariants as A;
 ghost use Rattle.ild_schema.specs.Prelude.{prelude};
 ghost use Rattle.ild_resolve.specs.Events.{decl_events, events_of, types_in};
 ghost use Rattle.ild_resolve.specs.Faults.{first_wrong};
@@ -14,7 +14,8 @@ use crate::ResolveErr;
 use crate::body::def_of;
 use crate::reference::{begin, define};
 use crate::word::layout;
-use ild_parse::{Ast, Decl, List as AstList, TypeDecl};
+use ild_data::List as AstList;
+use ild_grammar::{Ast, Decl, TypeDecl};
 use ild_schema::{Origin, Row, prelude_rows};
 use std::alloc::Global;
 use std::collections::BTreeMap;

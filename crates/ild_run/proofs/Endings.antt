@@ -1,24 +1,31 @@
 -- How a call ends, from how its steps ended.
-use Rattle.std.proofs.Common.{◌≡◌, ◌⊎◌, ℕ, List, [], Bool, true, false, Option, Some, None, Result, Ok, Err, refl, sym, ap, ◌∙◌, subst, inl, inr}
+use Rattle.std.proofs.Common.{◌≡◌, ◌⊎◌, ℕ, ◌+◌, ◌≤◌, List, [], Bool, true, false, Option, Some, None, Result, Ok, Err, refl, sym, ap, ◌∙◌, subst, inl, inr, arith}
 use Rattle.std.specs.Prelude.{IsErrOf}
 use Rattle.ild_edges.specs.Count.{Rose}
 use Rattle.ild_edges.specs.Sink.{Output, Appends, AppendsFront}
-use Rattle.ild_edges.specs.Store.{Moment}
+use Rattle.ild_edges.specs.Store.{Moment, Later}
 use Rattle.ild_edges.specs.declared.inputs.Taken.TheVariants as Taken
-use Rattle.ild_plain.specs.Value.{Value}
+use Rattle.ild_plain.specs.Plain.{plain_map}
+use Rattle.ild_plain.specs.Value.{Value, blocks_of}
+use Rattle.ild_script.specs.declared.reply.Reply.{Reply}
 use Rattle.ild_script.specs.Line.{lines_of}
-use Rattle.ild_run.specs.Lines.{LinesDone, LinesCut}
-use Rattle.ild_run.specs.Opening.{PutsEmpty, EmptyAnswer, InputsFault}
+use Rattle.ild_session.specs.Lines.{LinesDone, LinesCut}
+use Rattle.ild_session.specs.Run.{Run, most_gets, most_puts}
+use Rattle.ild_session.specs.Session.{State, idle}
+use Rattle.ild_session.specs.Step.{Holds}
+use Rattle.ild_session.proofs.Steps.{run_gets, run_puts}
+use Rattle.ild_run.specs.First.{Tries}
+use Rattle.ild_run.specs.Opening.{PutsFirst, FirstAnswer, InputsFault}
 use Rattle.ild_run.specs.Fault.{fault_text, status_of, cut_status}
-use Rattle.ild_run.specs.Work.{Work, Taking, answers, work_of, job_work, IsTaking, AreTaken, Takes, Reaches}
+use Rattle.ild_run.specs.Work.{Work, Taking, in_roles, answers, work_of, job_work, IsTaking, AreTaken, Takes, Reaches}
 use Rattle.ild_run.specs.Words.{Job}
-use Rattle.ild_run.specs.Ended.{Call, IsDue, HasScript, AnswersAll, AnswersSome, Tells, TellsFront, CutAs, ToldAs, Says, Ended}
+use Rattle.ild_run.specs.Ended.{Call, IsDue, HasScript, Leaves, Answers, AnswersAll, AnswersSome, Tells, TellsFront, CutAs, ToldAs, Says, Ended}
 use Rattle.ild_run.specs.declared.fault.Fault.{Fault}
 use Rattle.ild_run.specs.declared.fault.Fault.TheVariants as F
 use Rattle.ild_run.specs.declared.fault.Role.{Role}
 use Rattle.ild_run.specs.declared.fault.Trouble.TheVariants as T
-use Rattle.ild_run.specs.declared.script.Cut.{Cut}
-use Rattle.ild_run.specs.declared.script.Cut.TheVariants as C
+use Rattle.ild_session.specs.declared.cut.Cut.{Cut}
+use Rattle.ild_session.specs.declared.cut.Cut.TheVariants as C
 use Rattle.ild_run.specs.declared.status.Status.{Status}
 use Rattle.ild_run.specs.declared.status.Status.TheVariants as S
 
@@ -45,22 +52,22 @@ says_front c t S.Input front rose = absurd rose
 says_front c t S.StoreFault front rose = absurd rose
 says_front c t S.Value front rose = absurd rose
 
-says_by : (c : Call) (t : Taking) (f : Fault) (status : Status) → IsDue c t f
+says_by : (c : Call) (t : Taking) (f : Fault) (status : Status) → IsDue c t f → Leaves c t f
     → ((status ≡ status_of f) × Appends c.before.output.written c.after.output.written (fault_text f)) ⊎ (CutAs c.before.output status c.after.output × AppendsFront c.before.output.written c.after.output.written (fault_text f))
     → Says c t status
-says_by c t f status due (inl told) = subst (λ (s : Status). Says c t s) (sym told.0) (says_told c t f (record { due = due; written = told.1 }))
-says_by c t f status due (inr cut) = says_front c t status (record { f = f; due = due; written = cut.1 }) cut.0
+says_by c t f status due leaves (inl told) = subst (λ (s : Status). Says c t s) (sym told.0) (says_told c t f (record { due = due; leaves = leaves; written = told.1 }))
+says_by c t f status due leaves (inr cut) = says_front c t status (record { f = f; due = due; leaves = leaves; written = cut.1 }) cut.0
 
-pub ended_told : (c : Call) (t : Taking) (f : Fault) (status : Status) → AreTaken c.job c.before.supply t → IsDue c t f → ToldAs f c.before.output status c.after.output → Ended c status
-ended_told c t f status taken due told = record { taking = t; taken = taken; says = says_by c t f status due told.told }
+pub ended_told : (c : Call) (t : Taking) (f : Fault) (status : Status) → AreTaken c.job c.before.supply t → IsDue c t f → Leaves c t f → ToldAs f c.before.output status c.after.output → Ended c status
+ended_told c t f status taken due leaves told = record { taking = t; taken = taken; says = says_by c t f status due leaves told.told }
 
 -- a call whose words have no form
 no_taking : Taking
-no_taking = record { schema = Taken.Absent; verdict = None; script = Taken.Absent }
+no_taking = record { input = in_roles Taken.Absent Taken.Absent; verdict = None }
 
-pub ended_words : (c : Call) (status : Status) → c.job ≡ None → ToldAs F.Words c.before.output status c.after.output → Ended c status
-ended_words c status none told =
-    ended_told c no_taking F.Words status (subst (λ (j : Option Job). AreTaken j c.before.supply no_taking) (sym none) tt) (ap (λ j. work_of j no_taking) none) told
+pub ended_words : (c : Call) (status : Status) → c.job ≡ None → c.after.moment ≡ c.before.moment → ToldAs F.Words c.before.output status c.after.output → Ended c status
+ended_words c status none same told =
+    ended_told c no_taking F.Words status (subst (λ (j : Option Job). AreTaken j c.before.supply no_taking) (sym none) tt) (ap (λ j. work_of j no_taking) none) same told
 
 -- the work of a call whose inputs were taken
 has_script : (found : Option Job) (job : Job) (t : Taking) (b : List ℕ) → found ≡ Some job → job_work job t ≡ answers b → work_of found t ≡ answers b
@@ -72,46 +79,68 @@ has w b is = subst HasScript (sym is) tt
 are_taken : (c : Call) (job : Job) (t : Taking) → c.job ≡ Some job → IsTaking job c.before.supply t → AreTaken c.job c.before.supply t
 are_taken c job t named taken = subst (λ (j : Option Job). AreTaken j c.before.supply t) (sym named) taken
 
-due_empty : (c : Call) (t : Taking) (f : Fault) → HasScript (work_of c.job t) → EmptyAnswer c.before.moment [] (Err f) c.after.moment → IsDue c t f
-due_empty c t F.Store has answer = (answer, has)
-due_empty c t (F.Clash id) has answer = (answer.0, answer.1, has)
-due_empty c t F.Memory has answer = tt
-due_empty c t F.Words has answer = absurd answer
-due_empty c t F.NotBuilt has answer = absurd answer
-due_empty c t (F.Schema f) has answer = absurd answer
-due_empty c t (F.Input role trouble) has answer = absurd answer
+due_first : (c : Call) (t : Taking) (f : Fault) → HasScript (work_of c.job t) → FirstAnswer c.before.moment [] (Err f) c.after.moment → IsDue c t f
+due_first c t F.Store has answer = (answer, has)
+due_first c t (F.Clash id) has answer = (answer.0, answer.1, has)
+due_first c t F.Memory has answer = tt
+due_first c t F.Words has answer = absurd answer
+due_first c t F.NotBuilt has answer = absurd answer
+due_first c t (F.Schema f) has answer = absurd answer
+due_first c t (F.Input role trouble) has answer = absurd answer
+
+leaves_first : (c : Call) (t : Taking) (f : Fault) → HasScript (work_of c.job t) → FirstAnswer c.before.moment [] (Err f) c.after.moment → Tries (blocks_of []) c.before.moment c.after.moment → Leaves c t f
+leaves_first c t F.Store has answer tries = tries
+leaves_first c t (F.Clash id) has answer tries = tries
+leaves_first c t F.Memory has answer tries = inr (has, tries)
+leaves_first c t F.Words has answer tries = absurd answer
+leaves_first c t F.NotBuilt has answer tries = absurd answer
+leaves_first c t (F.Schema f) has answer tries = absurd answer
+leaves_first c t (F.Input role trouble) has answer tries = absurd answer
 
 -- a call whose first block was not put
-pub ended_empty : (c : Call) (job : Job) (t : Taking) (b : List ℕ) (v : Value) (f : Fault) (status : Status) → c.job ≡ Some job → IsTaking job c.before.supply t
-    → job_work job t ≡ answers b → v ≡ [] → EmptyAnswer c.before.moment v (Err f) c.after.moment → ToldAs f c.before.output status c.after.output → Ended c status
-ended_empty c job t b v f status named a work empty answer told =
+pub ended_first : (c : Call) (job : Job) (t : Taking) (b : List ℕ) (v : Value) (f : Fault) (status : Status) → c.job ≡ Some job → IsTaking job c.before.supply t
+    → job_work job t ≡ answers b → v ≡ [] → PutsFirst c.before.moment v (Err f) c.after.moment → ToldAs f c.before.output status c.after.output → Ended c status
+ended_first c job t b v f status named a work empty puts told =
     let has' = has (work_of c.job t) b (has_script c.job job t b named work) in
-    let answer' = subst (λ (x : Value). EmptyAnswer c.before.moment x (Err f) c.after.moment) empty answer in
-    ended_told c t f status (are_taken c job t named a) (due_empty c t f has' answer') told
+    let puts' = subst (λ (x : Value). PutsFirst c.before.moment x (Err f) c.after.moment) empty puts in
+    ended_told c t f status (are_taken c job t named a) (due_first c t f has' puts'.answer) (leaves_first c t f has' puts'.answer puts'.tries) told
+
+-- lines that were answered from the first value on
+answers_from : (c : Call) (lines : List (List ℕ)) (replies : List Reply) (k : Moment) (s : State Value) → Later c.before.moment k → Holds k (blocks_of []) → Tries (blocks_of []) c.before.moment k
+    → Run plain_map k (idle []) lines replies c.after.moment s → Answers c lines replies s
+answers_from c lines replies k s later stands tries run = record {
+  opened = k;
+  later = later;
+  stands = stands;
+  tries = tries;
+  run = run;
+  gets = let most = run_gets plain_map k (idle []) lines replies c.after.moment s run in let first = tries.gets in omega (arith, most, first);
+  puts = let most = run_puts plain_map k (idle []) lines replies c.after.moment s run in let first : k.puts ≤ c.before.moment.puts + 1 = tries.puts in omega (arith, most, first);
+}
 
 -- a call whose lines were all answered
-pub answered_all : (c : Call) (job : Job) (t : Taking) (b : List ℕ) (v : Value) (r : Result (Unit {0}) Fault) (u : Unit {0}) (k : Moment) (w : Value) (refused : Bool) → c.job ≡ Some job → job_work job t ≡ answers b → v ≡ [] → r ≡ Ok u → PutsEmpty c.before.moment v r k
-    → LinesDone k v (lines_of b) c.after.moment w c.before.output.written c.after.output.written refused → AnswersAll c t refused
-answered_all c job t b v r u k w refused named work empty ok puts done =
-    let puts' = subst (λ (x : Result (Unit {0}) Fault). PutsEmpty c.before.moment [] x k) ok (subst (λ (x : Value). PutsEmpty c.before.moment x r k) empty puts) in
-    let done' = subst (λ (x : Value). LinesDone k x (lines_of b) c.after.moment w c.before.output.written c.after.output.written refused) empty done in
+pub answered_all : (c : Call) (job : Job) (t : Taking) (b : List ℕ) (v : Value) (r : Result (Unit {0}) Fault) (u : Unit {0}) (k : Moment) (s : State Value) (refused : Bool) → c.job ≡ Some job → job_work job t ≡ answers b → v ≡ [] → r ≡ Ok u → PutsFirst c.before.moment v r k
+    → LinesDone plain_map k (idle v) (lines_of b) c.after.moment s c.before.output.written c.after.output.written refused → AnswersAll c t refused
+answered_all c job t b v r u k s refused named work empty ok puts done =
+    let puts' = subst (λ (x : Result (Unit {0}) Fault). PutsFirst c.before.moment [] x k) ok (subst (λ (x : Value). PutsFirst c.before.moment x r k) empty puts) in
+    let done' = subst (λ (x : Value). LinesDone plain_map k (idle x) (lines_of b) c.after.moment s c.before.output.written c.after.output.written refused) empty done in
     record {
       bytes = b;
       work = has_script c.job job t b named work;
       replies = done'.replies;
-      last = w;
-      answered = record { opened = k; later = puts'.later; stands = puts'.answer; adds = puts'.adds; gets = puts'.gets; puts = puts'.puts; run = done'.run };
+      last = s;
+      answered = answers_from c (lines_of b) done'.replies k s puts'.later puts'.answer puts'.tries done'.run;
       stands = done'.stands puts'.answer;
       written = done'.written;
       refused_is = done'.refused_is;
     }
 
 -- a call whose replies were cut off
-pub answered_some : (c : Call) (job : Job) (t : Taking) (b : List ℕ) (v : Value) (r : Result (Unit {0}) Fault) (u : Unit {0}) (k : Moment) (w : Value) → c.job ≡ Some job → job_work job t ≡ answers b → v ≡ [] → r ≡ Ok u → PutsEmpty c.before.moment v r k
-    → LinesCut k v (lines_of b) c.after.moment w c.before.output.written c.after.output.written → AnswersSome c t
-answered_some c job t b v r u k w named work empty ok puts cut =
-    let puts' = subst (λ (x : Result (Unit {0}) Fault). PutsEmpty c.before.moment [] x k) ok (subst (λ (x : Value). PutsEmpty c.before.moment x r k) empty puts) in
-    let cut' = subst (λ (x : Value). LinesCut k x (lines_of b) c.after.moment w c.before.output.written c.after.output.written) empty cut in
+pub answered_some : (c : Call) (job : Job) (t : Taking) (b : List ℕ) (v : Value) (r : Result (Unit {0}) Fault) (u : Unit {0}) (k : Moment) (s : State Value) → c.job ≡ Some job → job_work job t ≡ answers b → v ≡ [] → r ≡ Ok u → PutsFirst c.before.moment v r k
+    → LinesCut plain_map k (idle v) (lines_of b) c.after.moment s c.before.output.written c.after.output.written → AnswersSome c t
+answered_some c job t b v r u k s named work empty ok puts cut =
+    let puts' = subst (λ (x : Result (Unit {0}) Fault). PutsFirst c.before.moment [] x k) ok (subst (λ (x : Value). PutsFirst c.before.moment x r k) empty puts) in
+    let cut' = subst (λ (x : Value). LinesCut plain_map k (idle x) (lines_of b) c.after.moment s c.before.output.written c.after.output.written) empty cut in
     record {
       bytes = b;
       work = has_script c.job job t b named work;
@@ -119,8 +148,8 @@ answered_some c job t b v r u k w named work empty ok puts cut =
       rest = cut'.rest;
       lines = cut'.split;
       replies = cut'.replies;
-      last = w;
-      answered = record { opened = k; later = puts'.later; stands = puts'.answer; adds = puts'.adds; gets = puts'.gets; puts = puts'.puts; run = cut'.run };
+      last = s;
+      answered = answers_from c cut'.first cut'.replies k s puts'.later puts'.answer puts'.tries cut'.run;
       written = cut'.written;
     }
 
@@ -159,7 +188,16 @@ due_inputs c job t F.Words named fault = absurd fault
 due_inputs c job t F.Store named fault = absurd fault
 due_inputs c job t (F.Clash id) named fault = absurd fault
 
+leaves_inputs : (c : Call) (job : Job) (t : Taking) (f : Fault) → InputsFault c.before.supply job t f c.after.supply → c.after.moment ≡ c.before.moment → Leaves c t f
+leaves_inputs c job t (F.Input role trouble) fault same = same
+leaves_inputs c job t F.NotBuilt fault same = same
+leaves_inputs c job t (F.Schema f) fault same = same
+leaves_inputs c job t F.Memory fault same = inl same
+leaves_inputs c job t F.Words fault same = absurd fault
+leaves_inputs c job t F.Store fault same = absurd fault
+leaves_inputs c job t (F.Clash id) fault same = absurd fault
+
 -- a call whose inputs were not taken
 pub ended_inputs : (c : Call) (job : Job) (t : Taking) (f : Fault) (status : Status) → c.job ≡ Some job → IsTaking job c.before.supply t
-    → InputsFault c.before.supply job t f c.after.supply → ToldAs f c.before.output status c.after.output → Ended c status
-ended_inputs c job t f status named a fault told = ended_told c t f status (are_taken c job t named a) (due_inputs c job t f named fault) told
+    → InputsFault c.before.supply job t f c.after.supply → c.after.moment ≡ c.before.moment → ToldAs f c.before.output status c.after.output → Ended c status
+ended_inputs c job t f status named a fault same told = ended_told c t f status (are_taken c job t named a) (due_inputs c job t f named fault) (leaves_inputs c job t f fault same) told

@@ -9,13 +9,14 @@ use Rattle.ild_script.specs.declared.reply.Reply.{Reply}
 use Rattle.ild_script.specs.Line.{lines_of}
 use Rattle.ild_script.specs.Reply.{is_no}
 use Rattle.ild_plain.specs.Value.{Value, root_of, blocks_of}
-use Rattle.ild_run.specs.Session.{idle}
-use Rattle.ild_run.specs.Step.{Holds, AddsOnly, Collides}
-use Rattle.ild_run.specs.Run.{Run, texts}
-use Rattle.ild_run.specs.Plain.{plain_map}
+use Rattle.ild_plain.specs.Plain.{plain_map}
+use Rattle.ild_session.specs.Session.{State, idle, left}
+use Rattle.ild_session.specs.Step.{Holds, Collides}
+use Rattle.ild_session.specs.Run.{Run, texts, most_gets, most_puts}
 use Rattle.ild_compile.specs.declared.error.SchemaFault.{SchemaFault}
 use Rattle.ild_run.specs.Words.{Job}
 use Rattle.ild_data.specs.declared.id.BlockId.{BlockId}
+use Rattle.ild_run.specs.First.{Tries}
 use Rattle.ild_run.specs.Work.{Work, Taking, ends, answers, work_of, AreTaken, Reaches}
 use Rattle.ild_run.specs.Fault.{fault_text, status_of}
 use Rattle.ild_run.specs.declared.fault.Fault.{Fault}
@@ -57,24 +58,33 @@ IsDue c t (F.Clash id) = (id.0 ≡ root_of []) × Collides c.after.moment (block
 IsDue c t F.Memory = Unit {0}
 IsDue c t f = work_of c.job t ≡ ends f
 
--- the empty map's block was put, and these lines were answered from it
-pub record Answers (c : Call) (lines : List (List ℕ)) (replies : List Reply) (last : Value) : Type 0 where
+-- What a fault leaves of the store: it is as it was, unless the call came to its first value; then nothing was asked of the
+-- store but to keep this value's block.
+abbrev pub Leaves : Call → Taking → Fault → Type 0
+Leaves c t F.Store = Tries (blocks_of []) c.before.moment c.after.moment
+Leaves c t (F.Clash id) = Tries (blocks_of []) c.before.moment c.after.moment
+Leaves c t F.Memory = (c.after.moment ≡ c.before.moment) ⊎ (HasScript (work_of c.job t) × Tries (blocks_of []) c.before.moment c.after.moment)
+Leaves c t f = c.after.moment ≡ c.before.moment
+
+-- The empty map's block was put, and these lines were answered from it. All in all there were no more gets and puts than the
+-- lines' bounds together, and that one put.
+pub record Answers (c : Call) (lines : List (List ℕ)) (replies : List Reply) (last : State Value) : Type 0 where
   pub opened : Moment
   pub later : Later c.before.moment opened
   pub stands : Holds opened (blocks_of [])
-  pub adds : AddsOnly c.before.moment opened (blocks_of [])
-  pub gets : opened.gets ≤ c.before.moment.gets
-  pub puts : opened.puts ≤ c.before.moment.puts + 1
-  pub run : Run plain_map opened (idle []) lines replies c.after.moment (idle last)
+  pub tries : Tries (blocks_of []) c.before.moment opened
+  pub run : Run plain_map opened (idle []) lines replies c.after.moment last
+  pub gets : c.after.moment.gets ≤ c.before.moment.gets + most_gets plain_map opened (idle []) lines replies c.after.moment last run
+  pub puts : c.after.moment.puts ≤ c.before.moment.puts + 1 + most_puts plain_map opened (idle []) lines replies c.after.moment last run
 
--- every line of the script was answered, and all replies were written
+-- every line of the script was answered, and all replies were written; the value that the script leaves is held
 pub record AnswersAll (c : Call) (t : Taking) (refused : Bool) : Type 0 where
   pub bytes : List ℕ
   pub work : work_of c.job t ≡ answers bytes
   pub replies : List Reply
-  pub last : Value
+  pub last : State Value
   pub answered : Answers c (lines_of bytes) replies last
-  pub stands : Holds c.after.moment (blocks_of last)
+  pub stands : Holds c.after.moment (blocks_of (left last))
   pub written : Appends c.before.output.written c.after.output.written (texts replies)
   pub refused_is : refused ≡ list_any is_no replies
 
@@ -86,19 +96,21 @@ pub record AnswersSome (c : Call) (t : Taking) : Type 0 where
   pub rest : List (List ℕ)
   pub lines : lines_of bytes ≡ first ++ rest
   pub replies : List Reply
-  pub last : Value
+  pub last : State Value
   pub answered : Answers c first replies last
   pub written : AppendsFront c.before.output.written c.after.output.written (texts replies)
 
 -- a fault was due, and its line was written
 pub record Tells (c : Call) (t : Taking) (f : Fault) : Type 0 where
   pub due : IsDue c t f
+  pub leaves : Leaves c t f
   pub written : Appends c.before.output.written c.after.output.written (fault_text f)
 
 -- a fault was due, and a front of its line was written
 pub record TellsFront (c : Call) (t : Taking) : Type 0 where
   pub f : Fault
   pub due : IsDue c t f
+  pub leaves : Leaves c t f
   pub written : AppendsFront c.before.output.written c.after.output.written (fault_text f)
 
 -- the text that was due was cut off
@@ -134,10 +146,3 @@ pub record Ended (c : Call) (status : Status) : Type 0 where
   pub taking : Taking
   pub taken : AreTaken c.job c.before.supply taking
   pub says : Says c taking status
-
--- the statuses of a call that ended before the store was asked
-abbrev pub IsBeforeStore : Status → Type 0
-IsBeforeStore S.Words = Unit {0}
-IsBeforeStore S.Schema = Unit {0}
-IsBeforeStore S.Input = Unit {0}
-IsBeforeStore status = ⊥

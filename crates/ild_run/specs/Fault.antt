@@ -10,8 +10,8 @@ use Rattle.ild_run.specs.declared.fault.Fault.TheVariants as F
 use Rattle.ild_run.specs.declared.fault.Role.{Role}
 use Rattle.ild_run.specs.declared.fault.Trouble.{Trouble}
 use Rattle.ild_run.specs.declared.fault.Trouble.TheVariants as T
-use Rattle.ild_run.specs.declared.script.Cut.{Cut}
-use Rattle.ild_run.specs.declared.script.Cut.TheVariants as C
+use Rattle.ild_session.specs.declared.cut.Cut.{Cut}
+use Rattle.ild_session.specs.declared.cut.Cut.TheVariants as C
 use Rattle.ild_run.specs.declared.status.Status.{Status}
 use Rattle.ild_run.specs.declared.status.Status.TheVariants as S
 

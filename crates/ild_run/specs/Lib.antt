@@ -1,14 +1,8 @@
-pub mod Session
-pub mod Step
-pub mod Run
-pub mod Change
-pub mod Plain
-pub mod Puts
-pub mod Lines
 pub mod Words
 pub mod Built
-pub mod Fault
 pub mod Work
+pub mod First
+pub mod Fault
 pub mod Opening
 pub mod Ended
 pub mod Complete

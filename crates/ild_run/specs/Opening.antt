@@ -1,5 +1,5 @@
 -- What each step before the lines answers.
-use Rattle.std.specs.Prelude.{◌≡◌, ℕ, ◌+◌, ◌≤◌, List, Result, Ok, Err}
+use Rattle.std.specs.Prelude.{◌≡◌, ℕ, List, Result, Ok, Err}
 use Rattle.ild_compile.specs.Compile.{table, faulty, Compiles}
 use Rattle.ild_data.specs.Spell.{id_of}
 use Rattle.ild_edges.specs.Count.{Rose}
@@ -14,8 +14,9 @@ use Rattle.ild_run.specs.declared.fault.Role.{Role}
 use Rattle.ild_run.specs.declared.fault.Trouble.TheVariants as T
 use Rattle.ild_run.specs.declared.open.Job.{Job as Held}
 use Rattle.ild_run.specs.declared.open.Job.TheVariants as J
-use Rattle.ild_run.specs.Step.{Holds, AddsOnly, Collides}
+use Rattle.ild_session.specs.Step.{Holds, Collides}
 use Rattle.ild_run.specs.Words.{Job, checks, runs}
+use Rattle.ild_run.specs.First.{Tries}
 use Rattle.ild_run.specs.Work.{Taking, ends, answers, job_work, IsTaking, Takes}
 
 -- the job that the program holds
@@ -63,17 +64,15 @@ pub record Opens (m : Supply) (job : Job) (result : Result (List ℕ) Fault) (n 
   pub answer : OpensAnswer m job taking result n
   pub after : After m n
 
-abbrev pub EmptyAnswer : Moment → Value → Result (Unit {0}) Fault → Moment → Type 0
-EmptyAnswer m v (Ok _) n = Holds n (blocks_of v)
-EmptyAnswer m v (Err F.Store) n = Rose m.faults n.faults
-EmptyAnswer m v (Err (F.Clash id)) n = (id.0 ≡ id_of (block_of v)) × Collides n (blocks_of v)
-EmptyAnswer m v (Err F.Memory) n = Unit {0}
-EmptyAnswer m v (Err f) n = ⊥
+abbrev pub FirstAnswer : Moment → Value → Result (Unit {0}) Fault → Moment → Type 0
+FirstAnswer m v (Ok _) n = Holds n (blocks_of v)
+FirstAnswer m v (Err F.Store) n = Rose m.faults n.faults
+FirstAnswer m v (Err (F.Clash id)) n = (id.0 ≡ id_of (block_of v)) × Collides n (blocks_of v)
+FirstAnswer m v (Err F.Memory) n = Unit {0}
+FirstAnswer m v (Err f) n = ⊥
 
 -- putting the first value's block
-pub record PutsEmpty (m : Moment) (v : Value) (result : Result (Unit {0}) Fault) (n : Moment) : Type 0 where
-  pub answer : EmptyAnswer m v result n
+pub record PutsFirst (m : Moment) (v : Value) (result : Result (Unit {0}) Fault) (n : Moment) : Type 0 where
+  pub answer : FirstAnswer m v result n
   pub later : Later m n
-  pub adds : AddsOnly m n (blocks_of v)
-  pub gets : n.gets ≤ m.gets
-  pub puts : n.puts ≤ m.puts + 1
+  pub tries : Tries (blocks_of v) m n

@@ -2,6 +2,7 @@
 use Rattle.std.specs.Prelude.{ℕ, List, [], ◌∷◌, map, ◌&&◌, Option, Some, None, if◌then◌else◌, codes, String, string_bytes}
 use Rattle.std.specs.declared.alloc.Global.{Global}
 use Rattle.ild_data.specs.Key.{same_text}
+use Rattle.ild_run.specs.declared.fault.Role.{Role}
 
 -- what words ask for, with the names of its inputs: a schema is checked, or a script is run under a schema
 pub data Job : Type 0 where
@@ -18,7 +19,9 @@ job_in words = None
 abbrev pub job_of : List (String Global) → Option Job
 job_of words = job_in (map string_bytes words)
 
--- the name of the schema's input
-abbrev pub schema_name : Job → List ℕ
-schema_name (checks schema) = schema
-schema_name (runs schema script) = schema
+-- the name of the input that a job takes in a role, where it takes one
+abbrev pub name_of : Role → Job → Option (List ℕ)
+name_of Role.Schema (checks schema) = Some schema
+name_of Role.Schema (runs schema script) = Some schema
+name_of Role.Script (checks schema) = None
+name_of Role.Script (runs schema script) = Some script

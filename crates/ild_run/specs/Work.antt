@@ -9,18 +9,23 @@ use Rattle.ild_run.specs.declared.fault.Fault.TheVariants as F
 use Rattle.ild_run.specs.declared.fault.Role.{Role}
 use Rattle.ild_run.specs.declared.fault.Trouble.TheVariants as T
 use Rattle.ild_run.specs.Built.{is_built}
-use Rattle.ild_run.specs.Words.{Job, checks, runs, schema_name}
+use Rattle.ild_run.specs.Words.{Job, checks, runs, name_of}
 
 -- the call ends with a fault, or it answers the lines of a script
 pub data Work : Type 0 where
   ends : Fault → Work
   answers : List ℕ → Work
 
--- what is taken of the inputs, or would be, and what the schema is compiled to, or none where memory is wanting for it
+-- what is taken of the inputs in each role, or would be, and what the schema is compiled to, or none where memory is wanting
+-- for it
 pub record Taking : Type 0 where
-  pub schema : Taken
+  pub input : Role → Taken
   pub verdict : Option Verdict
-  pub script : Taken
+
+-- what is taken as the schema, and what as the script
+abbrev pub in_roles : Taken → Taken → Role → Taken
+in_roles schema script Role.Schema = schema
+in_roles schema script Role.Script = script
 
 -- the script's input comes last
 abbrev pub script_work : Taken → Work
@@ -32,20 +37,24 @@ abbrev pub built_work : Bool → Taken → Work
 built_work false script = ends F.NotBuilt
 built_work true script = script_work script
 
--- after the schema's input comes its compilation
-abbrev pub compiled_work : Job → Option Verdict → Taken → Work
-compiled_work job None script = ends F.Memory
-compiled_work job (Some (faulty f)) script = ends (F.Schema f)
-compiled_work (checks schema) (Some (table rows)) script = ends F.NotBuilt
-compiled_work (runs schema name) (Some (table rows)) script = built_work (is_built rows) script
+-- what a job does with a table
+abbrev pub table_work : Job → List Row → (Role → Taken) → Work
+table_work (checks schema) rows input = ends F.NotBuilt
+table_work (runs schema script) rows input = built_work (is_built rows) (input Role.Script)
 
-abbrev pub schema_work : Job → Taken → Option Verdict → Taken → Work
-schema_work job Taken.Absent verdict script = ends (F.Input Role.Schema T.Absent)
-schema_work job Taken.Long verdict script = ends (F.Input Role.Schema T.Long)
-schema_work job (Taken.Bytes b) verdict script = compiled_work job verdict script
+-- after the schema's input comes its compilation
+abbrev pub compiled_work : Job → Option Verdict → (Role → Taken) → Work
+compiled_work job None input = ends F.Memory
+compiled_work job (Some (faulty f)) input = ends (F.Schema f)
+compiled_work job (Some (table rows)) input = table_work job rows input
+
+abbrev pub schema_work : Job → Taken → Option Verdict → (Role → Taken) → Work
+schema_work job Taken.Absent verdict input = ends (F.Input Role.Schema T.Absent)
+schema_work job Taken.Long verdict input = ends (F.Input Role.Schema T.Long)
+schema_work job (Taken.Bytes b) verdict input = compiled_work job verdict input
 
 abbrev pub job_work : Job → Taking → Work
-job_work job t = schema_work job t.schema t.verdict t.script
+job_work job t = schema_work job (t.input Role.Schema) t.verdict t.input
 
 -- the first of the words, the schema and the script decides
 abbrev pub work_of : Option Job → Taking → Work
@@ -57,15 +66,15 @@ abbrev pub IsVerdict : Taken → Option Verdict → Type 0
 IsVerdict (Taken.Bytes b) (Some v) = Compiles b v
 IsVerdict taken verdict = Unit {0}
 
-abbrev pub IsScript : Job → Supply → Taken → Type 0
-IsScript (checks schema) supply taken = Unit {0}
-IsScript (runs schema script) supply taken = MayBe supply.files script taken
+-- what is taken under a name
+abbrev pub IsUnder : Supply → Taken → Option (List ℕ) → Type 0
+IsUnder supply taken None = Unit {0}
+IsUnder supply taken (Some name) = MayBe supply.files name taken
 
--- what is taken, or would be, under the names
+-- what is taken, or would be, under the name in each role
 pub record IsTaking (job : Job) (supply : Supply) (t : Taking) : Type 0 where
-  pub schema : MayBe supply.files (schema_name job) t.schema
-  pub verdict : IsVerdict t.schema t.verdict
-  pub script : IsScript job supply t.script
+  pub input : (role : Role) → IsUnder supply (t.input role) (name_of role job)
+  pub verdict : IsVerdict (t.input Role.Schema) t.verdict
 
 abbrev pub AreTaken : Option Job → Supply → Taking → Type 0
 AreTaken None supply t = Unit {0}
@@ -75,7 +84,7 @@ AreTaken (Some job) supply t = IsTaking job supply t
 pub record IsOpen (t : Taking) : Type 0 where
   pub bytes : List ℕ
   pub rows : List Row
-  pub schema : t.schema ≡ Taken.Bytes bytes
+  pub schema : t.input Role.Schema ≡ Taken.Bytes bytes
   pub verdict : t.verdict ≡ Some (table rows)
   pub built : is_built rows ≡ true
 

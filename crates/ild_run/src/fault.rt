@@ -1,12 +1,17 @@
 //! The faults that end a call before its lines, and their texts.
-ghost use Rattle.std.specs.Prelude.{◌≡◌, ◌++◌, ◌∷◌, [], IfOk, codes};
+ghost use Rattle.std.specs.Prelude.{◌≡◌, ◌≤◌, ◌++◌, ◌∷◌, [], IfOk, OnOk, OnErr, IsErrOf, codes};
 ghost use Rattle.ild_data.specs.Spell.{cid_of};
 ghost use Rattle.ild_data.specs.CidText.{cid_text_of};
+ghost use Rattle.ild_edges.specs.Count.{Rose};
+ghost use Rattle.ild_edges.specs.Sink.{Appends, AppendsFront};
+ghost use Rattle.ild_session.specs.declared.cut.Cut.TheVariants as cut;
 ghost use Rattle.ild_run.specs.Fault.{status_of, input_text, schema_text, fault_text};
 
 use crate::Status;
 use ild_compile::SchemaFault;
 use ild_data::{BlockId, Octets};
+use ild_edges::Sink;
+use ild_session::{Cut, write};
 use std::alloc::{AllocError, Global};
 
 /// What an input is for.
@@ -85,19 +90,28 @@ impl Fault {
             Fault::Memory => Status::Memory,
         }
     }
+}
 
-    /// The line that is written, with its line feed.
-    pub fn text(self, alloc: Global) -> Result<Octets, AllocError>
-        ensures { IfOk result (λ line. line ≡ fault_text self) }
-    {
-        match self {
-            Fault::Words => Octets::of(alloc, b"fault 2 words\n"),
-            Fault::NotBuilt => Octets::of(alloc, b"fault 3 schema notbuilt\n"),
-            Fault::Schema(fault) => schema_text(alloc, fault),
-            Fault::Input(role, trouble) => Octets::of(alloc, input_text(role, trouble)),
-            Fault::Store => Octets::of(alloc, b"fault 6 store\n"),
-            Fault::Clash(id) => clash_text(alloc, id),
-            Fault::Memory => Octets::of(alloc, b"fault 8 memory\n"),
-        }
+/// Writes the line of a fault. Where it names neither an offset nor a block, no memory is taken.
+pub fn write_fault<W: Sink>(alloc: Global, fault: Fault, out: &mut W) -> Result<(), Cut>
+    ensures ok { OnOk result (Appends (W.output out.old).written (W.output out.new).written (fault_text fault)) }
+    ensures err { OnErr result (AppendsFront (W.output out.old).written (W.output out.new).written (fault_text fault)) }
+    ensures faults { (W.output out.old).faults ≤ (W.output out.new).faults }
+    ensures sink { IsErrOf result cut.Sink → Rose (W.output out.old).faults (W.output out.new).faults }
+{
+    match fault {
+        Fault::Words => write(out, b"fault 2 words\n"),
+        Fault::NotBuilt => write(out, b"fault 3 schema notbuilt\n"),
+        Fault::Schema(fault) => match schema_text(alloc, fault) {
+            Ok(line) => write(out, line.as_slice()),
+            Err(_) => Err(Cut::Memory),
+        },
+        Fault::Input(role, trouble) => write(out, input_text(role, trouble)),
+        Fault::Store => write(out, b"fault 6 store\n"),
+        Fault::Clash(id) => match clash_text(alloc, id) {
+            Ok(line) => write(out, line.as_slice()),
+            Err(_) => Err(Cut::Memory),
+        },
+        Fault::Memory => write(out, b"fault 8 memory\n"),
     }
 }

@@ -2,16 +2,12 @@
 #![tactic(auto)]
 
 mod built;
-mod edit;
 mod fault;
+mod laws;
 mod open;
-mod publish;
-mod script;
 mod status;
-mod step;
-#[cfg(test)]
-mod tests;
 mod top;
 
+pub use laws::collisions_can_be_apart;
 pub use status::Status;
 pub use top::run;

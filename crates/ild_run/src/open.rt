@@ -1,16 +1,16 @@
 //! What comes before the lines: the words, the inputs, the schema, and the empty map's block.
-ghost use Rattle.std.specs.Prelude.{◌≡◌, option_map};
-ghost use Rattle.ild_run.specs.Words.{job_of, schema_name};
-ghost use Rattle.ild_run.specs.Opening.{job_seen, CompileAnswer, TakesInput, Opens, PutsEmpty};
+ghost use Rattle.std.specs.Prelude.{◌≡◌, Some, option_map};
+ghost use Rattle.ild_run.specs.Words.{job_of, name_of};
+ghost use Rattle.ild_run.specs.Opening.{job_seen, CompileAnswer, TakesInput, Opens, PutsFirst};
 
 use crate::built::is_built;
 use crate::fault::{Fault, Role, Trouble};
-use crate::publish::{PutFault, publish};
 use ild_compile::{CompileErr, compile};
 use ild_data::Octets;
 use ild_edges::{EdgeErr, Inputs, Store, Taken};
 use ild_plain::PlainMap;
 use ild_schema::Accepted;
+use ild_session::{PutFault, publish};
 use std::alloc::Global;
 
 /// What the words ask for, with the names of its inputs: the schema's, and for a run the script's.
@@ -23,7 +23,7 @@ pub enum Job<'w> {
 impl Job<'_> {
     /// The name of the schema's input.
     fn schema(&self) -> &str
-        ensures { result.now ≡ schema_name (job_seen self.now) }
+        ensures { name_of Role.Schema (job_seen self.now) ≡ Some result.now }
     {
         match self {
             Job::Check(schema) => schema,
@@ -89,9 +89,9 @@ pub fn take_script<I: Inputs>(alloc: Global, inputs: &mut I, job: &Job<'_>) -> R
     take_input(inputs, Role::Script, script)
 }
 
-/// Puts the block of the empty map.
-pub fn put_empty<K: Store>(alloc: Global, value: &PlainMap, store: &mut K) -> Result<(), Fault>
-    ensures { PutsEmpty (K.moment store.old) value.now result (K.moment store.new) }
+/// Puts the block of the first value.
+pub fn put_first<K: Store>(alloc: Global, value: &PlainMap, store: &mut K) -> Result<(), Fault>
+    ensures { PutsFirst (K.moment store.old) value.now result (K.moment store.new) }
 {
     let Ok(block) = value.block(alloc) else {
         return Err(Fault::Memory);

@@ -4,15 +4,15 @@ ghost use Rattle.ild_edges.specs.Inputs.{After};
 ghost use Rattle.ild_edges.specs.Store.{Later};
 ghost use Rattle.ild_run.specs.Words.{job_of};
 ghost use Rattle.ild_run.specs.Fault.{cut_status};
-ghost use Rattle.ild_run.specs.Ended.{Ended, IsBeforeStore, ToldAs, call_of};
+ghost use Rattle.ild_run.specs.Ended.{Ended, ToldAs, call_of};
 ghost use Rattle.ild_run.specs.Complete.{IsComplete};
 
-use crate::fault::Fault;
-use crate::open::{job_of, put_empty, take_script};
-use crate::script::{Cut, answer_all, write};
+use crate::fault::{Fault, write_fault};
+use crate::open::{job_of, put_first, take_script};
 use crate::status::Status;
 use ild_edges::{Inputs, Sink, Store};
 use ild_plain::PlainMap;
+use ild_session::{Cut, answer_all};
 use std::alloc::Global;
 
 /// The status of a call whose text was cut off.
@@ -29,10 +29,7 @@ fn cut_status(cut: Cut) -> Status
 fn tell<W: Sink>(alloc: Global, fault: Fault, out: &mut W) -> Status
     ensures { ToldAs fault (W.output out.old) result (W.output out.new) }
 {
-    let Ok(text) = fault.text(alloc) else {
-        return Status::Memory;
-    };
-    match write(out, text.as_slice()) {
+    match write_fault(alloc, fault, out) {
         Ok(()) => fault.status(),
         Err(cut) => cut_status(cut),
     }
@@ -50,7 +47,6 @@ fn carry_out<I: Inputs, K: Store, W: Sink>(
     ensures inputs { After (I.supply inputs.old) (I.supply inputs.new) }
     ensures later { Later (K.moment store.old) (K.moment store.new) }
     ensures sink { (W.output out.old).faults ≤ (W.output out.new).faults }
-    ensures untouched { IsBeforeStore result → K.moment store.new ≡ K.moment store.old }
 {
     let Some(job) = job_of(words) else {
         return tell(alloc, Fault::Words, out);
@@ -60,7 +56,7 @@ fn carry_out<I: Inputs, K: Store, W: Sink>(
         Err(fault) => return tell(alloc, fault, out),
     };
     let mut value = PlainMap::new(alloc);
-    if let Err(fault) = put_empty(alloc, &value, store) {
+    if let Err(fault) = put_first(alloc, &value, store) {
         return tell(alloc, fault, out);
     }
     match answer_all(alloc, &mut value, script.as_slice(), store, out) {
@@ -82,19 +78,16 @@ pub fn run<I: Inputs, K: Store, W: Sink>(
     store: &mut K,
     out: &mut W,
 ) -> Status
-    // The status, the text that was written and the cause of both.
+    // The status, the text that was written, the cause of both, and what came of the store.
     ensures ended { Ended (call_of (job_of words.now) (I.supply inputs.old) (K.moment store.old) (W.output out.old) (I.supply inputs.new) (K.moment store.new) (W.output out.new)) result }
 
     // Where no call of the outside failed and no blocks collide, all that the words ask for is done.
     ensures complete { IsComplete (call_of (job_of words.now) (I.supply inputs.old) (K.moment store.old) (W.output out.old) (I.supply inputs.new) (K.moment store.new) (W.output out.new)) result }
 
-    // What was held is held, and no count falls.
+    // What was held is held, what was given is given, and no count falls.
     ensures inputs { After (I.supply inputs.old) (I.supply inputs.new) }
     ensures later { Later (K.moment store.old) (K.moment store.new) }
     ensures sink { (W.output out.old).faults ≤ (W.output out.new).faults }
-
-    // A call that ends before its lines by its words, its schema or its inputs leaves the store as it was.
-    ensures untouched { IsBeforeStore result → K.moment store.new ≡ K.moment store.old }
 {
     carry_out(alloc, words, inputs, store, out)
 }

@@ -1,11 +1,13 @@
 mod Copying
-mod Cycling
 mod Doubles
 pub mod Circles
-mod Ends
+mod Ending
+mod Keeping
+mod Finding
 mod Parts
+mod Writing
 pub mod Kinding
 mod Passing
 mod Ruling
 mod Telling
-mod Legibly
+pub mod Legibly

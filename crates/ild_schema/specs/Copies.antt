@@ -4,7 +4,7 @@ use Rattle.std.specs.Option.{option_map_or, option_and_then}
 use Rattle.ild_schema.specs.declared.def.TypeDef.{TypeDef}
 use Rattle.ild_schema.specs.declared.def.TypeDef.TheVariants as D
 use Rattle.ild_schema.specs.declared.row.Row.{Row}
-use Rattle.ild_schema.specs.Table.{def_at}
+use Rattle.ild_schema.specs.Rows.{def_at}
 
 -- the target of a copy
 abbrev pub target_of : TypeDef → Option ℕ

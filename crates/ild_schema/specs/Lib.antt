@@ -1,7 +1,10 @@
 pub mod Names
 pub mod Prelude
-pub mod Table
+pub mod Rows
 pub mod Copies
+pub mod Spelled
+pub mod Written
+pub mod Table
 pub mod Kinds
 pub mod Places
 pub mod Marks
@@ -13,8 +16,12 @@ pub mod Clashes
 pub mod Rules
 pub mod Cycles
 pub mod Accept
+pub mod Parts
+pub mod Indexed
+pub mod Ends
 pub mod Held
 pub mod Value
+pub mod Whole
 pub mod ValueCode
 pub mod ValueSeen
 pub mod ValueFalls

@@ -1,21 +1,14 @@
 -- Tables of types: lists of rows, in which a type's number is its place.
-use Rattle.std.specs.Prelude.{◌≡◌, ℕ, ◌<◌, ◌≤◌, List, [], ◌∷◌, Option, true, None, length, take, map, slice_get, slice_index_or, option_map}
+use Rattle.std.specs.Prelude.{◌≡◌, ℕ, ◌<◌, ◌≤◌, List, [], ◌∷◌, true, None, length, take, map, slice_index_or}
 use Rattle.std.specs.List.{All}
 use Rattle.ild_schema.specs.declared.def.TypeDef.{TypeDef}
 use Rattle.ild_schema.specs.declared.def.TypeDef.TheVariants as D
 use Rattle.ild_schema.specs.declared.row.Row.{Row}
+use Rattle.ild_schema.specs.Copies.{NoneIsCircular}
 use Rattle.ild_schema.specs.Names.{is_open, number_named}
 use Rattle.ild_schema.specs.Prelude.{prelude}
-
--- what the table says of the type with a number
-abbrev pub def_at : List Row → ℕ → Option TypeDef
-def_at rows n = option_map (λ r. r.def) (slice_get rows n)
-
-abbrev pub name_at : List Row → ℕ → Option (List ℕ)
-name_at rows n = option_map (λ r. r.name) (slice_get rows n)
-
-abbrev pub place_at : List Row → ℕ → Option ℕ
-place_at rows n = option_map (λ r. r.at) (slice_get rows n)
+use Rattle.ild_schema.specs.Spelled.{HasTexts}
+pub use Rattle.ild_schema.specs.Rows.{def_at, name_at, place_at}
 
 -- how many fields or members a type has
 abbrev pub parts_of : TypeDef → ℕ
@@ -42,9 +35,12 @@ IsWithin count def = (parts_of def ≤ 1024) × All (λ n. n < count) (numbers_o
 abbrev pub AreNamedOnce : List Row → Type 0
 AreNamedOnce rows = (n : ℕ) (r : Row) → n < length rows → is_open (slice_index_or rows n r).origin ≡ true → number_named (slice_index_or rows n r).name (take n rows) ≡ None
 
--- the tables of schemas: the prelude and at most 65,535 types more
+-- the tables of schemas: the prelude and at most 65,535 types more, of which none is a copy of itself, and whose texts and
+-- integers are those of blocks
 pub record IsTable (rows : List Row) : Type 0 where
   pub prelude_first : take 8 rows ≡ prelude
   pub size : length rows ≤ 65543
   pub within : All (λ r. IsWithin (length rows) r.def) rows
   pub named_once : AreNamedOnce rows
+  pub none_circular : NoneIsCircular rows
+  pub texts : HasTexts rows

@@ -18,6 +18,8 @@ mutual
     enum : ℕ → Value
     unit : Value
     any : Data → Value
+    -- the root map of a HAMT, of whose entries nothing is said: what one block shows by itself
+    hamt : Data → Value
 
   pub data Values : Type 0 where
     no_values : Values

@@ -4,7 +4,7 @@ use Rattle.std.specs.Coded.{Coded, coded_ℕ, coded_ℤ, coded_bool}
 use Rattle.std.proofs.Common.{ap}
 use base.Stored.{Gv, gnil, gnum, gcons}
 use Rattle.ild_data.specs.DataCode.{head, tail, bytes_code, data_code, data_inj}
-use Rattle.ild_schema.specs.Value.{Value, null, boolean, integer, text, bytes, link, list, map, struct, union, enum, unit, any, Values, no_values, value, Pairs, no_pairs, pair, Optionals, no_optionals, absent, present}
+use Rattle.ild_schema.specs.Value.{Value, null, boolean, integer, text, bytes, link, list, map, struct, union, enum, unit, any, hamt, Values, no_values, value, Pairs, no_pairs, pair, Optionals, no_optionals, absent, present}
 
 abbrev mutual
   pub value_gv : Value → Gv
@@ -21,6 +21,7 @@ abbrev mutual
   value_gv (enum n) = gcons (gnum 10) (coded_ℕ.code n)
   value_gv unit = gcons (gnum 11) gnil
   value_gv (any d) = gcons (gnum 12) (data_code d)
+  value_gv (hamt d) = gcons (gnum 13) (data_code d)
 
   pub values_gv : Values → Gv
   values_gv no_values = gnil
@@ -51,6 +52,7 @@ mutual
   value_inj (enum a) (enum b) p = ap enum (coded_ℕ.inj a b (ap tail p))
   value_inj unit unit p = refl
   value_inj (any a) (any b) p = ap any (data_inj a b (ap tail p))
+  value_inj (hamt a) (hamt b) p = ap hamt (data_inj a b (ap tail p))
   value_inj x y p = absurd cc
 
   pub values_inj : (x y : Values) → values_gv x ≡ values_gv y → x ≡ y

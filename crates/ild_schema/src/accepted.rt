@@ -1,9 +1,11 @@
 //! Accepted schemas, with the look-ups of their tables.
-ghost use Rattle.std.specs.Prelude.{◌≡◌, ◌<◌, length, None, Some, option_map};
+ghost use Rattle.std.specs.Prelude.{◌≡◌, ◌<◌, length, None, Some, IfSome, option_map};
+ghost use Rattle.std.specs.Option.{option_and_then};
 ghost use Rattle.ild_schema.specs.Accept.{IsAccepted};
 ghost use Rattle.ild_schema.specs.Copies.{base, target_in};
 ghost use Rattle.ild_schema.specs.Legible.{IsLegible};
 ghost use Rattle.ild_schema.specs.Names.{declared_names, number_named};
+ghost use Rattle.ild_schema.specs.Parts.{IsPartOf, part_named, part_spelled};
 ghost use Rattle.ild_schema.specs.Table.{IsTable, IsWithin, def_at, name_at};
 
 use crate::laws::accepted_are_legible;
@@ -81,6 +83,25 @@ impl Accepted {
         ensures { option_map (λ ty. ty.0) result ≡ number_named name.now self.now }
     {
         self.schema.type_named(name)
+    }
+
+    /// The number of the field or member of a type that has a name.
+    pub fn part_named(&self, ty: TypeNo, name: &str) -> Option<usize>
+        requires { ty.0 < length self.now }
+        ensures same { result ≡ option_and_then (part_named name.now) (def_at self.now ty.0) }
+        ensures within { IfSome result (IsPartOf self.now ty.0) }
+    {
+        self.schema.part_named(ty, name)
+    }
+
+    /// The number of the field or member of a type that stands in a block under a text: a field under its name in a block, a
+    /// member of a union under the text behind it, a member of an enum under its text.
+    pub fn part_spelled(&self, ty: TypeNo, text: &str) -> Option<usize>
+        requires { ty.0 < length self.now }
+        ensures same { result ≡ option_and_then (part_spelled text.now) (def_at self.now ty.0) }
+        ensures within { IfSome result (IsPartOf self.now ty.0) }
+    {
+        self.schema.part_spelled(ty, text)
     }
 
     /// The declared names, in the order of the text.

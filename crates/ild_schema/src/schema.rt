@@ -1,10 +1,14 @@
 //! Schemas: a table of types, with the look-ups by number and by name, none of which takes memory.
-ghost use Rattle.std.specs.Prelude.{◌≡◌, ◌<◌, ℕ, length, None, Some, IfOk, option_map};
+ghost use Rattle.std.specs.Prelude.{◌≡◌, ◌<◌, ℕ, length, None, Some, IfOk, IfSome, option_map};
+ghost use Rattle.std.specs.Option.{option_and_then};
 ghost use Rattle.ild_schema.specs.Names.{declared_names, number_named};
+ghost use Rattle.ild_schema.specs.Parts.{IsPartOf, part_named, part_spelled};
 ghost use Rattle.ild_schema.specs.Table.{IsTable, IsWithin, def_at, name_at, place_at};
-ghost use Rattle.ild_schema.specs.Copies.{NoneIsCircular, base, leads, target_in};
+ghost use Rattle.ild_schema.specs.Copies.{base, leads, target_in};
 ghost use Rattle.ild_schema.specs.Held.{IsIndex};
 
+use crate::by_text::{PartIndex, parts_of};
+use crate::ends::ends_of;
 use crate::{Row, TypeDef, TypeNo};
 use ild_data::Txt;
 use std::alloc::{AllocError, Global};
@@ -18,6 +22,8 @@ pub struct Schema {
     rows: Vec<Row>,
     names: Vec<Txt>,
     numbers: BTreeMap<String, u32>,
+    ends: Vec<Option<TypeNo>>,
+    parts: Vec<PartIndex>,
 }
 
 impl Model for Schema {
@@ -29,7 +35,7 @@ impl Model for Schema {
 
     ghost view = { λ a. a.rows.items };
 
-    ghost invariant = { λ a. IsHeld a.rows.items a.names.items a.numbers };
+    ghost invariant = { λ a. IsHeld a.rows.items a.names.items a.numbers a.ends.items a.parts.items };
 }
 
 /// The declared names of a table.
@@ -57,10 +63,14 @@ impl Schema {
         ensures { IfOk result (λ schema. schema ≡ rows.items) }
     {
         let names = names_in(alloc, &rows)?;
+        let ends = ends_of(alloc, &rows)?;
+        let parts = parts_of(alloc, &rows)?;
         Ok(Schema {
             rows,
             names,
             numbers,
+            ends,
+            parts,
         })
     }
 
@@ -81,23 +91,18 @@ impl Schema {
         &self.rows[ty.0 as usize].def
     }
 
-    /// The type to which a type leads through copies: itself, where it is no copy. Where no type is, through copies, a
-    /// copy of itself, the answer is no copy.
+    /// The type to which a type leads through copies: itself, where it is no copy.
     pub fn base(&self, ty: TypeNo) -> TypeNo
         requires { ty.0 < length self.now }
         ensures same { result.0 ≡ base self.now ty.0 }
         ensures within { result.0 < length self.now }
         ensures reached { (k : ℕ) × (leads self.now k ty.0 ≡ Some result.0) }
-        ensures end { NoneIsCircular self.now → target_in (def_at self.now result.0) ≡ None }
+        ensures end { target_in (def_at self.now result.0) ≡ None }
     {
-        let mut end = ty;
-        for _ in 0..self.rows.len() {
-            match self.def(end) {
-                TypeDef::Copy(target) => end = *target,
-                _ => return end,
-            }
+        match self.ends[ty.0 as usize] {
+            Some(end) => end,
+            None => ty,
         }
-        end
     }
 
     /// The name of a type: empty for an inline type, but `&T` for a union's member `&T`.
@@ -124,6 +129,25 @@ impl Schema {
             Some(number) => Some(TypeNo(*number)),
             None => None,
         }
+    }
+
+    /// The number of the field or member of a type that has a name: of the first, where several have it.
+    pub fn part_named(&self, ty: TypeNo, name: &str) -> Option<usize>
+        requires { ty.0 < length self.now }
+        ensures same { result ≡ option_and_then (part_named name.now) (def_at self.now ty.0) }
+        ensures within { IfSome result (IsPartOf self.now ty.0) }
+    {
+        self.parts[ty.0 as usize].names.get(name).copied()
+    }
+
+    /// The number of the field or member of a type that stands in a block under a text, of the first where several do: a
+    /// field under its name in a block, a member of a union under the text behind it, a member of an enum under its text.
+    pub fn part_spelled(&self, ty: TypeNo, text: &str) -> Option<usize>
+        requires { ty.0 < length self.now }
+        ensures same { result ≡ option_and_then (part_spelled text.now) (def_at self.now ty.0) }
+        ensures within { IfSome result (IsPartOf self.now ty.0) }
+    {
+        self.parts[ty.0 as usize].texts.get(text).copied()
     }
 
     /// The declared names, in the order of the text.

@@ -1,5 +1,5 @@
 -- The replies to lines, and their texts.
-use Rattle.std.specs.Prelude.{ℕ, List, [], ◌∷◌, ◌++◌, Bool, true, false, codes}
+use Rattle.std.specs.Prelude.{ℕ, List, [], ◌∷◌, ◌++◌, Bool, true, false, Option, Some, None, codes}
 use Rattle.ild_data.specs.Spell.{cid_of}
 use Rattle.ild_data.specs.CidText.{cid_text_of}
 use Rattle.ild_script.specs.declared.reply.No.{No}
@@ -30,6 +30,11 @@ abbrev pub reply_text : Reply → List ℕ
 reply_text (R.Ok json) = codes "ok " ++ (json ++ 10 ∷ [])
 reply_text (R.Root id) = codes "root " ++ (cid_text_of (cid_of id.0) ++ 10 ∷ [])
 reply_text (R.No refusal) = no_text refusal
+
+-- the text that needs nothing but the reply's name: a refusal's
+abbrev pub fixed_text : Reply → Option (List ℕ)
+fixed_text (R.No refusal) = Some (no_text refusal)
+fixed_text reply = None
 
 abbrev pub is_no : Reply → Bool
 is_no (R.Ok json) = false

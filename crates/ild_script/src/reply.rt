@@ -1,6 +1,6 @@
 //! What lines are answered.
-ghost use Rattle.std.specs.Prelude.{◌≡◌, ◌++◌, ◌∷◌, [], IfOk};
-ghost use Rattle.ild_script.specs.Reply.{no_text, reply_text};
+ghost use Rattle.std.specs.Prelude.{◌≡◌, ◌++◌, ◌∷◌, [], IfOk, option_map};
+ghost use Rattle.ild_script.specs.Reply.{no_text, fixed_text, reply_text};
 
 use ild_data::{BlockId, Octets, Txt};
 use std::alloc::{AllocError, Global};
@@ -68,6 +68,18 @@ fn no_text(no: No) -> &'static [u8]
         No::Clash => b"no 13 clash\n",
         No::Memory => b"no 14 memory\n",
         No::Batch => b"no 15 batch\n",
+    }
+}
+
+impl Reply {
+    /// The line of a reply that is the same whenever it is given, with its line feed: a refusal's. It takes no memory.
+    pub fn fixed(&self) -> Option<&'static [u8]>
+        ensures { option_map (λ line. line.now) result ≡ fixed_text self.now }
+    {
+        match self {
+            Reply::No(no) => Some(no_text(*no)),
+            _ => None,
+        }
     }
 }
 

@@ -1,7 +1,28 @@
-//! Tests that go across crates: one tree from its JSON text to its block, and back, beside blocks of another tool.
+//! Tests of public calls, a file a subject: one tree from its JSON text to its block, and back, beside blocks of another
+//! tool; and schemas, from their tokens to their tables.
 #![tactic(auto)]
 
 #[cfg(test)]
 mod acceptance;
 #[cfg(test)]
+mod compile;
+#[cfg(test)]
+mod keys;
+#[cfg(test)]
+mod large;
+#[cfg(test)]
+mod lex;
+#[cfg(test)]
+mod parse;
+#[cfg(test)]
+mod parts;
+#[cfg(test)]
+mod run;
+#[cfg(test)]
+mod splits;
+#[cfg(test)]
 mod tests;
+#[cfg(test)]
+mod trees;
+#[cfg(test)]
+mod values;

@@ -2,13 +2,14 @@
 use Rattle.std.proofs.Common.{◌≡◌, ◌⊎◌, inl, inr, ℕ, ◌+◌, ◌<◌, ◌≤◌, Bool, true, false, List, [], ◌∷◌, ◌++◌, Option, Some, None, length, take, drop, get_or, slice_get, refl, ap, sym, ◌∙◌, subst, arith}
 use Rattle.std.specs.Prelude.{nat_eq}
 use Rattle.std.proofs.lemmas.Bool.Decides.{nat_tests}
-use Rattle.std.specs.Option.{option_and_then}
+use Rattle.std.specs.Option.{option_and_then, option_map}
 use Rattle.std.proofs.lemmas.Option.{none-some, same_Some, slice_get-get_or, slice_get_within}
 use Rattle.std.proofs.lemmas.List.{length-drop, take-append-drop, take-append-le, take_at, append_cancel_left}
 use Rattle.ild_schema.specs.declared.def.Member.{Member}
 use Rattle.ild_schema.specs.declared.def.Mark.{Mark}
 use Rattle.ild_schema.specs.declared.def.Mark.TheVariants as K
-use Rattle.ild_text.specs.Prefix.{bytes_mark, hex_byte, hex_bytes, IsBehind, IsPrefixed, AreApart, OnePrefixed, Passes, Strips}
+use Rattle.ild_schema.specs.Hex.{hex_byte, bytes_of_hex}
+use Rattle.ild_text.specs.Prefix.{bytes_mark, IsBehind, IsPrefixed, AreApart, OnePrefixed, Passes, Strips}
 
 -- no member before this place has a prefix with which the text begins
 abbrev pub NoneBefore : (Mark → Option (List ℕ)) → List Member → List ℕ → ℕ → Type 0
@@ -38,27 +39,27 @@ none_all f ms xs t n same le none k r p =
     none k r (omega (arith, ap length same)) p
 
 -- one byte of the digits
-hex_bytes_two : (ds : List ℕ) → 2 ≤ length ds → hex_bytes ds ≡ option_and_then (λ b. option_and_then (λ bs. Some (b ∷ bs)) (hex_bytes (drop 2 ds))) (hex_byte (get_or ds 0 0) (get_or ds 1 0))
+hex_bytes_two : (ds : List ℕ) → 2 ≤ length ds → bytes_of_hex ds ≡ option_and_then (λ b. option_map (λ (bs : List ℕ). b ∷ bs) (bytes_of_hex (drop 2 ds))) (hex_byte (get_or ds 0 0) (get_or ds 1 0))
 hex_bytes_two [] two = absurd (omega arith)
 hex_bytes_two (h ∷ []) two = absurd (omega arith)
 hex_bytes_two (h ∷ l ∷ ds) two = refl
 
-pub no_byte : (ds t : List ℕ) → 2 ≤ length ds → hex_byte (get_or ds 0 0) (get_or ds 1 0) ≡ None → (r : List ℕ) → IsBehind (hex_bytes ds) t r → ⊥
+pub no_byte : (ds t : List ℕ) → 2 ≤ length ds → hex_byte (get_or ds 0 0) (get_or ds 1 0) ≡ None → (r : List ℕ) → IsBehind (bytes_of_hex ds) t r → ⊥
 no_byte ds t two none r b =
-    let e = hex_bytes_two ds two ∙ ap (option_and_then (λ (b : ℕ). option_and_then (λ (bs : List ℕ). Some (b ∷ bs)) (hex_bytes (drop 2 ds)))) none in
+    let e = hex_bytes_two ds two ∙ ap (option_and_then (λ (b : ℕ). option_map (λ (bs : List ℕ). b ∷ bs) (bytes_of_hex (drop 2 ds)))) none in
     none-some b.front (sym e ∙ b.known)
 
 -- the digits stand for a byte and what the others stand for
-byte_first : (ds : List ℕ) (b : ℕ) → 2 ≤ length ds → hex_byte (get_or ds 0 0) (get_or ds 1 0) ≡ Some b → hex_bytes ds ≡ option_and_then (λ (bs : List ℕ). Some (b ∷ bs)) (hex_bytes (drop 2 ds))
-byte_first ds b two some = hex_bytes_two ds two ∙ ap (option_and_then (λ (c : ℕ). option_and_then (λ (bs : List ℕ). Some (c ∷ bs)) (hex_bytes (drop 2 ds)))) some
+byte_first : (ds : List ℕ) (b : ℕ) → 2 ≤ length ds → hex_byte (get_or ds 0 0) (get_or ds 1 0) ≡ Some b → bytes_of_hex ds ≡ option_map (λ (bs : List ℕ). b ∷ bs) (bytes_of_hex (drop 2 ds))
+byte_first ds b two some = hex_bytes_two ds two ∙ ap (option_and_then (λ (c : ℕ). option_map (λ (bs : List ℕ). c ∷ bs) (bytes_of_hex (drop 2 ds)))) some
 
-front_of : (b : ℕ) (o : Option (List ℕ)) (p : List ℕ) → option_and_then (λ (bs : List ℕ). Some (b ∷ bs)) o ≡ Some p → (q : List ℕ) × (o ≡ Some q) × (p ≡ b ∷ q)
+front_of : (b : ℕ) (o : Option (List ℕ)) (p : List ℕ) → option_map (λ (bs : List ℕ). b ∷ bs) o ≡ Some p → (q : List ℕ) × (o ≡ Some q) × (p ≡ b ∷ q)
 front_of b None p e = absurd (none-some p e)
 front_of b (Some q) p e = (q, refl, sym (same_Some (b ∷ q) p e))
 
-pub other_byte : (ds t : List ℕ) (b : ℕ) → 2 ≤ length ds → hex_byte (get_or ds 0 0) (get_or ds 1 0) ≡ Some b → (length t ≡ 0) ⊎ (get_or t 0 0 ≡ b → ⊥) → (r : List ℕ) → IsBehind (hex_bytes ds) t r → ⊥
+pub other_byte : (ds t : List ℕ) (b : ℕ) → 2 ≤ length ds → hex_byte (get_or ds 0 0) (get_or ds 1 0) ≡ Some b → (length t ≡ 0) ⊎ (get_or t 0 0 ≡ b → ⊥) → (r : List ℕ) → IsBehind (bytes_of_hex ds) t r → ⊥
 other_byte ds t b two some unlike r p =
-    let f = front_of b (hex_bytes (drop 2 ds)) p.front (sym (byte_first ds b two some) ∙ p.known) in
+    let f = front_of b (bytes_of_hex (drop 2 ds)) p.front (sym (byte_first ds b two some) ∙ p.known) in
     let e : t ≡ b ∷ (f.0 ++ r) = p.whole ∙ ap (λ xs. xs ++ r) f.2 in
     by unlike (f.0 ++ r) e
   where
@@ -72,32 +73,32 @@ passes ds (c ∷ t) b two some one first = record {
   fewer = omega (arith, length-drop 2 ds);
   same = λ r. (grow r, shrink r);
 } where
-  grow : (r : List ℕ) → IsBehind (hex_bytes (drop 2 ds)) t r → IsBehind (hex_bytes ds) (c ∷ t) r
+  grow : (r : List ℕ) → IsBehind (bytes_of_hex (drop 2 ds)) t r → IsBehind (bytes_of_hex ds) (c ∷ t) r
   grow r p = record {
     front = b ∷ p.front;
-    known = byte_first ds b two some ∙ ap (option_and_then (λ (bs : List ℕ). Some (b ∷ bs))) p.known;
+    known = byte_first ds b two some ∙ ap (option_map (λ (bs : List ℕ). b ∷ bs)) p.known;
     whole = λ i. first i ∷ p.whole i;
   }
 
-  shrink : (r : List ℕ) → IsBehind (hex_bytes ds) (c ∷ t) r → IsBehind (hex_bytes (drop 2 ds)) t r
+  shrink : (r : List ℕ) → IsBehind (bytes_of_hex ds) (c ∷ t) r → IsBehind (bytes_of_hex (drop 2 ds)) t r
   shrink r p =
-      let f = front_of b (hex_bytes (drop 2 ds)) p.front (sym (byte_first ds b two some) ∙ p.known) in
+      let f = front_of b (bytes_of_hex (drop 2 ds)) p.front (sym (byte_first ds b two some) ∙ p.known) in
       let e : c ∷ t ≡ b ∷ (f.0 ++ r) = p.whole ∙ ap (λ xs. xs ++ r) f.2 in
       record { front = f.0; known = f.1; whole = ap (drop 1) e }
 
 -- where no two digits are left
-pub whole_behind : (ds t : List ℕ) → length ds ≡ 0 → IsBehind (hex_bytes ds) t t
+pub whole_behind : (ds t : List ℕ) → length ds ≡ 0 → IsBehind (bytes_of_hex ds) t t
 whole_behind [] t none = record { front = []; known = refl; whole = refl }
 whole_behind (d ∷ ds) t none = absurd (omega arith)
 
-pub odd_behind : (ds t r : List ℕ) → length ds < 2 → (length ds ≡ 0 → ⊥) → IsBehind (hex_bytes ds) t r → ⊥
+pub odd_behind : (ds t r : List ℕ) → length ds < 2 → (length ds ≡ 0 → ⊥) → IsBehind (bytes_of_hex ds) t r → ⊥
 odd_behind [] t r few some p = some refl
 odd_behind (d ∷ []) t r few some p = none-some p.front p.known
 odd_behind (d ∷ e ∷ ds) t r few some p = absurd (omega arith)
 
 -- the same texts stand behind what is left and behind the whole
 abbrev pub Same : List ℕ → List ℕ → List ℕ → List ℕ → Type 0
-Same ds t es u = (r : List ℕ) → (IsBehind (hex_bytes es) u r → IsBehind (hex_bytes ds) t r) × (IsBehind (hex_bytes ds) t r → IsBehind (hex_bytes es) u r)
+Same ds t es u = (r : List ℕ) → (IsBehind (bytes_of_hex es) u r → IsBehind (bytes_of_hex ds) t r) × (IsBehind (bytes_of_hex ds) t r → IsBehind (bytes_of_hex es) u r)
 
 pub same_goes : (ds t es u fs v : List ℕ) → Same ds t es u → Passes es u fs v → Same ds t fs v
 same_goes ds t es u fs v s p r = (λ b. (s r).0 ((p.same r).0 b), λ b. (p.same r).1 ((s r).1 b))
@@ -109,8 +110,8 @@ pub some_from_test : (n : ℕ) (b : Bool) → b ≡ nat_eq n 0 → b ≡ false �
 some_from_test n b e f = grind (arith, nat_tests)
 
 -- the digits are the text of the mark
-pub strips_bytes : (mark : Mark) (digits ds t : List ℕ) (r : Option (List ℕ)) → mark ≡ K.Text digits → ds ≡ digits → Strips (hex_bytes ds) t r → Strips (bytes_mark mark) t r
-strips_bytes mark digits ds t r is same s = subst (λ p. Strips p t r) (ap hex_bytes same ∙ sym (ap bytes_mark is)) s
+pub strips_bytes : (mark : Mark) (digits ds t : List ℕ) (r : Option (List ℕ)) → mark ≡ K.Text digits → ds ≡ digits → Strips (bytes_of_hex ds) t r → Strips (bytes_mark mark) t r
+strips_bytes mark digits ds t r is same s = subst (λ p. Strips p t r) (ap bytes_of_hex same ∙ sym (ap bytes_mark is)) s
 
 -- of two fronts of a text the longer one begins with the other
 longer_front : (p q r s : List ℕ) → p ++ r ≡ q ++ s → length p ≤ length q → q ≡ p ++ drop (length p) q

@@ -1,32 +1,14 @@
 -- The members of a union that stand behind a prefix: the first one with whose prefix a text begins.
-use Rattle.std.specs.Prelude.{◌≡◌, ℕ, ◌+◌, ◌-◌, ◌*◌, ◌<◌, ◌&&◌, nat_le, if◌then◌else◌, List, [], ◌∷◌, ◌++◌, Option, Some, None, MatchOption, length, slice_get}
+use Rattle.std.specs.Prelude.{◌≡◌, ℕ, ◌<◌, List, ◌++◌, Option, Some, MatchOption, length, slice_get}
 use Rattle.std.specs.Option.{option_and_then}
 use Rattle.ild_schema.specs.declared.def.Member.{Member}
 use Rattle.ild_schema.specs.declared.def.Mark.{Mark}
-use Rattle.ild_schema.specs.declared.def.Mark.TheVariants as K
+use Rattle.ild_schema.specs.Hex.{bytes_of_hex}
+use Rattle.ild_schema.specs.Marks.{text_of}
 
--- the text of a mark, if it is one
-abbrev pub text_mark : Mark → Option (List ℕ)
-text_mark (K.Text text) = Some text
-text_mark mark = None
-
--- the number of a hexadecimal digit, of either case
-abbrev pub hex_digit : ℕ → Option ℕ
-hex_digit c =
-    if nat_le 48 c && nat_le c 57 then Some (c - 48)
-    else (if nat_le 97 c && nat_le c 102 then Some (c - 87) else (if nat_le 65 c && nat_le c 70 then Some (c - 55) else None))
-
-abbrev pub hex_byte : ℕ → ℕ → Option ℕ
-hex_byte high low = option_and_then (λ h. option_and_then (λ l. Some (h * 16 + l)) (hex_digit low)) (hex_digit high)
-
--- the bytes that hexadecimal digits stand for, two for each
-abbrev pub hex_bytes : List ℕ → Option (List ℕ)
-hex_bytes [] = Some []
-hex_bytes (c ∷ []) = None
-hex_bytes (high ∷ low ∷ digits) = option_and_then (λ b. option_and_then (λ bs. Some (b ∷ bs)) (hex_bytes digits)) (hex_byte high low)
-
+-- the bytes that the text of a mark stands for, if it is hexadecimal
 abbrev pub bytes_mark : Mark → Option (List ℕ)
-bytes_mark mark = option_and_then hex_bytes (text_mark mark)
+bytes_mark mark = option_and_then bytes_of_hex (text_of mark)
 
 -- the text begins with the prefix, and this stands behind it
 pub record IsBehind (prefix : Option (List ℕ)) (text rest : List ℕ) : Type 0 where
@@ -64,4 +46,4 @@ OnePrefixed =
 -- digits and a text, and what is left of both: what stands behind the ones is what stands behind the others
 pub record Passes (digits text left rest : List ℕ) : Type 0 where
   pub fewer : length left < length digits
-  pub same : (r : List ℕ) → (IsBehind (hex_bytes left) rest r → IsBehind (hex_bytes digits) text r) × (IsBehind (hex_bytes digits) text r → IsBehind (hex_bytes left) rest r)
+  pub same : (r : List ℕ) → (IsBehind (bytes_of_hex left) rest r → IsBehind (bytes_of_hex digits) text r) × (IsBehind (bytes_of_hex digits) text r → IsBehind (bytes_of_hex left) rest r)

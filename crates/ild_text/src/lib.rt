@@ -17,5 +17,3 @@ pub use parts::{JoinParts, PairParts};
 pub use prefixes::{bytes_prefix, prefix};
 pub use split::Split;
 
-#[cfg(test)]
-mod tests;

@@ -1,12 +1,14 @@
 //! What stands behind the prefix of one member.
 ghost use Rattle.std.specs.Prelude.{◌≡◌, ◌≤◌, List, MatchOption, length, option_map, ℕ};
-ghost use Rattle.ild_text.specs.Prefix.{bytes_mark, hex_byte, hex_bytes, hex_digit, IsBehind, Passes, Strips, text_mark};
+ghost use Rattle.ild_schema.specs.Hex.{hex_byte, bytes_of_hex, hex_digit};
+ghost use Rattle.ild_schema.specs.Marks.{text_of};
+ghost use Rattle.ild_text.specs.Prefix.{bytes_mark, IsBehind, Passes, Strips};
 
 use ild_schema::Mark;
 
 /// What stands behind the text of a mark.
 pub fn behind_text<'b>(text: &'b str, mark: &Mark) -> Option<&'b str>
-    ensures { Strips (text_mark mark.now) text.now (option_map (λ rest. rest.now) result) }
+    ensures { Strips (text_of mark.now) text.now (option_map (λ rest. rest.now) result) }
 {
     match mark {
         Mark::Text(prefix) => text.strip_prefix(prefix.as_str()),
@@ -20,8 +22,8 @@ fn hex_digit(c: u8) -> Option<u8>
 {
     match c {
         b'0'..=b'9' => Some(c - b'0'),
-        b'a'..=b'f' => Some(c - b'a' + 10),
         b'A'..=b'F' => Some(c - b'A' + 10),
+        b'a'..=b'f' => Some(c - b'a' + 10),
         _ => None,
     }
 }
@@ -32,13 +34,13 @@ fn hex_byte(high: u8, low: u8) -> Option<u8>
 {
     let high = hex_digit(high)?;
     let low = hex_digit(low)?;
-    Some(high * 16 + low)
+    Some(16 * high + low)
 }
 
 /// One byte of a prefix is passed over: what stands behind it, and the digits that are left.
 fn pass<'b, 'd>(rest: &'b [u8], left: &'d [u8]) -> Option<(&'b [u8], &'d [u8])>
     requires { 2 ≤ length left.now }
-    ensures { MatchOption result ((r : List ℕ) → IsBehind (hex_bytes left.now) rest.now r → ⊥) (λ p. Passes left.now rest.now p.1.now p.0.now) }
+    ensures { MatchOption result ((r : List ℕ) → IsBehind (bytes_of_hex left.now) rest.now r → ⊥) (λ p. Passes left.now rest.now p.1.now p.0.now) }
 {
     let byte = hex_byte(left[0], left[1])?;
     if rest.is_empty() || rest[0] != byte {
@@ -49,7 +51,7 @@ fn pass<'b, 'd>(rest: &'b [u8], left: &'d [u8]) -> Option<(&'b [u8], &'d [u8])>
 
 /// What stands behind the bytes that hexadecimal digits stand for.
 fn behind_digits<'b>(bytes: &'b [u8], digits: &[u8]) -> Option<&'b [u8]>
-    ensures { Strips (hex_bytes digits.now) bytes.now (option_map (λ rest. rest.now) result) }
+    ensures { Strips (bytes_of_hex digits.now) bytes.now (option_map (λ rest. rest.now) result) }
 {
     let mut rest = bytes;
     let mut left = digits;

@@ -1,8 +1,9 @@
 use Rattle.std.proofs.Common.{◌≡◌, ◌-◌}
-use Rattle.ild_parse.specs.Stream.{stream_of, most}
-use Rattle.ild_parse.specs.Read.{many_at}
-use Rattle.ild_parse.specs.Grammar.{closes}
-use Rattle.ild_parse.specs.Part.{enum_member_at}
+use Rattle.ild_parse.specs.Seen.{stream_of}
+use Rattle.ild_grammar.proofs.Stream.{most}
+use Rattle.ild_grammar.proofs.Read.{many_at}
+use Rattle.ild_grammar.proofs.Grammar.{closes}
+use Rattle.ild_grammar.proofs.Part.{enum_member_at}
 use Rattle.ild_parse.proofs.Many.{with_front}
 use Rattle.ild_parse.proofs.body.enum_members.Given as goal
 

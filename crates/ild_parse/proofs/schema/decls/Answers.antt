@@ -1,10 +1,12 @@
 use Rattle.std.proofs.Common.{◌-◌, sym, ◌∙◌, ap, subst, List, Ok, ◌≡◌}
 use Rattle.std.proofs.lemmas.Result.{err_from_is_err_and}
-use Rattle.ild_parse.specs.declared.ast.Decl.{Decl}
+use Rattle.ild_grammar.specs.declared.ast.Decl.{Decl}
 use Rattle.ild_parse.specs.declared.error.ParseErr.{ParseErr}
-use Rattle.ild_parse.specs.Stream.{stream_of, most, is_end}
-use Rattle.ild_parse.specs.Read.{Fails, many_at}
-use Rattle.ild_parse.specs.Grammar.{decl_at}
+use Rattle.ild_parse.specs.Seen.{stream_of}
+use Rattle.ild_grammar.proofs.Stream.{most, is_end}
+use Rattle.ild_parse.specs.Seen.{Fails}
+use Rattle.ild_grammar.proofs.Read.{many_at}
+use Rattle.ild_grammar.proofs.Grammar.{decl_at}
 use Rattle.ild_parse.proofs.Many.{with_front, many_starts, many_goes, many_fails, many_done, many_too_few}
 use Rattle.ild_parse.proofs.schema.decls.Goals as goal
 

@@ -1,7 +1,8 @@
 use Rattle.std.proofs.Common.{◌≡◌, ◌-◌}
-use Rattle.ild_parse.specs.Stream.{stream_of, most, is_end}
-use Rattle.ild_parse.specs.Read.{many_at}
-use Rattle.ild_parse.specs.Grammar.{decl_at}
+use Rattle.ild_parse.specs.Seen.{stream_of}
+use Rattle.ild_grammar.proofs.Stream.{most, is_end}
+use Rattle.ild_grammar.proofs.Read.{many_at}
+use Rattle.ild_grammar.proofs.Grammar.{decl_at}
 use Rattle.ild_parse.proofs.Many.{with_front}
 use Rattle.ild_parse.proofs.schema.decls.Given as goal
 

@@ -1,6 +1,7 @@
 use Rattle.std.proofs.Common.{◌≡◌, ◌≤◌, List, length, Some, Ok, inl, inr, sym, ap, ◌∙◌, subst}
 use Rattle.std.specs.BTreeMap.{get_by_text}
 use Rattle.std.proofs.lemmas.Result.{err_from_is_err_and}
+use Rattle.ild_schema.specs.Spelled.{HasTexts}
 use Rattle.ild_schema.specs.Table.{IsTable, place_at}
 use Rattle.ild_schema.specs.Held.{IsIndex}
 use Rattle.ild_schema.specs.Copies.{NoneIsCircular, FirstIsCircular}
@@ -36,7 +37,9 @@ returns-in-Some-clause-fault c =
 pub of-requires-clause-table : goal.of-requires-clause-table
 of-requires-clause-table c =
     let rows = c.in_ok-rows.ensures.rows ∙ rows_by c.args.ast (get_by_text c.in_ok-numbers.numbers) c.in_ok-numbers.ensures.numbers in
-    subst IsTable (sym rows) (declared_table c.args.ast c.in_ok-numbers.ensures.free)
+    let none : NoneIsCircular c.in_ok-rows.rows.items = subst NoneIsCircular c.deref.ensures.value (c.in_ok-n.ensures.none (ap Ok c.in_default.is)) in
+    let texts : HasTexts c.in_ok-rows.rows.items = subst HasTexts c.deref-2.ensures.value c.texts_of.ensures in
+    subst IsTable (sym rows) (declared_table c.args.ast c.in_ok-numbers.ensures.free (subst NoneIsCircular rows none) (subst HasTexts rows texts))
 
 pub of-requires-clause-numbers : goal.of-requires-clause-numbers
 of-requires-clause-numbers c =

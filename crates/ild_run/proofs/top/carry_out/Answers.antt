@@ -1,23 +1,24 @@
-use Rattle.std.proofs.Common.{option_map, true, false, sym, ap, ◌∙◌}
+use Rattle.std.proofs.Common.{option_map, true, false, refl, sym, ap, ◌∙◌}
+use Rattle.ild_session.specs.Session.{idle}
 use Rattle.ild_edges.proofs.Later.{Later-trans}
 use Rattle.ild_run.specs.Words.{job_of}
 use Rattle.ild_run.specs.Opening.{job_seen}
 use Rattle.ild_run.specs.Ended.{Call, call_of}
-use Rattle.ild_run.proofs.Endings.{ended_words, ended_inputs, ended_empty, ended_done, ended_refused, ended_cut, answered_all, answered_some, cut_cause}
+use Rattle.ild_run.proofs.Endings.{ended_words, ended_inputs, ended_first, ended_done, ended_refused, ended_cut, answered_all, answered_some, cut_cause}
 use Rattle.ild_run.proofs.top.carry_out.Goals as goal
 
 pub returns-in-Err-clause-ended : goal.returns-in-Err-clause-ended
 returns-in-Err-clause-ended g c =
     let call : Call = call_of (job_of c.args.words.now) (g.I.Inputs.supply c.args.inputs.now) (g.K.Store.moment c.args.store.now) (g.W.Sink.output c.args.out.now) (g.I.Inputs.supply c.take_script.new.inputs) (g.K.Store.moment c.args.store.now) (g.W.Sink.output c.tell-in-Err.new.out) in
     let opens = c.in-Err.ensures in
-    ended_inputs call (job_seen c.in-Some.job) opens.taking c.in-Err.fault c.tell-in-Err.result (sym c.in-Some.ensures) opens.taken opens.answer c.tell-in-Err.ensures
+    ended_inputs call (job_seen c.in-Some.job) opens.taking c.in-Err.fault c.tell-in-Err.result (sym c.in-Some.ensures) opens.taken opens.answer refl c.tell-in-Err.ensures
 
-pub returns-in-Err-put_empty-clause-ended : goal.returns-in-Err-put_empty-clause-ended
-returns-in-Err-put_empty-clause-ended g c =
-    let call : Call = call_of (job_of c.args.words.now) (g.I.Inputs.supply c.args.inputs.now) (g.K.Store.moment c.args.store.now) (g.W.Sink.output c.args.out.now) (g.I.Inputs.supply c.take_script.new.inputs) (g.K.Store.moment c.put_empty.new.store) (g.W.Sink.output c.tell-in-Err-put_empty.new.out) in
+pub returns-in-Err-put_first-clause-ended : goal.returns-in-Err-put_first-clause-ended
+returns-in-Err-put_first-clause-ended g c =
+    let call : Call = call_of (job_of c.args.words.now) (g.I.Inputs.supply c.args.inputs.now) (g.K.Store.moment c.args.store.now) (g.W.Sink.output c.args.out.now) (g.I.Inputs.supply c.take_script.new.inputs) (g.K.Store.moment c.put_first.new.store) (g.W.Sink.output c.tell-in-Err-put_first.new.out) in
     let opens = c.in-Ok.ensures in
-    ended_empty call (job_seen c.in-Some.job) opens.taking c.in-Ok.script c.new-value.result c.in-Err-put_empty.fault c.tell-in-Err-put_empty.result
-    (sym c.in-Some.ensures) opens.taken opens.answer c.new-value.ensures c.in-Err-put_empty.ensures.answer c.tell-in-Err-put_empty.ensures
+    ended_first call (job_seen c.in-Some.job) opens.taking c.in-Ok.script c.new-value.result c.in-Err-put_first.fault c.tell-in-Err-put_first.result
+    (sym c.in-Some.ensures) opens.taken opens.answer c.new-value.ensures c.in-Err-put_first.ensures c.tell-in-Err-put_first.ensures
 
 pub returns-in-Ok-true-clause-ended : goal.returns-in-Ok-true-clause-ended
 returns-in-Ok-true-clause-ended g c =
@@ -25,8 +26,8 @@ returns-in-Ok-true-clause-ended g c =
     let opens = c.in-Ok.ensures in
     let done = rw (c.as_slice.ensures.same, c.in-Ok-true.field-0-test) at c.in-Ok-true.ensures.done in
     ended_refused call (job_seen c.in-Some.job) opens.taking (sym c.in-Some.ensures) opens.taken
-    (answered_all call (job_seen c.in-Some.job) opens.taking c.in-Ok.script c.new-value.result c.put_empty.result c.in_default-put_empty.field-0 (g.K.Store.moment c.put_empty.new.store) c.answer_all.new.value true
-    (sym c.in-Some.ensures) opens.answer c.new-value.ensures c.in_default-put_empty.is c.put_empty.ensures done)
+    (answered_all call (job_seen c.in-Some.job) opens.taking c.in-Ok.script c.new-value.result c.put_first.result c.in_default-put_first.field-0 (g.K.Store.moment c.put_first.new.store) (idle c.answer_all.new.session) true
+    (sym c.in-Some.ensures) opens.answer c.new-value.ensures c.in_default-put_first.is c.put_first.ensures done)
 
 pub returns-in-Ok-false-clause-ended : goal.returns-in-Ok-false-clause-ended
 returns-in-Ok-false-clause-ended g c =
@@ -34,29 +35,29 @@ returns-in-Ok-false-clause-ended g c =
     let opens = c.in-Ok.ensures in
     let done = rw (c.as_slice.ensures.same, c.in-Ok-false.field-0-test) at c.in-Ok-false.ensures.done in
     ended_done call (job_seen c.in-Some.job) opens.taking (sym c.in-Some.ensures) opens.taken
-    (answered_all call (job_seen c.in-Some.job) opens.taking c.in-Ok.script c.new-value.result c.put_empty.result c.in_default-put_empty.field-0 (g.K.Store.moment c.put_empty.new.store) c.answer_all.new.value false
-    (sym c.in-Some.ensures) opens.answer c.new-value.ensures c.in_default-put_empty.is c.put_empty.ensures done)
+    (answered_all call (job_seen c.in-Some.job) opens.taking c.in-Ok.script c.new-value.result c.put_first.result c.in_default-put_first.field-0 (g.K.Store.moment c.put_first.new.store) (idle c.answer_all.new.session) false
+    (sym c.in-Some.ensures) opens.answer c.new-value.ensures c.in_default-put_first.is c.put_first.ensures done)
 
 pub returns-clause-ended : goal.returns-clause-ended
 returns-clause-ended g c =
     let call : Call = call_of (job_of c.args.words.now) (g.I.Inputs.supply c.args.inputs.now) (g.K.Store.moment c.args.store.now) (g.W.Sink.output c.args.out.now) (g.I.Inputs.supply c.take_script.new.inputs) (g.K.Store.moment c.answer_all.new.store) (g.W.Sink.output c.answer_all.new.out) in
     let opens = c.in-Ok.ensures in
     let cut = rw c.as_slice.ensures.same at c.in-Err-answer_all.ensures.part in
-    let some = answered_some call (job_seen c.in-Some.job) opens.taking c.in-Ok.script c.new-value.result c.put_empty.result c.in_default-put_empty.field-0 (g.K.Store.moment c.put_empty.new.store) c.answer_all.new.value
-    (sym c.in-Some.ensures) opens.answer c.new-value.ensures c.in_default-put_empty.is c.put_empty.ensures cut in
+    let some = answered_some call (job_seen c.in-Some.job) opens.taking c.in-Ok.script c.new-value.result c.put_first.result c.in_default-put_first.field-0 (g.K.Store.moment c.put_first.new.store) (idle c.answer_all.new.session)
+    (sym c.in-Some.ensures) opens.answer c.new-value.ensures c.in_default-put_first.is c.put_first.ensures cut in
     rw c.cut_status.ensures (ended_cut call (job_seen c.in-Some.job) opens.taking c.in-Err-answer_all.cut (sym c.in-Some.ensures) opens.taken some
     (cut_cause c.in-Err-answer_all.cut (g.W.Sink.output c.args.out.now) (g.W.Sink.output c.answer_all.new.out) c.in-Err-answer_all.ensures.sink))
 
 pub returns-in-Ok-true-clause-later : goal.returns-in-Ok-true-clause-later
-returns-in-Ok-true-clause-later g c = Later-trans _ (g.K.Store.moment c.put_empty.new.store) _ c.put_empty.ensures.later c.in-Ok-true.ensures.done.later
+returns-in-Ok-true-clause-later g c = Later-trans _ (g.K.Store.moment c.put_first.new.store) _ c.put_first.ensures.later c.in-Ok-true.ensures.done.later
 
 pub returns-in-Ok-false-clause-later : goal.returns-in-Ok-false-clause-later
-returns-in-Ok-false-clause-later g c = Later-trans _ (g.K.Store.moment c.put_empty.new.store) _ c.put_empty.ensures.later c.in-Ok-false.ensures.done.later
+returns-in-Ok-false-clause-later g c = Later-trans _ (g.K.Store.moment c.put_first.new.store) _ c.put_first.ensures.later c.in-Ok-false.ensures.done.later
 
 pub returns-clause-later : goal.returns-clause-later
-returns-clause-later g c = Later-trans _ (g.K.Store.moment c.put_empty.new.store) _ c.put_empty.ensures.later c.in-Err-answer_all.ensures.part.later
+returns-clause-later g c = Later-trans _ (g.K.Store.moment c.put_first.new.store) _ c.put_first.ensures.later c.in-Err-answer_all.ensures.part.later
 
 pub returns-in_default-clause-ended : goal.returns-in_default-clause-ended
 returns-in_default-clause-ended g c =
     let call : Call = call_of (job_of c.args.words.now) (g.I.Inputs.supply c.args.inputs.now) (g.K.Store.moment c.args.store.now) (g.W.Sink.output c.args.out.now) (g.I.Inputs.supply c.args.inputs.now) (g.K.Store.moment c.args.store.now) (g.W.Sink.output c.tell.new.out) in
-    ended_words call c.tell.result (sym c.job_of.ensures ∙ ap (option_map job_seen) c.in_default.is) c.tell.ensures
+    ended_words call c.tell.result (sym c.job_of.ensures ∙ ap (option_map job_seen) c.in_default.is) refl c.tell.ensures

@@ -1,5 +1,5 @@
 use Rattle.std.proofs.Common.{◌∙◌}
-use Rattle.ild_parse.proofs.Literal.{begins_by_place}
+use Rattle.ild_parse.proofs.Texts.{begins_by_place}
 use Rattle.ild_parse.proofs.input.Input.is.Goals as goal
 
 pub returns-in-len1-up : goal.returns-in-len1-up

@@ -1,0 +1,11 @@
+pub mod Reference
+pub mod ReferenceCode
+pub mod ReferenceSeen
+pub mod ReferenceFalls
+pub mod Sign
+pub mod Value
+pub mod Derive
+pub mod DeriveForm
+pub mod DerivePart
+pub mod Fault
+pub mod Laws

@@ -1,0 +1,10 @@
+use Rattle.ild_data.specs.Key.{put}
+use Rattle.ild_plain.proofs.Edits.{edit_refused}
+use Rattle.ild_plain.proofs.edit.set_number.Goals as goal
+
+pub returns : goal.returns
+returns g c =
+    let m = g.K.Store.moment c.args.store.now in
+    let n = g.K.Store.moment c.publish_storable.new.store in
+    let puts = rw (c.as_slice.ensures.same, c.in-Ok.ensures) at c.in-Err.ensures in
+    edit_refused m c.args.value.now (put c.args.key.now c.args.number c.args.value.now) c.in-Err.refusal n puts

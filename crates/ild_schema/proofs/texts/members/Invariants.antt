@@ -1,0 +1,7 @@
+use Rattle.std.proofs.Common.{take}
+use Rattle.std.specs.List.{All}
+use Rattle.ild_schema.specs.Written.{MemberTexts}
+use Rattle.ild_schema.proofs.texts.members.Given as goal
+
+abbrev pub invariant-loop-part : goal.invariant-loop-part
+invariant-loop-part l = All MemberTexts (take l.part-index l.members)

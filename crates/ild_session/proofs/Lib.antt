@@ -1,0 +1,4 @@
+pub mod Came
+pub mod Runs
+pub mod Cuts
+pub mod Steps

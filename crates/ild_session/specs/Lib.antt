@@ -1,0 +1,6 @@
+pub mod Session
+pub mod Step
+pub mod Run
+pub mod Plain
+pub mod Lines
+pub mod Puts

@@ -1,0 +1,53 @@
+-- What answering lines leaves, one at a time and all of a script.
+use Rattle.std.specs.Prelude.{◌≡◌, ℕ, ◌+◌, List, [], ◌++◌, length, Bool, Option, Some, None}
+use Rattle.std.specs.List.{list_any, cons_option}
+use denote.Ref.{Bor}
+use Rattle.ild_edges.specs.Sink.{Appends, AppendsFront}
+use Rattle.ild_edges.specs.Store.{Moment, Later}
+use Rattle.ild_script.specs.declared.reply.Reply.{Reply}
+use Rattle.ild_script.specs.Line.{lines_of}
+use Rattle.ild_script.specs.Reply.{reply_text, is_no}
+use Rattle.ild_session.specs.Session.{State, Meaning, left}
+use Rattle.ild_session.specs.Step.{Step, Holds}
+use Rattle.ild_session.specs.Run.{Run, texts}
+
+-- the lines that are left of a script
+abbrev pub lines_left : Option (Bor (List ℕ)) → List (List ℕ)
+lines_left None = []
+lines_left (Some b) = lines_of b.now
+
+abbrev pub bytes_left : Option (Bor (List ℕ)) → ℕ
+bytes_left None = 0
+bytes_left (Some b) = length b.now + 1
+
+-- a line was answered, and its reply written
+pub record LineDone {V : Type 0} (M : Meaning V) (m : Moment) (s : State V) (line : List ℕ) (n : Moment) (t : State V) (was now : Option (List ℕ)) (refused : Bool) : Type 0 where
+  pub reply : Option Reply
+  pub step : Step M m s line reply n t
+  pub written : Appends was now (texts (cons_option reply []))
+  pub refused_is : refused ≡ list_any is_no (cons_option reply [])
+
+-- a line was answered, and a front of its reply written
+pub record LineCut {V : Type 0} (M : Meaning V) (m : Moment) (s : State V) (line : List ℕ) (n : Moment) (t : State V) (was now : Option (List ℕ)) : Type 0 where
+  pub reply : Reply
+  pub step : Step M m s line (Some reply) n t
+  pub written : AppendsFront was now (reply_text reply)
+
+-- these lines were answered, and their replies written
+pub record LinesDone {V : Type 0} (M : Meaning V) (m : Moment) (s : State V) (lines : List (List ℕ)) (n : Moment) (t : State V) (was now : Option (List ℕ)) (refused : Bool) : Type 0 where
+  pub replies : List Reply
+  pub run : Run M m s lines replies n t
+  pub later : Later m n
+  pub stands : Holds m (M.blocks (left s)) → Holds n (M.blocks (left t))
+  pub written : Appends was now (texts replies)
+  pub refused_is : refused ≡ list_any is_no replies
+
+-- the first of these lines were answered, and a front of their replies written
+pub record LinesCut {V : Type 0} (M : Meaning V) (m : Moment) (s : State V) (lines : List (List ℕ)) (n : Moment) (t : State V) (was now : Option (List ℕ)) : Type 0 where
+  pub first : List (List ℕ)
+  pub rest : List (List ℕ)
+  pub split : lines ≡ first ++ rest
+  pub replies : List Reply
+  pub run : Run M m s first replies n t
+  pub later : Later m n
+  pub written : AppendsFront was now (texts replies)

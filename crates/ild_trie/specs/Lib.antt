@@ -1,0 +1,4 @@
+pub mod Way
+pub mod Collapse
+pub mod Walk
+pub mod Laws

@@ -1,0 +1,94 @@
+-- The parts of a layer in their order, each with the slot that its type gives it and the way to the item in which it stands.
+-- A key is a part too, before its value. A part inside a text, or one that is left out, stands in the item of the whole.
+use Rattle.std.specs.Prelude.{ℕ, ◌+◌, Bool, true, false, cond, codes, List, [], ◌∷◌, ◌++◌, Option, Some, None}
+use Rattle.ild_data.specs.Data as T
+use Rattle.ild_data.specs.Data.{Data}
+use Rattle.ild_schema.specs.declared.number.Slot.{Slot}
+use Rattle.ild_schema.specs.declared.number.TypeNo.{TypeNo}
+use Rattle.ild_schema.specs.declared.def.TypeDef.{TypeDef}
+use Rattle.ild_schema.specs.declared.def.TypeDef.TheVariants as D
+use Rattle.ild_schema.specs.declared.def.MapForm.{MapForm}
+use Rattle.ild_schema.specs.declared.def.MapForm.TheVariants as MF
+use Rattle.ild_schema.specs.declared.def.StructForm.{StructForm}
+use Rattle.ild_schema.specs.declared.def.StructForm.TheVariants as S
+use Rattle.ild_schema.specs.declared.def.UnionForm.{UnionForm}
+use Rattle.ild_schema.specs.declared.def.UnionForm.TheVariants as UF
+use Rattle.ild_schema.specs.declared.def.UnionDef.{UnionDef}
+use Rattle.ild_schema.specs.declared.def.Field.{Field}
+use Rattle.ild_schema.specs.declared.def.Member.{Member}
+use Rattle.ild_typed.specs.Layer.{Layer, list, map, struct, union}
+use Rattle.ild_schema.specs.Slots.{plainly}
+use Rattle.ild_typed.specs.Slots.{member_of}
+use Rattle.ild_typed.specs.Fields.{is_implicit}
+use Rattle.ild_schema.specs.Marks.{field_text, text_of as mark_text}
+use Rattle.ild_data.specs.Trie as Trie
+use Rattle.std.specs.Prelude.{unwrap_or, option_and_then, slice_get}
+
+-- from an item to one in it
+pub data Step : Type 0 where
+  item : ℕ → Step
+  key : List ℕ → Step
+  under : List ℕ → Step
+
+pub record Spot : Type 0 where
+  pub slot : Slot
+  pub tree : Data
+  pub at : List Step
+  pub is_key : Bool
+
+abbrev pub value_spot : Slot → Data → List Step → Spot
+value_spot s d steps = record { slot = s; tree = d; at = steps; is_key = false }
+
+abbrev pub key_spot : TypeNo → List ℕ → List Step → Spot
+key_spot n k steps = record { slot = plainly n; tree = T.text k; at = steps; is_key = true }
+
+-- the elements of a list, counted from a number on
+abbrev pub element_spots : Slot → ℕ → List Data → List Spot
+element_spots s n [] = []
+element_spots s n (d ∷ ds) = value_spot s d (item n ∷ []) ∷ element_spots s (n + 1) ds
+
+-- the entries of a map
+abbrev pub key_steps : MapForm → ℕ → List ℕ → List Step
+key_steps MF.Map n k = key k ∷ []
+key_steps MF.ListPairs n k = item n ∷ item 0 ∷ []
+key_steps form n k = []
+
+abbrev pub entry_steps : MapForm → ℕ → List ℕ → List Step
+entry_steps MF.Map n k = under k ∷ []
+entry_steps MF.ListPairs n k = item n ∷ item 1 ∷ []
+entry_steps form n k = []
+
+abbrev pub entry_spots : MapForm → TypeNo → Slot → ℕ → List (List ℕ × Data) → List Spot
+entry_spots form n s i [] = []
+entry_spots form n s i (e ∷ es) =
+    key_spot n e.0 (key_steps form i e.0) ∷ value_spot s e.1 (entry_steps form i e.0) ∷ entry_spots form n s (i + 1) es
+
+-- the fields of a struct, of which so many are written before
+abbrev pub field_steps : StructForm → Field → ℕ → List Step
+field_steps S.Map f n = under (field_text f) ∷ []
+field_steps S.Tuple f n = item n ∷ []
+field_steps S.ListPairs f n = item n ∷ item 1 ∷ []
+field_steps form f n = []
+
+abbrev pub field_spots : StructForm → ℕ → List Field → List (Option Data) → List Spot
+field_spots form n [] os = []
+field_spots form n (f ∷ fs) [] = []
+field_spots form n (f ∷ fs) (None ∷ os) = field_spots form n fs os
+field_spots form n (f ∷ fs) (Some d ∷ os) =
+    cond (is_implicit f.implicit d) (value_spot f.slot d [] ∷ field_spots form n fs os) (value_spot f.slot d (field_steps form f n) ∷ field_spots form (n + 1) fs os)
+
+-- the member of a union
+abbrev pub member_text : UnionDef → ℕ → List ℕ
+member_text u n = unwrap_or (option_and_then (λ (m : Member). mark_text m.mark) (slice_get u.members n)) []
+
+abbrev pub member_steps : UnionForm → List ℕ → List Step
+member_steps UF.Keyed name = under name ∷ []
+member_steps (UF.Envelope k content) name = under content ∷ []
+member_steps form name = []
+
+abbrev pub spots_of : TypeDef → Layer Data → List Spot
+spots_of (D.List elem at) (list ds) = element_spots elem 0 ds
+spots_of (D.Map k key_at value at form) (map es) = entry_spots form k value 0 es
+spots_of (D.Struct s) (struct os) = field_spots s.form 0 s.fields os
+spots_of (D.Union u) (union n d) = value_spot (member_of (Some (D.Union u)) n) d (member_steps u.form (member_text u n)) ∷ []
+spots_of d l = []

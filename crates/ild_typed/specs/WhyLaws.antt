@@ -1,0 +1,72 @@
+-- The laws of causes: data of an accepted type have a layer, or there is a cause why they have none; a tree has a front
+-- that fits, or the walk of it refuses a piece.
+use Rattle.std.specs.Prelude.{◌≡◌, ◌↔◌, ◌⊎◌, ℕ, ◌<◌, length, List, [], ◌∷◌, None, Some}
+use Rattle.std.specs.List.{AllByRecursion}
+use Rattle.ild_data.specs.Data as T
+use Rattle.ild_data.specs.Data.{Data}
+use Rattle.ild_data.specs.Key.{Rises}
+use Rattle.ild_schema.specs.Delims.{Delims}
+use Rattle.ild_typed.specs.Schema.{IsSchema}
+use Rattle.ild_schema.specs.declared.def.TypeDef.{TypeDef}
+use Rattle.ild_schema.specs.declared.def.TypeDef.TheVariants as D
+use Rattle.ild_schema.specs.declared.def.MapForm.{MapForm}
+use Rattle.ild_schema.specs.declared.def.MapForm.TheVariants as MF
+use Rattle.ild_schema.specs.declared.def.StructForm.{StructForm}
+use Rattle.ild_schema.specs.declared.def.StructForm.TheVariants as S
+use Rattle.ild_schema.specs.declared.def.Field.{Field}
+use Rattle.ild_data.specs.Tree.{IsTree}
+use Rattle.ild_schema.specs.declared.number.Slot.{Slot}
+use Rattle.ild_schema.specs.declared.row.Row.{Row}
+use Rattle.ild_schema.specs.Table.{IsTable, def_at}
+use Rattle.ild_schema.specs.Value.{Value}
+use Rattle.ild_schema.specs.Slots.{form_of}
+use Rattle.ild_typed.specs.Composed.{usual, composed}
+use Rattle.ild_typed.specs.Node.{IsRoot}
+use Rattle.ild_data.specs.Trie as Trie
+use Rattle.ild_typed.specs.Fits.{Front}
+use Rattle.ild_schema.specs.Clear.{IsClear, IsSafe, ClearType, IsGiven}
+use Rattle.ild_typed.specs.Spots.{Spot}
+use Rattle.ild_typed.specs.Pieces.{IsNoRoot}
+use Rattle.ild_typed.specs.Refused.{Refusal, AreParts, Refused}
+use Rattle.ild_typed.specs.Layer.{Layer}
+use Rattle.ild_typed.specs.Hamt.{alone}
+use Rattle.ild_typed.specs.Causes.{why_of}
+
+-- the keys of a map rise
+abbrev pub KeysRise : Data → Type 0
+KeysRise (T.map ms) = Rises (T.members_list ms)
+KeysRise t = Unit {0}
+
+abbrev pub LayerOrWhy : Type 0
+LayerOrWhy =
+    (d : TypeDef) → ClearType d → Delims d → (t : Data) → KeysRise t
+    → (why_of d t ≡ None) ↔ ((l : Layer Data) × (composed alone d l ≡ Some t))
+
+-- ---- the walk of a view
+
+-- a slot whose type is in the table, copies followed
+abbrev pub HasForm : List Row → Slot → Type 0
+HasForm rows s = (d : TypeDef) × (form_of rows s ≡ Some d)
+
+-- what is asked of trees: the parts of a tree's layer are trees, and data are the root of a HAMT or are not
+pub record IsWalked (rows : List Row) : Type 0 where
+  pub trees : (s : Slot) (d : TypeDef) (t : Data) (ps : List Spot) → form_of rows s ≡ Some d → AreParts d t ps → IsTree t → AllByRecursion (λ p. IsTree p.tree) ps
+  pub roots : (t : Data) → ((slots : List Trie.TrieSlot) × IsRoot usual slots t) ⊎ IsNoRoot t
+
+-- what is refused has no front
+abbrev pub RefusedHaveNoFront : Type 0
+RefusedHaveNoFront =
+    (rows : List Row) → IsSchema rows → (room : ℕ) (s : Slot) → IsSafe rows s
+    → (t : Data) (r : Refusal) → Refused rows room s t r → (f : Value) → Front rows room s f t → ⊥
+
+-- and a tree is refused or has one
+abbrev pub FrontOrRefused : Type 0
+FrontOrRefused =
+    (rows : List Row) → IsSchema rows → IsWalked rows → (room : ℕ) (s : Slot) → s.ty.0 < length rows
+    → (t : Data) → IsTree t → ((f : Value) × Front rows room s f t) ⊎ ((r : Refusal) × Refused rows room s t r)
+
+-- of the walk there is one refusal at most
+abbrev pub OneRefusal : Type 0
+OneRefusal =
+    (rows : List Row) → IsSchema rows → (room : ℕ) (s : Slot) (t : Data) (q r : Refusal)
+    → Refused rows room s t q → Refused rows room s t r → q ≡ r
