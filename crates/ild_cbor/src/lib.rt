@@ -26,6 +26,3 @@ pub use kind::Kind;
 pub use laws::{entries_are_parts, faultless_are_spelled, one_tree, spans_spell};
 pub use node::Node;
 pub use pairs::Pairs;
-
-#[cfg(test)]
-mod tests;

@@ -18,8 +18,6 @@ mod limit;
 mod list;
 mod path;
 mod place;
-#[cfg(test)]
-mod tests;
 mod text;
 mod tree;
 mod varint;

@@ -10,8 +10,6 @@ mod mem_sink;
 mod mem_store;
 mod sink;
 mod store;
-#[cfg(test)]
-mod tests;
 
 pub use error::EdgeErr;
 pub use inputs::{Inputs, LONGEST_INPUT, Taken};

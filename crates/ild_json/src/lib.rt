@@ -7,8 +7,6 @@ mod object;
 mod printing;
 mod reading;
 mod show;
-#[cfg(test)]
-mod tests;
 mod walk;
 
 pub use error::{JsonErr, PrintErr};

@@ -5,7 +5,17 @@
 #[cfg(test)]
 mod acceptance;
 #[cfg(test)]
+mod blocks;
+#[cfg(test)]
+mod cbor;
+#[cfg(test)]
 mod compile;
+#[cfg(test)]
+mod data;
+#[cfg(test)]
+mod edges;
+#[cfg(test)]
+mod json;
 #[cfg(test)]
 mod keys;
 #[cfg(test)]

@@ -5,7 +5,8 @@ use Rattle.std.specs.Cmp.Lexicographic.{same_text as text_same}
 use Rattle.std.proofs.lemmas.Option.{same_Some, none-some}
 use Rattle.std.proofs.lemmas.Bool.{eq-eqb, eqb-true}
 use Rattle.ild_schema.specs.Prefixes.{begins}
-use Rattle.ild_typed.specs.Texts.{places, joined, joints, join, is_first, pair_text, is_parted, join_pairs}
+use Rattle.ild_typed.specs.Texts.{places, joints, join, is_first, is_parted, join_pairs}
+use Rattle.ild_schema.specs.Joins.{joined, pair_text}
 use Rattle.ild_schema.specs.Clear.{IsGiven}
 use Rattle.ild_typed.specs.Cuts.{begin_first, cut, parted, before, pair_in, pairs_in, gives}
 use Rattle.ild_typed.proofs.Basics.{if_from, both_true}

@@ -11,7 +11,7 @@ use Rattle.std.proofs.lemmas.Option.{same_Some, none-some}
 use Rattle.ild_typed.specs.AtLaws.{IndicesAreDecimals}
 use Rattle.ild_typed.specs.Segment.{index_of, number_from}
 
-own_text : (k : List ℕ) → same_text k k ≡ true
+pub own_text : (k : List ℕ) → same_text k k ≡ true
 own_text k = agrees k k (same_text k k) refl (key_equal k)
 
 -- a segment that is an index is its decimal

@@ -4,7 +4,8 @@ use Rattle.std.specs.Cmp.Lexicographic.{same_text as text_same}
 use Rattle.std.specs.Prelude.{nat_eq}
 use Rattle.std.proofs.lemmas.Bool.{eqb-true}
 use Rattle.std.specs.List.{list_all}
-use Rattle.ild_typed.specs.Texts.{places, joined, joints, same_places, join, is_first, pair_text, is_parted}
+use Rattle.ild_typed.specs.Texts.{places, joints, same_places, join, is_first, is_parted}
+use Rattle.ild_schema.specs.Joins.{joined, pair_text}
 use Rattle.ild_typed.proofs.Basics.{true_from, both_true, fronts_same, behind_front}
 
 -- no parts, or some

@@ -50,3 +50,4 @@ pub mod OneLayer
 pub mod FormOf
 pub mod Index
 pub mod Reaching
+pub mod JoinLaws

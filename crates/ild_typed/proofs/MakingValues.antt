@@ -1,12 +1,10 @@
 -- A whole value that fits has a representation where it has no hole, breaks no delimiter and exhausts no HAMT.
-use Rattle.std.proofs.Common.{◌≡◌, ◌≤◌, ℕ, zero, suc, ◌-◌, ◌<◌, List, [], ◌∷◌, length, Bool, true, false, ◌||◌, Option, Some, None, option_map, IsUtf8, refl, sym, ◌∙◌, ap, subst, cond, arith}
+use Rattle.std.proofs.Common.{◌≡◌, ℕ, zero, suc, ◌-◌, ◌<◌, List, [], ◌∷◌, length, Bool, true, false, ◌||◌, Option, Some, None, option_map, IsUtf8, refl, sym, ◌∙◌, ap, subst, cond, arith}
 use Rattle.std.specs.Prelude.{ℤ, IfSome, IsSomeAnd, slice_get, option_and_then}
 use Rattle.std.specs.List.{AllByRecursion}
 use Rattle.std.proofs.lemmas.Option.{same_Some, none-some}
 use Rattle.ild_data.specs.Data as T
 use Rattle.ild_data.specs.Data.{Data}
-use Rattle.ild_data.specs.Limits.{deepest, longest_block}
-use Rattle.ild_data.specs.Spell.{spell}
 use Rattle.ild_schema.specs.declared.number.Slot.{Slot}
 use Rattle.ild_schema.specs.declared.def.TypeDef.{TypeDef}
 use Rattle.ild_schema.specs.declared.def.TypeDef.TheVariants as D
@@ -35,7 +33,6 @@ use Rattle.ild_typed.specs.Layers.{IsNotNull, FieldsFit, LayerFits}
 use Rattle.ild_typed.specs.Typed.{Typed}
 use Rattle.ild_schema.specs.Whole.{is_whole, are_whole, pairs_whole, fields_whole}
 use Rattle.ild_typed.specs.StandLaws.{StorableWhere}
-use Rattle.ild_typed.specs.Blocks.{nodes}
 use Rattle.ild_typed.specs.Judged.{some_present, hole_in, tuple_hole, is_hole, has_hole, struct_breaks, map_breaks, breaks, breaks_delimiter, map_exhausts, is_exhausted, exhausts}
 use Rattle.ild_typed.specs.EachLayer.{some_layer, some_value, some_pair, some_field}
 use Rattle.ild_schema.specs.Made.{IsTextSlot, MadeStruct, MadeMap, MadeMember, MadeEnum, MadeType, IsMade}

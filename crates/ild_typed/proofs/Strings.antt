@@ -6,7 +6,8 @@ use Rattle.std.proofs.lemmas.Option.{same_Some, none-some}
 use Rattle.ild_data.specs.Data as T
 use Rattle.ild_data.specs.Data.{Data}
 use Rattle.ild_schema.specs.declared.def.Field.{Field}
-use Rattle.ild_typed.specs.Texts.{joined, join, pair_text, is_parted, join_pairs}
+use Rattle.ild_typed.specs.Texts.{join, is_parted, join_pairs}
+use Rattle.ild_schema.specs.Joins.{joined, pair_text}
 use Rattle.ild_typed.specs.Fields.{all_items}
 use Rattle.ild_typed.specs.Strings.{texts_in, text_in, text_pairs, stringpairs, stringjoin}
 use Rattle.ild_typed.specs.Tells.{Tells}

@@ -1,7 +1,6 @@
 -- The law of texts: one value of a type stands behind a text, and the texts of a type are those that represent one.
-use Rattle.std.proofs.Common.{◌≡◌, ℕ, List, Some, refl}
-use Rattle.ild_data.specs.Data as T
-use Rattle.ild_data.specs.Data.{Data, text}
+use Rattle.std.proofs.Common.{refl}
+use Rattle.ild_data.specs.Data.{text}
 use Rattle.ild_schema.specs.Slots.{plainly}
 use Rattle.ild_schema.proofs.Legibly.{legible}
 use Rattle.ild_typed.specs.Hamt.{alone}

@@ -8,7 +8,7 @@ use Rattle.std.proofs.lemmas.Bool.{eqb-false}
 use Rattle.ild_data.specs.Data.{Data, depth}
 use Rattle.ild_data.specs.Key.{Rises}
 use Rattle.ild_data.specs.Tree.{IsTree}
-use Rattle.ild_data.specs.Limits.{deepest, IsWithin}
+use Rattle.ild_data.specs.Limits.{IsWithin}
 use Rattle.ild_data.specs.Spell.{spell, id_of}
 use Rattle.ild_schema.specs.declared.number.Slot.{Slot}
 use Rattle.ild_schema.specs.declared.number.TypeNo.{TypeNo}
@@ -41,7 +41,7 @@ use Rattle.ild_typed.specs.Stands.{Frame, IsFrame, blocks_of, Storable}
 use Rattle.ild_typed.specs.Nested.{TreeIn, IsBlock}
 use Rattle.ild_typed.specs.StandLaws.{OneStands}
 use Rattle.ild_schema.specs.Spelled.{IsSpelled}
-use Rattle.ild_schema.specs.Clear.{IsClear, IsSafe}
+use Rattle.ild_schema.specs.Clear.{IsClear}
 use Rattle.ild_typed.proofs.Basics.{map_from}
 use Rattle.ild_typed.proofs.Entries.{both_from}
 use Rattle.ild_typed.proofs.OneValue.{plain_safe, Way, as_null, as_layer, way_of, layer_data}

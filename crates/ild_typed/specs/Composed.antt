@@ -28,7 +28,6 @@ use Rattle.ild_typed.specs.Kinds.{kind_of}
 use Rattle.ild_schema.specs.DataKinds.{same_kind}
 use Rattle.ild_schema.specs.Marks.{member_text, member_integer, text_of as mark_text, kind_of as mark_kind}
 use Rattle.ild_schema.specs.Hex.{bytes_of_hex}
-use Rattle.ild_schema.specs.Decimal.{decimal_of}
 
 -- how the layer of a HAMT of a shape stands in a block
 abbrev pub Hamts : Type 0

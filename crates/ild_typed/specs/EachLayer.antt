@@ -1,26 +1,13 @@
 -- A test of every layer of a value.
-use Rattle.std.specs.Prelude.{ℕ, Bool, true, false, ◌||◌, is_none, List, [], ◌∷◌, Option, Some, None, option_and_then}
-use Rattle.ild_data.specs.Data.{Data}
+use Rattle.std.specs.Prelude.{Bool, false, ◌||◌, List, [], ◌∷◌, Option}
 use Rattle.ild_schema.specs.declared.number.Slot.{Slot}
 use Rattle.ild_schema.specs.declared.def.TypeDef.{TypeDef}
-use Rattle.ild_schema.specs.declared.def.TypeDef.TheVariants as D
-use Rattle.ild_schema.specs.declared.def.MapForm.{MapForm}
-use Rattle.ild_schema.specs.declared.def.MapForm.TheVariants as MF
-use Rattle.ild_schema.specs.declared.def.StructForm.{StructForm}
-use Rattle.ild_schema.specs.declared.def.StructForm.TheVariants as S
 use Rattle.ild_schema.specs.declared.def.Field.{Field}
 use Rattle.ild_schema.specs.declared.row.Row.{Row}
 use Rattle.ild_schema.specs.Value as V
 use Rattle.ild_schema.specs.Value.{Value, Values, Pairs, Optionals}
-use Rattle.ild_typed.specs.Texts.{join, join_pairs}
-use Rattle.ild_typed.specs.Fields.{field_entries, all_items}
-use Rattle.ild_typed.specs.Strings.{texts_in, text_pairs}
 use Rattle.ild_schema.specs.Slots.{form_of}
 use Rattle.ild_typed.specs.Slots.{element_of, fields_of, member_of}
-use Rattle.ild_data.specs.Trie.{trie}
-use Rattle.ild_typed.specs.Composed.{usual}
-use Rattle.ild_typed.specs.Hamt.{whole, alone}
-use Rattle.ild_typed.specs.Represented.{represented_pairs, represented_fields}
 
 -- ---- a test of every layer
 

@@ -1,33 +1,18 @@
 -- Values of the type of a slot that nest at most so many levels (IPLD Schemas, "typed nodes"). Of a HAMT, all entries or
 -- those in the block of its root.
-use Rattle.std.specs.Prelude.{◌≡◌, ℕ, zero, suc, ◌-◌, ◌≤◌, ◌<◌, ◌⊎◌, IsTrue, IsUtf8, IsSomeAnd, List, [], ◌∷◌, length, Option, Some, None, slice_get}
-use Rattle.std.specs.List.{AllByRecursion}
+use Rattle.std.specs.Prelude.{◌≡◌, ℕ, zero, suc, ◌-◌, ◌≤◌, IsTrue, IsSomeAnd, List, Some}
 use Rattle.ild_data.specs.Data as T
 use Rattle.ild_data.specs.Data.{Data}
-use Rattle.ild_data.specs.Bytes.{AreBytes}
-use Rattle.ild_data.specs.Cid.{IsCid}
-use Rattle.ild_data.specs.Integer.{IsInt}
-use Rattle.ild_data.specs.Key.{Rises}
-use Rattle.ild_data.specs.Tree.{IsTree}
 use Rattle.ild_schema.specs.declared.number.Slot.{Slot}
 use Rattle.ild_schema.specs.declared.number.TypeNo.{TypeNo}
 use Rattle.ild_schema.specs.declared.def.TypeDef.{TypeDef}
-use Rattle.ild_schema.specs.declared.def.TypeDef.TheVariants as D
-use Rattle.ild_schema.specs.declared.def.MapForm.{MapForm}
-use Rattle.ild_schema.specs.declared.def.MapForm.TheVariants as MF
-use Rattle.ild_schema.specs.declared.def.Field.{Field}
 use Rattle.ild_schema.specs.declared.row.Row.{Row}
 use Rattle.ild_schema.specs.Value as V
 use Rattle.ild_schema.specs.Value.{Value, values_list, pairs_list, optionals_list}
-use Rattle.ild_typed.specs.Layer as L
-use Rattle.ild_typed.specs.Layer.{Layer, as_boolean, as_integer, as_text, as_bytes, as_link, as_any, as_unit, as_enum, as_list, as_map, as_struct, as_union, as_hamt}
 use Rattle.ild_schema.specs.Slots.{form_of, plainly}
-use Rattle.ild_typed.specs.Composed.{usual}
 use Rattle.ild_typed.specs.Hamt.{alone}
 use Rattle.ild_typed.specs.Represented.{represented}
 use Rattle.ild_typed.specs.Levels.{levels_of}
-use Rattle.ild_typed.specs.Node as N
-use Rattle.ild_data.specs.Trie as Trie
 use Rattle.ild_typed.specs.Layers.{layer_of, Shows, LayerFits}
 
 -- below says what fits where one level less and then so many more are left

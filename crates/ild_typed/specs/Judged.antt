@@ -1,5 +1,5 @@
 -- Why a value of a type has no representation: what is asked of each layer in turn.
-use Rattle.std.specs.Prelude.{ℕ, Bool, true, false, ◌||◌, is_none, List, [], ◌∷◌, Option, Some, None, option_and_then}
+use Rattle.std.specs.Prelude.{ℕ, Bool, true, false, is_none, List, Option, Some, None, option_and_then}
 use Rattle.ild_data.specs.Data.{Data}
 use Rattle.ild_schema.specs.declared.number.Slot.{Slot}
 use Rattle.ild_schema.specs.declared.def.TypeDef.{TypeDef}
@@ -15,8 +15,6 @@ use Rattle.ild_schema.specs.Value.{Value, Values, Pairs, Optionals}
 use Rattle.ild_typed.specs.Texts.{join, join_pairs}
 use Rattle.ild_typed.specs.Fields.{field_entries, all_items}
 use Rattle.ild_typed.specs.Strings.{texts_in, text_pairs}
-use Rattle.ild_schema.specs.Slots.{form_of}
-use Rattle.ild_typed.specs.Slots.{element_of, fields_of, member_of}
 use Rattle.ild_data.specs.Trie.{trie}
 use Rattle.ild_typed.specs.Composed.{usual}
 use Rattle.ild_typed.specs.Hamt.{whole, alone}

@@ -1,6 +1,6 @@
 -- The outermost layer of a value, and what it is for such a layer to be of a type's form with parts that fit (IPLD Schemas,
 -- "Type kinds"). Of a HAMT, all entries or those in the block of its root.
-use Rattle.std.specs.Prelude.{◌≡◌, ℕ, zero, suc, ◌-◌, ◌≤◌, ◌<◌, ◌⊎◌, IsTrue, IsUtf8, IsSomeAnd, List, [], ◌∷◌, length, Option, Some, None, slice_get}
+use Rattle.std.specs.Prelude.{◌≡◌, ℕ, ◌<◌, ◌⊎◌, IsTrue, IsUtf8, IsSomeAnd, List, [], ◌∷◌, length, Option, Some, None, slice_get}
 use Rattle.std.specs.List.{AllByRecursion}
 use Rattle.ild_data.specs.Data as T
 use Rattle.ild_data.specs.Data.{Data}
@@ -21,11 +21,10 @@ use Rattle.ild_schema.specs.Value as V
 use Rattle.ild_schema.specs.Value.{Value, values_list, pairs_list, optionals_list}
 use Rattle.ild_typed.specs.Layer as L
 use Rattle.ild_typed.specs.Layer.{Layer, as_boolean, as_integer, as_text, as_bytes, as_link, as_any, as_unit, as_enum, as_list, as_map, as_struct, as_union, as_hamt}
-use Rattle.ild_schema.specs.Slots.{form_of, plainly}
+use Rattle.ild_schema.specs.Slots.{plainly}
 use Rattle.ild_typed.specs.Composed.{usual}
 use Rattle.ild_typed.specs.Hamt.{alone}
 use Rattle.ild_typed.specs.Represented.{represented}
-use Rattle.ild_typed.specs.Levels.{levels_of}
 use Rattle.ild_typed.specs.Node as N
 use Rattle.ild_data.specs.Trie as Trie
 

@@ -43,3 +43,4 @@ pub mod Holder
 pub mod Segment
 pub mod At
 pub mod AtLaws
+pub mod JoinLaws

@@ -1,11 +1,9 @@
 -- Why data are no layer of a map, a unit or an enum (IPLD Schemas, "Representation Strategies"): each cause by itself.
-use Rattle.std.specs.Prelude.{Bool, true, false, ◌||◌, not, List, Option, Some}
+use Rattle.std.specs.Prelude.{Bool, true, false, not, List, Option, Some}
 use Rattle.std.specs.List.{list_any}
 use Rattle.ild_data.specs.Data as T
 use Rattle.ild_data.specs.Data.{Data}
 use Rattle.ild_data.specs.Key.{same_text}
-use Rattle.ild_schema.specs.declared.def.TypeDef.{TypeDef}
-use Rattle.ild_schema.specs.declared.def.TypeDef.TheVariants as D
 use Rattle.ild_schema.specs.declared.def.UnitForm.{UnitForm}
 use Rattle.ild_schema.specs.declared.def.UnitForm.TheVariants as U
 use Rattle.ild_schema.specs.declared.def.MapForm.{MapForm}
@@ -13,14 +11,8 @@ use Rattle.ild_schema.specs.declared.def.MapForm.TheVariants as MF
 use Rattle.ild_schema.specs.declared.def.EnumForm.{EnumForm}
 use Rattle.ild_schema.specs.declared.def.EnumMember.{EnumMember}
 use Rattle.ild_typed.specs.Fields.{same_int}
-use Rattle.ild_typed.specs.Kinds.{kind_of}
-use Rattle.ild_schema.specs.DataKinds.{has_kind}
 use Rattle.ild_typed.specs.Composed.{enum_form}
-use Rattle.ild_typed.specs.Why as W
-use Rattle.ild_typed.specs.Why.{Why, in_order, first_that}
 use Rattle.ild_typed.specs.Named.{has_odd_pair, has_odd_count, is_unsplit}
-use Rattle.ild_typed.specs.StructWhy.{struct_kind_why, struct_name_why, struct_missing, struct_count, struct_order, struct_repeat, struct_implicit, struct_delimiter}
-use Rattle.ild_typed.specs.UnionWhy.{union_name, union_missing, union_count, union_prefix, union_member}
 
 -- ---- maps, units and enums
 

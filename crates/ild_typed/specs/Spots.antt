@@ -1,6 +1,6 @@
 -- The parts of a layer in their order, each with the slot that its type gives it and the way to the item in which it stands.
 -- A key is a part too, before its value. A part inside a text, or one that is left out, stands in the item of the whole.
-use Rattle.std.specs.Prelude.{ℕ, ◌+◌, Bool, true, false, cond, codes, List, [], ◌∷◌, ◌++◌, Option, Some, None}
+use Rattle.std.specs.Prelude.{ℕ, ◌+◌, Bool, true, false, cond, List, [], ◌∷◌, Option, Some, None}
 use Rattle.ild_data.specs.Data as T
 use Rattle.ild_data.specs.Data.{Data}
 use Rattle.ild_schema.specs.declared.number.Slot.{Slot}
@@ -21,7 +21,6 @@ use Rattle.ild_schema.specs.Slots.{plainly}
 use Rattle.ild_typed.specs.Slots.{member_of}
 use Rattle.ild_typed.specs.Fields.{is_implicit}
 use Rattle.ild_schema.specs.Marks.{field_text, text_of as mark_text}
-use Rattle.ild_data.specs.Trie as Trie
 use Rattle.std.specs.Prelude.{unwrap_or, option_and_then, slice_get}
 
 -- from an item to one in it

@@ -1,6 +1,6 @@
 -- The laws of causes: data of an accepted type have a layer, or there is a cause why they have none; a tree has a front
 -- that fits, or the walk of it refuses a piece.
-use Rattle.std.specs.Prelude.{◌≡◌, ◌↔◌, ◌⊎◌, ℕ, ◌<◌, length, List, [], ◌∷◌, None, Some}
+use Rattle.std.specs.Prelude.{◌≡◌, ◌↔◌, ◌⊎◌, ℕ, ◌<◌, length, List, None, Some}
 use Rattle.std.specs.List.{AllByRecursion}
 use Rattle.ild_data.specs.Data as T
 use Rattle.ild_data.specs.Data.{Data}
@@ -8,23 +8,16 @@ use Rattle.ild_data.specs.Key.{Rises}
 use Rattle.ild_schema.specs.Delims.{Delims}
 use Rattle.ild_typed.specs.Schema.{IsSchema}
 use Rattle.ild_schema.specs.declared.def.TypeDef.{TypeDef}
-use Rattle.ild_schema.specs.declared.def.TypeDef.TheVariants as D
-use Rattle.ild_schema.specs.declared.def.MapForm.{MapForm}
-use Rattle.ild_schema.specs.declared.def.MapForm.TheVariants as MF
-use Rattle.ild_schema.specs.declared.def.StructForm.{StructForm}
-use Rattle.ild_schema.specs.declared.def.StructForm.TheVariants as S
-use Rattle.ild_schema.specs.declared.def.Field.{Field}
 use Rattle.ild_data.specs.Tree.{IsTree}
 use Rattle.ild_schema.specs.declared.number.Slot.{Slot}
 use Rattle.ild_schema.specs.declared.row.Row.{Row}
-use Rattle.ild_schema.specs.Table.{IsTable, def_at}
 use Rattle.ild_schema.specs.Value.{Value}
 use Rattle.ild_schema.specs.Slots.{form_of}
 use Rattle.ild_typed.specs.Composed.{usual, composed}
 use Rattle.ild_typed.specs.Node.{IsRoot}
 use Rattle.ild_data.specs.Trie as Trie
 use Rattle.ild_typed.specs.Fits.{Front}
-use Rattle.ild_schema.specs.Clear.{IsClear, IsSafe, ClearType, IsGiven}
+use Rattle.ild_schema.specs.Clear.{IsSafe, ClearType}
 use Rattle.ild_typed.specs.Spots.{Spot}
 use Rattle.ild_typed.specs.Pieces.{IsNoRoot}
 use Rattle.ild_typed.specs.Refused.{Refusal, AreParts, Refused}

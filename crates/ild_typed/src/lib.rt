@@ -6,6 +6,7 @@ ghost use Rattle.ild_typed.specs.WhyLaws.{FrontOrRefused, LayerOrWhy, OneRefusal
 ghost use Rattle.ild_typed.specs.Ways.{WaysLead};
 ghost use Rattle.ild_typed.specs.TreeLaws.{BlocksAreNested, FrontsAreTrees, ShownAreTrees, StorableBlocks, ValuesAreTrees};
 ghost use Rattle.ild_typed.specs.AtLaws.{IndicesAreDecimals, ReachesParts};
+ghost use Rattle.ild_typed.specs.JoinLaws.{JoinsAreJoins, PairsArePairs};
 ghost use Rattle.ild_typed.specs.Laws.{InLayersAll, LayersTell, OneFront, OneText, OneWhole, TextsRepresent};
 ghost use Rattle.ild_typed.specs.StandLaws.{BareIsFrame, OneStands, StorableWhere, TreesAreSound, ValuesHaveTrees};
 
@@ -122,4 +123,14 @@ pub fn paths_reach_parts()
 /// A segment is an index exactly where it is the decimal of one.
 pub fn indices_are_decimals()
     ensures { IndicesAreDecimals }
+{}
+
+/// The text that is joined of parts is the one that a split takes apart into them.
+pub fn joins_are_joins()
+    ensures { JoinsAreJoins }
+{}
+
+/// And so of pairs.
+pub fn pairs_are_pairs()
+    ensures { PairsArePairs }
 {}

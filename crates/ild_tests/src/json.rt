@@ -1,6 +1,6 @@
 //! Examples of DAG-JSON: the texts are by hand after its rules, escapes by python3's `json.dumps`, base64 by its `base64`.
-use crate::{JsonErr, PrintErr, print, read};
 use ild_data::{Entries, Tree, Trees, Txt};
+use ild_json::{JsonErr, PrintErr, print, read};
 use std::alloc::Global;
 use std::process::Abort;
 use std::test::Fail;

@@ -1,6 +1,6 @@
 //! The blocks are by python3's cbor2 (`dumps(value, canonical=True)`, with tag 42 for a link).
 use ild_cbor::{Kind, check};
-use ild_data::{CidRef, Int, Octets, Tree};
+use ild_data::{CidRef, Int, Octets, Tree, Txt};
 use ild_emit::Emit;
 use ild_json::{print, read};
 use std::alloc::Global;
@@ -28,20 +28,44 @@ fn block_of(alloc: Global, tree: &Tree) -> Result<Octets, Fail> {
     Ok(emit.finish())
 }
 
+/// The tree of a text, written as a block.
+fn written(alloc: Global, text: &str) -> Result<Octets, Fail> {
+    let tree = read(alloc, text.as_bytes()).ok().ok_or("a json text")?;
+    block_of(alloc, &tree)
+}
+
+/// The tree of a text, printed again.
+fn printed(alloc: Global, text: &str) -> Result<Txt, Fail> {
+    let tree = read(alloc, text.as_bytes()).ok().ok_or("a json text")?;
+    Ok(print(alloc, &tree).ok().ok_or("a text")?)
+}
+
+/// The node of a block, copied into another.
+fn copied(alloc: Global, block: &[u8]) -> Result<Octets, Fail> {
+    let node = check(block).ok().ok_or("a block")?;
+    let mut emit = Emit::new(alloc);
+    emit.node(&node)?;
+    Ok(emit.finish())
+}
+
 #[test]
 fn texts_and_blocks_of_another_tool(rt: HostRuntime) -> Result<(), Fail> {
     for (text, block) in CASES {
-        let tree = read(rt.alloc(), text.as_bytes()).map_err(|_| "a json text")?;
-        let written = block_of(rt.alloc(), &tree)?;
-        assert_eq!(rt; written.as_slice(), block, "the block of {text}");
-        let node = check(block).map_err(|_| "a block")?;
-        assert_eq!(rt; node.spelling(), block, "the node of {text}");
-        let mut emit = Emit::new(rt.alloc());
-        emit.node(&node)?;
-        let copied = emit.finish();
-        assert_eq!(rt; copied.as_slice(), block, "the copied node of {text}");
-        let printed = print(rt.alloc(), &tree).map_err(|_| "a text")?;
-        assert_eq!(rt; printed.as_str().len(), text.len(), "the text of {text}");
+        assert_eq!(rt;
+            written(rt.alloc(), text)?.as_slice(),
+            block,
+            "the block of {text}"
+        );
+        assert_eq!(rt;
+            copied(rt.alloc(), block)?.as_slice(),
+            block,
+            "the copy of {text}"
+        );
+        assert_eq!(rt;
+            printed(rt.alloc(), text)?.as_str().len(),
+            text.len(),
+            "the text of {text}"
+        );
     }
     Ok(())
 }
@@ -67,11 +91,8 @@ fn each_call_of_the_writer(rt: HostRuntime) -> Result<(), Fail> {
 #[test]
 fn links_are_written_and_read(rt: HostRuntime) -> Result<(), Fail> {
     let mut cid = [0; 36];
-    cid[0] = 0x01;
-    cid[1] = 0x71;
-    cid[2] = 0x12;
-    cid[3] = 0x20;
-    let cid = CidRef::read(&cid).map_err(|_| "a CID")?;
+    cid[..4].copy_from_slice(&[0x01, 0x71, 0x12, 0x20]);
+    let cid = CidRef::read(&cid)?;
     let mut emit = Emit::new(rt.alloc());
     emit.link(&cid)?;
     let out = emit.finish();
@@ -80,7 +101,7 @@ fn links_are_written_and_read(rt: HostRuntime) -> Result<(), Fail> {
         &out.as_slice()[..9],
         b"\xd8\x2a\x58\x25\x00\x01\x71\x12\x20".as_slice()
     );
-    let node = check(out.as_slice()).map_err(|_| "a block")?;
+    let node = check(out.as_slice()).ok().ok_or("a block")?;
     assert_eq!(rt; node.kind(), Kind::Link);
     let link = node.link().ok_or("a link")?;
     assert_eq!(rt; link.whole(), cid.whole());

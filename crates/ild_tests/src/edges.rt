@@ -1,6 +1,6 @@
 //! Each call once, and the failing ones by their numbers.
-use crate::{EdgeErr, Inputs, MemInputs, MemSink, MemStore, Sink, Store, Taken};
 use ild_data::{BlockId, Octets, block_id};
+use ild_edges::{EdgeErr, Inputs, MemInputs, MemSink, MemStore, Sink, Store, Taken};
 use std::test::Fail;
 
 /// What a take gives, as a text for a table.

@@ -1,6 +1,6 @@
 //! Blocks that the standards and other encoders give, and the accessors on one that has all kinds in it.
-use crate::fault::CborKind::*;
-use crate::{CborFault, CborKind, Kind, check};
+use ild_cbor::CborKind::*;
+use ild_cbor::{CborFault, CborKind, Kind, Node, check};
 use std::process::Abort;
 use std::test::Fail;
 
@@ -92,41 +92,67 @@ fn lengths_and_depths(rt: HostRuntime) {
     refused(&rt, &link[..40], Link, 0);
 }
 
+/// An entry of a block.
+fn entry<'b>(block: &'b [u8], key: &str) -> Result<Node<'b>, Fail> {
+    let root = check(block).ok().ok_or("a block")?;
+    Ok(root.entry(key).ok_or("an entry")?)
+}
+
+fn number(node: Option<Node<'_>>) -> Option<i128> {
+    Some(node?.int()?.get())
+}
+
 #[test]
-fn parts(rt: HostRuntime) -> Result<(), Fail> {
+fn roots(rt: HostRuntime) -> Result<(), Fail> {
     let root = check(&ALL).ok().ok_or("a block")?;
     assert_eq!(rt; root.kind(), Kind::Map);
     assert_eq!(rt; root.count(), Some(8));
     assert_eq!(rt; root.block().len(), 121);
-    let list = root.entry("l").ok_or("l")?;
+    assert!(rt; root.item(0).is_none());
+    assert!(rt; root.entry("ll").is_none());
+    Ok(())
+}
+
+#[test]
+fn items(rt: HostRuntime) -> Result<(), Fail> {
+    let list = entry(&ALL, "l")?;
     assert_eq!(rt; list.span(), (17, 31));
     assert_eq!(rt; list.count(), Some(7));
     let wanted = [1, 24, 256, 65536, 0x1_0000_0000, 0xffff_ffff_ffff_ffff];
-    for i in 0..6 {
-        let item = list.item(i).ok_or("an item")?;
-        assert_eq!(rt; item.int().map(|n| n.get()), Some(wanted[i as usize]));
+    for (i, want) in (0..).zip(wanted) {
+        assert_eq!(rt; number(list.item(i)), Some(want));
     }
-    assert_eq!(rt; list.item(6).ok_or("false")?.boolean(), Some(false));
     assert!(rt; list.item(7).is_none());
-    assert!(rt; root.item(0).is_none());
-    assert!(rt; root.entry("ll").is_none());
-    assert_eq!(rt; root.entry("t").ok_or("t")?.text(), Some("Größe"));
-    assert_eq!(rt;
-        root.entry("by").ok_or("by")?.bytes(),
-        Some([1, 2].as_slice())
-    );
-    assert_eq!(rt;
-        root.entry("i").ok_or("i")?.int().map(|n| n.get()),
-        Some(-0x8000_0000_0000_0000)
-    );
-    let cid = root.entry("ln").ok_or("ln")?.link().ok_or("a link")?;
+    Ok(())
+}
+
+#[test]
+fn scalars(rt: HostRuntime) -> Result<(), Fail> {
+    let last = entry(&ALL, "l")?.item(6).ok_or("false")?;
+    assert_eq!(rt; last.boolean(), Some(false));
+    assert_eq!(rt; entry(&ALL, "t")?.text(), Some("Größe"));
+    assert_eq!(rt; entry(&ALL, "by")?.bytes(), Some([1, 2].as_slice()));
+    let least = number(Some(entry(&ALL, "i")?));
+    assert_eq!(rt; least, Some(-0x8000_0000_0000_0000));
+    Ok(())
+}
+
+#[test]
+fn spellings(rt: HostRuntime) -> Result<(), Fail> {
+    let cid = entry(&ALL, "ln")?.link().ok_or("a link")?;
     assert_eq!(rt; cid.whole(), &ALL[85..121]);
-    assert_eq!(rt; root.entry("m").ok_or("m")?.spelling(), &ALL[50..58]);
+    assert_eq!(rt; entry(&ALL, "m")?.spelling(), &ALL[50..58]);
+    Ok(())
+}
+
+#[test]
+fn all_parts(rt: HostRuntime) -> Result<(), Fail> {
+    let list = entry(&ALL, "l")?;
     assert_eq!(rt; list.items().ok_or("items")?.count(), 7);
+    let root = check(&ALL).ok().ok_or("a block")?;
     let mut keys = 0;
     for (key, value) in root.entries().ok_or("entries")? {
-        let found = root.entry(key).ok_or("an entry")?;
-        assert_eq!(rt; found.span(), value.span());
+        assert_eq!(rt; entry(&ALL, key)?.span(), value.span());
         keys = key.len().saturating_add(keys);
     }
     assert_eq!(rt; keys, 10);

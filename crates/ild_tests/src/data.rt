@@ -1,5 +1,5 @@
 //! Examples of the format: the texts are by python3 (`base64.b32encode`).
-use crate::{
+use ild_data::{
     BlockId, CidFault, CidRef, Entries, Int, Octets, Path, TextErr, Tree, Trees, Txt, cid_of_text,
     cid_text, key_less,
 };
@@ -185,36 +185,54 @@ fn no_texts(rt: HostRuntime) {
     }
 }
 
-#[test]
-fn trees_hold_what_was_put(rt: HostRuntime) -> Result<(), Fail> {
-    let alloc = rt.alloc();
+/// A map with these numbers put into it, one after another.
+fn numbers(alloc: Global) -> Result<Entries, Fail> {
     let mut entries = Entries::new(alloc);
     for (key, number) in [("aa", 2), ("b", 1), ("aa", 3)] {
         let number = Int::new(number).ok_or("in range")?;
         entries.put(Txt::of(alloc, key)?, Tree::Int(number))?;
     }
-    let mut trees = Trees::new(alloc);
-    trees.push(Tree::Bytes(Octets::of(alloc, b"\x01")?))?;
-    trees.push(Tree::Map(entries))?;
+    Ok(entries)
+}
+
+fn number_at(map: &Entries, at: usize) -> Option<(&str, i128)> {
+    match map.get(at) {
+        Some((key, Tree::Int(number))) => Some((key.as_str(), number.get())),
+        _ => None,
+    }
+}
+
+#[test]
+fn entries_hold_what_was_put(rt: HostRuntime) -> Result<(), Fail> {
+    let map = numbers(rt.alloc())?;
+    assert_eq!(rt; map.len(), 2);
+    for (at, want) in [(0, Some(("b", 1))), (1, Some(("aa", 3))), (2, None)] {
+        assert_eq!(rt; number_at(&map, at), want);
+    }
+    Ok(())
+}
+
+#[test]
+fn copies_hold_the_same(rt: HostRuntime) -> Result<(), Fail> {
+    let mut trees = Trees::new(rt.alloc());
+    trees.push(Tree::Null)?;
+    trees.push(Tree::Map(numbers(rt.alloc())?))?;
     let copy = Tree::List(trees).copy()?;
     let Tree::List(items) = &copy else {
         return Err("a list")?;
     };
-    assert_eq!(rt; items.len(), 2);
     let Some(Tree::Map(map)) = items.get(1) else {
         return Err("a map")?;
     };
-    assert_eq!(rt; map.len(), 2);
-    for (at, key, number) in [(0, "b", 1), (1, "aa", 3)] {
-        let Some((held, Tree::Int(found))) = map.get(at) else {
-            return Err("an entry")?;
-        };
-        assert_eq!(rt; held.as_str(), key);
-        assert_eq!(rt; found.get(), number);
-    }
-    assert!(rt; map.get(2).is_none());
-    let mut path = Path::new(alloc);
-    path.push(Txt::of(alloc, "b")?)?;
+    assert_eq!(rt; items.len(), 2);
+    assert_eq!(rt; number_at(map, 1), Some(("aa", 3)));
+    Ok(())
+}
+
+#[test]
+fn paths_hold_segments(rt: HostRuntime) -> Result<(), Fail> {
+    let mut path = Path::new(rt.alloc());
+    path.push(Txt::of(rt.alloc(), "b")?)?;
     assert_eq!(rt; path.get(0).map(|s| s.as_str()), Some("b"));
     Ok(())
 }
