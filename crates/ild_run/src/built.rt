@@ -2,7 +2,7 @@
 ghost use Rattle.std.specs.Prelude.{◌≡◌};
 ghost use Rattle.ild_run.specs.Built.{is_plain_map, is_built};
 
-use ild_schema::{MapForm, Schema, TypeDef, TypeNo};
+use ild_schema::{Accepted, MapForm, TypeDef, TypeNo};
 
 /// Whether a type is a plain map from `String`, type 7, to `Int`, type 3, without null.
 fn is_plain_map(def: &TypeDef) -> bool
@@ -20,7 +20,7 @@ fn is_plain_map(def: &TypeDef) -> bool
 }
 
 /// Whether the one type that a schema declares is `N`, a plain map from texts to integers.
-pub fn is_built(schema: &Schema) -> bool
+pub fn is_built(schema: &Accepted) -> bool
     ensures { result ≡ is_built schema.now }
 {
     if schema.types() != 9 {

@@ -9,7 +9,7 @@ use ild_compile::{CompileErr, compile};
 use ild_data::Octets;
 use ild_edges::{EdgeErr, Inputs, Store, Taken};
 use ild_plain::PlainMap;
-use ild_schema::Schema;
+use ild_schema::Accepted;
 use ild_session::{PutFault, publish};
 use std::alloc::Global;
 
@@ -63,7 +63,7 @@ fn take_input<I: Inputs>(inputs: &mut I, role: Role, name: &str) -> Result<Octet
 }
 
 /// The table of types of a schema.
-fn table_of(alloc: Global, bytes: &[u8]) -> Result<Schema, Fault>
+fn table_of(alloc: Global, bytes: &[u8]) -> Result<Accepted, Fault>
     ensures { CompileAnswer bytes.now result }
 {
     match compile(alloc, bytes) {

@@ -5,6 +5,8 @@
 #![tactic(auto)]
 
 #[cfg(test)]
+mod acceptance;
+#[cfg(test)]
 mod blocks;
 #[cfg(test)]
 mod cbor;
