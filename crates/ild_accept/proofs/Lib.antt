@@ -6,6 +6,7 @@ mod Hexing
 mod Failings
 mod Stepwise
 mod Searches
+mod Ranking
 mod Telling
 mod Among
 mod Texts

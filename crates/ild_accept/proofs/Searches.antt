@@ -1,7 +1,7 @@
 -- Searches for types that are represented as themselves.
 use Rattle.std.proofs.Common.{◌≡◌, ℕ, zero, suc, ◌+◌, ◌<◌, ◌≤◌, ◌⊎◌, inl, inr, Bool, true, false, ◌&&◌, ◌||◌, List, [], ◌∷◌, ◌++◌, length, length-append, get_or, set, replicate, refl, sym, ap, ◌∙◌, subst, arith}
 use Rattle.std.specs.Prelude.{◌==◌}
-use Rattle.std.specs.List.{Contains, list_all, list_any}
+use Rattle.std.specs.List.{Contains, list_any}
 use Rattle.std.specs.Bool.{MatchBool}
 use Rattle.std.proofs.lemmas.Bool.{cases_eq, eqb-true, eq-eqb, false≢true}
 use Rattle.std.proofs.lemmas.List.{get_or-set_other, get_or-set_same, get_or_default, length-set}
@@ -9,7 +9,7 @@ use Rattle.std.proofs.lemmas.List.Sums.{sum_by-set}
 use Rattle.std.proofs.lemmas.List.Folds.{list_any-append}
 use Rattle.ild_schema.specs.declared.row.Row.{Row}
 use Rattle.ild_schema.specs.Cycles.{steps_at, Reaches, IsCyclic, NoneIsCyclic}
-use Rattle.ild_accept.specs.Search.{is_marked, Has, Waits, AreDone, one_if_unseen, unseen_count, Grown, Pushed, Searching}
+use Rattle.ild_accept.specs.Search.{is_marked, Has, Waits, one_if_unseen, unseen_count, Grown, Pushed, Searching}
 use Rattle.ild_accept.proofs.Stepwise.{reach_more, cyclic_within}
 
 -- ---- marks
@@ -46,40 +46,11 @@ or_second : (a b : Bool) → b ≡ true → a || b ≡ true
 or_second true b h = refl
 or_second false b h = h
 
-all_at : (marks : List Bool) (xs : List ℕ) (k t : ℕ) → list_all (is_marked marks) xs ≡ true → k < length xs → get_or xs k t ≡ t → Has marks t
-all_at marks [] k t h within e = absurd (omega arith)
-all_at marks (x ∷ xs) zero t h within e = ap (is_marked marks) (sym e) ∙ and_first (is_marked marks x) (list_all (is_marked marks) xs) h
-all_at marks (x ∷ xs) (suc k) t h within e = all_at marks xs k t (and_second (is_marked marks x) (list_all (is_marked marks) xs) h) (omega arith) e
-
--- ---- passed types
+-- ---- closed marks
 
 reach_done : (rows : List Row) (done : List Bool) → ((n t : ℕ) → Has done n → Contains (steps_at rows n) t → Has done t) → (k n m : ℕ) → Has done n → Reaches rows k n m → Has done m
 reach_done rows done closed zero n m h r = subst (Has done) r h
 reach_done rows done closed (suc k) n m h r = reach_done rows done closed k r.0 m (closed n r.0 h r.1) r.2
-
-pub none_done : (rows : List Row) (done : List Bool) → ((n : ℕ) → Has done n → ⊥) → AreDone rows done
-none_done rows done none = record {
-  closed = λ n t h c. absurd (none n h);
-  none = λ n h c. none n h;
-}
-
-pub one_done : (rows : List Row) (done : List Bool) (n : ℕ) (steps : List ℕ) → AreDone rows done → steps ≡ steps_at rows n → n < length done → list_all (is_marked done) steps ≡ true → AreDone rows (set done n true)
-one_done rows done n steps old same within all = record {
-  closed = λ m t h c. has_more done n t within (elim (cases_eq m n) [
-    | inl here ↦ leads t (let P : ℕ → Type 0 = λ i. Contains (steps_at rows i) t in subst P here c)
-    | inr other ↦ old.closed m t (sym (has_there done n m other) ∙ h) c
-  ]);
-  none = λ m h c. elim (cases_eq m n) [
-    | inl here ↦ let P : ℕ → Type 0 = λ i. IsCyclic rows i in alone (subst P here c)
-    | inr other ↦ old.none m (sym (has_there done n m other) ∙ h) c
-  ];
-}
-  where
-    leads : (t : ℕ) → Contains (steps_at rows n) t → Has done t
-    leads t c = let P : List ℕ → Type 0 = λ xs. Contains xs t in let d : Contains steps t = subst P (sym same) c in all_at done steps d.0 t all d.1 d.2
-
-    alone : IsCyclic rows n → ⊥
-    alone c = old.none n (reach_done rows done old.closed c.0 c.1.0 n (leads c.1.0 c.1.1) c.1.2) c
 
 -- ---- types that wait
 

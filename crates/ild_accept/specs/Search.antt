@@ -1,8 +1,8 @@
 -- Searches for types that are represented as themselves.
-use Rattle.std.specs.Prelude.{◌≡◌, ◌⊎◌, ℕ, suc, ◌+◌, ◌==◌, Bool, true, false, List, length, slice_index_or, sum_by, Contains}
+use Rattle.std.specs.Prelude.{◌≡◌, ◌⊎◌, ℕ, suc, ◌+◌, ◌<◌, ◌≤◌, ◌==◌, Bool, true, false, List, length, slice_index_or, sum_by, Contains}
 use Rattle.std.specs.List.{list_any}
 use Rattle.ild_schema.specs.declared.row.Row.{Row}
-use Rattle.ild_schema.specs.Cycles.{steps_at, IsCyclic, Reaches}
+use Rattle.ild_schema.specs.Cycles.{steps_at, Reaches}
 
 -- whether a type is marked. What is past the table isn't
 abbrev pub is_marked : List Bool → ℕ → Bool
@@ -15,10 +15,17 @@ Has marks n = is_marked marks n ≡ true
 abbrev pub Waits : List ℕ → ℕ → Type 0
 Waits stack n = list_any (λ s. s == n) stack ≡ true
 
--- types of which none is represented as itself: each leads to such types alone
-pub record AreDone (rows : List Row) (done : List Bool) : Type 0 where
-  pub closed : (n t : ℕ) → Has done n → Contains (steps_at rows n) t → Has done t
-  pub none : (n : ℕ) → Has done n → IsCyclic rows n → ⊥
+-- the rank of a type. What is past the table has the lowest
+abbrev pub rank_of : List ℕ → ℕ → ℕ
+rank_of ranks n = slice_index_or ranks n 0
+
+-- no step leads to a higher rank
+abbrev pub AreRanked : List Row → List ℕ → Type 0
+AreRanked rows ranks = (n t : ℕ) → Contains (steps_at rows n) t → rank_of ranks t ≤ rank_of ranks n
+
+-- each step from a type leads to a lower rank, so that it isn't represented as itself where no step leads to a higher one
+abbrev pub IsLow : List Row → List ℕ → ℕ → Type 0
+IsLow rows ranks n = (t : ℕ) → Contains (steps_at rows n) t → rank_of ranks t < rank_of ranks n
 
 abbrev pub one_if_unseen : Bool → ℕ
 one_if_unseen true = 0

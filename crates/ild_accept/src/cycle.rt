@@ -1,10 +1,11 @@
-//! The rule on cycles: no type is represented as itself. Types that lead to none but such as were passed before are
-//! passed first, in a time that grows as the table, and a search starts from each that is left.
-ghost use Rattle.std.specs.Prelude.{◌≡◌, ◌<◌, All, Contains, IfOk, IfSome, MatchBool, MatchOption, OnOk, false, length, replicate, true, ℕ};
+//! The rule on cycles: no type is represented as itself. Types are given ranks, in a time that grows as the table; a type
+//! that leads to lower ranks alone isn't represented as itself, and a search starts from the first other one.
+ghost use Rattle.std.specs.Prelude.{◌≡◌, ◌<◌, All, Contains, IfOk, IfSome, MatchBool, MatchOption, OnOk, false, length, nat_lt, replicate, true, ℕ};
 ghost use Rattle.std.specs.List.{list_all};
 ghost use Rattle.ild_schema.specs.Cycles.{FirstIsCyclic, IsCyclic, NoneIsCyclic, steps_at, steps_of, struct_steps, union_steps};
-ghost use Rattle.ild_accept.specs.Search.{AreDone, Grown, Pushed, is_marked};
+ghost use Rattle.ild_accept.specs.Search.{AreRanked, Grown, IsLow, Pushed, is_marked, rank_of};
 
+use crate::rank::{rank_of, ranks_of};
 use ild_schema::{Schema, StructDef, StructForm, TypeDef, TypeNo, UnionDef, UnionForm};
 use std::alloc::{AllocError, Global};
 
@@ -44,7 +45,7 @@ fn steps_of(alloc: Global, def: &TypeDef) -> Result<Vec<u32>, AllocError>
 }
 
 /// The steps of a type, or none where it isn't in the table.
-fn steps_at(alloc: Global, schema: &Schema, ty: TypeNo) -> Result<Vec<u32>, AllocError>
+pub(crate) fn steps_at(alloc: Global, schema: &Schema, ty: TypeNo) -> Result<Vec<u32>, AllocError>
     ensures same { IfOk result (λ steps. steps.items ≡ steps_at schema.now ty.0) }
     ensures within { IfOk result (λ steps. All (λ t. t < length schema.now) steps.items) }
 {
@@ -53,30 +54,6 @@ fn steps_at(alloc: Global, schema: &Schema, ty: TypeNo) -> Result<Vec<u32>, Allo
         Ok(steps)
     } else {
         Ok(Vec::new(alloc))
-    }
-}
-
-/// Whether a type is marked.
-fn is_marked(marks: &[bool], n: u32) -> bool
-    ensures { result ≡ is_marked marks.now n }
-{
-    (n as usize) < marks.len() && marks[n as usize]
-}
-
-fn all_marked(marks: &[bool], types: &[u32]) -> bool
-    ensures { result ≡ list_all (is_marked marks.now) types.now }
-{
-    types.iter().all(|t| is_marked(marks, *t))
-}
-
-/// Passes a type, where it leads to none but types that were passed.
-fn finish(schema: &Schema, done: &mut Vec<bool>, n: u32, steps: &[u32])
-    requires done { AreDone schema.now done.old.items }
-    requires steps { steps.now ≡ steps_at schema.now n }
-    ensures { AreDone schema.now done.new.items }
-{
-    if (n as usize) < done.len() && all_marked(done, steps) {
-        done[n as usize] = true;
     }
 }
 
@@ -127,87 +104,68 @@ fn reaches_itself(alloc: Global, schema: &Schema, from: TypeNo) -> Result<bool, 
     Ok(seen[from.0 as usize])
 }
 
-/// Marks a type, and puts it below those to which it leads.
-fn meet(
-    met: &mut Vec<bool>,
-    stack: &mut Vec<u32>,
-    n: u32,
-    steps: &[u32],
-) -> Result<(), AllocError> {
-    if (n as usize) < met.len() {
-        met[n as usize] = true;
-    }
-    stack.push(n)?;
-    for t in steps {
-        if !is_marked(met, *t) {
-            stack.push(*t)?;
-        }
-    }
-    Ok(())
+fn is_lower(ranks: &[u32], t: u32, rank: u32) -> bool
+    ensures { result ≡ nat_lt (rank_of ranks.now t) rank }
+{
+    rank_of(ranks, t) < rank
 }
 
-/// Passes types from one on, as far as its steps lead. The second time that a type is met, those behind it were met.
-fn peel_from(
+/// Whether types have lower ranks than this one.
+fn are_lower(ranks: &[u32], types: &[u32], rank: u32) -> bool
+    ensures { result ≡ list_all (λ t. nat_lt (rank_of ranks.now t) rank) types.now }
+{
+    types.iter().all(|t| is_lower(ranks, *t, rank))
+}
+
+/// Whether each step from a type leads to a lower rank.
+fn is_low(alloc: Global, schema: &Schema, ranks: &[u32], n: u32) -> Result<bool, AllocError>
+    ensures { IfOk result (λ b. b ≡ true → IsLow schema.now ranks.now n) }
+{
+    let steps = steps_at(alloc, schema, TypeNo(n))?;
+    Ok(are_lower(ranks, &steps, rank_of(ranks, n)))
+}
+
+/// Whether no step leads to a higher rank.
+fn are_ranked(alloc: Global, schema: &Schema, ranks: &[u32]) -> Result<bool, AllocError>
+    ensures { IfOk result (λ b. b ≡ true → AreRanked schema.now ranks.now) }
+{
+    for n in 0..schema.types() {
+        let steps = steps_at(alloc, schema, TypeNo(n))?;
+        if !are_lower(ranks, &steps, rank_of(ranks, n).saturating_add(1)) {
+            return Ok(false);
+        }
+    }
+    Ok(true)
+}
+
+/// Whether a type reaches itself. One search tells; where the ranks are good, only a type that does is searched from.
+fn is_cyclic(
     alloc: Global,
     schema: &Schema,
-    done: &mut Vec<bool>,
-    met: &mut Vec<bool>,
-    from: u32,
-) -> Result<(), AllocError>
-    requires { AreDone schema.now done.old.items }
-    ensures { OnOk result (AreDone schema.now done.new.items) }
-{
-    let mut stack = vec![in alloc; from]?;
-    for _ in 0..u64::MAX {
-        let n = match stack.pop() {
-            None => return Ok(()),
-            Some(n) => n,
-        };
-        if is_marked(done, n) {
-            continue;
-        }
-        let steps = steps_at(alloc, schema, TypeNo(n))?;
-        if is_marked(met, n) {
-            finish(schema, done, n, &steps);
-        } else {
-            meet(met, &mut stack, n, &steps)?;
-        }
-    }
-    Ok(())
-}
-
-/// The types that are passed, none of which reaches itself.
-fn peel(alloc: Global, schema: &Schema) -> Result<Vec<bool>, AllocError>
-    ensures { IfOk result (λ done. AreDone schema.now done.items) }
-{
-    let mut done = unmarked(alloc, schema)?;
-    let mut met = unmarked(alloc, schema)?;
-    for n in 0..schema.types() {
-        peel_from(alloc, schema, &mut done, &mut met, n)?;
-    }
-    Ok(done)
-}
-
-/// Whether a type reaches itself, where some were passed.
-fn is_cyclic(alloc: Global, schema: &Schema, done: &[bool], n: u32) -> Result<bool, AllocError>
+    ranks: &[u32],
+    ranked: bool,
+    n: u32,
+) -> Result<bool, AllocError>
     requires within { n < length schema.now }
-    requires done { AreDone schema.now done.now }
+    requires ranked { ranked ≡ true → AreRanked schema.now ranks.now }
     ensures { IfOk result (λ b. MatchBool b (IsCyclic schema.now n) (IsCyclic schema.now n → ⊥)) }
 {
-    if is_marked(done, n) {
-        Ok(false)
-    } else {
-        reaches_itself(alloc, schema, TypeNo(n))
+    if ranked {
+        if is_low(alloc, schema, ranks, n)? {
+            return Ok(false);
+        }
     }
+    reaches_itself(alloc, schema, TypeNo(n))
 }
 
 /// The first type that is represented as itself, if there is one.
 pub(crate) fn first_cyclic(alloc: Global, schema: &Schema) -> Result<Option<TypeNo>, AllocError>
     ensures { IfOk result (λ found. MatchOption found (NoneIsCyclic schema.now) (λ ty. (ty.0 < length schema.now) × FirstIsCyclic schema.now ty.0)) }
 {
-    let done = peel(alloc, schema)?;
+    let ranks = ranks_of(alloc, schema)?;
+    let ranked = are_ranked(alloc, schema, &ranks)?;
     for n in 0..schema.types() {
-        if is_cyclic(alloc, schema, &done, n)? {
+        if is_cyclic(alloc, schema, &ranks, ranked, n)? {
             return Ok(Some(TypeNo(n)));
         }
     }

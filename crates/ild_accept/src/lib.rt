@@ -13,6 +13,7 @@ mod kinds;
 mod laws;
 mod part;
 mod prefix;
+mod rank;
 mod seen;
 mod strategy;
 mod table;

@@ -232,7 +232,17 @@ chosen_mark false k more s r e = e
 
 kinds_is : (s : Stream) → done {A = Option Mark × Stream} (kind_mark (kind_of s) s) ≡ kinds s
 unfolding kind_of kinds
-kinds_is s = chosen_mark (next_is (codes "null") s) KV.Null _ s _ (chosen_mark (next_is (codes "bool") s) KV.Bool _ s _ (chosen_mark (next_is (codes "int") s) KV.Int _ s _ (chosen_mark (next_is (codes "float") s) (KV.Float (place s)) _ s _ (chosen_mark (next_is (codes "string") s) KV.String _ s _ (chosen_mark (next_is (codes "bytes") s) KV.Bytes _ s _ (chosen_mark (next_is (codes "list") s) KV.List _ s _ (chosen_mark (next_is (codes "map") s) KV.Map _ s _ (chosen_mark (next_is (codes "link") s) KV.Link _ s _ (refl)))))))))
+kinds_is s =
+    chosen_mark (next_is (codes "null") s) KV.Null _ s _
+    (chosen_mark (next_is (codes "bool") s) KV.Bool _ s _
+    (chosen_mark (next_is (codes "int") s) KV.Int _ s _
+    (chosen_mark (next_is (codes "float") s) (KV.Float (place s)) _ s _
+    (chosen_mark (next_is (codes "string") s) KV.String _ s _
+    (chosen_mark (next_is (codes "bytes") s) KV.Bytes _ s _
+    (chosen_mark (next_is (codes "list") s) KV.List _ s _
+    (chosen_mark (next_is (codes "map") s) KV.Map _ s _
+    (chosen_mark (next_is (codes "link") s) KV.Link _ s _
+    refl))))))))
 
 marks : Stream → Result (Option Mark × Stream) ℕ
 marks s = cond (is_text s.signs) (text_at s >>= (λ t. Ok (Some (MV.Text t.0), t.1))) (kinds s)

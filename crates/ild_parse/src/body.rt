@@ -1,72 +1,15 @@
 //! Bodies of types.
 ghost use Rattle.ild_parse.specs.Seen.{stream_of};
-ghost use Rattle.ild_grammar.proofs.Stream.{most};
 ghost use Rattle.ild_parse.specs.Seen.{Gives};
-ghost use Rattle.ild_grammar.proofs.Read.{many_at};
-ghost use Rattle.ild_grammar.proofs.Part.{field_at, member_at, enum_member_at};
-ghost use Rattle.ild_grammar.proofs.Grammar.{closes, braced_at, map_at, struct_at, union_at, enum_at, unit_at, list_at, scalar_at, body_at};
+ghost use Rattle.ild_grammar.proofs.Grammar.{map_at, struct_at, union_at, enum_at, unit_at, list_at, scalar_at, body_at};
 
-use crate::form::{
-    needed_union_form, needed_unit_form, optional_enum_form, optional_map_form,
-    optional_struct_form,
-};
 use crate::input::Input;
 use crate::nested::read_ref;
-use crate::part::{DEEPEST, read_enum_member, read_field, read_member};
+use crate::part::DEEPEST;
+use crate::rule::{braced, needed_form, optional_form};
 use crate::terminal::read_type_name;
-use crate::{
-    Body, EnumBody, EnumMember, Field, List, MapBody, Member, ParseErr, StructBody, UnionBody,
-    UnitForm,
-};
+use crate::{Body, EnumBody, MapBody, ParseErr, StructBody, UnionBody, UnitForm};
 use std::alloc::Global;
-
-fn fields(alloc: Global, input: Input<'_>) -> Result<(List<Field>, Input<'_>), ParseErr>
-    ensures { Gives (λ x. (x.0, stream_of x.1)) result (many_at field_at closes (most (stream_of input.entry)) (stream_of input.entry)) }
-{
-    let mut parts = Vec::new(alloc);
-    let mut rest = input;
-    for _ in 0..input.most() {
-        if rest.is("}") {
-            return Ok((List::from_vec(parts), rest));
-        }
-        let (part, after) = read_field(alloc, rest)?;
-        parts.push(part)?;
-        rest = after;
-    }
-    Err(rest.fault())
-}
-
-fn members(alloc: Global, input: Input<'_>) -> Result<(List<Member>, Input<'_>), ParseErr>
-    ensures { Gives (λ x. (x.0, stream_of x.1)) result (many_at member_at closes (most (stream_of input.entry)) (stream_of input.entry)) }
-{
-    let mut parts = Vec::new(alloc);
-    let mut rest = input;
-    for _ in 0..input.most() {
-        if rest.is("}") {
-            return Ok((List::from_vec(parts), rest));
-        }
-        let (part, after) = read_member(alloc, rest)?;
-        parts.push(part)?;
-        rest = after;
-    }
-    Err(rest.fault())
-}
-
-fn enum_members(alloc: Global, input: Input<'_>) -> Result<(List<EnumMember>, Input<'_>), ParseErr>
-    ensures { Gives (λ x. (x.0, stream_of x.1)) result (many_at enum_member_at closes (most (stream_of input.entry)) (stream_of input.entry)) }
-{
-    let mut parts = Vec::new(alloc);
-    let mut rest = input;
-    for _ in 0..input.most() {
-        if rest.is("}") {
-            return Ok((List::from_vec(parts), rest));
-        }
-        let (part, after) = read_enum_member(alloc, rest)?;
-        parts.push(part)?;
-        rest = after;
-    }
-    Err(rest.fault())
-}
 
 /// map = "{" Type ":" ref "}" [ "representation" form ]
 #[tactic(auto, unfolding(ild_grammar::proofs::Grammar::map_at))]
@@ -78,41 +21,8 @@ fn read_map_body(alloc: Global, input: Input<'_>) -> Result<(MapBody, Input<'_>)
     let input = input.after(":")?;
     let (value, input) = read_ref(alloc, DEEPEST, input)?;
     let input = input.after("}")?;
-    let (form, input) = optional_map_form(alloc, input)?;
+    let (form, input) = optional_form(alloc, input)?;
     Ok((MapBody { key, value, form }, input))
-}
-
-#[tactic(auto, unfolding(ild_grammar::proofs::Grammar::braced_at))]
-fn braced_fields(alloc: Global, input: Input<'_>) -> Result<(List<Field>, Input<'_>), ParseErr>
-    ensures { Gives (λ x. (x.0, stream_of x.1)) result (braced_at field_at (stream_of input.entry)) }
-{
-    let input = input.after("{")?;
-    let (parts, input) = fields(alloc, input)?;
-    let input = input.after("}")?;
-    Ok((parts, input))
-}
-
-#[tactic(auto, unfolding(ild_grammar::proofs::Grammar::braced_at))]
-fn braced_members(alloc: Global, input: Input<'_>) -> Result<(List<Member>, Input<'_>), ParseErr>
-    ensures { Gives (λ x. (x.0, stream_of x.1)) result (braced_at member_at (stream_of input.entry)) }
-{
-    let input = input.after("{")?;
-    let (parts, input) = members(alloc, input)?;
-    let input = input.after("}")?;
-    Ok((parts, input))
-}
-
-#[tactic(auto, unfolding(ild_grammar::proofs::Grammar::braced_at))]
-fn braced_enum_members(
-    alloc: Global,
-    input: Input<'_>,
-) -> Result<(List<EnumMember>, Input<'_>), ParseErr>
-    ensures { Gives (λ x. (x.0, stream_of x.1)) result (braced_at enum_member_at (stream_of input.entry)) }
-{
-    let input = input.after("{")?;
-    let (parts, input) = enum_members(alloc, input)?;
-    let input = input.after("}")?;
-    Ok((parts, input))
 }
 
 #[tactic(auto, unfolding(ild_grammar::proofs::Grammar::struct_at))]
@@ -120,8 +30,8 @@ fn read_struct(alloc: Global, input: Input<'_>) -> Result<(StructBody, Input<'_>
     ensures { Gives (λ x. (x.0, stream_of x.1)) result (struct_at (stream_of input.entry)) }
 {
     let input = input.after("struct")?;
-    let (fields, input) = braced_fields(alloc, input)?;
-    let (form, input) = optional_struct_form(alloc, input)?;
+    let (fields, input) = braced(alloc, input)?;
+    let (form, input) = optional_form(alloc, input)?;
     Ok((StructBody { fields, form }, input))
 }
 
@@ -130,8 +40,8 @@ fn read_union(alloc: Global, input: Input<'_>) -> Result<(UnionBody, Input<'_>),
     ensures { Gives (λ x. (x.0, stream_of x.1)) result (union_at (stream_of input.entry)) }
 {
     let input = input.after("union")?;
-    let (members, input) = braced_members(alloc, input)?;
-    let (form, input) = needed_union_form(alloc, input)?;
+    let (members, input) = braced(alloc, input)?;
+    let (form, input) = needed_form(alloc, input)?;
     Ok((UnionBody { members, form }, input))
 }
 
@@ -140,17 +50,17 @@ fn read_enum(alloc: Global, input: Input<'_>) -> Result<(EnumBody, Input<'_>), P
     ensures { Gives (λ x. (x.0, stream_of x.1)) result (enum_at (stream_of input.entry)) }
 {
     let input = input.after("enum")?;
-    let (members, input) = braced_enum_members(alloc, input)?;
-    let (form, input) = optional_enum_form(input)?;
+    let (members, input) = braced(alloc, input)?;
+    let (form, input) = optional_form(alloc, input)?;
     Ok((EnumBody { members, form }, input))
 }
 
 #[tactic(auto, unfolding(ild_grammar::proofs::Grammar::unit_at))]
-fn read_unit(input: Input<'_>) -> Result<(UnitForm, Input<'_>), ParseErr>
+fn read_unit(alloc: Global, input: Input<'_>) -> Result<(UnitForm, Input<'_>), ParseErr>
     ensures { Gives (λ x. (x.0, stream_of x.1)) result (unit_at (stream_of input.entry)) }
 {
     let input = input.after("unit")?;
-    needed_unit_form(input)
+    needed_form(alloc, input)
 }
 
 #[tactic(auto, unfolding(ild_grammar::proofs::Grammar::list_at))]
@@ -221,7 +131,7 @@ pub(crate) fn read_body(alloc: Global, input: Input<'_>) -> Result<(Body, Input<
         return Ok((Body::Enum(body), input));
     }
     if input.is("unit") {
-        let (form, input) = read_unit(input)?;
+        let (form, input) = read_unit(alloc, input)?;
         return Ok((Body::Unit(form), input));
     }
     read_scalar(input)

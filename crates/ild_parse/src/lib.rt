@@ -7,6 +7,7 @@ mod form;
 mod input;
 mod nested;
 mod part;
+mod rule;
 mod schema;
 mod setting;
 mod terminal;

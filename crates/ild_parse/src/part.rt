@@ -6,6 +6,7 @@ ghost use Rattle.ild_grammar.proofs.Part.{implicit_at, rename_opt_at, implicit_o
 
 use crate::input::Input;
 use crate::nested::read_ref;
+use crate::rule::Rule;
 use crate::terminal::{read_name, read_number, read_text, read_type_name};
 use crate::{
     EnumMember, Field, Implicit, KindWord, List, Mark, Member, Opt, ParseErr, Target, Text,
@@ -107,21 +108,23 @@ fn read_opts(alloc: Global, input: Input<'_>) -> Result<(List<Opt>, Input<'_>), 
     more_opts(alloc, first, input)
 }
 
-#[tactic(auto, unfolding(ild_grammar::proofs::Part::field_at))]
-pub(crate) fn read_field(alloc: Global, input: Input<'_>) -> Result<(Field, Input<'_>), ParseErr>
-    ensures { Gives (λ x. (x.0, stream_of x.1)) result (field_at (stream_of input.entry)) }
-{
-    let (name, input) = read_name(alloc, input)?;
-    let optional = input.is("optional");
-    let (value, input) = read_ref(alloc, DEEPEST, input.behind("optional"))?;
-    let (opts, input) = read_opts(alloc, input)?;
-    let field = Field {
-        name,
-        optional,
-        value,
-        opts,
-    };
-    Ok((field, input))
+impl Rule for Field {
+    ghost reading = { field_at };
+
+    #[tactic(auto, unfolding(ild_grammar::proofs::Part::field_at))]
+    fn read<'s>(alloc: Global, input: Input<'s>) -> Result<(Field, Input<'s>), ParseErr> {
+        let (name, input) = read_name(alloc, input)?;
+        let optional = input.is("optional");
+        let (value, input) = read_ref(alloc, DEEPEST, input.behind("optional"))?;
+        let (opts, input) = read_opts(alloc, input)?;
+        let field = Field {
+            name,
+            optional,
+            value,
+            opts,
+        };
+        Ok((field, input))
+    }
 }
 
 #[tactic(auto, unfolding(ild_grammar::proofs::Part::target_at))]
@@ -184,15 +187,17 @@ fn read_mark(alloc: Global, input: Input<'_>) -> Result<(Option<Mark>, Input<'_>
     }
 }
 
-#[tactic(auto, unfolding(ild_grammar::proofs::Part::member_at))]
-pub(crate) fn read_member(alloc: Global, input: Input<'_>) -> Result<(Member, Input<'_>), ParseErr>
-    ensures { Gives (λ x. (x.0, stream_of x.1)) result (member_at (stream_of input.entry)) }
-{
-    let input = input.after("|")?;
-    let at = input.place();
-    let (target, input) = read_target(alloc, input)?;
-    let (mark, input) = read_mark(alloc, input)?;
-    Ok((Member { at, target, mark }, input))
+impl Rule for Member {
+    ghost reading = { member_at };
+
+    #[tactic(auto, unfolding(ild_grammar::proofs::Part::member_at))]
+    fn read<'s>(alloc: Global, input: Input<'s>) -> Result<(Member, Input<'s>), ParseErr> {
+        let input = input.after("|")?;
+        let at = input.place();
+        let (target, input) = read_target(alloc, input)?;
+        let (mark, input) = read_mark(alloc, input)?;
+        Ok((Member { at, target, mark }, input))
+    }
 }
 
 #[tactic(auto, unfolding(ild_grammar::proofs::Part::quoted_at))]
@@ -207,15 +212,14 @@ fn read_quoted(alloc: Global, input: Input<'_>) -> Result<(Option<Text>, Input<'
     Ok((Some(text), input))
 }
 
-#[tactic(auto, unfolding(ild_grammar::proofs::Part::enum_member_at))]
-pub(crate) fn read_enum_member(
-    alloc: Global,
-    input: Input<'_>,
-) -> Result<(EnumMember, Input<'_>), ParseErr>
-    ensures { Gives (λ x. (x.0, stream_of x.1)) result (enum_member_at (stream_of input.entry)) }
-{
-    let input = input.after("|")?;
-    let (name, input) = read_name(alloc, input)?;
-    let (text, input) = read_quoted(alloc, input)?;
-    Ok((EnumMember { name, text }, input))
+impl Rule for EnumMember {
+    ghost reading = { enum_member_at };
+
+    #[tactic(auto, unfolding(ild_grammar::proofs::Part::enum_member_at))]
+    fn read<'s>(alloc: Global, input: Input<'s>) -> Result<(EnumMember, Input<'s>), ParseErr> {
+        let input = input.after("|")?;
+        let (name, input) = read_name(alloc, input)?;
+        let (text, input) = read_quoted(alloc, input)?;
+        Ok((EnumMember { name, text }, input))
+    }
 }

@@ -133,7 +133,7 @@ fn type_def(def: &TypeDef)
 }
 
 /// The texts of rows are UTF-8, and their integers those of blocks. A caller that needs the fact makes this call, which
-/// reads each text's length at most.
+/// only reads.
 pub fn texts_of(rows: &[Row])
     ensures { HasTexts rows.now }
 {

@@ -1,5 +1,5 @@
 //! Schemas and their first faults, the tables of schemas, and the limits. All places were counted in the texts.
-use ild_compile::{CompileErr, Flaw, SchemaFault, compile};
+use ild_compile::{CompileErr, Flaw, SchemaFault, table_of};
 use ild_schema::{Schema, TypeNo};
 use std::alloc::{AllocError, Global};
 use std::fmt::Write;

@@ -320,15 +320,13 @@ const OPEN: [&str; 6] = [
 ];
 
 /// Schemas with a table that scripts aren't run under.
-const NOT_BUILT: [&str; 14] = [
+const NOT_BUILT: [&str; 12] = [
     "",
     "advanced HAMT",
     "type M {String:Int}",
     "type N {String:nullable Int}",
     "type N {String:Any}",
     "type N {String:N}",
-    "type N {N:Int}",
-    "type N {Int:Int}",
     "type N {String:[Int]}",
     "type N {String:Int} representation listpairs",
     "type N {String:Int} representation advanced HAMT",
@@ -338,7 +336,7 @@ const NOT_BUILT: [&str; 14] = [
 ];
 
 /// Schemas with a fault, and what is told of it.
-const FAULTY: [(&str, &str); 10] = [
+const FAULTY: [(&str, &str); 12] = [
     ("type A ;", "lex 1 char at 7"),
     ("# é\ntype A struct { a \"x", "lex 2 unended at 23"),
     ("type A strut {}", "parse 1 syntax at 7"),
@@ -349,6 +347,8 @@ const FAULTY: [(&str, &str); 10] = [
     ("type A = B type B = A", "resolve 4 copycycle at 5"),
     ("advanced Hamt", "resolve 5 advanced at 9"),
     ("type Int int type A = B", "resolve 1 twice at 5"),
+    ("type N {N:Int}", "accept 11 mapkey at 8"),
+    ("type N {Int:Int}", "accept 11 mapkey at 8"),
 ];
 
 #[test]

@@ -1,0 +1,77 @@
+//! What rules share: parts that repeat in braces, and representations behind their word.
+ghost use Rattle.std.specs.Prelude.{◌≡◌, ℕ, Result};
+ghost use Rattle.ild_grammar.proofs.Stream.{Stream, most};
+ghost use Rattle.ild_grammar.proofs.Read.{many_at};
+ghost use Rattle.ild_grammar.proofs.Form.{optional_form_at, needed_form_at};
+ghost use Rattle.ild_grammar.proofs.Grammar.{closes, braced_at};
+ghost use Rattle.ild_parse.specs.Seen.{stream_of, Gives};
+
+use crate::input::Input;
+use crate::{List, ParseErr};
+use std::alloc::Global;
+
+/// A part of the tree that is read by one rule.
+pub(crate) trait Rule: Drop {
+    ghost reading: { Stream → Result (Self × Stream) ℕ };
+
+    fn read<'s>(alloc: Global, input: Input<'s>) -> Result<(Self, Input<'s>), ParseErr>
+        ensures { Gives (λ x. (x.0, stream_of x.1)) result (reading (stream_of input.entry)) };
+}
+
+/// { part }, up to a closing brace
+fn parts<P: Rule>(alloc: Global, input: Input<'_>) -> Result<(List<P>, Input<'_>), ParseErr>
+    ensures { Gives (λ x. (x.0, stream_of x.1)) result (many_at P.reading closes (most (stream_of input.entry)) (stream_of input.entry)) }
+{
+    let mut parts = Vec::new(alloc);
+    let mut rest = input;
+    for _ in 0..input.most() {
+        if rest.is("}") {
+            return Ok((List::from_vec(parts), rest));
+        }
+        let (part, after) = P::read(alloc, rest)?;
+        parts.push(part)?;
+        rest = after;
+    }
+    Err(rest.fault())
+}
+
+/// "{" { part } "}"
+#[tactic(auto, unfolding(ild_grammar::proofs::Grammar::braced_at))]
+pub(crate) fn braced<P: Rule>(
+    alloc: Global,
+    input: Input<'_>,
+) -> Result<(List<P>, Input<'_>), ParseErr>
+    ensures { Gives (λ x. (x.0, stream_of x.1)) result (braced_at P.reading (stream_of input.entry)) }
+{
+    let input = input.after("{")?;
+    let (parts, input) = parts::<P>(alloc, input)?;
+    let input = input.after("}")?;
+    Ok((parts, input))
+}
+
+/// [ "representation" form ]
+#[tactic(auto, unfolding(ild_grammar::proofs::Form::optional_form_at))]
+pub(crate) fn optional_form<P: Rule>(
+    alloc: Global,
+    input: Input<'_>,
+) -> Result<(Option<P>, Input<'_>), ParseErr>
+    ensures { Gives (λ x. (x.0, stream_of x.1)) result (optional_form_at P.reading (stream_of input.entry)) }
+{
+    if !input.is("representation") {
+        return Ok((None, input));
+    }
+    let (form, input) = P::read(alloc, input.rest())?;
+    Ok((Some(form), input))
+}
+
+/// "representation" form
+#[tactic(auto, unfolding(ild_grammar::proofs::Form::needed_form_at))]
+pub(crate) fn needed_form<P: Rule>(
+    alloc: Global,
+    input: Input<'_>,
+) -> Result<(P, Input<'_>), ParseErr>
+    ensures { Gives (λ x. (x.0, stream_of x.1)) result (needed_form_at P.reading (stream_of input.entry)) }
+{
+    let input = input.after("representation")?;
+    P::read(alloc, input)
+}
