@@ -319,20 +319,23 @@ const OPEN: [&str; 6] = [
     "type N {String:Int} representation\n\nmap advanced HAMT",
 ];
 
-/// Schemas with a table that scripts aren't run under.
-const NOT_BUILT: [&str; 12] = [
-    "",
-    "advanced HAMT",
-    "type M {String:Int}",
-    "type N {String:nullable Int}",
-    "type N {String:Any}",
-    "type N {String:N}",
-    "type N {String:[Int]}",
-    "type N {String:Int} representation listpairs",
-    "type N {String:Int} representation advanced HAMT",
-    "type N = Map",
-    "type N {String:Int} type M bool",
-    "type M {String:Int} type N = M",
+/// Accepted schemas that scripts aren't run under, and the names that each declares.
+const NOT_BUILT: [(&str, &str); 12] = [
+    ("", "[]"),
+    ("advanced HAMT", "[]"),
+    ("type M {String:Int}", "[\"M\"]"),
+    ("type N {String:nullable Int}", "[\"N\"]"),
+    ("type N {String:Any}", "[\"N\"]"),
+    ("type N {String:N}", "[\"N\"]"),
+    ("type N {String:[Int]}", "[\"N\"]"),
+    ("type N {String:Int} representation listpairs", "[\"N\"]"),
+    (
+        "type N {String:Int} representation advanced HAMT",
+        "[\"N\"]",
+    ),
+    ("type N = Map", "[\"N\"]"),
+    ("type N {String:Int} type M bool", "[\"N\",\"M\"]"),
+    ("type M {String:Int} type N = M", "[\"M\",\"N\"]"),
 ];
 
 /// Schemas with a fault, and what is told of it.
@@ -361,28 +364,25 @@ fn schemas(rt: HostRuntime) -> Result<(), Fail> {
         };
         try_case(&rt, rt.alloc(), &run)?;
         let checked = Case {
+            schema,
             words: &check,
-            ..Case {
-                schema,
-                ..script("root", "fault 3 schema notbuilt\n", 3)
-            }
+            ..script("root", "ok [\"N\"]\n", 0)
         };
         try_case(&rt, rt.alloc(), &checked)?;
     }
-    for schema in NOT_BUILT {
+    for (schema, names) in NOT_BUILT {
         let run = Case {
             schema,
             ..script("root", "fault 3 schema notbuilt\n", 3)
         };
         try_case(&rt, rt.alloc(), &run)?;
-        try_case(
-            &rt,
-            rt.alloc(),
-            &Case {
-                words: &check,
-                ..run
-            },
-        )?;
+        let text = format!(in rt.alloc(); "ok {names}\n")?;
+        let checked = Case {
+            schema,
+            words: &check,
+            ..script("root", text.as_str(), 0)
+        };
+        try_case(&rt, rt.alloc(), &checked)?;
     }
     for (schema, fault) in FAULTY {
         let text = format!(in rt.alloc(); "fault 3 schema {fault}\n")?;
