@@ -97,7 +97,7 @@ is_open : (b : List ℕ) (rows : List Row) (script : Taken) → is_built rows �
 is_open b rows script built = record { bytes = b; rows = rows; schema = refl; verdict = refl; built = built }
 
 -- the task that the script's input is
-pub task_of : Result (List ℕ) Fault → Result Task Fault
+abbrev pub task_of : Result (List ℕ) Fault → Result Task Fault
 task_of (Ok b) = Ok (P.Answer b)
 task_of (Err f) = Err f
 

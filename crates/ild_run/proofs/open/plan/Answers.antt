@@ -1,4 +1,4 @@
-use Rattle.std.proofs.Common.{ℕ, List, Err, Some, sym, subst, ◌≡◌}
+use Rattle.std.proofs.Common.{ℕ, List, Ok, Err, Some, sym, subst, ◌≡◌}
 use Rattle.std.proofs.lemmas.Option.{same_Some}
 use Rattle.std.proofs.lemmas.Result.{err_from_is_err_and}
 use Rattle.ild_edges.specs.Inputs.{Supply, MayBe}
@@ -41,4 +41,12 @@ returns g c =
     let m = g.I.Inputs.supply c.args.inputs.now in
     let taken = by_name m c.in-Run.field-0.now c.schema.result.now c.in_ok-bytes.bytes (rw c.in-Run.is at c.schema.ensures) c.in_ok-bytes.ensures.answer in
     let compiled = rw c.as_slice.ensures.same at c.in_ok-schema.ensures in
-    rw c.in-Run.is (opens_script m (g.I.Inputs.supply c.take_input.new.inputs) (g.I.Inputs.supply c.take_input-2.new.inputs) c.in-Run.field-0.now c.in-Run.script.now c.in_ok-bytes.bytes c.in_ok-schema.schema c.take_input-2.result taken compiled (sym c.if-not-is_built.ensures) c.in_ok-bytes.ensures.after c.take_input-2.ensures)
+    rw c.in-Run.is (opens_script m (g.I.Inputs.supply c.take_input.new.inputs) (g.I.Inputs.supply c.take_input-2.new.inputs) c.in-Run.field-0.now c.in-Run.script.now c.in_ok-bytes.bytes c.in_ok-schema.schema (Ok c.in_ok-script.script) taken compiled (sym c.if-not-is_built.ensures) c.in_ok-bytes.ensures.after c.in_ok-script.ensures)
+
+pub returns-in_err-script : goal.returns-in_err-script
+returns-in_err-script g c =
+    let m = g.I.Inputs.supply c.args.inputs.now in
+    let taken = by_name m c.in-Run.field-0.now c.schema.result.now c.in_ok-bytes.bytes (rw c.in-Run.is at c.schema.ensures) c.in_ok-bytes.ensures.answer in
+    let compiled = rw c.as_slice.ensures.same at c.in_ok-schema.ensures in
+    let p = err_from_is_err_and c.from_residual-in_err-script.result c.from_residual-in_err-script.ensures.1 in
+    rw (p.1, p.2, c.in-Run.is) (opens_script m (g.I.Inputs.supply c.take_input.new.inputs) (g.I.Inputs.supply c.take_input-2.new.inputs) c.in-Run.field-0.now c.in-Run.script.now c.in_ok-bytes.bytes c.in_ok-schema.schema (Err c.in_err-script.field-0.0) taken compiled (sym c.if-not-is_built.ensures) c.in_ok-bytes.ensures.after c.in_err-script.ensures)
