@@ -3,11 +3,10 @@ ghost use Rattle.std.specs.Prelude.{◌≡◌, ◌⊎◌, IfErr, IfOk, Ok, Err};
 ghost use Rattle.ild_lex.specs.Lex.{AreTokens};
 ghost use Rattle.ild_grammar.specs.DerivePart.{Derives};
 ghost use Rattle.ild_parse.specs.Wrong.{IsWrong};
-ghost use Rattle.ild_grammar.proofs.Stream.{stream, most, is_end};
-ghost use Rattle.ild_parse.specs.Seen.{stream_of};
-ghost use Rattle.ild_parse.specs.Seen.{Gives};
+ghost use Rattle.ild_grammar.proofs.Stream.{most, is_end};
+ghost use Rattle.ild_parse.specs.Seen.{stream_of, Gives};
 ghost use Rattle.ild_grammar.proofs.Read.{many_at};
-ghost use Rattle.ild_grammar.proofs.Grammar.{type_decl_at, decl_at, schema_at, parse_of};
+ghost use Rattle.ild_grammar.proofs.Grammar.{type_decl_at, decl_at, schema_at};
 
 use crate::body::read_body;
 use crate::input::Input;
