@@ -1,6 +1,6 @@
 //! The parts of types by their texts, beside a plain search through them, and the ends of copies, beside a plain walk.
 use ild_compile::compile;
-use ild_schema::{Schema, TypeDef, TypeNo};
+use ild_schema::{Accepted, TypeDef, TypeNo};
 use std::alloc::{AllocError, Global};
 use std::test::Fail;
 
@@ -61,7 +61,7 @@ fn searched(def: &TypeDef, name: &str) -> Option<usize> {
 }
 
 /// The type to which a type leads, by its copies one after the other.
-fn walked(schema: &Schema, from: u32) -> u32 {
+fn walked(schema: &Accepted, from: u32) -> u32 {
     let mut at = from;
     for _ in 0..schema.types() {
         if at >= schema.types() {
