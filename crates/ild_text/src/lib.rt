@@ -16,4 +16,3 @@ pub use pair::pairs;
 pub use parts::{JoinParts, PairParts};
 pub use prefixes::{bytes_prefix, prefix};
 pub use split::Split;
-
