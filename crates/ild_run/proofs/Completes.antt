@@ -8,12 +8,15 @@ use Rattle.ild_edges.specs.declared.inputs.Taken.{Taken}
 use Rattle.ild_plain.specs.Plain.{line_due, plain_map}
 use Rattle.ild_script.specs.Line.{lines_of}
 use Rattle.ild_session.specs.Run.{Run}
+use Rattle.ild_schema.specs.Names.{declared_names}
+use Rattle.ild_schema.specs.declared.row.Row.{Row}
 use Rattle.ild_session.specs.Session.{idle}
 use Rattle.ild_session.proofs.Steps.{told_later, plain_run}
-use Rattle.ild_run.specs.Work.{Work, Taking, ends, answers, script_work, built_work, compiled_work, schema_work, job_work, work_of, IsVerdict, IsTaking, AreTaken}
-use Rattle.ild_run.specs.Words.{Job, runs}
-use Rattle.ild_run.specs.Ended.{Call, IsDue, AnswersAll, Says, Ended}
-use Rattle.ild_run.specs.Complete.{IsGiven, IsUndisturbed, AnswersPlainly, IsComplete}
+use Rattle.ild_run.specs.Work.{Work, Taking, ends, lists, answers, script_work, built_work, compiled_work, schema_work, job_work, work_of, IsVerdict, IsTaking, AreTaken}
+use Rattle.ild_run.specs.Words.{Job, checks, runs}
+use Rattle.ild_run.specs.Ended.{Call, IsDue, HasScript, AnswersAll, Says, Ended}
+use Rattle.ild_run.specs.Complete.{IsGiven, IsUndisturbed, AnswersPlainly, IsGivenSchema, IsCalm, IsComplete}
+use Rattle.ild_run.specs.Listed.{Lists}
 use Rattle.ild_run.specs.declared.fault.Fault.{Fault}
 use Rattle.ild_run.specs.declared.fault.Fault.TheVariants as F
 use Rattle.ild_run.specs.declared.fault.Role.{Role}
@@ -53,6 +56,10 @@ no_end : (w : Work) (f : Fault) (b : List ℕ) → Plans w b → (f ≡ F.Memory
 no_end w f b (inl is) other ended = let e : answers b ≡ ends f = sym is ∙ ended in cc
 no_end w f b (inr is) other ended = other (let e : ends F.Memory ≡ ends f = sym is ∙ ended in cc)
 
+no_list : (w : Work) (names : List (List ℕ)) (b : List ℕ) → Plans w b → w ≡ lists names → ⊥
+no_list w names b (inl is) listed = let e : answers b ≡ lists names = sym is ∙ listed in cc
+no_list w names b (inr is) listed = let e : ends F.Memory ≡ lists names = sym is ∙ listed in cc
+
 -- no fault but want of memory is due
 no_fault : (c : Call) (script : List ℕ) (given : IsGiven c script) (calm : IsUndisturbed c script) (t : Taking) (f : Fault) → AreTaken c.job c.before.supply t → IsDue c t f → f ≡ F.Memory
 no_fault c script given calm t F.Memory taken due = refl
@@ -86,7 +93,8 @@ plainly c script given calm t status refused taken is all =
     }
 
 complete_by : (c : Call) (script : List ℕ) (given : IsGiven c script) (calm : IsUndisturbed c script) (t : Taking) (status : Status) → AreTaken c.job c.before.supply t → Says c t status → (status ≡ S.Memory) ⊎ AnswersPlainly c script status
-complete_by c script given calm t S.Done taken says = inr (plainly c script given calm t S.Done false taken refl says)
+complete_by c script given calm t S.Done taken (inl all) = inr (plainly c script given calm t S.Done false taken refl all)
+complete_by c script given calm t S.Done taken (inr listed) = absurd (no_list (work_of c.job t) listed.names script (held_work c script given t taken) listed.work)
 complete_by c script given calm t S.Refused taken says = inr (plainly c script given calm t S.Refused true taken refl says)
 complete_by c script given calm t S.Memory taken says = inl refl
 complete_by c script given calm t S.SinkFault taken says = absurd (calm.sink says.0)
@@ -99,6 +107,76 @@ complete_by c script given calm t S.StoreFault taken (inr tells) = absurd (let e
 complete_by c script given calm t S.Root taken says = absurd says
 complete_by c script given calm t S.Value taken says = absurd says
 
+-- the same of a schema that is checked
+abbrev Checks : Work → List Row → Type 0
+Checks w rows = (w ≡ lists (declared_names rows)) ⊎ (w ≡ ends F.Memory)
+
+checked : (c : Call) (rows : List Row) (given : IsGivenSchema c rows) (input : Role → Taken) (verdict : Option Verdict) → IsVerdict (Taken.Bytes given.schema) verdict → Checks (compiled_work (checks given.schema_name) verdict input) rows
+checked c rows given input None says = inr refl
+checked c rows given input (Some v) says =
+    let one : v ≡ table rows = one_verdict_lem given.schema v (table rows) says given.compiles in
+    inl (ap (λ x. compiled_work (checks given.schema_name) (Some x) input) one)
+
+checked_job : (c : Call) (rows : List Row) (given : IsGivenSchema c rows) (t : Taking) → IsTaking (checks given.schema_name) c.before.supply t → Checks (job_work (checks given.schema_name) t) rows
+checked_job c rows given t taken =
+    let job = checks given.schema_name in
+    let schema_is = subst (λ (f : Option (List (List ℕ × List ℕ))). MayBe f given.schema_name (t.input Role.Schema)) given.told (taken.input Role.Schema) ∙ given.schema_held in
+    let same : job_work job t ≡ compiled_work job t.verdict t.input = ap (λ x. schema_work job x t.verdict t.input) schema_is in
+    subst (λ (w : Work). Checks w rows) (sym same) (checked c rows given t.input t.verdict (subst (λ (x : Taken). IsVerdict x t.verdict) schema_is taken.verdict))
+
+checked_work : (c : Call) (rows : List Row) (given : IsGivenSchema c rows) (t : Taking) → AreTaken c.job c.before.supply t → Checks (work_of c.job t) rows
+checked_work c rows given t taken =
+    subst (λ (w : Work). Checks w rows) (sym (ap (λ j. work_of j t) given.job)) (checked_job c rows given t (subst (λ (j : Option Job). AreTaken j c.before.supply t) given.job taken))
+
+no_check_end : (w : Work) (f : Fault) (rows : List Row) → Checks w rows → (f ≡ F.Memory → ⊥) → w ≡ ends f → ⊥
+no_check_end w f rows (inl is) other ended = let e : lists (declared_names rows) ≡ ends f = sym is ∙ ended in cc
+no_check_end w f rows (inr is) other ended = other (let e : ends F.Memory ≡ ends f = sym is ∙ ended in cc)
+
+no_check_script : (w : Work) (rows : List Row) → Checks w rows → HasScript w → ⊥
+no_check_script w rows (inl is) has = subst HasScript is has
+no_check_script w rows (inr is) has = subst HasScript is has
+
+no_check_answers : (w : Work) (rows : List Row) (b : List ℕ) → Checks w rows → w ≡ answers b → ⊥
+no_check_answers w rows b (inl is) work = let e : lists (declared_names rows) ≡ answers b = sym is ∙ work in cc
+no_check_answers w rows b (inr is) work = let e : ends F.Memory ≡ answers b = sym is ∙ work in cc
+
+no_check_fault : (c : Call) (rows : List Row) (given : IsGivenSchema c rows) (calm : IsCalm c) (t : Taking) (f : Fault) → AreTaken c.job c.before.supply t → IsDue c t f → f ≡ F.Memory
+no_check_fault c rows given calm t F.Memory taken due = refl
+no_check_fault c rows given calm t F.Words taken due = absurd (no_check_end (work_of c.job t) F.Words rows (checked_work c rows given t taken) (λ e. cc) due)
+no_check_fault c rows given calm t F.NotBuilt taken due = absurd (no_check_end (work_of c.job t) F.NotBuilt rows (checked_work c rows given t taken) (λ e. cc) due)
+no_check_fault c rows given calm t (F.Schema f) taken due = absurd (no_check_end (work_of c.job t) (F.Schema f) rows (checked_work c rows given t taken) (λ e. cc) due)
+no_check_fault c rows given calm t (F.Input role T.Failed) taken due = absurd (calm.inputs due.0)
+no_check_fault c rows given calm t (F.Input role T.Absent) taken due = absurd (no_check_end (work_of c.job t) (F.Input role T.Absent) rows (checked_work c rows given t taken) (λ e. cc) due.0)
+no_check_fault c rows given calm t (F.Input role T.Long) taken due = absurd (no_check_end (work_of c.job t) (F.Input role T.Long) rows (checked_work c rows given t taken) (λ e. cc) due.0)
+no_check_fault c rows given calm t F.Store taken due = absurd (no_check_script (work_of c.job t) rows (checked_work c rows given t taken) due.1)
+no_check_fault c rows given calm t (F.Clash id) taken due = absurd (no_check_script (work_of c.job t) rows (checked_work c rows given t taken) due.2)
+
+same_names : (w : Work) (names : List (List ℕ)) (rows : List Row) → Checks w rows → w ≡ lists names → names ≡ declared_names rows
+same_names w names rows (inl is) work = let e : lists names ≡ lists (declared_names rows) = sym work ∙ is in cc
+same_names w names rows (inr is) work = absurd (let e : lists names ≡ ends F.Memory = sym work ∙ is in cc)
+
+abbrev IsListed : Call → List Row → Status → Type 0
+IsListed c rows status = (status ≡ S.Memory) ⊎ ((status ≡ S.Done) × Lists (declared_names rows) c.before.output c.after.output)
+
+listed_by : (c : Call) (rows : List Row) (given : IsGivenSchema c rows) (calm : IsCalm c) (t : Taking) (status : Status) → AreTaken c.job c.before.supply t → Says c t status → IsListed c rows status
+listed_by c rows given calm t S.Done taken (inl all) = absurd (no_check_answers (work_of c.job t) rows all.bytes (checked_work c rows given t taken) all.work)
+listed_by c rows given calm t S.Done taken (inr listed) =
+    inr (refl, subst (λ (names : List (List ℕ)). Lists names c.before.output c.after.output) (same_names (work_of c.job t) listed.names rows (checked_work c rows given t taken) listed.work) listed.written)
+listed_by c rows given calm t S.Refused taken says = absurd (no_check_answers (work_of c.job t) rows says.bytes (checked_work c rows given t taken) says.work)
+listed_by c rows given calm t S.Memory taken says = inl refl
+listed_by c rows given calm t S.SinkFault taken says = absurd (calm.sink says.0)
+listed_by c rows given calm t S.Words taken says = absurd (let e = no_check_fault c rows given calm t F.Words taken says.due in cc)
+listed_by c rows given calm t S.Schema taken (inl tells) = absurd (let e = no_check_fault c rows given calm t F.NotBuilt taken tells.due in cc)
+listed_by c rows given calm t S.Schema taken (inr tells) = absurd (let e = no_check_fault c rows given calm t (F.Schema tells.0) taken tells.1.due in cc)
+listed_by c rows given calm t S.Input taken says = absurd (let e = no_check_fault c rows given calm t (F.Input says.0 says.1) taken says.2.due in cc)
+listed_by c rows given calm t S.StoreFault taken (inl tells) = absurd (let e = no_check_fault c rows given calm t F.Store taken tells.due in cc)
+listed_by c rows given calm t S.StoreFault taken (inr tells) = absurd (let e = no_check_fault c rows given calm t (F.Clash tells.0) taken tells.1.due in cc)
+listed_by c rows given calm t S.Root taken says = absurd says
+listed_by c rows given calm t S.Value taken says = absurd says
+
 -- a call that ended with its cause is complete
 pub complete_from : (c : Call) (status : Status) → Ended c status → IsComplete c status
-complete_from c status ended script given calm = complete_by c script given calm ended.taking status ended.taken ended.says
+complete_from c status ended = record {
+  runs = λ script given calm. complete_by c script given calm ended.taking status ended.taken ended.says;
+  checks = λ rows given calm. listed_by c rows given calm ended.taking status ended.taken ended.says;
+}

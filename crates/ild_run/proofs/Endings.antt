@@ -17,9 +17,11 @@ use Rattle.ild_session.proofs.Steps.{run_gets, run_puts}
 use Rattle.ild_run.specs.First.{Tries}
 use Rattle.ild_run.specs.Opening.{PutsFirst, FirstAnswer, InputsFault}
 use Rattle.ild_run.specs.Fault.{fault_text, status_of, cut_status}
-use Rattle.ild_run.specs.Work.{Work, Taking, in_roles, answers, work_of, job_work, IsTaking, AreTaken, Takes, Reaches}
+use Rattle.ild_run.specs.Work.{Work, Taking, in_roles, lists, answers, work_of, job_work, IsTaking, AreTaken, Takes, Reaches}
 use Rattle.ild_run.specs.Words.{Job}
-use Rattle.ild_run.specs.Ended.{Call, IsDue, HasScript, Leaves, Answers, AnswersAll, AnswersSome, Tells, TellsFront, CutAs, ToldAs, Says, Ended}
+use Rattle.ild_run.specs.Cut.{CutAs, ToldAs}
+use Rattle.ild_run.specs.Listed.{Lists, ListsFront, ListedAs}
+use Rattle.ild_run.specs.Ended.{Call, IsDue, HasScript, Leaves, Answers, AnswersAll, AnswersSome, ListsNames, ListsSome, Tells, TellsFront, Says, Ended}
 use Rattle.ild_run.specs.declared.fault.Fault.{Fault}
 use Rattle.ild_run.specs.declared.fault.Fault.TheVariants as F
 use Rattle.ild_run.specs.declared.fault.Role.{Role}
@@ -154,14 +156,14 @@ answered_some c job t b v r u k s named work empty ok puts cut =
     }
 
 says_cut : (c : Call) (t : Taking) (cut : Cut) → AnswersSome c t → CutAs c.before.output (cut_status cut) c.after.output → Says c t (cut_status cut)
-says_cut c t C.Sink some rose = (rose, inr some)
-says_cut c t C.Memory some rose = inr (inr some)
+says_cut c t C.Sink some rose = (rose, inr (inl some))
+says_cut c t C.Memory some rose = inr (inr (inl some))
 
 pub ended_cut : (c : Call) (job : Job) (t : Taking) (cut : Cut) → c.job ≡ Some job → IsTaking job c.before.supply t → AnswersSome c t → CutAs c.before.output (cut_status cut) c.after.output → Ended c (cut_status cut)
 ended_cut c job t cut named a some rose = record { taking = t; taken = are_taken c job t named a; says = says_cut c t cut some rose }
 
 pub ended_done : (c : Call) (job : Job) (t : Taking) → c.job ≡ Some job → IsTaking job c.before.supply t → AnswersAll c t false → Ended c S.Done
-ended_done c job t named a all = record { taking = t; taken = are_taken c job t named a; says = all }
+ended_done c job t named a all = record { taking = t; taken = are_taken c job t named a; says = inl all }
 
 pub ended_refused : (c : Call) (job : Job) (t : Taking) → c.job ≡ Some job → IsTaking job c.before.supply t → AnswersAll c t true → Ended c S.Refused
 ended_refused c job t named a all = record { taking = t; taken = are_taken c job t named a; says = all }
@@ -201,3 +203,29 @@ leaves_inputs c job t (F.Clash id) fault same = absurd fault
 pub ended_inputs : (c : Call) (job : Job) (t : Taking) (f : Fault) (status : Status) → c.job ≡ Some job → IsTaking job c.before.supply t
     → InputsFault c.before.supply job t f c.after.supply → c.after.moment ≡ c.before.moment → ToldAs f c.before.output status c.after.output → Ended c status
 ended_inputs c job t f status named a fault same told = ended_told c t f status (are_taken c job t named a) (due_inputs c job t f named fault) (leaves_inputs c job t f fault same) told
+
+-- a front of the line of names
+says_some : (c : Call) (t : Taking) (status : Status) → ListsSome c t → CutAs c.before.output status c.after.output → Says c t status
+says_some c t S.SinkFault some rose = (rose, inr (inr some))
+says_some c t S.Memory some rose = inr (inr (inr some))
+says_some c t S.Done some rose = absurd rose
+says_some c t S.Refused some rose = absurd rose
+says_some c t S.Words some rose = absurd rose
+says_some c t S.Schema some rose = absurd rose
+says_some c t S.Root some rose = absurd rose
+says_some c t S.Input some rose = absurd rose
+says_some c t S.StoreFault some rose = absurd rose
+says_some c t S.Value some rose = absurd rose
+
+says_listed : (c : Call) (t : Taking) (names : List (List ℕ)) (status : Status) → work_of c.job t ≡ lists names → c.after.moment ≡ c.before.moment
+    → ((status ≡ S.Done) × Lists names c.before.output c.after.output) ⊎ ((CutAs c.before.output status c.after.output × ListsFront names c.before.output c.after.output) ⊎ ToldAs F.Memory c.before.output status c.after.output)
+    → Says c t status
+says_listed c t names status work same (inl done) = subst (λ (s : Status). Says c t s) (sym done.0) (inr (record { names = names; work = work; same = same; written = done.1 }))
+says_listed c t names status work same (inr (inl cut)) = says_some c t status (record { names = names; work = work; same = same; written = cut.1 }) cut.0
+says_listed c t names status work same (inr (inr told)) = says_by c t F.Memory status tt (inl same) told.told
+
+-- a call whose schema's names were listed
+pub ended_listed : (c : Call) (job : Job) (t : Taking) (names : List (List ℕ)) (status : Status) → c.job ≡ Some job → IsTaking job c.before.supply t → job_work job t ≡ lists names
+    → c.after.moment ≡ c.before.moment → ListedAs names c.before.output status c.after.output → Ended c status
+ended_listed c job t names status named a work same listed =
+    record { taking = t; taken = are_taken c job t named a; says = says_listed c t names status (is_work c job t (lists names) named work) same listed.answer }

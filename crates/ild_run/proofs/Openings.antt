@@ -12,6 +12,8 @@ use Rattle.ild_run.specs.declared.fault.Trouble.TheVariants as T
 use Rattle.ild_run.specs.Built.{is_built}
 use Rattle.ild_run.specs.Words.{Job, checks, runs, name_of}
 use Rattle.ild_run.specs.Work.{Taking, in_roles, built_work, IsVerdict, IsUnder, IsOpen}
+use Rattle.ild_run.specs.declared.open.Task.{Task}
+use Rattle.ild_run.specs.declared.open.Task.TheVariants as P
 use Rattle.ild_run.specs.Opening.{InputAnswer, TakesInput, CompileAnswer, OpensAnswer, Opens}
 
 -- something may be taken under each name
@@ -34,7 +36,7 @@ no_verdict Taken.Long = tt
 no_verdict (Taken.Bytes b) = tt
 
 -- a call that ends before the script's input
-opens_before : (m n : Supply) (job : Job) (schema : Taken) (verdict : Option Verdict) (result : Result (List ℕ) Fault) → IsUnder m schema (name_of Role.Schema job) → IsVerdict schema verdict
+opens_before : (m n : Supply) (job : Job) (schema : Taken) (verdict : Option Verdict) (result : Result Task Fault) → IsUnder m schema (name_of Role.Schema job) → IsVerdict schema verdict
     → ((script : Taken) → OpensAnswer m job (record { input = in_roles schema script; verdict = verdict }) result n) → After m n → Opens m job result n
 opens_before m n job schema verdict result is says answer after =
     let other = some_under m (name_of Role.Script job) in
@@ -78,10 +80,11 @@ opens_faulty m n job name b F.NotBuilt named is answer after = absurd answer
 opens_faulty m n job name b F.Store named is answer after = absurd answer
 opens_faulty m n job name b (F.Clash id) named is answer after = absurd answer
 
--- a call that ends at a schema which nothing is built for
-pub opens_checked : (m n : Supply) (name : List ℕ) (b : List ℕ) (rows : List Row) → MayBe m.files name (Taken.Bytes b) → Compiles b (table rows) → After m n → Opens m (checks name) (Err F.NotBuilt) n
+-- a call whose schema is checked
+pub opens_checked : (m n : Supply) (name : List ℕ) (b : List ℕ) (rows : List Row) → MayBe m.files name (Taken.Bytes b) → Compiles b (table rows) → After m n → Opens m (checks name) (Ok (P.List rows)) n
 opens_checked m n name b rows is compiles after = opens_before m n (checks name) (Taken.Bytes b) (Some (table rows)) _ is compiles (λ script. refl) after
 
+-- a call that ends at a schema which nothing is built for
 pub opens_not_built : (m n : Supply) (name other : List ℕ) (b : List ℕ) (rows : List Row) → MayBe m.files name (Taken.Bytes b) → Compiles b (table rows) → is_built rows ≡ false → After m n → Opens m (runs name other) (Err F.NotBuilt) n
 opens_not_built m n name other b rows is compiles refused after =
     opens_before m n (runs name other) (Taken.Bytes b) (Some (table rows)) _ is compiles (λ script. ap (λ t. built_work t script) refused) after
@@ -93,8 +96,13 @@ taking b rows script = record { input = in_roles (Taken.Bytes b) script; verdict
 is_open : (b : List ℕ) (rows : List Row) (script : Taken) → is_built rows ≡ true → IsOpen (taking b rows script)
 is_open b rows script built = record { bytes = b; rows = rows; schema = refl; verdict = refl; built = built }
 
+-- the task that the script's input is
+pub task_of : Result (List ℕ) Fault → Result Task Fault
+task_of (Ok b) = Ok (P.Answer b)
+task_of (Err f) = Err f
+
 script_answer : (m k n : Supply) (name other : List ℕ) (b : List ℕ) (rows : List Row) (result : Result (List ℕ) Fault) → is_built rows ≡ true → k.files ≡ m.files → m.lacks ≤ k.lacks → m.faults ≤ k.faults
-    → InputAnswer k Role.Script other result n → (t : Taken) × MayBe m.files other t × OpensAnswer m (runs name other) (taking b rows t) result n
+    → InputAnswer k Role.Script other result n → (t : Taken) × MayBe m.files other t × OpensAnswer m (runs name other) (taking b rows t) (task_of result) n
 script_answer m k n name other b rows (Ok c) built same lacks faults answer =
     (Taken.Bytes c, subst (λ (x : Option (List (List ℕ × List ℕ))). MayBe x other (Taken.Bytes c)) same answer, ap (λ t. built_work t (Taken.Bytes c)) built)
 script_answer m k n name other b rows (Err (F.Input Role.Script T.Absent)) built same lacks faults answer =
@@ -114,7 +122,7 @@ script_answer m k n name other b rows (Err F.Store) built same lacks faults answ
 script_answer m k n name other b rows (Err (F.Clash id)) built same lacks faults answer = absurd answer
 
 pub opens_script : (m k n : Supply) (name other : List ℕ) (b : List ℕ) (rows : List Row) (result : Result (List ℕ) Fault) → MayBe m.files name (Taken.Bytes b) → Compiles b (table rows) → is_built rows ≡ true → After m k → TakesInput k Role.Script other result n
-    → Opens m (runs name other) result n
+    → Opens m (runs name other) (task_of result) n
 opens_script m k n name other b rows result is compiles built after takes =
     let t = script_answer m k n name other b rows result built after.files after.lacks after.faults takes.answer in
     record {

@@ -10,6 +10,7 @@ use Rattle.ild_edges.specs.Store.{Moment, block_at}
 use Rattle.ild_edges.specs.declared.inputs.Taken.TheVariants as Taken
 use Rattle.ild_plain.specs.Plain.{line_due}
 use Rattle.ild_plain.specs.Value.{Value, blocks_of}
+use Rattle.ild_schema.specs.Names.{declared_names}
 use Rattle.ild_schema.specs.declared.row.Row.{Row}
 use Rattle.ild_script.specs.declared.reply.Reply.{Reply}
 use Rattle.ild_script.specs.Line.{lines_of}
@@ -18,7 +19,8 @@ use Rattle.ild_session.specs.Session.{State, idle}
 use Rattle.ild_session.specs.Run.{texts}
 use Rattle.ild_session.specs.Plain.{PlainRun, MayPut, AreApart}
 use Rattle.ild_run.specs.Built.{is_built}
-use Rattle.ild_run.specs.Words.{runs}
+use Rattle.ild_run.specs.Words.{checks, runs}
+use Rattle.ild_run.specs.Listed.{Lists}
 use Rattle.ild_run.specs.Ended.{Call}
 use Rattle.ild_run.specs.declared.status.Status.{Status}
 use Rattle.ild_run.specs.declared.status.Status.TheVariants as S
@@ -57,8 +59,25 @@ pub record AnswersPlainly (c : Call) (script : List ℕ) (status : Status) : Typ
   pub written : Appends c.before.output.written c.after.output.written (texts replies)
   pub status_is : status ≡ (if list_any is_no replies then S.Refused else S.Done)
 
-abbrev pub IsComplete : Call → Status → Type 0
-IsComplete c status = (script : List ℕ) → IsGiven c script → IsUndisturbed c script → (status ≡ S.Memory) ⊎ AnswersPlainly c script status
+-- the words ask for a check, and the inputs tell and hold a schema that is accepted, whose types these are
+pub record IsGivenSchema (c : Call) (rows : List Row) : Type 0 where
+  pub schema_name : List ℕ
+  pub job : c.job ≡ Some (checks schema_name)
+  pub files : List (List ℕ × List ℕ)
+  pub told : c.before.supply.files ≡ Some files
+  pub schema : List ℕ
+  pub schema_held : taken_of (file_at files schema_name) ≡ Taken.Bytes schema
+  pub compiles : Compiles schema (table rows)
+
+-- no count of faults of the inputs and the sink rose
+pub record IsCalm (c : Call) : Type 0 where
+  pub inputs : Rose c.before.supply.faults c.after.supply.faults → ⊥
+  pub sink : Rose c.before.output.faults c.after.output.faults → ⊥
+
+-- a script is answered plainly, and the names of an accepted schema are listed
+pub record IsComplete (c : Call) (status : Status) : Type 0 where
+  pub runs : (script : List ℕ) → IsGiven c script → IsUndisturbed c script → (status ≡ S.Memory) ⊎ AnswersPlainly c script status
+  pub checks : (rows : List Row) → IsGivenSchema c rows → IsCalm c → (status ≡ S.Memory) ⊎ ((status ≡ S.Done) × Lists (declared_names rows) c.before.output c.after.output)
 
 -- The premise on collisions can be met: where a store holds none but blocks that may come, as one does that held nothing
 -- before, it is enough that no two of these have one id.

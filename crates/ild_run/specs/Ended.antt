@@ -17,8 +17,9 @@ use Rattle.ild_compile.specs.declared.error.SchemaFault.{SchemaFault}
 use Rattle.ild_run.specs.Words.{Job}
 use Rattle.ild_data.specs.declared.id.BlockId.{BlockId}
 use Rattle.ild_run.specs.First.{Tries}
-use Rattle.ild_run.specs.Work.{Work, Taking, ends, answers, work_of, AreTaken, Reaches}
-use Rattle.ild_run.specs.Fault.{fault_text, status_of}
+use Rattle.ild_run.specs.Work.{Work, Taking, ends, lists, answers, work_of, AreTaken, Reaches}
+use Rattle.ild_run.specs.Fault.{fault_text}
+use Rattle.ild_run.specs.Listed.{Lists, ListsFront}
 use Rattle.ild_run.specs.declared.fault.Fault.{Fault}
 use Rattle.ild_run.specs.declared.fault.Fault.TheVariants as F
 use Rattle.ild_run.specs.declared.fault.Role.{Role}
@@ -47,6 +48,7 @@ call_of job supply moment output supply' moment' output' =
 -- there are lines to answer
 abbrev pub HasScript : Work → Type 0
 HasScript (ends f) = ⊥
+HasScript (lists names) = ⊥
 HasScript (answers b) = Unit {0}
 
 -- the cause of a fault
@@ -113,24 +115,27 @@ pub record TellsFront (c : Call) (t : Taking) : Type 0 where
   pub leaves : Leaves c t f
   pub written : AppendsFront c.before.output.written c.after.output.written (fault_text f)
 
+-- the names that the schema declares were listed, and the store left
+pub record ListsNames (c : Call) (t : Taking) : Type 0 where
+  pub names : List (List ℕ)
+  pub work : work_of c.job t ≡ lists names
+  pub same : c.after.moment ≡ c.before.moment
+  pub written : Lists names c.before.output c.after.output
+
+-- a front of the line that lists them was written
+pub record ListsSome (c : Call) (t : Taking) : Type 0 where
+  pub names : List (List ℕ)
+  pub work : work_of c.job t ≡ lists names
+  pub same : c.after.moment ≡ c.before.moment
+  pub written : ListsFront names c.before.output c.after.output
+
 -- the text that was due was cut off
 abbrev pub IsCut : Call → Taking → Type 0
-IsCut c t = TellsFront c t ⊎ AnswersSome c t
-
--- the statuses of a text that was cut off, with their causes
-abbrev pub CutAs : Output → Status → Output → Type 0
-CutAs m S.SinkFault n = Rose m.faults n.faults
-CutAs m S.Memory n = Unit {0}
-CutAs m status n = ⊥
-
--- a fault's line was written, or cut off
-pub record ToldAs (f : Fault) (m : Output) (status : Status) (n : Output) : Type 0 where
-  pub told : ((status ≡ status_of f) × Appends m.written n.written (fault_text f)) ⊎ (CutAs m status n × AppendsFront m.written n.written (fault_text f))
-  pub faults : m.faults ≤ n.faults
+IsCut c t = TellsFront c t ⊎ (AnswersSome c t ⊎ ListsSome c t)
 
 -- what a status says
 abbrev pub Says : Call → Taking → Status → Type 0
-Says c t S.Done = AnswersAll c t false
+Says c t S.Done = AnswersAll c t false ⊎ ListsNames c t
 Says c t S.Refused = AnswersAll c t true
 Says c t S.Words = Tells c t F.Words
 Says c t S.Schema = Tells c t F.NotBuilt ⊎ ((f : SchemaFault) × Tells c t (F.Schema f))

@@ -3,6 +3,8 @@ pub mod Built
 pub mod Work
 pub mod First
 pub mod Fault
+pub mod Cut
+pub mod Listed
 pub mod Opening
 pub mod Ended
 pub mod Complete

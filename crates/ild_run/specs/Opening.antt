@@ -7,6 +7,7 @@ use Rattle.ild_edges.specs.Inputs.{Supply, After, MayBe}
 use Rattle.ild_edges.specs.Store.{Moment, Later}
 use Rattle.ild_edges.specs.declared.inputs.Taken.{Taken}
 use Rattle.ild_plain.specs.Value.{Value, block_of, blocks_of}
+use Rattle.ild_schema.specs.Names.{declared_names}
 use Rattle.ild_schema.specs.declared.row.Row.{Row}
 use Rattle.ild_run.specs.declared.fault.Fault.{Fault}
 use Rattle.ild_run.specs.declared.fault.Fault.TheVariants as F
@@ -14,10 +15,12 @@ use Rattle.ild_run.specs.declared.fault.Role.{Role}
 use Rattle.ild_run.specs.declared.fault.Trouble.TheVariants as T
 use Rattle.ild_run.specs.declared.open.Job.{Job as Held}
 use Rattle.ild_run.specs.declared.open.Job.TheVariants as J
+use Rattle.ild_run.specs.declared.open.Task.{Task}
+use Rattle.ild_run.specs.declared.open.Task.TheVariants as P
 use Rattle.ild_session.specs.Step.{Holds, Collides}
 use Rattle.ild_run.specs.Words.{Job, checks, runs}
 use Rattle.ild_run.specs.First.{Tries}
-use Rattle.ild_run.specs.Work.{Taking, ends, answers, job_work, IsTaking, Takes}
+use Rattle.ild_run.specs.Work.{Work, Taking, ends, lists, answers, job_work, IsTaking, Takes}
 
 -- the job that the program holds
 abbrev pub job_seen : Held → Job
@@ -53,12 +56,17 @@ InputsFault m job t (F.Schema f) n = job_work job t ≡ ends (F.Schema f)
 InputsFault m job t F.Memory n = Unit {0}
 InputsFault m job t f n = ⊥
 
-abbrev pub OpensAnswer : Supply → Job → Taking → Result (List ℕ) Fault → Supply → Type 0
-OpensAnswer m job t (Ok b) n = job_work job t ≡ answers b
+-- the work that a task is
+abbrev pub work_seen : Task → Work
+work_seen (P.List rows) = lists (declared_names rows)
+work_seen (P.Answer b) = answers b
+
+abbrev pub OpensAnswer : Supply → Job → Taking → Result Task Fault → Supply → Type 0
+OpensAnswer m job t (Ok task) n = job_work job t ≡ work_seen task
 OpensAnswer m job t (Err f) n = InputsFault m job t f n
 
 -- the inputs are taken in order, as far as they lead
-pub record Opens (m : Supply) (job : Job) (result : Result (List ℕ) Fault) (n : Supply) : Type 0 where
+pub record Opens (m : Supply) (job : Job) (result : Result Task Fault) (n : Supply) : Type 0 where
   pub taking : Taking
   pub taken : IsTaking job m taking
   pub answer : OpensAnswer m job taking result n

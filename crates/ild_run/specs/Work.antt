@@ -3,6 +3,7 @@ use Rattle.std.specs.Prelude.{◌≡◌, ℕ, List, Bool, true, false, Option, S
 use Rattle.ild_compile.specs.Compile.{Verdict, table, faulty, Compiles}
 use Rattle.ild_edges.specs.Inputs.{Supply, MayBe}
 use Rattle.ild_edges.specs.declared.inputs.Taken.{Taken}
+use Rattle.ild_schema.specs.Names.{declared_names}
 use Rattle.ild_schema.specs.declared.row.Row.{Row}
 use Rattle.ild_run.specs.declared.fault.Fault.{Fault}
 use Rattle.ild_run.specs.declared.fault.Fault.TheVariants as F
@@ -11,9 +12,10 @@ use Rattle.ild_run.specs.declared.fault.Trouble.TheVariants as T
 use Rattle.ild_run.specs.Built.{is_built}
 use Rattle.ild_run.specs.Words.{Job, checks, runs, name_of}
 
--- the call ends with a fault, or it answers the lines of a script
+-- the call ends with a fault, lists names, or answers the lines of a script
 pub data Work : Type 0 where
   ends : Fault → Work
+  lists : List (List ℕ) → Work
   answers : List ℕ → Work
 
 -- what is taken of the inputs in each role, or would be, and what the schema is compiled to, or none where memory is wanting
@@ -39,7 +41,7 @@ built_work true script = script_work script
 
 -- what a job does with a table
 abbrev pub table_work : Job → List Row → (Role → Taken) → Work
-table_work (checks schema) rows input = ends F.NotBuilt
+table_work (checks schema) rows input = lists (declared_names rows)
 table_work (runs schema script) rows input = built_work (is_built rows) (input Role.Script)
 
 -- after the schema's input comes its compilation

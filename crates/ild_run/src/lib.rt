@@ -4,6 +4,7 @@
 mod built;
 mod fault;
 mod laws;
+mod listed;
 mod open;
 mod status;
 mod top;

@@ -62,7 +62,7 @@ fn take_input<I: Inputs>(inputs: &mut I, role: Role, name: &str) -> Result<Octet
     }
 }
 
-/// The table of types of a schema.
+/// The accepted table of types of a schema.
 fn table_of(alloc: Global, bytes: &[u8]) -> Result<Accepted, Fault>
     ensures { CompileAnswer bytes.now result }
 {
@@ -73,20 +73,28 @@ fn table_of(alloc: Global, bytes: &[u8]) -> Result<Accepted, Fault>
     }
 }
 
-/// Takes the inputs in order, and answers the script's bytes.
-pub fn take_script<I: Inputs>(alloc: Global, inputs: &mut I, job: &Job<'_>) -> Result<Octets, Fault>
+/// What is to be done, once the inputs are taken: the names that a schema declares are listed, or a script is answered.
+#[derive(Drop)]
+pub enum Task {
+    List(Accepted),
+    Answer(Octets),
+}
+
+/// Takes the inputs in order, as far as the job leads, and says what is to be done.
+pub fn plan<I: Inputs>(alloc: Global, inputs: &mut I, job: &Job<'_>) -> Result<Task, Fault>
     ensures { Opens (I.supply inputs.old) (job_seen job.now) result (I.supply inputs.new) }
 {
     let bytes = take_input(inputs, Role::Schema, job.schema())?;
     let schema = table_of(alloc, bytes.as_slice())?;
     let script = match job {
-        Job::Check(_) => return Err(Fault::NotBuilt),
+        Job::Check(_) => return Ok(Task::List(schema)),
         Job::Run(_, script) => script,
     };
     if !is_built(&schema) {
         return Err(Fault::NotBuilt);
     }
-    take_input(inputs, Role::Script, script)
+    let script = take_input(inputs, Role::Script, script)?;
+    Ok(Task::Answer(script))
 }
 
 /// Puts the block of the first value.

@@ -4,15 +4,20 @@ ghost use Rattle.ild_edges.specs.Inputs.{After};
 ghost use Rattle.ild_edges.specs.Store.{Later};
 ghost use Rattle.ild_run.specs.Words.{job_of};
 ghost use Rattle.ild_run.specs.Fault.{cut_status};
-ghost use Rattle.ild_run.specs.Ended.{Ended, ToldAs, call_of};
+ghost use Rattle.ild_run.specs.Cut.{ToldAs};
+ghost use Rattle.ild_run.specs.Listed.{ListedAs};
+ghost use Rattle.ild_run.specs.Ended.{Ended, call_of};
 ghost use Rattle.ild_run.specs.Complete.{IsComplete};
 
 use crate::fault::{Fault, write_fault};
-use crate::open::{job_of, put_first, take_script};
+use crate::listed::names_json;
+use crate::open::{Task, job_of, plan, put_first};
 use crate::status::Status;
+use ild_data::Txt;
 use ild_edges::{Inputs, Sink, Store};
 use ild_plain::PlainMap;
-use ild_session::{Cut, answer_all};
+use ild_script::Reply;
+use ild_session::{Cut, answer_all, write_reply};
 use std::alloc::Global;
 
 /// The status of a call whose text was cut off.
@@ -35,6 +40,19 @@ fn tell<W: Sink>(alloc: Global, fault: Fault, out: &mut W) -> Status
     }
 }
 
+/// Writes the line that lists names, and answers how it ended.
+fn list<W: Sink>(alloc: Global, names: &[Txt], out: &mut W) -> Status
+    ensures { ListedAs names.now (W.output out.old) result (W.output out.new) }
+{
+    let Some(json) = names_json(alloc, names) else {
+        return tell(alloc, Fault::Memory, out);
+    };
+    match write_reply(alloc, &Reply::Ok(json), out) {
+        Ok(()) => Status::Done,
+        Err(cut) => cut_status(cut),
+    }
+}
+
 /// Does what the words say, and answers how it ended.
 fn carry_out<I: Inputs, K: Store, W: Sink>(
     alloc: Global,
@@ -51,9 +69,13 @@ fn carry_out<I: Inputs, K: Store, W: Sink>(
     let Some(job) = job_of(words) else {
         return tell(alloc, Fault::Words, out);
     };
-    let script = match take_script(alloc, inputs, &job) {
-        Ok(script) => script,
+    let task = match plan(alloc, inputs, &job) {
+        Ok(task) => task,
         Err(fault) => return tell(alloc, fault, out),
+    };
+    let script = match &task {
+        Task::List(schema) => return list(alloc, schema.names(), out),
+        Task::Answer(script) => script,
     };
     let mut value = PlainMap::new(alloc);
     if let Err(fault) = put_first(alloc, &value, store) {
@@ -68,9 +90,10 @@ fn carry_out<I: Inputs, K: Store, W: Sink>(
 
 /// Does what the words say, and answers how it ended.
 ///
-/// Under `check` a schema is compiled, and its first fault is told. Under `run` each line of the script is answered as the same command is on the plain value of the map, from the empty map on. A
-/// root that is printed is the id of the block built from scratch from the value at that line. A line that is refused
-/// changes nothing, and its cause is there.
+/// Under `check` a schema is compiled, and the names that it declares are listed, or its first fault is told. Under `run` each
+/// line of the script is answered as the same command is on the plain value of the map, from the empty map on. A root that is
+/// printed is the id of the block built from scratch from the value at that line. A line that is refused changes nothing, and
+/// its cause is there.
 pub fn run<I: Inputs, K: Store, W: Sink>(
     alloc: Global,
     words: &[String],

@@ -8,5 +8,5 @@ mod session;
 
 pub use cut::{Cut, write};
 pub use putting::{PutFault, publish};
-pub use script::answer_all;
+pub use script::{answer_all, write_reply};
 pub use session::Session;

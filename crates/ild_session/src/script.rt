@@ -36,8 +36,8 @@ fn is_no(reply: &Reply) -> bool
     matches!(reply, Reply::No(_))
 }
 
-/// Writes the line of a reply. A refusal's is written without memory.
-fn write_reply<W: Sink>(alloc: Global, reply: &Reply, out: &mut W) -> Result<(), Cut>
+/// Writes the line of a reply by one call of the sink. A refusal's is written without memory.
+pub fn write_reply<W: Sink>(alloc: Global, reply: &Reply, out: &mut W) -> Result<(), Cut>
     ensures ok { OnOk result (Appends (W.output out.old).written (W.output out.new).written (reply_text reply.now)) }
     ensures err { OnErr result (AppendsFront (W.output out.old).written (W.output out.new).written (reply_text reply.now)) }
     ensures faults { (W.output out.old).faults ≤ (W.output out.new).faults }

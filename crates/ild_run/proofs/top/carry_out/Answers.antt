@@ -4,25 +4,25 @@ use Rattle.ild_edges.proofs.Later.{Later-trans}
 use Rattle.ild_run.specs.Words.{job_of}
 use Rattle.ild_run.specs.Opening.{job_seen}
 use Rattle.ild_run.specs.Ended.{Call, call_of}
-use Rattle.ild_run.proofs.Endings.{ended_words, ended_inputs, ended_first, ended_done, ended_refused, ended_cut, answered_all, answered_some, cut_cause}
+use Rattle.ild_run.proofs.Endings.{ended_words, ended_inputs, ended_listed, ended_first, ended_done, ended_refused, ended_cut, answered_all, answered_some, cut_cause}
 use Rattle.ild_run.proofs.top.carry_out.Goals as goal
 
 pub returns-in-Err-clause-ended : goal.returns-in-Err-clause-ended
 returns-in-Err-clause-ended g c =
-    let call : Call = call_of (job_of c.args.words.now) (g.I.Inputs.supply c.args.inputs.now) (g.K.Store.moment c.args.store.now) (g.W.Sink.output c.args.out.now) (g.I.Inputs.supply c.take_script.new.inputs) (g.K.Store.moment c.args.store.now) (g.W.Sink.output c.tell-in-Err.new.out) in
+    let call : Call = call_of (job_of c.args.words.now) (g.I.Inputs.supply c.args.inputs.now) (g.K.Store.moment c.args.store.now) (g.W.Sink.output c.args.out.now) (g.I.Inputs.supply c.plan.new.inputs) (g.K.Store.moment c.args.store.now) (g.W.Sink.output c.tell-in-Err.new.out) in
     let opens = c.in-Err.ensures in
     ended_inputs call (job_seen c.in-Some.job) opens.taking c.in-Err.fault c.tell-in-Err.result (sym c.in-Some.ensures) opens.taken opens.answer refl c.tell-in-Err.ensures
 
 pub returns-in-Err-put_first-clause-ended : goal.returns-in-Err-put_first-clause-ended
 returns-in-Err-put_first-clause-ended g c =
-    let call : Call = call_of (job_of c.args.words.now) (g.I.Inputs.supply c.args.inputs.now) (g.K.Store.moment c.args.store.now) (g.W.Sink.output c.args.out.now) (g.I.Inputs.supply c.take_script.new.inputs) (g.K.Store.moment c.put_first.new.store) (g.W.Sink.output c.tell-in-Err-put_first.new.out) in
+    let call : Call = call_of (job_of c.args.words.now) (g.I.Inputs.supply c.args.inputs.now) (g.K.Store.moment c.args.store.now) (g.W.Sink.output c.args.out.now) (g.I.Inputs.supply c.plan.new.inputs) (g.K.Store.moment c.put_first.new.store) (g.W.Sink.output c.tell-in-Err-put_first.new.out) in
     let opens = c.in-Ok.ensures in
     ended_first call (job_seen c.in-Some.job) opens.taking c.in-Ok.script c.new-value.result c.in-Err-put_first.fault c.tell-in-Err-put_first.result
     (sym c.in-Some.ensures) opens.taken opens.answer c.new-value.ensures c.in-Err-put_first.ensures c.tell-in-Err-put_first.ensures
 
 pub returns-in-Ok-true-clause-ended : goal.returns-in-Ok-true-clause-ended
 returns-in-Ok-true-clause-ended g c =
-    let call : Call = call_of (job_of c.args.words.now) (g.I.Inputs.supply c.args.inputs.now) (g.K.Store.moment c.args.store.now) (g.W.Sink.output c.args.out.now) (g.I.Inputs.supply c.take_script.new.inputs) (g.K.Store.moment c.answer_all.new.store) (g.W.Sink.output c.answer_all.new.out) in
+    let call : Call = call_of (job_of c.args.words.now) (g.I.Inputs.supply c.args.inputs.now) (g.K.Store.moment c.args.store.now) (g.W.Sink.output c.args.out.now) (g.I.Inputs.supply c.plan.new.inputs) (g.K.Store.moment c.answer_all.new.store) (g.W.Sink.output c.answer_all.new.out) in
     let opens = c.in-Ok.ensures in
     let done = rw (c.as_slice.ensures.same, c.in-Ok-true.field-0-test) at c.in-Ok-true.ensures.done in
     ended_refused call (job_seen c.in-Some.job) opens.taking (sym c.in-Some.ensures) opens.taken
@@ -31,7 +31,7 @@ returns-in-Ok-true-clause-ended g c =
 
 pub returns-in-Ok-false-clause-ended : goal.returns-in-Ok-false-clause-ended
 returns-in-Ok-false-clause-ended g c =
-    let call : Call = call_of (job_of c.args.words.now) (g.I.Inputs.supply c.args.inputs.now) (g.K.Store.moment c.args.store.now) (g.W.Sink.output c.args.out.now) (g.I.Inputs.supply c.take_script.new.inputs) (g.K.Store.moment c.answer_all.new.store) (g.W.Sink.output c.answer_all.new.out) in
+    let call : Call = call_of (job_of c.args.words.now) (g.I.Inputs.supply c.args.inputs.now) (g.K.Store.moment c.args.store.now) (g.W.Sink.output c.args.out.now) (g.I.Inputs.supply c.plan.new.inputs) (g.K.Store.moment c.answer_all.new.store) (g.W.Sink.output c.answer_all.new.out) in
     let opens = c.in-Ok.ensures in
     let done = rw (c.as_slice.ensures.same, c.in-Ok-false.field-0-test) at c.in-Ok-false.ensures.done in
     ended_done call (job_seen c.in-Some.job) opens.taking (sym c.in-Some.ensures) opens.taken
@@ -40,7 +40,7 @@ returns-in-Ok-false-clause-ended g c =
 
 pub returns-clause-ended : goal.returns-clause-ended
 returns-clause-ended g c =
-    let call : Call = call_of (job_of c.args.words.now) (g.I.Inputs.supply c.args.inputs.now) (g.K.Store.moment c.args.store.now) (g.W.Sink.output c.args.out.now) (g.I.Inputs.supply c.take_script.new.inputs) (g.K.Store.moment c.answer_all.new.store) (g.W.Sink.output c.answer_all.new.out) in
+    let call : Call = call_of (job_of c.args.words.now) (g.I.Inputs.supply c.args.inputs.now) (g.K.Store.moment c.args.store.now) (g.W.Sink.output c.args.out.now) (g.I.Inputs.supply c.plan.new.inputs) (g.K.Store.moment c.answer_all.new.store) (g.W.Sink.output c.answer_all.new.out) in
     let opens = c.in-Ok.ensures in
     let cut = rw c.as_slice.ensures.same at c.in-Err-answer_all.ensures.part in
     let some = answered_some call (job_seen c.in-Some.job) opens.taking c.in-Ok.script c.new-value.result c.put_first.result c.in_default-put_first.field-0 (g.K.Store.moment c.put_first.new.store) (idle c.answer_all.new.session)
