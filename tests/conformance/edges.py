@@ -186,14 +186,33 @@ def words(program, place):
         yield "the folder of blocks was made"
 
 
+def a_check_leaves_the_folder(program, place):
+    give(place)
+    yield from differs(start(program, place, ["check", "s"]), b'ok ["N"]\n', 0)
+    yield from differs(start(program, place, ["check", "/dev/stdin"], stdin=subprocess.PIPE), b"ok []\n", 0, b"# no types\n")
+    if sorted(os.listdir(place)) != ["s", "x"]:
+        yield f"left {sorted(os.listdir(place))}"
+
+
 def standard_output_that_fails(program, place):
     give(place)
-    with open("/dev/full", "wb") as full:
-        yield from differs(start(program, place, stdout=full), None, 7)
+    for given in (WORDS, ["check", "s"]):
+        with open("/dev/full", "wb") as full:
+            yield from differs(start(program, place, given, stdout=full), None, 7)
     near, far = os.pipe()
     os.close(near)
     with open(far, "wb") as closed:
         yield from differs(start(program, place, stdout=closed), None, 7)
+
+
+def a_long_reply_reaches_a_slow_reader(program, place):
+    """A reply of over 100,000 bytes, which is more than a pipe holds."""
+    names = [f"T{i:05}" for i in range(20_000)]
+    give(place, "".join(f"type {name} [{name}]\n" for name in names).encode())
+    run = start(program, place, ["check", "s"])
+    time.sleep(1)
+    listed = ",".join(f'"{name}"' for name in names)
+    yield from differs(run, f"ok [{listed}]\n".encode(), 0)
 
 
 def a_long_text_reaches_a_slow_reader(program, place):
@@ -267,6 +286,12 @@ def big_inputs(program, place):
     give(room, types + b"type End = Nowhere\n")
     for wrong in differs(start(program, room, ["check", "s"]), f"fault 3 schema resolve 2 unknown at {len(types) + 11}\n".encode(), 3):
         yield f"schema of many types: {wrong}"
+    for length, text, status in ((4_194_299, b'ok ["S"]\n', 0), (4_194_300, b"fault 3 schema accept 8 implicit at 16\n", 3)):
+        room = place / f"implicit text of {length} bytes"
+        implicit = "é" + "x" * (length - 2)
+        give(room, f'type S struct {{ a String (implicit "{implicit}") }}\n'.encode())
+        for wrong in differs(start(program, room, ["check", "s"]), text, status):
+            yield f"{room.name}: {wrong}"
 
 
 TESTS = (
@@ -279,7 +304,9 @@ TESTS = (
     inputs,
     standard_input_is_a_file,
     words,
+    a_check_leaves_the_folder,
     standard_output_that_fails,
+    a_long_reply_reaches_a_slow_reader,
     a_long_text_reaches_a_slow_reader,
     documents_show_what_comes,
     big_inputs,

@@ -1,7 +1,8 @@
 """A plain compiler of schemas, by docs/schema-language.md: it works out what the cases must write.
 
-Nothing of the program is used. `compiled(source)` answers the rows of the table of these bytes, each a name and what
-the type is, or raises `Fault` with the first fault, as in `resolve 2 unknown at 9`.
+Nothing of the program is used. `compiled(source)` answers the rows of the table of these bytes, each a name, what the
+type is and its place, or raises `Fault` with the first fault, as in `resolve 2 unknown at 9`. Each part of a type ends
+with its place, or begins with its name and then has it.
 """
 import re
 
@@ -18,8 +19,8 @@ SETTINGS = {
     "inline": ("discriminantKey",),
 }
 PRELUDE = [
-    ("Any", ("any",)), ("Bool", ("bool",)), ("Bytes", ("bytes",)), ("Int", ("int",)), ("Link", ("link", 0)),
-    ("List", ("list", (0, True))), ("Map", ("map", 7, (0, True), ("map",))), ("String", ("string",)),
+    ("Any", ("any",), 0), ("Bool", ("bool",), 0), ("Bytes", ("bytes",), 0), ("Int", ("int",), 0), ("Link", ("link", 0), 0),
+    ("List", ("list", (0, True, 0)), 0), ("Map", ("map", (7, 0), (0, True, 0), ("map",)), 0), ("String", ("string",), 0),
 ]
 
 
@@ -116,7 +117,7 @@ class Reader:
         if self.may_take("="):
             return ("copy", self.type())
         if self.sees("&", "[", "{"):
-            _, body, _ = self.reference(-1)
+            body = self.reference(-1)[1]
             return body + (self.form("map", "listpairs", "stringpairs", "advanced"),) if body[0] == "map" else body
         at = self.left[-1][2]
         word = self.take("struct", "union", "enum", "unit", "float", *SCALARS)
@@ -125,24 +126,28 @@ class Reader:
         return (word,) if word in SCALARS else getattr(self, word)()
 
     def reference(self, depth):
-        """Whether it is nullable, the type and its offset. So many inline types surround it; -1 is for a declared type."""
+        """Whether it is nullable, the type, its offset, and that of the first token, which may be `nullable`.
+
+        So many inline types surround it; -1 is for a declared type.
+        """
+        begun = self.left[-1][2]
         nullable = depth >= 0 and self.may_take("nullable")
         at = self.left[-1][2]
         if depth == 32 and self.sees("&", "[", "{"):
             self.refuse()
         if self.may_take("&"):
-            return nullable, ("link", self.type()), at
+            return nullable, ("link", self.type()), at, begun
         if self.may_take("["):
             element = self.reference(depth + 1)
             self.take("]")
-            return nullable, ("list", element), at
+            return nullable, ("list", element), at, begun
         if self.may_take("{"):
             key = self.type()
             self.take(":")
             value = self.reference(depth + 1)
             self.take("}")
-            return nullable, ("map", key, value), at
-        return nullable, ("named", self.type()), at
+            return nullable, ("map", key, value), at, begun
+        return nullable, ("named", self.type()), at, begun
 
     def form(self, *words):
         """One of these words behind `representation`, with its settings. Where none stands, it is the first."""
@@ -221,7 +226,7 @@ class Table:
     """The rows, and the events in which faults are sought, in the order of the text. `numbers` has those of the names."""
 
     def __init__(self, decls, numbers):
-        self.numbers, self.events, self.rows, self.places = numbers, [], list(PRELUDE), [0] * 8
+        self.numbers, self.events, self.rows = numbers, [], list(PRELUDE)
         for declared, body in decls:
             if declared is None:
                 self.events.append(("advanced",) + body[1])
@@ -232,18 +237,17 @@ class Table:
         """Appends a row, and behind it those of the inline types in it."""
         number = len(self.rows)
         self.events.append((event, name, at))
-        self.places.append(at)
         self.rows.append(None)
-        self.rows[number] = (name, getattr(self, body[0], lambda *_: body)(*body[1:]))
+        self.rows[number] = (name, getattr(self, body[0], lambda *_: body)(*body[1:]), at)
         return number
 
     def use(self, name, at):
         self.events.append(("used", name, at))
         return self.numbers.get(name, 0)
 
-    def slot(self, nullable, body, at):
-        """The type of a reference, and whether it is nullable."""
-        return (self.use(*body[1]) if body[0] == "named" else self.begin("", at, "inline", body)), nullable
+    def slot(self, nullable, body, at, begun):
+        """The type of a reference, whether it is nullable, and its place."""
+        return (self.use(*body[1]) if body[0] == "named" else self.begin("", at, "inline", body)), nullable, begun
 
     def copy(self, target):
         return ("copy", self.use(*target))
@@ -258,7 +262,7 @@ class Table:
         return ("list", self.slot(*element))
 
     def map(self, key, value, form=("map",)):
-        made = ("map", self.use(*key), self.slot(*value))
+        made = ("map", (self.use(*key), key[1]), self.slot(*value))
         if form[0] != "advanced":
             return made + (form,)
         self.events.append(("advanced",) + form[1])
@@ -268,7 +272,7 @@ class Table:
         made = []
         for before, (name, at, optional, reference, opts) in enumerate(fields):
             self.events.append(("part", before, at))
-            made.append((name, optional, self.slot(*reference), opts))
+            made.append((name, at, optional, self.slot(*reference), opts))
         return ("struct", made, form)
 
     def union(self, members, form):
@@ -276,7 +280,7 @@ class Table:
         for before, (at, link, target, mark) in enumerate(members):
             self.events.append(("part", before, at))
             name = "&" + target[0] if link else target[0]
-            made.append((name, self.begin(name, at, "inline", ("link", target)) if link else self.use(*target), mark))
+            made.append((name, at, self.begin(name, at, "inline", ("link", target)) if link else self.use(*target), mark))
             if mark and mark[:2] == ("kind", "float"):
                 self.float(mark[2])
         return ("union", made, form)
@@ -295,7 +299,7 @@ def check_limits(events):
 
 
 def check_words(events):
-    known = {name for name, _ in PRELUDE}
+    known = {name for name, _, _ in PRELUDE}
     for event, name, at in events:
         if event == "declared":
             if name in known | {"Float"}:
@@ -310,14 +314,14 @@ def check_words(events):
             raise Fault("resolve 5 advanced", at)
 
 
-def check_copies(rows, places):
+def check_copies(rows):
     for number in range(len(rows)):
         seen, at = set(), number
         while rows[at][1][0] == "copy" and at not in seen:
             seen.add(at)
             at = rows[at][1][1]
         if at == number and seen:
-            raise Fault("resolve 4 copycycle", places[number])
+            raise Fault("resolve 4 copycycle", rows[number][2])
 
 
 def compiled(source):
@@ -325,11 +329,19 @@ def compiled(source):
     first = Table(decls, {})
     check_limits(first.events)
     check_words(first.events)
-    table = Table(decls, {name: n for n, (name, _) in reversed(list(enumerate(first.rows))) if name})
-    check_copies(table.rows, table.places)
+    table = Table(decls, {name: n for n, (name, _, _) in reversed(list(enumerate(first.rows))) if name})
+    check_copies(table.rows)
     return table.rows
 
 
 def is_plain_map(rows):
     """Whether the one declared type is N, a plain map from String to Int without null: the schemas that `run` takes."""
-    return rows[8:] == [("N", ("map", 7, (3, False), ("map",)))]
+    if [name for name, _, _ in rows[8:]] != ["N"] or rows[8][1][0] != "map":
+        return False
+    _, key, value, form = rows[8][1]
+    return (key[0], value[:2], form) == (7, (3, False), ("map",))
+
+
+def declared_names(rows):
+    """The names of the declared types, in order: those of the prelude, of inline types and of members `&T` aren't among them."""
+    return [name for name, _, _ in rows[8:] if name and not name.startswith("&")]

@@ -121,7 +121,3 @@ unfoldable pub schema_at : Stream → Result Ast ℕ
 schema_at s = do
   ds ← many_at decl_at is_end (most s) s
   Ok (record { decls = ds.0 })
-
--- the tree of a source with these tokens
-abbrev pub parse_of : List ℕ → List Token → Result Ast ℕ
-parse_of src ts = schema_at (stream src ts)

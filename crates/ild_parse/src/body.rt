@@ -1,6 +1,5 @@
 //! Bodies of types.
-ghost use Rattle.ild_parse.specs.Seen.{stream_of};
-ghost use Rattle.ild_parse.specs.Seen.{Gives};
+ghost use Rattle.ild_parse.specs.Seen.{stream_of, Gives};
 ghost use Rattle.ild_grammar.proofs.Grammar.{map_at, struct_at, union_at, enum_at, unit_at, list_at, scalar_at, body_at};
 
 use crate::input::Input;

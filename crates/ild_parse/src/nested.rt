@@ -1,6 +1,5 @@
 //! References to types: the one rule of the grammar that nests.
-ghost use Rattle.ild_parse.specs.Seen.{stream_of};
-ghost use Rattle.ild_parse.specs.Seen.{Gives};
+ghost use Rattle.ild_parse.specs.Seen.{stream_of, Gives};
 ghost use Rattle.ild_grammar.specs.ReferenceSeen.{refers_of};
 ghost use Rattle.ild_grammar.proofs.Refer.{inline_at, ref_with, list_with, map_with, named_at, link_at};
 

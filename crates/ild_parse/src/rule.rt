@@ -3,8 +3,9 @@ ghost use Rattle.std.specs.Prelude.{◌≡◌, ℕ, Result};
 ghost use Rattle.ild_grammar.proofs.Stream.{Stream, most};
 ghost use Rattle.ild_grammar.proofs.Read.{many_at};
 ghost use Rattle.ild_grammar.proofs.Form.{optional_form_at, needed_form_at};
-ghost use Rattle.ild_grammar.proofs.Grammar.{closes, braced_at};
+ghost use Rattle.ild_grammar.proofs.Grammar.{braced_at};
 ghost use Rattle.ild_parse.specs.Seen.{stream_of, Gives};
+ghost use Rattle.ild_parse.specs.Ends.{ends_by};
 
 use crate::input::Input;
 use crate::{List, ParseErr};
@@ -18,14 +19,34 @@ pub(crate) trait Rule: Drop {
         ensures { Gives (λ x. (x.0, stream_of x.1)) result (reading (stream_of input.entry)) };
 }
 
-/// { part }, up to a closing brace
-fn parts<P: Rule>(alloc: Global, input: Input<'_>) -> Result<(List<P>, Input<'_>), ParseErr>
-    ensures { Gives (λ x. (x.0, stream_of x.1)) result (many_at P.reading closes (most (stream_of input.entry)) (stream_of input.entry)) }
+/// Where parts that repeat end: at a closing brace, or at the end of the source.
+#[derive(Clone, Copy)]
+pub(crate) enum Ending {
+    Brace,
+    Source,
+}
+
+fn ends(ending: Ending, input: Input<'_>) -> bool
+    ensures { result ≡ ends_by ending (stream_of input.entry) }
+{
+    match ending {
+        Ending::Brace => input.is("}"),
+        Ending::Source => input.is_end(),
+    }
+}
+
+/// { part }
+pub(crate) fn parts<P: Rule>(
+    alloc: Global,
+    ending: Ending,
+    input: Input<'_>,
+) -> Result<(List<P>, Input<'_>), ParseErr>
+    ensures { Gives (λ x. (x.0, stream_of x.1)) result (many_at P.reading (ends_by ending) (most (stream_of input.entry)) (stream_of input.entry)) }
 {
     let mut parts = Vec::new(alloc);
     let mut rest = input;
     for _ in 0..input.most() {
-        if rest.is("}") {
+        if ends(ending, rest) {
             return Ok((List::from_vec(parts), rest));
         }
         let (part, after) = P::read(alloc, rest)?;
@@ -44,7 +65,7 @@ pub(crate) fn braced<P: Rule>(
     ensures { Gives (λ x. (x.0, stream_of x.1)) result (braced_at P.reading (stream_of input.entry)) }
 {
     let input = input.after("{")?;
-    let (parts, input) = parts::<P>(alloc, input)?;
+    let (parts, input) = parts::<P>(alloc, Ending::Brace, input)?;
     let input = input.after("}")?;
     Ok((parts, input))
 }

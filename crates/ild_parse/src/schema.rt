@@ -3,16 +3,14 @@ ghost use Rattle.std.specs.Prelude.{◌≡◌, ◌⊎◌, IfErr, IfOk, Ok, Err};
 ghost use Rattle.ild_lex.specs.Lex.{AreTokens};
 ghost use Rattle.ild_grammar.specs.DerivePart.{Derives};
 ghost use Rattle.ild_parse.specs.Wrong.{IsWrong};
-ghost use Rattle.ild_grammar.proofs.Stream.{stream, most, is_end};
-ghost use Rattle.ild_parse.specs.Seen.{stream_of};
-ghost use Rattle.ild_parse.specs.Seen.{Gives};
-ghost use Rattle.ild_grammar.proofs.Read.{many_at};
-ghost use Rattle.ild_grammar.proofs.Grammar.{type_decl_at, decl_at, schema_at, parse_of};
+ghost use Rattle.ild_parse.specs.Seen.{stream_of, Gives};
+ghost use Rattle.ild_grammar.proofs.Grammar.{type_decl_at, decl_at, schema_at};
 
 use crate::body::read_body;
 use crate::input::Input;
+use crate::rule::{Ending, Rule, parts};
 use crate::terminal::read_type_name;
-use crate::{Ast, Decl, List, ParseErr, TypeDecl};
+use crate::{Ast, Decl, ParseErr, TypeDecl};
 use ild_lex::Tokens;
 use std::alloc::Global;
 
@@ -26,39 +24,25 @@ fn read_type_decl(alloc: Global, input: Input<'_>) -> Result<(TypeDecl, Input<'_
     Ok((TypeDecl { name, body }, input))
 }
 
-#[tactic(auto, unfolding(ild_grammar::proofs::Grammar::decl_at))]
-fn read_decl(alloc: Global, input: Input<'_>) -> Result<(Decl, Input<'_>), ParseErr>
-    ensures { Gives (λ x. (x.0, stream_of x.1)) result (decl_at (stream_of input.entry)) }
-{
-    if input.is("advanced") {
-        let (name, input) = read_type_name(alloc, input.rest())?;
-        return Ok((Decl::Advanced(name), input));
-    }
-    let (decl, input) = read_type_decl(alloc, input)?;
-    Ok((Decl::Type(decl), input))
-}
+impl Rule for Decl {
+    ghost reading = { decl_at };
 
-fn decls(alloc: Global, input: Input<'_>) -> Result<(List<Decl>, Input<'_>), ParseErr>
-    ensures { Gives (λ x. (x.0, stream_of x.1)) result (many_at decl_at is_end (most (stream_of input.entry)) (stream_of input.entry)) }
-{
-    let mut parts = Vec::new(alloc);
-    let mut rest = input;
-    for _ in 0..input.most() {
-        if rest.is_end() {
-            return Ok((List::from_vec(parts), rest));
+    #[tactic(auto, unfolding(ild_grammar::proofs::Grammar::decl_at))]
+    fn read<'s>(alloc: Global, input: Input<'s>) -> Result<(Decl, Input<'s>), ParseErr> {
+        if input.is("advanced") {
+            let (name, input) = read_type_name(alloc, input.rest())?;
+            return Ok((Decl::Advanced(name), input));
         }
-        let (part, after) = read_decl(alloc, rest)?;
-        parts.push(part)?;
-        rest = after;
+        let (decl, input) = read_type_decl(alloc, input)?;
+        Ok((Decl::Type(decl), input))
     }
-    Err(rest.fault())
 }
 
 #[tactic(auto, unfolding(ild_grammar::proofs::Grammar::schema_at))]
 fn read_schema(alloc: Global, input: Input<'_>) -> Result<Ast, ParseErr>
     ensures { Gives (λ a. a) result (schema_at (stream_of input.entry)) }
 {
-    let (decls, _) = decls(alloc, input)?;
+    let (decls, _) = parts(alloc, Ending::Source, input)?;
     Ok(Ast { decls })
 }
 

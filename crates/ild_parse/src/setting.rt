@@ -1,6 +1,5 @@
 //! Settings in braces.
-ghost use Rattle.ild_parse.specs.Seen.{stream_of};
-ghost use Rattle.ild_parse.specs.Seen.{Gives};
+ghost use Rattle.ild_parse.specs.Seen.{stream_of, Gives};
 ghost use Rattle.ild_grammar.proofs.Read.{setting_at, one_setting_at, both_settings_at, two_settings_at};
 
 use crate::input::Input;

@@ -1,6 +1,5 @@
 //! Names, texts and numbers with their places.
-ghost use Rattle.ild_parse.specs.Seen.{stream_of};
-ghost use Rattle.ild_parse.specs.Seen.{Gives};
+ghost use Rattle.ild_parse.specs.Seen.{stream_of, Gives};
 ghost use Rattle.ild_grammar.proofs.Read.{type_name_at, name_at, text_at, number_at};
 
 use crate::input::Input;

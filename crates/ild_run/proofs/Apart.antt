@@ -1,12 +1,9 @@
 -- The premise on collisions can be met.
-use Rattle.std.proofs.Common.{◌≡◌, ℕ, List, Option, Some, sym, ap, subst}
-use Rattle.std.specs.Prelude.{[], ◌∷◌}
+use Rattle.std.proofs.Common.{◌≡◌, ℕ, List, Option, Some, subst}
 use Rattle.ild_data.specs.Spell.{id_of}
-use Rattle.ild_edges.specs.Store.{Moment, block_at}
+use Rattle.ild_edges.specs.Store.{block_at}
 use Rattle.ild_edges.specs.Told.{IfTold}
-use Rattle.ild_session.specs.Step.{Holds}
-use Rattle.ild_session.specs.Plain.{AreApart}
-use Rattle.ild_run.specs.Complete.{MayCome, CanBeApart}
+use Rattle.ild_run.specs.Complete.{CanBeApart}
 
 held_in : (told : Option (List (List ℕ))) (held : List (List ℕ)) (b : List ℕ) → told ≡ Some held → IfTold told (λ held. (block_at held (id_of b) ≡ Some b) × Unit {0}) → block_at held (id_of b) ≡ Some b
 held_in told held b is has = (subst (λ (x : Option (List (List ℕ))). IfTold x (λ held. (block_at held (id_of b) ≡ Some b) × Unit {0})) is has).0

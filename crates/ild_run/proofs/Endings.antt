@@ -10,7 +10,7 @@ use Rattle.ild_plain.specs.Value.{Value, blocks_of}
 use Rattle.ild_script.specs.declared.reply.Reply.{Reply}
 use Rattle.ild_script.specs.Line.{lines_of}
 use Rattle.ild_session.specs.Lines.{LinesDone, LinesCut}
-use Rattle.ild_session.specs.Run.{Run, most_gets, most_puts}
+use Rattle.ild_session.specs.Run.{Run}
 use Rattle.ild_session.specs.Session.{State, idle}
 use Rattle.ild_session.specs.Step.{Holds}
 use Rattle.ild_session.proofs.Steps.{run_gets, run_puts}

@@ -1,6 +1,6 @@
 //! The parts of types by their texts, beside a plain search through them, and the ends of copies, beside a plain walk.
-use ild_compile::table_of;
-use ild_schema::{Schema, TypeDef, TypeNo};
+use ild_compile::compile;
+use ild_schema::{Accepted, TypeDef, TypeNo};
 use std::alloc::{AllocError, Global};
 use std::test::Fail;
 
@@ -61,7 +61,7 @@ fn searched(def: &TypeDef, name: &str) -> Option<usize> {
 }
 
 /// The type to which a type leads, by its copies one after the other.
-fn walked(schema: &Schema, from: u32) -> u32 {
+fn walked(schema: &Accepted, from: u32) -> u32 {
     let mut at = from;
     for _ in 0..schema.types() {
         if at >= schema.types() {
@@ -77,7 +77,7 @@ fn walked(schema: &Schema, from: u32) -> u32 {
 
 #[test]
 fn parts_by_their_texts(rt: HostRuntime) -> Result<(), Fail> {
-    let schema = table_of(rt.alloc(), SRC.as_bytes())?;
+    let schema = compile(rt.alloc(), SRC.as_bytes())?;
     for (ty, text, name, spelled) in FOUND {
         let ty = schema.type_named(ty).ok_or("a type")?;
         if ty.0 < schema.types() {
@@ -94,7 +94,7 @@ fn parts_by_their_texts(rt: HostRuntime) -> Result<(), Fail> {
 
 #[test]
 fn parts_as_a_search_finds_them(rt: HostRuntime) -> Result<(), Fail> {
-    let schema = table_of(rt.alloc(), SRC.as_bytes())?;
+    let schema = compile(rt.alloc(), SRC.as_bytes())?;
     for n in 0..schema.types() {
         for (_, text, _, _) in FOUND {
             let want = searched(schema.def(TypeNo(n)), text);
@@ -126,7 +126,7 @@ fn many_fields(alloc: Global, count: usize) -> Result<String, AllocError> {
 #[test]
 fn parts_of_a_struct_of_1024_fields(rt: HostRuntime) -> Result<(), Fail> {
     let src = many_fields(rt.alloc(), 1024)?;
-    let schema = table_of(rt.alloc(), src.as_str().as_bytes())?;
+    let schema = compile(rt.alloc(), src.as_str().as_bytes())?;
     let ty = schema.type_named("S").ok_or("a type")?;
     if ty.0 < schema.types() {
         for i in 0..1024usize {
@@ -164,7 +164,7 @@ fn chain(alloc: Global, count: usize) -> Result<String, AllocError> {
 #[test]
 fn ends_of_copies(rt: HostRuntime) -> Result<(), Fail> {
     let src = chain(rt.alloc(), 200)?;
-    let schema = table_of(rt.alloc(), src.as_str().as_bytes())?;
+    let schema = compile(rt.alloc(), src.as_str().as_bytes())?;
     for n in 0..schema.types() {
         let want = if n <= 8 { n } else { 3 };
         assert_eq!(rt; schema.base(TypeNo(n)).0, want, "the base of {n}");

@@ -59,6 +59,13 @@ fn is_joined(rt: &impl Abort, text: &str, delim: &str, parts: &[&str]) -> Result
         assert_eq!(rt; split.get(i), Some(*part));
     }
     assert_eq!(rt; split.get(parts.len()), None);
+    let mut left = Some(split);
+    for part in parts {
+        let (first, behind) = left.ok_or("a part is left")?.split_first();
+        assert_eq!(rt; first, *part);
+        left = behind;
+    }
+    assert_eq!(rt; left.is_none(), true);
     Ok(())
 }
 
@@ -97,6 +104,13 @@ fn is_paired(
         assert_eq!(rt; split.get(i), Some(*pair));
     }
     assert_eq!(rt; split.get(parts.len()), None);
+    let mut left = split;
+    for part in parts {
+        let (first, behind) = left.split_first().ok_or("a pair is left")?;
+        assert_eq!(rt; first, *part);
+        left = behind;
+    }
+    assert_eq!(rt; left.split_first().is_none(), true);
     Ok(())
 }
 
@@ -144,6 +158,12 @@ fn a_million_pairs_are_split_in_one_walk(rt: HostRuntime) -> Result<(), Fail> {
         .ok_or("a million pairs")?;
     assert_eq!(rt; split.len(), 1 << 20);
     assert_eq!(rt; split.get((1 << 20) - 1), Some(("b", "2")));
+    let mut left = split;
+    for _ in 0..1 << 20 {
+        let (_, behind) = left.split_first().ok_or("a pair is left")?;
+        left = behind;
+    }
+    assert_eq!(rt; left.len(), 0);
     Ok(())
 }
 

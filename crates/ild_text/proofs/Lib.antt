@@ -8,3 +8,4 @@ pub mod Finding
 pub mod Keyed
 pub mod Behind
 pub mod ByCount
+pub mod Firsts

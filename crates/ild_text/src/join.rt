@@ -1,9 +1,9 @@
 //! A text that is parts with a delimiter between them.
-ghost use Rattle.std.specs.Prelude.{◌≡◌, ◌<◌, ◌↔◌, IfOk, IsOk, List, ℕ, Err, length, option_map, slice_get};
+ghost use Rattle.std.specs.Prelude.{◌≡◌, ◌<◌, ◌∷◌, ◌↔◌, IfOk, IsOk, List, ℕ, Err, length, option_map, slice_get};
 ghost use Rattle.ild_schema.specs.Joins.{IsJoin, Overlap};
-ghost use Rattle.ild_text.specs.Parts.{parts};
+ghost use Rattle.ild_text.specs.Parts.{parts, parts_left};
 
-use crate::place::{count_parts, part_at};
+use crate::place::{count_parts, halves, part_at};
 use crate::{JoinParts, Split};
 
 /// The parts of a text, which are so many.
@@ -27,5 +27,21 @@ impl<'b> JoinParts<'b> {
         ensures { option_map (λ part. part.now) result ≡ slice_get (parts self.now) i }
     {
         part_at(self.text, self.delim, i)
+    }
+
+    /// The first part, and the parts behind it where there are any: all parts are gone through so in one walk.
+    pub fn split_first(&self) -> (&'b str, Option<JoinParts<'b>>)
+        ensures { parts self.now ≡ result.0.now ∷ parts_left result.1 }
+    {
+        match halves(self.text, self.delim) {
+            Some((part, behind)) => (
+                part,
+                Some(JoinParts {
+                    text: behind,
+                    delim: self.delim,
+                }),
+            ),
+            None => (self.text, None),
+        }
     }
 }

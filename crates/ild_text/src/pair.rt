@@ -1,10 +1,10 @@
 //! A text that is pairs of a key and a value.
-ghost use Rattle.std.specs.Prelude.{◌≡◌, ◌<◌, ◌↔◌, Err, IfOk, IsOk, List, OnOk, length, option_map, slice_get, true, ℕ};
+ghost use Rattle.std.specs.Prelude.{◌≡◌, ◌<◌, ◌∷◌, [], ◌↔◌, Err, IfOk, IsOk, List, MatchOption, OnOk, length, option_map, slice_get, true, ℕ};
 ghost use Rattle.ild_schema.specs.Joins.{IsPairs, Overlap};
 ghost use Rattle.ild_text.specs.Pairs.{are_keyed, entries, pairs_of};
 ghost use Rattle.ild_text.specs.Parts.{pairs_in};
 
-use crate::place::{are_keyed, count_parts, halves, part_at};
+use crate::place::{are_keyed, count_parts, first_entry, halves, part_at};
 use crate::{PairParts, Split};
 
 /// How many pairs the text is.
@@ -58,5 +58,25 @@ impl<'b> PairParts<'b> {
         ensures { option_map (λ pair. (pair.0.now, pair.1.now)) result ≡ slice_get (pairs_in self.now) i }
     {
         halves(part_at(self.text, self.entry, i)?, self.inner)
+    }
+
+    /// The first pair and the pairs behind it, or `None` where there is none: all pairs are gone through so in one walk.
+    pub fn split_first(&self) -> Option<((&'b str, &'b str), PairParts<'b>)>
+        ensures { MatchOption result (pairs_in self.now ≡ []) (λ r. pairs_in self.now ≡ (r.0.0.now, r.0.1.now) ∷ pairs_in r.1) }
+    {
+        if self.count == 0 {
+            return None;
+        }
+        let (first, behind) = first_entry(self.text, self.entry);
+        let pair = halves(first, self.inner)?;
+        Some((
+            pair,
+            PairParts {
+                text: behind,
+                inner: self.inner,
+                entry: self.entry,
+                count: self.count - 1,
+            },
+        ))
     }
 }

@@ -1,9 +1,9 @@
 //! Where a delimiter occurs in a text.
-ghost use Rattle.std.specs.Prelude.{◌≡◌, ◌<◌, ◌≤◌, IfErr, IfOk, is_some, length, option_map, slice_get};
+ghost use Rattle.std.specs.Prelude.{◌≡◌, ◌<◌, ◌≤◌, ◌∷◌, List, ℕ, true, IfErr, IfOk, is_some, length, option_map, slice_get};
 ghost use Rattle.ild_schema.specs.Joins.{IsJoin, Overlap};
 ghost use Rattle.ild_text.specs.Cut.{cut, halves};
 ghost use Rattle.ild_text.specs.Find.{Finds};
-ghost use Rattle.ild_text.specs.Pairs.{are_keyed};
+ghost use Rattle.ild_text.specs.Pairs.{are_keyed, entries};
 
 use crate::Split;
 use memchr::memmem;
@@ -89,4 +89,15 @@ pub fn are_keyed(text: &str, inner: &str, entry: &str) -> bool
         rest = behind;
     }
     has(rest, inner)
+}
+
+/// The first entry, and the text of the entries behind it, which is empty where there is none.
+pub fn first_entry<'b>(text: &'b str, entry: &str) -> (&'b str, &'b str)
+    requires { 0 < length entry.now }
+    ensures { (inner : List ℕ) → 0 < length text.now → are_keyed inner (entries entry.now text.now) ≡ true → entries entry.now text.now ≡ result.0.now ∷ entries entry.now result.1.now }
+{
+    match halves(text, entry) {
+        Some(cut) => cut,
+        None => (text, ""),
+    }
 }

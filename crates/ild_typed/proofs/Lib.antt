@@ -1,5 +1,6 @@
 mod Examples
 mod WhyExamples
+mod PathExamples
 pub mod Cleans
 pub mod CleanFields
 pub mod CleanPairs
