@@ -18,8 +18,8 @@ use crate::reference::{link_row, slot_in};
 use crate::word::type_no;
 use ild_data::{List as AstList, Txt};
 use ild_grammar::{
-    Body, EnumBody, Field as AstField, MapForm as AstMapForm, Member as AstMember,
-    Ref, StructBody, Target, TypeName, UnionBody,
+    Body, EnumBody, Field as AstField, MapForm as AstMapForm, Member as AstMember, Ref, StructBody,
+    Target, TypeName, UnionBody,
 };
 use ild_schema::{
     EnumDef, Field, Fields, Member, Members, Row, Slot, StructDef, TypeDef, TypeNo, UnionDef,
