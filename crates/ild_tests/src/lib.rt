@@ -33,8 +33,6 @@ mod run;
 #[cfg(test)]
 mod splits;
 #[cfg(test)]
-mod tests;
-#[cfg(test)]
 mod trees;
 #[cfg(test)]
 mod values;
