@@ -2,9 +2,10 @@
 //! caret stands before the place that is told, and is no part of the schema.
 use ild_compile::{CompileErr, compile};
 use std::alloc::Global;
+use std::process::Abort;
 use std::test::Fail;
 
-const CASES: [(&str, &str); 102] = [
+const CYCLE: [(&str, &str); 8] = [
     (
         "accept 1 cycle",
         "type ^A struct { a A } representation stringjoin { join \":\" }",
@@ -34,6 +35,9 @@ const CASES: [(&str, &str); 102] = [
         "accept 1 cycle",
         "type M {Int:Int} type ^A struct { a A } representation stringjoin { join \":\" }",
     ),
+];
+
+const NULLCLASH: [(&str, &str); 7] = [
     (
         "accept 2 nullclash",
         "type N unit representation null type L [^nullable N]",
@@ -56,6 +60,9 @@ const CASES: [(&str, &str); 102] = [
         "accept 2 nullclash",
         "type N unit representation null type U union { | N null | Int int } representation kinded type L [^nullable U]",
     ),
+];
+
+const KINDCLASH: [(&str, &str); 9] = [
     (
         "accept 3 kindclash",
         "type U union { | A string | ^B string } representation kinded type A string type B string",
@@ -92,6 +99,9 @@ const CASES: [(&str, &str); 102] = [
         "accept 11 mapkey",
         "type M {^U:Int} type U union { | Int } representation kinded",
     ),
+];
+
+const PREFIXCLASH: [(&str, &str); 9] = [
     (
         "accept 4 prefixclash",
         "type U union { | A \"a\" | ^B \"ab\" } representation stringprefix type A string type B string",
@@ -128,6 +138,9 @@ const CASES: [(&str, &str); 102] = [
         "ok",
         "type U union { | Bytes \"ab\" | B \"AC\" } representation bytesprefix type B bytes",
     ),
+];
+
+const DELIM: [(&str, &str); 5] = [
     (
         "accept 5 delim",
         "type ^S struct { a String } representation stringpairs { innerDelim \"\" entryDelim \"&\" }",
@@ -148,6 +161,9 @@ const CASES: [(&str, &str); 102] = [
         "accept 5 delim",
         "type ^S struct { } representation stringjoin { join \"\" }",
     ),
+];
+
+const NOTTEXT: [(&str, &str); 7] = [
     (
         "accept 6 nottext",
         "type S struct { a String ^b Int } representation stringjoin { join \":\" }",
@@ -176,6 +192,9 @@ const CASES: [(&str, &str); 102] = [
         "accept 6 nottext",
         "type U union { | ^Int \"a\" } representation stringprefix",
     ),
+];
+
+const OPTIONALPLACE: [(&str, &str); 4] = [
     (
         "accept 7 optionalplace",
         "type S struct { a optional Int ^b Int } representation tuple",
@@ -189,6 +208,9 @@ const CASES: [(&str, &str); 102] = [
         "type S struct { ^a optional String } representation stringjoin { join \":\" }",
     ),
     ("ok", "type S struct { a optional Int b Int }"),
+];
+
+const IMPLICIT: [(&str, &str); 7] = [
     (
         "accept 8 implicit",
         "type S struct { ^a Int (implicit \"x\") }",
@@ -208,6 +230,9 @@ const CASES: [(&str, &str); 102] = [
         "type S struct { ^a Any (implicit true) }",
     ),
     ("ok", "type S struct { a Bool (implicit true) }"),
+];
+
+const NAMECLASH: [(&str, &str); 10] = [
     ("accept 9 nameclash", "type S struct { a Int ^a Int }"),
     (
         "accept 9 nameclash",
@@ -236,6 +261,9 @@ const CASES: [(&str, &str); 102] = [
         "accept 9 nameclash",
         "type E enum { | A (\"1\") | ^B (\"1\") } representation int",
     ),
+];
+
+const NAMECLASH_MORE: [(&str, &str); 8] = [
     (
         "ok",
         "type E enum { | A (\"1\") | B (\"2\") } representation int",
@@ -268,6 +296,9 @@ const CASES: [(&str, &str); 102] = [
         "accept 9 nameclash",
         "type U union { | ^A \"a\" } representation inline { discriminantKey \"k\" } type A struct { k Int } representation tuple",
     ),
+];
+
+const INLINEMEMBER: [(&str, &str); 3] = [
     (
         "accept 10 inlinemember",
         "type U union { | ^A \"k\" } representation inline { discriminantKey \"t\" } type A struct { k Int } representation tuple",
@@ -280,9 +311,15 @@ const CASES: [(&str, &str); 102] = [
         "ok",
         "type U union { | B \"k\" } representation inline { discriminantKey \"t\" } type B = A type A struct { k Int }",
     ),
+];
+
+const MAPKEY: [(&str, &str); 3] = [
     ("accept 11 mapkey", "type M {^Int:Int}"),
     ("accept 11 mapkey", "type L [{^Int:Int}]"),
     ("ok", "type M {E:Int} type E enum { | X }"),
+];
+
+const STRATEGY: [(&str, &str); 10] = [
     (
         "accept 12 strategy",
         "type ^S struct { } representation stringjoin { join \":\" }",
@@ -323,6 +360,9 @@ const CASES: [(&str, &str); 102] = [
         "accept 12 strategy",
         "type U union { | ^Bytes } representation bytesprefix",
     ),
+];
+
+const STRATEGY_MORE: [(&str, &str); 10] = [
     (
         "accept 12 strategy",
         "type U union { | Bytes \"ab\" | ^B \"a\" } representation bytesprefix type B bytes",
@@ -363,9 +403,9 @@ const CASES: [(&str, &str); 102] = [
         "accept 12 strategy",
         "type S struct { ^a Int (rename \"b\") } representation tuple type N unit representation null type L [nullable N]",
     ),
-    ("ok", ""),
-    ("ok", "type N {String:Int}"),
 ];
+
+const STRATEGY_LAST: [(&str, &str); 2] = [("ok", ""), ("ok", "type N {String:Int}")];
 
 /// A schema without its caret, and the place at which it stands.
 fn unmarked(alloc: Global, marked: &str) -> Result<(String, usize), Fail> {
@@ -396,15 +436,90 @@ fn told(alloc: Global, text: &str) -> Result<String, Fail> {
     }
 }
 
-#[test]
-fn rules_and_their_neighbours(rt: HostRuntime) -> Result<(), Fail> {
-    for (wanted, marked) in CASES {
-        let (text, place) = unmarked(rt.alloc(), marked)?;
-        let line = format!(in rt.alloc(); "{wanted} at {place}")?;
-        let answer = told(rt.alloc(), text.as_str())?;
+/// Each schema with what is told of it.
+fn try_all(rt: &impl Abort, alloc: Global, cases: &[(&str, &str)]) -> Result<(), Fail> {
+    for (wanted, marked) in cases {
+        let (text, place) = unmarked(alloc, marked)?;
+        let line = format!(in alloc; "{wanted} at {place}")?;
+        let answer = told(alloc, text.as_str())?;
         assert_eq!(rt; answer.as_str(), line.as_str(), "of {marked}");
     }
     Ok(())
+}
+
+#[test]
+fn cycle(rt: HostRuntime) -> Result<(), Fail> {
+    try_all(&rt, rt.alloc(), &CYCLE)
+}
+
+#[test]
+fn nullclash(rt: HostRuntime) -> Result<(), Fail> {
+    try_all(&rt, rt.alloc(), &NULLCLASH)
+}
+
+#[test]
+fn kindclash(rt: HostRuntime) -> Result<(), Fail> {
+    try_all(&rt, rt.alloc(), &KINDCLASH)
+}
+
+#[test]
+fn prefixclash(rt: HostRuntime) -> Result<(), Fail> {
+    try_all(&rt, rt.alloc(), &PREFIXCLASH)
+}
+
+#[test]
+fn delim(rt: HostRuntime) -> Result<(), Fail> {
+    try_all(&rt, rt.alloc(), &DELIM)
+}
+
+#[test]
+fn nottext(rt: HostRuntime) -> Result<(), Fail> {
+    try_all(&rt, rt.alloc(), &NOTTEXT)
+}
+
+#[test]
+fn optionalplace(rt: HostRuntime) -> Result<(), Fail> {
+    try_all(&rt, rt.alloc(), &OPTIONALPLACE)
+}
+
+#[test]
+fn implicit(rt: HostRuntime) -> Result<(), Fail> {
+    try_all(&rt, rt.alloc(), &IMPLICIT)
+}
+
+#[test]
+fn nameclash(rt: HostRuntime) -> Result<(), Fail> {
+    try_all(&rt, rt.alloc(), &NAMECLASH)
+}
+
+#[test]
+fn nameclash_more(rt: HostRuntime) -> Result<(), Fail> {
+    try_all(&rt, rt.alloc(), &NAMECLASH_MORE)
+}
+
+#[test]
+fn inlinemember(rt: HostRuntime) -> Result<(), Fail> {
+    try_all(&rt, rt.alloc(), &INLINEMEMBER)
+}
+
+#[test]
+fn mapkey(rt: HostRuntime) -> Result<(), Fail> {
+    try_all(&rt, rt.alloc(), &MAPKEY)
+}
+
+#[test]
+fn strategy(rt: HostRuntime) -> Result<(), Fail> {
+    try_all(&rt, rt.alloc(), &STRATEGY)
+}
+
+#[test]
+fn strategy_more(rt: HostRuntime) -> Result<(), Fail> {
+    try_all(&rt, rt.alloc(), &STRATEGY_MORE)
+}
+
+#[test]
+fn strategy_last(rt: HostRuntime) -> Result<(), Fail> {
+    try_all(&rt, rt.alloc(), &STRATEGY_LAST)
 }
 
 #[test]
