@@ -2,12 +2,12 @@
 ghost use Rattle.std.specs.Prelude.{◌≡◌, ◌++◌, ◌<◌, [], OnOk, OnErr};
 ghost use Rattle.ild_cbor.specs.Nodes.{Stands};
 ghost use Rattle.ild_data.specs.Data.{Data};
-ghost use Rattle.ild_data.specs.Spell.{head, spell, spell_int, spell_text, spell_bytes, spell_link};
+ghost use Rattle.ild_data.specs.Spell.{head, spell, spell_int, spell_text, spell_bytes, spell_link, cid_of};
 
 use crate::head::{add_head, add_string};
 use crate::tree::{add_int, add_simple, add_whole_link, add_whole_tree};
 use ild_cbor::Node;
-use ild_data::{CidRef, Int, Octets, Tree};
+use ild_data::{BlockId, CidRef, Int, Octets, Tree};
 use std::alloc::{AllocError, Global};
 use std::marker::Model;
 
@@ -80,6 +80,14 @@ impl Emit {
         add_whole_link(&mut self.out, cid.whole())
     }
 
+    /// Appends the link to a block, or leaves the buffer unchanged.
+    pub fn block_link(&mut self, id: &BlockId) -> Result<(), AllocError>
+        ensures ok { OnOk result (self.new ≡ self.old ++ spell_link (cid_of id.now.0)) }
+        ensures err { OnErr result (self.new ≡ self.old) }
+    {
+        add_whole_link(&mut self.out, &id.cid())
+    }
+
     /// Appends a truth value, or null for `None`, or leaves the buffer unchanged.
     pub fn simple(&mut self, b: Option<bool>) -> Result<(), AllocError>
         ensures ok { OnOk result (self.new ≡ self.old ++ spell (simple_data b)) }
@@ -102,6 +110,15 @@ impl Emit {
         ensures err { OnErr result (self.new ≡ self.old) }
     {
         self.out.extend_from_slice(node.spelling())?;
+        Ok(())
+    }
+
+    /// Appends bytes that are spellings already, or leaves the buffer unchanged.
+    pub fn spelled(&mut self, piece: &[u8]) -> Result<(), AllocError>
+        ensures ok { OnOk result (self.new ≡ self.old ++ piece.now) }
+        ensures err { OnErr result (self.new ≡ self.old) }
+    {
+        self.out.extend_from_slice(piece)?;
         Ok(())
     }
 
