@@ -16,6 +16,8 @@ pub mod WalkForms
 pub mod Leading
 pub mod Basics
 pub mod PartData
+pub mod PieceTexts
+pub mod PartsTrees
 pub mod Onlies
 pub mod Joints
 pub mod Entries
