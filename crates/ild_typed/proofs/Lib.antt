@@ -18,6 +18,10 @@ pub mod Basics
 pub mod PartData
 pub mod PieceTexts
 pub mod PartsTrees
+pub mod NodeEntries
+pub mod NodeElements
+pub mod NodeMaps
+pub mod NodeRoots
 pub mod Onlies
 pub mod Joints
 pub mod Entries

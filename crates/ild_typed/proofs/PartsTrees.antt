@@ -1,12 +1,9 @@
 -- The parts of a tree's layer are trees.
-use Rattle.std.proofs.Common.{◌≡◌, ℕ, zero, suc, ◌+◌, codes, pos, List, [], ◌∷◌, ◌++◌, map, Bool, true, false, cond, ◌&&◌, Option, Some, None, option_map, IsUtf8, refl, sym, ◌∙◌, ap, subst}
+use Rattle.std.proofs.Common.{◌≡◌, ℕ, ◌+◌, List, [], ◌∷◌, ◌++◌, map, Bool, true, false, cond, Option, Some, None, option_map, IsUtf8, refl, sym, ◌∙◌, ap, subst}
 use Rattle.std.specs.Prelude.{IfSome, slice_get, option_and_then, is_none}
 use Rattle.std.specs.Option.{option_map_or}
 use Rattle.std.specs.List.{AllByRecursion, flat_map}
 use Rattle.std.specs.Cmp.Lexicographic.{same_text as text_same, other_text}
-use Rattle.std.specs.Ordering.{match_ordering}
-use Rattle.std.specs.declared.cmp.Ordering.{Ordering}
-use Rattle.std.specs.declared.cmp.Ordering.TheVariants.{Less, Equal, Greater}
 use Rattle.std.proofs.lemmas.Option.{same_Some, none-some}
 use Rattle.ild_data.specs.Data as T
 use Rattle.ild_data.specs.Data.{Data}
@@ -15,7 +12,7 @@ use Rattle.ild_data.specs.Key.{same_text, put, value_at, without, IsBelow, Rises
 use Rattle.ild_data.specs.Tree.{IsTree, AreTrees, AreEntries}
 use Rattle.ild_data.specs.Trie as Trie
 use Rattle.ild_data.specs.Trie.{entry_data, elements_of, node_data}
-use Rattle.ild_data.proofs.Lists.{members_of-members_list, members_list-members_of}
+use Rattle.ild_data.proofs.Lists.{members_list-members_of}
 use Rattle.ild_data.proofs.Rising.{rises_list, rises_without}
 use Rattle.ild_schema.specs.declared.number.Slot.{Slot}
 use Rattle.ild_schema.specs.declared.number.TypeNo.{TypeNo}
@@ -34,12 +31,11 @@ use Rattle.ild_schema.specs.declared.def.Scalar.TheVariants as C
 use Rattle.ild_schema.specs.Marks.{field_text, text_of as mark_text, kind_of as mark_kind}
 use Rattle.ild_schema.specs.DataKinds.{same_kind}
 use Rattle.ild_schema.specs.Hex.{bytes_of_hex}
-use Rattle.ild_schema.specs.Clear.{IsGiven, AreNamesApart, ClearStruct, ClearMap, ClearUnion, KeysApart, ClearType}
+use Rattle.ild_schema.specs.Clear.{IsGiven, AreNamesApart, ClearStruct, ClearMap, KeysApart, ClearType}
 use Rattle.ild_schema.specs.Delims.{HasDelims, MapDelims, Delims}
-use Rattle.ild_schema.specs.Spelled.{SpelledStruct, SpelledMap, SpelledKeys, SpelledType, SpelledScalar, ImplicitType}
+use Rattle.ild_schema.specs.Spelled.{SpelledStruct, SpelledMap, SpelledType, SpelledScalar, ImplicitType}
 use Rattle.ild_typed.specs.Layer as L
 use Rattle.ild_typed.specs.Layer.{Layer, as_list, as_map, as_struct, as_union}
-use Rattle.ild_typed.specs.Slots.{slot_of}
 use Rattle.ild_typed.specs.Kinds.{kind_of}
 use Rattle.ild_typed.specs.Texts.{join, join_pairs}
 use Rattle.ild_typed.specs.Fields.{is_implicit, field_entries, are_absent, tuple_items, all_items}
@@ -52,7 +48,7 @@ use Rattle.ild_typed.specs.RootSpots.{bucket_spots, root_spots}
 use Rattle.ild_typed.specs.Refused.{AreParts}
 use Rattle.ild_typed.proofs.Basics.{then_from, map_from, true_from, both_true}
 use Rattle.ild_typed.proofs.Entries.{both_from, only_text_data, only_bytes_data, value_sorted, value_put, value_first}
-use Rattle.ild_typed.proofs.Onlies.{only_list, only_map, only_struct, only_union}
+use Rattle.ild_typed.proofs.Onlies.{only_list, only_struct, only_union}
 use Rattle.ild_typed.proofs.Structs.{scalar_data, scalar_same, written, field_from, look, past, not_there}
 use Rattle.ild_typed.proofs.CleanStructs.{pairs_are_texts}
 use Rattle.ild_typed.proofs.PieceTexts.{behind_text, join_parts_text, join_pairs_text}

@@ -27,7 +27,7 @@ use Rattle.ild_typed.specs.Hamt.{alone}
 use Rattle.ild_typed.specs.Represented.{layered, represented, represented_pairs}
 use Rattle.ild_typed.specs.Levels.{map_levels}
 use Rattle.ild_typed.specs.Fits.{FormFits, ValueFits, FitsPast}
-use Rattle.ild_typed.specs.Layers.{AreApart, AreKeys, Shows, EntriesFit, MapFits}
+use Rattle.ild_typed.specs.Layers.{AreKeysApart, AreKeys, Shows, EntriesFit, MapFits}
 use Rattle.ild_schema.specs.Clear.{IsClear, IsSafe}
 use Rattle.ild_typed.proofs.Basics.{map_from}
 use Rattle.ild_typed.proofs.Entries.{both_from}
@@ -62,7 +62,7 @@ module _ {A B : Type 0} where
   others_like k l (p ∷ ps) [] e same all = absurd same
   others_like k l (p ∷ ps) (q ∷ qs) e same all = (λ h. all.0 (e ∙ h ∙ sym same.0), others_like k l ps qs e same.1 all.1)
 
-  apart_like : (ps : List (List ℕ × A)) (qs : List (List ℕ × B)) → SameKeys ps qs → AreApart ps → AreApart qs
+  apart_like : (ps : List (List ℕ × A)) (qs : List (List ℕ × B)) → SameKeys ps qs → AreKeysApart ps → AreKeysApart qs
   apart_like [] [] same all = tt
   apart_like [] (q ∷ qs) same all = absurd same
   apart_like (p ∷ ps) [] same all = absurd same

@@ -26,7 +26,8 @@ use Rattle.ild_typed.specs.Fields.{is_implicit}
 use Rattle.ild_typed.specs.Spots.{Spot, value_spot, element_spots, entry_spots, field_steps, field_spots, spots_of, member_spots}
 use Rattle.ild_typed.specs.RootSpots.{bucket_spots, root_spots}
 use Rattle.ild_typed.specs.Refused.{AreParts}
-use Rattle.ild_typed.specs.WhyLaws.{HasForm, FrontOrRefused}
+use Rattle.ild_typed.proofs.PartsTrees.{parts_trees}
+use Rattle.ild_typed.specs.WhyLaws.{PartsAreTrees, HasForm, FrontOrRefused}
 use Rattle.ild_data.specs.Trie as Trie
 use Rattle.ild_typed.proofs.WalkTotal.{front_or_refused}
 
@@ -178,7 +179,15 @@ part_forms rows within s d t ps is parts =
     let x = within_at rows within (base rows s.ty.0) d is in
     low_forms rows within ps (parts_low rows d t ps x.0.1 parts)
 
+pub table_parts : PartsAreTrees
+table_parts rows schema s d is t ps tree parts =
+    let n = base rows s.ty.0 in
+    let says = legible rows schema.accepted in
+    let texts = schema.table.texts in
+    parts_trees d t ps (says.clear.types n d is) (says.delims n d is) (texts.spelled n d is) (texts.implicits n d is) tree parts
+
 pub table_walk : FrontOrRefused
-table_walk rows schema walked room s low t tree =
+table_walk rows schema room s low t tree =
     let within = schema.table.within in
-    front_or_refused rows (legible rows schema.accepted).clear (legible rows schema.accepted).delims walked (part_forms rows within) room s (form_there rows within s low) t tree
+    let says = legible rows schema.accepted in
+    front_or_refused rows says.clear says.delims (λ u d c ps is parts whole. table_parts rows schema u d is c ps whole parts) (part_forms rows within) room s (form_there rows within s low) t tree

@@ -31,7 +31,7 @@ use Rattle.ild_typed.specs.Composed.{usual, composed, map_form, struct_form, uni
 use Rattle.ild_typed.specs.Hamt.{alone, a_map}
 use Rattle.ild_typed.specs.Represented.{represented}
 use Rattle.ild_typed.specs.Fits.{FormFits, ValueFits, FitsPast}
-use Rattle.ild_typed.specs.Layers.{AreApart, Shows}
+use Rattle.ild_typed.specs.Layers.{AreKeysApart, Shows}
 use Rattle.ild_schema.specs.Clear.{IsClear, IsSafe}
 use Rattle.ild_typed.specs.Named.{where_some, names, is_among, has_twice}
 use Rattle.ild_typed.specs.Causes.{why_of}
@@ -57,7 +57,7 @@ use Rattle.ild_trie.proofs.Bits.{same_node}
 
 -- ---- keys that are apart
 
-apart_once : (es : List (List ℕ × Data)) → AreApart es → has_twice (names es) ≡ false
+apart_once : (es : List (List ℕ × Data)) → AreKeysApart es → has_twice (names es) ≡ false
 apart_once [] all = refl
 apart_once (e ∷ es) all = false_or (is_among e.0 (names es)) (has_twice (names es)) (by es all.0) (apart_once es all.1) where
   by : (qs : List (List ℕ × Data)) → AllByRecursion (λ (q : List ℕ × Data). e.0 ≡ q.0 → ⊥) qs → is_among e.0 (names qs) ≡ false

@@ -36,7 +36,7 @@ use Rattle.ild_typed.specs.Hamt.{alone}
 use Rattle.ild_typed.specs.Levels.{struct_levels}
 use Rattle.ild_typed.specs.Represented.{layered}
 use Rattle.ild_typed.specs.Fits.{Front, FormFits, ValueFits, FitsPast}
-use Rattle.ild_typed.specs.Layers.{AreApart, AreKeys, Shows, IsNotNull}
+use Rattle.ild_typed.specs.Layers.{AreKeysApart, AreKeys, Shows, IsNotNull}
 use Rattle.ild_schema.specs.Clear.{IsClear}
 use Rattle.ild_typed.specs.Named.{where_some, names, is_among, has_twice}
 use Rattle.ild_typed.specs.Why.{Why}
@@ -46,7 +46,8 @@ use Rattle.ild_typed.specs.Spots.{Spot, value_spot, element_spots, entry_spots, 
 use Rattle.ild_typed.specs.RootSpots.{bucket_spots, root_spots}
 use Rattle.ild_typed.specs.Pieces.{HasNoRoot, is_null_there, repeats_key, keys_why, needs, room_why, hamt_why, why_at, IsNoRoot}
 use Rattle.ild_typed.specs.Refused.{Refused, Refusal, part_refusal, AreParts, FirstRefused, RefusedPast}
-use Rattle.ild_typed.specs.WhyLaws.{KeysRise, HasForm, IsWalked}
+use Rattle.ild_typed.specs.WhyLaws.{KeysRise, HasForm}
+use Rattle.ild_typed.proofs.NodeRoots.{root_or_none}
 use Rattle.ild_schema.specs.Delims.{AllDelims}
 use Rattle.ild_typed.specs.Node.{IsRoot, entries_in}
 use Rattle.ild_data.specs.Trie as Trie
@@ -97,7 +98,7 @@ keys_rise (T.link s) tree = tt
 
 -- ---- keys
 
-once_apart : (es : List (List ℕ × Data)) → has_twice (names es) ≡ false → AreApart es
+once_apart : (es : List (List ℕ × Data)) → has_twice (names es) ≡ false → AreKeysApart es
 once_apart [] e = tt
 once_apart (e ∷ es) h =
     let x = or_false (is_among e.0 (names es)) (has_twice (names es)) h in
@@ -461,7 +462,8 @@ flat_give rows s t tree (D.Struct st) l is fits made = by st.form fits where
   by (S.StringPairs inner entry) h = absurd (omega (arith, h))
   by (S.StringJoin delim) h = absurd (omega (arith, h))
 
-module _ (rows : List Row) (clear : IsClear rows) (delims : AllDelims rows) (walked : IsWalked rows)
+module _ (rows : List Row) (clear : IsClear rows) (delims : AllDelims rows)
+    (trees : (s : Slot) (d : TypeDef) (t : Data) (ps : List Spot) → form_of rows s ≡ Some d → AreParts d t ps → IsTree t → AllByRecursion (λ p. IsTree p.tree) ps)
     (forms : (s : Slot) (d : TypeDef) (t : Data) (ps : List Spot) → form_of rows s ≡ Some d → AreParts d t ps → AllByRecursion (λ p. HasForm rows p.slot) ps) where
   abbrev Answer : ℕ → ℕ → Slot → Data → Type 0
   Answer room over s t = Shows (FitsPast rows room over) rows s t ⊎ ((r : Refusal) × RefusedPast rows room over s t r)
@@ -493,7 +495,7 @@ module _ (rows : List Row) (clear : IsClear rows) (delims : AllDelims rows) (wal
         scan rows (FitsPast rows room (needs d t - 1)) (RefusedPast rows room (needs d t - 1)) ps
         (judge rows (FitsPast rows room (needs d t - 1)) (RefusedPast rows room (needs d t - 1))
         (λ u c form fine. each (needs d t - 1) u c (enough_less room (needs d t) f.enough) form fine)
-        ps (forms s d t ps is parts) (walked.trees s d t ps is parts tree))
+        ps (forms s d t ps is parts) (trees s d t ps is parts tree))
 
     others : is_null_there s t ≡ false → why_at (suc room) d t ≡ None → Free (suc room) d t → IsOther d → LayerFor d t → Answer (suc room) zero s t
     others there none f other x =
@@ -504,7 +506,7 @@ module _ (rows : List Row) (clear : IsClear rows) (delims : AllDelims rows) (wal
             ⊎ ((r : Refusal) × FirstRefused (FitsPast rows room (needs d t - 1)) (RefusedPast rows room (needs d t - 1)) rows (spots_of d x.layer) r) → Answer (suc room) zero s t
         pick (inl good) =
             let parts = other_parts d other x.layer t x.there in
-            inl (whole_give rows clear delims room s t tree d x.layer is f other x.there (walked.trees s d t (spots_of d x.layer) is parts tree) good)
+            inl (whole_give rows clear delims room s t tree d x.layer is f other x.there (trees s d t (spots_of d x.layer) is parts tree) good)
         pick (inr (r, first)) = inr (r, (there, d, is, inr (none, spots_of d x.layer, other_parts d other x.layer t x.there, first)))
 
     hamts : is_null_there s t ≡ false → why_at (suc room) d t ≡ None → Free (suc room) d t → (key : TypeNo) (key_at : ℕ) (value : Slot) (at : ℕ) → d ≡ D.Map key key_at value at MF.Hamt
@@ -529,7 +531,7 @@ module _ (rows : List Row) (clear : IsClear rows) (delims : AllDelims rows) (wal
     by false there None e = let f = free (suc room) d t e in go f (form_is d) where
       go : Free (suc room) d t → Form d → Answer (suc room) zero s t
       go f (other_form other) = others there e f other (there_is s t tree d is f.own)
-      go f (hamt_form key key_at value at same) = hamts there e f key key_at value at same (walked.roots t)
+      go f (hamt_form key key_at value at same) = hamts there e f key key_at value at same (root_or_none t tree)
 
   pub total : (room over : ℕ) (s : Slot) (t : Data) → over ≤ room → HasForm rows s → IsTree t → Answer room over s t
   unfolding FitsPast RefusedPast
