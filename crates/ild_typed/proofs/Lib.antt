@@ -1,6 +1,7 @@
 mod Examples
 mod WhyExamples
 mod PathExamples
+mod RowExamples
 pub mod Cleans
 pub mod CleanFields
 pub mod CleanPairs
