@@ -1,6 +1,6 @@
 -- What a reader of one layer answers: the layer that data are of a type, or the first cause why they are none (IPLD
 -- Schemas, "Representation Strategies").
-use Rattle.std.specs.Prelude.{◌≡◌, ◌⊎◌, ◌↔◌, ℕ, ◌<◌, List, length, Option, Some, option_and_then}
+use Rattle.std.specs.Prelude.{◌≡◌, ℕ, List, Some, option_and_then}
 use Rattle.ild_data.specs.Data.{Data}
 use Rattle.ild_cbor.specs.declared.piece.Piece.{Piece}
 use Rattle.ild_cbor.specs.declared.why.Why.{Why}

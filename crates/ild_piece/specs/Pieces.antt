@@ -1,9 +1,9 @@
 -- What a piece of a block stands for: the data that represent a value of a type there (IPLD Schemas, "Representation
 -- Strategies"). The member of an inline union is its map without the entry of the discriminant.
-use Rattle.std.specs.Prelude.{◌≡◌, ℕ, ◌<◌, true, is_some, List, length, Option, Some, None, option_and_then}
+use Rattle.std.specs.Prelude.{◌≡◌, ℕ, ◌<◌, Bool, true, false, is_some, List, length, Option, Some, None, option_and_then}
 use Rattle.ild_data.specs.Data as T
 use Rattle.ild_data.specs.Data.{Data, Members, members_list}
-use Rattle.ild_data.specs.Key.{value_at, without}
+use Rattle.ild_data.specs.Key.{same_text, value_at, without}
 use Rattle.ild_cbor.specs.declared.node.Node.{Node}
 use Rattle.ild_cbor.specs.declared.piece.Piece.{Piece}
 use Rattle.ild_cbor.specs.declared.piece.Piece.TheVariants as P
@@ -28,6 +28,11 @@ inline_key d = None
 -- that of the type with a number, copies followed
 abbrev pub passed_key : List Row → ℕ → Option (List ℕ)
 passed_key rows u = option_and_then inline_key (meant rows u)
+
+-- a key is the one that is passed over
+abbrev pub is_key : List ℕ → Option (List ℕ) → Bool
+is_key key None = false
+is_key key (Some passed) = same_text key passed
 
 -- a map that has an entry at the key, without this entry
 pub record IsWithout (passed : Option (List ℕ)) (n : Node) (t : Data) : Type 0 where

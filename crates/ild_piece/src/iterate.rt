@@ -1,5 +1,5 @@
 //! The parts of a piece.
-ghost use Rattle.std.specs.Prelude.{◌≡◌, ◌<◌, List, length};
+ghost use Rattle.std.specs.Prelude.{◌≡◌, ◌<◌, List, length, option_map};
 ghost use Rattle.std.specs.Iterator.{at_most};
 ghost use Rattle.std.specs.Option.{option_and_then};
 ghost use Rattle.ild_data.specs.Data.{Data};
@@ -8,7 +8,7 @@ ghost use Rattle.ild_schema.specs.declared.row.Row.{Row};
 ghost use Rattle.ild_typed.specs.Named.{items_in};
 ghost use Rattle.ild_typed.specs.Strings.{members_in};
 ghost use Rattle.ild_piece.specs.Entries.{EntriesGive, Found, Lists, Maps};
-ghost use Rattle.ild_piece.specs.Pieces.{IsNumbered, StandsFor, passed_key};
+ghost use Rattle.ild_piece.specs.Pieces.{IsNumbered, StandsFor, is_key, passed_key};
 
 use crate::MapEntries;
 use ild_cbor::{Items, Node, Piece};
@@ -25,7 +25,7 @@ pub fn items<'b>(piece: &Piece<'b>) -> Option<Items<'b>>
 }
 
 // The key of the discriminant that stands inline in a union, if it does.
-fn passed_key(acc: &Accepted, union: u32) -> Option<&str>
+fn discriminant_key(acc: &Accepted, union: u32) -> Option<&str>
     requires { union < length acc.now }
     ensures { option_map (λ k. k.now) result ≡ passed_key acc.now union }
 {
@@ -35,6 +35,16 @@ fn passed_key(acc: &Accepted, union: u32) -> Option<&str>
             _ => None,
         },
         _ => None,
+    }
+}
+
+// Whether there is a passed key, and it is this one.
+fn is_at(passed: Option<&str>, key: &str) -> bool
+    ensures { result ≡ is_key key.now (option_map (λ k. k.now) passed.entry) }
+{
+    match passed {
+        Some(passed) => key == passed,
+        None => false,
     }
 }
 
@@ -50,7 +60,7 @@ pub fn entries<'b>(acc: &'b Accepted, piece: &Piece<'b>) -> Option<MapEntries<'b
         }),
         Piece::Inline(node, union) => Some(MapEntries {
             pairs: node.entries()?,
-            passed: passed_key(acc, *union),
+            passed: discriminant_key(acc, *union),
         }),
         Piece::Text(_) | Piece::Bytes(_) => None,
     }
@@ -64,7 +74,7 @@ pub fn entry<'b>(acc: &Accepted, piece: &Piece<'b>, key: &str) -> Option<Node<'b
     match piece {
         Piece::Node(node) => node.entry(key),
         Piece::Inline(node, union) => {
-            if passed_key(acc, *union) == Some(key) {
+            if is_at(discriminant_key(acc, *union), key) {
                 None
             } else {
                 node.entry(key)
