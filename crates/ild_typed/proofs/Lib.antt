@@ -18,6 +18,7 @@ pub mod Leading
 pub mod Basics
 pub mod PartData
 pub mod PieceTexts
+pub mod Fronting
 pub mod PartsTrees
 pub mod NodeEntries
 pub mod NodeElements

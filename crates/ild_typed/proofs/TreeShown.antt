@@ -52,7 +52,7 @@ named_at P (x ∷ xs) (suc n) Q all none some = named_at P xs n Q all.1 none som
 -- ---- one layer
 
 module _ (fits : Slot → Value → Type 0) (rows : List Row) where
-  list_level : (d : TypeDef) (v : Value) (xs : List Value) → LayerFits fits rows d (L.list xs) → 1 ≤ levels_of d v
+  pub list_level : (d : TypeDef) (v : Value) (xs : List Value) → LayerFits fits rows d (L.list xs) → 1 ≤ levels_of d v
   list_level (D.List elem place) v xs f = omega arith
   list_level (D.Map key key_at value place form) v xs f = absurd (no_type_map fits rows (D.Map key key_at value place form) (L.list xs) refl refl f key key_at value place form refl)
   list_level d v xs f = absurd f
@@ -63,7 +63,7 @@ module _ (fits : Slot → Value → Type 0) (rows : List Row) where
   form_level (MF.StringPairs i e) = omega arith
   form_level MF.Hamt = omega arith
 
-  map_level : (d : TypeDef) (v : Value) (ps : List (List ℕ × Value)) → LayerFits fits rows d (L.map ps) → 1 ≤ levels_of d v
+  pub map_level : (d : TypeDef) (v : Value) (ps : List (List ℕ × Value)) → LayerFits fits rows d (L.map ps) → 1 ≤ levels_of d v
   map_level (D.Map key key_at value place form) v ps f = form_level form
   map_level d v ps f = absurd f
 
@@ -74,12 +74,12 @@ module _ (fits : Slot → Value → Type 0) (rows : List Row) where
   struct_form_level (S.StringPairs i e) = omega arith
   struct_form_level (S.StringJoin e) = omega arith
 
-  struct_level : (d : TypeDef) (v : Value) (os : List (Option Value)) → LayerFits fits rows d (L.struct os) → 1 ≤ levels_of d v
+  pub struct_level : (d : TypeDef) (v : Value) (os : List (Option Value)) → LayerFits fits rows d (L.struct os) → 1 ≤ levels_of d v
   struct_level (D.Struct s) v os f = struct_form_level s.form
   struct_level (D.Map key key_at value place form) v os f = absurd (no_type_map fits rows (D.Map key key_at value place form) (L.struct os) refl refl f key key_at value place form refl)
   struct_level d v os f = absurd f
 
-  union_level : (d : TypeDef) (v : Value) (n : ℕ) (w : Value) → LayerFits fits rows d (L.union n w) → 1 ≤ levels_of d v
+  pub union_level : (d : TypeDef) (v : Value) (n : ℕ) (w : Value) → LayerFits fits rows d (L.union n w) → 1 ≤ levels_of d v
   union_level (D.Union u) v n w f = omega arith
   union_level (D.Map key key_at value place form) v n w f = absurd (no_type_map fits rows (D.Map key key_at value place form) (L.union n w) refl refl f key key_at value place form refl)
   union_level d v n w f = absurd f

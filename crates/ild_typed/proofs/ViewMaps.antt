@@ -38,7 +38,7 @@ use Rattle.ild_typed.proofs.Composing.{composed_tells, alone_tells}
 -- ---- lists of pairs with the same keys
 
 module _ {A B : Type 0} where
-  abbrev SameKeys : List (List ℕ × A) → List (List ℕ × B) → Type 0
+  abbrev pub SameKeys : List (List ℕ × A) → List (List ℕ × B) → Type 0
   SameKeys [] [] = Unit {0}
   SameKeys [] (q ∷ qs) = ⊥
   SameKeys (p ∷ ps) [] = ⊥
@@ -68,7 +68,7 @@ module _ {A B : Type 0} where
   apart_like (p ∷ ps) [] same all = absurd same
   apart_like (p ∷ ps) (q ∷ qs) same all = (others_like p.0 q.0 ps qs same.0 same.1 all.0, apart_like ps qs same.1 all.1)
 
-  keys_like : (form : MapForm) (ps : List (List ℕ × A)) (qs : List (List ℕ × B)) → SameKeys ps qs → AreKeys form ps → AreKeys form qs
+  pub keys_like : (form : MapForm) (ps : List (List ℕ × A)) (qs : List (List ℕ × B)) → SameKeys ps qs → AreKeys form ps → AreKeys form qs
   keys_like MF.Map ps qs same keys = rises_like ps qs same keys
   keys_like MF.ListPairs ps qs same keys = apart_like ps qs same keys
   keys_like (MF.StringPairs inner entry) ps qs same keys = apart_like ps qs same keys
@@ -119,7 +119,7 @@ module _ (rows : List Row) (below : Slot → Value → Type 0) (key : TypeNo) (v
   map_fits (MF.StringPairs inner entry) ps fit = fit
   map_fits MF.Hamt ps fit = inl fit
 
-  map_fitted : (form : MapForm) (ps : List (List ℕ × Value)) → MapFits below rows key value form (L.map ps) → EntriesFit below rows key value form ps
+  pub map_fitted : (form : MapForm) (ps : List (List ℕ × Value)) → MapFits below rows key value form (L.map ps) → EntriesFit below rows key value form ps
   map_fitted MF.Map ps fit = fit
   map_fitted MF.ListPairs ps fit = fit
   map_fitted (MF.StringPairs inner entry) ps fit = fit

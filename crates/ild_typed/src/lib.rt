@@ -4,7 +4,7 @@
 
 ghost use Rattle.ild_typed.specs.WhyLaws.{FrontOrRefused, LayerOrWhy, OneRefusal, PartsAreTrees, RefusedHaveNoFront, RootsAreTold};
 ghost use Rattle.ild_typed.specs.Ways.{WaysLead};
-ghost use Rattle.ild_typed.specs.TreeLaws.{BlocksAreNested, FrontsAreTrees, ShownAreTrees, StorableBlocks, ValuesAreTrees};
+ghost use Rattle.ild_typed.specs.TreeLaws.{BlocksAreNested, FrontsAreTrees, ShownAreTrees, StorableBlocks, ValuesAreTrees, ValuesHaveFronts};
 ghost use Rattle.ild_typed.specs.AtLaws.{IndicesAreDecimals, ReachesParts};
 ghost use Rattle.ild_typed.specs.JoinLaws.{JoinsAreJoins, PairsArePairs};
 ghost use Rattle.ild_typed.specs.Laws.{InLayersAll, LayersTell, OneFront, OneText, OneWhole, TextsRepresent};
@@ -83,6 +83,11 @@ pub fn fronts_are_trees()
 /// The representation of a value is a tree, nested no deeper than the room in which the value fits.
 pub fn values_are_trees()
     ensures { ValuesAreTrees }
+{}
+
+/// The representation of a value has a front in the room in which the value fits.
+pub fn values_have_fronts()
+    ensures { ValuesHaveFronts }
 {}
 
 /// The blocks of the nodes of a value's HAMTs are nested no deeper than its room either.
