@@ -43,10 +43,8 @@ fn is_not_bytes(schema: &Schema, member: &Member) -> bool
 fn bytes_member(schema: &Schema, members: &[Member]) -> Option<usize>
     ensures { result ≡ first_place (is_not_bytes schema.now) (λ m. m.at) members.now }
 {
-    members
-        .iter()
-        .find(|member| is_not_bytes(schema, member))
-        .map(|member| member.at)
+    let member = members.iter().find(|member| is_not_bytes(schema, member))?;
+    Some(member.at)
 }
 
 fn union_kind_fault(schema: &Schema, def: &UnionDef) -> Option<usize>

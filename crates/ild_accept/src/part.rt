@@ -20,11 +20,12 @@ fn is_null_twice(schema: &Schema, slot: &Slot) -> bool
 fn null_field(schema: &Schema, def: &StructDef) -> Option<usize>
     ensures { result ≡ first_place (λ f. is_null_twice schema.now f.slot) (λ f. f.at) def.now.fields }
 {
-    def.fields
+    let field = def
+        .fields
         .as_slice()
         .iter()
-        .find(|field| is_null_twice(schema, &field.slot))
-        .map(|field| field.at)
+        .find(|field| is_null_twice(schema, &field.slot))?;
+    Some(field.at)
 }
 
 /// What may be null has no other value that stands as null.
@@ -70,21 +71,19 @@ fn is_text_union(form: &UnionForm) -> bool
 fn no_text_field(schema: &Schema, def: &StructDef) -> Option<usize>
     ensures { result ≡ first_place (λ f. is_text_struct def.now.form && is_no_text schema.now f.slot) (λ f. f.at) def.now.fields }
 {
-    def.fields
-        .as_slice()
-        .iter()
-        .find(|field| is_text_struct(&def.form) && is_no_text(schema, &field.slot))
-        .map(|field| field.at)
+    let field = def.fields.as_slice().iter().find(|field| {
+        is_text_struct(&def.form) && is_no_text(schema, &field.slot)
+    })?;
+    Some(field.at)
 }
 
 fn no_text_member(schema: &Schema, def: &UnionDef) -> Option<usize>
     ensures { result ≡ first_place (λ m. is_text_union def.now.form && not (has_text_form schema.now m.ty.0)) (λ m. m.at) def.now.members }
 {
-    def.members
-        .as_slice()
-        .iter()
-        .find(|member| is_text_union(&def.form) && !has_text_form(schema, member.ty))
-        .map(|member| member.at)
+    let member = def.members.as_slice().iter().find(|member| {
+        is_text_union(&def.form) && !has_text_form(schema, member.ty)
+    })?;
+    Some(member.at)
 }
 
 /// The parts of a text are texts.
@@ -138,11 +137,12 @@ fn is_implicit_wrong(schema: &Schema, field: &Field) -> bool
 fn implicit_field(schema: &Schema, def: &StructDef) -> Option<usize>
     ensures { result ≡ first_place (is_implicit_wrong schema.now) (λ f. f.at) def.now.fields }
 {
-    def.fields
+    let field = def
+        .fields
         .as_slice()
         .iter()
-        .find(|field| is_implicit_wrong(schema, field))
-        .map(|field| field.at)
+        .find(|field| is_implicit_wrong(schema, field))?;
+    Some(field.at)
 }
 
 /// A value that stands for a field left out is one of its type, and no longer than a block can hold.
@@ -174,11 +174,10 @@ fn is_inline(form: &UnionForm) -> bool
 fn inline_member(schema: &Schema, def: &UnionDef) -> Option<usize>
     ensures { result ≡ first_place (λ m. is_inline def.now.form && not (is_map_struct (meant schema.now m.ty.0))) (λ m. m.at) def.now.members }
 {
-    def.members
-        .as_slice()
-        .iter()
-        .find(|member| is_inline(&def.form) && !is_map_struct(schema, member.ty))
-        .map(|member| member.at)
+    let member = def.members.as_slice().iter().find(|member| {
+        is_inline(&def.form) && !is_map_struct(schema, member.ty)
+    })?;
+    Some(member.at)
 }
 
 /// The members of an inline union are structs that stand as maps.

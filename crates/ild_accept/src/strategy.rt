@@ -31,11 +31,12 @@ fn is_bare_join(def: &StructDef) -> bool
 fn wrong_field(def: &StructDef) -> Option<usize>
     ensures { result ≡ first_place (is_field_wrong def.now.form) (λ f. f.at) def.now.fields }
 {
-    def.fields
+    let field = def
+        .fields
         .as_slice()
         .iter()
-        .find(|field| is_field_wrong(&def.form, field))
-        .map(|field| field.at)
+        .find(|field| is_field_wrong(&def.form, field))?;
+    Some(field.at)
 }
 
 /// Whether a member lacks what its union asks for.
@@ -54,11 +55,12 @@ fn is_member_wrong(form: &UnionForm, member: &Member) -> bool
 fn wrong_member(def: &UnionDef) -> Option<usize>
     ensures { result ≡ first_place (is_member_wrong def.now.form) (λ m. m.at) def.now.members }
 {
-    def.members
+    let member = def
+        .members
         .as_slice()
         .iter()
-        .find(|member| is_member_wrong(&def.form, member))
-        .map(|member| member.at)
+        .find(|member| is_member_wrong(&def.form, member))?;
+    Some(member.at)
 }
 
 /// Whether a member of an enum of integers has no integer.
@@ -74,11 +76,12 @@ fn is_value_wrong(form: EnumForm, member: &EnumMember) -> bool
 fn wrong_value(def: &EnumDef) -> Option<usize>
     ensures { result ≡ first_place (is_value_wrong def.now.form) (λ m. m.at) def.now.members }
 {
-    def.members
+    let member = def
+        .members
         .as_slice()
         .iter()
-        .find(|member| is_value_wrong(def.form, member))
-        .map(|member| member.at)
+        .find(|member| is_value_wrong(def.form, member))?;
+    Some(member.at)
 }
 
 fn wrong_in_struct(at: usize, def: &StructDef) -> Option<usize>

@@ -1,8 +1,6 @@
-//! Tests of public calls on schemas, from their tokens to accepted tables, and on values and texts under them: a file a subject.
+//! Tests of public calls on the schema language, from its tokens to tables of types: a file a subject.
 #![tactic(auto)]
 
-#[cfg(test)]
-mod acceptance;
 #[cfg(test)]
 mod compile;
 #[cfg(test)]
@@ -11,9 +9,3 @@ mod corners;
 mod lex;
 #[cfg(test)]
 mod parse;
-#[cfg(test)]
-mod parts;
-#[cfg(test)]
-mod splits;
-#[cfg(test)]
-mod values;

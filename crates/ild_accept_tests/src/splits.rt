@@ -3,7 +3,7 @@ ghost use Rattle.std.specs.Prelude.{◌≡◌, IfOk, length};
 
 use ild_data::Txt;
 use ild_schema::{List, Mark, Member, TypeNo, UnionDef, UnionForm};
-use ild_text::{Split, bytes_prefix, join_parts, pairs, prefix};
+use ild_text::{JoinParts, PairParts, Split, bytes_prefix, join_parts, pairs, prefix};
 use std::alloc::{AllocError, Global};
 use std::process::Abort;
 use std::test::Fail;
@@ -48,31 +48,41 @@ const NOT_PAIRED: [(&str, &str, &str, Split); 5] = [
     ("b", "=", "&", Split::Parts),
 ];
 
-fn is_joined(rt: &impl Abort, text: &str, delim: &str, parts: &[&str]) -> Result<(), Fail> {
-    if delim.is_empty() {
-        Err("no delimiter")?
-    }
-    let split = join_parts(text, delim, parts.len())
-        .ok()
-        .ok_or("these parts")?;
+/// Each part by its number, and none past the last.
+fn is_joined(rt: &impl Abort, split: JoinParts<'_>, parts: &[&str]) {
     for (i, part) in parts.iter().enumerate() {
         assert_eq!(rt; split.get(i), Some(*part));
     }
     assert_eq!(rt; split.get(parts.len()), None);
+}
+
+/// The first part, and then that of what is left, as often as there are parts.
+fn is_walked(rt: &impl Abort, split: JoinParts<'_>, parts: &[&str]) -> Result<(), Fail> {
     let mut left = Some(split);
     for part in parts {
         let (first, behind) = left.ok_or("a part is left")?.split_first();
         assert_eq!(rt; first, *part);
         left = behind;
     }
-    assert_eq!(rt; left.is_none(), true);
+    assert!(rt; left.is_none());
     Ok(())
+}
+
+fn try_joined(rt: &impl Abort, text: &str, delim: &str, parts: &[&str]) -> Result<(), Fail> {
+    if delim.is_empty() {
+        Err("no delimiter")?
+    }
+    let split = join_parts(text, delim, parts.len())
+        .ok()
+        .ok_or("these parts")?;
+    is_joined(rt, split, parts);
+    is_walked(rt, split, parts)
 }
 
 #[test]
 fn texts_are_split_at_each_delimiter(rt: HostRuntime) -> Result<(), Fail> {
     for (text, delim, parts) in &JOINED {
-        is_joined(&rt, text, delim, parts)?;
+        try_joined(&rt, text, delim, parts)?;
     }
     Ok(())
 }
@@ -88,7 +98,28 @@ fn overlaps_and_counts_are_refused(rt: HostRuntime) -> Result<(), Fail> {
     Ok(())
 }
 
-fn is_paired(
+/// Each pair by its number, and none past the last.
+fn is_paired(rt: &impl Abort, split: PairParts<'_>, parts: &[(&str, &str)]) {
+    assert_eq!(rt; split.len(), parts.len());
+    for (i, pair) in parts.iter().enumerate() {
+        assert_eq!(rt; split.get(i), Some(*pair));
+    }
+    assert_eq!(rt; split.get(parts.len()), None);
+}
+
+/// The first pair, and then that of what is left, as often as there are pairs.
+fn is_passed(rt: &impl Abort, split: PairParts<'_>, parts: &[(&str, &str)]) -> Result<(), Fail> {
+    let mut left = split;
+    for part in parts {
+        let (first, behind) = left.split_first().ok_or("a pair is left")?;
+        assert_eq!(rt; first, *part);
+        left = behind;
+    }
+    assert!(rt; left.split_first().is_none());
+    Ok(())
+}
+
+fn try_paired(
     rt: &impl Abort,
     text: &str,
     inner: &str,
@@ -99,31 +130,28 @@ fn is_paired(
         Err("no delimiter")?
     }
     let split = pairs(text, inner, entry).ok().ok_or("these pairs")?;
-    assert_eq!(rt; split.len(), parts.len());
-    for (i, pair) in parts.iter().enumerate() {
-        assert_eq!(rt; split.get(i), Some(*pair));
-    }
-    assert_eq!(rt; split.get(parts.len()), None);
-    let mut left = split;
-    for part in parts {
-        let (first, behind) = left.split_first().ok_or("a pair is left")?;
-        assert_eq!(rt; first, *part);
-        left = behind;
-    }
-    assert_eq!(rt; left.split_first().is_none(), true);
-    Ok(())
+    is_paired(rt, split, parts);
+    is_passed(rt, split, parts)
 }
 
 #[test]
 fn pairs_are_split_at_the_first_inner_delimiter(rt: HostRuntime) -> Result<(), Fail> {
     for (text, inner, entry, parts) in &PAIRED {
-        is_paired(&rt, text, inner, entry, parts)?;
+        try_paired(&rt, text, inner, entry, parts)?;
     }
+    Ok(())
+}
+
+fn is_unpaired(rt: &impl Abort, text: &str, inner: &str, entry: &str, split: Split) {
+    if !inner.is_empty() && !entry.is_empty() {
+        assert_eq!(rt; pairs(text, inner, entry).err(), Some(split));
+    }
+}
+
+#[test]
+fn pairs_without_an_inner_delimiter_are_refused(rt: HostRuntime) -> Result<(), Fail> {
     for (text, inner, entry, split) in &NOT_PAIRED {
-        if inner.is_empty() || entry.is_empty() {
-            Err("no delimiter")?
-        }
-        assert_eq!(rt; pairs(text, inner, entry).err(), Some(*split));
+        is_unpaired(&rt, text, inner, entry, *split);
     }
     Ok(())
 }
@@ -149,6 +177,17 @@ fn a_million_parts_are_split_in_one_walk(rt: HostRuntime) -> Result<(), Fail> {
     Ok(())
 }
 
+/// Whether so many pairs are passed one after the other, and none is left.
+fn is_passed_whole(rt: &impl Abort, split: PairParts<'_>, count: u32) -> Result<(), Fail> {
+    let mut left = split;
+    for _ in 0..count {
+        let (_, behind) = left.split_first().ok_or("a pair is left")?;
+        left = behind;
+    }
+    assert_eq!(rt; left.len(), 0);
+    Ok(())
+}
+
 #[test]
 fn a_million_pairs_are_split_in_one_walk(rt: HostRuntime) -> Result<(), Fail> {
     let mut entries = repeated(rt.alloc(), "a=1&", (1 << 20) - 1)?;
@@ -158,13 +197,7 @@ fn a_million_pairs_are_split_in_one_walk(rt: HostRuntime) -> Result<(), Fail> {
         .ok_or("a million pairs")?;
     assert_eq!(rt; split.len(), 1 << 20);
     assert_eq!(rt; split.get((1 << 20) - 1), Some(("b", "2")));
-    let mut left = split;
-    for _ in 0..1 << 20 {
-        let (_, behind) = left.split_first().ok_or("a pair is left")?;
-        left = behind;
-    }
-    assert_eq!(rt; left.len(), 0);
-    Ok(())
+    is_passed_whole(&rt, split, 1 << 20)
 }
 
 /// Nor one that goes back at each letter of a delimiter.
@@ -205,25 +238,36 @@ fn union(alloc: Global, one: &str, other: &str, form: UnionForm) -> Result<Union
     Ok(UnionDef { members, form })
 }
 
+/// The prefixes of two members, a text, and the member that it stands for with what stands behind its prefix.
+const TEXTS: [(&str, &str, &str, Option<(u32, &str)>); 4] = [
+    ("a:", "b:", "b:a:", Some((1, "a:"))),
+    ("a:", "b:", "a:", Some((0, ""))),
+    ("a:", "b:", "a", None),
+    ("a", "ab", "abc", Some((0, "bc"))),
+];
+
 #[test]
 fn members_stand_behind_their_prefixes(rt: HostRuntime) -> Result<(), Fail> {
-    let texts = union(rt.alloc(), "a:", "b:", UnionForm::StringPrefix)?;
-    assert_eq!(rt; prefix("b:a:", &texts), Some((1, "a:")));
-    assert_eq!(rt; prefix("a:", &texts), Some((0, "")));
-    assert_eq!(rt; prefix("a", &texts), None);
-    let nested = union(rt.alloc(), "a", "ab", UnionForm::StringPrefix)?;
-    assert_eq!(rt; prefix("abc", &nested), Some((0, "bc")));
-    let bytes = union(rt.alloc(), "01", "fE0a", UnionForm::BytesPrefix)?;
-    assert_eq!(rt;
-        bytes_prefix(b"\x01\xaa\xbb", &bytes),
-        Some((0, b"\xaa\xbb".as_slice()))
-    );
-    assert_eq!(rt;
-        bytes_prefix(b"\xfe\x0a", &bytes),
-        Some((1, b"".as_slice()))
-    );
-    assert_eq!(rt; bytes_prefix(b"\xfe", &bytes), None);
-    let odd = union(rt.alloc(), "0", "0g", UnionForm::BytesPrefix)?;
-    assert_eq!(rt; bytes_prefix(b"0", &odd), None);
+    for (one, other, text, want) in &TEXTS {
+        let def = union(rt.alloc(), one, other, UnionForm::StringPrefix)?;
+        assert_eq!(rt; prefix(text, &def), *want, "of {text}");
+    }
+    Ok(())
+}
+
+/// The same of bytes.
+const BYTES: [(&str, &str, &[u8], Option<(u32, &[u8])>); 4] = [
+    ("01", "fE0a", b"\x01\xaa\xbb", Some((0, b"\xaa\xbb"))),
+    ("01", "fE0a", b"\xfe\x0a", Some((1, b""))),
+    ("01", "fE0a", b"\xfe", None),
+    ("0", "0g", b"0", None),
+];
+
+#[test]
+fn members_stand_behind_their_bytes(rt: HostRuntime) -> Result<(), Fail> {
+    for (one, other, bytes, want) in &BYTES {
+        let def = union(rt.alloc(), one, other, UnionForm::BytesPrefix)?;
+        assert_eq!(rt; bytes_prefix(bytes, &def), *want, "of {bytes:?}");
+    }
     Ok(())
 }

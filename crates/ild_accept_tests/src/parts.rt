@@ -2,6 +2,7 @@
 use ild_compile::compile;
 use ild_schema::{Accepted, TypeDef, TypeNo};
 use std::alloc::{AllocError, Global};
+use std::process::Abort;
 use std::test::Fail;
 
 const SRC: &str =
@@ -75,35 +76,50 @@ fn walked(schema: &Accepted, from: u32) -> u32 {
     at
 }
 
+/// The part of a type that has a name.
+fn named(schema: &Accepted, ty: TypeNo, name: &str) -> Option<usize> {
+    if ty.0 < schema.types() {
+        schema.part_named(ty, name)
+    } else {
+        None
+    }
+}
+
+/// The part of a type that stands under a text.
+fn spelled(schema: &Accepted, ty: TypeNo, text: &str) -> Option<usize> {
+    if ty.0 < schema.types() {
+        schema.part_spelled(ty, text)
+    } else {
+        None
+    }
+}
+
 #[test]
 fn parts_by_their_texts(rt: HostRuntime) -> Result<(), Fail> {
     let schema = compile(rt.alloc(), SRC.as_bytes())?;
-    for (ty, text, name, spelled) in FOUND {
+    for (ty, text, name, under) in &FOUND {
         let ty = schema.type_named(ty).ok_or("a type")?;
-        if ty.0 < schema.types() {
-            assert_eq!(rt; schema.part_named(ty, text), name, "the part {text}");
-            assert_eq!(rt;
-                schema.part_spelled(ty, text),
-                spelled,
-                "the part under {text}"
-            );
-        }
+        assert_eq!(rt; named(&schema, ty, text), *name, "{text}");
+        assert_eq!(rt; spelled(&schema, ty, text), *under, "{text}");
     }
     Ok(())
+}
+
+/// Each text finds the part of a type that a search finds.
+fn is_searched(rt: &impl Abort, schema: &Accepted, ty: TypeNo) {
+    if ty.0 < schema.types() {
+        for (_, text, _, _) in &FOUND {
+            let want = searched(schema.def(ty), text);
+            assert_eq!(rt; schema.part_named(ty, text), want, "{text}");
+        }
+    }
 }
 
 #[test]
 fn parts_as_a_search_finds_them(rt: HostRuntime) -> Result<(), Fail> {
     let schema = compile(rt.alloc(), SRC.as_bytes())?;
     for n in 0..schema.types() {
-        for (_, text, _, _) in FOUND {
-            let want = searched(schema.def(TypeNo(n)), text);
-            assert_eq!(rt;
-                schema.part_named(TypeNo(n), text),
-                want,
-                "the part {text} of {n}"
-            );
-        }
+        is_searched(&rt, &schema, TypeNo(n));
     }
     Ok(())
 }
@@ -123,29 +139,37 @@ fn many_fields(alloc: Global, count: usize) -> Result<String, AllocError> {
     Ok(src)
 }
 
+/// The part of a name and of the same with another letter, each as a name and as a text in a block.
+fn try_field(
+    rt: &impl Abort,
+    alloc: Global,
+    schema: &Accepted,
+    ty: TypeNo,
+    i: usize,
+) -> Result<(), Fail> {
+    let name = format!(in alloc; "f{i}")?;
+    let renamed = format!(in alloc; "r{i}")?;
+    let (under_name, under_other) = if i % 2 == 1 {
+        (None, Some(i))
+    } else {
+        (Some(i), None)
+    };
+    assert_eq!(rt; named(schema, ty, name.as_str()), Some(i));
+    assert_eq!(rt; named(schema, ty, renamed.as_str()), None);
+    assert_eq!(rt; spelled(schema, ty, name.as_str()), under_name);
+    assert_eq!(rt; spelled(schema, ty, renamed.as_str()), under_other);
+    Ok(())
+}
+
 #[test]
 fn parts_of_a_struct_of_1024_fields(rt: HostRuntime) -> Result<(), Fail> {
     let src = many_fields(rt.alloc(), 1024)?;
     let schema = compile(rt.alloc(), src.as_str().as_bytes())?;
     let ty = schema.type_named("S").ok_or("a type")?;
-    if ty.0 < schema.types() {
-        for i in 0..1024usize {
-            let name = format!(in rt.alloc(); "f{i}")?;
-            let renamed = format!(in rt.alloc(); "r{i}")?;
-            let odd = i % 2 == 1;
-            assert_eq!(rt; schema.part_named(ty, name.as_str()), Some(i));
-            assert_eq!(rt; schema.part_named(ty, renamed.as_str()), None);
-            assert_eq!(rt;
-                schema.part_spelled(ty, name.as_str()),
-                if odd { None } else { Some(i) }
-            );
-            assert_eq!(rt;
-                schema.part_spelled(ty, renamed.as_str()),
-                if odd { Some(i) } else { None }
-            );
-        }
-        assert_eq!(rt; schema.part_named(ty, "f1024"), None);
+    for i in 0..1024usize {
+        try_field(&rt, rt.alloc(), &schema, ty, i)?;
     }
+    assert_eq!(rt; named(&schema, ty, "f1024"), None);
     Ok(())
 }
 
