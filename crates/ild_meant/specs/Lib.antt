@@ -1,0 +1,5 @@
+pub mod Names
+pub mod Meant
+pub mod MeantRead
+pub mod Risen
+pub mod MeantLaws

@@ -1,0 +1,19 @@
+//! Laws of the values that data mean.
+ghost use Rattle.ild_meant.specs.MeantLaws.{MeantIsOfType, MeantIsRead, OneMeant, ReadIsMeant, ShownIsMeant};
+
+/// Data mean one value of a slot at most, and the reading by the types finds it and no other.
+pub fn one_value_is_meant()
+    ensures read { MeantIsRead }
+    ensures sound { ReadIsMeant }
+    ensures one { OneMeant }
+{}
+
+/// What a tree means is of its slot's type.
+pub fn meant_is_of_type()
+    ensures { MeantIsOfType }
+{}
+
+/// The shown form of a value, whose maps rise, means it.
+pub fn shown_is_meant()
+    ensures { ShownIsMeant }
+{}

@@ -1,0 +1,7 @@
+//! Values as they are shown, and the values that data mean by the types of a schema: definitions, and laws as the contracts of
+//! functions without a body (IPLD Schemas, "type-level representation").
+#![tactic(auto)]
+
+mod laws;
+
+pub use laws::{meant_is_of_type, one_value_is_meant, shown_is_meant};
