@@ -15,6 +15,7 @@ pub mod WalkOne
 pub mod WalkForms
 pub mod Leading
 pub mod Basics
+pub mod PartData
 pub mod Onlies
 pub mod Joints
 pub mod Entries

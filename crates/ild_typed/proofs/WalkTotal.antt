@@ -1,7 +1,7 @@
 -- What is not refused has a front that fits.
 use Rattle.std.proofs.Common.{◌≡◌, ℕ, zero, suc, ◌+◌, ◌-◌, ◌≤◌, ◌<◌, List, [], ◌∷◌, ◌++◌, length, Bool, true, false, cond, Option, Some, None, refl, sym, ◌∙◌, ap, subst, arith, inl, inr}
 use Rattle.std.specs.Prelude.{IsTrue, IsSomeAnd, option_and_then, slice_get, nat_lt, ◌⊎◌}
-use Rattle.std.specs.Option.{option_or}
+use Rattle.std.specs.Option.{option_or, option_map_or}
 use Rattle.std.specs.List.{AllByRecursion}
 use Rattle.std.proofs.lemmas.Option.{same_Some, none-some}
 use Rattle.std.proofs.lemmas.Bool.{ltb-false}
@@ -29,7 +29,6 @@ use Rattle.ild_schema.specs.Value.{Value}
 use Rattle.ild_typed.specs.Layer as L
 use Rattle.ild_typed.specs.Layer.{Layer, as_boolean, as_integer, as_text, as_bytes, as_link, as_any, as_unit, as_enum, as_list, as_map, as_struct, as_union, as_hamt}
 use Rattle.ild_schema.specs.Slots.{form_of, plainly}
-use Rattle.ild_typed.specs.Slots.{member_of, slot_of_member}
 use Rattle.ild_typed.specs.Fields.{is_implicit, field_entries, are_absent, tuple_items, all_items}
 use Rattle.ild_typed.specs.Strings.{map_data, listpairs, stringpairs, stringjoin, in_key_order}
 use Rattle.ild_typed.specs.Composed.{usual, composed, map_form, struct_form, member_form, union_form, enum_form, unit_data, any_data}
@@ -43,7 +42,7 @@ use Rattle.ild_typed.specs.Named.{where_some, names, is_among, has_twice}
 use Rattle.ild_typed.specs.Why.{Why}
 use Rattle.ild_typed.specs.Why as W
 use Rattle.ild_typed.specs.Causes.{why_of}
-use Rattle.ild_typed.specs.Spots.{Spot, value_spot, element_spots, entry_spots, field_steps, field_spots, spots_of}
+use Rattle.ild_typed.specs.Spots.{Spot, value_spot, element_spots, entry_spots, field_steps, field_spots, spots_of, member_spots}
 use Rattle.ild_typed.specs.RootSpots.{bucket_spots, root_spots}
 use Rattle.ild_typed.specs.Pieces.{HasNoRoot, is_null_there, repeats_key, keys_why, needs, room_why, hamt_why, why_at, IsNoRoot}
 use Rattle.ild_typed.specs.Refused.{Refused, Refusal, part_refusal, AreParts, FirstRefused, RefusedPast}
@@ -346,8 +345,8 @@ module _ (rows : List Row) (clear : IsClear rows) (delims : AllDelims rows) (roo
       let x = then_from (union_form u.form u.members) (as_union l) t made in
       let y = then_from (member_form u.form x.item.1) (slice_get u.members x.item.0) t x.made in
       let good = subst (λ k. PartsGood own (spots_of own k)) (only_union l x.item x.there) all in
-      let slot : member_of (Some own) x.item.0 ≡ plainly y.item.ty = ap slot_of_member y.there in
-      union_shows rows clear room s u x.item.0 y.item x.item.1 t is y.there x.made (subst (λ k. Shows (FitsPast rows room zero) rows k x.item.1) slot good.0)
+      let own_part = subst (λ o. PartsGood own (option_map_or (member_spots u.form x.item.1) o [])) y.there good in
+      union_shows rows clear room s u x.item.0 y.item x.item.1 t is y.there x.made own_part.0
   whole_give (D.Map key key_at value at MF.Map) l is free other made trees all =
       let x = map_from map_data (as_map l) t made in
       let up : KeysRise (map_data x.item) = subst KeysRise (sym (same_Some (map_data x.item) t x.made)) (keys_rise t tree) in
