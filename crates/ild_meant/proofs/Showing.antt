@@ -1,16 +1,13 @@
 -- The shown form of a value shows it.
-use Rattle.std.proofs.Common.{cond, ◌≡◌, inl, ℕ, List, [], ◌∷◌, slice_get, Bool, true, false, Option, Some, None, refl, ap, sym, subst, ◌∙◌}
+use Rattle.std.proofs.Common.{cond, ◌≡◌, inl, ℕ, List, [], ◌∷◌, Bool, true, false, Option, Some, None, refl, ap, sym, subst, ◌∙◌}
 use Rattle.std.specs.Prelude.{is_some, ◌&&◌}
 use Rattle.std.specs.List.{AllByRecursion}
+use Rattle.std.specs.Option.{option_map_or}
 use Rattle.std.proofs.lemmas.Option.{none-some}
 use Rattle.ild_data.specs.Data as D
-use Rattle.ild_data.specs.Data.{Data, Items, Members, no_members, member, members_of, members_list, items_of}
+use Rattle.ild_data.specs.Data.{Data, Items, no_items, Members, no_members, member, members_of, members_list, items_of}
 use Rattle.ild_data.specs.Key.{same_text, value_at, IsBelow, Rises}
 use Rattle.ild_data.proofs.Lists.{members_list-members_of}
-use Rattle.ild_schema.specs.declared.def.TypeDef.{TypeDef}
-use Rattle.ild_schema.specs.declared.def.TypeDef.TheVariants as T
-use Rattle.ild_schema.specs.declared.def.UnionDef.{UnionDef}
-use Rattle.ild_schema.specs.declared.def.EnumDef.{EnumDef}
 use Rattle.ild_schema.specs.declared.def.EnumMember.{EnumMember}
 use Rattle.ild_schema.specs.declared.def.Member.{Member}
 use Rattle.ild_schema.specs.declared.def.Field.{Field}
@@ -19,10 +16,10 @@ use Rattle.ild_schema.specs.declared.row.Row.{Row}
 use Rattle.ild_schema.specs.Value.{Value, null, boolean, integer, text, bytes, link, list, map, struct, union, enum, unit, any, hamt, Values, no_values, value, Pairs, no_pairs, pair, pairs_list, Optionals, no_optionals, absent, present}
 use Rattle.ild_change.proofs.Maps.{own_text, other_is, same_entries}
 use Rattle.ild_schema.specs.Slots.{form_of, plainly}
-use Rattle.ild_typed.specs.Slots.{fields_of, element_of, member_of, slot_of_member}
+use Rattle.ild_typed.specs.Slots.{element_of, fields_of, member_at, enum_member_at, slot_of}
 use Rattle.ild_typed.specs.Strings.{in_key_order, map_data}
 use Rattle.ild_meant.specs.Names.{slot_named}
-use Rattle.ild_typed.specs.Shown.{shown, shown_values, shown_pairs, shown_fields, member_name, enum_name}
+use Rattle.ild_typed.specs.Shown.{shown, shown_values, shown_pairs, shown_fields}
 use Rattle.ild_meant.specs.Meant.{Meant, AreMeant, EntriesMeant, FieldsMeant}
 use Rattle.ild_meant.specs.Names.{are_named}
 use Rattle.ild_meant.proofs.TypedByParts.{to_parts}
@@ -120,19 +117,7 @@ module _ (rows : List Row) where
   rises_shown slot no_pairs h = tt
   rises_shown slot (pair k v ps) h = (below_shown k slot ps h.0, rises_shown slot ps h.1)
 
-named_enum : (e : EnumDef) (n : ℕ) (m : EnumMember) → slice_get e.members n ≡ Some m → enum_name (Some (T.Enum e)) n ≡ m.name
-named_enum e n m h = rw h refl
-
-named_member : (u : UnionDef) (n : ℕ) (m : Member) → slice_get u.members n ≡ Some m → member_name (Some (T.Union u)) n ≡ m.name
-named_member u n m h = rw h refl
-
 module _ (rows : List Row) (is_key : ℕ → List ℕ → Bool) (proper : HasProperFields rows) where
-  shown_member : (u : UnionDef) (n : ℕ) (m : Member) (v : Value) (o : Option TypeDef) → o ≡ Some (T.Union u) → slice_get u.members n ≡ Some m
-      → map_data ((member_name o n, shown rows (member_of o n) v) ∷ []) ≡ D.map (member m.name (shown rows (plainly m.ty) v) no_members)
-  shown_member u n m v o e h =
-      ap (λ f. map_data ((member_name f n, shown rows (member_of f n) v) ∷ [])) e
-      ∙ (λ i. D.map (member (named_member u n m h i) (shown rows (slot_of_member (h i)) v) no_members))
-
   mutual
     meant_shown : (v : Value) (slot : Slot) → ByParts rows is_key slot v → MapsRise v → Meant rows is_key slot (shown rows slot v) v
     meant_shown null slot h up = (h, refl)
@@ -141,16 +126,12 @@ module _ (rows : List Row) (is_key : ℕ → List ℕ → Bool) (proper : HasPro
     meant_shown (text s) slot h up = (h.0, refl)
     meant_shown (bytes s) slot h up = (h.0, refl)
     meant_shown (link s) slot h up = (h.0, h.1, refl)
-    meant_shown (list vs) slot h up = (
-      h.0,
-      h.1,
-      shown_values rows (element_of (form_of rows slot)) vs,
-      h.2,
-      refl,
-      subst (λ e. AreMeant rows is_key h.0 (shown_values rows e vs) vs) (sym (ap element_of h.2)) (elements_meant vs h.0 h.3 up),
-    )
+    meant_shown (list vs) slot h up =
+        let e : shown rows slot (list vs) ≡ D.list (shown_values rows h.0 vs) = ap (λ f. D.list (option_map_or (λ u. shown_values rows u vs) (element_of f) no_items)) h.2 in
+        (h.0, h.1, shown_values rows h.0 vs, h.2, e, elements_meant vs h.0 h.3 up)
     meant_shown (map ps) slot h up =
-        let x = shown_pairs rows (element_of (form_of rows slot)) ps in (
+        let x = shown_pairs rows h.2 ps in
+        let e : shown rows slot (map ps) ≡ D.map (members_of (in_key_order x)) = ap (λ f. map_data (option_map_or (λ u. in_key_order (shown_pairs rows u ps)) (element_of f) [])) h.5 in (
           h.0,
           h.1,
           h.2,
@@ -158,9 +139,8 @@ module _ (rows : List Row) (is_key : ℕ → List ℕ → Bool) (proper : HasPro
           h.4,
           members_of (in_key_order x),
           h.5,
-          refl,
-          subst (λ ms. EntriesMeant rows is_key (h.0).0 h.2 (members_of ms) ps) (sym (risen-same x (rises_shown rows (element_of (form_of rows slot)) ps up.0)))
-              (subst (λ e. EntriesMeant rows is_key (h.0).0 h.2 (members_of (shown_pairs rows e ps)) ps) (sym (ap element_of h.5)) (entries_meant ps (h.0).0 h.2 h.6 up.1)),
+          e,
+          subst (λ ms. EntriesMeant rows is_key (h.0).0 h.2 (members_of ms) ps) (sym (risen-same x (rises_shown rows h.2 ps up.0))) (entries_meant ps (h.0).0 h.2 h.6 up.1),
         )
     meant_shown (struct os) slot h up =
         let fs = (h.0).fields in
@@ -175,8 +155,14 @@ module _ (rows : List Row) (is_key : ℕ → List ℕ → Bool) (proper : HasPro
           fields_meant os fs (members_of (in_key_order x)) x same (proper slot h.0 h.1) (shows rows fs os (proper slot h.0 h.1)) h.2 up,
         )
     meant_shown (union n v) slot h up =
-        (h.0, h.1, shown rows (plainly (h.1).ty) v, h.2, h.3, shown_member h.0 n h.1 v (form_of rows slot) h.2 h.3, meant_shown v (plainly (h.1).ty) h.4 up)
-    meant_shown (enum n) slot h up = (h.0, h.1, h.2, h.3, ap (λ f. D.text (enum_name f n)) h.2 ∙ ap D.text (named_enum h.0 n h.1 h.3))
+        let e : shown rows slot (union n v) ≡ D.map (member (h.1).name (shown rows (plainly (h.1).ty) v) no_members) =
+            ap (λ f. map_data (option_map_or (λ (m : Member). (m.name, shown rows (slot_of m) v) ∷ []) (member_at f n) [])) h.2
+            ∙ ap (λ o. map_data (option_map_or (λ (m : Member). (m.name, shown rows (slot_of m) v) ∷ []) o [])) h.3 in
+        (h.0, h.1, shown rows (plainly (h.1).ty) v, h.2, h.3, e, meant_shown v (plainly (h.1).ty) h.4 up)
+    meant_shown (enum n) slot h up =
+        let e : shown rows slot (enum n) ≡ D.text (h.1).name =
+            ap (λ f. D.text (option_map_or (λ (m : EnumMember). m.name) (enum_member_at f n) [])) h.2 ∙ ap (λ o. D.text (option_map_or (λ (m : EnumMember). m.name) o [])) h.3 in
+        (h.0, h.1, h.2, h.3, e)
     meant_shown unit slot h up = (h.0, h.1, refl)
     meant_shown (any d) slot h up = (h.0, refl, h.1)
     meant_shown (hamt d) slot h up = absurd up
