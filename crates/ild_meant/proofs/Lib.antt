@@ -4,5 +4,6 @@ pub mod ByParts
 pub mod TypedByParts
 pub mod Reading
 pub mod Meanings
+pub mod MeantWhole
 pub mod MeantTyped
 pub mod Showing

@@ -156,12 +156,12 @@ module _ (rows : List Row) (is_key : ℕ → List ℕ → Bool) (proper : HasPro
         )
     meant_shown (union n v) slot h up =
         let e : shown rows slot (union n v) ≡ D.map (member (h.1).name (shown rows (plainly (h.1).ty) v) no_members) =
-            ap (λ f. map_data (option_map_or (λ (m : Member). (m.name, shown rows (slot_of m) v) ∷ []) (member_at f n) [])) h.2
-            ∙ ap (λ o. map_data (option_map_or (λ (m : Member). (m.name, shown rows (slot_of m) v) ∷ []) o [])) h.3 in
+        ap (λ f. map_data (option_map_or (λ (m : Member). (m.name, shown rows (slot_of m) v) ∷ []) (member_at f n) [])) h.2
+        ∙ ap (λ o. map_data (option_map_or (λ (m : Member). (m.name, shown rows (slot_of m) v) ∷ []) o [])) h.3 in
         (h.0, h.1, shown rows (plainly (h.1).ty) v, h.2, h.3, e, meant_shown v (plainly (h.1).ty) h.4 up)
     meant_shown (enum n) slot h up =
         let e : shown rows slot (enum n) ≡ D.text (h.1).name =
-            ap (λ f. D.text (option_map_or (λ (m : EnumMember). m.name) (enum_member_at f n) [])) h.2 ∙ ap (λ o. D.text (option_map_or (λ (m : EnumMember). m.name) o [])) h.3 in
+        ap (λ f. D.text (option_map_or (λ (m : EnumMember). m.name) (enum_member_at f n) [])) h.2 ∙ ap (λ o. D.text (option_map_or (λ (m : EnumMember). m.name) o [])) h.3 in
         (h.0, h.1, h.2, h.3, e)
     meant_shown unit slot h up = (h.0, h.1, refl)
     meant_shown (any d) slot h up = (h.0, refl, h.1)

@@ -8,6 +8,7 @@ use Rattle.ild_schema.specs.Value.{Value}
 use Rattle.ild_typed.specs.OfType.{OfType, TestsKeys}
 use Rattle.ild_typed.specs.Schema.{IsSchema}
 use Rattle.ild_typed.specs.Shown.{shown}
+use Rattle.ild_typed.specs.Typed.{Typed}
 use Rattle.ild_meant.specs.Meant.{Meant}
 use Rattle.ild_meant.specs.MeantRead.{meant}
 use Rattle.ild_meant.specs.Risen.{MapsRise}
@@ -24,9 +25,13 @@ ReadIsMeant = (rows : List Row) (is_key : ℕ → List ℕ → Bool) (slot : Slo
 abbrev pub OneMeant : Type 0
 OneMeant = (rows : List Row) (is_key : ℕ → List ℕ → Bool) → IsSchema rows → (slot : Slot) (t : Data) (v w : Value) → Meant rows is_key slot t v → Meant rows is_key slot t w → v ≡ w
 
--- the value that a tree shows is of its slot
-abbrev pub MeantIsOfType : Type 0
-MeantIsOfType = (rows : List Row) (is_key : ℕ → List ℕ → Bool) → IsSchema rows → TestsKeys rows is_key → (slot : Slot) (t : Data) (v : Value) → IsTree t → Meant rows is_key slot t v → OfType rows slot v
+-- the value that a tree shows is typed, and its maps rise
+pub record IsMeantTyped (rows : List Row) (slot : Slot) (v : Value) : Type 0 where
+  pub typed : Typed rows slot v
+  pub rises : MapsRise v
+
+abbrev pub MeantIsTyped : Type 0
+MeantIsTyped = (rows : List Row) (is_key : ℕ → List ℕ → Bool) → IsSchema rows → TestsKeys rows is_key → (slot : Slot) (t : Data) (v : Value) → IsTree t → Meant rows is_key slot t v → IsMeantTyped rows slot v
 
 -- the shown form of a value whose maps rise shows it
 abbrev pub ShownIsMeant : Type 0

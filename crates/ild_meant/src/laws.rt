@@ -1,5 +1,5 @@
 //! Laws of the values that data mean.
-ghost use Rattle.ild_meant.specs.MeantLaws.{MeantIsOfType, MeantIsRead, OneMeant, ReadIsMeant, ShownIsMeant};
+ghost use Rattle.ild_meant.specs.MeantLaws.{MeantIsTyped, MeantIsRead, OneMeant, ReadIsMeant, ShownIsMeant};
 
 /// Data mean one value of a slot at most, and the reading by the types finds it and no other.
 pub fn one_value_is_meant()
@@ -8,9 +8,9 @@ pub fn one_value_is_meant()
     ensures one { OneMeant }
 {}
 
-/// What a tree means is of its slot's type.
-pub fn meant_is_of_type()
-    ensures { MeantIsOfType }
+/// What a tree means is a typed value of the slot, whose maps rise.
+pub fn meant_is_typed()
+    ensures { MeantIsTyped }
 {}
 
 /// The shown form of a value, whose maps rise, means it.

@@ -4,4 +4,4 @@
 
 mod laws;
 
-pub use laws::{meant_is_of_type, one_value_is_meant, shown_is_meant};
+pub use laws::{meant_is_typed, one_value_is_meant, shown_is_meant};
