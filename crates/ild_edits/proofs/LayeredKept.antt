@@ -279,7 +279,7 @@ module _ (rows : List Row) (is_key : ℕ → List ℕ → Bool) (schema : IsSche
         let whole : OfType rows p.0 c = kept.set p s slot w is free stands new in
         let seen_so = set_part-seen rows p.0 p.1 s w in
         let there : part (seen rows (p.0, c)) s ≡ Some (slot, w) =
-            ap (λ h. part h s) seen_so ∙ set_part-there (seen rows p) s slot w free (λ e. kept.inside w (subst (λ r. OfType rows r w) e new)) in (
+        ap (λ h. part h s) seen_so ∙ set_part-there (seen rows p) s slot w free (λ e. kept.inside w (subst (λ r. OfType rows r w) e new)) in (
           λ j. (
             subst (λ h. L i p.0 h) seen_so (own_of i p.0 c j),
             part_of i (seen rows (p.0, c)) p.0 s (slot, w) (typed (p.0, c) whole) (own_of i p.0 c j) (good_of i (p.0, c) whole j) there,

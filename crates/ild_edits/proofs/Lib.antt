@@ -10,3 +10,6 @@ pub mod Layering
 pub mod Judging
 pub mod Layered
 pub mod LayeredKept
+pub mod LayerTesting
+pub mod Depth
+pub mod Firsts

@@ -3,4 +3,4 @@
 
 mod laws;
 
-pub use laws::{edits_are_local, edits_keep_types};
+pub use laws::{changes_are_judged_along_the_path, edits_are_local, edits_keep_types};
