@@ -94,14 +94,14 @@ list_seen rows slot vs s w (Some (T.List elem place)) e =
     ap (λ g. list_holder g (values_of xs)) e ∙ ap (λ ys. elements elem ys) (values_list-values_of xs)
 list_seen rows slot vs s w f e = ap (λ g. list_holder g vs) e
 
-map_seen : (rows : List Row) (slot : Slot) (ps : Pairs) (s : List ℕ) (w : Value) (f : Option TypeDef) → form_of rows slot ≡ f
+pub map_seen : (rows : List Row) (slot : Slot) (ps : Pairs) (s : List ℕ) (w : Value) (f : Option TypeDef) → form_of rows slot ≡ f
     → holder_of rows slot (value_of (set_part (map_holder f ps) s w)) ≡ set_part (map_holder f ps) s w
 map_seen rows slot ps s w (Some (T.Map key key_at elem place m)) e =
     let xs = put_by (is_paired m) s w (pairs_list ps) in
     ap (λ g. map_holder g (pairs_of xs)) e ∙ ap (λ ys. entries key.0 elem (is_paired m) ys) (pairs_list-pairs_of xs)
 map_seen rows slot ps s w f e = ap (λ g. map_holder g ps) e
 
-struct_seen : (rows : List Row) (slot : Slot) (os : Optionals) (s : List ℕ) (w : Value) (f : Option TypeDef) → form_of rows slot ≡ f
+pub struct_seen : (rows : List Row) (slot : Slot) (os : Optionals) (s : List ℕ) (w : Value) (f : Option TypeDef) → form_of rows slot ≡ f
     → holder_of rows slot (value_of (set_part (struct_holder f os) s w)) ≡ set_part (struct_holder f os) s w
 struct_seen rows slot os s w (Some (T.Struct r)) e =
     let xs = set_field s (Some w) r.fields (optionals_list os) in
@@ -113,7 +113,7 @@ member_seen : (rows : List Row) (slot : Slot) (u : UnionDef) (n : ℕ) (v w : Va
 member_seen rows slot u n v w None e = ap (λ g. union_holder g n v) e
 member_seen rows slot u n v w (Some p) e = ap (λ g. union_holder g p.0 w) e
 
-union_seen : (rows : List Row) (slot : Slot) (n : ℕ) (v : Value) (s : List ℕ) (w : Value) (f : Option TypeDef) → form_of rows slot ≡ f
+pub union_seen : (rows : List Row) (slot : Slot) (n : ℕ) (v : Value) (s : List ℕ) (w : Value) (f : Option TypeDef) → form_of rows slot ≡ f
     → holder_of rows slot (value_of (set_part (union_holder f n v) s w)) ≡ set_part (union_holder f n v) s w
 union_seen rows slot n v s w (Some (T.Union u)) e = member_seen rows slot u n v w (member_named s u.members) e
 union_seen rows slot n v s w f e = ap (λ g. union_holder g n v) e

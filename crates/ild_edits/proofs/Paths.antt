@@ -153,12 +153,12 @@ may_stand is_key (nothing v) s text h = h
 ok_same : (v w : Value) → ◌≡◌ {A = Result Value No} (Ok v) (Ok w) → v ≡ w
 ok_same v w h = cc
 
-placed_typed : (P : Value → Type 0) (fits : Bool) (d : Value) (o : Option Slot) (c : Value) → placed fits d o ≡ Ok c → ((slot : Slot) → o ≡ Some slot → fits ≡ true → P d) → P c
+pub placed_typed : (P : Value → Type 0) (fits : Bool) (d : Value) (o : Option Slot) (c : Value) → placed fits d o ≡ Ok c → ((slot : Slot) → o ≡ Some slot → fits ≡ true → P d) → P c
 placed_typed P fits d None c h rest = absurd cc
 placed_typed P true d (Some slot) c h rest = subst P (ok_same d c h) (rest slot refl refl)
 placed_typed P false d (Some slot) c h rest = absurd cc
 
-kept_typed : (P : Value → Type 0) (d : Value) (o : Option No) (c : Value) → unless_kept d o ≡ Ok c → (o ≡ None → P d) → P c
+pub kept_typed : (P : Value → Type 0) (d : Value) (o : Option No) (c : Value) → unless_kept d o ≡ Ok c → (o ≡ None → P d) → P c
 kept_typed P d None c h rest = subst P (ok_same d c h) (rest refl)
 kept_typed P d (Some refusal) c h rest = absurd cc
 
