@@ -7,3 +7,5 @@ pub mod Meanings
 pub mod MeantWhole
 pub mod MeantTyped
 pub mod Showing
+pub mod Broken
+pub mod Mismatched

@@ -22,7 +22,7 @@ reading_at_first : (b : Bool) (d : Data) (r : Data → Reading) (o : Option Data
 reading_at_first true d r o p h = refl
 reading_at_first false d r o p h = h
 
-reading_at : (rows : List Row) (is_key : ℕ → List ℕ → Bool) (ms : Members) (k : List ℕ) → value_at k (readings rows is_key ms) ≡ option_map (λ d slot. meant rows is_key slot d) (value_at k (members_list ms))
+pub reading_at : (rows : List Row) (is_key : ℕ → List ℕ → Bool) (ms : Members) (k : List ℕ) → value_at k (readings rows is_key ms) ≡ option_map (λ d slot. meant rows is_key slot d) (value_at k (members_list ms))
 reading_at rows is_key no_members k = refl
 reading_at rows is_key (member j d ms) k =
     reading_at_first (same_text k j) d (λ d slot. meant rows is_key slot d) (value_at k (members_list ms)) (value_at k (readings rows is_key ms)) (reading_at rows is_key ms k)

@@ -36,7 +36,7 @@ tree_first : (k j : List ℕ) (d e : Data) (ms : Members) (b : Bool) → IsTree 
 tree_first k j d e ms true t h rest = subst IsTree (same_Some d e h) t
 tree_first k j d e ms false t h rest = rest h
 
-tree_at : (k : List ℕ) (ms : Members) (e : Data) → AreEntries ms → value_at k (members_list ms) ≡ Some e → IsTree e
+pub tree_at : (k : List ℕ) (ms : Members) (e : Data) → AreEntries ms → value_at k (members_list ms) ≡ Some e → IsTree e
 tree_at k no_members e all h = absurd (none-some e h)
 tree_at k (member j d ms) e all h = tree_first k j d e ms (same_text k j) all.1 h (λ g. tree_at k ms e all.3 g)
 

@@ -2,4 +2,5 @@ pub mod Names
 pub mod Meant
 pub mod MeantRead
 pub mod Risen
+pub mod Mismatch
 pub mod MeantLaws

@@ -1,8 +1,9 @@
 -- The laws of the values that data show: the reading by the types finds them, there is one at most, and the shown form shows.
-use Rattle.std.specs.Prelude.{◌≡◌, ℕ, List, Bool, Some}
+use Rattle.std.specs.Prelude.{◌≡◌, ◌↔◌, ℕ, List, Bool, Some, None}
 use Rattle.ild_data.specs.Data.{Data}
 use Rattle.ild_data.specs.Tree.{IsTree}
 use Rattle.ild_schema.specs.declared.number.Slot.{Slot}
+use Rattle.ild_schema.specs.declared.number.TypeNo.{TypeNo}
 use Rattle.ild_schema.specs.declared.row.Row.{Row}
 use Rattle.ild_schema.specs.Value.{Value}
 use Rattle.ild_typed.specs.OfType.{OfType, TestsKeys}
@@ -11,6 +12,7 @@ use Rattle.ild_typed.specs.Shown.{shown}
 use Rattle.ild_typed.specs.Typed.{Typed}
 use Rattle.ild_meant.specs.Meant.{Meant}
 use Rattle.ild_meant.specs.MeantRead.{meant}
+use Rattle.ild_meant.specs.Mismatch.{Rule, IsMismatch}
 use Rattle.ild_meant.specs.Risen.{MapsRise}
 
 -- the reading finds each value that data show
@@ -36,3 +38,8 @@ MeantIsTyped = (rows : List Row) (is_key : ℕ → List ℕ → Bool) → IsSche
 -- the shown form of a value whose maps rise shows it
 abbrev pub ShownIsMeant : Type 0
 ShownIsMeant = (rows : List Row) (is_key : ℕ → List ℕ → Bool) → IsSchema rows → TestsKeys rows is_key → (slot : Slot) (v : Value) → OfType rows slot v → MapsRise v → Meant rows is_key slot (shown rows slot v) v
+
+-- a tree means nothing exactly where some part of it breaks some rule
+abbrev pub NothingWhereBroken : Type 0
+NothingWhereBroken = (rows : List Row) (is_key : ℕ → List ℕ → Bool) → IsSchema rows → (slot : Slot) (t : Data) → IsTree t
+    → (meant rows is_key slot t ≡ None) ↔ ((ty : TypeNo) × (rule : Rule) × IsMismatch rows is_key slot t ty rule)
