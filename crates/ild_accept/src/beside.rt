@@ -1,7 +1,8 @@
 //! The rules that look at each part of a type beside those before it.
-ghost use Rattle.std.specs.Prelude.{◌≡◌, []};
+ghost use Rattle.std.specs.Prelude.{◌≡◌, [], List};
 ghost use Rattle.std.specs.List.{list_any};
 ghost use Rattle.ild_schema.specs.Places.{first_beside, first_place};
+ghost use Rattle.ild_schema.specs.declared.def.Field.{Field};
 ghost use Rattle.ild_schema.specs.Rules.{is_kind_wrong, is_not_bytes, is_optional_wrong, kind_fault, optional_fault, union_kind_fault};
 
 use crate::kinds::{declared_kinds, kinds_at};
@@ -68,18 +69,12 @@ pub(crate) fn kind_fault(schema: &Schema, def: &TypeDef) -> Option<usize>
     }
 }
 
-fn has_optional(fields: &[Field]) -> bool
-    ensures { result ≡ list_any (λ f. f.optional) fields.now }
-{
-    fields.iter().any(|field| field.optional)
-}
-
 /// Whether a field may be left out where that isn't seen, or must be there behind one that may be left out.
-fn is_optional_wrong(form: &StructForm, before: &[Field], field: &Field) -> bool
-    ensures { result ≡ is_optional_wrong form.now before.now field.now }
+fn is_optional_wrong(form: &StructForm, optional: bool, field: &Field) -> bool
+    ensures { (before : List Field) → optional ≡ list_any (λ f. f.optional) before → result ≡ is_optional_wrong form.now before field.now }
 {
     match form {
-        StructForm::Tuple => !field.optional && has_optional(before),
+        StructForm::Tuple => !field.optional && optional,
         StructForm::StringJoin(_) => field.optional,
         _ => false,
     }
@@ -88,10 +83,12 @@ fn is_optional_wrong(form: &StructForm, before: &[Field], field: &Field) -> bool
 fn optional_field(form: &StructForm, fields: &[Field]) -> Option<usize>
     ensures { result ≡ first_beside (is_optional_wrong form.now) (λ f. f.at) [] fields.now }
 {
-    for (i, field) in fields.iter().enumerate() {
-        if is_optional_wrong(form, &fields[..i], field) {
+    let mut optional = false;
+    for field in fields {
+        if is_optional_wrong(form, optional, field) {
             return Some(field.at);
         }
+        optional |= field.optional;
     }
     None
 }

@@ -1,18 +1,21 @@
-//! The rule on names and texts by which parts are told apart.
-ghost use Rattle.std.specs.Prelude.{◌≡◌, [], ◌&&◌, ◌||◌, ℕ, ℤ, List, IfOk, OnOk, Some, bytes_eq, cond, false, if◌then◌else◌, option_map, true};
-ghost use Rattle.std.specs.BTreeSet.{contains, contains_text};
+//! The rule on names and texts by which parts are told apart. A schema finds the first part with a name or a text, so a part
+//! is told apart from those before it where it is that one.
+ghost use Rattle.std.specs.Prelude.{◌≡◌, ◌≤◌, ◌<◌, [], ◌&&◌, ◌||◌, ℕ, ℤ, IfOk, IfSome, OnOk, Option, Some, bytes_eq, cond, false, if◌then◌else◌, length, option_map, true};
+ghost use Rattle.std.specs.BTreeSet.{contains};
 ghost use Rattle.std.specs.List.{list_any};
 ghost use Rattle.std.specs.Option.{option_map_or};
 ghost use Rattle.std.specs.Ordering.{int_cmp};
-ghost use Rattle.ild_schema.specs.Clashes.{are_equal, are_same, discriminant_of, has_field, has_one_key, is_field_again, is_key_taken, is_member_again, is_value_again, name_fault};
+ghost use Rattle.ild_schema.specs.Clashes.{are_equal, discriminant_of, has_field, has_one_key, is_field_again, is_key_taken, is_member_again, is_value_again, name_fault};
 ghost use Rattle.ild_schema.specs.Kinds.{meant};
 ghost use Rattle.ild_schema.specs.Marks.{field_text, is_marked, is_valued, member_integer, member_text};
 ghost use Rattle.ild_schema.specs.Places.{first_beside};
+ghost use Rattle.ild_schema.specs.Table.{def_at, parts_of};
 ghost use Rattle.ild_schema.specs.declared.def.EnumForm.TheVariants as E;
+ghost use Rattle.ild_schema.specs.declared.def.TypeDef.TheVariants as D;
+ghost use Rattle.ild_accept.specs.Seen.{first_named, first_spelled, is_before, is_one, is_seen};
 
 use crate::decimal::decimal_of;
-use crate::kinds::meant;
-use crate::seen::{see, see_number};
+use crate::seen::{is_before, see_first, see_number};
 use ild_data::Txt;
 use ild_schema::{
     EnumDef, EnumForm, EnumMember, Field, Mark, Member, Schema, StructDef, TypeDef, TypeNo,
@@ -20,12 +23,6 @@ use ild_schema::{
 };
 use std::alloc::{AllocError, Global};
 use std::collections::BTreeSet;
-
-fn are_equal(a: &Txt, b: &Txt) -> bool
-    ensures { result ≡ bytes_eq a.now b.now }
-{
-    a.as_str() == b.as_str()
-}
 
 /// The name of a field in a block.
 fn field_text(field: &Field) -> &Txt
@@ -47,68 +44,75 @@ fn member_text(member: &EnumMember) -> &Txt
     }
 }
 
-/// Puts the two names of a field into sets. The answer tells whether one of them was there.
-fn is_field_seen(
-    alloc: Global,
-    names: &mut BTreeSet<String>,
-    texts: &mut BTreeSet<String>,
-    field: &Field,
-) -> Result<bool, AllocError>
-    ensures was { IfOk result (λ b. b ≡ contains_text names.old field.now.name || contains_text texts.old (field_text field.now)) }
-    ensures names { OnOk result ((q : List ℕ) → contains_text names.new q ≡ cond (bytes_eq q field.now.name) true (contains_text names.old q)) }
-    ensures texts { OnOk result ((q : List ℕ) → contains_text texts.new q ≡ cond (bytes_eq q (field_text field.now)) true (contains_text texts.old q)) }
+/// Whether a part before this one has a name.
+fn is_named_before(schema: &Schema, ty: TypeNo, part: usize, name: &Txt) -> bool
+    requires { ty.0 < length schema.now }
+    ensures { result ≡ is_before part (first_named schema.now ty.0 name.now) }
 {
-    let named = see(alloc, names, field.name.as_str())?;
-    let told = see(alloc, texts, field_text(field).as_str())?;
-    Ok(named || told)
+    is_before(part, schema.part_named(ty, name.as_str()))
 }
 
-fn field_again(alloc: Global, fields: &[Field]) -> Result<Option<usize>, AllocError>
-    ensures { IfOk result (λ place. place ≡ first_beside is_field_again (λ f. f.at) [] fields.now) }
+/// Whether a part before this one stands in a block under a text.
+fn is_spelled_before(schema: &Schema, ty: TypeNo, part: usize, text: &Txt) -> bool
+    requires { ty.0 < length schema.now }
+    ensures { result ≡ is_before part (first_spelled schema.now ty.0 text.now) }
 {
-    let mut names = BTreeSet::new(alloc);
-    let mut texts = BTreeSet::new(alloc);
-    for field in fields {
-        if is_field_seen(alloc, &mut names, &mut texts, field)? {
-            return Ok(Some(field.at));
+    is_before(part, schema.part_spelled(ty, text.as_str()))
+}
+
+/// Whether a field has the name, or the name in a block, of one before it.
+fn is_field_again(schema: &Schema, ty: TypeNo, part: usize, field: &Field) -> bool
+    requires { ty.0 < length schema.now }
+    ensures { result ≡ is_before part (first_named schema.now ty.0 field.now.name) || is_before part (first_spelled schema.now ty.0 (field_text field.now)) }
+{
+    is_named_before(schema, ty, part, &field.name)
+        || is_spelled_before(schema, ty, part, field_text(field))
+}
+
+fn field_again(schema: &Schema, ty: TypeNo, def: &StructDef) -> Option<usize>
+    requires within { ty.0 < length schema.now }
+    requires def { def_at schema.now ty.0 ≡ Some (D.Struct def.now) }
+    ensures { result ≡ first_beside is_field_again (λ f. f.at) [] def.now.fields }
+{
+    for (part, field) in def.fields.as_slice().iter().enumerate() {
+        if is_field_again(schema, ty, part, field) {
+            return Some(field.at);
         }
     }
-    Ok(None)
+    None
 }
 
-fn again_in_struct(alloc: Global, def: &StructDef) -> Result<Option<usize>, AllocError>
-    ensures { IfOk result (λ place. place ≡ first_beside is_field_again (λ f. f.at) [] def.now.fields) }
+/// Whether a member of an enum of texts has the name, or the text, of one before it.
+fn is_text_again(schema: &Schema, ty: TypeNo, part: usize, member: &EnumMember) -> bool
+    requires { ty.0 < length schema.now }
+    ensures { result ≡ is_before part (first_named schema.now ty.0 member.now.name) || is_before part (first_spelled schema.now ty.0 (member_text member.now)) }
 {
-    field_again(alloc, def.fields.as_slice())
+    is_named_before(schema, ty, part, &member.name)
+        || is_spelled_before(schema, ty, part, member_text(member))
 }
 
-/// Puts the name and the text of a member into sets. The answer tells whether one of them was there.
-fn is_text_seen(
-    alloc: Global,
-    names: &mut BTreeSet<String>,
-    texts: &mut BTreeSet<String>,
-    member: &EnumMember,
-) -> Result<bool, AllocError>
-    ensures was { IfOk result (λ b. b ≡ contains_text names.old member.now.name || contains_text texts.old (member_text member.now)) }
-    ensures names { OnOk result ((q : List ℕ) → contains_text names.new q ≡ cond (bytes_eq q member.now.name) true (contains_text names.old q)) }
-    ensures texts { OnOk result ((q : List ℕ) → contains_text texts.new q ≡ cond (bytes_eq q (member_text member.now)) true (contains_text texts.old q)) }
+fn text_again(schema: &Schema, ty: TypeNo, def: &EnumDef) -> Option<usize>
+    requires within { ty.0 < length schema.now }
+    requires def { def_at schema.now ty.0 ≡ Some (D.Enum def.now) }
+    ensures { result ≡ first_beside (is_value_again E.Text) (λ m. m.at) [] def.now.members }
 {
-    let named = see(alloc, names, member.name.as_str())?;
-    let told = see(alloc, texts, member_text(member).as_str())?;
-    Ok(named || told)
-}
-
-fn text_again(alloc: Global, members: &[EnumMember]) -> Result<Option<usize>, AllocError>
-    ensures { IfOk result (λ place. place ≡ first_beside (is_value_again E.Text) (λ m. m.at) [] members.now) }
-{
-    let mut names = BTreeSet::new(alloc);
-    let mut texts = BTreeSet::new(alloc);
-    for member in members {
-        if is_text_seen(alloc, &mut names, &mut texts, member)? {
-            return Ok(Some(member.at));
+    for (part, member) in def.members.as_slice().iter().enumerate() {
+        if is_text_again(schema, ty, part, member) {
+            return Some(member.at);
         }
     }
-    Ok(None)
+    None
+}
+
+/// Marks a name of a part as had. The answer tells whether it was.
+fn see_name(schema: &Schema, ty: TypeNo, names: &mut [bool], name: &Txt) -> bool
+    requires within { ty.0 < length schema.now }
+    requires room { IfSome (def_at schema.now ty.0) (λ def. parts_of def ≤ length names.old) }
+    ensures was { result ≡ is_seen names.old (first_named schema.now ty.0 name.now) }
+    ensures size { length names.new ≡ length names.old }
+    ensures seen { (o : Option ℕ) → is_seen names.new o ≡ cond (is_one o (first_named schema.now ty.0 name.now)) true (is_seen names.old o) }
+{
+    see_first(names, schema.part_named(ty, name.as_str()))
 }
 
 /// The integer of a member, where its text is one.
@@ -132,45 +136,62 @@ fn is_integer_told(numbers: &mut BTreeSet<i128>, member: &EnumMember) -> Result<
     }
 }
 
-/// Puts the name and the integer of a member into sets, where it has a text. The answer tells whether one of them was
-/// there.
+/// Marks the name and the integer of a member as had, where it has a text. The answer tells whether one of them was.
 fn is_integer_seen(
-    alloc: Global,
-    names: &mut BTreeSet<String>,
+    schema: &Schema,
+    ty: TypeNo,
+    names: &mut [bool],
     numbers: &mut BTreeSet<i128>,
     member: &EnumMember,
 ) -> Result<bool, AllocError>
-    ensures was { IfOk result (λ b. b ≡ is_valued E.Int member.now && (contains_text names.old member.now.name || option_map_or (contains int_cmp numbers.old) (member_integer member.now) false)) }
-    ensures names { OnOk result ((q : List ℕ) → contains_text names.new q ≡ cond (is_valued E.Int member.now && bytes_eq q member.now.name) true (contains_text names.old q)) }
+    requires within { ty.0 < length schema.now }
+    requires room { IfSome (def_at schema.now ty.0) (λ def. parts_of def ≤ length names.old) }
+    ensures was { IfOk result (λ b. b ≡ is_valued E.Int member.now && (is_seen names.old (first_named schema.now ty.0 member.now.name) || option_map_or (contains int_cmp numbers.old) (member_integer member.now) false)) }
+    ensures size { length names.new ≡ length names.old }
+    ensures names { OnOk result ((o : Option ℕ) → is_seen names.new o ≡ cond (is_valued E.Int member.now && is_one o (first_named schema.now ty.0 member.now.name)) true (is_seen names.old o)) }
     ensures numbers { OnOk result ((q : ℤ) → contains int_cmp numbers.new q ≡ cond (is_valued E.Int member.now && are_equal (Some q) (member_integer member.now)) true (contains int_cmp numbers.old q)) }
 {
     if member.text.is_none() {
         return Ok(false);
     }
-    let named = see(alloc, names, member.name.as_str())?;
+    let named = see_name(schema, ty, names, &member.name);
     let told = is_integer_told(numbers, member)?;
     Ok(named || told)
 }
 
-fn integer_again(alloc: Global, members: &[EnumMember]) -> Result<Option<usize>, AllocError>
-    ensures { IfOk result (λ place. place ≡ first_beside (is_value_again E.Int) (λ m. m.at) [] members.now) }
+fn integer_again(
+    alloc: Global,
+    schema: &Schema,
+    ty: TypeNo,
+    def: &EnumDef,
+) -> Result<Option<usize>, AllocError>
+    requires within { ty.0 < length schema.now }
+    requires def { def_at schema.now ty.0 ≡ Some (D.Enum def.now) }
+    ensures { IfOk result (λ place. place ≡ first_beside (is_value_again E.Int) (λ m. m.at) [] def.now.members) }
 {
-    let mut names = BTreeSet::new(alloc);
+    let mut names = vec![in alloc; false; def.members.len()]?;
     let mut numbers = BTreeSet::new(alloc);
-    for member in members {
-        if is_integer_seen(alloc, &mut names, &mut numbers, member)? {
+    for member in def.members.as_slice() {
+        if is_integer_seen(schema, ty, &mut names, &mut numbers, member)? {
             return Ok(Some(member.at));
         }
     }
     Ok(None)
 }
 
-fn again_in_enum(alloc: Global, def: &EnumDef) -> Result<Option<usize>, AllocError>
+fn again_in_enum(
+    alloc: Global,
+    schema: &Schema,
+    ty: TypeNo,
+    def: &EnumDef,
+) -> Result<Option<usize>, AllocError>
+    requires within { ty.0 < length schema.now }
+    requires def { def_at schema.now ty.0 ≡ Some (D.Enum def.now) }
     ensures { IfOk result (λ place. place ≡ first_beside (is_value_again def.now.form) (λ m. m.at) [] def.now.members) }
 {
     match def.form {
-        EnumForm::Text => text_again(alloc, def.members.as_slice()),
-        EnumForm::Int => integer_again(alloc, def.members.as_slice()),
+        EnumForm::Text => Ok(text_again(schema, ty, def)),
+        EnumForm::Int => integer_again(alloc, schema, ty, def),
     }
 }
 
@@ -197,39 +218,39 @@ fn discriminant_of<'s>(form: &UnionForm, member: &'s Member) -> Option<&'s Txt>
     }
 }
 
-/// Puts the discriminant of a member into a set, if it has one. The answer tells whether it was there.
-fn is_told(
-    alloc: Global,
-    texts: &mut BTreeSet<String>,
+/// Whether the discriminant of a member, if it has one, is that of one before it.
+fn is_told_before(
+    schema: &Schema,
+    ty: TypeNo,
+    part: usize,
     form: &UnionForm,
     member: &Member,
-) -> Result<bool, AllocError>
-    ensures was { IfOk result (λ b. b ≡ option_map_or (contains_text texts.old) (discriminant_of form.now member.now) false) }
-    ensures texts { OnOk result ((q : List ℕ) → contains_text texts.new q ≡ cond (are_same (Some q) (discriminant_of form.now member.now)) true (contains_text texts.old q)) }
+) -> bool
+    requires { ty.0 < length schema.now }
+    ensures { result ≡ option_map_or (λ text. is_before part (first_spelled schema.now ty.0 text)) (discriminant_of form.now member.now) false }
 {
     match discriminant_of(form, member) {
-        None => Ok(false),
-        Some(text) => see(alloc, texts, text.as_str()),
+        None => false,
+        Some(text) => is_spelled_before(schema, ty, part, text),
     }
 }
 
-fn has_field_named(key: &Txt, def: &StructDef) -> bool
-    ensures { result ≡ list_any (λ f. bytes_eq key.now (field_text f)) def.now.fields }
+/// Whether a type that is no copy is a struct with a field of a name in a block.
+fn is_field_text(schema: &Schema, ty: TypeNo, key: &Txt) -> bool
+    requires { ty.0 < length schema.now }
+    ensures { result ≡ has_field key.now (def_at schema.now ty.0) }
 {
-    def.fields
-        .as_slice()
-        .iter()
-        .any(|field| are_equal(key, field_text(field)))
-}
-
-/// Whether a type is a struct with a field of a name.
-fn has_field(key: &Txt, schema: &Schema, ty: TypeNo) -> bool
-    ensures { result ≡ has_field key.now (meant schema.now ty.0) }
-{
-    match meant(schema, ty) {
-        Some(TypeDef::Struct(s)) => has_field_named(key, s),
+    match schema.def(ty) {
+        TypeDef::Struct(_) => schema.part_spelled(ty, key.as_str()).is_some(),
         _ => false,
     }
+}
+
+/// Whether a type is, through copies, a struct with a field of a name in a block.
+fn has_field(schema: &Schema, ty: TypeNo, key: &Txt) -> bool
+    ensures { result ≡ has_field key.now (meant schema.now ty.0) }
+{
+    ty.0 < schema.types() && is_field_text(schema, schema.base(ty), key)
 }
 
 /// Whether the key of an inline union is the name of a field of a member.
@@ -237,45 +258,46 @@ fn is_key_taken(schema: &Schema, form: &UnionForm, member: &Member) -> bool
     ensures { result ≡ is_key_taken schema.now form.now member.now }
 {
     match form {
-        UnionForm::Inline(key) => has_field(key, schema, member.ty),
+        UnionForm::Inline(key) => has_field(schema, member.ty, key),
         _ => false,
     }
 }
 
-/// Puts the name and the discriminant of a member into sets, where it has what the union asks for. The answer tells
-/// whether one of them was there, or the key of the union is the name of a field of the member.
+/// Marks the name of a member as had, where it has what the union asks for. The answer tells whether it was, or the
+/// discriminant is that of a member before it, or the key of the union is the name of a field of the member.
 fn is_member_seen(
-    alloc: Global,
     schema: &Schema,
-    names: &mut BTreeSet<String>,
-    texts: &mut BTreeSet<String>,
+    ty: TypeNo,
+    part: usize,
+    names: &mut [bool],
     form: &UnionForm,
     member: &Member,
-) -> Result<bool, AllocError>
-    ensures was { IfOk result (λ b. b ≡ is_marked form.now member.now && ((contains_text names.old member.now.name || option_map_or (contains_text texts.old) (discriminant_of form.now member.now) false) || is_key_taken schema.now form.now member.now)) }
-    ensures names { OnOk result ((q : List ℕ) → contains_text names.new q ≡ cond (is_marked form.now member.now && bytes_eq q member.now.name) true (contains_text names.old q)) }
-    ensures texts { OnOk result ((q : List ℕ) → contains_text texts.new q ≡ cond (is_marked form.now member.now && are_same (Some q) (discriminant_of form.now member.now)) true (contains_text texts.old q)) }
+) -> bool
+    requires within { ty.0 < length schema.now }
+    requires room { IfSome (def_at schema.now ty.0) (λ def. parts_of def ≤ length names.old) }
+    ensures was { result ≡ is_marked form.now member.now && ((is_seen names.old (first_named schema.now ty.0 member.now.name) || option_map_or (λ text. is_before part (first_spelled schema.now ty.0 text)) (discriminant_of form.now member.now) false) || is_key_taken schema.now form.now member.now) }
+    ensures size { length names.new ≡ length names.old }
+    ensures names { (o : Option ℕ) → is_seen names.new o ≡ cond (is_marked form.now member.now && is_one o (first_named schema.now ty.0 member.now.name)) true (is_seen names.old o) }
 {
-    if !is_marked(form, member) {
-        return Ok(false);
-    }
-    let named = see(alloc, names, member.name.as_str())?;
-    let told = is_told(alloc, texts, form, member)?;
-    Ok(named || told || is_key_taken(schema, form, member))
+    is_marked(form, member)
+        && (see_name(schema, ty, names, &member.name)
+            || is_told_before(schema, ty, part, form, member)
+            || is_key_taken(schema, form, member))
 }
 
 fn member_again(
     alloc: Global,
     schema: &Schema,
-    form: &UnionForm,
-    members: &[Member],
+    ty: TypeNo,
+    def: &UnionDef,
 ) -> Result<Option<usize>, AllocError>
-    ensures { IfOk result (λ place. place ≡ first_beside (is_member_again schema.now form.now) (λ m. m.at) [] members.now) }
+    requires within { ty.0 < length schema.now }
+    requires def { def_at schema.now ty.0 ≡ Some (D.Union def.now) }
+    ensures { IfOk result (λ place. place ≡ first_beside (is_member_again schema.now def.now.form) (λ m. m.at) [] def.now.members) }
 {
-    let mut names = BTreeSet::new(alloc);
-    let mut texts = BTreeSet::new(alloc);
-    for member in members {
-        if is_member_seen(alloc, schema, &mut names, &mut texts, form, member)? {
+    let mut names = vec![in alloc; false; def.members.len()]?;
+    for (part, member) in def.members.as_slice().iter().enumerate() {
+        if is_member_seen(schema, ty, part, &mut names, &def.form, member) {
             return Ok(Some(member.at));
         }
     }
@@ -287,7 +309,7 @@ fn has_one_key(form: &UnionForm) -> bool
     ensures { result ≡ has_one_key form.now }
 {
     match form {
-        UnionForm::Envelope(discriminant, content) => are_equal(discriminant, content),
+        UnionForm::Envelope(discriminant, content) => discriminant.as_str() == content.as_str(),
         _ => false,
     }
 }
@@ -295,15 +317,18 @@ fn has_one_key(form: &UnionForm) -> bool
 fn again_in_union(
     alloc: Global,
     schema: &Schema,
+    ty: TypeNo,
     at: usize,
     def: &UnionDef,
 ) -> Result<Option<usize>, AllocError>
+    requires within { ty.0 < length schema.now }
+    requires def { def_at schema.now ty.0 ≡ Some (D.Union def.now) }
     ensures { IfOk result (λ place. place ≡ (if has_one_key def.now.form then Some at else first_beside (is_member_again schema.now def.now.form) (λ m. m.at) [] def.now.members)) }
 {
     if has_one_key(&def.form) {
         Ok(Some(at))
     } else {
-        member_again(alloc, schema, &def.form, def.members.as_slice())
+        member_again(alloc, schema, ty, def)
     }
 }
 
@@ -311,15 +336,18 @@ fn again_in_union(
 pub(crate) fn name_fault(
     alloc: Global,
     schema: &Schema,
+    ty: TypeNo,
     at: usize,
     def: &TypeDef,
 ) -> Result<Option<usize>, AllocError>
+    requires within { ty.0 < length schema.now }
+    requires def { def_at schema.now ty.0 ≡ Some def.now }
     ensures { IfOk result (λ place. place ≡ name_fault schema.now at def.now) }
 {
     match def {
-        TypeDef::Struct(s) => again_in_struct(alloc, s),
-        TypeDef::Enum(e) => again_in_enum(alloc, e),
-        TypeDef::Union(u) => again_in_union(alloc, schema, at, u),
+        TypeDef::Struct(s) => Ok(field_again(schema, ty, s)),
+        TypeDef::Enum(e) => again_in_enum(alloc, schema, ty, e),
+        TypeDef::Union(u) => again_in_union(alloc, schema, ty, at, u),
         _ => Ok(None),
     }
 }

@@ -4,6 +4,7 @@ ghost use Rattle.ild_schema.specs.Delimiters.{are_poor, delim_fault, is_poor_map
 
 use ild_data::Txt;
 use ild_schema::{MapForm, StructForm, TypeDef};
+use memchr::memmem;
 
 fn is_empty(text: &Txt) -> bool
     ensures { result ≡ is_empty text.now }
@@ -18,16 +19,7 @@ fn is_empty(text: &Txt) -> bool
 fn occurs(part: &[u8], text: &[u8]) -> bool
     ensures { result ≡ occurs part.now text.now }
 {
-    let mut rest = text;
-    loop {
-        if rest.starts_with(part) {
-            return true;
-        }
-        match rest {
-            [] => return false,
-            [_, more @ ..] => rest = more,
-        }
-    }
+    memmem::find(text, part).is_some()
 }
 
 /// Whether one is empty, or that of the entries stands in that of an entry.

@@ -1,24 +1,37 @@
-//! Sets of texts and of numbers.
-ghost use Rattle.std.specs.Prelude.{◌≡◌, ℕ, ℤ, List, IfOk, OnOk, bytes_eq, cond, true};
-ghost use Rattle.std.specs.BTreeSet.{contains, contains_text};
+//! What was seen of the parts of a type: whether a text stands before a part, which names were had, and which numbers.
+ghost use Rattle.std.specs.Prelude.{◌≡◌, ◌<◌, ℕ, ℤ, IfOk, IfSome, OnOk, Option, cond, length, true};
+ghost use Rattle.std.specs.BTreeSet.{contains};
 ghost use Rattle.std.specs.Ordering.{int_cmp, int_eq};
+ghost use Rattle.ild_accept.specs.Seen.{is_before, is_one, is_seen};
 
-use std::alloc::{AllocError, Global};
+use std::alloc::AllocError;
 use std::collections::BTreeSet;
 
-/// Puts a text into a set. The answer tells whether it was there.
-pub(crate) fn see(
-    alloc: Global,
-    seen: &mut BTreeSet<String>,
-    text: &str,
-) -> Result<bool, AllocError>
-    ensures was { IfOk result (λ b. b ≡ contains_text seen.old text.now) }
-    ensures seen { OnOk result ((q : List ℕ) → contains_text seen.new q ≡ cond (bytes_eq q text.now) true (contains_text seen.old q)) }
+/// Whether the first part with a text stands before a part.
+pub(crate) fn is_before(part: usize, first: Option<usize>) -> bool
+    ensures { result ≡ is_before part first }
 {
-    let was = seen.contains(text);
-    let key = String::from_str(alloc, text)?;
-    seen.insert(key)?;
-    Ok(was)
+    match first {
+        Some(other) => other < part,
+        None => false,
+    }
+}
+
+/// Marks the first part that has a name. The answer tells whether it was marked.
+pub(crate) fn see_first(marks: &mut [bool], first: Option<usize>) -> bool
+    requires { IfSome first (λ part. part < length marks.old) }
+    ensures was { result ≡ is_seen marks.old first }
+    ensures size { length marks.new ≡ length marks.old }
+    ensures seen { (o : Option ℕ) → is_seen marks.new o ≡ cond (is_one o first) true (is_seen marks.old o) }
+{
+    match first {
+        None => false,
+        Some(part) => {
+            let was = marks[part];
+            marks[part] = true;
+            was
+        }
+    }
 }
 
 /// Puts a number into a set. The answer tells whether it was there.

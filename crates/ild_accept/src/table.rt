@@ -1,11 +1,12 @@
 //! The rules that look at one type after the other.
-ghost use Rattle.std.specs.Prelude.{◌≡◌, IfOk, OnOk, option_map};
+ghost use Rattle.std.specs.Prelude.{◌≡◌, ◌<◌, IfOk, Some, length};
 ghost use Rattle.std.specs.Option.{option_or};
 ghost use Rattle.ild_schema.specs.Accept.{fails_at, first_failing, type_fault};
 ghost use Rattle.ild_schema.specs.Clashes.{name_fault};
 ghost use Rattle.ild_schema.specs.Delimiters.{delim_fault};
 ghost use Rattle.ild_schema.specs.Prefixes.{prefix_fault};
 ghost use Rattle.ild_schema.specs.Rules.{implicit_fault, inline_fault, key_fault, kind_fault, null_fault, optional_fault, strategy_fault, text_fault};
+ghost use Rattle.ild_schema.specs.Table.{def_at};
 ghost use Rattle.ild_schema.specs.declared.rule.Rule.TheVariants as R;
 ghost use Rattle.ild_accept.specs.Judged.{Tells};
 
@@ -32,12 +33,15 @@ fn fails_at(rule: Rule, place: Option<usize>) -> Option<(Rule, usize)>
 fn last_rules(
     alloc: Global,
     schema: &Schema,
+    ty: TypeNo,
     at: usize,
     def: &TypeDef,
 ) -> Result<Option<(Rule, usize)>, AllocError>
+    requires within { ty.0 < length schema.now }
+    requires def { def_at schema.now ty.0 ≡ Some def.now }
     ensures { IfOk result (λ fault. fault ≡ option_or (fails_at R.NameClash (name_fault schema.now at def.now)) (option_or (fails_at R.InlineMember (inline_fault schema.now def.now)) (option_or (fails_at R.MapKey (key_fault schema.now def.now)) (fails_at R.Strategy (strategy_fault at def.now))))) }
 {
-    let name = fails_at(Rule::NameClash, name_fault(alloc, schema, at, def)?);
+    let name = fails_at(Rule::NameClash, name_fault(alloc, schema, ty, at, def)?);
     if name.is_some() {
         return Ok(name);
     }
@@ -56,9 +60,12 @@ fn last_rules(
 fn later_rules(
     alloc: Global,
     schema: &Schema,
+    ty: TypeNo,
     at: usize,
     def: &TypeDef,
 ) -> Result<Option<(Rule, usize)>, AllocError>
+    requires within { ty.0 < length schema.now }
+    requires def { def_at schema.now ty.0 ≡ Some def.now }
     ensures { IfOk result (λ fault. fault ≡ option_or (fails_at R.Delim (delim_fault at def.now)) (option_or (fails_at R.NotText (text_fault schema.now def.now)) (option_or (fails_at R.OptionalPlace (optional_fault def.now)) (option_or (fails_at R.Implicit (implicit_fault schema.now def.now)) (option_or (fails_at R.NameClash (name_fault schema.now at def.now)) (option_or (fails_at R.InlineMember (inline_fault schema.now def.now)) (option_or (fails_at R.MapKey (key_fault schema.now def.now)) (fails_at R.Strategy (strategy_fault at def.now))))))))) }
 {
     let delim = fails_at(Rule::Delim, delim_fault(at, def));
@@ -77,16 +84,19 @@ fn later_rules(
     if implicit.is_some() {
         return Ok(implicit);
     }
-    last_rules(alloc, schema, at, def)
+    last_rules(alloc, schema, ty, at, def)
 }
 
 /// The first rule that fails for a type at a place, beside that on cycles.
 fn type_fault(
     alloc: Global,
     schema: &Schema,
+    ty: TypeNo,
     at: usize,
     def: &TypeDef,
 ) -> Result<Option<(Rule, usize)>, AllocError>
+    requires within { ty.0 < length schema.now }
+    requires def { def_at schema.now ty.0 ≡ Some def.now }
     ensures { IfOk result (λ fault. fault ≡ type_fault schema.now at def.now) }
 {
     let null = fails_at(Rule::NullClash, null_fault(schema, def));
@@ -101,7 +111,7 @@ fn type_fault(
     if prefix.is_some() {
         return Ok(prefix);
     }
-    later_rules(alloc, schema, at, def)
+    later_rules(alloc, schema, ty, at, def)
 }
 
 /// Judges each type by the rules beside that on cycles.
@@ -110,7 +120,7 @@ pub(crate) fn judge_types(alloc: Global, schema: &Schema) -> Result<(), AcceptEr
 {
     for n in 0..schema.types() {
         let ty = TypeNo(n);
-        match type_fault(alloc, schema, schema.place(ty), schema.def(ty))? {
+        match type_fault(alloc, schema, ty, schema.place(ty), schema.def(ty))? {
             Some((rule, at)) => return Err(AcceptErr::Fault { rule, ty, at }),
             None => {}
         }

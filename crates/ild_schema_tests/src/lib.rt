@@ -6,6 +6,8 @@ mod acceptance;
 #[cfg(test)]
 mod compile;
 #[cfg(test)]
+mod corners;
+#[cfg(test)]
 mod lex;
 #[cfg(test)]
 mod parse;

@@ -1,4 +1,5 @@
 -- A step of the check of one block at a map, whose keys are texts of the key type.
+use Rattle.ild_typed.proofs.PartData.{pairs_data}
 use Rattle.std.proofs.Common.{◌≡◌, ℕ, zero, suc, ◌-◌, ◌≤◌, List, [], ◌∷◌, Option, Some, option_map, refl, sym, ◌∙◌, ap, subst, inl, inr}
 use Rattle.std.specs.Prelude.{IsUtf8, IsSomeAnd, option_and_then}
 use Rattle.std.specs.List.{AllByRecursion}
@@ -26,7 +27,7 @@ use Rattle.ild_typed.specs.Hamt.{alone}
 use Rattle.ild_typed.specs.Represented.{layered, represented, represented_pairs}
 use Rattle.ild_typed.specs.Levels.{map_levels}
 use Rattle.ild_typed.specs.Fits.{FormFits, ValueFits, FitsPast}
-use Rattle.ild_typed.specs.Layers.{AreApart, AreKeys, Shows, EntriesFit, MapFits}
+use Rattle.ild_typed.specs.Layers.{AreKeysApart, AreKeys, Shows, EntriesFit, MapFits}
 use Rattle.ild_schema.specs.Clear.{IsClear, IsSafe}
 use Rattle.ild_typed.proofs.Basics.{map_from}
 use Rattle.ild_typed.proofs.Entries.{both_from}
@@ -61,7 +62,7 @@ module _ {A B : Type 0} where
   others_like k l (p ∷ ps) [] e same all = absurd same
   others_like k l (p ∷ ps) (q ∷ qs) e same all = (λ h. all.0 (e ∙ h ∙ sym same.0), others_like k l ps qs e same.1 all.1)
 
-  apart_like : (ps : List (List ℕ × A)) (qs : List (List ℕ × B)) → SameKeys ps qs → AreApart ps → AreApart qs
+  apart_like : (ps : List (List ℕ × A)) (qs : List (List ℕ × B)) → SameKeys ps qs → AreKeysApart ps → AreKeysApart qs
   apart_like [] [] same all = tt
   apart_like [] (q ∷ qs) same all = absurd same
   apart_like (p ∷ ps) [] same all = absurd same
@@ -138,7 +139,7 @@ module _ (rows : List Row) (clear : IsClear rows) (room : ℕ) (s : Slot) (key :
       let fit : EntriesFit Below rows key value form (pairs_list x.pairs) = (keys_like form ds (pairs_list x.pairs) (same_back (pairs_list x.pairs) ds x.same) keys, x.fit) in (
         V.map x.pairs,
         subst (λ o. IsSomeAnd o (FormFits rows (suc room) (FitsPast rows room) (V.map x.pairs))) (sym is) (enough, map_fits rows Below key value form (pairs_list x.pairs) fit),
-        ap (λ o. layered alone o (option_map L.map (represented_pairs alone rows (element_of o) x.pairs))) is
+        ap (λ o. layered alone o (option_map L.map (pairs_data alone rows (element_of o) x.pairs))) is
             ∙ ap (λ o. option_and_then (composed alone (D.Map key key_at value place form)) (option_map L.map o)) x.there ∙ made,
       )
 

@@ -2,7 +2,7 @@
 //! without a body (IPLD Schemas; IPLD HashMap).
 #![tactic(auto)]
 
-ghost use Rattle.ild_typed.specs.WhyLaws.{FrontOrRefused, LayerOrWhy, OneRefusal, RefusedHaveNoFront};
+ghost use Rattle.ild_typed.specs.WhyLaws.{FrontOrRefused, LayerOrWhy, OneRefusal, PartsAreTrees, RefusedHaveNoFront, RootsAreTold};
 ghost use Rattle.ild_typed.specs.Ways.{WaysLead};
 ghost use Rattle.ild_typed.specs.TreeLaws.{BlocksAreNested, FrontsAreTrees, ShownAreTrees, StorableBlocks, ValuesAreTrees};
 ghost use Rattle.ild_typed.specs.AtLaws.{IndicesAreDecimals, ReachesParts};
@@ -43,6 +43,16 @@ pub fn one_whole()
 /// Data of a type have a layer exactly where no cause of a refusal holds of them.
 pub fn layer_or_why()
     ensures { LayerOrWhy }
+{}
+
+/// The parts of a tree of a type are trees.
+pub fn parts_are_trees()
+    ensures { PartsAreTrees }
+{}
+
+/// A tree is the root map of a HAMT exactly where its test says so.
+pub fn roots_are_told()
+    ensures { RootsAreTold }
 {}
 
 /// Data of which a piece is refused have no front that fits.

@@ -1,0 +1,4 @@
+mod Decimals
+mod Members
+mod Searching
+mod Emptied
