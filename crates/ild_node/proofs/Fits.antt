@@ -20,14 +20,13 @@ use Rattle.ild_cbor.specs.Steps.{IteratesItems, FindsItems, items_of as list_ite
 use Rattle.ild_data.specs.TrieShape.{TrieShape}
 use Rattle.ild_data.specs.Trie.{TrieSlot, is_used, map_of, byte_of, elements_of, node_data}
 use Rattle.ild_node.specs.Form.{IsNode}
-use Rattle.ild_node.specs.Reading.{pair_in, two_of, map_bit, map_bits, elements_fit, parts_fit, pair_fits, node_fits}
+use Rattle.ild_typed.specs.NodeReading.{pair_in, two_of, map_bit, map_bits, elements_fit, parts_fit, pair_fits, node_fits}
 use Rattle.ild_node.specs.Parts.{IsViewOf, PairIs}
 use Rattle.ild_node.specs.Views.{HasSlots}
 use Rattle.ild_node.specs.declared.view.NodeView.{NodeView}
-use Rattle.ild_node.proofs.Entries.{pair-taken}
+use Rattle.ild_typed.proofs.NodeEntries.{pair-taken}
 use Rattle.ild_node.proofs.Iter.{iter-first}
-use Rattle.ild_node.proofs.Elements.{SlotsOf, elements-taken, elements-read}
-use Rattle.ild_node.proofs.Maps.{map-taken, bits-read}
+use Rattle.ild_typed.proofs.NodeRoots.{node-taken}
 
 -- a node of at least eight slots has whole bytes in its map
 pub whole_bytes : (w : ℕ) → 3 ≤ w → 2 ^ w ≡ 8 * (2 ^ w / 8)
@@ -45,27 +44,11 @@ whole_map w n wide is = let e = whole_bytes w wide in omega (arith, e, is)
 
 -- ---- nodes
 
-pub fits-read : (p : TrieShape) (slots : List TrieSlot) → 3 ≤ p.width → IsNode p slots → node_fits p (node_data slots) ≡ true
-fits-read p slots wide is =
-    let many = is.many in
-    let e = whole_bytes p.width wide in
-    let whole : length slots % 8 ≡ 0 = whole_map p.width (length slots) wide many in
-    let long : length (map_of slots) ≡ 2 ^ p.width / 8 =
-    length-map-range_with_len (λ j. byte_of (map is_used (take 8 (drop (8 * j) slots)))) 0 (length slots / 8) ∙ ap (λ n. n / 8) many in
-    and_from (length (map_of slots) == 2 ^ p.width / 8) (elements_fit p.bucket (map_bits (map_of slots) 0 (2 ^ p.width)) (items_of (flat_map elements_of slots)))
-    (eq-eqb (length (map_of slots)) (2 ^ p.width / 8) long)
-    (ap (λ n. elements_fit p.bucket (map_bits (map_of slots) 0 n) (items_of (flat_map elements_of slots))) (sym many)
-    ∙ ap (λ bits. elements_fit p.bucket bits (items_of (flat_map elements_of slots))) (bits-read slots whole)
-    ∙ elements-read p slots is.each)
-
 -- a node's view has these slots
 pub record SlotsIn (p : TrieShape) (v : NodeView) (t : Data) : Type 0 where
   pub slots : List TrieSlot
   pub is : t ≡ node_data slots
   pub has : HasSlots p v slots
-
-bytes_in : (t ds : Data) (m : List ℕ) → t ≡ list (items_of (bytes m ∷ ds ∷ [])) → IsTree t → AreBytes m × IsTree ds
-bytes_in t ds m is tree = let both = subst (λ (d : Data). IsTree d) is tree in (both.0, both.1.0)
 
 -- a view of an item that stands for the node of slots has these slots
 has-slots : (p : TrieShape) (v : NodeView) (node : Node) (t : Data) (slots : List TrieSlot) (view : IsViewOf v node p t) → Stands node t → IsNode p slots → t ≡ node_data slots
@@ -79,24 +62,6 @@ has-slots p v node t slots view stands form is ones parts = record {
   elements = iter-first v.data (flat_map elements_of slots) v.elements (subst (λ (ds : Items). IteratesItems v.data ds v.elements) parts view.items);
   form = form;
 }
-
-pub view-taken : (p : TrieShape) (v : NodeView) (node : Node) (t : Data) → 3 ≤ p.width → IsViewOf v node p t → Stands node t → SlotsIn p v t
-view-taken p v node t wide view stands =
-    let fit = and_parts (length view.ones == 2 ^ p.width / 8) (elements_fit p.bucket (map_bits view.ones 0 (2 ^ p.width)) view.parts) view.fits in
-    let long : length view.ones ≡ 2 ^ p.width / 8 = eqb-true (length view.ones) (2 ^ p.width / 8) fit.0 in
-    let whole : t ≡ list (items_of (bytes view.ones ∷ list view.parts ∷ [])) = pair-taken t (bytes view.ones, list view.parts) view.pair in
-    let trees = bytes_in t (list view.parts) view.ones whole stands.within.tree in
-    let of : SlotsOf p (map_bits view.ones 0 (2 ^ p.width)) view.parts = elements-taken p (map_bits view.ones 0 (2 ^ p.width)) view.parts trees.1 fit.1 in
-    let many : length of.slots ≡ 2 ^ p.width = sym (length-map of.slots is_used) ∙ ap length of.used ∙ length-map-range_with_len (map_bit view.ones) 0 (2 ^ p.width) in
-    let e = whole_bytes p.width wide in
-    let ones_is : map_of of.slots ≡ view.ones = map-taken of.slots view.ones trees.0 (omega (arith, many, long, e)) (of.used ∙ ap (map_bits view.ones 0) (sym many)) in
-    let parts_is : view.parts ≡ items_of (flat_map elements_of of.slots) = items_by_list view.parts (flat_map elements_of of.slots) (sym of.elements) in
-    let is : t ≡ node_data of.slots = whole ∙ (λ i. list (items_of (bytes ((sym ones_is) i) ∷ list (parts_is i) ∷ []))) in
-    record {
-      slots = of.slots;
-      is = is;
-      has = has-slots p v node t of.slots view stands (record { many = many; each = of.each }) is (sym ones_is) parts_is;
-    }
 
 same_pair : (m n : List ℕ) (ds es : Items) → ◌≡◌ {A = Option (Data × Data)} (Some (bytes m, list ds)) (Some (bytes n, list es)) → (m ≡ n) × (ds ≡ es)
 same_pair m n ds es is =
@@ -113,6 +78,15 @@ pub view-only : (p : TrieShape) (v : NodeView) (node : Node) (slots : List TrieS
 view-only p v node slots view stands form =
     let same = same_pair (map_of slots) view.ones (items_of (flat_map elements_of slots)) view.parts view.pair in
     has-slots p v node (node_data slots) slots view stands form refl (sym same.0) (sym same.1)
+
+pub view-taken : (p : TrieShape) (v : NodeView) (node : Node) (t : Data) → 3 ≤ p.width → IsViewOf v node p t → Stands node t → SlotsIn p v t
+view-taken p v node t wide view stands =
+    let n = node-taken p t wide stands.within.tree (ap (pair_fits p) view.pair ∙ view.fits) in
+    record {
+      slots = n.slots;
+      is = n.is;
+      has = view-only p v node n.slots (subst (λ (d : Data). IsViewOf v node p d) n.is view) (subst (λ (d : Data). Stands node d) n.is stands) (record { many = n.many; each = n.each });
+    }
 
 -- ---- the parts of a view
 

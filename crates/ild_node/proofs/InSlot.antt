@@ -22,7 +22,8 @@ use Rattle.ild_data.specs.Trie.{TrieSlot, empty, bucket, child, is_used, byte_of
 use Rattle.std.specs.Borrow.{Bor}
 use Rattle.ild_typed.specs.Node.{IsSlot}
 use Rattle.ild_node.specs.Form.{AreTexts, AreSlots, bucket_data}
-use Rattle.ild_node.specs.Reading.{entry_in, links_block, id_in, child_in, map_bit, ones_below}
+use Rattle.ild_typed.specs.NodeReading.{entry_in, links_block, id_in, child_in, map_bit}
+use Rattle.ild_node.specs.Reading.{ones_below}
 use Rattle.ild_node.specs.Items.{IsAtItem}
 use Rattle.ild_node.specs.Parts.{EntryIn}
 use Rattle.ild_node.specs.Places.{elements_data, elements_before, slot_place}
@@ -36,10 +37,10 @@ use Rattle.ild_node.specs.declared.bucket.Bucket.{Bucket}
 use Rattle.ild_node.specs.declared.view.NodeView.{NodeView}
 use Rattle.ild_node.specs.declared.view.NodeSlot.{NodeSlot}
 use Rattle.ild_node.specs.declared.view.NodeSlot.TheVariants as S
-use Rattle.ild_node.proofs.Entries.{entry-read}
-use Rattle.ild_node.proofs.Elements.{block-link, id-read}
+use Rattle.ild_typed.proofs.NodeEntries.{entry-read}
+use Rattle.ild_typed.proofs.NodeElements.{block-link, id-read}
 use Rattle.ild_node.proofs.Fits.{whole_map}
-use Rattle.ild_node.proofs.Maps.{bit-read}
+use Rattle.ild_typed.proofs.NodeMaps.{bit-read}
 
 -- ---- the link of a child
 

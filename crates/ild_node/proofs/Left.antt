@@ -18,7 +18,7 @@ use Rattle.ild_data.specs.ByteOrder.{bytewise}
 use Rattle.ild_data.specs.Trie.{entry_data}
 use Rattle.ild_trie.proofs.Parts.{same_key, key_itself}
 use Rattle.ild_node.specs.Form.{bucket_data}
-use Rattle.ild_node.specs.Reading.{pair_in, entry_in, rises, goes_on, are_entries, element_fits, elements_fit, map_bit, map_bits}
+use Rattle.ild_typed.specs.NodeReading.{pair_in, entry_in, rises, goes_on, are_entries, element_fits, elements_fit, map_bit, map_bits}
 use Rattle.ild_node.specs.Items.{IsAtItem}
 use Rattle.ild_node.specs.Parts.{PairIs, EntryIn}
 use Rattle.ild_node.specs.Places.{value_place}

@@ -1,7 +1,5 @@
 pub mod Iter
 pub mod Entries
-pub mod Elements
-pub mod Maps
 pub mod Trees
 pub mod Fits
 pub mod Left

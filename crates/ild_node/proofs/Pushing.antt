@@ -12,7 +12,7 @@ use Rattle.ild_trie.proofs.Parts.{total}
 use Rattle.ild_node.specs.Form.{AreTexts}
 use Rattle.ild_node.specs.Rows.{row_seen, rows_seen, AreRows, AreShallow, IsAbove, deepest_value}
 use Rattle.ild_node.specs.declared.row.Row.{Row}
-use Rattle.ild_node.proofs.Entries.{less, T_of, true_of}
+use Rattle.ild_typed.proofs.NodeEntries.{less, T_of, true_of}
 
 texts-pushed : (es : List (List ℕ × Data)) (e : List ℕ × Data) → AreTexts es → IsUtf8 e.0 → AreTexts (es ++ e ∷ [])
 texts-pushed [] e all is = (is, tt)

@@ -7,7 +7,7 @@ use Rattle.ild_cbor.specs.Nodes.{Stands, IsPart}
 use Rattle.ild_cbor.specs.Span.{place_of}
 use Rattle.ild_cbor.specs.Steps.{IteratesItems}
 use Rattle.ild_cbor.specs.declared.node.Node.{Node}
-use Rattle.ild_node.specs.Reading.{pair_in, parts_fit}
+use Rattle.ild_typed.specs.NodeReading.{pair_in, parts_fit}
 use Rattle.ild_node.specs.declared.shape.HamtShape.{HamtShape}
 use Rattle.ild_node.specs.declared.view.NodeView.{NodeView}
 

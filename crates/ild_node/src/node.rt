@@ -6,7 +6,7 @@ ghost use Rattle.ild_cbor.specs.Nodes.{Stands};
 ghost use Rattle.ild_typed.specs.Composed.{usual};
 ghost use Rattle.ild_node.specs.Form.{IsNode};
 ghost use Rattle.ild_node.specs.Parts.{IsViewOf, shape_of};
-ghost use Rattle.ild_node.specs.Reading.{node_fits};
+ghost use Rattle.ild_typed.specs.NodeReading.{node_fits};
 ghost use Rattle.ild_node.specs.Views.{HasSlots, view_node};
 
 use crate::parts::{pair_in, parts_fit};

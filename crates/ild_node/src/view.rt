@@ -4,7 +4,7 @@ ghost use Rattle.ild_data.specs.Data.{Data};
 ghost use Rattle.ild_data.specs.Trie.{TrieSlot};
 ghost use Rattle.ild_typed.specs.Composed.{usual};
 ghost use Rattle.ild_cbor.specs.Nodes.{Stands};
-ghost use Rattle.ild_node.specs.Reading.{child_in};
+ghost use Rattle.ild_typed.specs.NodeReading.{child_in};
 ghost use Rattle.ild_node.specs.Views.{HasSlots, SlotIs, ElementIs, view_node};
 
 use crate::bucket::Bucket;
