@@ -1,4 +1,3 @@
 mod Decimals
 mod Members
-mod Searching
 mod Emptied

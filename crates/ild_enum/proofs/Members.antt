@@ -34,7 +34,7 @@ use Rattle.ild_typed.proofs.Entries.{same_text_self}
 use Rattle.ild_typed.proofs.Structs.{int_same}
 use Rattle.ild_typed.proofs.Utf8Texts.{decimal_is_int}
 use Rattle.ild_enum.proofs.Decimals.{decimal_is, decimals_apart}
-use Rattle.ild_enum.proofs.Searching.{all_of, all_then, same_bool, ended, first_at, none_ended}
+use Rattle.ild_piece.proofs.Searching.{text_agrees, all_of, all_then, same_bool, ended, first_at, none_ended}
 
 value_is : (o : Option Data) (t : Data) → is_value o t ≡ true → o ≡ Some t
 value_is (Some (T.text a)) (T.text b) e = ap (λ s. Some (T.text s)) (text_same a b (sym e))
@@ -67,11 +67,6 @@ unagreed e text t kind all none =
 pub text_is : (t : Data) (s : List ℕ) → text_in t ≡ Some s → t ≡ T.text s
 text_is (T.text a) s e = ap T.text (same_Some a s e)
 text_is t s e = absurd (none-some s e)
-
-text_agrees : (s a : List ℕ) → bytes_eq s a ≡ same_text a s
-text_agrees s a = same_bool (bytes_eq s a) (same_text a s)
-    (λ h. subst (λ k. same_text k s ≡ true) (text_same s a (sym h)) (same_text_self s))
-    (λ h. subst (λ k. bytes_eq k a ≡ true) (text_same a s (sym h)) (same_text_self a))
 
 pub texts_agree : (form : EnumForm) (ms : List EnumMember) (s : List ℕ) → form ≡ F.Text → Agrees form ms s (T.text s)
 texts_agree form ms s is =

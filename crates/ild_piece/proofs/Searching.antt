@@ -1,9 +1,12 @@
 -- What a search by one test says of another that agrees with it.
 use Rattle.std.proofs.Common.{◌≡◌, ℕ, zero, suc, ◌+◌, Bool, true, false, cond, List, [], ◌∷◌, Some, None, refl, sym, subst, arith}
-use Rattle.std.specs.Prelude.{slice_get}
+use Rattle.std.specs.Prelude.{bytes_eq, slice_get}
 use Rattle.std.specs.List.{AllByRecursion, list_any, position_from}
+use Rattle.std.specs.Cmp.Lexicographic.{same_text as text_same}
 use Rattle.std.proofs.lemmas.Option.{same_Some, none-some}
+use Rattle.ild_data.specs.Key.{same_text}
 use Rattle.ild_typed.proofs.Cleans.{false_or}
+use Rattle.ild_typed.proofs.Entries.{same_text_self}
 
 pub all_of : {A : Type 0} (P : A → Type 0) (xs : List A) → ((x : A) → P x) → AllByRecursion P xs
 all_of P [] each = tt
@@ -44,3 +47,9 @@ none_ended {A} p q i (x ∷ xs) all e = by (p x) all.0 (none_ended p q (i + 1) x
   by : (b : Bool) → b ≡ q x → (position_from p (i + 1) xs ≡ None → list_any q xs ≡ false) → cond b (Some i) (position_from p (i + 1) xs) ≡ None → list_any q (x ∷ xs) ≡ false
   by true is more k = absurd (none-some i (sym k))
   by false is more k = false_or (q x) (list_any q xs) (sym is) (more k)
+
+-- two tests of texts are one
+pub text_agrees : (s a : List ℕ) → bytes_eq s a ≡ same_text a s
+text_agrees s a = same_bool (bytes_eq s a) (same_text a s)
+    (λ h. subst (λ k. same_text k s ≡ true) (text_same s a (sym h)) (same_text_self s))
+    (λ h. subst (λ k. bytes_eq k a ≡ true) (text_same a s (sym h)) (same_text_self a))
