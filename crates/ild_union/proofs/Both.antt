@@ -3,9 +3,15 @@ use Rattle.std.proofs.Common.{◌≡◌, ℕ, Bool, true, false, cond, not, ◌|
 use Rattle.std.specs.Prelude.{is_none}
 use Rattle.std.specs.Cmp.Lexicographic.{same_text as text_same}
 use Rattle.std.specs.declared.cmp.Ordering.TheVariants.{Less, Equal}
+use Rattle.std.specs.Borrow.{Bor}
 use Rattle.ild_data.specs.Data.{Data}
 use Rattle.ild_data.specs.Key.{key_cmp, same_text, Rises}
 use Rattle.ild_data.proofs.Rising.{key_cmp_total, key_equal}
+use Rattle.ild_cbor.specs.declared.node.Node.{Node}
+use Rattle.ild_cbor.specs.Nodes.{Stands}
+use Rattle.ild_piece.specs.declared.walk.MapEntries.{MapEntries}
+use Rattle.ild_piece.specs.Entries.{EntriesGive, HasLeft}
+use Rattle.ild_piece.proofs.Walking.{first_left, none_left}
 use Rattle.ild_typed.proofs.Basics.{both_true}
 use Rattle.ild_union.specs.Envelope.{AreBoth, is_one, has_stranger, lacks_one}
 
@@ -98,3 +104,24 @@ module _ (key content : List ℕ) where
   other_order es k l d e is both =
       let x = both_true (same_text content k) (same_text key l) both in
       inr (is ∙ ap (λ a. (a, d) ∷ (l, e) ∷ []) (sym (text_same content k (sym x.0))) ∙ ap (λ a. (content, d) ∷ (a, e) ∷ []) (sym (text_same key l (sym x.1))))
+
+-- ---- the first two entries
+
+pub record TwoLeft (x y : Bor (List ℕ) × Node) (after : MapEntries) (es : List (List ℕ × Data)) : Type 0 where
+  pub one : Data
+  pub two : Data
+  pub rest : List (List ℕ × Data)
+  pub is : es ≡ (x.0.now, one) ∷ (y.0.now, two) ∷ rest
+  pub first : Stands x.1 one
+  pub second : Stands y.1 two
+  pub left : HasLeft after rest
+
+pub two_left : (s next after : MapEntries) (x y : Bor (List ℕ) × Node) (es : List (List ℕ × Data)) → EntriesGive s (Some x) next → EntriesGive next (Some y) after → HasLeft s es → TwoLeft x y after es
+two_left s next after x y es gives more left =
+    let a = first_left s next x es gives left in
+    let b = first_left next after y a.rest more a.left in
+    record { one = a.value; two = b.value; rest = b.rest; is = a.is ∙ ap (λ r. (x.0.now, a.value) ∷ r) b.is; first = a.stands; second = b.stands; left = b.left }
+
+-- where no third is left
+pub only_two : (x y : Bor (List ℕ) × Node) (after last : MapEntries) (es : List (List ℕ × Data)) → (h : TwoLeft x y after es) → EntriesGive after None last → es ≡ (x.0.now, h.one) ∷ (y.0.now, h.two) ∷ []
+only_two x y after last es h gives = h.is ∙ ap (λ r. (x.0.now, h.one) ∷ (y.0.now, h.two) ∷ r) (none_left after last h.rest gives h.left)

@@ -15,6 +15,7 @@ use Rattle.ild_schema.specs.declared.def.TypeDef.TheVariants as D
 use Rattle.ild_schema.specs.declared.def.UnionDef.{UnionDef}
 use Rattle.ild_schema.specs.declared.def.UnionForm.{UnionForm}
 use Rattle.ild_schema.specs.declared.def.UnionForm.TheVariants as UF
+use Rattle.ild_schema.specs.Clear.{ClearUnion, KeysApart}
 use Rattle.ild_schema.specs.DataKinds.{union_has}
 use Rattle.ild_typed.specs.Causes.{why_of}
 use Rattle.ild_typed.specs.Kinds.{kind_of}
@@ -29,6 +30,10 @@ use Rattle.ild_piece.proofs.Walking.{map_kind}
 use Rattle.ild_union.specs.Envelope.{AreBoth, IsOff, has_stranger, lacks_one}
 use Rattle.ild_union.proofs.Marking.{IsTold}
 use Rattle.ild_union.proofs.Order.{name_why, missing_why, member_why}
+
+-- the two keys of an accepted envelope differ
+pub keys_apart : (u : UnionDef) (key content : List ℕ) → u.form ≡ UF.Envelope key content → ClearUnion u.form u.members → key ≡ content → ⊥
+keys_apart u key content form clear = subst KeysApart form clear.keys
 
 unlike : (a b : List ℕ) → (a ≡ b → ⊥) → same_text a b ≡ false
 unlike a b apart = by (same_text a b) refl where
