@@ -1,6 +1,6 @@
 -- Names by the places of their fields: what is found of the places is what is asked of the names.
-use Rattle.std.proofs.Common.{◌≡◌, ℕ, zero, suc, ◌+◌, ◌≤◌, ◌<◌, List, [], ◌∷◌, length, map, Bool, true, false, cond, ◌||◌, ◌&&◌, not, Option, Some, None, refl, sym, ◌∙◌, ap, subst, arith}
-use Rattle.std.specs.Prelude.{nat_eq, slice_get, bytes_eq, unwrap_or}
+use Rattle.std.proofs.Common.{◌≡◌, ℕ, zero, suc, ◌+◌, ◌≤◌, ◌<◌, List, [], ◌∷◌, length, map, get_or, Bool, true, false, cond, ◌||◌, ◌&&◌, not, Option, Some, None, refl, sym, ◌∙◌, ap, subst, arith}
+use Rattle.std.specs.Prelude.{nat_eq, slice_get, bytes_eq, unwrap_or, option_and_then}
 use Rattle.std.specs.List.{list_any, position_from, AllByRecursion}
 use Rattle.std.specs.Cmp.Lexicographic.{same_text as text_same}
 use Rattle.std.proofs.lemmas.Option.{same_Some, none-some}
@@ -8,7 +8,11 @@ use Rattle.std.proofs.lemmas.Bool.{eq-eqb, eqb-true, eqb-false}
 use Rattle.ild_data.specs.Data.{Data}
 use Rattle.ild_data.specs.Key.{same_text}
 use Rattle.ild_schema.specs.declared.def.Field.{Field}
+use Rattle.ild_schema.specs.declared.def.StructDef.{StructDef}
+use Rattle.ild_schema.specs.declared.def.TypeDef.{TypeDef}
+use Rattle.ild_schema.specs.declared.def.TypeDef.TheVariants as D
 use Rattle.ild_schema.specs.Marks.{field_text}
+use Rattle.ild_schema.specs.Parts.{part_spelled}
 use Rattle.ild_schema.specs.Clear.{AreNamesApart}
 use Rattle.ild_typed.specs.Fields.{is_implicit}
 use Rattle.ild_typed.specs.Named.{is_among, has_twice}
@@ -64,12 +68,12 @@ look_place (f ∷ fs) k m =
     ap (λ b. unwrap_or (cond b (Some m) (position_from (λ g. bytes_eq k (field_text g)) (m + 1) fs)) (m + suc (length fs))) (text_turn k (field_text f))
     ∙ by (is_name_of k f) (look_place fs k (m + 1))
   where
-  by : (b : Bool) → unwrap_or (position_from (λ g. bytes_eq k (field_text g)) (m + 1) fs) (m + 1 + length fs) ≡ m + 1 + place_of fs k → unwrap_or (cond b (Some m) (position_from (λ g. bytes_eq k (field_text g)) (m + 1) fs)) (m + suc (length fs)) ≡ m + cond b zero (suc (place_of fs k))
-  by true rest = omega arith
-  by false rest =
-      let at : m + suc (length fs) ≡ m + 1 + length fs = omega arith in
-      let there : m + 1 + place_of fs k ≡ m + suc (place_of fs k) = omega arith in
-      ap (unwrap_or (position_from (λ g. bytes_eq k (field_text g)) (m + 1) fs)) at ∙ rest ∙ there
+    by : (b : Bool) → unwrap_or (position_from (λ g. bytes_eq k (field_text g)) (m + 1) fs) (m + 1 + length fs) ≡ m + 1 + place_of fs k → unwrap_or (cond b (Some m) (position_from (λ g. bytes_eq k (field_text g)) (m + 1) fs)) (m + suc (length fs)) ≡ m + cond b zero (suc (place_of fs k))
+    by true rest = omega arith
+    by false rest =
+        let at : m + suc (length fs) ≡ m + 1 + length fs = omega arith in
+        let there : m + 1 + place_of fs k ≡ m + suc (place_of fs k) = omega arith in
+        ap (unwrap_or (position_from (λ g. bytes_eq k (field_text g)) (m + 1) fs)) at ∙ rest ∙ there
 
 pub looked_place : (fs : List Field) (k : List ℕ) → unwrap_or (position_from (λ f. bytes_eq k (field_text f)) 0 fs) (length fs) ≡ place_of fs k
 looked_place fs k =
@@ -77,13 +81,17 @@ looked_place fs k =
     let more : 0 + place_of fs k ≡ place_of fs k = omega arith in
     ap (unwrap_or (position_from (λ f. bytes_eq k (field_text f)) 0 fs)) (sym zero_more) ∙ look_place fs k 0 ∙ more
 
+-- as the table looks it up
+pub spelled_place : (o : Option TypeDef) (s : StructDef) (k : List ℕ) (r : Option ℕ) → r ≡ option_and_then (part_spelled k) o → o ≡ Some (D.Struct s) → unwrap_or r (length s.fields) ≡ place_of s.fields k
+spelled_place o s k r is def = ap (λ q. unwrap_or q (length s.fields)) (is ∙ ap (option_and_then (part_spelled k)) def) ∙ looked_place s.fields k
+
 other_field : (f g : Field) (k : List ℕ) → (field_text f ≡ field_text g → ⊥) → is_name_of k f ≡ true → same_text (field_text g) k ≡ false
 other_field f g k apart is = by (same_text (field_text g) k) refl where
   by : (b : Bool) → same_text (field_text g) k ≡ b → b ≡ false
   by true same = absurd (apart (text_same (field_text f) k (sym is) ∙ sym (text_same (field_text g) k (sym same))))
   by false same = refl
 
-all_at : {A : Type 0} (P : A → Type 0) (xs : List A) (i : ℕ) (x : A) → AllByRecursion P xs → slice_get xs i ≡ Some x → P x
+pub all_at : {A : Type 0} (P : A → Type 0) (xs : List A) (i : ℕ) (x : A) → AllByRecursion P xs → slice_get xs i ≡ Some x → P x
 all_at P [] i x all at = absurd (none-some x at)
 all_at P (y ∷ xs) zero x all at = subst P (same_Some y x at) all.0
 all_at P (y ∷ xs) (suc i) x all at = all_at P xs i x all.1 at
@@ -134,9 +142,9 @@ place_again : (fs : List Field) (k : List ℕ) (ls : List (List ℕ)) → not (l
 place_again fs k [] known = refl
 place_again fs k (l ∷ ls) known =
     let one : same_text k l ≡ nat_eq (place_of fs l) (place_of fs k) =
-        same_false (same_text k l) (nat_eq (place_of fs l) (place_of fs k))
-        (λ e. eq-eqb (place_of fs l) (place_of fs k) (ap (place_of fs) (sym (text_same k l (sym e)))))
-        (λ e. ap (same_text k) (sym (one_name fs k l known (eqb-true (place_of fs l) (place_of fs k) e))) ∙ same_text_self k) in
+    same_false (same_text k l) (nat_eq (place_of fs l) (place_of fs k))
+    (λ e. eq-eqb (place_of fs l) (place_of fs k) (ap (place_of fs) (sym (text_same k l (sym e)))))
+    (λ e. ap (same_text k) (sym (one_name fs k l known (eqb-true (place_of fs l) (place_of fs k) e))) ∙ same_text_self k) in
     ap (λ b. b || is_among k ls) one ∙ ap (λ b. nat_eq (place_of fs l) (place_of fs k) || b) (place_again fs k ls known)
 
 pub twice_placed : (fs : List Field) (ks : List (List ℕ)) → has_stranger fs ks ≡ false → has_twice ks ≡ stands_twice (map (place_of fs) ks)
@@ -163,3 +171,18 @@ needless_placed (f ∷ fs) k d apart = by (is_name_of k f) refl (needless_placed
       ap (λ c. is_implicit f.implicit d || c) (needless_apart k d fs (apart_names f k (text_same (field_text f) k (sym is)) fs apart.0))
       ∙ or_nothing (is_implicit f.implicit d)
   by false is rest = rest
+
+pub get_at : (fs : List Field) (i : ℕ) (d : Field) → i < length fs → slice_get fs i ≡ Some (get_or fs i d)
+get_at [] i d less = absurd (omega arith)
+get_at (f ∷ fs) zero d less = refl
+get_at (f ∷ fs) (suc i) d less = get_at fs i d (omega arith)
+
+pub implicit_there : (fs : List Field) (n : ℕ) (f : Field) (d : Data) → n < length fs → f ≡ get_or fs n f → implicit_at fs n d ≡ is_implicit f.implicit d
+implicit_there [] n f d less at = absurd (omega arith)
+implicit_there (g ∷ fs) zero f d less at = ap (λ (h : Field). is_implicit h.implicit d) (sym at)
+implicit_there (g ∷ fs) (suc n) f d less at = implicit_there fs n f d (omega arith) at
+
+pub implicit_none : (fs : List Field) (n : ℕ) (d : Data) → length fs ≤ n → implicit_at fs n d ≡ false
+implicit_none [] n d past = refl
+implicit_none (g ∷ fs) zero d past = absurd (omega arith)
+implicit_none (g ∷ fs) (suc n) d past = implicit_none fs n d (omega arith)

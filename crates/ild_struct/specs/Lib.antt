@@ -1,1 +1,5 @@
+pub mod Causes
 pub mod Notes
+pub mod Parts
+pub mod Reading
+pub mod Source

@@ -2,4 +2,17 @@
 //! Schemas, "Struct Representation Strategies"). No memory is taken.
 #![tactic(auto)]
 
+mod causes;
+mod field;
+mod fields;
+mod map;
 mod notes;
+mod part;
+mod parts;
+mod read;
+mod source;
+mod tuple;
+
+pub use part::Part;
+pub use parts::StructParts;
+pub use read::layer;

@@ -1,11 +1,13 @@
 //! What one pass over the names of a struct's parts finds.
-ghost use Rattle.std.specs.Prelude.{◌≡◌, ◌<◌, ◌≤◌, ◌||◌, ℕ, List, [], ◌∷◌, ◌++◌, false, true, nat_lt, max, slice_index_or, slice_set};
+ghost use Rattle.std.specs.Prelude.{◌≡◌, ◌<◌, ◌≤◌, ◌||◌, ℕ, List, [], ◌∷◌, ◌++◌, false, true, nat_eq, nat_lt, max, slice_index_or, slice_set};
+ghost use Rattle.std.specs.List.{list_any};
 ghost use Rattle.ild_struct.specs.Notes.{IsNoted};
 
 /// The most fields that a type has.
 const MOST_FIELDS: usize = 1024;
 
 /// What was found of the names so far, of which each is the place of its field, or the number of fields where it is none's.
+#[derive(Drop)]
 pub(crate) struct Notes {
     /// A name is no field's.
     pub(crate) stranger: bool,
@@ -22,7 +24,8 @@ pub(crate) struct Notes {
 impl Notes {
     /// No names yet.
     pub(crate) fn new() -> Notes
-        ensures { (count : ℕ) → count ≤ 1024 → IsNoted count result [] }
+        ensures noted { (count : ℕ) → count ≤ 1024 → IsNoted count result [] }
+        ensures needless { result.needless ≡ false }
     {
         Notes {
             stranger: false,
@@ -64,5 +67,13 @@ impl Notes {
         } else {
             self.meet(place);
         }
+    }
+
+    /// Whether the field at a place was met.
+    pub(crate) fn has_met(&self, place: usize) -> bool
+        requires { place < 1024 }
+        ensures { (count : ℕ) (ns : List ℕ) → IsNoted count self.now ns → place < count → result ≡ list_any (λ n. nat_eq place n) ns }
+    {
+        self.met[place]
     }
 }

@@ -5,8 +5,8 @@ use Rattle.std.proofs.lemmas.List.{get_or-replicate}
 use Rattle.std.specs.Prelude.{false}
 use Rattle.ild_struct.proofs.notes.Notes.new.Goals as goal
 
-pub returns : goal.returns
-returns c = λ count most. record {
+pub returns-clause-noted : goal.returns-clause-noted
+returns-clause-noted c = λ count most. record {
   stranger = refl;
   falls = refl;
   twice = λ known. refl;

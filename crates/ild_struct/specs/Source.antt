@@ -1,0 +1,31 @@
+-- Where the parts of a struct are looked up, by the form of the struct (IPLD Schemas, "Struct Representation Strategies").
+use Rattle.std.specs.Prelude.{ℕ, suc, ◌≤◌, List, length}
+use Rattle.ild_data.specs.Data.{Data}
+use Rattle.ild_cbor.specs.Nodes.{Stands}
+use Rattle.ild_cbor.specs.declared.piece.Piece.{Piece}
+use Rattle.ild_cbor.specs.declared.piece.Piece.TheVariants as P
+use Rattle.ild_schema.specs.declared.def.StructForm.{StructForm}
+use Rattle.ild_schema.specs.declared.def.StructForm.TheVariants as S
+use Rattle.ild_schema.specs.declared.row.Row.{Row}
+use Rattle.ild_piece.specs.Pieces.{StandsFor}
+use Rattle.ild_struct.specs.declared.source.Source.{Source}
+use Rattle.ild_struct.specs.declared.source.Source.TheVariants as R
+
+-- how many types a table has that has the union whose discriminant is passed over
+abbrev pub types_of : Piece → ℕ
+types_of (P.Inline n u) = suc u
+types_of p = 0
+
+abbrev pub types_in : Source → ℕ
+types_in (R.Map p) = types_of p
+types_in (R.Tuple n) = 0
+
+-- the union is in the table
+abbrev pub IsSourced : List Row → Source → Type 0
+IsSourced rows source = types_in source ≤ length rows
+
+-- the data there, in each form
+abbrev pub Shows : List Row → StructForm → Source → Data → Type 0
+Shows rows S.Map (R.Map p) t = StandsFor rows p t
+Shows rows S.Tuple (R.Tuple n) t = Stands n t
+Shows rows form source t = ⊥
