@@ -4,5 +4,7 @@ pub mod Forms
 pub mod Layering
 pub mod Looking
 pub mod Noting
+pub mod Pairing
 pub mod Placing
+pub mod Splitting
 pub mod Surveying

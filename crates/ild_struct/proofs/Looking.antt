@@ -10,16 +10,20 @@ use Rattle.ild_data.proofs.Lists.{items_list-items_of, members_list-members_of}
 use Rattle.ild_cbor.specs.Nodes.{Stands}
 use Rattle.ild_cbor.specs.declared.node.Node.{Node}
 use Rattle.ild_schema.specs.Clear.{AreNamesApart, IsRequired, AreClearFields}
+use Rattle.ild_schema.specs.Delims.{HasDelims}
 use Rattle.ild_schema.specs.Marks.{field_text}
 use Rattle.ild_schema.specs.declared.def.Field.{Field}
 use Rattle.ild_schema.specs.declared.def.StructForm.TheVariants as S
 use Rattle.ild_schema.specs.declared.row.Row.{Row}
 use Rattle.ild_typed.specs.Composed.{struct_form}
-use Rattle.ild_typed.specs.Fields.{is_implicit, field_entries, are_absent, tuple_items}
-use Rattle.ild_typed.specs.Strings.{in_key_order, map_data, members_in}
-use Rattle.ild_typed.proofs.Basics.{map_from, true_from, both_true}
-use Rattle.ild_typed.proofs.Entries.{value_sorted}
-use Rattle.ild_typed.proofs.Structs.{field_from, look, past, not_there}
+use Rattle.ild_typed.specs.Cuts.{parted}
+use Rattle.ild_typed.specs.Fields.{is_implicit, field_entries, are_absent, tuple_items, all_items}
+use Rattle.ild_typed.specs.Texts.{join}
+use Rattle.ild_typed.specs.Strings.{in_key_order, map_data, members_in, text_in, texts_in, stringjoin}
+use Rattle.ild_typed.proofs.Basics.{map_from, then_from, true_from, both_true}
+use Rattle.ild_typed.proofs.Entries.{both_from, only_text_data, value_sorted}
+use Rattle.ild_typed.proofs.CleanTexts.{parted_join}
+use Rattle.ild_typed.proofs.Structs.{all_count, field_from, look, past, not_there}
 use Rattle.ild_piece.specs.Entries.{Found}
 use Rattle.ild_struct.specs.Parts.{IsPart}
 use Rattle.ild_struct.specs.Reading.{IsLookedUp, shown}
@@ -107,3 +111,59 @@ placed (f ∷ fs) (Some d ∷ os) ds i made less =
 placed (f ∷ fs) (None ∷ os) ds i made less =
     let x = true_from (are_absent (f ∷ fs) (None ∷ os)) [] ds made in
     subst (λ xs. Placed (None ∷ os) i (slice_get xs i)) x.1 (record { held = None; at = absent_at (f ∷ fs) (None ∷ os) i x.0 less; same = refl })
+
+-- ---- parts of a joined text
+
+-- the part of a text
+pub record PartOf (os : List (Option Data)) (i : ℕ) (found : Option Data) : Type 0 where
+  pub held : Option Data
+  pub at : slice_get os i ≡ Some held
+  pub same : found ≡ held
+
+whole_at : (fs : List Field) (os : List (Option Data)) (ds : List Data) (i : ℕ) → all_items fs os ≡ Some ds → i < length fs → slice_get os i ≡ Some (slice_get ds i)
+whole_at [] os ds i made less = absurd (omega arith)
+whole_at (f ∷ fs) [] ds i made less = absurd (none-some ds made)
+whole_at (f ∷ fs) (None ∷ os) ds i made less = absurd (none-some ds made)
+whole_at (f ∷ fs) (Some d ∷ os) ds zero made less =
+    let x = map_from (λ xs. d ∷ xs) (all_items fs os) ds made in
+    ap (λ xs. Some (slice_get xs zero)) (same_Some (d ∷ x.item) ds x.made)
+whole_at (f ∷ fs) (Some d ∷ os) ds (suc i) made less =
+    let x = map_from (λ xs. d ∷ xs) (all_items fs os) ds made in
+    whole_at fs os x.item i x.there (omega arith) ∙ ap (λ xs. Some (slice_get xs (suc i))) (same_Some (d ∷ x.item) ds x.made)
+
+text_at : (ds : List Data) (ps : List (List ℕ)) (i : ℕ) → texts_in ds ≡ Some ps → option_map T.text (slice_get ps i) ≡ slice_get ds i
+text_at [] ps i made = ap (λ qs. option_map T.text (slice_get qs i)) (sym (same_Some [] ps made))
+text_at (d ∷ ds) ps zero made =
+    let b = both_from (text_in d) (texts_in ds) ps made in
+    ap (λ qs. option_map T.text (slice_get qs zero)) (sym b.all) ∙ ap Some (sym (only_text_data d b.item b.first))
+text_at (d ∷ ds) ps (suc i) made =
+    let b = both_from (text_in d) (texts_in ds) ps made in
+    ap (λ qs. option_map T.text (slice_get qs (suc i))) (sym b.all) ∙ text_at ds b.items i b.rest
+
+text_tells : (a b : List ℕ) → T.text a ≡ T.text b → a ≡ b
+text_tells a b e = cc
+
+parted_parts : (delim : List ℕ) (fs : List Field) (ps : List (List ℕ)) (s : List ℕ) (i : ℕ) → HasDelims (S.StringJoin delim) fs → i < length fs → length ps ≡ length fs → join delim ps ≡ Some s → parted delim s ≡ ps
+parted_parts delim [] ps s i given less n made = absurd given
+parted_parts delim (f ∷ fs) [] s i given less n made = absurd (omega (arith, n))
+parted_parts delim (f ∷ fs) (p ∷ ps) s i given less n made = parted_join delim given p ps s made
+
+texts_many : (ds : List Data) (ps : List (List ℕ)) → texts_in ds ≡ Some ps → length ps ≡ length ds
+texts_many [] ps made = ap length (sym (same_Some [] ps made))
+texts_many (d ∷ ds) ps made =
+    let b = both_from (text_in d) (texts_in ds) ps made in
+    ap length (sym b.all) ∙ ap suc (texts_many ds b.items b.rest)
+
+pub joined_at : (delim s : List ℕ) (fs : List Field) (os : List (Option Data)) (i : ℕ) → HasDelims (S.StringJoin delim) fs → i < length fs → struct_form (S.StringJoin delim) fs os ≡ Some (T.text s)
+    → PartOf os i (option_map T.text (slice_get (parted delim s) i))
+joined_at delim s fs os i given less made =
+    let x = then_from (stringjoin delim) (all_items fs os) (T.text s) made in
+    let y = map_from T.text (option_and_then (join delim) (texts_in x.item)) (T.text s) x.made in
+    let z = then_from (join delim) (texts_in x.item) y.item y.there in
+    let text : y.item ≡ s = text_tells y.item s (same_Some (T.text y.item) (T.text s) y.made) in
+    let cuts : parted delim s ≡ z.item = parted_parts delim fs z.item s i given less (texts_many x.item z.item z.there ∙ all_count fs os x.item x.there) (z.made ∙ ap Some text) in
+    record {
+      held = slice_get x.item i;
+      at = whole_at fs os x.item i x.there less;
+      same = ap (λ ps. option_map T.text (slice_get ps i)) cuts ∙ text_at x.item z.item i z.there;
+    }

@@ -20,7 +20,7 @@ pub record Surveying (fs : List Field) (es : List (List ℕ × Data)) (s : MapEn
   pub left : HasLeft s rest
   pub noted : Noted fs (names done) done notes
 
-none_behind : {A : Type 0} (xs : List A) → xs ++ [] ≡ xs
+pub none_behind : {A : Type 0} (xs : List A) → xs ++ [] ≡ xs
 none_behind [] = refl
 none_behind (x ∷ xs) = ap (λ ys. x ∷ ys) (none_behind xs)
 

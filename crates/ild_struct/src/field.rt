@@ -1,6 +1,6 @@
 //! The parts that stand for fields.
-ghost use Rattle.std.specs.Prelude.{◌≡◌, ◌<◌, ℕ, List, Option, Some, length};
-ghost use Rattle.ild_data.specs.Data.{Data};
+ghost use Rattle.std.specs.Prelude.{◌≡◌, ◌<◌, ℕ, List, Option, None, Some, length, option_map};
+ghost use Rattle.ild_data.specs.Data.{Data, text};
 ghost use Rattle.ild_cbor.specs.Nodes.{Stands};
 ghost use Rattle.ild_schema.specs.declared.def.Field.{Field as Schema};
 ghost use Rattle.ild_schema.specs.declared.row.Row.{Row};
@@ -9,9 +9,11 @@ ghost use Rattle.ild_piece.specs.Entries.{Found};
 ghost use Rattle.ild_struct.specs.Reading.{IsLookedUp, shown};
 
 use crate::fields::text_of_field;
+use crate::pairs::pair_value;
 use crate::part::Part;
 use crate::parts::StructParts;
 use crate::source::Source;
+use crate::texts::text_value;
 use ild_cbor::{Kind, Node, Piece};
 use ild_piece::entry;
 use ild_schema::Field;
@@ -28,6 +30,17 @@ fn held(node: Node<'_>) -> Part<'_>
     }
 }
 
+// The part of a field of which nothing is written.
+fn left_out<'b>(field: &Field) -> Part<'b>
+    ensures part { (rows : List Row) (o : Option Data) → IsLookedUp field.now o → shown field.now o ≡ None → IsPart rows field.now o result }
+    ensures numbered { (rows : List Row) → HasNumber rows result }
+{
+    match field.implicit {
+        Some(_) => Part::Implicit,
+        None => Part::Absent,
+    }
+}
+
 // The part of a field that was looked up by its name.
 fn keyed<'b>(field: &Field, found: Option<Node<'b>>) -> Part<'b>
     ensures part { (rows : List Row) (o : Option Data) → IsLookedUp field.now o → Found (shown field.now o) found.entry → IsPart rows field.now o result }
@@ -35,10 +48,7 @@ fn keyed<'b>(field: &Field, found: Option<Node<'b>>) -> Part<'b>
 {
     match found {
         Some(node) => held(node),
-        None => match field.implicit {
-            Some(_) => Part::Implicit,
-            None => Part::Absent,
-        },
+        None => left_out(field),
     }
 }
 
@@ -49,6 +59,28 @@ fn placed(found: Option<Node<'_>>) -> Part<'_>
 {
     match found {
         Some(node) => held(node),
+        None => Part::Absent,
+    }
+}
+
+// The part of a field that was looked up by its name among texts.
+fn keyed_text<'b>(field: &Field, found: Option<&'b str>) -> Part<'b>
+    ensures part { (rows : List Row) (o : Option Data) → IsLookedUp field.now o → shown field.now o ≡ option_map (λ s. text s.now) found.entry → IsPart rows field.now o result }
+    ensures numbered { (rows : List Row) → HasNumber rows result }
+{
+    match found {
+        Some(text) => Part::Held(Piece::Text(text)),
+        None => left_out(field),
+    }
+}
+
+// The part of a field that was looked up by its place among texts.
+fn placed_text(found: Option<&str>) -> Part<'_>
+    ensures part { (rows : List Row) (field : Schema) (o : Option Data) → o ≡ option_map (λ s. text s.now) found.entry → IsPart rows field o result }
+    ensures numbered { (rows : List Row) → HasNumber rows result }
+{
+    match found {
+        Some(text) => Part::Held(Piece::Text(text)),
         None => Part::Absent,
     }
 }
@@ -65,6 +97,11 @@ impl<'b> StructParts<'b> {
         match &self.source {
             Source::Map(piece) => keyed(field, entry(self.acc, piece, text_of_field(field))),
             Source::Tuple(node) => placed(node.item(i as u64)),
+            Source::ListPairs(items) => keyed(field, pair_value(*items, text_of_field(field))),
+            Source::StringPairs(split) => {
+                keyed_text(field, text_value(*split, text_of_field(field)))
+            }
+            Source::StringJoin(split) => placed_text(split.get(i)),
         }
     }
 }

@@ -7,10 +7,13 @@ mod field;
 mod fields;
 mod map;
 mod notes;
+mod pair;
+mod pairs;
 mod part;
 mod parts;
 mod read;
 mod source;
+mod texts;
 mod tuple;
 
 pub use part::Part;

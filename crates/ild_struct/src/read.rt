@@ -4,6 +4,7 @@ ghost use Rattle.ild_data.specs.Data.{Data};
 ghost use Rattle.ild_piece.specs.Answers.{Refused};
 ghost use Rattle.ild_piece.specs.Pieces.{IsNumbered, StandsFor};
 ghost use Rattle.ild_schema.specs.Clear.{ClearStruct};
+ghost use Rattle.ild_schema.specs.Delims.{HasDelims};
 ghost use Rattle.ild_schema.specs.declared.def.StructDef.{StructDef as Struct};
 ghost use Rattle.ild_struct.specs.Parts.{HasParts, IsStruct, fields_of};
 ghost use Rattle.ild_struct.specs.Reading.{Answers};
@@ -11,24 +12,32 @@ ghost use Rattle.ild_struct.specs.Source.{IsSourced};
 
 use crate::fields::Fields;
 use crate::map::map_source;
+use crate::pairs::listpairs_source;
 use crate::parts::StructParts;
 use crate::source::Source;
+use crate::texts::{stringjoin_source, stringpairs_source};
 use crate::tuple::tuple_source;
 use ild_cbor::{Piece, Why};
 use ild_schema::{Accepted, StructForm, TypeDef, TypeNo};
 
 // Where the fields are looked up, by the form of the struct.
 fn source_of<'b>(fields: &Fields<'b>, piece: Piece<'b>) -> Result<Source<'b>, Why>
-    requires { IsNumbered fields.now.acc.now piece }
-    ensures answers { (t : Data) → ClearStruct fields.now.def.now.form fields.now.def.now.fields → StandsFor fields.now.acc.now piece.entry t → Answers fields.now.acc.now fields.now.def.now.form fields.now.def.now.fields t result }
+    requires numbered { IsNumbered fields.now.acc.now piece }
+    requires clear { ClearStruct fields.now.def.now.form fields.now.def.now.fields }
+    requires delims { HasDelims fields.now.def.now.form fields.now.def.now.fields }
+    ensures answers { (t : Data) → StandsFor fields.now.acc.now piece.entry t → Answers fields.now.acc.now fields.now.def.now.form fields.now.def.now.fields t result }
     ensures sourced { IfOk result (IsSourced fields.now.acc.now) }
 {
     match &fields.def.form {
         StructForm::Map => map_source(fields, piece),
-        StructForm::Tuple => tuple_source(fields.def.fields.as_slice(), piece),
-        StructForm::ListPairs | StructForm::StringPairs(_, _) | StructForm::StringJoin(_) => Err(
-            Why::Kind,
-        ),
+        StructForm::Tuple => tuple_source(fields.def.fields.as_slice(), &piece),
+        StructForm::ListPairs => listpairs_source(fields, &piece),
+        StructForm::StringPairs(inner, entry) => {
+            stringpairs_source(fields, inner.as_str(), entry.as_str(), &piece)
+        }
+        StructForm::StringJoin(delim) => {
+            stringjoin_source(delim.as_str(), fields.def.fields.len(), &piece)
+        }
     }
 }
 

@@ -14,8 +14,8 @@ use crate::source::Source;
 use ild_cbor::{Kind, Node, Piece, Why};
 use ild_schema::Field;
 
-/// The node of a list, and how many items it has, or `None` where the data are no list.
-pub(crate) fn list<'b>(piece: &Piece<'b>) -> Option<(Node<'b>, u64)>
+// The node of a list, and how many items it has, or `None` where the data are no list.
+fn list<'b>(piece: &Piece<'b>) -> Option<(Node<'b>, u64)>
     ensures { (rows : List Row) (t : Data) → StandsFor rows piece.now t → IsList (items_in t) t result }
 {
     match piece {
@@ -48,12 +48,12 @@ fn misses(fields: &[Field], count: u64) -> bool
 }
 
 /// A list in which the fields are looked up, or the first cause why the piece is no struct.
-pub(crate) fn tuple_source<'b>(fields: &[Field], piece: Piece<'b>) -> Result<Source<'b>, Why>
+pub(crate) fn tuple_source<'b>(fields: &[Field], piece: &Piece<'b>) -> Result<Source<'b>, Why>
     requires { length fields.now ≤ 1024 }
-    ensures answers { (rows : List Row) (t : Data) → StandsFor rows piece.entry t → Answers rows S.Tuple fields.now t result }
+    ensures answers { (rows : List Row) (t : Data) → StandsFor rows piece.now t → Answers rows S.Tuple fields.now t result }
     ensures sourced { (rows : List Row) → IfOk result (IsSourced rows) }
 {
-    let Some((node, count)) = list(&piece) else {
+    let Some((node, count)) = list(piece) else {
         return Err(Why::Kind);
     };
     if misses(fields, count) {
