@@ -1,5 +1,5 @@
 -- What stands for a field, in each form.
-use Rattle.std.proofs.Common.{◌≡◌, ℕ, ◌<◌, List, ◌∷◌, [], length, map, get_or, option_map, Option, Some, None, refl, sym, ◌∙◌, ap, subst}
+use Rattle.std.proofs.Common.{◌≡◌, ℕ, ◌<◌, List, length, map, get_or, option_map, Option, Some, None, refl, sym, ◌∙◌, ap, subst}
 use Rattle.std.specs.Borrow.{Bor}
 use Rattle.std.specs.Prelude.{slice_get, option_and_then}
 use Rattle.ild_data.specs.Data as T
@@ -45,7 +45,6 @@ use Rattle.ild_struct.specs.Reading.{IsLookedUp, shown}
 use Rattle.ild_struct.specs.Source.{Shows, text_entries}
 use Rattle.ild_struct.specs.declared.part.Part.{Part}
 use Rattle.ild_struct.specs.declared.parts.StructParts.{StructParts}
-use Rattle.ild_struct.specs.declared.source.Source.{Source}
 use Rattle.ild_struct.specs.declared.source.Source.TheVariants as R
 use Rattle.ild_struct.proofs.Looking.{joined_at, keyed, map_keyed, placed}
 use Rattle.ild_struct.proofs.Splitting.{text_value_at}

@@ -1,5 +1,5 @@
 -- The layer of which no cause holds, and the one cause of data that are none.
-use Rattle.std.proofs.Common.{◌≡◌, ℕ, List, Option, Some, None, refl, sym, ◌∙◌, ap, subst}
+use Rattle.std.proofs.Common.{◌≡◌, ℕ, List, Some, None, refl, sym, ◌∙◌, ap}
 use Rattle.std.specs.Prelude.{option_and_then}
 use Rattle.ild_data.specs.Data.{Data}
 use Rattle.ild_cbor.specs.declared.piece.Piece.{Piece}

@@ -1,15 +1,15 @@
 -- A field's data, by its name among entries and by its place among items.
-use Rattle.std.proofs.Common.{◌≡◌, ℕ, zero, suc, ◌<◌, List, [], ◌∷◌, ◌++◌, length, Bool, true, false, cond, ◌&&◌, Option, Some, None, option_map, refl, sym, ◌∙◌, ap, subst, arith}
+use Rattle.std.proofs.Common.{◌≡◌, ℕ, zero, suc, ◌<◌, List, [], ◌∷◌, length, Bool, true, false, cond, Option, Some, None, option_map, refl, sym, ◌∙◌, ap, subst, arith}
 use Rattle.std.specs.Prelude.{slice_get, option_and_then}
 use Rattle.std.specs.List.{AllByRecursion}
 use Rattle.std.proofs.lemmas.Option.{same_Some, none-some}
 use Rattle.ild_data.specs.Data as T
 use Rattle.ild_data.specs.Data.{Data}
 use Rattle.ild_data.specs.Key.{value_at}
-use Rattle.ild_data.proofs.Lists.{items_list-items_of, members_list-members_of}
+use Rattle.ild_data.proofs.Lists.{members_list-members_of}
 use Rattle.ild_cbor.specs.Nodes.{Stands}
 use Rattle.ild_cbor.specs.declared.node.Node.{Node}
-use Rattle.ild_schema.specs.Clear.{AreNamesApart, IsRequired, AreClearFields}
+use Rattle.ild_schema.specs.Clear.{AreNamesApart}
 use Rattle.ild_schema.specs.Delims.{HasDelims}
 use Rattle.ild_schema.specs.Marks.{field_text}
 use Rattle.ild_schema.specs.declared.def.Field.{Field}

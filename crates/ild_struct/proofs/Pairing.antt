@@ -1,5 +1,5 @@
 -- The pairs of a list, one after another.
-use Rattle.std.proofs.Common.{◌≡◌, ℕ, zero, suc, ◌<◌, List, [], ◌∷◌, ◌++◌, append_assoc, length, map, Bool, true, false, cond, ◌||◌, not, Option, Some, None, option_map, refl, sym, ◌∙◌, ap, subst, arith, ◌⊎◌, inl, inr}
+use Rattle.std.proofs.Common.{◌≡◌, ℕ, suc, List, [], ◌∷◌, ◌++◌, append_assoc, length, map, Bool, true, false, cond, ◌||◌, not, Option, Some, None, refl, sym, ◌∙◌, ap, subst, arith, ◌⊎◌, inl, inr}
 use Rattle.std.specs.Borrow.{Bor}
 use Rattle.std.specs.List.{list_any}
 use Rattle.std.specs.Prelude.{nat_eq}
@@ -11,7 +11,7 @@ use Rattle.ild_data.specs.Data.{Data}
 use Rattle.ild_data.specs.Key.{same_text, value_at}
 use Rattle.ild_cbor.specs.Nodes.{Stands}
 use Rattle.ild_cbor.specs.Scalar.{text_of as text_found}
-use Rattle.ild_cbor.specs.Steps.{HasItems, ItemStep, ItemsGive, FindsItems, items_of}
+use Rattle.ild_cbor.specs.Steps.{HasItems, ItemsGive, FindsItems, items_of}
 use Rattle.ild_cbor.specs.declared.items.Items.{Items}
 use Rattle.ild_cbor.specs.declared.node.Node.{Node}
 use Rattle.ild_schema.specs.declared.def.Field.{Field}

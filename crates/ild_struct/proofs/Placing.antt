@@ -1,10 +1,10 @@
 -- Names by the places of their fields: what is found of the places is what is asked of the names.
-use Rattle.std.proofs.Common.{◌≡◌, ℕ, zero, suc, ◌+◌, ◌≤◌, ◌<◌, List, [], ◌∷◌, length, map, get_or, Bool, true, false, cond, ◌||◌, ◌&&◌, not, Option, Some, None, refl, sym, ◌∙◌, ap, subst, arith}
+use Rattle.std.proofs.Common.{◌≡◌, ℕ, zero, suc, ◌+◌, ◌≤◌, ◌<◌, List, [], ◌∷◌, length, map, get_or, Bool, true, false, cond, ◌||◌, ◌&&◌, not, Option, Some, refl, sym, ◌∙◌, ap, subst, arith}
 use Rattle.std.specs.Prelude.{nat_eq, slice_get, bytes_eq, unwrap_or, option_and_then}
 use Rattle.std.specs.List.{list_any, position_from, AllByRecursion}
 use Rattle.std.specs.Cmp.Lexicographic.{same_text as text_same}
 use Rattle.std.proofs.lemmas.Option.{same_Some, none-some}
-use Rattle.std.proofs.lemmas.Bool.{eq-eqb, eqb-true, eqb-false}
+use Rattle.std.proofs.lemmas.Bool.{eq-eqb, eqb-true}
 use Rattle.ild_data.specs.Data.{Data}
 use Rattle.ild_data.specs.Key.{same_text}
 use Rattle.ild_schema.specs.declared.def.Field.{Field}
@@ -17,7 +17,7 @@ use Rattle.ild_schema.specs.Clear.{AreNamesApart}
 use Rattle.ild_typed.specs.Fields.{is_implicit}
 use Rattle.ild_typed.specs.Named.{is_among, has_twice}
 use Rattle.ild_typed.specs.StructWhy.{is_name_of, has_stranger, place_of, is_needless}
-use Rattle.ild_typed.proofs.Cleans.{or_false, not_false, never}
+use Rattle.ild_typed.proofs.Cleans.{or_false, never}
 use Rattle.ild_typed.proofs.Entries.{same_text_self}
 use Rattle.ild_struct.specs.Notes.{stands_twice, is_strange, implicit_at}
 

@@ -1,7 +1,6 @@
-use Rattle.std.proofs.Common.{◌≡◌, Some, ◌∙◌, ap}
-use Rattle.ild_schema.specs.Table.{def_at}
+use Rattle.std.proofs.Common.{Some, ◌∙◌, ap}
 use Rattle.ild_schema.specs.declared.def.TypeDef.TheVariants as D
-use Rattle.ild_struct.proofs.Layering.{struct_of, refused_of, parts_of}
+use Rattle.ild_struct.proofs.Layering.{struct_of, parts_of}
 use Rattle.ild_struct.proofs.read.layer.Goals as goal
 
 pub source_of-requires-clause-clear : goal.source_of-requires-clause-clear

@@ -1,4 +1,4 @@
-use Rattle.std.proofs.Common.{◌≡◌, ◌∙◌}
+use Rattle.std.proofs.Common.{◌∙◌}
 use Rattle.ild_struct.proofs.Causing.{cause_noted}
 use Rattle.ild_struct.proofs.notes.Notes.first_cause.Goals as goal
 

@@ -1,4 +1,3 @@
-use Rattle.std.proofs.Common.{◌≡◌}
 use Rattle.ild_struct.proofs.Causing.{lacks_one, lacks_none_more, lacks_none}
 use Rattle.ild_struct.proofs.notes.Notes.lacks.Goals as goal
 

@@ -1,5 +1,4 @@
-use Rattle.std.proofs.Common.{◌≡◌, ℕ, List, false, take, ◌&&◌, not}
-use Rattle.std.specs.List.{list_any}
+use Rattle.std.proofs.Common.{◌≡◌, ℕ, List, false, take}
 use Rattle.ild_data.specs.Data.{Data}
 use Rattle.ild_schema.specs.Clear.{AreNamesApart}
 use Rattle.ild_struct.specs.Causes.{Noted}

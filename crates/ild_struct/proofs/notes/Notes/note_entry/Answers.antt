@@ -1,4 +1,4 @@
-use Rattle.std.proofs.Common.{◌≡◌, ℕ, List, ◌++◌, ◌∷◌, [], ◌||◌, refl, subst, length, ◌∙◌, ap}
+use Rattle.std.proofs.Common.{ℕ, List, ◌++◌, ◌∷◌, [], ◌||◌, refl, subst, length, ◌∙◌, ap}
 use Rattle.ild_struct.specs.Notes.{IsNoted, implicit_at}
 use Rattle.ild_struct.specs.declared.notes.Notes.{Notes}
 use Rattle.ild_struct.proofs.Causing.{entry_more}

@@ -1,4 +1,4 @@
-use Rattle.std.proofs.Common.{◌≡◌, ℕ, List, ◌++◌, ◌∷◌, [], length, subst}
+use Rattle.std.proofs.Common.{ℕ, List, ◌++◌, ◌∷◌, [], length, subst}
 use Rattle.ild_struct.specs.Notes.{IsNoted}
 use Rattle.ild_struct.proofs.Causing.{name_more}
 use Rattle.ild_struct.proofs.notes.Notes.note_name.Goals as goal
