@@ -13,3 +13,4 @@ pub mod LayeredKept
 pub mod LayerTesting
 pub mod Depth
 pub mod Firsts
+mod Examples
