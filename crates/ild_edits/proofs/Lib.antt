@@ -14,3 +14,5 @@ pub mod LayerTesting
 pub mod Depth
 pub mod Firsts
 mod Examples
+pub mod Seen
+pub mod Elsewhere
