@@ -13,3 +13,6 @@ pub mod LayeredKept
 pub mod LayerTesting
 pub mod Depth
 pub mod Firsts
+mod Examples
+pub mod Seen
+pub mod Elsewhere

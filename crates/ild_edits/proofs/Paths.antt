@@ -101,7 +101,7 @@ module _ (rows : List Row) (is_key : ℕ → List ℕ → Bool) (P : Slot → Va
       typed_changed (λ h t. set_part h t w) x.0 (set_typed x.0 q.0 w x.3 x.4 new) p s ss is x.1
 
   -- a path that is apart leads where it led
-  others_step : (s : List ℕ) (ss : List (List ℕ)) (p q : InSlot) (t : List ℕ) (ts : List (List ℕ)) (c : Value) (r : InSlot) → P p.0 p.1 → part (seen rows p) s ≡ Some r → P r.0 c
+  pub others_step : (s : List ℕ) (ss : List (List ℕ)) (p q : InSlot) (t : List ℕ) (ts : List (List ℕ)) (c : Value) (r : InSlot) → P p.0 p.1 → part (seen rows p) s ≡ Some r → P r.0 c
       → ((s ≢ t) ⊎ ((s ≡ t) × (at rows (r.0, c) ts ≡ at rows r ts)))
       → at rows (p.0, value_of (set_part (seen rows p) s c)) (t ∷ ts) ≡ at rows p (t ∷ ts)
   others_step s ss p q t ts c r is e new (inl apart) =

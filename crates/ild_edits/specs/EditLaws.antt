@@ -1,17 +1,17 @@
 -- The laws of edits, for the values of a slot under the table of an accepted schema.
-use Rattle.std.specs.Prelude.{◌≡◌, ◌≢◌, ℕ, List, ◌∷◌, Bool, Option, Some, Ok}
+use Rattle.std.specs.Prelude.{◌≡◌, ◌≢◌, ℕ, List, ◌∷◌, Bool, Option, Some, None, Ok}
 use Rattle.ild_data.specs.Data.{Data}
 use Rattle.ild_data.specs.Tree.{IsTree}
 use Rattle.ild_schema.specs.declared.number.Slot.{Slot}
 use Rattle.ild_schema.specs.declared.row.Row.{Row}
 use Rattle.ild_schema.specs.Value.{Value}
-use Rattle.ild_typed.specs.Holder.{Holder}
+use Rattle.ild_typed.specs.Holder.{Holder, fields, member, entries, elements, any_entries, any_elements, nothing}
 use Rattle.ild_typed.specs.Segment.{set_part}
 use Rattle.ild_typed.specs.At.{InSlot, at, last_holder, changed_in, Apart}
 use Rattle.ild_typed.specs.OfType.{OfType, TestsKeys}
 use Rattle.ild_typed.specs.Schema.{IsSchema}
 use Rattle.ild_typed.specs.Typed.{Typed}
-use Rattle.ild_edits.specs.Table.{slot_to_set, MayStand}
+use Rattle.ild_edits.specs.Table.{slot_to_set, slot_to_insert, MayStand, insert_part, refusal_to_delete, delete_part}
 use Rattle.ild_edits.specs.Edit.{Edit, set_at, ins_at, del_at, HasTextPath, new_slot, change, line_change}
 
 -- the part that an edit brings is of the slot to which it goes
@@ -52,3 +52,26 @@ abbrev pub ElsewhereStays : Type 0
 ElsewhereStays = (rows : List Row) (is_key : ℕ → List ℕ → Bool) → IsSchema rows → TestsKeys rows is_key → (p q : InSlot) (s : List ℕ) (ss other : List (List ℕ)) (w : Value)
     → OfType rows p.0 p.1 → at rows p (s ∷ ss) ≡ Some q → OfType rows q.0 w → Apart (s ∷ ss) other
     → at rows (p.0, changed_in rows (λ h t. set_part h t w) p s ss) other ≡ at rows p other
+
+-- parts that are found by names or keys: nothing moves where one comes or goes
+abbrev pub IsKeyed : Holder → Type 0
+IsKeyed (fields fs os) = Unit {0}
+IsKeyed (member ms n v) = ⊥
+IsKeyed (entries key slot paired ps) = Unit {0}
+IsKeyed (elements slot vs) = ⊥
+IsKeyed (any_entries ms) = Unit {0}
+IsKeyed (any_elements ds) = ⊥
+IsKeyed (nothing v) = Unit {0}
+
+-- what an edit of the last holder of a path makes, at a path that neither begins nor continues its own
+pub record LeavesOthers (rows : List Row) (is_key : ℕ → List ℕ → Bool) (p : InSlot) (s : List ℕ) (ss : List (List ℕ)) (l : Holder × List ℕ) (other : List (List ℕ)) : Type 0 where
+  pub set : (slot : Slot) (w : Value) → slot_to_set l.0 l.1 ≡ Some slot → MayStand is_key l.0 l.1 → OfType rows slot w
+      → at rows (p.0, changed_in rows (λ h t. set_part h t w) p s ss) other ≡ at rows p other
+  pub inserted : (slot : Slot) (w : Value) → slot_to_insert l.0 l.1 ≡ Some slot → MayStand is_key l.0 l.1 → OfType rows slot w
+      → at rows (p.0, changed_in rows (λ h t. insert_part h t w) p s ss) other ≡ at rows p other
+  pub deleted : refusal_to_delete l.0 l.1 ≡ None → at rows (p.0, changed_in rows delete_part p s ss) other ≡ at rows p other
+
+-- a part that is set, there before or not, inserted or deleted by its name or key changes nothing elsewhere
+abbrev pub OthersStay : Type 0
+OthersStay = (rows : List Row) (is_key : ℕ → List ℕ → Bool) → IsSchema rows → TestsKeys rows is_key → (p : InSlot) (s : List ℕ) (ss other : List (List ℕ)) (l : Holder × List ℕ)
+    → OfType rows p.0 p.1 → last_holder rows p s ss ≡ Some l → IsKeyed l.0 → Apart (s ∷ ss) other → LeavesOthers rows is_key p s ss l other

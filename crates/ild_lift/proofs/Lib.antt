@@ -15,3 +15,4 @@ pub mod LastEdits
 pub mod EditOne
 pub mod SetOne
 pub mod ChangeOne
+mod Examples

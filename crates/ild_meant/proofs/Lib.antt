@@ -9,3 +9,4 @@ pub mod MeantTyped
 pub mod Showing
 pub mod Broken
 pub mod Mismatched
+mod Examples
