@@ -175,20 +175,19 @@ const FAULTS: [(&str, Flaw, usize); 68] = [
 
 #[test]
 fn each_fault_has_its_place(rt: HostRuntime) -> Result<(), Fail> {
-    for (src, flaw, at) in FAULTS {
-        assert_eq!(rt;
-            fault(rt.alloc(), src.as_bytes())?,
-            some_fault(flaw, at),
-            "{src}"
-        );
+    for (src, flaw, at) in &FAULTS {
+        let found = fault(rt.alloc(), src.as_bytes())?;
+        assert_eq!(rt; found, some_fault(*flaw, *at), "{src}");
     }
+    Ok(())
+}
+
+#[test]
+fn each_given_name_is_taken(rt: HostRuntime) -> Result<(), Fail> {
     for name in GIVEN {
         let src = format!(in rt.alloc(); "type {name} bool")?;
-        assert_eq!(rt;
-            fault(rt.alloc(), src.as_bytes())?,
-            some_fault(Flaw::Twice, 5),
-            "{name}"
-        );
+        let found = fault(rt.alloc(), src.as_bytes())?;
+        assert_eq!(rt; found, some_fault(Flaw::Twice, 5), "{name}");
     }
     Ok(())
 }
@@ -433,28 +432,43 @@ fn named(schema: &Schema, name: &str) -> Option<u32> {
     }
 }
 
+/// A link inside a union, a list inside a list, and a layout.
+const OTHERS: &str =
+    "type U union { | &B \"b\" } representation keyed type B [[Int]] advanced HAMT";
+
+/// Names and the types that they stand for: those of the prelude, and those that are declared.
+const NUMBERS: [(&str, u32); 10] = [
+    ("Any", 0),
+    ("Bool", 1),
+    ("Bytes", 2),
+    ("Int", 3),
+    ("Link", 4),
+    ("List", 5),
+    ("Map", 6),
+    ("String", 7),
+    ("U", 8),
+    ("B", 10),
+];
+
+/// Texts for which no type stands.
+const NO_NAMES: [&str; 7] = ["&B", "", "Float", "HAMT", "b", "C", "[Int]"];
+
 #[test]
-fn names_of_the_prelude_and_none(rt: HostRuntime) -> Result<(), Fail> {
-    let src = "type U union { | &B \"b\" } representation keyed type B [[Int]] advanced HAMT";
-    let schema = table_of(rt.alloc(), src.as_bytes())?;
-    for (name, number) in [
-        ("Any", 0),
-        ("Bool", 1),
-        ("Bytes", 2),
-        ("Int", 3),
-        ("Link", 4),
-        ("List", 5),
-        ("Map", 6),
-        ("String", 7),
-        ("U", 8),
-        ("B", 10),
-    ] {
+fn names_of_the_prelude(rt: HostRuntime) -> Result<(), Fail> {
+    let schema = table_of(rt.alloc(), OTHERS.as_bytes())?;
+    for (name, number) in NUMBERS {
         assert_eq!(rt; named(&schema, name), Some(number), "{name}");
     }
-    for name in ["&B", "", "Float", "HAMT", "b", "C", "[Int]"] {
+    assert_eq!(rt; schema.names().len(), 2);
+    Ok(())
+}
+
+#[test]
+fn names_of_none(rt: HostRuntime) -> Result<(), Fail> {
+    let schema = table_of(rt.alloc(), OTHERS.as_bytes())?;
+    for name in NO_NAMES {
         assert_eq!(rt; named(&schema, name), None, "{name}");
     }
-    assert_eq!(rt; schema.names().len(), 2);
     Ok(())
 }
 
@@ -479,19 +493,22 @@ fn bases(rt: HostRuntime) -> Result<(), Fail> {
     Ok(())
 }
 
+/// The words of a fault.
+const WORDS: [(Flaw, &str); 9] = [
+    (Flaw::Char, "lex 1 char"),
+    (Flaw::Unended, "lex 2 unended"),
+    (Flaw::Syntax, "parse 1 syntax"),
+    (Flaw::Twice, "resolve 1 twice"),
+    (Flaw::Unknown, "resolve 2 unknown"),
+    (Flaw::Float, "resolve 3 float"),
+    (Flaw::CopyCycle, "resolve 4 copycycle"),
+    (Flaw::Advanced, "resolve 5 advanced"),
+    (Flaw::Many, "resolve 6 many"),
+];
+
 #[test]
 fn words_of_flaws(rt: HostRuntime) -> Result<(), Fail> {
-    for (flaw, text) in [
-        (Flaw::Char, "lex 1 char"),
-        (Flaw::Unended, "lex 2 unended"),
-        (Flaw::Syntax, "parse 1 syntax"),
-        (Flaw::Twice, "resolve 1 twice"),
-        (Flaw::Unknown, "resolve 2 unknown"),
-        (Flaw::Float, "resolve 3 float"),
-        (Flaw::CopyCycle, "resolve 4 copycycle"),
-        (Flaw::Advanced, "resolve 5 advanced"),
-        (Flaw::Many, "resolve 6 many"),
-    ] {
+    for (flaw, text) in WORDS {
         assert_eq!(rt; flaw.text(), text);
     }
     Ok(())
@@ -526,15 +543,22 @@ const PARTS: [(&str, &str, &str, u8); 4] = [
 
 #[test]
 fn parts_up_to_the_limit(rt: HostRuntime) -> Result<(), Fail> {
-    for (front, part, end, name) in PARTS {
+    for (front, part, end, _) in PARTS {
         let mut src = repeated(rt.alloc(), front, part, 1024)?;
-        let last = src.len();
         src.push_str(end)?;
         assert_eq!(rt; fault(rt.alloc(), src.as_bytes())?, None, "{front}");
-        let mut more = repeated(rt.alloc(), front, part, 1026)?;
-        more.push_str(end)?;
+    }
+    Ok(())
+}
+
+#[test]
+fn parts_above_the_limit(rt: HostRuntime) -> Result<(), Fail> {
+    for (front, part, end, name) in PARTS {
+        let mut src = repeated(rt.alloc(), front, part, 1026)?;
+        src.push_str(end)?;
+        let last = repeated(rt.alloc(), front, part, 1024)?.len();
         let many = some_fault(Flaw::Many, last + usize::from(name));
-        assert_eq!(rt; fault(rt.alloc(), more.as_bytes())?, many, "{front}");
+        assert_eq!(rt; fault(rt.alloc(), src.as_bytes())?, many, "{front}");
     }
     Ok(())
 }

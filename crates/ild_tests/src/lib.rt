@@ -1,21 +1,7 @@
-//! Tests of public calls on data, blocks, the outside and runs, a file a subject, beside blocks of another tool.
+//! Tests of public calls on the outside and on runs over objects in memory, a file a subject.
 #![tactic(auto)]
 
 #[cfg(test)]
-mod blocks;
-#[cfg(test)]
-mod cbor;
-#[cfg(test)]
-mod data;
-#[cfg(test)]
 mod edges;
 #[cfg(test)]
-mod json;
-#[cfg(test)]
-mod keys;
-#[cfg(test)]
-mod large;
-#[cfg(test)]
 mod run;
-#[cfg(test)]
-mod trees;

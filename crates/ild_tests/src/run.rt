@@ -74,105 +74,120 @@ fn try_case(rt: &impl Abort, alloc: Global, case: &Case<'_>) -> Result<(), Alloc
 /// The block `a1 61 61 01` of {"a":1}.
 const ONE: &str = "root bafyreihltcnuuyqp2jm24aqydpnlj7b6w3ogwrplomrjtg5rifv44mmjey\n";
 
+/// Scripts, their replies and the status.
+const LINES: [(&str, &str, u8); 7] = [
+    ("", "", 0),
+    ("\n\n", "", 0),
+    ("root", EMPTY, 0),
+    (
+        "set /a 1\nget /a\nroot\ndel /a\nroot\nget /a\n",
+        "root bafyreihltcnuuyqp2jm24aqydpnlj7b6w3ogwrplomrjtg5rifv44mmjey\nok 1\nroot bafyreihltcnuuyqp2jm24aqydpnlj7b6w3ogwrplomrjtg5rifv44mmjey\nroot bafyreigbtj4x7ip5legnfznufuopl4sg4knzc2cof6duas4b3q2fy6swua\nroot bafyreigbtj4x7ip5legnfznufuopl4sg4knzc2cof6duas4b3q2fy6swua\nno 2 path\n",
+        1,
+    ),
+    // a1 62 61 61 02, and a2 61 62 01 62 61 61 02: the shorter key first
+    (
+        "set /aa 2\nset /b 1",
+        "root bafyreictyrozy5ievw4yoxluz5csgmfcgmlknr6ucufafkfczz6nhsvt5a\nroot bafyreihbaf6v4gjeo76rl6ncekrny5lwbgyjf7zdw2m7w77xsjm3xvige4\n",
+        0,
+    ),
+    // a1 61 61 3b 7f ff*7, and behind it 61 62 1b ff*8: the ends of the range
+    (
+        "set /a -9223372036854775808\nset /b 18446744073709551615\nget /b",
+        "root bafyreiejn3od72bmwpx2ahylmrixklds5uordemol4kxgx5lywx3aoocgm\nroot bafyreicnrnntwbwywqnzdyrusxdlbf3l7mhpdoyfcarl3gwgge3potmyb4\nok 18446744073709551615\n",
+        0,
+    ),
+    // a1 61 61 20
+    (
+        "set /a -1\nset /a 01\nset /a  1 \nget /a",
+        "root bafyreicbhbeahnah6n4fnieboitkx4yswtog24jlxbj4b7ote5px4osena\nno 3 json\nroot bafyreihltcnuuyqp2jm24aqydpnlj7b6w3ogwrplomrjtg5rifv44mmjey\nok 1\n",
+        1,
+    ),
+];
+
+/// These scripts over the one schema.
+fn try_scripts(rt: &impl Abort, alloc: Global, cases: &[(&str, &str, u8)]) -> Result<(), Fail> {
+    for (lines, text, status) in cases {
+        try_case(rt, alloc, &script(lines, text, *status))?;
+    }
+    Ok(())
+}
+
 #[test]
 fn lines_over_one_map(rt: HostRuntime) -> Result<(), Fail> {
-    let cases = [
-        script("", "", 0),
-        script("\n\n", "", 0),
-        script("root", EMPTY, 0),
-        script(
-            "set /a 1\nget /a\nroot\ndel /a\nroot\nget /a\n",
-            "root bafyreihltcnuuyqp2jm24aqydpnlj7b6w3ogwrplomrjtg5rifv44mmjey\nok 1\nroot bafyreihltcnuuyqp2jm24aqydpnlj7b6w3ogwrplomrjtg5rifv44mmjey\nroot bafyreigbtj4x7ip5legnfznufuopl4sg4knzc2cof6duas4b3q2fy6swua\nroot bafyreigbtj4x7ip5legnfznufuopl4sg4knzc2cof6duas4b3q2fy6swua\nno 2 path\n",
-            1,
-        ),
-        // a1 62 61 61 02, and a2 61 62 01 62 61 61 02: the shorter key first
-        script(
-            "set /aa 2\nset /b 1",
-            "root bafyreictyrozy5ievw4yoxluz5csgmfcgmlknr6ucufafkfczz6nhsvt5a\nroot bafyreihbaf6v4gjeo76rl6ncekrny5lwbgyjf7zdw2m7w77xsjm3xvige4\n",
-            0,
-        ),
-        // a1 61 61 3b 7f ff*7, and behind it 61 62 1b ff*8: the ends of the range
-        script(
-            "set /a -9223372036854775808\nset /b 18446744073709551615\nget /b",
-            "root bafyreiejn3od72bmwpx2ahylmrixklds5uordemol4kxgx5lywx3aoocgm\nroot bafyreicnrnntwbwywqnzdyrusxdlbf3l7mhpdoyfcarl3gwgge3potmyb4\nok 18446744073709551615\n",
-            0,
-        ),
-        // a1 61 61 20
-        script(
-            "set /a -1\nset /a 01\nset /a  1 \nget /a",
-            "root bafyreicbhbeahnah6n4fnieboitkx4yswtog24jlxbj4b7ote5px4osena\nno 3 json\nroot bafyreihltcnuuyqp2jm24aqydpnlj7b6w3ogwrplomrjtg5rifv44mmjey\nok 1\n",
-            1,
-        ),
-    ];
-    for case in cases {
-        try_case(&rt, rt.alloc(), &case)?;
+    try_scripts(&rt, rt.alloc(), &LINES)
+}
+
+/// Texts that stand for no data.
+const UNREAD: [&str; 8] = [
+    "1.5",
+    "{\"/\":1}",
+    "{\"/\":{\"bytes\":\"A\"}}",
+    "18446744073709551616",
+    "-9223372036854775809",
+    "1e999",
+    "[1",
+    "1 1",
+];
+
+/// Data that are no integer.
+const UNFIT: [&str; 7] = [
+    "\"x\"",
+    "{\"/\":1,\"x\":2}",
+    "null",
+    "true",
+    "[1]",
+    "{}",
+    "{\"/\":{\"bytes\":\"AQI\"}}",
+];
+
+/// Each of these values is refused with one reply.
+fn are_refused(rt: &impl Abort, alloc: Global, values: &[&str], reply: &str) -> Result<(), Fail> {
+    for json in values {
+        let line = format!(in alloc; "set /a {json}")?;
+        try_case(rt, alloc, &script(line.as_str(), reply, 1))?;
     }
     Ok(())
 }
 
 #[test]
-fn values_that_are_refused(rt: HostRuntime) -> Result<(), Fail> {
-    let unread = [
-        "1.5",
-        "{\"/\":1}",
-        "{\"/\":{\"bytes\":\"A\"}}",
-        "18446744073709551616",
-        "-9223372036854775809",
-        "1e999",
-        "[1",
-        "1 1",
-    ];
-    for json in unread {
-        let line = format!(in rt.alloc(); "set /a {json}")?;
-        try_case(&rt, rt.alloc(), &script(line.as_str(), "no 3 json\n", 1))?;
-    }
-    for json in [
-        "\"x\"",
-        "{\"/\":1,\"x\":2}",
-        "null",
-        "true",
-        "[1]",
-        "{}",
-        "{\"/\":{\"bytes\":\"AQI\"}}",
-    ] {
-        let line = format!(in rt.alloc(); "set /a {json}")?;
-        try_case(
-            &rt,
-            rt.alloc(),
-            &script(line.as_str(), "no 4 mismatch\n", 1),
-        )?;
+fn values_that_are_no_data(rt: HostRuntime) -> Result<(), Fail> {
+    are_refused(&rt, rt.alloc(), &UNREAD, "no 3 json\n")
+}
+
+#[test]
+fn values_that_are_no_integer(rt: HostRuntime) -> Result<(), Fail> {
+    are_refused(&rt, rt.alloc(), &UNFIT, "no 4 mismatch\n")
+}
+
+/// Lines that aren't of the grammar.
+const NO_LINES: [&str; 12] = [
+    "get", "put /a 1", "get a", "get /~9", "get  /a", "get /a ", "set /a", "root ", "root\r",
+    "ins /a 1", "begin", "get /~",
+];
+
+#[test]
+fn lines_that_are_none(rt: HostRuntime) -> Result<(), Fail> {
+    for line in NO_LINES {
+        try_case(&rt, rt.alloc(), &script(line, "no 1 line\n", 1))?;
     }
     Ok(())
 }
 
+/// Lines that name no place.
+const NO_PLACES: [(&str, &str, u8); 8] = [
+    ("get .", "no 2 path\n", 1),
+    ("set . 1", "no 2 path\n", 1),
+    ("del .", "no 2 path\n", 1),
+    ("get /a/b", "no 2 path\n", 1),
+    ("set /a/b 1", "no 2 path\n", 1),
+    ("del /a", "no 2 path\n", 1),
+    ("set / x 1", "no 3 json\n", 1),
+    ("get /", "no 2 path\n", 1),
+];
+
 #[test]
-fn lines_that_are_refused(rt: HostRuntime) -> Result<(), Fail> {
-    let no_line = "no 1 line\n";
-    let outside = [
-        "get", "put /a 1", "get a", "get /~9", "get  /a", "get /a ", "set /a", "root ", "root\r",
-        "ins /a 1", "begin", "get /~",
-    ];
-    for line in outside {
-        try_case(&rt, rt.alloc(), &script(line, no_line, 1))?;
-    }
-    for line in [
-        "get .",
-        "set . 1",
-        "del .",
-        "get /a/b",
-        "set /a/b 1",
-        "del /a",
-        "set / x 1",
-        "get /",
-    ] {
-        let text = if line == "set / x 1" {
-            "no 3 json\n"
-        } else {
-            "no 2 path\n"
-        };
-        try_case(&rt, rt.alloc(), &script(line, text, 1))?;
-    }
-    Ok(())
+fn lines_that_name_no_place(rt: HostRuntime) -> Result<(), Fail> {
+    try_scripts(&rt, rt.alloc(), &NO_PLACES)
 }
 
 /// Every kind of line, and what is written where nothing fails.
@@ -204,106 +219,116 @@ fn each_write_fails_in_turn(rt: HostRuntime) -> Result<(), Fail> {
     Ok(())
 }
 
+/// The take that fails, and what is told.
+const TAKES: [(u64, &str); 2] = [
+    (1, "fault 5 input schema failed\n"),
+    (2, "fault 5 input script failed\n"),
+];
+
 #[test]
-fn each_take_and_put_fails_in_turn(rt: HostRuntime) -> Result<(), Fail> {
-    let no_script = "root bafyreigbtj4x7ip5legnfznufuopl4sg4knzc2cof6duas4b3q2fy6swua\n";
-    let failing = [
-        Case {
-            fail_takes: &[1],
-            ..script(ALL, "fault 5 input schema failed\n", 5)
-        },
-        Case {
-            fail_takes: &[2],
-            ..script(ALL, "fault 5 input script failed\n", 5)
-        },
-        Case {
-            fail_takes: &[3],
-            ..script("root", no_script, 0)
-        },
-        Case {
-            fail_takes: &[1],
-            fail_writes: &[1],
-            ..script(ALL, "", 7)
-        },
-        // the empty map's block, the set and the del
-        Case {
-            fail_puts: &[1],
-            ..script(ALL, "fault 6 store\n", 6)
-        },
-        Case {
-            fail_puts: &[2],
-            ..script(
-                ALL,
-                "no 12 store\nno 2 path\nroot bafyreigbtj4x7ip5legnfznufuopl4sg4knzc2cof6duas4b3q2fy6swua\nno 2 path\nroot bafyreigbtj4x7ip5legnfznufuopl4sg4knzc2cof6duas4b3q2fy6swua\nno 2 path\n",
-                1,
-            )
-        },
-        Case {
-            fail_puts: &[3],
-            ..script(
-                ALL,
-                "root bafyreihltcnuuyqp2jm24aqydpnlj7b6w3ogwrplomrjtg5rifv44mmjey\nok 1\nroot bafyreihltcnuuyqp2jm24aqydpnlj7b6w3ogwrplomrjtg5rifv44mmjey\nno 12 store\nroot bafyreihltcnuuyqp2jm24aqydpnlj7b6w3ogwrplomrjtg5rifv44mmjey\nok 1\n",
-                1,
-            )
-        },
-        // a2 61 61 01 61 62 02, set again
-        Case {
-            fail_puts: &[3],
-            ..script(
-                "set /a 1\nset /b 2\nroot\nset /b 2\n",
-                "root bafyreihltcnuuyqp2jm24aqydpnlj7b6w3ogwrplomrjtg5rifv44mmjey\nno 12 store\nroot bafyreihltcnuuyqp2jm24aqydpnlj7b6w3ogwrplomrjtg5rifv44mmjey\nroot bafyreifa2oxz5bxfkf7xfg5nazl6frxtw7idrgmjjsgwwm3vsb2mre5v4m\n",
-                1,
-            )
-        },
-    ];
-    for case in failing {
+fn each_take_fails_in_turn(rt: HostRuntime) -> Result<(), Fail> {
+    for (number, text) in TAKES {
+        let case = Case {
+            fail_takes: &[number],
+            ..script(ALL, text, 5)
+        };
         try_case(&rt, rt.alloc(), &case)?;
     }
     Ok(())
 }
 
+/// There is no third take.
+#[test]
+fn a_take_behind_the_last_fails(rt: HostRuntime) -> Result<(), Fail> {
+    let case = Case {
+        fail_takes: &[3],
+        ..script("root", EMPTY, 0)
+    };
+    Ok(try_case(&rt, rt.alloc(), &case)?)
+}
+
+#[test]
+fn a_take_and_a_write_fail(rt: HostRuntime) -> Result<(), Fail> {
+    let case = Case {
+        fail_takes: &[1],
+        fail_writes: &[1],
+        ..script(ALL, "", 7)
+    };
+    Ok(try_case(&rt, rt.alloc(), &case)?)
+}
+
+/// The put that fails, of the empty map's block, the set and the del, and what is told; last of a set that comes again, where
+/// the block is a2 61 61 01 61 62 02.
+const PUTS: [(u64, &str, &str, u8); 4] = [
+    (1, ALL, "fault 6 store\n", 6),
+    (
+        2,
+        ALL,
+        "no 12 store\nno 2 path\nroot bafyreigbtj4x7ip5legnfznufuopl4sg4knzc2cof6duas4b3q2fy6swua\nno 2 path\nroot bafyreigbtj4x7ip5legnfznufuopl4sg4knzc2cof6duas4b3q2fy6swua\nno 2 path\n",
+        1,
+    ),
+    (
+        3,
+        ALL,
+        "root bafyreihltcnuuyqp2jm24aqydpnlj7b6w3ogwrplomrjtg5rifv44mmjey\nok 1\nroot bafyreihltcnuuyqp2jm24aqydpnlj7b6w3ogwrplomrjtg5rifv44mmjey\nno 12 store\nroot bafyreihltcnuuyqp2jm24aqydpnlj7b6w3ogwrplomrjtg5rifv44mmjey\nok 1\n",
+        1,
+    ),
+    (
+        3,
+        "set /a 1\nset /b 2\nroot\nset /b 2\n",
+        "root bafyreihltcnuuyqp2jm24aqydpnlj7b6w3ogwrplomrjtg5rifv44mmjey\nno 12 store\nroot bafyreihltcnuuyqp2jm24aqydpnlj7b6w3ogwrplomrjtg5rifv44mmjey\nroot bafyreifa2oxz5bxfkf7xfg5nazl6frxtw7idrgmjjsgwwm3vsb2mre5v4m\n",
+        1,
+    ),
+];
+
+#[test]
+fn each_put_fails_in_turn(rt: HostRuntime) -> Result<(), Fail> {
+    for (number, lines, text, status) in PUTS {
+        let case = Case {
+            fail_puts: &[number],
+            ..script(lines, text, status)
+        };
+        try_case(&rt, rt.alloc(), &case)?;
+    }
+    Ok(())
+}
+
+/// Words, a schema, and what is told under a script of one line.
+const GIVEN: [(&[&str], &str, &str, u8); 9] = [
+    (&[], SCHEMA, "fault 2 words\n", 2),
+    (&["run", "s", "M", "-", "x"], SCHEMA, "fault 2 words\n", 2),
+    (&["show", "s", "N", "abc"], SCHEMA, "fault 2 words\n", 2),
+    (
+        &["run", "t", "N", "-", "x"],
+        SCHEMA,
+        "fault 5 input schema absent\n",
+        5,
+    ),
+    (
+        &["run", "s", "N", "-", "y"],
+        SCHEMA,
+        "fault 5 input script absent\n",
+        5,
+    ),
+    (&WORDS, "type N {String:Int}\n", EMPTY, 0),
+    (&["check"], SCHEMA, "fault 2 words\n", 2),
+    (&["check", "t"], SCHEMA, "fault 5 input schema absent\n", 5),
+    (
+        &["run", "s", "N", "-", "y"],
+        "",
+        "fault 3 schema notbuilt\n",
+        3,
+    ),
+];
+
 #[test]
 fn words_and_inputs(rt: HostRuntime) -> Result<(), Fail> {
-    let cases = [
-        Case {
-            words: &[],
-            ..script("root", "fault 2 words\n", 2)
-        },
-        Case {
-            words: &["run", "s", "M", "-", "x"],
-            ..script("root", "fault 2 words\n", 2)
-        },
-        Case {
-            words: &["show", "s", "N", "abc"],
-            ..script("root", "fault 2 words\n", 2)
-        },
-        Case {
-            words: &["run", "t", "N", "-", "x"],
-            ..script("root", "fault 5 input schema absent\n", 5)
-        },
-        Case {
-            words: &["run", "s", "N", "-", "y"],
-            ..script("root", "fault 5 input script absent\n", 5)
-        },
-        Case {
-            schema: "type N {String:Int}\n",
-            ..script("root", EMPTY, 0)
-        },
-        Case {
-            words: &["check"],
-            ..script("root", "fault 2 words\n", 2)
-        },
-        Case {
-            words: &["check", "t"],
-            ..script("root", "fault 5 input schema absent\n", 5)
-        },
-        Case {
-            schema: "",
-            words: &["run", "s", "N", "-", "y"],
-            ..script("root", "fault 3 schema notbuilt\n", 3)
-        },
-    ];
-    for case in cases {
+    for (words, schema, text, status) in &GIVEN {
+        let case = Case {
+            words,
+            schema,
+            ..script("root", text, *status)
+        };
         try_case(&rt, rt.alloc(), &case)?;
     }
     Ok(())
@@ -354,51 +379,51 @@ const FAULTY: [(&str, &str); 12] = [
     ("type N {Int:Int}", "accept 11 mapkey at 8"),
 ];
 
+/// A script of one line under a schema, and a check of it, each with what is told and the status.
+fn try_schema(
+    rt: &impl Abort,
+    alloc: Global,
+    schema: &str,
+    run: (&str, u8),
+    checked: (&str, u8),
+) -> Result<(), AllocError> {
+    let case = Case {
+        schema,
+        ..script("root", run.0, run.1)
+    };
+    try_case(rt, alloc, &case)?;
+    let case = Case {
+        schema,
+        words: &["check", "s"],
+        ..script("root", checked.0, checked.1)
+    };
+    try_case(rt, alloc, &case)
+}
+
 #[test]
-fn schemas(rt: HostRuntime) -> Result<(), Fail> {
-    let check: [&str; 2] = ["check", "s"];
+fn schemas_for_scripts(rt: HostRuntime) -> Result<(), Fail> {
     for schema in OPEN {
-        let run = Case {
-            schema,
-            ..script("root", EMPTY, 0)
-        };
-        try_case(&rt, rt.alloc(), &run)?;
-        let checked = Case {
-            schema,
-            words: &check,
-            ..script("root", "ok [\"N\"]\n", 0)
-        };
-        try_case(&rt, rt.alloc(), &checked)?;
+        try_schema(&rt, rt.alloc(), schema, (EMPTY, 0), ("ok [\"N\"]\n", 0))?;
     }
+    Ok(())
+}
+
+#[test]
+fn schemas_for_checks_alone(rt: HostRuntime) -> Result<(), Fail> {
+    let unbuilt = "fault 3 schema notbuilt\n";
     for (schema, names) in NOT_BUILT {
-        let run = Case {
-            schema,
-            ..script("root", "fault 3 schema notbuilt\n", 3)
-        };
-        try_case(&rt, rt.alloc(), &run)?;
         let text = format!(in rt.alloc(); "ok {names}\n")?;
-        let checked = Case {
-            schema,
-            words: &check,
-            ..script("root", text.as_str(), 0)
-        };
-        try_case(&rt, rt.alloc(), &checked)?;
+        try_schema(&rt, rt.alloc(), schema, (unbuilt, 3), (text.as_str(), 0))?;
     }
+    Ok(())
+}
+
+#[test]
+fn schemas_with_a_fault(rt: HostRuntime) -> Result<(), Fail> {
     for (schema, fault) in FAULTY {
         let text = format!(in rt.alloc(); "fault 3 schema {fault}\n")?;
-        let run = Case {
-            schema,
-            ..script("root", text.as_str(), 3)
-        };
-        try_case(&rt, rt.alloc(), &run)?;
-        try_case(
-            &rt,
-            rt.alloc(),
-            &Case {
-                words: &check,
-                ..run
-            },
-        )?;
+        let told = (text.as_str(), 3);
+        try_schema(&rt, rt.alloc(), schema, told, told)?;
     }
     Ok(())
 }
@@ -421,12 +446,18 @@ fn long_script(alloc: Global, letters: usize, behind: &str) -> Result<String, Al
     Ok(text)
 }
 
-/// Up to its length a block is put. One that is too long isn't: the put that is to fail is that of the line behind it.
+/// Up to its length a block is put.
 #[test]
-fn blocks_at_the_limit(rt: HostRuntime) -> Result<(), Fail> {
+fn a_block_at_the_limit(rt: HostRuntime) -> Result<(), Fail> {
     let longest = long_script(rt.alloc(), LONGEST_KEY, "set /b 2\n")?;
     let kept = format!(in rt.alloc(); "{LONGEST}no 9 size\n")?;
     try_case(&rt, rt.alloc(), &script(longest.as_str(), kept.as_str(), 1))?;
+    Ok(())
+}
+
+/// One that is too long isn't: the put that is to fail is that of the line behind it.
+#[test]
+fn a_block_above_the_limit(rt: HostRuntime) -> Result<(), Fail> {
     let too_long = long_script(rt.alloc(), LONGEST_KEY + 1, "set /b 2\nroot\n")?;
     let refused = format!(in rt.alloc(); "no 9 size\nno 12 store\n{EMPTY}")?;
     let case = Case {

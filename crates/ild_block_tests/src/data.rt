@@ -19,52 +19,69 @@ fn faults(rt: &impl Abort, bytes: &[u8], want: Option<CidFault>) {
     assert_eq!(rt; CidRef::read(bytes).err(), want);
 }
 
-#[test]
-fn varints(rt: HostRuntime) {
-    faults(&rt, &[], Some(CidFault::Short));
-    faults(&rt, &[0x81, 0x00], Some(CidFault::Varint));
-    faults(&rt, &[1, 0x80, 0x80, 0x00], Some(CidFault::Varint));
-    faults(
-        &rt,
+/// Bytes, and why they are no CID: by a varint, or by what it says.
+const VARINTS: [(&[u8], Option<CidFault>); 8] = [
+    (&[], Some(CidFault::Short)),
+    (&[0x81, 0x00], Some(CidFault::Varint)),
+    (&[1, 0x80, 0x80, 0x00], Some(CidFault::Varint)),
+    (
         &[1, 0x80, 0x80, 0x80, 0x80, 0x80, 0x80, 0x80, 0x80],
         Some(CidFault::Short),
-    );
-    faults(
-        &rt,
+    ),
+    (
         &[1, 0x80, 0x80, 0x80, 0x80, 0x80, 0x80, 0x80, 0x80, 0x80],
         Some(CidFault::Varint),
-    );
-    faults(
-        &rt,
+    ),
+    (
         &[
             1, 0xff, 0xff, 0xff, 0xff, 0xff, 0xff, 0xff, 0xff, 0x7f, 0, 0,
         ],
         None,
-    );
-    faults(&rt, &[1, 0, 0, 0], None);
-    faults(&rt, &[2, 0, 0, 0], Some(CidFault::Version));
+    ),
+    (&[1, 0, 0, 0], None),
+    (&[2, 0, 0, 0], Some(CidFault::Version)),
+];
+
+/// By a digest. A CIDv0 is refused by its first byte.
+const DIGESTS: [(&[u8], Option<CidFault>); 4] = [
+    (
+        &[0x12, 0x20, 0, 0, 0, 0, 0, 0, 0, 0],
+        Some(CidFault::Version),
+    ),
+    (&[1, 0x71, 0x12, 65], Some(CidFault::Long)),
+    (&[1, 0x71, 0x12, 0, 7], Some(CidFault::Rest)),
+    (&ZERO, None),
+];
+
+#[test]
+fn varints(rt: HostRuntime) {
+    for (bytes, want) in &VARINTS {
+        faults(&rt, bytes, *want);
+    }
 }
 
 #[test]
 fn digests(rt: HostRuntime) {
-    // A CIDv0 is refused by its first byte.
-    faults(
-        &rt,
-        &[0x12, 0x20, 0, 0, 0, 0, 0, 0, 0, 0],
-        Some(CidFault::Version),
-    );
-    faults(&rt, &[1, 0x71, 0x12, 65], Some(CidFault::Long));
-    faults(&rt, &[1, 0x71, 0x12, 0, 7], Some(CidFault::Rest));
+    for (bytes, want) in &DIGESTS {
+        faults(&rt, bytes, *want);
+    }
+}
+
+#[test]
+fn fronts_of_a_cid(rt: HostRuntime) {
+    for n in 0..36 {
+        faults(&rt, &ZERO[..n], Some(CidFault::Short));
+    }
+}
+
+#[test]
+fn longest_digests(rt: HostRuntime) {
     let mut long = [0; 69];
     long[..4].copy_from_slice(&[1, 0x71, 0x12, 65]);
     faults(&rt, &long, Some(CidFault::Long));
     long[3] = 64;
     faults(&rt, &long, Some(CidFault::Rest));
     faults(&rt, &long[..68], None);
-    faults(&rt, &ZERO, None);
-    for n in 0..36 {
-        faults(&rt, &ZERO[..n], Some(CidFault::Short));
-    }
 }
 
 fn parts(rt: &impl Abort, bytes: &[u8], codec: u64, hash: u64, digest: &[u8]) -> Result<(), Fail> {
@@ -88,10 +105,21 @@ fn shown(rt: HostRuntime) -> Result<(), Fail> {
     let largest = [
         1, 0xff, 0xff, 0xff, 0xff, 0xff, 0xff, 0xff, 0xff, 0x7f, 0, 0,
     ];
-    parts(&rt, &largest, 0x7fff_ffff_ffff_ffff, 0, &[])?;
-    assert_eq!(rt; CidRef::read(&ZERO)?.block(), Some(BlockId([0; 32])));
-    assert_eq!(rt; CidRef::read(&[1, 0x71, 0x12, 1, 0])?.block(), None);
-    assert_eq!(rt; CidRef::read(&[1, 0x55, 0x12, 0])?.block(), None);
+    parts(&rt, &largest, 0x7fff_ffff_ffff_ffff, 0, &[])
+}
+
+/// CIDs, and the blocks of DAG-CBOR that they name.
+const NAMED: [(&[u8], Option<BlockId>); 3] = [
+    (&ZERO, Some(BlockId([0; 32]))),
+    (&[1, 0x71, 0x12, 1, 0], None),
+    (&[1, 0x55, 0x12, 0], None),
+];
+
+#[test]
+fn blocks_of_cids(rt: HostRuntime) -> Result<(), Fail> {
+    for (bytes, want) in NAMED {
+        assert_eq!(rt; CidRef::read(bytes)?.block(), want);
+    }
     Ok(())
 }
 
@@ -103,49 +131,48 @@ fn same_text(rt: &impl Abort, alloc: Global, bytes: &[u8], text: &str) -> Result
     Ok(())
 }
 
-#[test]
-fn texts(rt: HostRuntime) -> Result<(), Fail> {
-    let alloc = rt.alloc();
-    assert_eq!(rt; BlockId([0; 32]).text(alloc)?.as_str(), ZERO_TEXT);
-    same_text(&rt, alloc, &ZERO, ZERO_TEXT)?;
-    // The example of the CID pages (dag-pb), `hello world` (raw), and a block of DAG-CBOR.
-    same_text(
-        &rt,
-        alloc,
+/// CIDs and their texts: the example of the CID pages (dag-pb), `hello world` (raw), a block of DAG-CBOR, and short ones.
+const TEXTS: [(&[u8], &str); 6] = [
+    (&ZERO, ZERO_TEXT),
+    (
         &[
             0x01, 0x70, 0x12, 0x20, 0xc3, 0xc4, 0x73, 0x3e, 0xc8, 0xaf, 0xfd, 0x06, 0xcf, 0x9e,
             0x9f, 0xf5, 0x0f, 0xfc, 0x6b, 0xcd, 0x2e, 0xc8, 0x5a, 0x61, 0x70, 0x00, 0x4b, 0xb7,
             0x09, 0x66, 0x9c, 0x31, 0xde, 0x94, 0x39, 0x1a,
         ],
         "bafybeigdyrzt5sfp7udm7hu76uh7y26nf3efuylqabf3oclgtqy55fbzdi",
-    )?;
-    same_text(
-        &rt,
-        alloc,
+    ),
+    (
         &[
             0x01, 0x55, 0x12, 0x20, 0xb9, 0x4d, 0x27, 0xb9, 0x93, 0x4d, 0x3e, 0x08, 0xa5, 0x2e,
             0x52, 0xd7, 0xda, 0x7d, 0xab, 0xfa, 0xc4, 0x84, 0xef, 0xe3, 0x7a, 0x53, 0x80, 0xee,
             0x90, 0x88, 0xf7, 0xac, 0xe2, 0xef, 0xcd, 0xe9,
         ],
         "bafkreifzjut3te2nhyekklss27nh3k72ysco7y32koao5eei66wof36n5e",
-    )?;
-    same_text(
-        &rt,
-        alloc,
+    ),
+    (
         &[
             0x01, 0x71, 0x12, 0x20, 0x78, 0x51, 0x97, 0x22, 0x9d, 0xc8, 0xbb, 0x11, 0x52, 0x94,
             0x5d, 0xa5, 0x8e, 0x23, 0x48, 0xf7, 0xe2, 0x79, 0xee, 0xde, 0xd0, 0x6c, 0xc2, 0xca,
             0x73, 0x6d, 0x0e, 0x87, 0x98, 0x58, 0xb5, 0x01,
         ],
         "bafyreidykglsfhoixmivffc5uwhcgshx4j465xwqntbmu43nb2dzqwfvae",
-    )?;
-    same_text(
-        &rt,
-        alloc,
-        &[1, 0xa9, 0x02, 0xa2, 0x20, 2, 8, 9],
-        "baguqfiraaieas",
-    )?;
-    same_text(&rt, alloc, &[1, 0x71, 0, 0], "bafyqaaa")?;
+    ),
+    (&[1, 0xa9, 0x02, 0xa2, 0x20, 2, 8, 9], "baguqfiraaieas"),
+    (&[1, 0x71, 0, 0], "bafyqaaa"),
+];
+
+#[test]
+fn texts(rt: HostRuntime) -> Result<(), Fail> {
+    for (bytes, text) in &TEXTS {
+        same_text(&rt, rt.alloc(), bytes, text)?;
+    }
+    Ok(())
+}
+
+#[test]
+fn text_of_a_block_id(rt: HostRuntime) -> Result<(), Fail> {
+    assert_eq!(rt; BlockId([0; 32]).text(rt.alloc())?.as_str(), ZERO_TEXT);
     Ok(())
 }
 
@@ -156,32 +183,34 @@ fn refused(rt: &impl Abort, alloc: Global, text: &str, want: TextErr) {
     }
 }
 
+/// Texts that are none of a CID.
+const NO_TEXTS: [(&str, TextErr); 14] = [
+    ("", TextErr::Prefix),
+    (
+        "zafyreiaaaaaaaaaaaaaaaaaaaaaaaaaaaaaaaaaaaaaaaaaaaaaaaaaaaa",
+        TextErr::Prefix,
+    ),
+    ("BAFYREIA", TextErr::Prefix),
+    ("bAE", TextErr::Digit),
+    ("ba1", TextErr::Digit),
+    ("ba8", TextErr::Digit),
+    ("baé", TextErr::Digit),
+    ("bae======", TextErr::Digit),
+    ("ba", TextErr::Bits),
+    ("baf", TextErr::Bits),
+    (
+        "bafyreiaaaaaaaaaaaaaaaaaaaaaaaaaaaaaaaaaaaaaaaaaaaaaaaaaaab",
+        TextErr::Bits,
+    ),
+    ("b", TextErr::Cid(CidFault::Short)),
+    ("bae", TextErr::Cid(CidFault::Short)),
+    ("bci", TextErr::Cid(CidFault::Version)),
+];
+
 #[test]
 fn no_texts(rt: HostRuntime) {
-    let alloc = rt.alloc();
-    for (text, want) in [
-        ("", TextErr::Prefix),
-        (
-            "zafyreiaaaaaaaaaaaaaaaaaaaaaaaaaaaaaaaaaaaaaaaaaaaaaaaaaaaa",
-            TextErr::Prefix,
-        ),
-        ("BAFYREIA", TextErr::Prefix),
-        ("bAE", TextErr::Digit),
-        ("ba1", TextErr::Digit),
-        ("ba8", TextErr::Digit),
-        ("baé", TextErr::Digit),
-        ("bae======", TextErr::Digit),
-        ("ba", TextErr::Bits),
-        ("baf", TextErr::Bits),
-        (
-            "bafyreiaaaaaaaaaaaaaaaaaaaaaaaaaaaaaaaaaaaaaaaaaaaaaaaaaaab",
-            TextErr::Bits,
-        ),
-        ("b", TextErr::Cid(CidFault::Short)),
-        ("bae", TextErr::Cid(CidFault::Short)),
-        ("bci", TextErr::Cid(CidFault::Version)),
-    ] {
-        refused(&rt, alloc, text, want);
+    for (text, want) in NO_TEXTS {
+        refused(&rt, rt.alloc(), text, want);
     }
 }
 
@@ -238,11 +267,15 @@ fn paths_hold_segments(rt: HostRuntime) -> Result<(), Fail> {
 }
 
 #[test]
-fn orders_and_ranges(rt: HostRuntime) {
+fn orders(rt: HostRuntime) {
     for (less, more) in [("", "a"), ("b", "aa"), ("a", "b"), ("z", "é")] {
         assert!(rt; key_less(less, more), "{less} before {more}");
         assert!(rt; !key_less(more, less), "{more} not before {less}");
     }
+}
+
+#[test]
+fn ranges(rt: HostRuntime) {
     for (number, held) in [
         (-0x8000_0000_0000_0000, true),
         (-0x8000_0000_0000_0001, false),

@@ -52,7 +52,7 @@ fn put_together(tree: Tree) -> Tree {
 #[test]
 fn copies_and_parts(rt: HostRuntime) -> Result<(), Fail> {
     for text in TREES {
-        let tree = read(rt.alloc(), text.as_bytes()).map_err(|_| "a json text")?;
+        let tree = read(rt.alloc(), text.as_bytes()).ok().ok_or("a json text")?;
         let copy = tree.copy()?;
         same_blocks(&rt, rt.alloc(), text, &tree, &copy)?;
         same_blocks(&rt, rt.alloc(), text, &tree, &put_together(copy))?;
@@ -61,7 +61,7 @@ fn copies_and_parts(rt: HostRuntime) -> Result<(), Fail> {
 }
 
 #[test]
-fn paths_and_cids(rt: HostRuntime) -> Result<(), Fail> {
+fn paths(rt: HostRuntime) -> Result<(), Fail> {
     let mut segments = Vec::new(rt.alloc());
     for segment in ["a", "", "é"] {
         segments.push(Txt::of(rt.alloc(), segment)?)?;
@@ -72,11 +72,13 @@ fn paths_and_cids(rt: HostRuntime) -> Result<(), Fail> {
     assert_eq!(rt; back.len(), 3);
     let last = back.last().ok_or("a segment")?;
     assert_eq!(rt; last.as_str(), "é");
-    let cid = cid_of_text(
-        rt.alloc(),
-        "bafyreiaaaaaaaaaaaaaaaaaaaaaaaaaaaaaaaaaaaaaaaaaaaaaaaaaaaa",
-    )
-    .map_err(|_| "a CID")?;
+    Ok(())
+}
+
+#[test]
+fn cids(rt: HostRuntime) -> Result<(), Fail> {
+    let text = "bafyreiaaaaaaaaaaaaaaaaaaaaaaaaaaaaaaaaaaaaaaaaaaaaaaaaaaaa";
+    let cid = cid_of_text(rt.alloc(), text).ok().ok_or("a CID")?;
     let copy: Cid = cid.copy()?;
     assert_eq!(rt; copy.as_slice(), cid.as_slice());
     Ok(())

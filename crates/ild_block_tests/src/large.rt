@@ -15,19 +15,30 @@ const VARINT: &[u8] = b"\xff\xff\xff\xff\xff\xff\xff\xff\x7f";
 const CID: &str =
     "bah77777777777737777777777777672aljnfuws2ljnfuws2ljnfuws2ljnfuws2ljnfuws2ljnfuws2ljnfuws2ljnfuws2ljnfuws2ljnfuws2ljnfuws2ljnfuws2ljnfuwq";
 
-#[test]
-fn a_cid_of_the_longest_parts(rt: HostRuntime) -> Result<(), Fail> {
-    let mut bytes = Vec::new(rt.alloc());
+fn longest_cid(alloc: Global) -> Result<Vec<u8>, AllocError> {
+    let mut bytes = Vec::new(alloc);
     bytes.push(1)?;
     bytes.extend_from_slice(VARINT)?;
     bytes.extend_from_slice(VARINT)?;
     bytes.push(64)?;
     bytes.resize(84, 0x5a)?;
-    let cid = CidRef::read(&bytes).map_err(|_| "a CID")?;
+    Ok(bytes)
+}
+
+#[test]
+fn a_cid_of_the_longest_parts(rt: HostRuntime) -> Result<(), Fail> {
+    let bytes = longest_cid(rt.alloc())?;
+    let cid = CidRef::read(&bytes).ok().ok_or("a CID")?;
     assert_eq!(rt; cid_text(rt.alloc(), &cid)?.as_str(), CID);
-    let read = cid_of_text(rt.alloc(), CID).map_err(|_| "a text")?;
-    assert_eq!(rt; read.as_slice(), bytes.as_slice());
     assert_eq!(rt; cid.own(rt.alloc())?.as_slice(), bytes.as_slice());
+    Ok(())
+}
+
+#[test]
+fn a_text_of_the_longest_parts(rt: HostRuntime) -> Result<(), Fail> {
+    let bytes = longest_cid(rt.alloc())?;
+    let read = cid_of_text(rt.alloc(), CID).ok().ok_or("a text")?;
+    assert_eq!(rt; read.as_slice(), bytes.as_slice());
     Ok(())
 }
 
@@ -60,12 +71,26 @@ fn block_of(alloc: Global, tree: &Tree) -> Result<Octets, AllocError> {
     Ok(emit.finish())
 }
 
+/// The tree of that object.
+fn tree(alloc: Global) -> Result<Tree, Fail> {
+    let text = object(alloc)?;
+    Ok(read(alloc, text.as_bytes()).ok().ok_or("a json text")?)
+}
+
 #[test]
-fn an_object_of_over_a_megabyte(rt: HostRuntime) -> Result<(), Fail> {
+fn an_object_of_over_a_megabyte_as_text(rt: HostRuntime) -> Result<(), Fail> {
     let text = object(rt.alloc())?;
-    let tree = read(rt.alloc(), text.as_bytes()).map_err(|_| "a json text")?;
-    let printed = print(rt.alloc(), &tree).map_err(|_| "a tree")?;
+    let tree = tree(rt.alloc())?;
+    let printed = print(rt.alloc(), &tree).ok().ok_or("a tree")?;
     assert!(rt; printed.as_str() == text.as_str());
+    let line = reply_text(rt.alloc(), &Reply::Ok(printed))?;
+    assert_eq!(rt; line.as_slice().len(), 3 + text.len() + 1);
+    Ok(())
+}
+
+#[test]
+fn an_object_of_over_a_megabyte_as_block(rt: HostRuntime) -> Result<(), Fail> {
+    let tree = tree(rt.alloc())?;
     let block = block_of(rt.alloc(), &tree)?;
     // 1,200 entries behind the head b9 04 b0, each of 6 + 1 + 3 + 1,000 bytes
     assert_eq!(rt; block.as_slice().len(), 1_212_003);
@@ -73,16 +98,19 @@ fn an_object_of_over_a_megabyte(rt: HostRuntime) -> Result<(), Fail> {
         &block.as_slice()[..14],
         b"\xb9\x04\xb0\x65k1000\x81\x79\x03\xe8a".as_slice()
     );
-    let node = check(block.as_slice()).map_err(|_| "a block")?;
+    let copy = block_of(rt.alloc(), &tree.copy()?)?;
+    assert!(rt; copy.as_slice() == block.as_slice());
+    Ok(())
+}
+
+#[test]
+fn a_node_of_over_a_megabyte(rt: HostRuntime) -> Result<(), Fail> {
+    let block = block_of(rt.alloc(), &tree(rt.alloc())?)?;
+    let node = check(block.as_slice()).ok().ok_or("a block")?;
     assert_eq!(rt; node.count(), Some(1200));
     let mut emit = Emit::new(rt.alloc());
     emit.node(&node)?;
     assert!(rt; emit.finish().as_slice() == block.as_slice());
-    let copy = block_of(rt.alloc(), &tree.copy()?)?;
-    assert!(rt; copy.as_slice() == block.as_slice());
-    let reply = Reply::Ok(printed);
-    let line = reply_text(rt.alloc(), &reply)?;
-    assert_eq!(rt; line.as_slice().len(), 3 + text.len() + 1);
     Ok(())
 }
 
