@@ -7,11 +7,12 @@ use Rattle.std.specs.Ordering.{is_lt}
 use Rattle.std.specs.FinMap.{is_sorted}
 use Rattle.std.specs.FinMap.Entries.{below_all}
 use Rattle.std.proofs.lemmas.Bool.{and_parts, and_from}
-use Rattle.ild_data.specs.Data.{Data, depth}
+use Rattle.ild_data.specs.Data.{Data}
 use Rattle.ild_data.specs.ByteOrder.{bytewise}
 use Rattle.ild_data.specs.TrieShape.{TrieShape, index}
 use Rattle.ild_data.specs.Trie.{part, at_depth}
 use Rattle.ild_typed.proofs.NodeEntries.{T_of, true_of}
+use Rattle.ild_typed.specs.Nested.{TreeIn}
 use Rattle.ild_node.specs.Rows.{AreRows, deepest_value}
 use Rattle.ild_bulk.specs.declared.keyed.Keyed.{Keyed}
 use Rattle.ild_bulk.specs.Keyed.{AreKeyed, Parted, keyed_index, keyed_rows, keyed_seen}
@@ -85,7 +86,7 @@ pub rows-part : (at : Keyed → ℕ) (count : ℕ) (ks : List Keyed) (parts : Li
 rows-part at count ks parts i v parted lt is rows =
     let items : v.items ≡ filter (λ k. at k == i) ks = ap (λ (w : Vec Keyed). w.items) is ∙ parted.each i v lt in
     subst (λ (xs : List Keyed). AreRows (keyed_rows xs)) (sym items)
-    (T_of _ (order_part (λ k. at k == i) ks (true_of _ rows.0)), rows_part (λ e. IsUtf8 e.0) (λ k. at k == i) ks rows.1, rows_part (λ e. depth e.1 ≤ deepest_value) (λ k. at k == i) ks rows.2)
+    (T_of _ (order_part (λ k. at k == i) ks (true_of _ rows.0)), rows_part (λ e. IsUtf8 e.0) (λ k. at k == i) ks rows.1, rows_part (λ e. TreeIn deepest_value e.1) (λ k. at k == i) ks rows.2)
 
 pub keyed-part : (h : List ℕ → List ℕ) (at : Keyed → ℕ) (count : ℕ) (ks : List Keyed) (parts : List (Vec Keyed)) (i : ℕ) (v : Vec Keyed) → Parted at count ks parts → i < count → v ≡ get_or parts i v → AreKeyed h ks → AreKeyed h v.items
 keyed-part h at count ks parts i v parted lt is all =

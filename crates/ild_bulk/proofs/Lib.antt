@@ -5,3 +5,4 @@ pub mod Building
 pub mod Puts
 pub mod Tries
 pub mod Plans
+pub mod Nests

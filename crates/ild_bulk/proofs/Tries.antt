@@ -36,7 +36,7 @@ once (e ∷ es) order =
     let parts = and_parts (below_all bytewise e.0 es) (is_sorted bytewise es) order in
     (λ i. not (is_some (no_find e.0 es parts.0 i)) && once es parts.1 i)
 
-trie-rows : (h : List ℕ → List ℕ) (p : TrieShape) (es : List (List ℕ × Data)) → AreRows es → trie h p es 0 ≡ node_of h p (trie_levels p - 0) 0 es
+pub trie-rows : (h : List ℕ → List ℕ) (p : TrieShape) (es : List (List ℕ × Data)) → AreRows es → trie h p es 0 ≡ node_of h p (trie_levels p - 0) 0 es
 trie-rows h p es rows = trie-sorted h p es 0 (once es (true_of _ rows.0)) ∙ ap (node_of h p (trie_levels p - 0) 0) (sorted_in_order es rows.0)
 
 node_in : (o : Option Data) (root : List ℕ) → Some root ≡ option_map spell o → (node : Data) × (o ≡ Some node) × (root ≡ spell node)

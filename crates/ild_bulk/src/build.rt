@@ -1,8 +1,10 @@
 //! A HAMT from its entries.
-ghost use Rattle.std.specs.Prelude.{◌≡◌};
+ghost use Rattle.std.specs.Prelude.{◌≡◌, ◌∷◌, IfOk};
+ghost use Rattle.std.specs.List.{AllByRecursion};
 ghost use Rattle.ild_edges.specs.Told.{BothTold};
 ghost use Rattle.ild_typed.specs.Composed.{usual};
-ghost use Rattle.ild_bulk.specs.Build.{Builds, is_long, any_long};
+ghost use Rattle.ild_typed.specs.Nested.{IsBlock};
+ghost use Rattle.ild_bulk.specs.Build.{Builds, is_long, any_long, plan_of};
 ghost use Rattle.ild_bulk.specs.Children.{AddsWhole};
 
 use crate::plan::{keyed, plan_node};
@@ -39,6 +41,8 @@ pub fn from_entries<K: Store, H: KeyHash>(
     store: &mut K,
 ) -> Result<Octets, HamtFault>
     ensures built { Builds H.hash_of usual entries.now (K.moment store.old) result (K.moment store.new) }
+    // The root and the blocks beneath it are such as a reader of blocks accepts.
+    ensures within { IfOk result (λ root. AllByRecursion IsBlock (root ∷ plan_of H.hash_of usual entries.now)) }
     // However it ends, each block that it added has all its children held.
     ensures children { BothTold (K.moment store.old).blocks (K.moment store.new).blocks AddsWhole }
 {

@@ -8,3 +8,4 @@ pub mod Pushing
 pub mod Rooting
 pub mod Writing
 pub mod Nodes
+pub mod Counts

@@ -48,15 +48,8 @@ node-block slots b many all is = record {
 pub empty-sound : IsSound usual empty
 empty-sound = record { form = tt; values = tt }
 
-values_in : (es : List (List ℕ × Data)) → AreShallow es → AllByRecursion (λ e. IsTree e.1) es → AllByRecursion (λ e. TreeIn deepest_value e.1) es
-values_in [] shallow trees = tt
-values_in (e ∷ es) shallow trees = (record { tree = trees.0; nested = shallow.0 }, values_in es shallow.1 trees.1)
-
-bucket-sound : (es : List (List ℕ × Data)) → AreRows es → IsFilled usual (N.Bucket es) → AllByRecursion (λ e. IsTree e.1) es → IsSound usual (bucket es)
-bucket-sound es rows filled trees = record { form = (rows.0, filled.0, filled.1, rows.1); values = values_in es rows.2 trees }
-
-pub bucket-on : {E : Type 0} (r : Result (Unit {0}) E) (es : List (List ℕ × Data)) → OnOk r (AreRows es × AllByRecursion (λ e. IsTree e.1) es) → IsFilled usual (N.Bucket es) → OnOk r (IsSound usual (bucket es))
-bucket-on (Ok x) es rows filled = bucket-sound es rows.0 filled rows.1
+pub bucket-on : {E : Type 0} (r : Result (Unit {0}) E) (es : List (List ℕ × Data)) → AreRows es → IsFilled usual (N.Bucket es) → OnOk r (IsSound usual (bucket es))
+bucket-on (Ok x) es rows filled = record { form = (rows.0, filled.0, filled.1, rows.1); values = rows.2 }
 bucket-on (Err e) es rows filled = tt
 
 pub child-sound : (id : List ℕ) → length id ≡ 32 → AreBytes id → IsSound usual (child id)

@@ -9,6 +9,7 @@ use Rattle.std.proofs.lemmas.List.{map-append}
 use Rattle.ild_data.specs.Data.{Data, depth}
 use Rattle.ild_data.specs.ByteOrder.{bytewise, IsInOrder}
 use Rattle.ild_trie.proofs.Parts.{total}
+use Rattle.ild_typed.specs.Nested.{TreeIn}
 use Rattle.ild_node.specs.Form.{AreTexts}
 use Rattle.ild_node.specs.Rows.{row_seen, rows_seen, AreRows, AreShallow, IsAbove, deepest_value}
 use Rattle.ild_node.specs.declared.row.Row.{Row}
@@ -46,11 +47,11 @@ order-pushed (f ∷ es) e order above =
     and_from (below_all bytewise f.0 (es ++ e ∷ [])) (is_sorted bytewise (es ++ e ∷ []))
     (below-pushed f.0 es e parts.0 (below-new f es e.0 parts.0 above)) (order-pushed es e parts.1 (above-rest f es e.0 above))
 
-shallow-pushed : (es : List (List ℕ × Data)) (e : List ℕ × Data) → AreShallow es → depth e.1 ≤ deepest_value → AreShallow (es ++ e ∷ [])
+shallow-pushed : (es : List (List ℕ × Data)) (e : List ℕ × Data) → AreShallow es → TreeIn deepest_value e.1 → AreShallow (es ++ e ∷ [])
 shallow-pushed [] e all is = (is, tt)
 shallow-pushed (f ∷ es) e all is = (all.0, shallow-pushed es e all.1 is)
 
-pub rows-pushed : (rows new : List Row) (r : Row) (k : List ℕ) → new ≡ rows ++ r ∷ [] → r.key ≡ k → AreRows (rows_seen rows) → IsAbove k (rows_seen rows) → IsUtf8 k → depth r.value ≤ deepest_value → AreRows (rows_seen new)
+pub rows-pushed : (rows new : List Row) (r : Row) (k : List ℕ) → new ≡ rows ++ r ∷ [] → r.key ≡ k → AreRows (rows_seen rows) → IsAbove k (rows_seen rows) → IsUtf8 k → TreeIn deepest_value r.value → AreRows (rows_seen new)
 rows-pushed rows new r k is key all above utf8 nested =
     subst (λ (es : List (List ℕ × Data)). AreRows es) (sym (ap rows_seen is ∙ map-append row_seen rows (r ∷ []))) (
       T_of _ (order-pushed (rows_seen rows) (row_seen r) (true_of _ all.0) (subst (λ (x : List ℕ). IsAbove x (rows_seen rows)) (sym key) above)),

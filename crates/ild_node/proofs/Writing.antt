@@ -86,10 +86,6 @@ all-at P [] i x all lt is = absurd (omega arith)
 all-at P (y ∷ xs) zero x all lt is = subst P (sym is) all.0
 all-at P (y ∷ xs) (suc i) x all lt is = all-at P xs i x all.1 (omega arith) is
 
-pub rows-all : (P : List ℕ × Data → Type 0) (rows : List Row) → AllByRecursion (λ r. P (row_seen r)) rows → AllByRecursion P (rows_seen rows)
-rows-all P [] all = tt
-rows-all P (r ∷ rows) all = (all.0, rows-all P rows all.1)
-
 -- ---- the map
 
 pub byte-more : (bits piece : List Bool) (j b : ℕ) (old new : List ℕ) → old ≡ map (λ k. byte_of (take 8 (drop (8 * k) bits))) (range_with_len 0 j) → piece ≡ take (8 * j + 8 - 8 * j) (drop (8 * j) bits)

@@ -10,3 +10,4 @@ pub mod Rows
 pub mod NewSlots
 pub mod Roots
 pub mod Written
+pub mod Laws

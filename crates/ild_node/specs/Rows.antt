@@ -7,6 +7,7 @@ use Rattle.ild_data.specs.Spell.{spell}
 use Rattle.ild_data.specs.ByteOrder.{bytewise, IsInOrder}
 use Rattle.ild_cbor.specs.Nodes.{Stands}
 use Rattle.ild_cbor.specs.declared.node.Node.{Node}
+use Rattle.ild_typed.specs.Nested.{TreeIn}
 use Rattle.ild_node.specs.Form.{AreTexts}
 use Rattle.ild_node.specs.declared.row.Row.{Row}
 
@@ -21,9 +22,9 @@ abbrev pub deepest_value : ℕ
 deepest_value = 92
 
 abbrev pub AreShallow : List (List ℕ × Data) → Type 0
-AreShallow es = AllByRecursion (λ e. depth e.1 ≤ deepest_value) es
+AreShallow es = AllByRecursion (λ e. TreeIn deepest_value e.1) es
 
--- rows in the bytewise order of their keys, which are UTF-8, and whose values leave room for the node around them
+-- rows in the bytewise order of their keys, which are UTF-8, and whose values are trees that leave room for the node around them
 abbrev pub AreRows : List (List ℕ × Data) → Type 0
 AreRows es = IsInOrder es × AreTexts es × AreShallow es
 

@@ -4,6 +4,7 @@
 mod bucket;
 mod fault;
 mod hold;
+mod laws;
 mod level;
 mod node;
 mod parts;
@@ -20,6 +21,7 @@ mod write;
 pub use bucket::Bucket;
 pub use fault::HamtFault;
 pub use hold::{NewHold, NewSlot};
+pub use laws::{one_node, written_are_read};
 pub use level::index;
 pub use node::node_of;
 pub use root::root_of;

@@ -1,5 +1,5 @@
 //! The parts of nodes and buckets, item by item.
-ghost use Rattle.std.specs.Prelude.{◌≡◌, ℕ, List, ◌↔◌, IsTrue, option_map, map, None, Some};
+ghost use Rattle.std.specs.Prelude.{◌≡◌, ◌≤◌, slice_index, ℕ, List, ◌↔◌, IsTrue, option_map, map, None, Some};
 ghost use Rattle.std.specs.FinMap.{find};
 ghost use Rattle.ild_data.specs.Data.{Data, Items as DataItems, items_of, bytes, list};
 ghost use Rattle.ild_cbor.specs.Nodes.{Stands};
@@ -8,7 +8,7 @@ ghost use Rattle.ild_cbor.specs.Steps.{HasItems};
 ghost use Rattle.ild_data.specs.ByteOrder.{bytewise};
 ghost use Rattle.ild_data.specs.Trie.{entry_data};
 ghost use Rattle.ild_typed.specs.NodeReading.{text_in, pair_in, entry_in, rises, are_entries, bucket_fits, child_in, element_fits, map_bit, map_bits, elements_fit, parts_fit};
-ghost use Rattle.ild_node.specs.Reading.{ones_below};
+ghost use Rattle.ild_node.specs.Reading.{byte_ones, ones_below};
 ghost use Rattle.ild_node.specs.Items.{IsAtItem};
 ghost use Rattle.ild_node.specs.Parts.{PairIs, EntryIn, shape_of};
 ghost use Rattle.ild_node.specs.Views.{ValueIn};
@@ -137,12 +137,26 @@ pub(crate) fn map_bit(ones: &[u8], i: usize) -> bool
     }
 }
 
-/// How many slots before this one are used.
+// How many bits of a byte are set. A byte past the last has none.
+fn ones_in(ones: &[u8], j: usize) -> u64
+    ensures count { result ≡ byte_ones (slice_index ones.now j) 8 }
+    ensures few { result ≤ 8 }
+{
+    match ones.get(j) {
+        Some(byte) => byte.count_ones() as u64,
+        None => 0,
+    }
+}
+
+/// How many slots before this one are used: those of whole bytes, and then bit by bit in its own byte.
 pub(crate) fn ones_below(ones: &[u8], i: usize) -> u64
     ensures { result ≡ ones_below ones.now i }
 {
     let mut below = 0;
-    for j in 0..i {
+    for j in 0..i / 8 {
+        below += ones_in(ones, j);
+    }
+    for j in 8 * (i / 8)..i {
         if map_bit(ones, j) {
             below += 1;
         }

@@ -32,9 +32,11 @@ impl Model for Spelled {
 impl Spelled {
     /// The spelling of a node, copied from its block.
     pub fn of(alloc: Global, node: &Node<'_>) -> Result<Spelled, AllocError>
-        ensures { (t : Data) → Stands node.now t → IfOk result (λ s. s ≡ t) }
+        ensures same { (t : Data) → Stands node.now t → IfOk result (λ s. s ≡ t) }
+        ensures within { IfOk result IsWithin }
     {
         let bytes = Octets::of(alloc, node.spelling())?;
+        let _bytes = bytes.as_slice();
         Ok(Spelled { bytes })
     }
 

@@ -4,7 +4,6 @@ ghost use Rattle.std.specs.List.{AllByRecursion, range_with_len};
 ghost use Rattle.ild_data.specs.Bytes.{AreBytes};
 ghost use Rattle.ild_data.specs.Data.{Data};
 ghost use Rattle.ild_data.specs.Spell.{head, spell, spell_bytes};
-ghost use Rattle.ild_data.specs.Tree.{IsTree};
 ghost use Rattle.ild_data.specs.Trie.{byte_of, is_used, elements_of, entry_data};
 ghost use Rattle.ild_cbor.specs.Nodes.{Stands};
 ghost use Rattle.ild_typed.specs.Composed.{usual};
@@ -120,8 +119,7 @@ fn begin(alloc: Global, used: &[bool], elements: u64) -> Result<Emit, AllocError
 
 // Appends an entry of a bucket. An error may leave the front of it.
 fn add_entry(out: &mut Emit, row: &Row) -> Result<(), AllocError>
-    ensures entry { OnOk result (out.new ≡ out.old ++ spell (entry_data (row_seen row.now))) }
-    ensures value { OnOk result (IsTree (row_seen row.now).1) }
+    ensures { OnOk result (out.new ≡ out.old ++ spell (entry_data (row_seen row.now))) }
 {
     out.head(4, 2)?;
     out.bytes(row.key.as_str().as_bytes())?;
@@ -130,7 +128,7 @@ fn add_entry(out: &mut Emit, row: &Row) -> Result<(), AllocError>
 
 fn add_bucket(out: &mut Emit, rows: &Rows) -> Result<(), AllocError>
     ensures bucket { OnOk result (out.new ≡ out.old ++ spell (bucket_data rows.now)) }
-    ensures values { OnOk result (AreRows rows.now × AllByRecursion (λ e. IsTree e.1) rows.now) }
+    ensures rows { AreRows rows.now }
 {
     let rows = rows.as_slice();
     out.head(4, rows.len() as u64)?;

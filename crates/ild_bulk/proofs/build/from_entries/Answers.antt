@@ -8,6 +8,7 @@ use Rattle.ild_bulk.specs.Build.{plan_of}
 use Rattle.ild_bulk.specs.Putting.{PutsAll}
 use Rattle.ild_bulk.specs.Planned.{PlansNode}
 use Rattle.ild_bulk.proofs.Childs.{plan-follows, puts-whole}
+use Rattle.ild_bulk.proofs.Nests.{short-blocks}
 use Rattle.ild_bulk.proofs.Tries.{plan-stopped, build-long, build-short, puts-plan, stops-any, node-as}
 use Rattle.ild_bulk.proofs.build.from_entries.Goals as goal
 
@@ -63,3 +64,11 @@ returns-clause-children g c =
     (c.in_ok-root.ensures g.H.KeyHash.hash_of (subst (λ (ks : List Keyed). AreKeyed g.H.KeyHash.hash_of ks) (sym c.deref.ensures.value) c.in_ok-keyed.ensures.hashes)) in
     puts-whole _ _ (plan_of g.H.KeyHash.hash_of usual c.args.entries.now) (Ok tt) (plan-follows g.H.KeyHash.hash_of usual (trie_levels usual) 0 c.args.entries.now [])
     (puts-plan g.H.KeyHash.hash_of usual c.args.entries.now (keyed_rows c.in_ok-keyed.keyed.items) c.in_ok-root.root c.new-blocks.result.items c.plan_node.new.blocks.items c.deref-3.result.now _ (Ok tt) _ (c.in_ok-keyed.ensures.rows ∙ c.as_slice.ensures.same) c.new-blocks.ensures.items planned c.deref-3.ensures.value c.in_ok-put_all.ensures)
+
+pub returns-clause-within : goal.returns-clause-within
+returns-clause-within g c =
+    let planned = node-as g.H.KeyHash.hash_of usual c.deref.result.now c.in_ok-keyed.keyed.items (Ok c.in_ok-root.root) c.new-blocks.result.items c.plan_node.new.blocks.items c.deref.ensures.value
+    (c.in_ok-root.ensures g.H.KeyHash.hash_of (subst (λ (ks : List Keyed). AreKeyed g.H.KeyHash.hash_of ks) (sym c.deref.ensures.value) c.in_ok-keyed.ensures.hashes)) in
+    short-blocks g.H.KeyHash.hash_of c.args.entries.now c.in_ok-root.root c.as_slice.ensures.rows
+    (build-short g.H.KeyHash.hash_of usual c.args.entries.now (keyed_rows c.in_ok-keyed.keyed.items) c.in_ok-root.root c.new-blocks.result.items c.plan_node.new.blocks.items c.deref-2.result.now c.is_long.result c.any_long.result (c.in_ok-keyed.ensures.rows ∙ c.as_slice.ensures.same) c.as_slice.ensures.rows c.new-blocks.ensures.items planned
+    c.deref-2.ensures.value c.is_long.ensures c.any_long.ensures c.if-long.false)

@@ -10,4 +10,4 @@ use Rattle.ild_node.proofs.write.add_hold.Goals as goal
 pub returns-in-Bucket-clause-sound : goal.returns-in-Bucket-clause-sound
 returns-in-Bucket-clause-sound c =
     subst (λ (h : NewHold). IsFilled usual h → OnOk c.add_bucket.result (IsSound usual (hold_seen h))) (sym c.in-Bucket.is)
-    (λ filled. bucket-on c.add_bucket.result _ c.add_bucket.ensures.values filled) c.requires
+    (λ filled. bucket-on c.add_bucket.result _ c.add_bucket.ensures.rows filled) c.requires

@@ -11,4 +11,7 @@ pub invariant_of-self-2 : goal.invariant_of-self-2
 invariant_of-self-2 c =
     rows-pushed c.self.inside.rows.items _ _ c.args.key.now c.in_ok-push.ensures.items c.in_ok-of.ensures c.self.invariant
     (subst (λ (es : List (List ℕ × Data)). IsAbove c.args.key.now es) (sym c.self.view_is) c.requires.above) c.utf8.key
-    (∥∥₁_elim c.args.value.now.stands (hlevel props) (λ s. subst (λ (d : Data). depth d ≤ deepest_value) (sym (c.in_ok-of-2.ensures s.of s.spells)) (c.requires.nested s.of s.spells)))
+    (record {
+      tree = c.in_ok-of-2.ensures.within.tree;
+      nested = ∥∥₁_elim c.args.value.now.stands (hlevel props) (λ s. subst (λ (d : Data). depth d ≤ deepest_value) (sym (c.in_ok-of-2.ensures.same s.of s.spells)) (c.requires.nested s.of s.spells));
+    })
