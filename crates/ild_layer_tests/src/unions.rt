@@ -8,8 +8,13 @@ use ild_schema::{Accepted, TypeDef, TypeNo};
 use ild_union::layer;
 use std::test::Fail;
 
-const SRC: &str =
-    "type Dot struct { x Int } type Box struct { w Int h Int } type A string type B string type Raw bytes type More bytes type K union { | Dot \"dot\" | Box \"box\" } representation keyed type V union { | Dot \"dot\" | Box \"box\" } representation envelope { discriminantKey \"k\" contentKey \"c\" } type I union { | Dot \"dot\" | Box \"box\" } representation inline { discriminantKey \"k\" } type Q union { | Int int | String string | Box map | Bytes bytes } representation kinded type P union { | A \"a:\" | B \"b:\" } representation stringprefix type X union { | Raw \"01\" | More \"fF02\" } representation bytesprefix type Again = I";
+// Members that are told by keys of maps.
+const KEYS: &str =
+    "type Dot struct { x Int } type Box struct { w Int h Int } type K union { | Dot \"dot\" | Box \"box\" } representation keyed type V union { | Dot \"dot\" | Box \"box\" } representation envelope { discriminantKey \"k\" contentKey \"c\" } type I union { | Dot \"dot\" | Box \"box\" } representation inline { discriminantKey \"k\" } type Again = I";
+
+// Members that are told by their kinds, or by what they begin with.
+const FRONTS: &str =
+    "type Box struct { w Int h Int } type A string type B string type Raw bytes type More bytes type Q union { | Int int | String string | Box map | Bytes bytes } representation kinded type P union { | A \"a:\" | B \"b:\" } representation stringprefix type X union { | Raw \"01\" | More \"fF02\" } representation bytesprefix";
 
 const KEYED: [Row; 5] = [
     (
@@ -74,7 +79,7 @@ const PREFIXED: [Row; 8] = [
 
 #[test]
 fn by_keys(rt: HostRuntime) -> Result<(), Fail> {
-    let acc = compile(rt.alloc(), SRC.as_bytes()).ok().ok_or("a schema")?;
+    let acc = compile(rt.alloc(), KEYS.as_bytes()).ok().ok_or("a schema")?;
     all_said(&rt, &acc, &KEYED)?;
     all_said(&rt, &acc, &ENVELOPES)?;
     all_said(&rt, &acc, &INLINE)
@@ -82,7 +87,9 @@ fn by_keys(rt: HostRuntime) -> Result<(), Fail> {
 
 #[test]
 fn by_kinds_and_prefixes(rt: HostRuntime) -> Result<(), Fail> {
-    let acc = compile(rt.alloc(), SRC.as_bytes()).ok().ok_or("a schema")?;
+    let acc = compile(rt.alloc(), FRONTS.as_bytes())
+        .ok()
+        .ok_or("a schema")?;
     all_said(&rt, &acc, &KINDED)?;
     all_said(&rt, &acc, &PREFIXED)
 }
@@ -112,7 +119,7 @@ fn handed_out(
 
 #[test]
 fn without_the_discriminant(rt: HostRuntime) -> Result<(), Fail> {
-    let acc = compile(rt.alloc(), SRC.as_bytes()).ok().ok_or("a schema")?;
+    let acc = compile(rt.alloc(), KEYS.as_bytes()).ok().ok_or("a schema")?;
     let ty = number(&acc, "Again")?;
     let block = b"\xa3\x61h\x03\x61k\x63box\x61w\x02";
     assert_eq!(rt; handed_out(&acc, ty, block)?, (2, true, false));
