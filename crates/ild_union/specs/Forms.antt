@@ -17,14 +17,14 @@ abbrev pub IsUnionType : List Row → ℕ → Type 0
 IsUnionType rows ty = option_map_or is_union (meant rows ty) false ≡ true
 
 -- an entry of the map is passed over
-abbrev pub is_less : Piece → Bool
-is_less (P.Inline n u) = true
-is_less p = false
+abbrev pub passes_over : Piece → Bool
+passes_over (P.Inline n u) = true
+passes_over p = false
 
 -- two discriminants that stand inline aren't passed over at once: a member of such a union is a struct
-abbrev pub IsOnce : List Row → ℕ → Piece → Type 0
-IsOnce rows ty piece = is_less piece ≡ true → passed_key rows ty ≡ None
+abbrev pub IsPassedOnce : List Row → ℕ → Piece → Type 0
+IsPassedOnce rows ty piece = passes_over piece ≡ true → passed_key rows ty ≡ None
 
 -- an entry of the member's map is passed over only where the union's discriminant stands inline, or one was before
-abbrev pub IsLessBy : List Row → ℕ → Piece → Piece → Type 0
-IsLessBy rows ty piece part = is_less part ≡ true → (is_some (passed_key rows ty) || is_less piece) ≡ true
+abbrev pub IsPassedBy : List Row → ℕ → Piece → Piece → Type 0
+IsPassedBy rows ty piece part = passes_over part ≡ true → (is_some (passed_key rows ty) || passes_over piece) ≡ true

@@ -11,7 +11,7 @@ ghost use Rattle.ild_schema.specs.declared.def.UnionDef.{UnionDef};
 ghost use Rattle.ild_schema.specs.declared.def.UnionForm.TheVariants as F;
 ghost use Rattle.ild_union.specs.Answers.{UnionAnswer};
 ghost use Rattle.ild_union.specs.Envelope.{BothAnswer, is_one};
-ghost use Rattle.ild_union.specs.Forms.{is_less};
+ghost use Rattle.ild_union.specs.Forms.{passes_over};
 
 use crate::keyed::member;
 use ild_cbor::{Node, Piece, Why};
@@ -73,7 +73,7 @@ pub(crate) fn envelope<'b>(
     requires numbered { IsNumbered acc.now piece.now }
     ensures answer { (t : Data) (u : UnionDef) → StandsFor acc.now piece.now t → def_at acc.now ty.0 ≡ Some (D.Union u) → u.form ≡ F.Envelope key.now content.now → UnionAnswer acc.now u t result }
     ensures within { IfOk result (λ p. IsPartOf acc.now ty.0 p.0) }
-    ensures plain { IfOk result (λ p. is_less p.1 ≡ false) }
+    ensures plain { IfOk result (λ p. passes_over p.1 ≡ false) }
 {
     let _types = acc.types();
     let Some(left) = entries(acc, piece) else {

@@ -9,7 +9,7 @@ ghost use Rattle.ild_schema.specs.declared.def.TypeDef.TheVariants as D;
 ghost use Rattle.ild_schema.specs.declared.def.UnionDef.{UnionDef};
 ghost use Rattle.ild_schema.specs.declared.def.UnionForm.TheVariants as F;
 ghost use Rattle.ild_union.specs.Answers.{UnionAnswer, member_of};
-ghost use Rattle.ild_union.specs.Forms.{is_less};
+ghost use Rattle.ild_union.specs.Forms.{passes_over};
 
 use ild_cbor::{Piece, Why};
 use ild_piece::entries;
@@ -44,7 +44,7 @@ pub(crate) fn keyed<'b>(
     requires numbered { IsNumbered acc.now piece.now }
     ensures answer { (t : Data) (u : UnionDef) → StandsFor acc.now piece.now t → def_at acc.now ty.0 ≡ Some (D.Union u) → u.form ≡ F.Keyed → UnionAnswer acc.now u t result }
     ensures within { IfOk result (λ p. IsPartOf acc.now ty.0 p.0) }
-    ensures plain { IfOk result (λ p. is_less p.1 ≡ false) }
+    ensures plain { IfOk result (λ p. passes_over p.1 ≡ false) }
 {
     let Some(mut left) = entries(acc, piece) else {
         return Err(Why::Kind);

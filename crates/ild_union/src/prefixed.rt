@@ -5,7 +5,7 @@ ghost use Rattle.ild_piece.specs.Pieces.{StandsFor};
 ghost use Rattle.ild_schema.specs.declared.def.UnionForm.TheVariants as F;
 ghost use Rattle.ild_schema.specs.declared.row.Row.{Row};
 ghost use Rattle.ild_union.specs.Answers.{UnionAnswer};
-ghost use Rattle.ild_union.specs.Forms.{is_less};
+ghost use Rattle.ild_union.specs.Forms.{passes_over};
 
 use ild_cbor::{Piece, Why};
 use ild_piece::{bytes, text};
@@ -17,7 +17,7 @@ pub(crate) fn behind_text<'b>(def: &UnionDef, piece: &Piece<'b>) -> Result<(u32,
     requires { length def.now.members ≤ 1024 }
     ensures answer { (rows : List Row) (t : Data) → StandsFor rows piece.now t → def.now.form ≡ F.StringPrefix → UnionAnswer rows def.now t result }
     ensures within { IfOk result (λ p. p.0 < length def.now.members) }
-    ensures plain { IfOk result (λ p. is_less p.1 ≡ false) }
+    ensures plain { IfOk result (λ p. passes_over p.1 ≡ false) }
 {
     let Some(text) = text(piece) else {
         return Err(Why::Kind);
@@ -33,7 +33,7 @@ pub(crate) fn behind_bytes<'b>(def: &UnionDef, piece: &Piece<'b>) -> Result<(u32
     requires { length def.now.members ≤ 1024 }
     ensures answer { (rows : List Row) (t : Data) → StandsFor rows piece.now t → def.now.form ≡ F.BytesPrefix → UnionAnswer rows def.now t result }
     ensures within { IfOk result (λ p. p.0 < length def.now.members) }
-    ensures plain { IfOk result (λ p. is_less p.1 ≡ false) }
+    ensures plain { IfOk result (λ p. passes_over p.1 ≡ false) }
 {
     let Some(bytes) = bytes(piece) else {
         return Err(Why::Kind);

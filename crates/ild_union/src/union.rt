@@ -10,7 +10,7 @@ ghost use Rattle.ild_schema.specs.Table.{IsWithin};
 ghost use Rattle.ild_schema.specs.declared.def.TypeDef.TheVariants as D;
 ghost use Rattle.ild_typed.specs.Layer as L;
 ghost use Rattle.ild_union.specs.Answers.{UnionAnswer};
-ghost use Rattle.ild_union.specs.Forms.{IsLessBy, IsOnce, IsUnionType};
+ghost use Rattle.ild_union.specs.Forms.{IsPassedBy, IsPassedOnce, IsUnionType};
 
 use crate::envelope::envelope;
 use crate::inline::inline;
@@ -33,11 +33,11 @@ fn of_form<'b>(
     requires known { def_at acc.now ty.0 ≡ Some (D.Union def.now) }
     requires parts { IsWithin (length acc.now) (D.Union def.now) }
     requires numbered { IsNumbered acc.now piece.now }
-    requires once { IsOnce acc.now own.0 piece.now }
+    requires once { IsPassedOnce acc.now own.0 piece.now }
     ensures answer { (t : Data) → StandsFor acc.now piece.now t → UnionAnswer acc.now def.now t result }
     ensures within { IfOk result (λ p. IsPartOf acc.now ty.0 p.0) }
     ensures numbered { IfOk result (λ p. IsNumbered acc.now p.1) }
-    ensures less { IfOk result (λ p. IsLessBy acc.now own.0 piece.now p.1) }
+    ensures passed { IfOk result (λ p. IsPassedBy acc.now own.0 piece.now p.1) }
 {
     match &def.form {
         UnionForm::Keyed => keyed(acc, ty, piece),
@@ -66,11 +66,11 @@ pub fn layer<'b>(acc: &'b Accepted, ty: TypeNo, piece: Piece<'b>) -> Result<(u32
     requires within { ty.0 < length acc.now }
     requires form { IsUnionType acc.now ty.0 }
     requires numbered { IsNumbered acc.now piece }
-    requires once { IsOnce acc.now ty.0 piece }
+    requires once { IsPassedOnce acc.now ty.0 piece }
     ensures answer { (t : Data) → StandsFor acc.now piece.entry t → MatchResult result (λ p. (d : Data) × StandsFor acc.now p.1 d × Layered acc.now ty.0 t (L.union p.0 d)) (λ w. Refused acc.now ty.0 t w) }
     ensures within { IfOk result (λ p. IsPartOf acc.now (base acc.now ty.0) p.0) }
     ensures numbered { IfOk result (λ p. IsNumbered acc.now p.1) }
-    ensures less { IfOk result (λ p. IsLessBy acc.now ty.0 piece.entry p.1) }
+    ensures passed { IfOk result (λ p. IsPassedBy acc.now ty.0 piece.entry p.1) }
 {
     let base = acc.base(ty);
     match acc.def(base) {

@@ -1,0 +1,9 @@
+//! Tests of the layers of values in blocks: the member or the cause of a refusal that each call gives, a file a kind of type.
+#![tactic(auto)]
+
+#[cfg(test)]
+mod enums;
+#[cfg(test)]
+mod said;
+#[cfg(test)]
+mod unions;
