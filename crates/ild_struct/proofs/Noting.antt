@@ -1,5 +1,5 @@
 -- One place more.
-use Rattle.std.proofs.Common.{◌≡◌, ℕ, ◌≤◌, ◌<◌, List, [], ◌∷◌, ◌++◌, Bool, true, false, ◌||◌, refl, sym, ◌∙◌, ap, arith, length, max, get_or-set_same, get_or-set_other}
+use Rattle.std.proofs.Common.{◌≡◌, ℕ, ◌+◌, ◌≤◌, ◌<◌, List, [], ◌∷◌, ◌++◌, Bool, true, false, ◌||◌, refl, sym, ◌∙◌, ap, arith, length, max, get_or-set_same, get_or-set_other}
 use Rattle.std.proofs.Math.ListN.{length-set}
 use Rattle.std.specs.Prelude.{nat_eq, nat_lt, slice_index_or, slice_set}
 use Rattle.std.specs.List.{list_any}
@@ -48,7 +48,7 @@ highest_more m h p = by (nat_lt m h) refl (nat_lt m p) refl where
 -- ---- the notes
 
 abbrev pub risen : ℕ → Notes → Notes
-risen p notes = record notes { falls = notes.falls || nat_lt p notes.highest; highest = max notes.highest p }
+risen p notes = record notes { falls = notes.falls || nat_lt p notes.highest; next = p + 1; highest = max notes.highest p }
 
 abbrev pub met_more : ℕ → Notes → Notes
 met_more p notes = record notes { twice = notes.twice || slice_index_or notes.met p false; met = slice_set notes.met p true }

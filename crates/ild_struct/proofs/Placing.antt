@@ -186,3 +186,7 @@ pub implicit_none : (fs : List Field) (n : ℕ) (d : Data) → length fs ≤ n �
 implicit_none [] n d past = refl
 implicit_none (g ∷ fs) zero d past = absurd (omega arith)
 implicit_none (g ∷ fs) (suc n) d past = implicit_none fs n d (omega arith)
+
+-- a guess
+pub guessed : (fs : List Field) (i : ℕ) (f : Field) (k : List ℕ) → i < length fs → f ≡ get_or fs i f → same_text (field_text f) k ≡ true → AreNamesApart fs → i ≡ place_of fs k
+guessed fs i f k less is same apart = eqb-true i (place_of fs k) (name_at fs i f k apart (get_at fs i f less ∙ ap Some (sym is)) ∙ same)

@@ -21,14 +21,15 @@ impl Notes {
     pub(crate) fn note_name(&mut self, fields: &Fields<'_>, name: &str)
         ensures { AreNamesApart fields.now.def.now.fields → (ks : List (List ℕ)) (es : List (List ℕ × Data)) → Noted fields.now.def.now.fields ks es self.old → Noted fields.now.def.now.fields (ks ++ name.now ∷ []) es self.new }
     {
-        self.note(fields.place(name), fields.def.fields.len());
+        let place = fields.place(name, self.next);
+        self.note(place, fields.def.fields.len());
     }
 
     /// One name with a value more.
     pub(crate) fn note_entry(&mut self, fields: &Fields<'_>, name: &str, value: &Piece<'_>)
         ensures { AreNamesApart fields.now.def.now.fields → (rows : List Row) (d : Data) → StandsFor rows value.now d → (ks : List (List ℕ)) (es : List (List ℕ × Data)) → Noted fields.now.def.now.fields ks es self.old → Noted fields.now.def.now.fields (ks ++ name.now ∷ []) (es ++ (name.now, d) ∷ []) self.new }
     {
-        let place = fields.place(name);
+        let place = fields.place(name, self.next);
         self.needless |= is_implicit_at(fields.def.fields.as_slice(), place, value);
         self.note(place, fields.def.fields.len());
     }

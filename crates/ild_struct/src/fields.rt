@@ -1,6 +1,7 @@
 //! The fields of a struct: the place of a name, and whether a value is the one for which its field is left out.
-ghost use Rattle.std.specs.Prelude.{◌≡◌, ◌<◌, ◌≤◌, List, length, Some, ℤ, Bool, Option};
+ghost use Rattle.std.specs.Prelude.{◌≡◌, ◌<◌, ◌≤◌, List, length, Some, ℤ, Bool, Option, true};
 ghost use Rattle.ild_data.specs.Data.{Data};
+ghost use Rattle.ild_schema.specs.Clear.{AreNamesApart};
 ghost use Rattle.ild_schema.specs.Marks.{field_text};
 ghost use Rattle.ild_schema.specs.Table.{def_at};
 ghost use Rattle.ild_schema.specs.declared.row.Row.{Row};
@@ -26,8 +27,8 @@ pub(crate) struct Fields<'b> {
 }
 
 impl Fields<'_> {
-    /// The place of the field that has a name in a block, or the number of fields where none has it.
-    pub(crate) fn place(&self, name: &str) -> usize
+    // The place of the field that has a name in a block, looked up, or the number of fields where none has it.
+    fn look_up(&self, name: &str) -> usize
         ensures place { result ≡ place_of self.now.def.now.fields name.now }
         ensures within { result ≤ length self.now.def.now.fields }
     {
@@ -35,6 +36,30 @@ impl Fields<'_> {
             Some(place) => place,
             None => self.def.fields.len(),
         }
+    }
+
+    /// The place of the field that has a name in a block, or the number of fields where none has it. The field at the
+    /// guessed place is asked first.
+    pub(crate) fn place(&self, name: &str, guess: usize) -> usize
+        ensures place { AreNamesApart self.now.def.now.fields → result ≡ place_of self.now.def.now.fields name.now }
+        ensures within { result ≤ length self.now.def.now.fields }
+    {
+        if is_named(self.def.fields.as_slice(), guess, name) {
+            guess
+        } else {
+            self.look_up(name)
+        }
+    }
+}
+
+// Whether the field at a place has a name in a block.
+fn is_named(fields: &[Field], place: usize, name: &str) -> bool
+    ensures place { result ≡ true → AreNamesApart fields.now → place ≡ place_of fields.now name.now }
+    ensures within { result ≡ true → place < length fields.now }
+{
+    match fields.get(place) {
+        Some(field) => text_of_field(field) == name,
+        None => false,
     }
 }
 

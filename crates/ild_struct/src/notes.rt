@@ -1,5 +1,5 @@
 //! What one pass over the names of a struct's parts finds.
-ghost use Rattle.std.specs.Prelude.{◌≡◌, ◌<◌, ◌≤◌, ◌||◌, ℕ, List, [], ◌∷◌, ◌++◌, false, true, nat_eq, nat_lt, max, slice_index_or, slice_set};
+ghost use Rattle.std.specs.Prelude.{◌≡◌, ◌+◌, ◌<◌, ◌≤◌, ◌||◌, ℕ, List, [], ◌∷◌, ◌++◌, false, true, nat_eq, nat_lt, max, slice_index_or, slice_set};
 ghost use Rattle.std.specs.List.{list_any};
 ghost use Rattle.ild_struct.specs.Notes.{IsNoted};
 
@@ -17,6 +17,8 @@ pub(crate) struct Notes {
     pub(crate) twice: bool,
     /// An implicit value is written out.
     pub(crate) needless: bool,
+    /// The place behind that of the last name.
+    pub(crate) next: usize,
     highest: usize,
     met: [bool; MOST_FIELDS],
 }
@@ -32,6 +34,7 @@ impl Notes {
             falls: false,
             twice: false,
             needless: false,
+            next: 0,
             highest: 0,
             met: [false; MOST_FIELDS],
         }
@@ -39,8 +42,10 @@ impl Notes {
 
     // One name's place more, in the order of the places.
     fn rise(&mut self, place: usize)
-        ensures { self.new ≡ record self.old { falls = self.old.falls || nat_lt place self.old.highest; highest = max self.old.highest place } }
+        requires { place ≤ 1024 }
+        ensures { self.new ≡ record self.old { falls = self.old.falls || nat_lt place self.old.highest; next = place + 1; highest = max self.old.highest place } }
     {
+        self.next = place + 1;
         self.falls |= place < self.highest;
         self.highest = self.highest.max(place);
     }

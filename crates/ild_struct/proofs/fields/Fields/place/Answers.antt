@@ -1,17 +1,12 @@
-use Rattle.std.proofs.Common.{length, sym, ◌∙◌, ap}
-use Rattle.std.specs.Prelude.{unwrap_or}
-use Rattle.ild_schema.specs.Table.{def_at}
-use Rattle.ild_struct.proofs.Placing.{spelled_place}
+use Rattle.std.proofs.Common.{◌≡◌, ◌<◌, List, length, subst}
+use Rattle.ild_schema.specs.Clear.{AreNamesApart}
+use Rattle.ild_schema.specs.declared.def.Field.{Field}
+use Rattle.ild_typed.specs.StructWhy.{place_of}
 use Rattle.ild_struct.proofs.fields.Fields.place.Goals as goal
 
-pub returns-in-Some-clause-place : goal.returns-in-Some-clause-place
-returns-in-Some-clause-place c =
-    let s = c.args.self.now in
-    ap (λ r. unwrap_or r (length s.def.now.fields)) (sym c.in-Some.is)
-    ∙ spelled_place (def_at s.acc.now s.base.0) s.def.now c.args.name.now c.part_spelled.result c.part_spelled.ensures.same s.is
+pub returns-then-is_named-clause-place : goal.returns-then-is_named-clause-place
+returns-then-is_named-clause-place c = λ apart.
+    subst (λ (fs : List Field). AreNamesApart fs → c.args.guess ≡ place_of fs c.args.name.now) c.as_slice.ensures (c.is_named.ensures.place c.if-is_named.true) apart
 
-pub returns-in-None-clause-place : goal.returns-in-None-clause-place
-returns-in-None-clause-place c =
-    let s = c.args.self.now in
-    c.len.ensures ∙ ap (λ r. unwrap_or r (length s.def.now.fields)) (sym c.in-None.is)
-    ∙ spelled_place (def_at s.acc.now s.base.0) s.def.now c.args.name.now c.part_spelled.result c.part_spelled.ensures.same s.is
+pub returns-else-is_named-clause-place : goal.returns-else-is_named-clause-place
+returns-else-is_named-clause-place c = λ apart. c.look_up.ensures.place

@@ -10,5 +10,5 @@ returns c = λ apart rows d stands ks es h.
     let mid : Notes = record c.args.self.now { needless = c.args.self.now.needless || c.is_implicit_at.result } in
     let step : (ns : List ℕ) → IsNoted (length fs) mid ns → IsNoted (length fs) c.note.new.self (ns ++ c.place-place.result ∷ [])
     = subst (λ (n : ℕ). (ns : List ℕ) → IsNoted n mid ns → IsNoted n c.note.new.self (ns ++ c.place-place.result ∷ [])) c.len.ensures c.note.ensures.noted in
-    entry_more fs c.args.name.now c.place-place.result c.place-place.ensures.place c.args.self.now mid c.note.new.self c.is_implicit_at.result d apart
+    entry_more fs c.args.name.now c.place-place.result (c.place-place.ensures.place apart) c.args.self.now mid c.note.new.self c.is_implicit_at.result d apart
     (c.is_implicit_at.ensures rows d stands ∙ ap (λ gs. implicit_at gs c.place-place.result d) c.as_slice.ensures) refl step c.note.ensures.same ks es h
