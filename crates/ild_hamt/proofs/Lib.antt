@@ -1,0 +1,4 @@
+pub mod Shown
+pub mod Leading
+pub mod Going
+pub mod Fulling

@@ -1,0 +1,22 @@
+use Rattle.std.proofs.Common.{refl, subst, arith, List}
+use Rattle.std.proofs.lemmas.Bool.{false≢true}
+use Rattle.ild_data.specs.Trie.{TrieSlot}
+use Rattle.ild_hamt.specs.Seen.{Shows}
+use Rattle.ild_hamt.specs.Way.{slot_for}
+use Rattle.ild_typed.specs.Composed.{usual}
+use Rattle.ild_hamt.proofs.Fulling.{node-last}
+use Rattle.ild_hamt.proofs.ending.end_slot.Goals as goal
+
+pub returns-in-Some : goal.returns-in-Some
+returns-in-Some c = λ slots last has ends deep lt.
+    c.slot_at-in-Some.ensures last (c.in-Some.ensures last
+    (node-last c.args.blocks.now c.index-blocks-count.result c.as_slice.result.now slots last _ c.as_slice.ensures.same c.index-blocks-count.is refl (omega (arith, c.if-count-eq0.false)) ends)).1
+
+pub returns-in-None : goal.returns-in-None
+returns-in-None c = λ slots last has ends deep lt.
+    absurd (false≢true (c.in-None.ensures last
+    (node-last c.args.blocks.now c.index-blocks-count.result c.as_slice.result.now slots last _ c.as_slice.ensures.same c.index-blocks-count.is refl (omega (arith, c.if-count-eq0.false)) ends)).0)
+
+pub returns-then-count-eq0 : goal.returns-then-count-eq0
+returns-then-count-eq0 c = λ slots last has ends deep lt.
+    subst (λ (ss : List TrieSlot). Shows c.slot_at.result (slot_for usual c.args.hash.now c.args.depth ss)) (ends.root (omega (arith, c.if-count-eq0.true))) (c.slot_at.ensures slots has)

@@ -1,0 +1,5 @@
+pub mod Seen
+pub mod Fetching
+pub mod Way
+pub mod Ends
+pub mod Descending
