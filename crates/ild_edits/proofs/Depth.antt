@@ -29,7 +29,7 @@ use Rattle.ild_typed.specs.Levels.{levels_of, map_levels, struct_levels}
 use Rattle.ild_typed.specs.Layers.{layer_of, IsNotNull, Shows, FieldsFit, EntriesFit, LayerFits}
 use Rattle.ild_typed.specs.Fits.{FormFits, ValueFits, FitsPast, Fits}
 use Rattle.ild_typed.proofs.Rooms.{layer_more, fits_more}
-use Rattle.ild_typed.specs.Holder.{member, elements, entries, fields, list_holder, map_holder, struct_holder, union_holder, holder_of, value_of, is_paired, of_any}
+use Rattle.ild_typed.specs.Holder.{member, list_holder, map_holder, struct_holder, union_holder, holder_of, value_of, is_paired, of_any}
 use Rattle.ild_typed.specs.Segment.{part, set_part, set_field, field_at, member_named, put_by, at_index, index_of}
 use Rattle.ild_typed.specs.At.{InSlot}
 use Rattle.ild_typed.specs.OfType.{TestsKeys}

@@ -1,9 +1,8 @@
 -- A part that comes, goes or is set by its name or key changes nothing elsewhere.
-use Rattle.std.proofs.Common.{cond, ◌≡◌, ◌≢◌, ◌⊎◌, inl, inr, ℕ, List, [], ◌∷◌, Bool, true, false, Option, Some, None, refl, ap, sym, subst, ◌∙◌}
+use Rattle.std.proofs.Common.{◌≡◌, ◌≢◌, ◌⊎◌, inl, inr, ℕ, List, [], ◌∷◌, Bool, Option, Some, None, refl, ap, sym, subst, ◌∙◌}
 use Rattle.std.specs.Prelude.{option_map, option_and_then}
 use Rattle.std.specs.Option.{option_map_or}
 use Rattle.std.proofs.lemmas.Option.{same_Some, none-some}
-use Rattle.ild_data.specs.Key.{value_at, without}
 use Rattle.ild_schema.specs.declared.number.Slot.{Slot}
 use Rattle.ild_schema.specs.declared.row.Row.{Row}
 use Rattle.ild_schema.specs.Prelude.{anything}
@@ -11,11 +10,10 @@ use Rattle.ild_schema.specs.Value.{Value}
 use Rattle.ild_change.proofs.Maps.{put-other, without-other}
 use Rattle.ild_typed.specs.At.{InSlot, seen, at, last_holder, changed_in, Apart}
 use Rattle.ild_typed.specs.Holder.{Holder, fields, member, entries, elements, any_entries, any_elements, nothing, value_of, of_any, data_in}
-use Rattle.ild_typed.specs.OfType.{OfType, TestsKeys}
-use Rattle.ild_typed.specs.Schema.{IsSchema}
+use Rattle.ild_typed.specs.OfType.{OfType}
 use Rattle.ild_typed.specs.Segment.{part, set_part}
-use Rattle.ild_edits.specs.EditLaws.{IsKeyed, LeavesOthers, OthersStay}
-use Rattle.ild_edits.specs.Table.{MayStand, insert_part, delete_part}
+use Rattle.ild_edits.specs.EditLaws.{IsKeyed, OthersStay}
+use Rattle.ild_edits.specs.Table.{insert_part, delete_part}
 use Rattle.ild_edits.proofs.Entries.{put_by-other, field-other}
 use Rattle.ild_edits.proofs.Holders.{set_part-seen}
 use Rattle.ild_edits.proofs.KeepTyped.{of_type_is_kept}

@@ -1,19 +1,15 @@
 -- Entries, fields, members and elements where one of them is set.
 use Rattle.std.proofs.Common.{cond, ◌≡◌, ◌≢◌, ℕ, zero, suc, List, [], ◌∷◌, slice_get, Bool, true, false, Option, Some, None, refl, ap, sym, ◌∙◌}
 use Rattle.std.specs.Prelude.{slice_set, option_map}
-use Rattle.std.specs.Ordering.{match_ordering}
 use Rattle.std.specs.Cmp.Lexicographic.{same_text as text_same}
-use Rattle.std.specs.declared.cmp.Ordering.{Ordering}
-use Rattle.std.specs.declared.cmp.Ordering.TheVariants.{Less, Equal, Greater}
 use Rattle.std.proofs.lemmas.Option.{same_Some, none-some}
-use Rattle.ild_data.specs.Key.{key_cmp, same_text, put, value_at}
-use Rattle.ild_data.proofs.Rising.{differs, agrees, key_exact, key_equal}
+use Rattle.ild_data.specs.Key.{same_text, value_at}
 use Rattle.ild_schema.specs.declared.def.Field.{Field}
 use Rattle.ild_schema.specs.declared.def.Member.{Member}
 use Rattle.ild_schema.specs.declared.number.Slot.{Slot}
 use Rattle.ild_schema.specs.Value.{Value}
 use Rattle.ild_schema.specs.Slots.{plainly}
-use Rattle.ild_typed.specs.Segment.{put_last, put_by, set_field, field_at, member_named, next_member, held_as}
+use Rattle.ild_typed.specs.Segment.{put_last, put_by, set_field, field_at, held_as}
 use Rattle.ild_change.proofs.Maps.{own_text, other_is, put-there, put-other}
 use Rattle.ild_meant.proofs.Members.{IsNamed}
 use Rattle.ild_edits.specs.Table.{declared_slot}

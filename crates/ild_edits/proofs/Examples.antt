@@ -1,6 +1,6 @@
 -- The table of edits by example: each cell, with each holder, computes.
 use Rattle.std.proofs.Common.{refl}
-use Rattle.std.specs.Prelude.{◌≡◌, ℕ, pos, List, [], ◌∷◌, ◌++◌, codes, Bool, true, false, nat_eq, Option, Some, None, Result, Ok, Err}
+use Rattle.std.specs.Prelude.{◌≡◌, ℕ, pos, List, [], ◌∷◌, ◌++◌, codes, Bool, true, false, Option, Some, None, Result, Ok, Err}
 use Rattle.ild_data.specs.Data as D
 use Rattle.ild_data.specs.Data.{Data, items_of, members_of}
 use Rattle.ild_data.specs.Key.{same_text}

@@ -6,9 +6,8 @@ use Rattle.std.specs.Cmp.Lexicographic.{same_text as text_same}
 use Rattle.std.proofs.lemmas.Option.{same_Some, none-some}
 use Rattle.ild_data.specs.Data as D
 use Rattle.ild_data.specs.Data.{Data}
-use Rattle.ild_data.specs.Key.{same_text, value_at, put, without, Rises}
+use Rattle.ild_data.specs.Key.{same_text, value_at, Rises}
 use Rattle.ild_data.specs.Tree.{IsTree}
-use Rattle.ild_data.proofs.Lists.{items_list-items_of, members_list-members_of}
 use Rattle.ild_data.proofs.Rising.{rises_put, rises_without}
 use Rattle.ild_schema.specs.declared.def.TypeDef.{TypeDef}
 use Rattle.ild_schema.specs.declared.def.TypeDef.TheVariants as T
@@ -23,19 +22,19 @@ use Rattle.ild_schema.specs.declared.number.TypeNo.{TypeNo}
 use Rattle.ild_schema.specs.declared.row.Row.{Row}
 use Rattle.ild_schema.specs.Prelude.{anything}
 use Rattle.ild_schema.specs.Slots.{form_of, plainly}
-use Rattle.ild_schema.specs.Value.{Value, null, boolean, integer, text, bytes, link, list, map, struct, union, enum, unit, any, hamt, values_of, values_list, pairs_of, pairs_list, optionals_of, optionals_list}
+use Rattle.ild_schema.specs.Value.{Value, null, boolean, integer, text, bytes, link, list, map, struct, union, enum, unit, any, hamt}
 use Rattle.ild_script.specs.declared.reply.No.{No}
-use Rattle.ild_typed.specs.Holder.{Holder, fields, member, entries, elements, any_entries, any_elements, nothing, is_paired, list_holder, map_holder, struct_holder, union_holder, any_holder, holder_of, value_of, of_any, data_in}
-use Rattle.ild_typed.specs.Segment.{part, set_part, set_field, field_at, put_by, index_of, at_index, member_named, held_as}
+use Rattle.ild_typed.specs.Holder.{Holder, fields, member, entries, elements, any_entries, any_elements, nothing, is_paired, list_holder, map_holder, struct_holder, union_holder, holder_of, value_of, of_any, data_in}
+use Rattle.ild_typed.specs.Segment.{part, set_part, set_field, field_at, index_of, member_named, held_as}
 use Rattle.ild_typed.specs.At.{InSlot, seen}
 use Rattle.ild_typed.proofs.Lists.{pairs_list-pairs_of}
 use Rattle.ild_meant.specs.Meant.{is_null}
 use Rattle.ild_meant.proofs.ByParts.{ByParts, AreInOrder}
 use Rattle.ild_meant.proofs.Members.{member-named}
 use Rattle.ild_meant.proofs.Told.{AreToldApart}
-use Rattle.ild_edits.specs.Table.{declared_slot, slot_to_set, key_fits, MayStand, slot_to_insert, if_absent, slot_left_out, new_index, insert_part, if_present, field_kept, unless_there, never, refusal_to_delete, delete_part}
+use Rattle.ild_edits.specs.Table.{declared_slot, slot_to_set, MayStand, slot_to_insert, if_absent, slot_left_out, new_index, insert_part, if_present, field_kept, never, refusal_to_delete, delete_part}
 use Rattle.ild_edits.proofs.Kept.{IsKept}
-use Rattle.ild_edits.proofs.Typing.{Each, each_got, each_with, each_inserted, each_removed, each_at, each_by, each_put, each_without, each_found, in_order_put, in_order_without, trees_each, each_trees, EntryIsTree, entries_each, entries_rise, each_entries, EntryOfType, values_each, each_values, pairs_each, each_pairs, FieldOfType, EachField, fields_each, each_fields}
+use Rattle.ild_edits.proofs.Typing.{Each, each_got, each_with, each_inserted, each_removed, each_at, each_by, each_put, each_without, each_found, in_order_put, in_order_without, trees_each, each_trees, EntryIsTree, entries_each, entries_rise, each_entries, EntryOfType, values_each, each_values, pairs_each, each_pairs, EachField, fields_each, each_fields}
 
 -- what an option gives
 pub with_slot : (slot : Slot) (o : Option Value) (q : Slot × Value) → option_map (λ v. (slot, v)) o ≡ Some q → (v : Value) × (o ≡ Some v) × ((slot, v) ≡ q)

@@ -1,12 +1,10 @@
 -- A holder in which a part is set: the part is there, the others stay, and the changed value is seen as the changed holder.
-use Rattle.std.proofs.Common.{cond, ◌≡◌, ◌≢◌, ℕ, List, slice_get, Bool, true, false, Option, Some, None, refl, ap, sym, ◌∙◌}
+use Rattle.std.proofs.Common.{◌≡◌, ◌≢◌, ℕ, List, slice_get, Option, Some, None, refl, ap, sym, ◌∙◌}
 use Rattle.std.specs.Prelude.{slice_set, option_map, option_and_then, decimal}
 use Rattle.std.specs.Option.{option_map_or}
-use Rattle.std.specs.Cmp.Lexicographic.{same_text as text_same}
 use Rattle.std.proofs.lemmas.Option.{same_Some, none-some}
 use Rattle.ild_data.specs.Data as D
 use Rattle.ild_data.specs.Data.{Data, items_of, items_list, members_of, members_list}
-use Rattle.ild_data.specs.Key.{same_text}
 use Rattle.ild_data.proofs.Lists.{items_list-items_of, members_list-members_of}
 use Rattle.ild_schema.specs.declared.def.Member.{Member}
 use Rattle.ild_schema.specs.declared.number.Slot.{Slot}
@@ -22,7 +20,7 @@ use Rattle.ild_change.proofs.Maps.{put-there, put-other}
 use Rattle.ild_meant.proofs.Members.{member-named}
 use Rattle.ild_typed.proofs.Lists.{values_list-values_of, pairs_list-pairs_of, optionals_list-optionals_of}
 use Rattle.ild_typed.specs.Holder.{Holder, fields, member, entries, elements, any_entries, any_elements, nothing, list_holder, map_holder, struct_holder, union_holder, is_paired, holder_of, value_of, of_any, data_in}
-use Rattle.ild_typed.specs.Segment.{part, set_part, set_field, put_by, index_of, number_from, at_index, member_named, held_as}
+use Rattle.ild_typed.specs.Segment.{part, set_part, set_field, put_by, index_of, at_index, member_named, held_as}
 use Rattle.ild_edits.specs.Table.{slot_to_set}
 use Rattle.ild_edits.proofs.Entries.{put_by-there, put_by-other, field-there, field-other, held-named, held-other, set-there, set-elsewhere}
 

@@ -1,7 +1,6 @@
 -- What an edit makes of a typed value is typed; what was set is there, and elsewhere nothing changes.
-use Rattle.std.proofs.Common.{◌≡◌, ℕ, List, [], ◌∷◌, Bool, true, Option, Some, None, refl, ap, sym, subst, ◌∙◌}
+use Rattle.std.proofs.Common.{◌≡◌, ℕ, List, [], ◌∷◌, Bool, true, Option, Some, None, refl, ap, sym, ◌∙◌}
 use Rattle.std.specs.Prelude.{Result, Ok, Err}
-use Rattle.std.proofs.lemmas.Option.{none-some}
 use Rattle.ild_data.specs.Data.{Data}
 use Rattle.ild_data.specs.Tree.{IsTree}
 use Rattle.ild_schema.specs.declared.number.Slot.{Slot}
@@ -20,7 +19,7 @@ use Rattle.ild_meant.proofs.MeantTyped.{meant_is_typed}
 use Rattle.ild_meant.proofs.Reading.{read_is_meant}
 use Rattle.ild_meant.proofs.Told.{told}
 use Rattle.ild_meant.proofs.TypedByParts.{to_parts, from_parts}
-use Rattle.ild_edits.specs.Edit.{Edit, set_at, ins_at, del_at, HasTextPath, new_slot, change, meant_or, read_or, new_part, with_part, changed_by}
+use Rattle.ild_edits.specs.Edit.{Edit, set_at, ins_at, del_at, new_slot, change, meant_or, read_or, new_part, with_part, changed_by}
 use Rattle.ild_edits.specs.EditLaws.{Brings, EditsKeepTypes, EditsKeepTyped, LinesKeepTyped, SetStands, ElsewhereStays}
 use Rattle.ild_edits.proofs.HeldTyped.{types_are_kept}
 use Rattle.ild_edits.proofs.Kept.{IsKept}

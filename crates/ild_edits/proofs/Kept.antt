@@ -1,10 +1,10 @@
 -- What is used of values being typed: a property that goes to parts, and is kept where a part with it is set, inserted or deleted.
-use Rattle.std.specs.Prelude.{◌≡◌, ℕ, List, Bool, Some, None, Ok}
+use Rattle.std.specs.Prelude.{◌≡◌, ℕ, List, Bool, Some, None}
 use Rattle.ild_schema.specs.declared.number.Slot.{Slot}
 use Rattle.ild_schema.specs.declared.row.Row.{Row}
 use Rattle.ild_schema.specs.Prelude.{anything}
 use Rattle.ild_schema.specs.Value.{Value}
-use Rattle.ild_typed.specs.Holder.{Holder, value_of, of_any, data_in}
+use Rattle.ild_typed.specs.Holder.{value_of, of_any, data_in}
 use Rattle.ild_typed.specs.Segment.{part, set_part}
 use Rattle.ild_typed.specs.At.{InSlot, seen}
 use Rattle.ild_edits.specs.Table.{slot_to_set, slot_to_insert, MayStand, insert_part, refusal_to_delete, delete_part}

@@ -7,17 +7,15 @@ use Rattle.ild_data.specs.Data as D
 use Rattle.ild_data.specs.Data.{Data, items_of, members_of}
 use Rattle.ild_data.specs.Key.{same_text, value_at}
 use Rattle.ild_data.proofs.Lists.{items_list-items_of, members_list-members_of}
-use Rattle.ild_schema.specs.declared.def.TypeDef.{TypeDef}
-use Rattle.ild_schema.specs.declared.def.TypeDef.TheVariants as T
 use Rattle.ild_schema.specs.declared.def.Field.{Field}
 use Rattle.ild_schema.specs.declared.def.Member.{Member}
 use Rattle.ild_schema.specs.declared.number.Slot.{Slot}
 use Rattle.ild_schema.specs.declared.row.Row.{Row}
 use Rattle.ild_schema.specs.Prelude.{anything}
-use Rattle.ild_schema.specs.Slots.{form_of, plainly}
+use Rattle.ild_schema.specs.Slots.{plainly}
 use Rattle.ild_schema.specs.Value.{Value, null, boolean, integer, text, bytes, link, list, map, struct, union, enum, unit, any, hamt, Values, no_values, value, values_of, values_list, Pairs, no_pairs, pair, pairs_of, pairs_list, Optionals, no_optionals, absent, present, optionals_of, optionals_list}
 use Rattle.ild_typed.specs.At.{InSlot, seen}
-use Rattle.ild_typed.specs.Holder.{Holder, fields, member, entries, elements, any_entries, any_elements, nothing, is_paired, list_holder, map_holder, struct_holder, union_holder, any_holder, holder_of, value_of, of_any}
+use Rattle.ild_typed.specs.Holder.{Holder, fields, member, entries, elements, any_entries, any_elements, nothing, list_holder, map_holder, struct_holder, union_holder, any_holder, holder_of, value_of, of_any}
 use Rattle.ild_typed.specs.OfType.{OfType, TestsKeys}
 use Rattle.ild_typed.specs.Schema.{IsSchema}
 use Rattle.ild_typed.specs.Segment.{part, set_part, set_field, field_at, index_of, member_named}
@@ -27,7 +25,7 @@ use Rattle.ild_meant.proofs.Members.{member-named}
 use Rattle.ild_meant.proofs.Told.{told}
 use Rattle.ild_meant.proofs.TypedByParts.{to_parts}
 use Rattle.ild_edits.specs.Table.{declared_slot, slot_to_set, MayStand}
-use Rattle.ild_edits.proofs.HeldTyped.{IsHeld, held, unheld, held_named, with_slot, inside_any, indexed, slot_given, types_are_kept}
+use Rattle.ild_edits.proofs.HeldTyped.{IsHeld, held, held_named, with_slot, inside_any, indexed, slot_given}
 use Rattle.ild_edits.proofs.Holders.{set_part-there, set_part-seen}
 use Rattle.ild_edits.proofs.KeepTyped.{of_type_is_kept}
 use Rattle.ild_edits.proofs.Layered.{IsGood, AllGood, EntriesGood, FieldsGood, GoesInside}

@@ -16,3 +16,5 @@ pub mod Firsts
 mod Examples
 pub mod Seen
 pub mod Elsewhere
+pub mod Judges
+pub mod Stops

@@ -1,10 +1,9 @@
 -- Laws of paths, by induction on the segments: each step is one law of holders.
 use Rattle.std.proofs.Common.{◌≡◌, ◌≢◌, ◌⊎◌, inl, inr, ℕ, List, [], ◌∷◌, Bool, true, false, Option, Some, None, refl, ap, sym, subst, ◌∙◌}
 use Rattle.std.specs.List.{AllByRecursion}
-use Rattle.std.specs.Prelude.{IsUtf8, option_and_then, Result, Ok, Err}
+use Rattle.std.specs.Prelude.{IsUtf8, option_and_then, Result, Ok}
 use Rattle.std.specs.Option.{option_map_or}
 use Rattle.std.proofs.lemmas.Option.{same_Some, none-some}
-use Rattle.ild_data.specs.Data.{Data}
 use Rattle.ild_schema.specs.declared.number.Slot.{Slot}
 use Rattle.ild_schema.specs.declared.row.Row.{Row}
 use Rattle.ild_schema.specs.Prelude.{anything}

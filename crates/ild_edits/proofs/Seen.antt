@@ -10,7 +10,7 @@ use Rattle.ild_schema.specs.declared.number.Slot.{Slot}
 use Rattle.ild_schema.specs.declared.row.Row.{Row}
 use Rattle.ild_schema.specs.Slots.{form_of}
 use Rattle.ild_schema.specs.Value.{Value, Values, Pairs, Optionals, null, boolean, integer, text, bytes, link, list, map, struct, union, enum, unit, any, hamt, values_of, values_list, pairs_of, pairs_list, optionals_of, optionals_list}
-use Rattle.ild_typed.specs.Holder.{Holder, fields, entries, elements, any_entries, any_elements, is_paired, list_holder, map_holder, struct_holder, union_holder, holder_of, value_of}
+use Rattle.ild_typed.specs.Holder.{fields, entries, elements, any_entries, any_elements, is_paired, list_holder, map_holder, struct_holder, union_holder, holder_of, value_of}
 use Rattle.ild_typed.specs.Segment.{at_index, index_of, set_field}
 use Rattle.ild_typed.proofs.Lists.{values_list-values_of, pairs_list-pairs_of, optionals_list-optionals_of}
 use Rattle.ild_edits.specs.Table.{new_index, insert_part, delete_part}
@@ -110,4 +110,3 @@ delete_part-seen rows slot (struct os) s = struct_deleted rows slot os s (form_o
 delete_part-seen rows slot (union n v) s = union_deleted rows slot n v s (form_of rows slot) refl
 delete_part-seen rows slot (any (D.list ds)) s = ap (λ xs. any_elements xs) (items_list-items_of _)
 delete_part-seen rows slot (any (D.map ms)) s = ap (λ xs. any_entries xs) (members_list-members_of _)
-

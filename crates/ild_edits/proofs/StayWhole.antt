@@ -1,15 +1,13 @@
 -- Whole values stay whole: no edit brings the root of a HAMT alone into a value.
-use Rattle.std.proofs.Common.{cond, ◌≡◌, ◌⊎◌, inl, inr, ℕ, List, [], ◌∷◌, length, slice_get, Bool, true, false, Option, Some, None, refl, ap, sym, subst, ◌∙◌}
+use Rattle.std.proofs.Common.{cond, ◌≡◌, ℕ, List, [], ◌∷◌, length, slice_get, Bool, true, false, Option, Some, None, refl, subst}
 use Rattle.std.specs.Prelude.{◌&&◌, slice_set, insert, remove, option_map, option_and_then}
 use Rattle.std.specs.Option.{option_map_or}
 use Rattle.std.proofs.lemmas.Option.{same_Some, none-some}
 use Rattle.ild_data.specs.Data as D
 use Rattle.ild_data.specs.Data.{Data, Items, Members, members_list}
-use Rattle.ild_data.specs.Key.{same_text, value_at, without}
+use Rattle.ild_data.specs.Key.{same_text, value_at}
 use Rattle.ild_schema.specs.declared.def.TypeDef.{TypeDef}
 use Rattle.ild_schema.specs.declared.def.TypeDef.TheVariants as T
-use Rattle.ild_schema.specs.declared.def.Scalar.{Scalar}
-use Rattle.ild_schema.specs.declared.def.Scalar.TheVariants as S
 use Rattle.ild_schema.specs.declared.def.Field.{Field}
 use Rattle.ild_schema.specs.declared.def.Member.{Member}
 use Rattle.ild_schema.specs.declared.number.Slot.{Slot}
@@ -18,10 +16,9 @@ use Rattle.ild_schema.specs.Prelude.{anything}
 use Rattle.ild_schema.specs.Slots.{form_of, plainly}
 use Rattle.ild_schema.specs.Value.{Value, null, boolean, integer, text, bytes, link, list, map, struct, union, enum, unit, any, hamt, Values, no_values, value, values_of, values_list, Pairs, no_pairs, pair, pairs_of, pairs_list, Optionals, no_optionals, absent, present, optionals_of, optionals_list}
 use Rattle.ild_schema.specs.Whole.{is_whole, are_whole, pairs_whole, fields_whole}
-use Rattle.ild_typed.specs.Holder.{Holder, fields, member, entries, elements, any_entries, any_elements, nothing, list_holder, map_holder, struct_holder, union_holder, holder_of, value_of, of_any, data_in}
+use Rattle.ild_typed.specs.Holder.{Holder, fields, member, entries, elements, any_entries, any_elements, nothing, list_holder, map_holder, struct_holder, union_holder, holder_of, value_of, of_any}
 use Rattle.ild_typed.specs.Segment.{part, set_part, set_field, field_at, index_of, member_named, held_as}
 use Rattle.ild_typed.specs.At.{InSlot}
-use Rattle.ild_meant.specs.Meant.{Meant, AreMeant, EntriesMeant, FieldsMeant, IsLeftOut, of_scalar}
 use Rattle.ild_edits.specs.Table.{new_index, insert_part, delete_part}
 use Rattle.ild_edits.proofs.HeldTyped.{with_slot, inside_any, indexed}
 use Rattle.ild_edits.proofs.Typing.{Each, each_got, each_with, each_inserted, each_removed, each_at, each_by, each_without, each_found}

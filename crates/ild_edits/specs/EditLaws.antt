@@ -1,5 +1,5 @@
 -- The laws of edits, for the values of a slot under the table of an accepted schema.
-use Rattle.std.specs.Prelude.{◌≡◌, ◌≢◌, ℕ, List, ◌∷◌, Bool, Option, Some, None, Ok}
+use Rattle.std.specs.Prelude.{◌≡◌, ℕ, List, ◌∷◌, Bool, Option, Some, None, Ok}
 use Rattle.ild_data.specs.Data.{Data}
 use Rattle.ild_data.specs.Tree.{IsTree}
 use Rattle.ild_schema.specs.declared.number.Slot.{Slot}

@@ -3,3 +3,6 @@ pub mod Edit
 pub mod EditLaws
 pub mod Along
 pub mod AlongLaws
+pub mod Judged
+pub mod JudgedLaws
+pub mod Stop

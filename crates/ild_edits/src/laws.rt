@@ -1,6 +1,8 @@
 //! Laws of edits.
 ghost use Rattle.ild_edits.specs.AlongLaws.{DepthAlong, FirstAlong, JudgedAlong, SetIsJudged};
+ghost use Rattle.ild_edits.specs.JudgedLaws.{EditedAreStorable, JudgedInOrder, UnrefusedAreStorable};
 ghost use Rattle.ild_edits.specs.EditLaws.{EditsKeepTyped, EditsKeepTypes, ElsewhereStays, LinesKeepTyped, OthersStay, SetStands};
+ghost use Rattle.ild_edits.specs.Stop.{PathFaults, StopsTell};
 
 /// An edit of a value of a slot's type makes such a value, and of a typed value a typed one; so does the edit of a line.
 pub fn edits_keep_types()
@@ -25,4 +27,18 @@ pub fn changes_are_judged_along_the_path()
     ensures set { SetIsJudged }
     ensures depth { DepthAlong }
     ensures first { FirstAlong }
+{}
+
+/// A typed value is refused exactly where a store can't hold it, and for the first cause; so what an edit makes can be held.
+pub fn judged_values_can_be_held()
+    ensures held { UnrefusedAreStorable }
+    ensures first { JudgedInOrder }
+    ensures edits { EditedAreStorable }
+{}
+
+/// Where a path stops tells the part to which it leads, and the root of a HAMT that has to be entered on its way. An edit is refused
+/// as one without a place exactly where a segment of its path has none.
+pub fn stops_tell()
+    ensures stops { StopsTell }
+    ensures faults { PathFaults }
 {}

@@ -3,4 +3,7 @@
 
 mod laws;
 
-pub use laws::{changes_are_judged_along_the_path, edits_are_local, edits_keep_types};
+pub use laws::{
+    changes_are_judged_along_the_path, edits_are_local, edits_keep_types,
+    judged_values_can_be_held, stops_tell,
+};

@@ -1,27 +1,19 @@
 -- Each edit that the table allows is one change of the whole tree.
 use Rattle.ild_edits.proofs.Seen.{insert_part-seen, delete_part-seen}
-use Rattle.ild_typed.specs.Segment.{at_index, set_field, index_of}
-use Rattle.ild_data.specs.Key.{without}
-use Rattle.ild_schema.specs.declared.def.TypeDef.TheVariants as T
 use Rattle.ild_meant.proofs.Told.{told}
 use Rattle.ild_schema.proofs.Legibly.{legible}
 use Rattle.ild_typed.specs.Schema.{IsSchema}
-use Rattle.ild_schema.specs.declared.def.TypeDef.{TypeDef}
-use Rattle.ild_data.specs.Data as D
-use Rattle.std.proofs.Common.{◌≡◌, ℕ, List, Bool, Option, Some, refl, ap, sym, subst, ◌∙◌, fold, insert, remove, None, length}
+use Rattle.std.proofs.Common.{◌≡◌, ℕ, List, Bool, Option, Some, ap, sym, subst, ◌∙◌}
 use Rattle.ild_data.specs.Data.{Data}
-use Rattle.ild_data.proofs.Lists.{items_list-items_of, members_list-members_of}
 use Rattle.ild_schema.specs.declared.number.Slot.{Slot}
 use Rattle.ild_schema.specs.declared.row.Row.{Row}
-use Rattle.ild_schema.specs.Value.{Value, null, boolean, integer, text, bytes, link, list, map, struct, union, enum, unit, any, hamt, Values, Pairs, Optionals, pairs_list, values_list, pairs_of, optionals_list, values_of, optionals_of}
+use Rattle.ild_schema.specs.Value.{Value}
 use Rattle.ild_change.specs.TreeChange.{applied}
 use Rattle.ild_schema.specs.Clear.{IsClear}
 use Rattle.ild_typed.specs.Composed.{Hamts}
 use Rattle.ild_typed.specs.Represented.{represented}
 use Rattle.ild_schema.specs.Slots.{form_of}
-use Rattle.ild_typed.specs.Slots.{element_of, fields_of}
-use Rattle.ild_typed.specs.Holder.{Holder, fields, entries, elements, any_entries, any_elements, holder_of, value_of, list_holder, map_holder, struct_holder, union_holder, is_paired}
-use Rattle.ild_edits.specs.Table.{insert_part, delete_part, new_index}
+use Rattle.ild_typed.specs.Holder.{Holder, holder_of, value_of}
 use Rattle.ild_typed.specs.At.{InSlot, seen}
 use Rattle.ild_lift.specs.LastLift.{LastEdit, setting, inserting, deleting, last_seen}
 use Rattle.ild_lift.specs.LiftLaws.{MaySet, MayInsert, MayDelete, IsOneChange, EditsAreOneChange}
@@ -30,9 +22,8 @@ use Rattle.ild_typed.specs.OfType.{OfType, TestsKeys}
 use Rattle.ild_lift.proofs.HaveTrees.{HasTrees, has_trees}
 use Rattle.ild_meant.proofs.ByParts.{ByParts}
 use Rattle.ild_lift.proofs.Commuting.{one_change}
-use Rattle.ild_edits.proofs.Holders.{set_part-seen, map_seen, struct_seen, union_seen}
+use Rattle.ild_edits.proofs.Holders.{set_part-seen}
 use Rattle.ild_lift.proofs.LastEdits.{set_is_seen, insert_is_seen, delete_is_seen}
-use Rattle.ild_typed.proofs.Lists.{values_list-values_of, pairs_list-pairs_of, optionals_list-optionals_of}
 use Rattle.ild_edits.proofs.KeepTyped.{of_type_is_kept}
 use Rattle.ild_edits.proofs.Paths.{set_typed, inserted_typed, deleted_typed}
 use Rattle.ild_lift.proofs.Represented.{represents, in_holders}

@@ -9,18 +9,14 @@ use Rattle.ild_schema.specs.declared.def.TypeDef.TheVariants as T
 use Rattle.ild_schema.specs.declared.def.MapForm.{MapForm}
 use Rattle.ild_schema.specs.declared.def.MapForm.TheVariants as M
 use Rattle.ild_schema.specs.declared.def.StructForm.TheVariants as F
-use Rattle.ild_schema.specs.declared.def.UnionForm.{UnionForm}
-use Rattle.ild_schema.specs.declared.def.UnionForm.TheVariants as U
-use Rattle.ild_schema.specs.declared.def.Mark.TheVariants as K
 use Rattle.ild_schema.specs.declared.def.Scalar.{Scalar}
 use Rattle.ild_schema.specs.declared.def.Scalar.TheVariants as S
 use Rattle.ild_schema.specs.declared.def.Field.{Field}
-use Rattle.ild_schema.specs.declared.number.Slot.{Slot}
 use Rattle.ild_schema.specs.declared.row.Row.{Row}
 use Rattle.ild_schema.specs.declared.row.Origin.TheVariants as O
 use Rattle.ild_schema.specs.Prelude.{prelude, number}
 use Rattle.ild_schema.specs.Slots.{plainly}
-use Rattle.ild_schema.specs.Value.{Value, integer, list, map, struct, union, any, values_of, pairs_of, optionals_of}
+use Rattle.ild_schema.specs.Value.{Value, integer, list, map, struct, any, values_of, pairs_of, optionals_of}
 use Rattle.ild_change.specs.TreeChange.{nth, key, replace, insert_item, insert_entry, remove_item, remove_entry, Located, unchanged, one}
 use Rattle.ild_typed.specs.Composed.{Hamts}
 use Rattle.ild_typed.specs.Segment.{index_of}

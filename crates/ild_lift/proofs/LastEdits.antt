@@ -19,11 +19,10 @@ use Rattle.ild_change.proofs.Shapes.{list_data}
 use Rattle.ild_typed.specs.Strings.{map_data}
 use Rattle.ild_change.specs.Differences.{at_key}
 use Rattle.ild_schema.specs.Slots.{form_of}
-use Rattle.ild_typed.specs.Slots.{element_of, fields_of}
 use Rattle.ild_typed.specs.Composed.{Hamts, struct_form}
 use Rattle.ild_typed.specs.Represented.{represented}
 use Rattle.ild_schema.specs.Clear.{IsClear, ClearStruct}
-use Rattle.ild_typed.specs.Holder.{Holder, member, fields, entries, elements, any_entries, any_elements, holder_of, data_in, list_holder, map_holder, struct_holder, union_holder}
+use Rattle.ild_typed.specs.Holder.{Holder, member, fields, any_entries, any_elements, holder_of, data_in, list_holder, map_holder, struct_holder, union_holder}
 use Rattle.ild_typed.specs.Segment.{set_part, set_field, at_index, index_of}
 use Rattle.ild_edits.specs.Table.{slot_to_set, slot_to_insert, refusal_to_delete, insert_part, delete_part, new_index, declared_slot, field_kept}
 use Rattle.ild_meant.proofs.Told.{AreToldApart}

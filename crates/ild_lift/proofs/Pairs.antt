@@ -1,8 +1,7 @@
 -- The change of one pair of a list of pairs.
-use Rattle.std.proofs.Common.{◌≡◌, ℕ, List, [], ◌∷◌, ◌++◌, length, Some, None, refl, ap, sym, ◌∙◌}
+use Rattle.std.proofs.Common.{[], ◌∷◌, Some, None, refl, ap, sym, ◌∙◌}
 use Rattle.std.specs.Prelude.{map as list_map}
 use Rattle.std.proofs.lemmas.List.{length-map, map-append}
-use Rattle.ild_data.specs.Data.{Data}
 use Rattle.ild_change.specs.TreeChange.{nth, replace, insert_item, remove_item, changed}
 use Rattle.ild_change.proofs.Shapes.{list_data, inserted, removed, replaced}
 use Rattle.ild_typed.specs.Strings.{pair_data}

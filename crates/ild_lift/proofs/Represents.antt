@@ -1,12 +1,11 @@
 -- What is asked of a representation so that a change of one part is one change of the whole.
 use Rattle.ild_lift.specs.Lift.{lifted, lift_within}
-use Rattle.std.specs.Prelude.{◌≡◌, ℕ, List, [], ◌∷◌, ◌++◌, Bool, Some}
-use Rattle.std.specs.Option.{option_map_or}
+use Rattle.std.specs.Prelude.{◌≡◌, ℕ, List, Bool, Some}
 use Rattle.ild_data.specs.Data.{Data}
 use Rattle.ild_schema.specs.declared.number.Slot.{Slot}
 use Rattle.ild_schema.specs.declared.row.Row.{Row}
 use Rattle.ild_schema.specs.Value.{Value}
-use Rattle.ild_change.specs.TreeChange.{TreeStep, replace, changed, part_at, Located, unchanged, one, applied}
+use Rattle.ild_change.specs.TreeChange.{TreeStep, replace, changed, part_at, Located, applied}
 use Rattle.ild_typed.specs.Holder.{Holder, value_of}
 use Rattle.ild_typed.specs.Segment.{part, set_part}
 use Rattle.ild_typed.specs.At.{InSlot, seen, last_holder, changed_in}

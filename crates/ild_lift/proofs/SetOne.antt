@@ -1,7 +1,7 @@
 -- A set of a part that is there is one change.
 use Rattle.ild_schema.proofs.Legibly.{legible}
 use Rattle.ild_meant.proofs.Told.{told}
-use Rattle.std.proofs.Common.{◌≡◌, ℕ, List, [], Some, ap, sym, subst, ◌∙◌, fold}
+use Rattle.std.proofs.Common.{◌≡◌, ℕ, List, [], Some, ap, sym, subst, ◌∙◌}
 use Rattle.std.proofs.lemmas.Option.{same_Some}
 use Rattle.ild_schema.specs.declared.number.Slot.{Slot}
 use Rattle.ild_schema.specs.Value.{Value}

@@ -3,7 +3,7 @@
 use Rattle.ild_schema.specs.declared.def.TypeDef.TheVariants as T
 use Rattle.ild_schema.specs.declared.def.MapForm.TheVariants as M
 use Rattle.ild_schema.specs.declared.def.StructForm.TheVariants as S
-use Rattle.std.specs.Prelude.{◌≡◌, ℕ, List, [], ◌∷◌, length, Bool, Option, Some, None, option_and_then}
+use Rattle.std.specs.Prelude.{ℕ, List, [], ◌∷◌, length, Option, Some, None, option_and_then}
 use Rattle.std.specs.Option.{option_map_or}
 use Rattle.ild_data.specs.Data.{Data}
 use Rattle.ild_data.specs.Key.{value_at}
@@ -27,7 +27,7 @@ use Rattle.ild_typed.specs.Segment.{set_part, index_of}
 use Rattle.ild_edits.specs.Table.{new_index, insert_part, delete_part}
 use Rattle.ild_typed.specs.At.{InSlot, seen}
 use Rattle.ild_lift.specs.Places.{each_field, written, field_named, field_data, place_of, left_out, written_before, field_place}
-use Rattle.ild_lift.specs.Lift.{whole, lift}
+use Rattle.ild_lift.specs.Lift.{whole}
 
 -- of the field g of the name s, whose data was c and becomes d; the fields' data were ds, and the whole becomes u
 abbrev pub struct_last : StructForm → List ℕ → List Field → List (Option Data) → Field → Option Data → Option Data → Option Data → Located

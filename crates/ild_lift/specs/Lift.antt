@@ -1,13 +1,11 @@
 -- Where the change of a part is seen in the data of its holder: one rule a form. String forms and HAMTs are replaced as a whole.
-use Rattle.ild_data.specs.Data as D
 use Rattle.ild_schema.specs.declared.def.TypeDef.TheVariants as T
 use Rattle.ild_schema.specs.declared.def.MapForm.TheVariants as M
 use Rattle.ild_schema.specs.declared.def.StructForm.TheVariants as S
 use Rattle.ild_schema.specs.declared.def.UnionForm.TheVariants as U
-use Rattle.ild_typed.specs.Layer as L
-use Rattle.std.specs.Prelude.{ℕ, suc, ◌+◌, Bool, true, false, not, List, [], ◌∷◌, length, Option, Some, None, option_and_then, slice_get, if◌then◌else◌, ◌++◌}
+use Rattle.std.specs.Prelude.{ℕ, Bool, true, false, not, List, [], ◌∷◌, Option, Some, None, slice_get, if◌then◌else◌, ◌++◌}
 use Rattle.std.specs.Option.{option_map_or}
-use Rattle.ild_data.specs.Data.{Data, items_of, members_of}
+use Rattle.ild_data.specs.Data.{Data}
 use Rattle.ild_data.specs.Key.{same_text}
 use Rattle.ild_schema.specs.declared.def.TypeDef.{TypeDef}
 use Rattle.ild_schema.specs.declared.def.MapForm.{MapForm}
@@ -20,12 +18,10 @@ use Rattle.ild_schema.specs.declared.row.Row.{Row}
 use Rattle.ild_schema.specs.Value.{Value}
 use Rattle.ild_change.specs.TreeChange.{TreeStep, nth, key, replace, insert_item, insert_entry, remove_item, remove_entry, Located, unchanged, one}
 use Rattle.ild_typed.specs.Strings.{pair_data}
-use Rattle.ild_lift.specs.Pairs.{pair_if}
 use Rattle.ild_schema.specs.Slots.{form_of}
 use Rattle.ild_schema.specs.Marks.{field_text as represented_name, text_of as mark_text}
-use Rattle.ild_typed.specs.Fields.{is_implicit}
 use Rattle.ild_typed.specs.Composed.{Hamts}
-use Rattle.ild_typed.specs.Represented.{layered, represented}
+use Rattle.ild_typed.specs.Represented.{represented}
 use Rattle.ild_typed.specs.Holder.{Holder, fields, member, entries, elements, any_entries, any_elements, nothing, value_of}
 use Rattle.ild_typed.specs.Segment.{set_part, index_of, part}
 use Rattle.ild_typed.specs.At.{InSlot, seen, changed_in}

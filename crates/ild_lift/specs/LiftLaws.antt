@@ -1,12 +1,11 @@
 -- The laws of edits in the data of a value: an edit of a part is one of the five changes, at a named place, or none.
 use Rattle.std.specs.Prelude.{◌≡◌, ℕ, List, [], ◌∷◌, Bool, Option, Some, None, Ok}
-use Rattle.std.specs.Option.{option_map_or}
 use Rattle.ild_data.specs.Data.{Data}
 use Rattle.ild_schema.specs.declared.number.Slot.{Slot}
 use Rattle.ild_schema.specs.declared.row.Row.{Row}
 use Rattle.ild_schema.specs.Value.{Value}
 use Rattle.ild_change.specs.TreeChange.{replace, Located, unchanged, one, applied}
-use Rattle.ild_typed.specs.At.{InSlot, seen, at, last_holder, changed_in}
+use Rattle.ild_typed.specs.At.{InSlot, at, last_holder, changed_in}
 use Rattle.ild_typed.specs.Composed.{Hamts}
 use Rattle.ild_typed.specs.Hamt.{alone, whole as of_whole}
 use Rattle.ild_typed.specs.Holder.{Holder}

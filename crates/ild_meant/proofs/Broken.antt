@@ -10,17 +10,16 @@ use Rattle.ild_data.specs.Key.{same_text, value_at, Rises}
 use Rattle.ild_data.specs.Tree.{IsTree, AreTrees, AreEntries}
 use Rattle.ild_schema.specs.declared.def.TypeDef.{TypeDef}
 use Rattle.ild_schema.specs.declared.def.TypeDef.TheVariants as T
-use Rattle.ild_schema.specs.declared.def.Scalar.{Scalar}
 use Rattle.ild_schema.specs.declared.def.Field.{Field}
 use Rattle.ild_schema.specs.declared.def.Member.{Member}
 use Rattle.ild_schema.specs.declared.number.Slot.{Slot}
 use Rattle.ild_schema.specs.declared.row.Row.{Row}
 use Rattle.ild_schema.specs.Slots.{form_of, plainly}
-use Rattle.ild_schema.specs.Value.{Value, Values, Pairs, Optionals, null, boolean, integer, bytes, enum, list, map, struct, union, value, pair, optional}
+use Rattle.ild_schema.specs.Value.{Value, Values, Pairs, null, boolean, integer, bytes, enum, list, map, union}
 use Rattle.ild_change.proofs.Maps.{own_text, below_absent}
 use Rattle.ild_typed.specs.Segment.{member_named}
 use Rattle.ild_meant.specs.Names.{slot_named, are_named, enum_named}
-use Rattle.ild_meant.specs.MeantRead.{meant, meant_items, readings, Reading, scalar_by, text_by, link_by, list_by, map_by, unit_by, and_others, and_pairs, pairs_by, and_fields, field_of, or_implicit, fields_by, if_named, member_read, member_by}
+use Rattle.ild_meant.specs.MeantRead.{meant, meant_items, readings, Reading, scalar_by, text_by, link_by, list_by, map_by, and_others, and_pairs, pairs_by, and_fields, field_of, or_implicit, fields_by, if_named, member_read, member_by}
 use Rattle.ild_meant.specs.Mismatch.{Rule, Kind, Name, Missing, Member as MemberRule, Key, shows_bool, shows_int, shows_text, shows_bytes, shows_link, shows_list, shows_map, is_kind, breaks_name, lacks, breaks_missing, is_member, breaks_member, breaks_key, breaks, with_part, parts_named, member_slot, list_parts, map_parts, parts_of, part_at}
 use Rattle.ild_meant.proofs.Meanings.{reading_at}
 use Rattle.ild_meant.proofs.MeantTyped.{tree_at}

@@ -15,13 +15,12 @@ use Rattle.ild_schema.specs.declared.def.Mark.TheVariants as K
 use Rattle.ild_schema.specs.declared.def.Scalar.{Scalar}
 use Rattle.ild_schema.specs.declared.def.Scalar.TheVariants as S
 use Rattle.ild_schema.specs.declared.def.Field.{Field}
-use Rattle.ild_schema.specs.declared.def.Member.{Member}
 use Rattle.ild_schema.specs.declared.number.Slot.{Slot}
 use Rattle.ild_schema.specs.declared.row.Row.{Row}
 use Rattle.ild_schema.specs.declared.row.Origin.TheVariants as O
 use Rattle.ild_schema.specs.Prelude.{prelude, number, anything}
 use Rattle.ild_schema.specs.Slots.{plainly}
-use Rattle.ild_schema.specs.Value.{Value, null, integer, text, list, map, struct, union, enum, unit, any, values_of, pairs_of, optionals_of}
+use Rattle.ild_schema.specs.Value.{Value, null, integer, text, map, struct, union, enum, unit, pairs_of, optionals_of}
 use Rattle.ild_typed.specs.Shown.{shown}
 use Rattle.ild_meant.specs.MeantRead.{meant}
 use Rattle.ild_meant.specs.Mismatch.{Rule, Kind, Name, Missing, Member as MemberRule, Key, breaks, part_at}

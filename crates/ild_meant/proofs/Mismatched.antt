@@ -1,5 +1,5 @@
 -- Where data mean nothing, some part of them breaks some rule.
-use Rattle.std.proofs.Common.{cond, ◌≡◌, ◌⊎◌, inl, inr, ℕ, zero, suc, List, [], ◌∷◌, slice_get, Bool, true, false, ◌||◌, not, Option, Some, None, refl, ap, sym, subst, ◌∙◌}
+use Rattle.std.proofs.Common.{cond, ◌≡◌, ◌⊎◌, inl, inr, ℕ, suc, List, [], ◌∷◌, slice_get, Bool, true, false, ◌||◌, not, Option, Some, None, refl, ap, sym, subst, ◌∙◌}
 use Rattle.std.specs.Prelude.{ℤ, ◌&&◌, is_none, map as list_map, option_map, option_and_then}
 use Rattle.std.specs.List.{list_any}
 use Rattle.std.specs.Cmp.Lexicographic.{same_text as text_same}
@@ -7,7 +7,6 @@ use Rattle.std.proofs.lemmas.Option.{same_Some, none-some}
 use Rattle.ild_data.specs.Data as D
 use Rattle.ild_data.specs.Data.{Data, Items, no_items, item, items_list, Members, no_members, member, members_list}
 use Rattle.ild_data.specs.Key.{same_text, value_at}
-use Rattle.ild_data.specs.Tree.{IsTree}
 use Rattle.ild_schema.specs.declared.def.TypeDef.{TypeDef}
 use Rattle.ild_schema.specs.declared.def.TypeDef.TheVariants as T
 use Rattle.ild_schema.specs.declared.def.Scalar.{Scalar}
@@ -19,12 +18,11 @@ use Rattle.ild_schema.specs.declared.row.Row.{Row}
 use Rattle.ild_schema.specs.Slots.{form_of, plainly}
 use Rattle.ild_schema.specs.Value.{Value, Values, Pairs, Optionals, null, boolean, integer, bytes, enum, list, map, struct, union, value, pair, optional}
 use Rattle.ild_change.proofs.Maps.{own_text, other_is}
-use Rattle.ild_typed.specs.Schema.{IsSchema}
 use Rattle.ild_typed.specs.Segment.{member_named}
 use Rattle.ild_meant.specs.Names.{slot_named, are_named, enum_named}
-use Rattle.ild_meant.specs.MeantRead.{meant, meant_items, readings, Reading, scalar_by, text_by, link_by, list_by, map_by, unit_by, and_others, and_pairs, pairs_by, and_fields, field_of, or_implicit, fields_by, if_named, member_read, member_by}
+use Rattle.ild_meant.specs.MeantRead.{meant, meant_items, readings, Reading, scalar_by, text_by, link_by, list_by, map_by, and_others, and_pairs, pairs_by, and_fields, field_of, or_implicit, fields_by, if_named, member_read, member_by}
 use Rattle.ild_meant.specs.MeantLaws.{NothingWhereBroken}
-use Rattle.ild_meant.specs.Mismatch.{Rule, Kind, Name, Missing, Member as MemberRule, Key, shows_bool, shows_int, shows_text, shows_bytes, shows_link, shows_list, shows_map, is_kind, breaks_name, lacks, breaks_missing, is_member, breaks_member, breaks_key, breaks, with_part, parts_named, member_slot, list_parts, map_parts, parts_of, part_at, IsMismatch}
+use Rattle.ild_meant.specs.Mismatch.{Rule, Kind, Name, Missing, Member as MemberRule, Key, shows_bool, shows_int, shows_text, shows_bytes, shows_link, shows_list, shows_map, breaks_name, lacks, breaks_missing, is_member, breaks_member, breaks_key, breaks, with_part, parts_named, member_slot, list_parts, map_parts, parts_of, part_at, IsMismatch}
 use Rattle.ild_meant.proofs.Broken.{broken_none, at_none}
 use Rattle.ild_meant.proofs.Meanings.{reading_at}
 use Rattle.ild_meant.proofs.Told.{AreProper, HasProperFields, told}
