@@ -19,7 +19,7 @@ use Rattle.ild_change.proofs.Maps.{own_text, other_is}
 use Rattle.ild_typed.specs.Layer as L
 use Rattle.ild_typed.specs.Layer.{Layer, as_map, as_hamt}
 use Rattle.ild_schema.specs.Slots.{plainly}
-use Rattle.ild_typed.specs.Layers.{IsNotNull, AreApart, AreKeys, Shows, FieldsFit, EntriesFit}
+use Rattle.ild_typed.specs.Layers.{IsNotNull, AreKeysApart, AreKeys, Shows, FieldsFit, EntriesFit}
 use Rattle.ild_typed.specs.Fits.{IsTextOf}
 use Rattle.ild_typed.specs.Holder.{is_paired}
 use Rattle.ild_meant.specs.Meant.{is_null}
@@ -33,7 +33,7 @@ not_among : {X : Type 0} (k : List ℕ) (ps : List (List ℕ × X)) → AllByRec
 not_among k [] h = refl
 not_among k (p ∷ ps) h = ap (λ b. cond b (Some p.1) (value_at k ps)) (other_is k p.0 h.0) ∙ not_among k ps h.1
 
-apart_distinct : {X : Type 0} (ps : List (List ℕ × X)) → AreApart ps → AreDistinct ps
+apart_distinct : {X : Type 0} (ps : List (List ℕ × X)) → AreKeysApart ps → AreDistinct ps
 apart_distinct [] h = tt
 apart_distinct (p ∷ ps) h = (not_among p.0 ps h.0, apart_distinct ps h.1)
 
@@ -48,7 +48,7 @@ among_none : {X : Type 0} (k : List ℕ) (ps : List (List ℕ × X)) → value_a
 among_none k [] h = tt
 among_none k (p ∷ ps) h = let d = differs k p (value_at k ps) (same_text k p.0) refl h in (d.0, among_none k ps d.1)
 
-distinct_apart : {X : Type 0} (ps : List (List ℕ × X)) → AreDistinct ps → AreApart ps
+distinct_apart : {X : Type 0} (ps : List (List ℕ × X)) → AreDistinct ps → AreKeysApart ps
 distinct_apart [] h = tt
 distinct_apart (p ∷ ps) h = (among_none p.0 ps h.0, distinct_apart ps h.1)
 
