@@ -34,7 +34,7 @@ both_of false b h = absurd cc
 true_false : true ≡ false → ⊥
 true_false h = absurd cc
 
-small_of : (n m : ℕ) → nat_le n m ≡ true → n ≤ m
+pub small_of : (n m : ℕ) → nat_le n m ≡ true → n ≤ m
 small_of n m h = grind (arith, h)
 
 of_small : (n m : ℕ) → n ≤ m → nat_le n m ≡ true

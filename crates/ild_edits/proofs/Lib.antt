@@ -18,3 +18,4 @@ pub mod Seen
 pub mod Elsewhere
 pub mod Judges
 pub mod Stops
+pub mod Moves

@@ -6,3 +6,4 @@ pub mod AlongLaws
 pub mod Judged
 pub mod JudgedLaws
 pub mod Stop
+pub mod MoveLaws

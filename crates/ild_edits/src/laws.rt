@@ -2,6 +2,7 @@
 ghost use Rattle.ild_edits.specs.AlongLaws.{DepthAlong, FirstAlong, JudgedAlong, SetIsJudged};
 ghost use Rattle.ild_edits.specs.JudgedLaws.{EditedAreStorable, JudgedInOrder, UnrefusedAreStorable};
 ghost use Rattle.ild_edits.specs.EditLaws.{EditsKeepTyped, EditsKeepTypes, ElsewhereStays, LinesKeepTyped, OthersStay, SetStands};
+ghost use Rattle.ild_edits.specs.MoveLaws.{DeleteMoves, InsertMoves, InsertedStands, LastIsChanged};
 ghost use Rattle.ild_edits.specs.Stop.{PathFaults, StopsTell};
 
 /// An edit of a value of a slot's type makes such a value, and of a typed value a typed one; so does the edit of a line.
@@ -41,4 +42,13 @@ pub fn judged_values_can_be_held()
 pub fn stops_tell()
     ensures stops { StopsTell }
     ensures faults { PathFaults }
+{}
+
+/// The last holder of an edit's path is changed as the table of edits says, and the path leads to it as before. In a list, what is
+/// inserted at a number is there, those before it stay, and those behind it move by one; so they do where an element is deleted.
+pub fn elements_move()
+    ensures last { LastIsChanged }
+    ensures inserted { InsertMoves }
+    ensures there { InsertedStands }
+    ensures deleted { DeleteMoves }
 {}
