@@ -10,3 +10,4 @@ pub mod Showing
 pub mod Broken
 pub mod Mismatched
 mod Examples
+pub mod KeyTests

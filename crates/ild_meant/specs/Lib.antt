@@ -4,3 +4,4 @@ pub mod MeantRead
 pub mod Risen
 pub mod Mismatch
 pub mod MeantLaws
+pub mod KeyTests

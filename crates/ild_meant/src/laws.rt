@@ -1,4 +1,5 @@
 //! Laws of the values that data mean.
+ghost use Rattle.ild_meant.specs.KeyTests.{KeysAreTested};
 ghost use Rattle.ild_meant.specs.MeantLaws.{MeantIsRead, MeantIsTyped, NothingWhereBroken, OneMeant, ReadIsMeant, ShownIsMeant};
 
 /// Data mean one value of a slot at most, and the reading by the types finds it and no other.
@@ -21,4 +22,9 @@ pub fn shown_is_meant()
 /// A tree means no value of a slot exactly where some part of it breaks one of the five rules, at its type.
 pub fn nothing_is_meant_where_a_rule_is_broken()
     ensures { NothingWhereBroken }
+{}
+
+/// Whether a text is one of a key type can be tested, given rooms in which each such text is found.
+pub fn keys_are_tested()
+    ensures { KeysAreTested }
 {}
