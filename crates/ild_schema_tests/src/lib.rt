@@ -4,6 +4,8 @@
 #[cfg(test)]
 mod compile;
 #[cfg(test)]
+mod corners;
+#[cfg(test)]
 mod lex;
 #[cfg(test)]
 mod parse;

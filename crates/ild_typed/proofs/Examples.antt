@@ -37,36 +37,36 @@ ints = 3
 texts : ℕ
 texts = 7
 
-abbrev field : List ℕ → ℕ → Bool → Field
+abbrev pub field : List ℕ → ℕ → Bool → Field
 field name n optional = record { name = name; at = 0; optional = optional; slot = plainly (number n); rename = None; implicit = None }
 
-abbrev struct_of : List Field → StructForm → TypeDef
+abbrev pub struct_of : List Field → StructForm → TypeDef
 struct_of fs form = D.Struct (record { fields = fs; form = form })
 
-abbrev map_of : ℕ → MapForm → TypeDef
+abbrev pub map_of : ℕ → MapForm → TypeDef
 map_of n form = D.Map (number 7) 0 (plainly (number n)) 0 form
 
-abbrev member : List ℕ → ℕ → List ℕ → Member
+abbrev pub member : List ℕ → ℕ → List ℕ → Member
 member name n mark = record { name = name; at = 0; ty = number n; mark = M.Text mark }
 
 -- the block of a value of type 8, which is the first of these
-abbrev block : List TypeDef → Value → Option (List ℕ)
+abbrev pub block : List TypeDef → Value → Option (List ℕ)
 block ds v = option_map spell (represented alone (prelude ++ rows ds) (plainly (number 8)) v) where
   rows : List TypeDef → List Row
   rows [] = []
   rows (d ∷ ds) = given [] d ∷ rows ds
 
-abbrev two : Value → Value → Value
+abbrev pub two : Value → Value → Value
 two v w = V.struct (V.present v (V.present w V.no_optionals))
 
-abbrev t : List ℕ → Value
+abbrev pub t : List ℕ → Value
 t s = V.text s
 
-abbrev n : ℕ → Value
+abbrev pub n : ℕ → Value
 n k = V.integer (pos k)
 
 -- a text of two parts
-abbrev joined_by : List ℕ → List TypeDef
+abbrev pub joined_by : List ℕ → List TypeDef
 joined_by delim = struct_of (field (codes "a") 7 false ∷ field (codes "b") 7 false ∷ []) (S.StringJoin delim) ∷ []
 
 joined_parts : block (joined_by (codes ":")) (two (t (codes "x")) (t (codes "y"))) ≡ Some (0x63 ∷ 0x78 ∷ 0x3a ∷ 0x79 ∷ [])
@@ -82,10 +82,10 @@ empty_parts : block (joined_by (codes "aa")) (two (t []) (t [])) ≡ Some (0x62 
 empty_parts = refl
 
 -- a text of pairs
-abbrev q : List TypeDef
+abbrev pub q : List TypeDef
 q = map_of 7 (MF.StringPairs (codes "=") (codes "&")) ∷ []
 
-abbrev pairs2 : List ℕ → Value → List ℕ → Value → Value
+abbrev pub pairs2 : List ℕ → Value → List ℕ → Value → Value
 pairs2 k v l w = V.map (V.pair k v (V.pair l w V.no_pairs))
 
 joined_pairs : block q (pairs2 (codes "a") (t (codes "1")) (codes "b") (t [])) ≡ Some (0x66 ∷ 0x61 ∷ 0x3d ∷ 0x31 ∷ 0x26 ∷ 0x62 ∷ 0x3d ∷ [])
@@ -108,7 +108,7 @@ map_as_pairs : block (map_of 3 MF.ListPairs ∷ []) (pairs2 (codes "a") (n 2) (c
 map_as_pairs = refl
 
 -- a tuple with two optional fields
-abbrev tuple : List TypeDef
+abbrev pub tuple : List TypeDef
 tuple = struct_of (field (codes "a") 3 false ∷ field (codes "b") 3 true ∷ field (codes "c") 3 true ∷ []) S.Tuple ∷ []
 
 tuple_of_one : block tuple (V.struct (V.present (n 1) (V.absent (V.absent V.no_optionals)))) ≡ Some (0x81 ∷ 0x01 ∷ [])
@@ -125,14 +125,14 @@ implicit_is_left_out : block (struct_of (record { name = codes "n"; at = 0; opti
 implicit_is_left_out = refl
 
 -- a union of two structs
-abbrev dot_or_box : UnionForm → List TypeDef
+abbrev pub dot_or_box : UnionForm → List TypeDef
 dot_or_box form =
     D.Union (record { members = member (codes "Dot") 9 (codes "dot") ∷ member (codes "Box") 10 (codes "box") ∷ []; form = form })
     ∷ struct_of (field (codes "x") 3 false ∷ []) S.Map
     ∷ struct_of (field (codes "w") 3 false ∷ field (codes "h") 3 false ∷ []) S.Map
     ∷ []
 
-abbrev box : Value
+abbrev pub box : Value
 box = V.union 1 (two (n 2) (n 3))
 
 keyed_union : block (dot_or_box UF.Keyed) box ≡ Some (0xa1 ∷ 0x63 ∷ codes "box" ++ 0xa2 ∷ 0x61 ∷ 0x68 ∷ 0x03 ∷ 0x61 ∷ 0x77 ∷ 0x02 ∷ [])
@@ -165,16 +165,16 @@ unit_as_empty_map = refl
 
 -- ---- what is shown
 
-abbrev table : List TypeDef → List Row
+abbrev pub table : List TypeDef → List Row
 table ds = prelude ++ rows ds where
   rows : List TypeDef → List Row
   rows [] = []
   rows (d ∷ ds) = given [] d ∷ rows ds
 
-abbrev top : Slot
+abbrev pub top : Slot
 top = plainly (number 8)
 
-abbrev entry : List ℕ → Data → List (List ℕ × Data) → List (List ℕ × Data)
+abbrev pub entry : List ℕ → Data → List (List ℕ × Data) → List (List ℕ × Data)
 entry k d es = (k, d) ∷ es
 
 -- an implicit value is shown
@@ -210,7 +210,7 @@ hole_is_seen = refl
 abbrev hamt : List TypeDef
 hamt = map_of 3 MF.Hamt ∷ []
 
-abbrev hamt_block : (List ℕ → List ℕ) → Value → Option (List ℕ)
+abbrev pub hamt_block : (List ℕ → List ℕ) → Value → Option (List ℕ)
 hamt_block h v = option_map spell (represented (whole h) (table hamt) top v)
 
 empty_hamt : hamt_block (λ k. k) (V.map V.no_pairs)

@@ -1,4 +1,5 @@
 -- A value with data that are no list and no map has no HAMT inside, so the data are those of the value alone.
+use Rattle.ild_typed.proofs.PartData.{values_data, pairs_data, member_data}
 use Rattle.std.proofs.Common.{◌≡◌, ℕ, List, [], ◌∷◌, ◌++◌, Bool, true, false, cond, Option, Some, None, option_map, refl, sym, ◌∙◌, ap, subst}
 use Rattle.std.specs.Prelude.{IfSome, option_and_then, is_none, slice_get}
 use Rattle.std.specs.List.{AllByRecursion}
@@ -35,7 +36,7 @@ use Rattle.ild_typed.specs.Slots.{element_of, fields_of, member_of}
 use Rattle.ild_data.specs.Trie.{trie}
 use Rattle.ild_typed.specs.Composed.{Hamts, usual, composed, struct_form, marked_form, member_form, inlined}
 use Rattle.ild_typed.specs.Hamt.{root_map, whole, a_map, alone}
-use Rattle.ild_typed.specs.Represented.{layered, represented, represented_values, represented_pairs, represented_fields}
+use Rattle.ild_typed.specs.Represented.{layered, represented, represented_pairs, represented_fields}
 use Rattle.ild_typed.proofs.Basics.{then_from, map_from, true_from, if_from}
 use Rattle.ild_typed.proofs.Entries.{both_from}
 
@@ -228,16 +229,17 @@ module _ (at bt : Hamts) (never : NeverFlat at) (rows : List Row) where
     flat_same s (V.hamt x) t e flat = layer_same (form_of rows s) (Some (L.hamt x)) (Some (L.hamt x)) t e flat (λ d l is made. is)
     flat_same s (V.list vs) t e flat =
         let u = element_of (form_of rows s) in
-        layer_same (form_of rows s) (option_map L.list (represented_values at rows u vs)) (option_map L.list (represented_values bt rows u vs)) t e flat
+        layer_same (form_of rows s) (option_map L.list (values_data at rows u vs)) (option_map L.list (values_data bt rows u vs)) t e flat
         (λ d l is made.
-        let x = map_from L.list (represented_values at rows u vs) l is in
+        let x = map_from L.list (values_data at rows u vs) l is in
         absurd (not_list d x.item t (ap (composed at d) (same_Some (L.list x.item) l x.made) ∙ made) flat))
     flat_same s (V.map ps) t e flat =
         let u = element_of (form_of rows s) in
-        layer_same (form_of rows s) (option_map L.map (represented_pairs at rows u ps)) (option_map L.map (represented_pairs bt rows u ps)) t e flat
+        layer_same (form_of rows s) (option_map L.map (pairs_data at rows u ps)) (option_map L.map (pairs_data bt rows u ps)) t e flat
         (λ d l is made.
-        let x = map_from L.map (represented_pairs at rows u ps) l is in
-        ap (option_map L.map) (pairs_same u ps x.item x.there (map_flat d x.item t (ap (composed at d) (same_Some (L.map x.item) l x.made) ∙ made) flat)) ∙ x.made)
+        let x = map_from L.map (pairs_data at rows u ps) l is in
+        let z = then_from (λ k. represented_pairs at rows k ps) u x.item x.there in
+        ap (option_map L.map) (ap (λ k. pairs_data bt rows k ps) z.there ∙ pairs_same z.item ps x.item z.made (map_flat d x.item t (ap (composed at d) (same_Some (L.map x.item) l x.made) ∙ made) flat)) ∙ x.made)
     flat_same s (V.struct os) t e flat =
         let fs = fields_of (form_of rows s) in
         layer_same (form_of rows s) (option_map L.struct (represented_fields at rows fs os)) (option_map L.struct (represented_fields bt rows fs os)) t e flat
@@ -246,10 +248,11 @@ module _ (at bt : Hamts) (never : NeverFlat at) (rows : List Row) where
         ap (option_map L.struct) (fields_same fs os x.item x.there (fields_flat d x.item t (ap (composed at d) (same_Some (L.struct x.item) l x.made) ∙ made) flat)) ∙ x.made)
     flat_same s (V.union n v) t e flat =
         let u = member_of (form_of rows s) n in
-        layer_same (form_of rows s) (option_map (L.union n) (represented at rows u v)) (option_map (L.union n) (represented bt rows u v)) t e flat
+        layer_same (form_of rows s) (option_map (L.union n) (member_data at rows u v)) (option_map (L.union n) (member_data bt rows u v)) t e flat
         (λ d l is made.
-        let x = map_from (L.union n) (represented at rows u v) l is in
-        ap (option_map (L.union n)) (flat_same u v x.item x.there (union_flat d n x.item t (ap (composed at d) (same_Some (L.union n x.item) l x.made) ∙ made) flat)) ∙ x.made)
+        let x = map_from (L.union n) (member_data at rows u v) l is in
+        let z = then_from (λ k. represented at rows k v) u x.item x.there in
+        ap (option_map (L.union n)) (ap (λ k. member_data bt rows k v) z.there ∙ flat_same z.item v x.item z.made (union_flat d n x.item t (ap (composed at d) (same_Some (L.union n x.item) l x.made) ∙ made) flat)) ∙ x.made)
 
     pub pairs_same : (s : Slot) (ps : Pairs) (ds : List (List ℕ × Data)) → represented_pairs at rows s ps ≡ Some ds → FlatPairs ds → represented_pairs bt rows s ps ≡ Some ds
     pairs_same s V.no_pairs ds e flat = e

@@ -28,6 +28,7 @@ use Rattle.ild_typed.specs.Represented.{represented, represented_values, represe
 use Rattle.ild_schema.specs.Whole.{is_whole, are_whole, pairs_whole, fields_whole}
 use Rattle.ild_typed.specs.Judged.{some_present, hole_in, tuple_hole, is_hole, is_refused, struct_breaks, map_breaks, breaks, map_exhausts, is_exhausted}
 use Rattle.ild_typed.specs.EachLayer.{some_layer, some_value, some_pair, some_field}
+use Rattle.ild_typed.proofs.PartData.{pairs_data, member_data, values_data, values_test, pairs_test, member_test, given_false}
 use Rattle.ild_typed.proofs.Basics.{then_from, map_from, true_from, both_true}
 use Rattle.ild_typed.proofs.Entries.{both_from}
 use Rattle.ild_typed.proofs.Flat.{stringpairs_flat, struct_pairs_flat, struct_join_flat, pairs_alone, fields_alone}
@@ -143,7 +144,7 @@ module _ (h : List ℕ → List ℕ) (rows : List Row) where
   union_layer (D.Map key key_at value place form) n v = record { hole = refl; delimiter = refl; full = refl }
   union_layer d n v = record { hole = refl; delimiter = refl; full = refl }
 
-  map_layer : (d : TypeDef) (ps : Pairs) (ds : List (List ℕ × Data)) (t : Data) → represented_pairs (whole h) rows (element_of (Some d)) ps ≡ Some ds → composed (whole h) d (L.map ds) ≡ Some t → LayerSound d (V.map ps)
+  map_layer : (d : TypeDef) (ps : Pairs) (ds : List (List ℕ × Data)) (t : Data) → pairs_data (whole h) rows (element_of (Some d)) ps ≡ Some ds → composed (whole h) d (L.map ds) ≡ Some t → LayerSound d (V.map ps)
   map_layer (D.Map key key_at value place form) ps ds t e k =
       record { hole = refl; delimiter = map_joined form value ps ds t e k; full = map_full h form (represented_pairs (whole h) rows value ps) ds t e k }
   map_layer (D.Struct s) ps ds t e k = record { hole = refl; delimiter = refl; full = refl }
@@ -174,11 +175,12 @@ module _ (h : List ℕ → List ℕ) (rows : List Row) where
     by : Way (whole h) rows s (V.list vs) t → Sound h rows s (V.list vs)
     by (as_null v_null nullable is_null) = absurd cc
     by (as_layer d l is there made) =
-        let x = map_from L.list (represented_values (whole h) rows (element_of (Some d)) vs) l there in
-        let parts = later (element_of (Some d)) x.item x.there in
+        let x = map_from L.list (values_data (whole h) rows (element_of (Some d)) vs) l there in
+        let z = then_from (λ u. represented_values (whole h) rows u vs) (element_of (Some d)) x.item x.there in
+        let parts = later z.item x.item z.made in
         let here = list_layer d vs in
-        let up : (test : Option TypeDef → Value → Bool) → test (Some d) (V.list vs) ≡ false → some_value test rows (element_of (Some d)) vs ≡ false → some_layer test rows s (V.list vs) ≡ false
-        = λ test a b. subst (λ c. layer_test test rows c (V.list vs) ≡ false) (sym is) (false_or (test (Some d) (V.list vs)) (some_value test rows (element_of (Some d)) vs) a b) in
+        let up : (test : Option TypeDef → Value → Bool) → test (Some d) (V.list vs) ≡ false → some_value test rows z.item vs ≡ false → some_layer test rows s (V.list vs) ≡ false
+        = λ test a b. subst (λ c. layer_test test rows c (V.list vs) ≡ false) (sym is) (false_or (test (Some d) (V.list vs)) (values_test test rows (element_of (Some d)) vs) a (given_false (λ u. some_value test rows u vs) (element_of (Some d)) z.item z.there b)) in
         record { hole = up is_hole here.hole parts.hole; delimiter = up (breaks rows) here.delimiter parts.delimiter; full = up (is_exhausted h rows) here.full parts.full; entire = parts.entire }
 
   map_case : (s : Slot) (ps : Pairs) (t : Data) → represented (whole h) rows s (V.map ps) ≡ Some t
@@ -187,11 +189,12 @@ module _ (h : List ℕ → List ℕ) (rows : List Row) where
     by : Way (whole h) rows s (V.map ps) t → Sound h rows s (V.map ps)
     by (as_null v_null nullable is_null) = absurd cc
     by (as_layer d l is there made) =
-        let x = map_from L.map (represented_pairs (whole h) rows (element_of (Some d)) ps) l there in
-        let parts = later (element_of (Some d)) x.item x.there in
+        let x = map_from L.map (pairs_data (whole h) rows (element_of (Some d)) ps) l there in
+        let z = then_from (λ u. represented_pairs (whole h) rows u ps) (element_of (Some d)) x.item x.there in
+        let parts = later z.item x.item z.made in
         let here = map_layer d ps x.item t x.there (ap (composed (whole h) d) (same_Some (L.map x.item) l x.made) ∙ made) in
-        let up : (test : Option TypeDef → Value → Bool) → test (Some d) (V.map ps) ≡ false → some_pair test rows (element_of (Some d)) ps ≡ false → some_layer test rows s (V.map ps) ≡ false
-        = λ test a b. subst (λ c. layer_test test rows c (V.map ps) ≡ false) (sym is) (false_or (test (Some d) (V.map ps)) (some_pair test rows (element_of (Some d)) ps) a b) in
+        let up : (test : Option TypeDef → Value → Bool) → test (Some d) (V.map ps) ≡ false → some_pair test rows z.item ps ≡ false → some_layer test rows s (V.map ps) ≡ false
+        = λ test a b. subst (λ c. layer_test test rows c (V.map ps) ≡ false) (sym is) (false_or (test (Some d) (V.map ps)) (pairs_test test rows (element_of (Some d)) ps) a (given_false (λ u. some_pair test rows u ps) (element_of (Some d)) z.item z.there b)) in
         record { hole = up is_hole here.hole parts.hole; delimiter = up (breaks rows) here.delimiter parts.delimiter; full = up (is_exhausted h rows) here.full parts.full; entire = parts.entire }
 
   struct_case : (s : Slot) (os : Optionals) (t : Data) → represented (whole h) rows s (V.struct os) ≡ Some t
@@ -213,11 +216,12 @@ module _ (h : List ℕ → List ℕ) (rows : List Row) where
     by : Way (whole h) rows s (V.union n v) t → Sound h rows s (V.union n v)
     by (as_null v_null nullable is_null) = absurd cc
     by (as_layer d l is there made) =
-        let x = map_from (L.union n) (represented (whole h) rows (member_of (Some d) n) v) l there in
-        let parts = later (member_of (Some d) n) x.item x.there in
+        let x = map_from (L.union n) (member_data (whole h) rows (member_of (Some d) n) v) l there in
+        let z = then_from (λ u. represented (whole h) rows u v) (member_of (Some d) n) x.item x.there in
+        let parts = later z.item x.item z.made in
         let here = union_layer d n v in
-        let up : (test : Option TypeDef → Value → Bool) → test (Some d) (V.union n v) ≡ false → some_layer test rows (member_of (Some d) n) v ≡ false → some_layer test rows s (V.union n v) ≡ false
-        = λ test a b. subst (λ c. layer_test test rows c (V.union n v) ≡ false) (sym is) (false_or (test (Some d) (V.union n v)) (some_layer test rows (member_of (Some d) n) v) a b) in
+        let up : (test : Option TypeDef → Value → Bool) → test (Some d) (V.union n v) ≡ false → some_layer test rows z.item v ≡ false → some_layer test rows s (V.union n v) ≡ false
+        = λ test a b. subst (λ c. layer_test test rows c (V.union n v) ≡ false) (sym is) (false_or (test (Some d) (V.union n v)) (member_test test rows (member_of (Some d) n) v) a (given_false (λ u. some_layer test rows u v) (member_of (Some d) n) z.item z.there b)) in
         record { hole = up is_hole here.hole parts.hole; delimiter = up (breaks rows) here.delimiter parts.delimiter; full = up (is_exhausted h rows) here.full parts.full; entire = parts.entire }
 
   hamt_case : (s : Slot) (x t : Data) → represented (whole h) rows s (V.hamt x) ≡ Some t → ⊥

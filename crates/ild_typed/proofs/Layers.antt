@@ -7,6 +7,7 @@ use Rattle.ild_data.specs.Data as T
 use Rattle.ild_data.specs.Data.{Data}
 use Rattle.ild_schema.specs.declared.number.Slot.{Slot}
 use Rattle.ild_schema.specs.declared.def.TypeDef.{TypeDef}
+use Rattle.ild_schema.specs.declared.def.TypeDef.TheVariants as D
 use Rattle.ild_schema.specs.declared.def.Field.{Field}
 use Rattle.ild_schema.specs.declared.row.Row.{Row}
 use Rattle.ild_schema.specs.Value as V
@@ -20,13 +21,22 @@ use Rattle.ild_typed.specs.Composed.{Hamts, composed}
 use Rattle.ild_typed.specs.Represented.{layered, represented, represented_values, represented_pairs, represented_fields}
 use Rattle.ild_typed.specs.Layers.{layer_of}
 use Rattle.ild_typed.specs.Parts.{Part, layer_map, present, FieldSlots, AreSlots, AreRepresented, ByNull, ByLayer, InLayers}
-use Rattle.ild_typed.proofs.Basics.{map_from}
+use Rattle.ild_typed.proofs.Basics.{then_from, map_from}
+use Rattle.ild_typed.proofs.PartData.{values_data, pairs_data, member_data}
 use Rattle.ild_typed.proofs.Entries.{both_from}
 use Rattle.ild_typed.proofs.OneValue.{Way, as_null, as_layer, way_of, layer_data}
 
 module _ (at : Hamts) (rows : List Row) where
   abbrev IsRep : Part → Type 0
   IsRep p = represented at rows p.slot p.value ≡ Some p.tree
+
+  slots_up : {A : Type 0} (f : A → Slot) (o : Option Slot) (s : Slot) → o ≡ Some s → (xs : List A) → AllByRecursion (λ x. f x ≡ s) xs → AllByRecursion (λ x. o ≡ Some (f x)) xs
+  slots_up f o s is [] all = tt
+  slots_up f o s is (x ∷ xs) all = (is ∙ ap Some (sym all.0), slots_up f o s is xs all.1)
+
+  slots_down : {A : Type 0} (f : A → Slot) (o : Option Slot) (s : Slot) → o ≡ Some s → (xs : List A) → AllByRecursion (λ x. o ≡ Some (f x)) xs → AllByRecursion (λ x. f x ≡ s) xs
+  slots_down f o s is [] all = tt
+  slots_down f o s is (x ∷ xs) all = (same_Some (f x) s (sym all.0 ∙ is), slots_down f o s is xs all.1)
 
   -- ---- from values to parts
 
@@ -117,25 +127,28 @@ module _ (at : Hamts) (rows : List Row) where
   down s (V.enum n) t (as_layer d l is there made) = inr (d, L.enum n, is, record { value = refl; tree = ap (composed at d) (same_Some (L.enum n) l there) ∙ made; slots = tt }, tt)
   down s (V.hamt x) t (as_layer d l is there made) = inr (d, L.hamt x, is, record { value = refl; tree = ap (composed at d) (same_Some (L.hamt x) l there) ∙ made; slots = tt }, tt)
   down s (V.list vs) t (as_layer d l is there made) =
-      let x = map_from L.list (represented_values at rows (element_of (Some d)) vs) l there in
-      let p = list_parts (element_of (Some d)) vs x.item x.there in
-      inr (d, L.list p.parts, is, record { value = ap (λ xs. Some (L.list xs)) p.values; tree = ap (λ xs. composed at d (L.list xs)) p.trees ∙ ap (composed at d) (same_Some (L.list x.item) l x.made) ∙ made; slots = p.slots }, p.reps)
+      let x = map_from L.list (values_data at rows (element_of (Some d)) vs) l there in
+      let z = then_from (λ u. represented_values at rows u vs) (element_of (Some d)) x.item x.there in
+      let p = list_parts z.item vs x.item z.made in
+      inr (d, L.list p.parts, is, record { value = ap (λ xs. Some (L.list xs)) p.values; tree = ap (λ xs. composed at d (L.list xs)) p.trees ∙ ap (composed at d) (same_Some (L.list x.item) l x.made) ∙ made; slots = slots_up (λ p. p.slot) (element_of (Some d)) z.item z.there p.parts p.slots }, p.reps)
   down s (V.map vs) t (as_layer d l is there made) =
-      let x = map_from L.map (represented_pairs at rows (element_of (Some d)) vs) l there in
-      let p = map_parts (element_of (Some d)) vs x.item x.there in
-      inr (d, L.map p.parts, is, record { value = ap (λ xs. Some (L.map xs)) p.values; tree = ap (λ xs. composed at d (L.map xs)) p.trees ∙ ap (composed at d) (same_Some (L.map x.item) l x.made) ∙ made; slots = p.slots }, p.reps)
+      let x = map_from L.map (pairs_data at rows (element_of (Some d)) vs) l there in
+      let z = then_from (λ u. represented_pairs at rows u vs) (element_of (Some d)) x.item x.there in
+      let p = map_parts z.item vs x.item z.made in
+      inr (d, L.map p.parts, is, record { value = ap (λ xs. Some (L.map xs)) p.values; tree = ap (λ xs. composed at d (L.map xs)) p.trees ∙ ap (composed at d) (same_Some (L.map x.item) l x.made) ∙ made; slots = slots_up (λ (p : List ℕ × Part). p.1.slot) (element_of (Some d)) z.item z.there p.parts p.slots }, p.reps)
   down s (V.struct os) t (as_layer d l is there made) =
       let x = map_from L.struct (represented_fields at rows (fields_of (Some d)) os) l there in
       let p = field_parts (fields_of (Some d)) os x.item x.there in
       inr (d, L.struct p.parts, is, record { value = ap (λ xs. Some (L.struct xs)) p.values; tree = ap (λ xs. composed at d (L.struct xs)) p.trees ∙ ap (composed at d) (same_Some (L.struct x.item) l x.made) ∙ made; slots = p.slots }, p.reps)
   down s (V.union n v) t (as_layer d l is there made) =
-      let x = map_from (L.union n) (represented at rows (member_of (Some d) n) v) l there in
+      let x = map_from (L.union n) (member_data at rows (member_of (Some d) n) v) l there in
+      let z = then_from (λ u. represented at rows u v) (member_of (Some d) n) x.item x.there in
       inr (
         d,
-        L.union n (record { slot = member_of (Some d) n; value = v; tree = x.item }),
+        L.union n (record { slot = z.item; value = v; tree = x.item }),
         is,
-        record { value = refl; tree = ap (composed at d) (same_Some (L.union n x.item) l x.made) ∙ made; slots = refl },
-        (x.there, tt),
+        record { value = refl; tree = ap (composed at d) (same_Some (L.union n x.item) l x.made) ∙ made; slots = z.there },
+        (z.made, tt),
       )
 
   -- ---- from parts to values
@@ -235,24 +248,47 @@ module _ (at : Hamts) (rows : List Row) where
   plain_back (L.hamt b) m e = same_Some (L.hamt b) m e
 
   -- the layer of the data is that of the parts
-  layer_back : (d : TypeDef) (v : Value) (parts : Layer Part) → layer_of v ≡ Some (layer_map (λ p. p.value) parts) → AreSlots d parts → AreRepresented at rows parts
+  record HasElement (d : TypeDef) : Type 0 where
+    slot : Slot
+    is : element_of (Some d) ≡ Some slot
+
+  list_element : (d : TypeDef) (ds : List Data) (t : Data) → composed at d (L.list ds) ≡ Some t → HasElement d
+  list_element (D.List elem place) ds t e = record { slot = elem; is = refl }
+  list_element (D.Map key key_at value place form) ds t e = record { slot = value; is = refl }
+  list_element d ds t e = absurd (none-some t e)
+
+  map_element : (d : TypeDef) (ds : List (List ℕ × Data)) (t : Data) → composed at d (L.map ds) ≡ Some t → HasElement d
+  map_element (D.List elem place) ds t e = record { slot = elem; is = refl }
+  map_element (D.Map key key_at value place form) ds t e = record { slot = value; is = refl }
+  map_element d ds t e = absurd (none-some t e)
+
+  layer_back : (d : TypeDef) (v : Value) (parts : Layer Part) (t : Data) → composed at d (layer_map (λ p. p.tree) parts) ≡ Some t
+      → layer_of v ≡ Some (layer_map (λ p. p.value) parts) → AreSlots d parts → AreRepresented at rows parts
       → layer_data at rows (Some d) v ≡ Some (layer_map (λ p. p.tree) parts)
-  layer_back d V.null parts e slots reps = absurd (none-some (layer_map (λ p. p.value) parts) e)
-  layer_back d (V.list vs) (L.list ps) e slots reps = ap (option_map L.list) (values_back (element_of (Some d)) ps vs (by (same_Some (L.list (values_list vs)) (L.list (map (λ p. p.value) ps)) e)) slots reps) where
-    inside : Layer Value → List Value
-    inside (L.list xs) = xs
-    inside l = []
+  layer_back d V.null parts t made e slots reps = absurd (none-some (layer_map (λ p. p.value) parts) e)
+  layer_back d (V.list vs) (L.list ps) t made e slots reps =
+      let z = list_element d (map (λ p. p.tree) ps) t made in
+      ap (λ o. option_map L.list (values_data at rows o vs)) z.is
+      ∙ ap (option_map L.list) (values_back z.slot ps vs (by (same_Some (L.list (values_list vs)) (L.list (map (λ p. p.value) ps)) e)) (slots_down (λ p. p.slot) (element_of (Some d)) z.slot z.is ps slots) reps)
+    where
+      inside : Layer Value → List Value
+      inside (L.list xs) = xs
+      inside l = []
 
-    by : L.list (values_list vs) ≡ L.list (map (λ p. p.value) ps) → values_list vs ≡ map (λ p. p.value) ps
-    by k = ap inside k
-  layer_back d (V.map vs) (L.map ps) e slots reps = ap (option_map L.map) (pairs_back (element_of (Some d)) ps vs (by (same_Some (L.map (pairs_list vs)) (L.map (map (λ p. (p.0, p.1.value)) ps)) e)) slots reps) where
-    inside : Layer Value → List (List ℕ × Value)
-    inside (L.map xs) = xs
-    inside l = []
+      by : L.list (values_list vs) ≡ L.list (map (λ p. p.value) ps) → values_list vs ≡ map (λ p. p.value) ps
+      by k = ap inside k
+  layer_back d (V.map vs) (L.map ps) t made e slots reps =
+      let z = map_element d (map (λ p. (p.0, p.1.tree)) ps) t made in
+      ap (λ o. option_map L.map (pairs_data at rows o vs)) z.is
+      ∙ ap (option_map L.map) (pairs_back z.slot ps vs (by (same_Some (L.map (pairs_list vs)) (L.map (map (λ p. (p.0, p.1.value)) ps)) e)) (slots_down (λ (p : List ℕ × Part). p.1.slot) (element_of (Some d)) z.slot z.is ps slots) reps)
+    where
+      inside : Layer Value → List (List ℕ × Value)
+      inside (L.map xs) = xs
+      inside l = []
 
-    by : L.map (pairs_list vs) ≡ L.map (map (λ p. (p.0, p.1.value)) ps) → pairs_list vs ≡ map (λ p. (p.0, p.1.value)) ps
-    by k = ap inside k
-  layer_back d (V.struct vs) (L.struct ps) e slots reps =
+      by : L.map (pairs_list vs) ≡ L.map (map (λ p. (p.0, p.1.value)) ps) → pairs_list vs ≡ map (λ p. (p.0, p.1.value)) ps
+      by k = ap inside k
+  layer_back d (V.struct vs) (L.struct ps) t made e slots reps =
       ap (option_map L.struct) (fields_back (fields_of (Some d)) ps vs (by (same_Some (L.struct (optionals_list vs)) (L.struct (map (option_map (λ p. p.value)) ps)) e)) slots reps) where
         inside : Layer Value → List (Option Value)
         inside (L.struct xs) = xs
@@ -260,13 +296,13 @@ module _ (at : Hamts) (rows : List Row) where
 
         by : L.struct (optionals_list vs) ≡ L.struct (map (option_map (λ p. p.value)) ps) → optionals_list vs ≡ map (option_map (λ p. p.value)) ps
         by k = ap inside k
-  layer_back d (V.union n v) (L.union m p) e slots reps =
+  layer_back d (V.union n v) (L.union m p) t made e slots reps =
       let whole : L.union n v ≡ L.union m p.value = same_Some (L.union n v) (L.union m p.value) e in
       let number : n ≡ m = ap number_in whole in
       let same : v ≡ p.value = ap (part_in v) whole in
-      ap (λ k. option_map (L.union k) (represented at rows (member_of (Some d) k) v)) number
-      ∙ ap (λ w. option_map (L.union m) (represented at rows (member_of (Some d) m) w)) same
-      ∙ ap (λ u. option_map (L.union m) (represented at rows u p.value)) (sym slots)
+      ap (λ k. option_map (L.union k) (member_data at rows (member_of (Some d) k) v)) number
+      ∙ ap (λ w. option_map (L.union m) (member_data at rows (member_of (Some d) m) w)) same
+      ∙ ap (λ o. option_map (L.union m) (member_data at rows o p.value)) slots
       ∙ ap (option_map (L.union m)) reps.0
     where
       number_in : Layer Value → ℕ
@@ -276,19 +312,19 @@ module _ (at : Hamts) (rows : List Row) where
       part_in : Value → Layer Value → Value
       part_in z (L.union k x) = x
       part_in z l = z
-  layer_back d (V.list vs) parts e slots reps = absurd (none-some (values_list vs) (sym (ap (option_and_then as_list) e)))
-  layer_back d (V.map vs) parts e slots reps = absurd (none-some (pairs_list vs) (sym (ap (option_and_then as_map) e)))
-  layer_back d (V.struct vs) parts e slots reps = absurd (none-some (optionals_list vs) (sym (ap (option_and_then as_struct) e)))
-  layer_back d (V.union n v) parts e slots reps = absurd (none-some (n, v) (sym (ap (option_and_then as_union) e)))
-  layer_back d (V.boolean b) parts e slots reps = ap Some (sym (plain_back parts (L.boolean b) (ap plain (sym (same_Some (L.boolean b) (layer_map (λ p. p.value) parts) e)))))
-  layer_back d (V.integer n) parts e slots reps = ap Some (sym (plain_back parts (L.integer n) (ap plain (sym (same_Some (L.integer n) (layer_map (λ p. p.value) parts) e)))))
-  layer_back d (V.text x) parts e slots reps = ap Some (sym (plain_back parts (L.text x) (ap plain (sym (same_Some (L.text x) (layer_map (λ p. p.value) parts) e)))))
-  layer_back d (V.bytes x) parts e slots reps = ap Some (sym (plain_back parts (L.bytes x) (ap plain (sym (same_Some (L.bytes x) (layer_map (λ p. p.value) parts) e)))))
-  layer_back d (V.link x) parts e slots reps = ap Some (sym (plain_back parts (L.link x) (ap plain (sym (same_Some (L.link x) (layer_map (λ p. p.value) parts) e)))))
-  layer_back d (V.any x) parts e slots reps = ap Some (sym (plain_back parts (L.any x) (ap plain (sym (same_Some (L.any x) (layer_map (λ p. p.value) parts) e)))))
-  layer_back d V.unit parts e slots reps = ap Some (sym (plain_back parts L.unit (ap plain (sym (same_Some L.unit (layer_map (λ p. p.value) parts) e)))))
-  layer_back d (V.enum n) parts e slots reps = ap Some (sym (plain_back parts (L.enum n) (ap plain (sym (same_Some (L.enum n) (layer_map (λ p. p.value) parts) e)))))
-  layer_back d (V.hamt x) parts e slots reps = ap Some (sym (plain_back parts (L.hamt x) (ap plain (sym (same_Some (L.hamt x) (layer_map (λ p. p.value) parts) e)))))
+  layer_back d (V.list vs) parts t made e slots reps = absurd (none-some (values_list vs) (sym (ap (option_and_then as_list) e)))
+  layer_back d (V.map vs) parts t made e slots reps = absurd (none-some (pairs_list vs) (sym (ap (option_and_then as_map) e)))
+  layer_back d (V.struct vs) parts t made e slots reps = absurd (none-some (optionals_list vs) (sym (ap (option_and_then as_struct) e)))
+  layer_back d (V.union n v) parts t made e slots reps = absurd (none-some (n, v) (sym (ap (option_and_then as_union) e)))
+  layer_back d (V.boolean b) parts t made e slots reps = ap Some (sym (plain_back parts (L.boolean b) (ap plain (sym (same_Some (L.boolean b) (layer_map (λ p. p.value) parts) e)))))
+  layer_back d (V.integer n) parts t made e slots reps = ap Some (sym (plain_back parts (L.integer n) (ap plain (sym (same_Some (L.integer n) (layer_map (λ p. p.value) parts) e)))))
+  layer_back d (V.text x) parts t made e slots reps = ap Some (sym (plain_back parts (L.text x) (ap plain (sym (same_Some (L.text x) (layer_map (λ p. p.value) parts) e)))))
+  layer_back d (V.bytes x) parts t made e slots reps = ap Some (sym (plain_back parts (L.bytes x) (ap plain (sym (same_Some (L.bytes x) (layer_map (λ p. p.value) parts) e)))))
+  layer_back d (V.link x) parts t made e slots reps = ap Some (sym (plain_back parts (L.link x) (ap plain (sym (same_Some (L.link x) (layer_map (λ p. p.value) parts) e)))))
+  layer_back d (V.any x) parts t made e slots reps = ap Some (sym (plain_back parts (L.any x) (ap plain (sym (same_Some (L.any x) (layer_map (λ p. p.value) parts) e)))))
+  layer_back d V.unit parts t made e slots reps = ap Some (sym (plain_back parts L.unit (ap plain (sym (same_Some L.unit (layer_map (λ p. p.value) parts) e)))))
+  layer_back d (V.enum n) parts t made e slots reps = ap Some (sym (plain_back parts (L.enum n) (ap plain (sym (same_Some (L.enum n) (layer_map (λ p. p.value) parts) e)))))
+  layer_back d (V.hamt x) parts t made e slots reps = ap Some (sym (plain_back parts (L.hamt x) (ap plain (sym (same_Some (L.hamt x) (layer_map (λ p. p.value) parts) e)))))
 
   -- all but null is represented by its layer
   pub by_layer : (s : Slot) (d : TypeDef) (v : Value) (m : Layer Data) → form_of rows s ≡ Some d → layer_data at rows (Some d) v ≡ Some m → represented at rows s v ≡ composed at d m
@@ -299,7 +335,7 @@ module _ (at : Hamts) (rows : List Row) where
   up s v t (inl (v_null, nullable, is_null)) =
       ap (represented at rows s) v_null ∙ ap (λ b. cond b (Some T.null) None) nullable ∙ ap Some (sym is_null)
   up s v t (inr (d, parts, is, layer, reps)) =
-      by_layer s d v (layer_map (λ p. p.tree) parts) is (layer_back d v parts layer.value layer.slots reps) ∙ layer.tree
+      by_layer s d v (layer_map (λ p. p.tree) parts) is (layer_back d v parts t layer.tree layer.value layer.slots reps) ∙ layer.tree
 
 -- the two ways of saying it
 pub layers_all : (at : Hamts) → InLayers at

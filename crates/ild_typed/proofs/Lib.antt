@@ -1,6 +1,7 @@
 mod Examples
 mod WhyExamples
 mod PathExamples
+mod RowExamples
 pub mod Cleans
 pub mod CleanFields
 pub mod CleanPairs
@@ -15,6 +16,14 @@ pub mod WalkOne
 pub mod WalkForms
 pub mod Leading
 pub mod Basics
+pub mod PartData
+pub mod PieceTexts
+pub mod Fronting
+pub mod PartsTrees
+pub mod NodeEntries
+pub mod NodeElements
+pub mod NodeMaps
+pub mod NodeRoots
 pub mod Onlies
 pub mod Joints
 pub mod Entries

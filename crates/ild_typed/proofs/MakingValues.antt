@@ -23,7 +23,7 @@ use Rattle.ild_schema.proofs.Legibly.{legible}
 use Rattle.ild_typed.specs.Layer as L
 use Rattle.ild_typed.specs.Layer.{Layer}
 use Rattle.ild_schema.specs.Slots.{form_of, plainly}
-use Rattle.ild_typed.specs.Slots.{slot_of_member, element_of, fields_of, member_of}
+use Rattle.ild_typed.specs.Slots.{slot_of, element_of, fields_of, member_of}
 use Rattle.ild_typed.specs.Composed.{composed, member_form, enum_form, any_data, unit_data}
 use Rattle.ild_typed.specs.Hamt.{alone, whole}
 use Rattle.ild_typed.specs.Represented.{represented, represented_values, represented_pairs, represented_fields}
@@ -38,6 +38,7 @@ use Rattle.ild_typed.specs.EachLayer.{some_layer, some_value, some_pair, some_fi
 use Rattle.ild_schema.specs.Made.{IsTextSlot, MadeStruct, MadeMap, MadeMember, MadeEnum, MadeType, IsMade}
 use Rattle.ild_typed.proofs.Flat.{FlatPairs, FlatFields, flat_text, pairs_alone, fields_alone}
 use Rattle.ild_typed.proofs.Basics.{map_from, both_true}
+use Rattle.ild_typed.proofs.PartData.{values_data, pairs_data, member_data, values_test, pairs_test, member_test, false_given}
 use Rattle.ild_typed.proofs.Entries.{both_from}
 use Rattle.ild_typed.proofs.OneValue.{layer_data}
 use Rattle.ild_typed.proofs.Layers.{by_layer}
@@ -53,10 +54,10 @@ or_false false b e = (refl, e)
 -- ---- what is asked of the layers of a value
 
 abbrev pub layer_test : (Option TypeDef → Value → Bool) → List Row → Option TypeDef → Value → Bool
-layer_test test rows c (V.list vs) = test c (V.list vs) || some_value test rows (element_of c) vs
-layer_test test rows c (V.map ps) = test c (V.map ps) || some_pair test rows (element_of c) ps
+layer_test test rows c (V.list vs) = test c (V.list vs) || values_test test rows (element_of c) vs
+layer_test test rows c (V.map ps) = test c (V.map ps) || pairs_test test rows (element_of c) ps
 layer_test test rows c (V.struct os) = test c (V.struct os) || some_field test rows (fields_of c) os
-layer_test test rows c (V.union n v) = test c (V.union n v) || some_layer test rows (member_of c n) v
+layer_test test rows c (V.union n v) = test c (V.union n v) || member_test test rows (member_of c n) v
 layer_test test rows c v = false
 
 at_form : (test : Option TypeDef → Value → Bool) (rows : List Row) (s : Slot) (d : TypeDef) (v : Value) → form_of rows s ≡ Some d → some_layer test rows s v ≡ false → layer_test test rows (Some d) v ≡ false
@@ -257,7 +258,7 @@ module _ (h : List ℕ → List ℕ) (rows : List Row) where
     list_made (D.Map key key_at value place form) xs ds f = absurd (no_type_map fits rows (D.Map key key_at value place form) (L.list xs) refl refl f key key_at value place form refl)
     list_made d xs ds f = absurd f
 
-    map_made : (d : TypeDef) (ps : Pairs) (ds : List (List ℕ × Data)) → MadeType rows d → LayerFits fits rows d (L.map (pairs_list ps)) → represented_pairs (whole h) rows (element_of (Some d)) ps ≡ Some ds
+    map_made : (d : TypeDef) (ps : Pairs) (ds : List (List ℕ × Data)) → MadeType rows d → LayerFits fits rows d (L.map (pairs_list ps)) → pairs_data (whole h) rows (element_of (Some d)) ps ≡ Some ds
         → breaks rows (Some d) (V.map ps) ≡ false → is_exhausted h rows (Some d) (V.map ps) ≡ false → There (composed (whole h) d (L.map ds))
     map_made (D.Map key key_at value place form) ps ds made f e b k =
         let ready = pairs_ready form value ps ds made e in
@@ -279,11 +280,11 @@ module _ (h : List ℕ → List ℕ) (rows : List Row) where
       by None f = absurd f
       by (Some m) f = record { item = m; is = refl }
 
-    union_made : (d : TypeDef) (n : ℕ) (v : Value) (t : Data) → MadeType rows d → LayerFits fits rows d (L.union n v) → represented (whole h) rows (member_of (Some d) n) v ≡ Some t → There (composed (whole h) d (L.union n t))
+    union_made : (d : TypeDef) (n : ℕ) (v : Value) (t : Data) → MadeType rows d → LayerFits fits rows d (L.union n v) → member_data (whole h) rows (member_of (Some d) n) v ≡ Some t → There (composed (whole h) d (L.union n t))
     union_made (D.Union u) n v t made f e =
         let m = member_of_union u.members n v f in
         let own : MadeMember rows u.form m.item = all_at (MadeMember rows u.form) u.members n m.item made m.is in
-        let rep : represented (whole h) rows (plainly m.item.ty) v ≡ Some t = ap (λ o. represented (whole h) rows (slot_of_member o) v) (sym m.is) ∙ e in
+        let rep : represented (whole h) rows (plainly m.item.ty) v ≡ Some t = ap (λ o. member_data (whole h) rows (option_map slot_of o) v) (sym m.is) ∙ e in
         there_then (member_form u.form t) (slice_get u.members n) m (member_there h rows u.form m.item v t own rep)
     union_made (D.Map key key_at value place form) n v t made f e = absurd (no_type_map fits rows (D.Map key key_at value place form) (L.union n v) refl refl f key key_at value place form refl)
     union_made d n v t made f e = absurd f
@@ -355,19 +356,35 @@ module _ (h : List ℕ → List ℕ) (rows : List Row) where
     layer_there s d V.null is f x = absurd f.1
     layer_there s d (V.list vs) is f x =
         let o = levels_of d (V.list vs) - 1 in
-        let a = or_false (is_hole (Some d) (V.list vs)) (some_value is_hole rows (element_of (Some d)) vs) x.hole in
-        let b = or_false (breaks rows (Some d) (V.list vs)) (some_value (breaks rows) rows (element_of (Some d)) vs) x.delimiter in
-        let c = or_false (is_exhausted h rows (Some d) (V.list vs)) (some_value (is_exhausted h rows) rows (element_of (Some d)) vs) x.full in
-        let y = values_there (below o) (later o) (element_of (Some d)) vs (list_fits (below o) rows d (values_list vs) f.1) (record { hole = a.1; delimiter = b.1; full = c.1; entire = x.entire }) in
-        by_data s d (V.list vs) (L.list y.item) is (ap (option_map L.list) y.is) (list_made (below o) d (values_list vs) y.item f.1)
+        let u = element_of (Some d) in
+        let z = list_fits (below o) rows d (values_list vs) f.1 in
+        let a = or_false (is_hole (Some d) (V.list vs)) (values_test is_hole rows u vs) x.hole in
+        let b = or_false (breaks rows (Some d) (V.list vs)) (values_test (breaks rows) rows u vs) x.delimiter in
+        let c = or_false (is_exhausted h rows (Some d) (V.list vs)) (values_test (is_exhausted h rows) rows u vs) x.full in
+        let own : SoundValues z.slot vs = record {
+          hole = false_given (λ k. some_value is_hole rows k vs) u z.slot z.is a.1;
+          delimiter = false_given (λ k. some_value (breaks rows) rows k vs) u z.slot z.is b.1;
+          full = false_given (λ k. some_value (is_exhausted h rows) rows k vs) u z.slot z.is c.1;
+          entire = x.entire;
+        } in
+        let y = values_there (below o) (later o) z.slot vs z.each own in
+        by_data s d (V.list vs) (L.list y.item) is (ap (option_map L.list) (ap (λ k. values_data (whole h) rows k vs) z.is ∙ y.is)) (list_made (below o) d (values_list vs) y.item f.1)
     layer_there s d (V.map ps) is f x =
         let o = levels_of d (V.map ps) - 1 in
         let u = element_of (Some d) in
-        let a = or_false (is_hole (Some d) (V.map ps)) (some_pair is_hole rows u ps) x.hole in
-        let b = or_false (breaks rows (Some d) (V.map ps)) (some_pair (breaks rows) rows u ps) x.delimiter in
-        let c = or_false (is_exhausted h rows (Some d) (V.map ps)) (some_pair (is_exhausted h rows) rows u ps) x.full in
-        let y = pairs_there (below o) (later o) u ps (map_fits (below o) rows d (pairs_list ps) f.1).0 (record { hole = a.1; delimiter = b.1; full = c.1; entire = x.entire }) in
-        by_data s d (V.map ps) (L.map y.item) is (ap (option_map L.map) y.is) (map_made (below o) d ps y.item (made (base rows s.ty.0) d is) f.1 y.is b.0 c.0)
+        let z = map_fits (below o) rows d (pairs_list ps) f.1 in
+        let a = or_false (is_hole (Some d) (V.map ps)) (pairs_test is_hole rows u ps) x.hole in
+        let b = or_false (breaks rows (Some d) (V.map ps)) (pairs_test (breaks rows) rows u ps) x.delimiter in
+        let c = or_false (is_exhausted h rows (Some d) (V.map ps)) (pairs_test (is_exhausted h rows) rows u ps) x.full in
+        let own : SoundPairs z.slot ps = record {
+          hole = false_given (λ k. some_pair is_hole rows k ps) u z.slot z.is a.1;
+          delimiter = false_given (λ k. some_pair (breaks rows) rows k ps) u z.slot z.is b.1;
+          full = false_given (λ k. some_pair (is_exhausted h rows) rows k ps) u z.slot z.is c.1;
+          entire = x.entire;
+        } in
+        let y = pairs_there (below o) (later o) z.slot ps z.each own in
+        let there : pairs_data (whole h) rows u ps ≡ Some y.item = ap (λ k. pairs_data (whole h) rows k ps) z.is ∙ y.is in
+        by_data s d (V.map ps) (L.map y.item) is (ap (option_map L.map) there) (map_made (below o) d ps y.item (made (base rows s.ty.0) d is) f.1 there b.0 c.0)
     layer_there s d (V.struct os) is f x =
         let o = levels_of d (V.struct os) - 1 in
         let fs = fields_of (Some d) in
@@ -381,11 +398,21 @@ module _ (h : List ℕ → List ℕ) (rows : List Row) where
     layer_there s d (V.union n v) is f x =
         let o = levels_of d (V.union n v) - 1 in
         let u = member_of (Some d) n in
-        let a = or_false (is_hole (Some d) (V.union n v)) (some_layer is_hole rows u v) x.hole in
-        let b = or_false (breaks rows (Some d) (V.union n v)) (some_layer (breaks rows) rows u v) x.delimiter in
-        let c = or_false (is_exhausted h rows (Some d) (V.union n v)) (some_layer (is_exhausted h rows) rows u v) x.full in
-        let y = later o u v (union_fits (below o) rows d n v f.1) (record { hole = a.1; delimiter = b.1; full = c.1; entire = x.entire }) in
-        by_data s d (V.union n v) (L.union n y.item) is (ap (option_map (L.union n)) y.is) (union_made (below o) d n v y.item (made (base rows s.ty.0) d is) f.1 y.is)
+        let z = union_fits (below o) rows d n v f.1 in
+        let k = slot_of z.member in
+        let has : u ≡ Some k = ap (option_map slot_of) z.is in
+        let a = or_false (is_hole (Some d) (V.union n v)) (member_test is_hole rows u v) x.hole in
+        let b = or_false (breaks rows (Some d) (V.union n v)) (member_test (breaks rows) rows u v) x.delimiter in
+        let c = or_false (is_exhausted h rows (Some d) (V.union n v)) (member_test (is_exhausted h rows) rows u v) x.full in
+        let own : Sound k v = record {
+          hole = false_given (λ j. some_layer is_hole rows j v) u k has a.1;
+          delimiter = false_given (λ j. some_layer (breaks rows) rows j v) u k has b.1;
+          full = false_given (λ j. some_layer (is_exhausted h rows) rows j v) u k has c.1;
+          entire = x.entire;
+        } in
+        let y = later o k v z.holds own in
+        let there : member_data (whole h) rows u v ≡ Some y.item = ap (λ j. member_data (whole h) rows j v) has ∙ y.is in
+        by_data s d (V.union n v) (L.union n y.item) is (ap (option_map (L.union n)) there) (union_made (below o) d n v y.item (made (base rows s.ty.0) d is) f.1 there)
     layer_there s d (V.hamt t) is f x = let k : false ≡ true = x.entire in absurd cc
     layer_there s d (V.boolean t) is f x = by_data s d (V.boolean t) (L.boolean t) is refl (bool_made (below (levels_of d (V.boolean t) - 1)) d t f.1)
     layer_there s d (V.integer t) is f x = by_data s d (V.integer t) (L.integer t) is refl (int_made (below (levels_of d (V.integer t) - 1)) d t f.1)

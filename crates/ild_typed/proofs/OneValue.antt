@@ -1,6 +1,6 @@
 -- One value for data: where acceptance holds, data are the representation of one value at most.
-use Rattle.std.proofs.Common.{◌≡◌, ℕ, List, [], ◌∷◌, Bool, true, false, cond, Option, Some, None, option_map, refl, sym, ◌∙◌, ap}
-use Rattle.std.specs.Prelude.{option_and_then, slice_get}
+use Rattle.std.proofs.Common.{◌≡◌, ℕ, List, [], ◌∷◌, Bool, true, false, cond, Option, Some, None, option_map, refl, sym, ◌∙◌, ap, subst}
+use Rattle.std.specs.Prelude.{option_and_then}
 use Rattle.std.specs.List.{AllByRecursion}
 use Rattle.std.proofs.lemmas.Option.{same_Some, none-some}
 use Rattle.ild_data.specs.Data as T
@@ -19,7 +19,7 @@ use Rattle.ild_typed.specs.Layer as L
 use Rattle.ild_typed.specs.Layer.{Layer, as_list, as_map, as_struct, as_union}
 use Rattle.ild_typed.specs.Strings.{cons_both}
 use Rattle.ild_schema.specs.Slots.{form_of}
-use Rattle.ild_typed.specs.Slots.{element_of, fields_of, member_of, slot_of_member}
+use Rattle.ild_typed.specs.Slots.{element_of, fields_of, member_at, slot_of, member_of}
 use Rattle.ild_typed.specs.Composed.{Hamts, composed}
 use Rattle.ild_typed.specs.Hamt.{alone}
 use Rattle.ild_schema.specs.DataKinds.{kind_in, has_kind}
@@ -28,6 +28,7 @@ use Rattle.ild_typed.specs.Represented.{layered, represented, represented_values
 use Rattle.ild_typed.specs.Tells.{Tells}
 use Rattle.ild_schema.specs.Clear.{AreSafe, IsSafe, IsClear}
 use Rattle.ild_typed.proofs.Basics.{then_from, map_from}
+use Rattle.ild_typed.proofs.PartData.{values_data, pairs_data, member_data}
 use Rattle.ild_typed.proofs.Entries.{Both, both_from}
 use Rattle.ild_typed.proofs.Composing.{alone_tells, composed_tells}
 use Rattle.ild_typed.proofs.OfKinds.{alone_kind, composed_kind}
@@ -44,10 +45,10 @@ layer_data at rows d (V.any t) = Some (L.any t)
 layer_data at rows d V.unit = Some L.unit
 layer_data at rows d (V.enum n) = Some (L.enum n)
 layer_data at rows d (V.hamt t) = Some (L.hamt t)
-layer_data at rows d (V.list vs) = option_map L.list (represented_values at rows (element_of d) vs)
-layer_data at rows d (V.map ps) = option_map L.map (represented_pairs at rows (element_of d) ps)
+layer_data at rows d (V.list vs) = option_map L.list (values_data at rows (element_of d) vs)
+layer_data at rows d (V.map ps) = option_map L.map (pairs_data at rows (element_of d) ps)
 layer_data at rows d (V.struct os) = option_map L.struct (represented_fields at rows (fields_of d) os)
-layer_data at rows d (V.union n v) = option_map (L.union n) (represented at rows (member_of d n) v)
+layer_data at rows d (V.union n v) = option_map (L.union n) (member_data at rows (member_of d n) v)
 
 -- how a value is represented: as null, or by a layer
 pub data Way (at : Hamts) (rows : List Row) (s : Slot) (v : Value) (t : Data) : Type 0 where
@@ -91,27 +92,27 @@ gone f g (Some a) c never e = none-some c (sym (never a) ∙ e)
 pub record IsList (at : Hamts) (rows : List Row) (d : Option TypeDef) (w : Value) (ds : List Data) : Type 0 where
   pub items : Values
   pub is : w ≡ V.list items
-  pub there : represented_values at rows (element_of d) items ≡ Some ds
+  pub there : values_data at rows (element_of d) items ≡ Some ds
 
 pub list_value : (at : Hamts) (rows : List Row) (d : Option TypeDef) (w : Value) (ds : List Data) → list_in (layer_data at rows d w) ≡ Some ds → IsList at rows d w ds
 list_value at rows d (V.list ws) ds e =
-    record { items = ws; is = refl; there = sym (through L.list as_list (represented_values at rows (element_of d) ws) (λ a. refl)) ∙ e }
-list_value at rows d (V.map ps) ds e = absurd (gone L.map as_list (represented_pairs at rows (element_of d) ps) ds (λ a. refl) e)
+    record { items = ws; is = refl; there = sym (through L.list as_list (values_data at rows (element_of d) ws) (λ a. refl)) ∙ e }
+list_value at rows d (V.map ps) ds e = absurd (gone L.map as_list (pairs_data at rows (element_of d) ps) ds (λ a. refl) e)
 list_value at rows d (V.struct os) ds e = absurd (gone L.struct as_list (represented_fields at rows (fields_of d) os) ds (λ a. refl) e)
-list_value at rows d (V.union n v) ds e = absurd (gone (L.union n) as_list (represented at rows (member_of d n) v) ds (λ a. refl) e)
+list_value at rows d (V.union n v) ds e = absurd (gone (L.union n) as_list (member_data at rows (member_of d n) v) ds (λ a. refl) e)
 list_value at rows d w ds e = absurd (none-some ds e)
 
 pub record IsMap (at : Hamts) (rows : List Row) (d : Option TypeDef) (w : Value) (ds : List (List ℕ × Data)) : Type 0 where
   pub items : Pairs
   pub is : w ≡ V.map items
-  pub there : represented_pairs at rows (element_of d) items ≡ Some ds
+  pub there : pairs_data at rows (element_of d) items ≡ Some ds
 
 pub map_value : (at : Hamts) (rows : List Row) (d : Option TypeDef) (w : Value) (ds : List (List ℕ × Data)) → map_in (layer_data at rows d w) ≡ Some ds → IsMap at rows d w ds
-map_value at rows d (V.list ws) ds e = absurd (gone L.list as_map (represented_values at rows (element_of d) ws) ds (λ a. refl) e)
+map_value at rows d (V.list ws) ds e = absurd (gone L.list as_map (values_data at rows (element_of d) ws) ds (λ a. refl) e)
 map_value at rows d (V.map ps) ds e =
-    record { items = ps; is = refl; there = sym (through L.map as_map (represented_pairs at rows (element_of d) ps) (λ a. refl)) ∙ e }
+    record { items = ps; is = refl; there = sym (through L.map as_map (pairs_data at rows (element_of d) ps) (λ a. refl)) ∙ e }
 map_value at rows d (V.struct os) ds e = absurd (gone L.struct as_map (represented_fields at rows (fields_of d) os) ds (λ a. refl) e)
-map_value at rows d (V.union n v) ds e = absurd (gone (L.union n) as_map (represented at rows (member_of d n) v) ds (λ a. refl) e)
+map_value at rows d (V.union n v) ds e = absurd (gone (L.union n) as_map (member_data at rows (member_of d n) v) ds (λ a. refl) e)
 map_value at rows d w ds e = absurd (none-some ds e)
 
 pub record IsStruct (at : Hamts) (rows : List Row) (d : Option TypeDef) (w : Value) (ds : List (Option Data)) : Type 0 where
@@ -120,30 +121,30 @@ pub record IsStruct (at : Hamts) (rows : List Row) (d : Option TypeDef) (w : Val
   pub there : represented_fields at rows (fields_of d) items ≡ Some ds
 
 pub struct_value : (at : Hamts) (rows : List Row) (d : Option TypeDef) (w : Value) (ds : List (Option Data)) → struct_in (layer_data at rows d w) ≡ Some ds → IsStruct at rows d w ds
-struct_value at rows d (V.list ws) ds e = absurd (gone L.list as_struct (represented_values at rows (element_of d) ws) ds (λ a. refl) e)
-struct_value at rows d (V.map ps) ds e = absurd (gone L.map as_struct (represented_pairs at rows (element_of d) ps) ds (λ a. refl) e)
+struct_value at rows d (V.list ws) ds e = absurd (gone L.list as_struct (values_data at rows (element_of d) ws) ds (λ a. refl) e)
+struct_value at rows d (V.map ps) ds e = absurd (gone L.map as_struct (pairs_data at rows (element_of d) ps) ds (λ a. refl) e)
 struct_value at rows d (V.struct os) ds e =
     record { items = os; is = refl; there = sym (through L.struct as_struct (represented_fields at rows (fields_of d) os) (λ a. refl)) ∙ e }
-struct_value at rows d (V.union n v) ds e = absurd (gone (L.union n) as_struct (represented at rows (member_of d n) v) ds (λ a. refl) e)
+struct_value at rows d (V.union n v) ds e = absurd (gone (L.union n) as_struct (member_data at rows (member_of d n) v) ds (λ a. refl) e)
 struct_value at rows d w ds e = absurd (none-some ds e)
 
 pub record IsUnion (at : Hamts) (rows : List Row) (d : Option TypeDef) (w : Value) (p : ℕ × Data) : Type 0 where
   pub part : Value
   pub is : w ≡ V.union p.0 part
-  pub there : represented at rows (member_of d p.0) part ≡ Some p.1
+  pub there : member_data at rows (member_of d p.0) part ≡ Some p.1
 
 pub union_value : (at : Hamts) (rows : List Row) (d : Option TypeDef) (w : Value) (p : ℕ × Data) → union_in (layer_data at rows d w) ≡ Some p → IsUnion at rows d w p
-union_value at rows d (V.list ws) p e = absurd (gone L.list as_union (represented_values at rows (element_of d) ws) p (λ a. refl) e)
-union_value at rows d (V.map ps) p e = absurd (gone L.map as_union (represented_pairs at rows (element_of d) ps) p (λ a. refl) e)
+union_value at rows d (V.list ws) p e = absurd (gone L.list as_union (values_data at rows (element_of d) ws) p (λ a. refl) e)
+union_value at rows d (V.map ps) p e = absurd (gone L.map as_union (pairs_data at rows (element_of d) ps) p (λ a. refl) e)
 union_value at rows d (V.struct os) p e = absurd (gone L.struct as_union (represented_fields at rows (fields_of d) os) p (λ a. refl) e)
 union_value at rows d (V.union n v) p e =
-    let x = map_from (λ c. (n, c)) (represented at rows (member_of d n) v) p (sym (joined n (represented at rows (member_of d n) v)) ∙ e) in
+    let x = map_from (λ c. (n, c)) (member_data at rows (member_of d n) v) p (sym (joined n (member_data at rows (member_of d n) v)) ∙ e) in
     let same : (n, x.item) ≡ p = same_Some (n, x.item) p x.made in
     let number : n ≡ p.0 = ap (λ (q : ℕ × Data). q.0) same in
     record {
       part = v;
       is = ap (λ k. V.union k v) number;
-      there = ap (λ k. represented at rows (member_of d k) v) (sym number) ∙ x.there ∙ ap (λ (q : ℕ × Data). Some q.1) same;
+      there = ap (λ k. member_data at rows (member_of d k) v) (sym number) ∙ x.there ∙ ap (λ (q : ℕ × Data). Some q.1) same;
     }
   where
     joined : (n : ℕ) (o : Option Data) → union_in (option_map (L.union n) o) ≡ option_map (λ c. (n, c)) o
@@ -208,10 +209,10 @@ scalar_of l = None
 
 pub scalar_value : (at : Hamts) (rows : List Row) (d : Option TypeDef) (w x : Value) → option_and_then scalar_of (layer_data at rows d w) ≡ Some x → w ≡ x
 scalar_value at rows d V.null x e = absurd (none-some x e)
-scalar_value at rows d (V.list ws) x e = absurd (gone L.list scalar_of (represented_values at rows (element_of d) ws) x (λ a. refl) e)
-scalar_value at rows d (V.map ps) x e = absurd (gone L.map scalar_of (represented_pairs at rows (element_of d) ps) x (λ a. refl) e)
+scalar_value at rows d (V.list ws) x e = absurd (gone L.list scalar_of (values_data at rows (element_of d) ws) x (λ a. refl) e)
+scalar_value at rows d (V.map ps) x e = absurd (gone L.map scalar_of (pairs_data at rows (element_of d) ps) x (λ a. refl) e)
 scalar_value at rows d (V.struct os) x e = absurd (gone L.struct scalar_of (represented_fields at rows (fields_of d) os) x (λ a. refl) e)
-scalar_value at rows d (V.union n v) x e = absurd (gone (L.union n) scalar_of (represented at rows (member_of d n) v) x (λ a. refl) e)
+scalar_value at rows d (V.union n v) x e = absurd (gone (L.union n) scalar_of (member_data at rows (member_of d n) v) x (λ a. refl) e)
 scalar_value at rows d w x e = same_Some w x e
 
 -- ---- slots
@@ -219,31 +220,17 @@ scalar_value at rows d w x e = same_Some w x e
 pub plain_safe : (rows : List Row) (s : Slot) → s.nullable ≡ false → IsSafe rows s
 plain_safe rows s plain nullable = let h : true ≡ false = sym nullable ∙ plain in absurd cc
 
-pub element_safe : (rows : List Row) (d : TypeDef) → AreSafe rows d → IsSafe rows (element_of (Some d))
-element_safe rows (D.List elem place) safe = safe
-element_safe rows (D.Map key key_place value place form) safe = safe
-element_safe rows D.Bool safe = plain_safe rows (element_of (Some D.Bool)) refl
-element_safe rows D.Text safe = plain_safe rows (element_of (Some D.Text)) refl
-element_safe rows D.Bytes safe = plain_safe rows (element_of (Some D.Bytes)) refl
-element_safe rows D.Int safe = plain_safe rows (element_of (Some D.Int)) refl
-element_safe rows D.Any safe = plain_safe rows (element_of (Some D.Any)) refl
-element_safe rows (D.Link target) safe = plain_safe rows (element_of (Some (D.Link target))) refl
-element_safe rows (D.Unit form) safe = plain_safe rows (element_of (Some (D.Unit form))) refl
-element_safe rows (D.Struct s) safe = plain_safe rows (element_of (Some (D.Struct s))) refl
-element_safe rows (D.Union u) safe = plain_safe rows (element_of (Some (D.Union u))) refl
-element_safe rows (D.Enum e) safe = plain_safe rows (element_of (Some (D.Enum e))) refl
-element_safe rows (D.Copy target) safe = plain_safe rows (element_of (Some (D.Copy target))) refl
+pub element_safe : (rows : List Row) (d : TypeDef) → AreSafe rows d → (u : Slot) → element_of (Some d) ≡ Some u → IsSafe rows u
+element_safe rows (D.List elem place) safe u e = subst (IsSafe rows) (same_Some elem u e) safe
+element_safe rows (D.Map key key_place value place form) safe u e = subst (IsSafe rows) (same_Some value u e) safe
+element_safe rows d safe u e = absurd (none-some u e)
 
 pub fields_safe : (rows : List Row) (d : TypeDef) → AreSafe rows d → AllByRecursion (λ f. IsSafe rows f.slot) (fields_of (Some d))
 fields_safe rows (D.Struct s) safe = safe
 fields_safe rows d safe = tt
 
-pub member_plain : (d : TypeDef) (n : ℕ) → (member_of (Some d) n).nullable ≡ false
-member_plain (D.Union u) n = by (slice_get u.members n) where
-  by : (o : Option _) → (slot_of_member o).nullable ≡ false
-  by None = refl
-  by (Some m) = refl
-member_plain d n = refl
+pub member_plain : (d : TypeDef) (n : ℕ) (u : Slot) → member_of (Some d) n ≡ Some u → u.nullable ≡ false
+member_plain d n u e = let x = map_from slot_of (member_at (Some d) n) u e in ap (λ (k : Slot). k.nullable) (sym (same_Some (slot_of x.item) u x.made))
 
 -- ---- the induction
 
@@ -266,18 +253,20 @@ module _ (at : Hamts) (exact : IsExact at) (rows : List Row) (clear : IsClear ro
       → Alike at rows s (V.list vs) w → V.list vs ≡ w
   list_case s vs w later (both_null a b) = a ∙ sym b
   list_case s vs w later (one_layer h) =
-      let x = map_from L.list (represented_values at rows (element_of (Some h.form)) vs) h.layer h.of_first in
+      let x = map_from L.list (values_data at rows (element_of (Some h.form)) vs) h.layer h.of_first in
       let y = list_value at rows (Some h.form) w x.item (ap list_in (h.of_second ∙ sym x.made)) in
-      ap V.list (later (element_of (Some h.form)) (element_safe rows h.form (safe_parts rows clear s h.form h.known)) y.items x.item x.there y.there) ∙ sym y.is
+      let z = then_from (λ u. represented_values at rows u vs) (element_of (Some h.form)) x.item x.there in
+      ap V.list (later z.item (element_safe rows h.form (safe_parts rows clear s h.form h.known) z.item z.there) y.items x.item z.made (ap (λ o. values_data at rows o y.items) (sym z.there) ∙ y.there)) ∙ sym y.is
 
   map_case : (s : Slot) (vs : Pairs) (w : Value)
       → ((u : Slot) → IsSafe rows u → (ws : Pairs) (ds : List (List ℕ × Data)) → represented_pairs at rows u vs ≡ Some ds → represented_pairs at rows u ws ≡ Some ds → vs ≡ ws)
       → Alike at rows s (V.map vs) w → V.map vs ≡ w
   map_case s vs w later (both_null a b) = a ∙ sym b
   map_case s vs w later (one_layer h) =
-      let x = map_from L.map (represented_pairs at rows (element_of (Some h.form)) vs) h.layer h.of_first in
+      let x = map_from L.map (pairs_data at rows (element_of (Some h.form)) vs) h.layer h.of_first in
       let y = map_value at rows (Some h.form) w x.item (ap map_in (h.of_second ∙ sym x.made)) in
-      ap V.map (later (element_of (Some h.form)) (element_safe rows h.form (safe_parts rows clear s h.form h.known)) y.items x.item x.there y.there) ∙ sym y.is
+      let z = then_from (λ u. represented_pairs at rows u vs) (element_of (Some h.form)) x.item x.there in
+      ap V.map (later z.item (element_safe rows h.form (safe_parts rows clear s h.form h.known) z.item z.there) y.items x.item z.made (ap (λ o. pairs_data at rows o y.items) (sym z.there) ∙ y.there)) ∙ sym y.is
 
   struct_case : (s : Slot) (vs : Optionals) (w : Value)
       → ((fs : List Field) → AllByRecursion (λ f. IsSafe rows f.slot) fs → (ws : Optionals) (ds : List (Option Data)) → represented_fields at rows fs vs ≡ Some ds → represented_fields at rows fs ws ≡ Some ds → vs ≡ ws)
@@ -293,9 +282,10 @@ module _ (at : Hamts) (exact : IsExact at) (rows : List Row) (clear : IsClear ro
       → Alike at rows s (V.union n v) w → V.union n v ≡ w
   union_case s n v w later (both_null a b) = a ∙ sym b
   union_case s n v w later (one_layer h) =
-      let x = map_from (L.union n) (represented at rows (member_of (Some h.form) n) v) h.layer h.of_first in
+      let x = map_from (L.union n) (member_data at rows (member_of (Some h.form) n) v) h.layer h.of_first in
       let y = union_value at rows (Some h.form) w (n, x.item) (ap union_in (h.of_second ∙ sym x.made)) in
-      ap (V.union n) (later (member_of (Some h.form) n) (plain_safe rows (member_of (Some h.form) n) (member_plain h.form n)) y.part x.item x.there y.there) ∙ sym y.is
+      let z = then_from (λ u. represented at rows u v) (member_of (Some h.form) n) x.item x.there in
+      ap (V.union n) (later z.item (plain_safe rows z.item (member_plain h.form n z.item z.there)) y.part x.item z.made (ap (λ o. member_data at rows o y.part) (sym z.there) ∙ y.there)) ∙ sym y.is
 
   abbrev both : (s : Slot) → IsSafe rows s → (v w : Value) (t : Data) → represented at rows s v ≡ Some t → represented at rows s w ≡ Some t → Alike at rows s v w
   both s safe v w t e k = alike at exact rows clear s safe v w t (way_of at rows s v t e) (way_of at rows s w t k)

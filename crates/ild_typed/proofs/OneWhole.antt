@@ -1,6 +1,6 @@
 -- One value for data where HAMTs stand with all entries too: what has to be known of a HAMT is asked of its entries.
 use Rattle.std.proofs.Common.{◌≡◌, ℕ, List, [], ◌∷◌, Option, Some, None, option_map, refl, sym, ◌∙◌, ap, subst}
-use Rattle.std.specs.Prelude.{option_and_then}
+use Rattle.std.specs.Prelude.{IfSome, option_and_then}
 use Rattle.std.specs.List.{AllByRecursion}
 use Rattle.std.proofs.lemmas.Option.{same_Some, none-some}
 use Rattle.ild_data.specs.Data as T
@@ -27,7 +27,8 @@ use Rattle.ild_typed.specs.Represented.{represented, represented_values, represe
 use Rattle.ild_typed.specs.Known as G
 use Rattle.ild_typed.specs.Known.{FormOk, LayerOk}
 use Rattle.ild_schema.specs.Clear.{IsSafe, IsClear, ClearMap, ClearType}
-use Rattle.ild_typed.proofs.Basics.{map_from}
+use Rattle.ild_typed.proofs.Basics.{then_from, map_from}
+use Rattle.ild_typed.proofs.PartData.{values_data, pairs_data, member_data}
 use Rattle.ild_typed.proofs.Entries.{Both, both_from}
 use Rattle.ild_typed.proofs.Composing.{alone_tells, composed_tells, map_form_tells}
 use Rattle.ild_typed.proofs.OfKinds.{composed_kind}
@@ -90,14 +91,15 @@ module _ (at : Hamts) (ok : List (List ℕ × Data) → Type 0) (exact : IsExact
   good_layer : (s : Slot) (v : Value) (d : TypeDef) (l : Layer Data) → Good s v → form_of rows s ≡ Some d → layer_data at rows (Some d) v ≡ Some l → LayerOk ok d l
   good_layer s V.null d l good is e = absurd (none-some l e)
   good_layer s (V.list vs) d l good is e =
-      let x = map_from L.list (represented_values at rows (element_of (Some d)) vs) l e in good_other s d l (L.list x.item) refl (same_Some (L.list x.item) l x.made)
+      let x = map_from L.list (values_data at rows (element_of (Some d)) vs) l e in good_other s d l (L.list x.item) refl (same_Some (L.list x.item) l x.made)
   good_layer s (V.struct os) d l good is e =
       let x = map_from L.struct (represented_fields at rows (fields_of (Some d)) os) l e in good_other s d l (L.struct x.item) refl (same_Some (L.struct x.item) l x.made)
   good_layer s (V.union n v) d l good is e =
-      let x = map_from (L.union n) (represented at rows (member_of (Some d) n) v) l e in good_other s d l (L.union n x.item) refl (same_Some (L.union n x.item) l x.made)
+      let x = map_from (L.union n) (member_data at rows (member_of (Some d) n) v) l e in good_other s d l (L.union n x.item) refl (same_Some (L.union n x.item) l x.made)
   good_layer s (V.map ps) d l good is e =
-      let x = map_from L.map (represented_pairs at rows (element_of (Some d)) ps) l e in
-      subst (LayerOk ok d) (same_Some (L.map x.item) l x.made) (good.0 d x.item is x.there)
+      let x = map_from L.map (pairs_data at rows (element_of (Some d)) ps) l e in
+      let z = then_from (λ u. represented_pairs at rows u ps) (element_of (Some d)) x.item x.there in
+      subst (LayerOk ok d) (same_Some (L.map x.item) l x.made) (good.0 d z.item x.item is z.there z.made)
   good_layer s (V.boolean b) d l good is e = good_other s d l (L.boolean b) refl (same_Some (L.boolean b) l e)
   good_layer s (V.integer n) d l good is e = good_other s d l (L.integer n) refl (same_Some (L.integer n) l e)
   good_layer s (V.text x) d l good is e = good_other s d l (L.text x) refl (same_Some (L.text x) l e)
@@ -135,26 +137,30 @@ module _ (at : Hamts) (ok : List (List ℕ × Data) → Type 0) (exact : IsExact
       → Alike at rows s (V.list vs) w → V.list vs ≡ w
   list_case s vs w gv gw later (both_null a b) = a ∙ sym b
   list_case s vs w gv gw later (one_layer h) =
-      let x = map_from L.list (represented_values at rows (element_of (Some h.form)) vs) h.layer h.of_first in
+      let x = map_from L.list (values_data at rows (element_of (Some h.form)) vs) h.layer h.of_first in
       let y = list_value at rows (Some h.form) w x.item (ap list_in (h.of_second ∙ sym x.made)) in
-      let H : Option TypeDef → Values → Type 0 = λ o zs. Goods (element_of o) zs in
-      let a : H (Some h.form) vs = subst (λ o. H o vs) h.known gv in
-      let g : Goods (element_of (form_of rows s)) y.items = subst (Good s) y.is gw in
-      let b : H (Some h.form) y.items = subst (λ o. H o y.items) h.known g in
-      ap V.list (later (element_of (Some h.form)) (element_safe rows h.form (safe_parts rows clear s h.form h.known)) a y.items x.item b x.there y.there) ∙ sym y.is
+      let z = then_from (λ u. represented_values at rows u vs) (element_of (Some h.form)) x.item x.there in
+      let H : Option Slot → Values → Type 0 = λ o zs. IfSome o (λ u. Goods u zs) in
+      let is : element_of (form_of rows s) ≡ Some z.item = ap element_of h.known ∙ z.there in
+      let a : H (Some z.item) vs = subst (λ o. H o vs) is gv in
+      let g : H (element_of (form_of rows s)) y.items = subst (Good s) y.is gw in
+      let b : H (Some z.item) y.items = subst (λ o. H o y.items) is g in
+      ap V.list (later z.item (element_safe rows h.form (safe_parts rows clear s h.form h.known) z.item z.there) a y.items x.item b z.made (ap (λ o. values_data at rows o y.items) (sym z.there) ∙ y.there)) ∙ sym y.is
 
   map_case : (s : Slot) (vs : Pairs) (w : Value) → Good s (V.map vs) → Good s w
       → ((u : Slot) → IsSafe rows u → GoodPairs u vs → (ws : Pairs) (ds : List (List ℕ × Data)) → GoodPairs u ws → represented_pairs at rows u vs ≡ Some ds → represented_pairs at rows u ws ≡ Some ds → vs ≡ ws)
       → Alike at rows s (V.map vs) w → V.map vs ≡ w
   map_case s vs w gv gw later (both_null a b) = a ∙ sym b
   map_case s vs w gv gw later (one_layer h) =
-      let x = map_from L.map (represented_pairs at rows (element_of (Some h.form)) vs) h.layer h.of_first in
+      let x = map_from L.map (pairs_data at rows (element_of (Some h.form)) vs) h.layer h.of_first in
       let y = map_value at rows (Some h.form) w x.item (ap map_in (h.of_second ∙ sym x.made)) in
-      let H : Option TypeDef → Pairs → Type 0 = λ o zs. GoodPairs (element_of o) zs in
-      let a : H (Some h.form) vs = subst (λ o. H o vs) h.known gv.1 in
+      let z = then_from (λ u. represented_pairs at rows u vs) (element_of (Some h.form)) x.item x.there in
+      let H : Option Slot → Pairs → Type 0 = λ o zs. IfSome o (λ u. GoodPairs u zs) in
+      let is : element_of (form_of rows s) ≡ Some z.item = ap element_of h.known ∙ z.there in
+      let a : H (Some z.item) vs = subst (λ o. H o vs) is gv.1 in
       let g : Good s (V.map y.items) = subst (Good s) y.is gw in
-      let b : H (Some h.form) y.items = subst (λ o. H o y.items) h.known g.1 in
-      ap V.map (later (element_of (Some h.form)) (element_safe rows h.form (safe_parts rows clear s h.form h.known)) a y.items x.item b x.there y.there) ∙ sym y.is
+      let b : H (Some z.item) y.items = subst (λ o. H o y.items) is g.1 in
+      ap V.map (later z.item (element_safe rows h.form (safe_parts rows clear s h.form h.known) z.item z.there) a y.items x.item b z.made (ap (λ o. pairs_data at rows o y.items) (sym z.there) ∙ y.there)) ∙ sym y.is
 
   struct_case : (s : Slot) (vs : Optionals) (w : Value) → Good s (V.struct vs) → Good s w
       → ((fs : List Field) → AllByRecursion (λ f. IsSafe rows f.slot) fs → GoodFields fs vs → (ws : Optionals) (ds : List (Option Data)) → GoodFields fs ws → represented_fields at rows fs vs ≡ Some ds → represented_fields at rows fs ws ≡ Some ds → vs ≡ ws)
@@ -174,13 +180,15 @@ module _ (at : Hamts) (ok : List (List ℕ × Data) → Type 0) (exact : IsExact
       → Alike at rows s (V.union n v) w → V.union n v ≡ w
   union_case s n v w gv gw later (both_null a b) = a ∙ sym b
   union_case s n v w gv gw later (one_layer h) =
-      let x = map_from (L.union n) (represented at rows (member_of (Some h.form) n) v) h.layer h.of_first in
+      let x = map_from (L.union n) (member_data at rows (member_of (Some h.form) n) v) h.layer h.of_first in
       let y = union_value at rows (Some h.form) w (n, x.item) (ap union_in (h.of_second ∙ sym x.made)) in
-      let H : Option TypeDef → Value → Type 0 = λ o z. Good (member_of o n) z in
-      let a : H (Some h.form) v = subst (λ o. H o v) h.known gv in
-      let g : Good s (V.union n y.part) = subst (Good s) y.is gw in
-      let b : H (Some h.form) y.part = subst (λ o. H o y.part) h.known g in
-      ap (V.union n) (later (member_of (Some h.form) n) (plain_safe rows (member_of (Some h.form) n) (member_plain h.form n)) a y.part x.item b x.there y.there) ∙ sym y.is
+      let z = then_from (λ u. represented at rows u v) (member_of (Some h.form) n) x.item x.there in
+      let H : Option Slot → Value → Type 0 = λ o a. IfSome o (λ u. Good u a) in
+      let is : member_of (form_of rows s) n ≡ Some z.item = ap (λ o. member_of o n) h.known ∙ z.there in
+      let a : H (Some z.item) v = subst (λ o. H o v) is gv in
+      let g : H (member_of (form_of rows s) n) y.part = subst (Good s) y.is gw in
+      let b : H (Some z.item) y.part = subst (λ o. H o y.part) is g in
+      ap (V.union n) (later z.item (plain_safe rows z.item (member_plain h.form n z.item z.there)) a y.part x.item b z.made (ap (λ o. member_data at rows o y.part) (sym z.there) ∙ y.there)) ∙ sym y.is
 
   abbrev both : (s : Slot) → IsSafe rows s → (v w : Value) (t : Data) → Good s v → Good s w → represented at rows s v ≡ Some t → represented at rows s w ≡ Some t → Alike at rows s v w
   both s safe v w t gv gw e k = alike_for s safe v w t gv gw (way_of at rows s v t e) (way_of at rows s w t k)

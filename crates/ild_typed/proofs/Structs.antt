@@ -35,7 +35,7 @@ int_same (negsuc m) (negsuc n) e = ap negsuc (eqb-true m n e)
 int_same (pos m) (negsuc n) e = absurd cc
 int_same (negsuc m) (pos n) e = absurd cc
 
-scalar_same : (s : Scalar) (d : Data) → is_scalar s d ≡ true → d ≡ scalar_data s
+pub scalar_same : (s : Scalar) (d : Data) → is_scalar s d ≡ true → d ≡ scalar_data s
 scalar_same (C.Bool a) (T.boolean b) e = ap T.boolean (sym (bool_same a b e))
 scalar_same (C.Int a) (T.integer b) e = ap T.integer (sym (int_same a b e))
 scalar_same (C.Text a) (T.text b) e = ap T.text (sym (text_same a b (sym e)))

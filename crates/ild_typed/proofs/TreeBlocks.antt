@@ -1,5 +1,6 @@
 -- The blocks of a value spell trees that nest no deeper than the room in which the value fits.
-use Rattle.std.proofs.Common.{◌≡◌, ℕ, zero, suc, ◌+◌, ◌-◌, ◌^◌, ◌≤◌, nat_le, List, [], ◌∷◌, ◌++◌, length, Bool, true, false, cond, Option, Some, None, IsUtf8, refl, sym, subst, arith}
+use Rattle.std.specs.Option.{option_map_or}
+use Rattle.std.proofs.Common.{◌≡◌, ℕ, zero, suc, ◌+◌, ◌-◌, ◌^◌, ◌≤◌, nat_le, List, [], ◌∷◌, ◌++◌, length, Bool, true, false, cond, Option, Some, None, IsUtf8, refl, sym, subst, arith, ◌∙◌, ap, option_map}
 use Rattle.std.specs.Prelude.{IsSomeAnd, is_some, nat_eq}
 use Rattle.std.specs.List.{AllByRecursion, flat_map, range_with_len}
 use Rattle.ild_data.specs.Data.{Data, depth}
@@ -20,7 +21,7 @@ use Rattle.ild_data.specs.ByteOrder.{in_byte_order}
 use Rattle.ild_data.specs.Trie.{part, at_depth, node_of, trie}
 use Rattle.ild_data.specs.TrieBlocks.{nodes_beneath, node_and_beneath, none_or, block_of}
 use Rattle.ild_schema.specs.Slots.{form_of, plainly}
-use Rattle.ild_typed.specs.Slots.{element_of, fields_of, member_of}
+use Rattle.ild_typed.specs.Slots.{slot_of, element_of, fields_of, member_at}
 use Rattle.ild_typed.specs.Composed.{usual}
 use Rattle.ild_typed.specs.Hamt.{whole}
 use Rattle.ild_typed.specs.Represented.{represented, represented_pairs}
@@ -124,18 +125,21 @@ module _ (h : List ℕ → List ℕ) (rows : List Row) (room : ℕ) (below : ℕ
   blocks_in s (V.list vs) f =
       let x = formed (FormFits rows room below (V.list vs)) (form_of rows s) f in
       let o = levels_of x.form (V.list vs) - 1 in
-      subst (λ c. All (nodes_of_values h rows (element_of c) vs)) (sym x.is)
-      (of_values h rows room (below o) (later o) (element_of (Some x.form)) vs (list_fits (below o) rows x.form (values_list vs) x.holds.1))
+      let z = list_fits (below o) rows x.form (values_list vs) x.holds.1 in
+      subst (λ k. All (option_map_or (λ u. nodes_of_values h rows u vs) k [])) (sym (ap element_of x.is ∙ z.is))
+      (of_values h rows room (below o) (later o) z.slot vs z.each)
   blocks_in s (V.map ps) f =
       let x = formed (FormFits rows room below (V.map ps)) (form_of rows s) f in
       let o = levels_of x.form (V.map ps) - 1 in
-      let u = element_of (Some x.form) in
       let m = map_fits (below o) rows x.form (pairs_list ps) x.holds.1 in
+      let u = m.slot in
       let es = represented_pairs (whole h) rows u ps in
-      subst (λ c. All (hamt_nodes h c (represented_pairs (whole h) rows (element_of c) ps) ++ nodes_of_pairs h rows (element_of c) ps)) (sym x.is)
+      let beneath : Option TypeDef → Slot → List (List ℕ) = λ c k. hamt_nodes h c (represented_pairs (whole h) rows k ps) ++ nodes_of_pairs h rows k ps in
+      subst (λ c. All (option_map_or (beneath c) (element_of c) [])) (sym x.is)
+      (subst (λ k. All (option_map_or (beneath (Some x.form)) k [])) (sym m.is)
       (all_append (BlockIn room) (hamt_nodes h (Some x.form) es) (nodes_of_pairs h rows u ps)
-      (hamt_blocks x.form ps es x.holds.0 (λ ds e. pairs_in (whole h) rows (below o) (room - suc o) (good_part o) u ps ds m.0 e))
-      (of_pairs h rows room (below o) (later o) u ps m.0))
+      (hamt_blocks x.form ps es x.holds.0 (λ ds e. pairs_in (whole h) rows (below o) (room - suc o) (good_part o) u ps ds m.each e))
+      (of_pairs h rows room (below o) (later o) u ps m.each)))
   blocks_in s (V.struct os) f =
       let x = formed (FormFits rows room below (V.struct os)) (form_of rows s) f in
       let o = levels_of x.form (V.struct os) - 1 in
@@ -144,7 +148,8 @@ module _ (h : List ℕ → List ℕ) (rows : List Row) (room : ℕ) (below : ℕ
   blocks_in s (V.union i v) f =
       let x = formed (FormFits rows room below (V.union i v)) (form_of rows s) f in
       let o = levels_of x.form (V.union i v) - 1 in
-      subst (λ c. All (nodes h rows (member_of c i) v)) (sym x.is) (later o (member_of (Some x.form) i) v (union_fits (below o) rows x.form i v x.holds.1))
+      let z = union_fits (below o) rows x.form i v x.holds.1 in
+      subst (λ k. All (option_map_or (λ u. nodes h rows u v) (option_map slot_of k) [])) (sym (ap (λ c. member_at c i) x.is ∙ z.is)) (later o (slot_of z.member) v z.holds)
   blocks_in s v f = tt
 
 nodes_past : (h : List ℕ → List ℕ) (rows : List Row) → IsSpelled rows → (room over : ℕ) (s : Slot) (v : Value) → FitsPast rows room over s v → AllByRecursion (BlockIn room) (nodes h rows s v)

@@ -1,7 +1,9 @@
 -- A value that stands is kept: the entries of its HAMTs rise, and their nodes are trees whose blocks are held. So one value
 -- at most stands under an id.
+use Rattle.ild_typed.proofs.PartData.{values_data, pairs_data, member_data}
+use Rattle.std.specs.Option.{option_map_or}
 use Rattle.std.proofs.Common.{◌≡◌, ℕ, zero, suc, ◌+◌, ◌-◌, ◌^◌, ◌<◌, ◌≤◌, ◌==◌, nat_le, List, [], ◌∷◌, ◌++◌, length, Bool, true, false, cond, Option, Some, None, option_map, IsUtf8, refl, sym, ◌∙◌, ap, subst, arith, eqb-true, leb-true}
-use Rattle.std.specs.Prelude.{is_some}
+use Rattle.std.specs.Prelude.{is_some, IfSome}
 use Rattle.std.specs.List.{AllByRecursion, flat_map, range_with_len}
 use Rattle.std.proofs.lemmas.Option.{same_Some, none-some}
 use Rattle.std.proofs.lemmas.Bool.{eqb-false}
@@ -27,7 +29,7 @@ use Rattle.ild_schema.proofs.Legibly.{legible}
 use Rattle.ild_typed.specs.Layer as L
 use Rattle.ild_typed.specs.Layer.{Layer}
 use Rattle.ild_schema.specs.Slots.{form_of, plainly}
-use Rattle.ild_typed.specs.Slots.{element_of, fields_of, member_of}
+use Rattle.ild_typed.specs.Slots.{slot_of, element_of, fields_of, member_of}
 use Rattle.ild_typed.specs.Composed.{usual, composed}
 use Rattle.ild_typed.specs.Hamt.{root_map, whole}
 use Rattle.ild_typed.specs.Represented.{represented, represented_values, represented_pairs, represented_fields}
@@ -165,10 +167,10 @@ module _ (P : List ℕ → Type 0) (K : Data → Type 0) (known : (d : Data) →
       good_part o s v t b e = let g = good o s v t b e in record { tree = g.0; nested = omega (arith, g.1) }
 
       abbrev Nodes : Option TypeDef → Value → Type 0
-      Nodes c (V.list vs) = AllByRecursion P (nodes_of_values h rows (element_of c) vs)
-      Nodes c (V.map ps) = AllByRecursion P (hamt_nodes h c (represented_pairs (whole h) rows (element_of c) ps) ++ nodes_of_pairs h rows (element_of c) ps)
+      Nodes c (V.list vs) = AllByRecursion P (option_map_or (λ u. nodes_of_values h rows u vs) (element_of c) [])
+      Nodes c (V.map ps) = AllByRecursion P (option_map_or (λ u. hamt_nodes h c (represented_pairs (whole h) rows u ps) ++ nodes_of_pairs h rows u ps) (element_of c) [])
       Nodes c (V.struct os) = AllByRecursion P (nodes_of_fields h rows (fields_of c) os)
-      Nodes c (V.union i v) = AllByRecursion P (nodes h rows (member_of c i) v)
+      Nodes c (V.union i v) = AllByRecursion P (option_map_or (λ u. nodes h rows u v) (member_of c i) [])
       Nodes c v = Unit {0}
 
       not_null : (v : Value) (d : TypeDef) (l : Layer Data) → layer_data (whole h) rows (Some d) v ≡ Some l → v ≡ V.null → ⊥
@@ -179,24 +181,28 @@ module _ (P : List ℕ → Type 0) (K : Data → Type 0) (known : (d : Data) →
           → composed (whole h) d l ≡ Some t → Nodes (Some d) v → Good s v
       by_layer s (V.list vs) t d l is f there made all =
           let o = levels_of d (V.list vs) - 1 in
-          let x = map_from L.list (represented_values (whole h) rows (element_of (Some d)) vs) l there in
-          subst (λ c. G.Goods (whole h) (Kept h K) rows (element_of c) vs) (sym is)
-          (goods (below o) (later o) (element_of (Some d)) vs x.item (list_fits (below o) rows d (values_list vs) f.1) x.there all)
+          let x = map_from L.list (values_data (whole h) rows (element_of (Some d)) vs) l there in
+          let z = list_fits (below o) rows d (values_list vs) f.1 in
+          subst (λ k. IfSome k (λ u. G.Goods (whole h) (Kept h K) rows u vs)) (sym (ap element_of is ∙ z.is))
+          (goods (below o) (later o) z.slot vs x.item z.each (ap (λ k. values_data (whole h) rows k vs) (sym z.is) ∙ x.there)
+          (subst (λ k. AllByRecursion P (option_map_or (λ u. nodes_of_values h rows u vs) k [])) z.is all))
       by_layer s (V.map ps) t d l is f there made all =
           let o = levels_of d (V.map ps) - 1 in
-          let u = element_of (Some d) in
-          let x = map_from L.map (represented_pairs (whole h) rows u ps) l there in
+          let x = map_from L.map (pairs_data (whole h) rows (element_of (Some d)) ps) l there in
           let m = map_fits (below o) rows d (pairs_list ps) f.1 in
-          let both = all_split P (hamt_nodes h (Some d) (represented_pairs (whole h) rows u ps)) (nodes_of_pairs h rows u ps) all in
-          let here : AllByRecursion P (hamt_nodes h (Some d) (Some x.item)) = subst (λ r. AllByRecursion P (hamt_nodes h (Some d) r)) x.there both.0 in
-          let trees = pairs_in (whole h) rows (below o) (room - suc o) (good_part o) u ps x.item m.0 x.there in
-          let own : LayerOk (Kept h K) d (L.map x.item) = kept_map (room - suc o) d u ps x.item t m.1 x.there trees (ap (composed (whole h) d) (same_Some (L.map x.item) l x.made) ∙ made) here in (
-            λ c ds form rep.
+          let u = m.slot in
+          let here_all = subst (λ k. AllByRecursion P (option_map_or (λ w. hamt_nodes h (Some d) (represented_pairs (whole h) rows w ps) ++ nodes_of_pairs h rows w ps) k [])) m.is all in
+          let both = all_split P (hamt_nodes h (Some d) (represented_pairs (whole h) rows u ps)) (nodes_of_pairs h rows u ps) here_all in
+          let own_pairs : represented_pairs (whole h) rows u ps ≡ Some x.item = ap (λ k. pairs_data (whole h) rows k ps) (sym m.is) ∙ x.there in
+          let here : AllByRecursion P (hamt_nodes h (Some d) (Some x.item)) = subst (λ r. AllByRecursion P (hamt_nodes h (Some d) r)) own_pairs both.0 in
+          let trees = pairs_in (whole h) rows (below o) (room - suc o) (good_part o) u ps x.item m.each own_pairs in
+          let own : LayerOk (Kept h K) d (L.map x.item) = kept_map (room - suc o) d u ps x.item t m.keys own_pairs trees (ap (composed (whole h) d) (same_Some (L.map x.item) l x.made) ∙ made) here in (
+            λ c w ds form element rep.
                 let same : d ≡ c = same_Some d c (sym is ∙ form) in
-                let pairs : represented_pairs (whole h) rows (element_of (Some d)) ps ≡ Some ds = ap (λ a. represented_pairs (whole h) rows (element_of (Some a)) ps) same ∙ rep in
+                let pairs : pairs_data (whole h) rows (element_of (Some d)) ps ≡ Some ds = ap (λ k. pairs_data (whole h) rows k ps) (ap (λ a. element_of (Some a)) same ∙ element) ∙ rep in
                 let items : x.item ≡ ds = same_Some x.item ds (sym x.there ∙ pairs) in
                 subst (λ a. LayerOk (Kept h K) a (L.map ds)) same (subst (λ es. LayerOk (Kept h K) d (L.map es)) items own),
-            subst (λ c. G.GoodPairs (whole h) (Kept h K) rows (element_of c) ps) (sym is) (good_pairs (below o) (later o) u ps x.item m.0 x.there both.1),
+            subst (λ k. IfSome k (λ w. G.GoodPairs (whole h) (Kept h K) rows w ps)) (sym (ap element_of is ∙ m.is)) (good_pairs (below o) (later o) u ps x.item m.each own_pairs both.1),
           )
       by_layer s (V.struct os) t d l is f there made all =
           let o = levels_of d (V.struct os) - 1 in
@@ -205,8 +211,12 @@ module _ (P : List ℕ → Type 0) (K : Data → Type 0) (known : (d : Data) →
           (good_fields (below o) (later o) (fields_of (Some d)) os x.item (struct_fits (below o) rows d (optionals_list os) f.1) x.there all)
       by_layer s (V.union i v) t d l is f there made all =
           let o = levels_of d (V.union i v) - 1 in
-          let x = map_from (L.union i) (represented (whole h) rows (member_of (Some d) i) v) l there in
-          subst (λ c. Good (member_of c i) v) (sym is) (later o (member_of (Some d) i) v x.item (union_fits (below o) rows d i v f.1) x.there all)
+          let x = map_from (L.union i) (member_data (whole h) rows (member_of (Some d) i) v) l there in
+          let z = union_fits (below o) rows d i v f.1 in
+          let has : member_of (Some d) i ≡ Some (slot_of z.member) = ap (option_map slot_of) z.is in
+          subst (λ k. IfSome k (λ u. Good u v)) (sym (ap (λ c. member_of c i) is ∙ has))
+          (later o (slot_of z.member) v x.item z.holds (ap (λ k. member_data (whole h) rows k v) (sym has) ∙ x.there)
+          (subst (λ k. AllByRecursion P (option_map_or (λ u. nodes h rows u v) k [])) has all))
       by_layer s v t d l is f there made all = tt
 
       nodes_by : (s : Slot) (v : Value) (d : TypeDef) → form_of rows s ≡ Some d → AllByRecursion P (nodes h rows s v) → Nodes (Some d) v

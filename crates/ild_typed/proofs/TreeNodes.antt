@@ -181,7 +181,7 @@ node_of_in n h p (suc left) depth es d all e =
     subst (TreeIn (n + 4)) (same_Some (node_data x.item) d x.made)
     (node_in n x.item (all_slots n p.bucket (at_depth h p depth) (node_of h p left (depth + 1)) es (range_with_len 0 (2 ^ p.width)) x.item all x.there))
 
-trie_node : (h : List ℕ → List ℕ) (p : TrieShape) (es : List (List ℕ × Data)) (d : Data) → trie h p es 0 ≡ Some d → node_of h p (trie_levels p - 0) 0 (in_byte_order es) ≡ Some d
+pub trie_node : (h : List ℕ → List ℕ) (p : TrieShape) (es : List (List ℕ × Data)) (d : Data) → trie h p es 0 ≡ Some d → node_of h p (trie_levels p - 0) 0 (in_byte_order es) ≡ Some d
 unfolding trie
 trie_node h p es d e = (if_from (no_key_twice es) (node_of h p (trie_levels p - 0) 0 (in_byte_order es)) d e).1
 

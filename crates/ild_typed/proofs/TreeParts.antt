@@ -1,5 +1,5 @@
 -- What fits, read off layer by layer; and the data of parts that are trees.
-use Rattle.std.proofs.Common.{◌≡◌, ℕ, List, [], ◌∷◌, Option, Some, None, option_map, IsUtf8, refl, sym, subst, inl, inr}
+use Rattle.std.proofs.Common.{◌≡◌, ℕ, List, [], ◌∷◌, Option, Some, None, option_map, IsUtf8, refl, subst, inl, inr}
 use Rattle.std.specs.Prelude.{ℤ, IsSomeAnd, slice_get}
 use Rattle.std.specs.List.{AllByRecursion}
 use Rattle.std.proofs.lemmas.Option.{same_Some, none-some}
@@ -24,7 +24,7 @@ use Rattle.ild_schema.specs.Value.{Value, Values, Pairs, Optionals, values_list,
 use Rattle.ild_typed.specs.Layer as L
 use Rattle.ild_typed.specs.Layer.{Layer, as_map, as_hamt}
 use Rattle.ild_schema.specs.Slots.{plainly}
-use Rattle.ild_typed.specs.Slots.{slot_of_member, element_of, fields_of, member_of}
+use Rattle.ild_typed.specs.Slots.{slot_of, element_of, fields_of, member_at}
 use Rattle.ild_typed.specs.Composed.{Hamts}
 use Rattle.ild_typed.specs.Represented.{represented, represented_values, represented_pairs, represented_fields}
 use Rattle.ild_typed.specs.Layers.{AreKeys, Shows, FieldsFit, EntriesFit, RootFits, MapFits, LayerFits}
@@ -52,8 +52,25 @@ module _ (fits : Slot → Value → Type 0) (rows : List Row) where
   no_map key value MF.Hamt l a b (inl h) = subst (λ o. IsSomeAnd o (EntriesFit fits rows key value MF.Hamt)) a h
   no_map key value MF.Hamt l a b (inr h) = subst (λ o. IsSomeAnd o (RootFits fits rows key value)) b h
 
-  pub list_fits : (d : TypeDef) (xs : List Value) → LayerFits fits rows d (L.list xs) → AllByRecursion (fits (element_of (Some d))) xs
-  list_fits (D.List elem place) xs h = h
+  -- the parts of a layer fit in the slots that the type has for them
+  pub record ListFit (d : TypeDef) (xs : List Value) : Type 0 where
+    pub slot : Slot
+    pub is : element_of (Some d) ≡ Some slot
+    pub each : AllByRecursion (fits slot) xs
+
+  pub record MapFit (d : TypeDef) (ps : List (List ℕ × Value)) : Type 0 where
+    pub slot : Slot
+    pub is : element_of (Some d) ≡ Some slot
+    pub each : AllByRecursion (λ p. IsUtf8 p.0 × fits slot p.1) ps
+    pub keys : KeysFit d ps
+
+  pub record UnionFit (d : TypeDef) (n : ℕ) (v : Value) : Type 0 where
+    pub member : Member
+    pub is : member_at (Some d) n ≡ Some member
+    pub holds : fits (slot_of member) v
+
+  pub list_fits : (d : TypeDef) (xs : List Value) → LayerFits fits rows d (L.list xs) → ListFit d xs
+  list_fits (D.List elem place) xs h = record { slot = elem; is = refl; each = h }
   list_fits (D.Map key key_at value place form) xs h = absurd (no_map key value form (L.list xs) refl refl h)
   list_fits d xs h = absurd h
 
@@ -62,34 +79,31 @@ module _ (fits : Slot → Value → Type 0) (rows : List Row) where
   struct_fits (D.Map key key_at value place form) xs h = absurd (no_map key value form (L.struct xs) refl refl h)
   struct_fits d xs h = absurd h
 
-  member_fits : (o : Option Member) (v : Value) → IsSomeAnd o (λ m. fits (plainly m.ty) v) → fits (slot_of_member o) v
-  member_fits None v h = absurd h
-  member_fits (Some m) v h = h
-
-  pub union_fits : (d : TypeDef) (n : ℕ) (v : Value) → LayerFits fits rows d (L.union n v) → fits (member_of (Some d) n) v
-  union_fits (D.Union u) n v h = member_fits (slice_get u.members n) v h
+  pub union_fits : (d : TypeDef) (n : ℕ) (v : Value) → LayerFits fits rows d (L.union n v) → UnionFit d n v
+  union_fits (D.Union u) n v h = by (slice_get u.members n) refl h where
+    by : (o : Option Member) → slice_get u.members n ≡ o → IsSomeAnd o (λ m. fits (plainly m.ty) v) → UnionFit (D.Union u) n v
+    by None is h = absurd h
+    by (Some m) is h = record { member = m; is = is; holds = h }
   union_fits (D.Map key key_at value place form) n v h = absurd (no_map key value form (L.union n v) refl refl h)
   union_fits d n v h = absurd h
 
   -- an entry: its key is a text, and its value fits
-  abbrev pub EntryFits : TypeDef → List ℕ × Value → Type 0
-  EntryFits d p = IsUtf8 p.0 × fits (element_of (Some d)) p.1
+  entries_fit : (key : TypeNo) (value : Slot) (ps : List (List ℕ × Value))
+      → AllByRecursion (λ p. IsUtf8 p.0 × Shows fits rows (plainly key) (T.text p.0) × fits value p.1) ps → AllByRecursion (λ p. IsUtf8 p.0 × fits value p.1) ps
+  entries_fit key value [] h = tt
+  entries_fit key value (p ∷ ps) h = ((h.0.0, h.0.2), entries_fit key value ps h.1)
 
-  entries_fit : (key : TypeNo) (value : Slot) (d : TypeDef) → element_of (Some d) ≡ value → (ps : List (List ℕ × Value))
-      → AllByRecursion (λ p. IsUtf8 p.0 × Shows fits rows (plainly key) (T.text p.0) × fits value p.1) ps → AllByRecursion (EntryFits d) ps
-  entries_fit key value d is [] h = tt
-  entries_fit key value d is (p ∷ ps) h = ((h.0.0, subst (λ s. fits s p.1) (sym is) h.0.2), entries_fit key value d is ps h.1)
+  form_fits : (key : TypeNo) (value : Slot) (form : MapForm) (ps : List (List ℕ × Value)) → MapFits fits rows key value form (L.map ps)
+      → AllByRecursion (λ p. IsUtf8 p.0 × fits value p.1) ps × AreKeys form ps
+  form_fits key value MF.Map ps h = (entries_fit key value ps h.1, h.0)
+  form_fits key value MF.ListPairs ps h = (entries_fit key value ps h.1, h.0)
+  form_fits key value (MF.StringPairs i e) ps h = (entries_fit key value ps h.1, h.0)
+  form_fits key value MF.Hamt ps (inl h) = (entries_fit key value ps h.1, h.0)
+  form_fits key value MF.Hamt ps (inr h) = absurd h
 
-  form_fits : (key : TypeNo) (key_at : ℕ) (value : Slot) (place : ℕ) (form : MapForm) (ps : List (List ℕ × Value)) → MapFits fits rows key value form (L.map ps)
-      → AllByRecursion (EntryFits (D.Map key key_at value place form)) ps × AreKeys form ps
-  form_fits key key_at value place MF.Map ps h = (entries_fit key value (D.Map key key_at value place MF.Map) refl ps h.1, h.0)
-  form_fits key key_at value place MF.ListPairs ps h = (entries_fit key value (D.Map key key_at value place MF.ListPairs) refl ps h.1, h.0)
-  form_fits key key_at value place (MF.StringPairs i e) ps h = (entries_fit key value (D.Map key key_at value place (MF.StringPairs i e)) refl ps h.1, h.0)
-  form_fits key key_at value place MF.Hamt ps (inl h) = (entries_fit key value (D.Map key key_at value place MF.Hamt) refl ps h.1, h.0)
-  form_fits key key_at value place MF.Hamt ps (inr h) = absurd h
-
-  pub map_fits : (d : TypeDef) (ps : List (List ℕ × Value)) → LayerFits fits rows d (L.map ps) → AllByRecursion (EntryFits d) ps × KeysFit d ps
-  map_fits (D.Map key key_at value place form) ps h = form_fits key key_at value place form ps h
+  pub map_fits : (d : TypeDef) (ps : List (List ℕ × Value)) → LayerFits fits rows d (L.map ps) → MapFit d ps
+  map_fits (D.Map key key_at value place form) ps h =
+      let x = form_fits key value form ps h in record { slot = value; is = refl; each = x.0; keys = x.1 }
   map_fits d ps h = absurd h
 
   root_fits : (key : TypeNo) (key_at : ℕ) (value : Slot) (place : ℕ) (form : MapForm) (x : Data) → MapFits fits rows key value form (L.hamt x) → RootOf fits rows (D.Map key key_at value place form) x

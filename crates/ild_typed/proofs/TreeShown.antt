@@ -1,8 +1,9 @@
 -- The shown form of a value is a tree too, nested no deeper than the room in which the value fits.
+use Rattle.std.specs.Option.{option_map_or}
 use Rattle.std.proofs.Common.{◌≡◌, ℕ, zero, suc, ◌+◌, ◌-◌, ◌≤◌, List, [], ◌∷◌, Option, Some, None, IsUtf8, refl, sym, ◌∙◌, ap, subst, arith}
 use Rattle.std.specs.Prelude.{slice_get}
 use Rattle.std.specs.List.{AllByRecursion}
-use Rattle.std.proofs.lemmas.Option.{same_Some, none-some}
+use Rattle.std.proofs.lemmas.Option.{none-some}
 use Rattle.std.proofs.lemmas.Str.{IsUtf8-nil}
 use Rattle.ild_data.specs.Data as T
 use Rattle.ild_data.specs.Data.{Data, depth, items_depth}
@@ -23,7 +24,7 @@ use Rattle.ild_schema.specs.Value as V
 use Rattle.ild_schema.specs.Value.{Value, Values, Pairs, Optionals, values_list, pairs_list, optionals_list}
 use Rattle.ild_typed.specs.Layer as L
 use Rattle.ild_schema.specs.Slots.{form_of}
-use Rattle.ild_typed.specs.Slots.{element_of, fields_of, member_of}
+use Rattle.ild_typed.specs.Slots.{slot_of, element_of, fields_of, member_at, enum_member_at}
 use Rattle.ild_typed.specs.Strings.{map_data, in_key_order}
 use Rattle.ild_typed.specs.Composed.{usual, composed}
 use Rattle.ild_typed.specs.Hamt.{alone, a_map, root_map}
@@ -32,11 +33,11 @@ use Rattle.ild_typed.specs.Represented.{layered, represented}
 use Rattle.ild_typed.specs.Levels.{map_levels, struct_levels, levels_of}
 use Rattle.ild_typed.specs.Fits.{FormFits, ValueFits, FitsPast, Fits}
 use Rattle.ild_typed.specs.Layers.{FieldsFit, LayerFits}
-use Rattle.ild_typed.specs.Shown.{member_name, enum_name, shown, shown_values, shown_pairs, shown_fields}
+use Rattle.ild_typed.specs.Shown.{shown, shown_values, shown_pairs, shown_fields}
 use Rattle.ild_typed.specs.Nested.{TreeIn}
 use Rattle.ild_schema.specs.Spelled.{IsSpelled, NamedType, IsNamed}
 use Rattle.ild_typed.proofs.Rising.{rises_sorted}
-use Rattle.ild_typed.proofs.Treed.{EntryIn, all_sorted, in_more, map_in, text_is}
+use Rattle.ild_typed.proofs.Treed.{EntryIn, all_sorted, in_more, map_in, text_is, all_at}
 use Rattle.ild_typed.proofs.TreeParts.{RootOf, list_fits, struct_fits, union_fits, map_fits, hamt_fits, no_type_map, text_fits, bytes_fit, link_fits, int_fits}
 use Rattle.ild_typed.proofs.TreeBlocks.{formed}
 use Rattle.ild_typed.proofs.TreeValues.{alone_tree}
@@ -51,7 +52,7 @@ named_at P (x ∷ xs) (suc n) Q all none some = named_at P xs n Q all.1 none som
 -- ---- one layer
 
 module _ (fits : Slot → Value → Type 0) (rows : List Row) where
-  list_level : (d : TypeDef) (v : Value) (xs : List Value) → LayerFits fits rows d (L.list xs) → 1 ≤ levels_of d v
+  pub list_level : (d : TypeDef) (v : Value) (xs : List Value) → LayerFits fits rows d (L.list xs) → 1 ≤ levels_of d v
   list_level (D.List elem place) v xs f = omega arith
   list_level (D.Map key key_at value place form) v xs f = absurd (no_type_map fits rows (D.Map key key_at value place form) (L.list xs) refl refl f key key_at value place form refl)
   list_level d v xs f = absurd f
@@ -62,7 +63,7 @@ module _ (fits : Slot → Value → Type 0) (rows : List Row) where
   form_level (MF.StringPairs i e) = omega arith
   form_level MF.Hamt = omega arith
 
-  map_level : (d : TypeDef) (v : Value) (ps : List (List ℕ × Value)) → LayerFits fits rows d (L.map ps) → 1 ≤ levels_of d v
+  pub map_level : (d : TypeDef) (v : Value) (ps : List (List ℕ × Value)) → LayerFits fits rows d (L.map ps) → 1 ≤ levels_of d v
   map_level (D.Map key key_at value place form) v ps f = form_level form
   map_level d v ps f = absurd f
 
@@ -73,12 +74,12 @@ module _ (fits : Slot → Value → Type 0) (rows : List Row) where
   struct_form_level (S.StringPairs i e) = omega arith
   struct_form_level (S.StringJoin e) = omega arith
 
-  struct_level : (d : TypeDef) (v : Value) (os : List (Option Value)) → LayerFits fits rows d (L.struct os) → 1 ≤ levels_of d v
+  pub struct_level : (d : TypeDef) (v : Value) (os : List (Option Value)) → LayerFits fits rows d (L.struct os) → 1 ≤ levels_of d v
   struct_level (D.Struct s) v os f = struct_form_level s.form
   struct_level (D.Map key key_at value place form) v os f = absurd (no_type_map fits rows (D.Map key key_at value place form) (L.struct os) refl refl f key key_at value place form refl)
   struct_level d v os f = absurd f
 
-  union_level : (d : TypeDef) (v : Value) (n : ℕ) (w : Value) → LayerFits fits rows d (L.union n w) → 1 ≤ levels_of d v
+  pub union_level : (d : TypeDef) (v : Value) (n : ℕ) (w : Value) → LayerFits fits rows d (L.union n w) → 1 ≤ levels_of d v
   union_level (D.Union u) v n w f = omega arith
   union_level (D.Map key key_at value place form) v n w f = absurd (no_type_map fits rows (D.Map key key_at value place form) (L.union n w) refl refl f key key_at value place form refl)
   union_level d v n w f = absurd f
@@ -104,21 +105,16 @@ module _ (fits : Slot → Value → Type 0) (rows : List Row) where
   hamt_data (D.Map key key_at value place (MF.StringPairs i e)) x f = absurd f
   hamt_data d x f = absurd f
 
-  union_name : (d : TypeDef) (n : ℕ) (w : Value) → NamedType d → LayerFits fits rows d (L.union n w) → IsUtf8 (member_name (Some d) n)
-  union_name (D.Union u) n w named f = by (slice_get u.members n) refl (named_at (λ m. IsUtf8 m.name) u.members n (λ o. (m : Member) → o ≡ Some m → IsUtf8 m.name) named (λ m e. absurd (none-some m e)) (λ x p m e. subst (λ (y : Member). IsUtf8 y.name) (same_Some x m e) p)) where
-    by : (o : Option Member) → slice_get u.members n ≡ o → ((m : Member) → slice_get u.members n ≡ Some m → IsUtf8 m.name) → IsUtf8 (member_name (Some (D.Union u)) n)
-    by None is each = rw is IsUtf8-nil
-    by (Some m) is each = let p = each m is in rw is p
-  union_name (D.Map key key_at value place form) n w named f = absurd (no_type_map fits rows (D.Map key key_at value place form) (L.union n w) refl refl f key key_at value place form refl)
-  union_name d n w named f = absurd f
+  union_name : (d : TypeDef) (n : ℕ) (m : Member) → NamedType d → member_at (Some d) n ≡ Some m → IsUtf8 m.name
+  union_name (D.Union u) n m named is = all_at (λ k. IsUtf8 k.name) u.members n m named is
+  union_name d n m named is = absurd (none-some m is)
 
-  enum_text : (d : TypeDef) (n : ℕ) → NamedType d → LayerFits fits rows d (L.enum n) → IsUtf8 (enum_name (Some d) n)
-  enum_text (D.Enum en) n named f = by (slice_get en.members n) refl (named_at (λ m. IsUtf8 m.name) en.members n (λ o. (m : EnumMember) → o ≡ Some m → IsUtf8 m.name) named (λ m e. absurd (none-some m e)) (λ x p m e. subst (λ (y : EnumMember). IsUtf8 y.name) (same_Some x m e) p)) where
-    by : (o : Option EnumMember) → slice_get en.members n ≡ o → ((m : EnumMember) → slice_get en.members n ≡ Some m → IsUtf8 m.name) → IsUtf8 (enum_name (Some (D.Enum en)) n)
-    by None is each = rw is IsUtf8-nil
-    by (Some m) is each = let p = each m is in rw is p
-  enum_text (D.Map key key_at value place form) n named f = absurd (no_type_map fits rows (D.Map key key_at value place form) (L.enum n) refl refl f key key_at value place form refl)
-  enum_text d n named f = absurd f
+  enum_text : (d : TypeDef) (n : ℕ) → NamedType d → IsUtf8 (option_map_or (λ (m : EnumMember). m.name) (enum_member_at (Some d) n) [])
+  enum_text (D.Enum en) n named = by (slice_get en.members n) refl where
+    by : (o : Option EnumMember) → slice_get en.members n ≡ o → IsUtf8 (option_map_or (λ (m : EnumMember). m.name) o [])
+    by None is = IsUtf8-nil
+    by (Some m) is = all_at (λ k. IsUtf8 k.name) en.members n m named is
+  enum_text d n named = IsUtf8-nil
 
   struct_names : (d : TypeDef) (os : List (Option Value)) → NamedType d → LayerFits fits rows d (L.struct os) → AllByRecursion (λ f. IsUtf8 f.name) (fields_of (Some d))
   struct_names (D.Struct s) os named f = named
@@ -188,21 +184,24 @@ module _ (rows : List Row) (named : IsNamed rows) (room : ℕ) (below : ℕ → 
       record { tree = tt; nested = omega (arith, one, le) }
   shown_in s (V.enum n) f =
       let x = formed (FormFits rows room below (V.enum n)) (form_of rows s) f in
-      subst (λ c. TreeIn room (T.text (enum_name c n))) (sym x.is) (text_is room (enum_name (Some x.form) n) (enum_text (below (levels_of x.form (V.enum n) - 1)) rows x.form n (named (base rows s.ty.0) x.form x.is) x.holds.1))
+      let name : Option TypeDef → List ℕ = λ c. option_map_or (λ (m : EnumMember). m.name) (enum_member_at c n) [] in
+      subst (λ c. TreeIn room (T.text (name c))) (sym x.is) (text_is room (name (Some x.form)) (enum_text (below (levels_of x.form (V.enum n) - 1)) rows x.form n (named (base rows s.ty.0) x.form x.is)))
   shown_in s (V.hamt d) f = front s d f
   shown_in s (V.list vs) f =
       let x = formed (FormFits rows room below (V.list vs)) (form_of rows s) f in
       let o = levels_of x.form (V.list vs) - 1 in
-      let y = values_shown rows (below o) (room - suc o) (good_part o) (element_of (Some x.form)) vs (list_fits (below o) rows x.form (values_list vs) x.holds.1) in
+      let z = list_fits (below o) rows x.form (values_list vs) x.holds.1 in
+      let y = values_shown rows (below o) (room - suc o) (good_part o) z.slot vs z.each in
       let up = above room (levels_of x.form (V.list vs)) (list_level (below o) rows x.form (V.list vs) (values_list vs) x.holds.1) x.holds.0 in
-      subst (λ c. TreeIn room (T.list (shown_values rows (element_of c) vs))) (sym x.is) (record { tree = y.0; nested = omega (arith, y.1, up) })
+      subst (λ k. TreeIn room (T.list (option_map_or (λ u. shown_values rows u vs) k T.no_items))) (sym (ap element_of x.is ∙ z.is)) (record { tree = y.0; nested = omega (arith, y.1, up) })
   shown_in s (V.map ps) f =
       let x = formed (FormFits rows room below (V.map ps)) (form_of rows s) f in
       let o = levels_of x.form (V.map ps) - 1 in
-      let u = element_of (Some x.form) in
-      let y = pairs_shown rows (below o) (room - suc o) (good_part o) u ps (map_fits (below o) rows x.form (pairs_list ps) x.holds.1).0 in
+      let z = map_fits (below o) rows x.form (pairs_list ps) x.holds.1 in
+      let u = z.slot in
+      let y = pairs_shown rows (below o) (room - suc o) (good_part o) u ps z.each in
       let up = above room (levels_of x.form (V.map ps)) (map_level (below o) rows x.form (V.map ps) (pairs_list ps) x.holds.1) x.holds.0 in
-      subst (λ c. TreeIn room (map_data (in_key_order (shown_pairs rows (element_of c) ps)))) (sym x.is)
+      subst (λ k. TreeIn room (map_data (option_map_or (λ w. in_key_order (shown_pairs rows w ps)) k []))) (sym (ap element_of x.is ∙ z.is))
       (in_more ((room - suc o) + 1) room (map_data (in_key_order (shown_pairs rows u ps))) up (map_in (room - suc o) (in_key_order (shown_pairs rows u ps)) (all_sorted (EntryIn (room - suc o)) (shown_pairs rows u ps) y) (rises_sorted (shown_pairs rows u ps))))
   shown_in s (V.struct os) f =
       let x = formed (FormFits rows room below (V.struct os)) (form_of rows s) f in
@@ -216,12 +215,13 @@ module _ (rows : List Row) (named : IsNamed rows) (room : ℕ) (below : ℕ → 
   shown_in s (V.union n v) f =
       let x = formed (FormFits rows room below (V.union n v)) (form_of rows s) f in
       let o = levels_of x.form (V.union n v) - 1 in
-      let u = member_of (Some x.form) n in
-      let name = union_name (below o) rows x.form n v (named (base rows s.ty.0) x.form x.is) x.holds.1 in
-      let y = good_part o u v (union_fits (below o) rows x.form n v x.holds.1) in
+      let z = union_fits (below o) rows x.form n v x.holds.1 in
+      let u = slot_of z.member in
+      let name = union_name (below o) rows x.form n z.member (named (base rows s.ty.0) x.form x.is) z.is in
+      let y = good_part o u v z.holds in
       let up = above room (levels_of x.form (V.union n v)) (union_level (below o) rows x.form (V.union n v) n v x.holds.1) x.holds.0 in
-      subst (λ c. TreeIn room (map_data ((member_name c n, shown rows (member_of c n) v) ∷ []))) (sym x.is)
-      (in_more ((room - suc o) + 1) room (map_data ((member_name (Some x.form) n, shown rows u v) ∷ [])) up (map_in (room - suc o) ((member_name (Some x.form) n, shown rows u v) ∷ []) ((name, y), tt) (tt, tt)))
+      subst (λ k. TreeIn room (map_data (option_map_or (λ (m : Member). (m.name, shown rows (slot_of m) v) ∷ []) k []))) (sym (ap (λ c. member_at c n) x.is ∙ z.is))
+      (in_more ((room - suc o) + 1) room (map_data ((z.member.name, shown rows u v) ∷ [])) up (map_in (room - suc o) ((z.member.name, shown rows u v) ∷ []) ((name, y), tt) (tt, tt)))
 
 hamt_front : (rows : List Row) (room : ℕ) (below : ℕ → Slot → Value → Type 0) (s : Slot) (x : Data) → ValueFits rows room below s (V.hamt x) → represented alone rows s (V.hamt x) ≡ Some x
 hamt_front rows room below s x f =

@@ -20,17 +20,18 @@ use Rattle.ild_schema.specs.Value.{Value, Values, Pairs, Optionals, values_list,
 use Rattle.ild_typed.specs.Layer as L
 use Rattle.ild_typed.specs.Layer.{Layer, as_map, as_hamt, as_any}
 use Rattle.ild_schema.specs.Slots.{form_of, plainly}
-use Rattle.ild_typed.specs.Slots.{element_of, fields_of, member_of}
+use Rattle.ild_typed.specs.Slots.{slot_of, element_of, fields_of, member_of}
 use Rattle.ild_typed.specs.Composed.{Hamts, usual}
 use Rattle.ild_typed.specs.Hamt.{whole, alone, a_map}
 use Rattle.ild_typed.specs.Node.{entries_in}
-use Rattle.ild_typed.specs.Represented.{represented, represented_values, represented_pairs, represented_fields}
+use Rattle.ild_typed.specs.Represented.{represented, represented_pairs, represented_fields}
 use Rattle.ild_typed.specs.Levels.{levels_of}
 use Rattle.ild_typed.specs.Fits.{FormFits, ValueFits, FitsPast, Fits}
 use Rattle.ild_typed.specs.Layers.{Shows, RootFits, LayerFits}
 use Rattle.ild_typed.specs.Nested.{TreeIn}
 use Rattle.ild_schema.specs.Spelled.{IsSpelled}
 use Rattle.ild_typed.proofs.Basics.{map_from}
+use Rattle.ild_typed.proofs.PartData.{values_data, pairs_data, member_data}
 use Rattle.ild_typed.proofs.OneValue.{Way, as_null, as_layer, way_of, layer_data}
 use Rattle.ild_typed.proofs.Treed.{EntryIn, LayerTrees, TypeMore, IsEnough, composed_in}
 use Rattle.ild_typed.proofs.TreeNodes.{front_in, whole_in}
@@ -52,10 +53,10 @@ not_any f o l x never e h =
 any_levels_is : (at : Hamts) (rows : List Row) (v : Value) (l : Layer Data) (x : Data) → layer_data at rows (Some D.Any) v ≡ Some l → as_any l ≡ Some x → depth x ≡ levels_of D.Any v
 any_levels_is at rows V.null l x e h = absurd (none-some l e)
 any_levels_is at rows (V.any y) l x e h = ap depth (sym (same_Some y x (ap as_any (same_Some (L.any y) l e) ∙ h)))
-any_levels_is at rows (V.list vs) l x e h = absurd (not_any L.list (represented_values at rows (element_of (Some D.Any)) vs) l x (λ a. refl) e h)
-any_levels_is at rows (V.map ps) l x e h = absurd (not_any L.map (represented_pairs at rows (element_of (Some D.Any)) ps) l x (λ a. refl) e h)
+any_levels_is at rows (V.list vs) l x e h = absurd (not_any L.list (values_data at rows (element_of (Some D.Any)) vs) l x (λ a. refl) e h)
+any_levels_is at rows (V.map ps) l x e h = absurd (not_any L.map (pairs_data at rows (element_of (Some D.Any)) ps) l x (λ a. refl) e h)
 any_levels_is at rows (V.struct os) l x e h = absurd (not_any L.struct (represented_fields at rows (fields_of (Some D.Any)) os) l x (λ a. refl) e h)
-any_levels_is at rows (V.union n v) l x e h = absurd (not_any (L.union n) (represented at rows (member_of (Some D.Any) n) v) l x (λ a. refl) e h)
+any_levels_is at rows (V.union n v) l x e h = absurd (not_any (L.union n) (member_data at rows (member_of (Some D.Any) n) v) l x (λ a. refl) e h)
 any_levels_is at rows (V.boolean b) l x e h = absurd (none-some x (ap as_any (same_Some (L.boolean b) l e) ∙ h))
 any_levels_is at rows (V.integer b) l x e h = absurd (none-some x (ap as_any (same_Some (L.integer b) l e) ∙ h))
 any_levels_is at rows (V.text b) l x e h = absurd (none-some x (ap as_any (same_Some (L.text b) l e) ∙ h))
@@ -110,15 +111,17 @@ module _ (at : Hamts) (rows : List Row) (spelled : IsSpelled rows)
     parts_in V.null d l f e = absurd (none-some l e)
     parts_in (V.list vs) d l f e =
         let o = levels_of d (V.list vs) - 1 in
-        let x = map_from L.list (represented_values at rows (element_of (Some d)) vs) l e in
-        let all = values_in at rows (below o) (room - suc o) (good_part o) (element_of (Some d)) vs x.item (list_fits (below o) rows d (values_list vs) f.1) x.there in
+        let x = map_from L.list (values_data at rows (element_of (Some d)) vs) l e in
+        let z = list_fits (below o) rows d (values_list vs) f.1 in
+        let all = values_in at rows (below o) (room - suc o) (good_part o) z.slot vs x.item z.each (ap (λ k. values_data at rows k vs) (sym z.is) ∙ x.there) in
         subst (Found d (V.list vs)) (same_Some (L.list x.item) l x.made) (all, more_none (below o) (room - suc o) d (L.list (values_list vs)) (L.list x.item) refl refl f.1)
     parts_in (V.map ps) d l f e =
         let o = levels_of d (V.map ps) - 1 in
-        let x = map_from L.map (represented_pairs at rows (element_of (Some d)) ps) l e in
+        let x = map_from L.map (pairs_data at rows (element_of (Some d)) ps) l e in
         let m = map_fits (below o) rows d (pairs_list ps) f.1 in
-        let all = pairs_in at rows (below o) (room - suc o) (good_part o) (element_of (Some d)) ps x.item m.0 x.there in
-        subst (Found d (V.map ps)) (same_Some (L.map x.item) l x.made) (all, more_map (room - suc o) d (element_of (Some d)) ps x.item m.1 x.there all)
+        let there = ap (λ k. pairs_data at rows k ps) (sym m.is) ∙ x.there in
+        let all = pairs_in at rows (below o) (room - suc o) (good_part o) m.slot ps x.item m.each there in
+        subst (Found d (V.map ps)) (same_Some (L.map x.item) l x.made) (all, more_map (room - suc o) d m.slot ps x.item m.keys there all)
     parts_in (V.struct os) d l f e =
         let o = levels_of d (V.struct os) - 1 in
         let x = map_from L.struct (represented_fields at rows (fields_of (Some d)) os) l e in
@@ -126,8 +129,9 @@ module _ (at : Hamts) (rows : List Row) (spelled : IsSpelled rows)
         subst (Found d (V.struct os)) (same_Some (L.struct x.item) l x.made) (all, more_none (below o) (room - suc o) d (L.struct (optionals_list os)) (L.struct x.item) refl refl f.1)
     parts_in (V.union i v) d l f e =
         let o = levels_of d (V.union i v) - 1 in
-        let x = map_from (L.union i) (represented at rows (member_of (Some d) i) v) l e in
-        let all = good_part o (member_of (Some d) i) v x.item (union_fits (below o) rows d i v f.1) x.there in
+        let x = map_from (L.union i) (member_data at rows (member_of (Some d) i) v) l e in
+        let z = union_fits (below o) rows d i v f.1 in
+        let all = good_part o (slot_of z.member) v x.item z.holds (ap (λ k. member_data at rows (option_map slot_of k) v) (sym z.is) ∙ x.there) in
         subst (Found d (V.union i v)) (same_Some (L.union i x.item) l x.made) (all, more_none (below o) (room - suc o) d (L.union i v) (L.union i x.item) refl refl f.1)
     parts_in (V.hamt x) d l f e =
         let o = levels_of d (V.hamt x) - 1 in

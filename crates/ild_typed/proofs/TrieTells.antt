@@ -56,13 +56,13 @@ slots_same most below es fs z (many n l t b) (nothing c d) deep = absurd (false_
 slots_same most below es fs z (many n l t b) (few d) deep = absurd (false_true (ap is_child (sym d ∙ b)))
 slots_same most below es fs z (many n l t b) (many m k u d) deep = deep n m l k t u (ap child_id (sym b ∙ d))
 
-record NodeSlots (h : List ℕ → List ℕ) (p : TrieShape) (left depth : ℕ) (es : List (List ℕ × Data)) (n : Data) : Type 0 where
-  slots : List TrieSlot
-  there : slots_at h p left depth es ≡ Some slots
-  is : node_data slots ≡ n
-  count : length slots ≡ 2 ^ p.width
+pub record NodeSlots (h : List ℕ → List ℕ) (p : TrieShape) (left depth : ℕ) (es : List (List ℕ × Data)) (n : Data) : Type 0 where
+  pub slots : List TrieSlot
+  pub there : slots_at h p left depth es ≡ Some slots
+  pub is : node_data slots ≡ n
+  pub count : length slots ≡ 2 ^ p.width
 
-node_slots : (h : List ℕ → List ℕ) (p : TrieShape) (left depth : ℕ) (es : List (List ℕ × Data)) (n : Data) → node_of h p (suc left) depth es ≡ Some n → NodeSlots h p left depth es n
+pub node_slots : (h : List ℕ → List ℕ) (p : TrieShape) (left depth : ℕ) (es : List (List ℕ × Data)) (n : Data) → node_of h p (suc left) depth es ≡ Some n → NodeSlots h p left depth es n
 unfolding node_of
 node_slots h p left depth es n e =
     let x = map_from node_data (slots_at h p left depth es) n e in

@@ -188,7 +188,7 @@ pub only_map_data : (d : Data) (ms : List (List ℕ × Data)) → members_in d �
 only_map_data (T.map ns) ms e = ap T.map (sym (members_again ns) ∙ ap T.members_of (same_Some (T.members_list ns) ms e))
 only_map_data d ms e = absurd (none-some ms e)
 
-is_none_says : {A : Type 0} (o : Option A) → is_none o ≡ true → o ≡ None
+pub is_none_says : {A : Type 0} (o : Option A) → is_none o ≡ true → o ≡ None
 is_none_says None e = refl
 is_none_says (Some a) e = absurd cc
 

@@ -59,7 +59,7 @@ unfolding digest_bytes
 digest_are_bytes h zero = tt
 digest_are_bytes h (suc n) = bytes_append (digest_bytes h n) (to_be_bytes w32 (slice_index h n)) (digest_are_bytes h n) (be_bytes (slice_index h n))
 
-id_bytes : (b : List ℕ) → AreBytes (id_of b)
+pub id_bytes : (b : List ℕ) → AreBytes (id_of b)
 unfolding sha256
 id_bytes b = digest_are_bytes (final_hash initial_hash_256 b) 8
 

@@ -1,4 +1,5 @@
 -- A step of the check of one block at a map, whose keys are texts of the key type.
+use Rattle.ild_typed.proofs.PartData.{pairs_data}
 use Rattle.std.proofs.Common.{◌≡◌, ℕ, zero, suc, ◌-◌, ◌≤◌, List, [], ◌∷◌, Option, Some, option_map, refl, sym, ◌∙◌, ap, subst, inl, inr}
 use Rattle.std.specs.Prelude.{IsUtf8, IsSomeAnd, option_and_then}
 use Rattle.std.specs.List.{AllByRecursion}
@@ -26,7 +27,7 @@ use Rattle.ild_typed.specs.Hamt.{alone}
 use Rattle.ild_typed.specs.Represented.{layered, represented, represented_pairs}
 use Rattle.ild_typed.specs.Levels.{map_levels}
 use Rattle.ild_typed.specs.Fits.{FormFits, ValueFits, FitsPast}
-use Rattle.ild_typed.specs.Layers.{AreApart, AreKeys, Shows, EntriesFit, MapFits}
+use Rattle.ild_typed.specs.Layers.{AreKeysApart, AreKeys, Shows, EntriesFit, MapFits}
 use Rattle.ild_schema.specs.Clear.{IsClear, IsSafe}
 use Rattle.ild_typed.proofs.Basics.{map_from}
 use Rattle.ild_typed.proofs.Entries.{both_from}
@@ -37,7 +38,7 @@ use Rattle.ild_typed.proofs.Composing.{composed_tells, alone_tells}
 -- ---- lists of pairs with the same keys
 
 module _ {A B : Type 0} where
-  abbrev SameKeys : List (List ℕ × A) → List (List ℕ × B) → Type 0
+  abbrev pub SameKeys : List (List ℕ × A) → List (List ℕ × B) → Type 0
   SameKeys [] [] = Unit {0}
   SameKeys [] (q ∷ qs) = ⊥
   SameKeys (p ∷ ps) [] = ⊥
@@ -61,13 +62,13 @@ module _ {A B : Type 0} where
   others_like k l (p ∷ ps) [] e same all = absurd same
   others_like k l (p ∷ ps) (q ∷ qs) e same all = (λ h. all.0 (e ∙ h ∙ sym same.0), others_like k l ps qs e same.1 all.1)
 
-  apart_like : (ps : List (List ℕ × A)) (qs : List (List ℕ × B)) → SameKeys ps qs → AreApart ps → AreApart qs
+  apart_like : (ps : List (List ℕ × A)) (qs : List (List ℕ × B)) → SameKeys ps qs → AreKeysApart ps → AreKeysApart qs
   apart_like [] [] same all = tt
   apart_like [] (q ∷ qs) same all = absurd same
   apart_like (p ∷ ps) [] same all = absurd same
   apart_like (p ∷ ps) (q ∷ qs) same all = (others_like p.0 q.0 ps qs same.0 same.1 all.0, apart_like ps qs same.1 all.1)
 
-  keys_like : (form : MapForm) (ps : List (List ℕ × A)) (qs : List (List ℕ × B)) → SameKeys ps qs → AreKeys form ps → AreKeys form qs
+  pub keys_like : (form : MapForm) (ps : List (List ℕ × A)) (qs : List (List ℕ × B)) → SameKeys ps qs → AreKeys form ps → AreKeys form qs
   keys_like MF.Map ps qs same keys = rises_like ps qs same keys
   keys_like MF.ListPairs ps qs same keys = apart_like ps qs same keys
   keys_like (MF.StringPairs inner entry) ps qs same keys = apart_like ps qs same keys
@@ -118,7 +119,7 @@ module _ (rows : List Row) (below : Slot → Value → Type 0) (key : TypeNo) (v
   map_fits (MF.StringPairs inner entry) ps fit = fit
   map_fits MF.Hamt ps fit = inl fit
 
-  map_fitted : (form : MapForm) (ps : List (List ℕ × Value)) → MapFits below rows key value form (L.map ps) → EntriesFit below rows key value form ps
+  pub map_fitted : (form : MapForm) (ps : List (List ℕ × Value)) → MapFits below rows key value form (L.map ps) → EntriesFit below rows key value form ps
   map_fitted MF.Map ps fit = fit
   map_fitted MF.ListPairs ps fit = fit
   map_fitted (MF.StringPairs inner entry) ps fit = fit
@@ -138,7 +139,7 @@ module _ (rows : List Row) (clear : IsClear rows) (room : ℕ) (s : Slot) (key :
       let fit : EntriesFit Below rows key value form (pairs_list x.pairs) = (keys_like form ds (pairs_list x.pairs) (same_back (pairs_list x.pairs) ds x.same) keys, x.fit) in (
         V.map x.pairs,
         subst (λ o. IsSomeAnd o (FormFits rows (suc room) (FitsPast rows room) (V.map x.pairs))) (sym is) (enough, map_fits rows Below key value form (pairs_list x.pairs) fit),
-        ap (λ o. layered alone o (option_map L.map (represented_pairs alone rows (element_of o) x.pairs))) is
+        ap (λ o. layered alone o (option_map L.map (pairs_data alone rows (element_of o) x.pairs))) is
             ∙ ap (λ o. option_and_then (composed alone (D.Map key key_at value place form)) (option_map L.map o)) x.there ∙ made,
       )
 

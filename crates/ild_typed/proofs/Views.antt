@@ -1,5 +1,6 @@
 -- What a check of one block rests on: data have a front that fits where their layer is there, the room suffices and each
 -- part has a front that fits. A step of the check is one of these lemmas; its recursion is that on the room.
+use Rattle.ild_typed.proofs.PartData.{values_data, member_data}
 use Rattle.std.proofs.Common.{◌≡◌, ℕ, zero, suc, ◌-◌, ◌≤◌, List, [], ◌∷◌, false, Option, Some, None, option_map, refl, sym, ◌∙◌, ap, subst, arith, inl, inr}
 use Rattle.std.specs.Prelude.{IsTrue, IsSomeAnd, option_and_then, slice_get}
 use Rattle.std.specs.List.{AllByRecursion}
@@ -19,7 +20,7 @@ use Rattle.ild_schema.specs.declared.def.StructForm.TheVariants as S
 use Rattle.ild_schema.specs.declared.number.TypeNo.{TypeNo}
 use Rattle.ild_schema.specs.DataKinds.{struct_kind, same_kind}
 use Rattle.ild_schema.specs.Slots.{plainly, form_of}
-use Rattle.ild_typed.specs.Slots.{slot_of_member, member_of, element_of, fields_of}
+use Rattle.ild_typed.specs.Slots.{slot_of, element_of, fields_of, member_of}
 use Rattle.ild_schema.specs.declared.def.Field.{Field}
 use Rattle.ild_schema.specs.declared.row.Row.{Row}
 use Rattle.ild_schema.specs.Copies.{base}
@@ -161,7 +162,7 @@ module _ (rows : List Row) (clear : IsClear rows) (room : ℕ) where
       let x = values_of_elements rows (FitsPast rows room zero) elem ds all in (
         V.list x.values,
         subst (λ o. IsSomeAnd o (FormFits rows (suc room) (FitsPast rows room) (V.list x.values))) (sym is) (one_room room, x.fit),
-        ap (λ o. layered alone o (option_map L.list (represented_values alone rows (element_of o) x.values))) is
+        ap (λ o. layered alone o (option_map L.list (values_data alone rows (element_of o) x.values))) is
             ∙ ap (λ o. option_and_then (composed alone (D.List elem place)) (option_map L.list o)) x.there,
       )
 
@@ -190,8 +191,8 @@ module _ (rows : List Row) (clear : IsClear rows) (room : ℕ) where
     V.union n w,
     subst (λ o. IsSomeAnd o (FormFits rows (suc room) (FitsPast rows room) (V.union n w))) (sym is)
         (one_room room, subst (λ o. IsSomeAnd o (λ k. FitsPast rows room zero (plainly k.ty) w)) (sym member) fits),
-    ap (λ o. layered alone o (option_map (L.union n) (represented alone rows (member_of o n) w))) is
-        ∙ ap (λ o. option_and_then (composed alone (D.Union u)) (option_map (L.union n) (represented alone rows (slot_of_member o) w))) member
+    ap (λ o. layered alone o (option_map (L.union n) (member_data alone rows (member_of o n) w))) is
+        ∙ ap (λ o. option_and_then (composed alone (D.Union u)) (option_map (L.union n) (member_data alone rows (option_map slot_of o) w))) member
         ∙ ap (λ o. option_and_then (composed alone (D.Union u)) (option_map (L.union n) o)) shows ∙ made,
   )
 
@@ -211,7 +212,7 @@ module _ (rows : List Row) (clear : IsClear rows) (room : ℕ) where
         let Q : Option TypeDef → Type 0 = λ o. IsSomeAnd o (FormFits rows (suc room) (FitsPast rows room) (V.union n x.part)) in
         let f : FormFits rows (suc room) (FitsPast rows room) (V.union n x.part) (D.Union u) = subst Q is (subst P x.is fits) in
         let part : FitsPast rows room zero (plainly m.ty) x.part = subst (λ o. IsSomeAnd o (λ k. FitsPast rows room zero (plainly k.ty) x.part)) member f.1 in
-        (x.part, part, ap (λ o. represented alone rows (slot_of_member o) x.part) (sym member) ∙ x.there)
+        (x.part, part, ap (λ o. member_data alone rows (option_map slot_of o) x.part) (sym member) ∙ x.there)
 
   -- a HAMT has a front that fits where the entries in the block of its root have
   pub hamt_shows : (s : Slot) (key : TypeNo) (key_at : ℕ) (value : Slot) (place : ℕ) (ms : T.Members) → form_of rows s ≡ Some (D.Map key key_at value place MF.Hamt)

@@ -1,4 +1,5 @@
 -- The slots of the parts of a layer are of types of the table.
+use Rattle.ild_schema.specs.declared.def.UnionForm.{UnionForm}
 use Rattle.std.proofs.Common.{◌≡◌, ℕ, zero, suc, ◌+◌, ◌<◌, List, [], ◌∷◌, ◌++◌, length, map, Bool, true, false, cond, Option, Some, None, option_map, refl, sym, subst, arith, lit<}
 use Rattle.std.specs.Prelude.{slice_get}
 use Rattle.std.specs.Option.{option_map_or}
@@ -21,12 +22,12 @@ use Rattle.ild_schema.proofs.Legibly.{legible}
 use Rattle.ild_typed.specs.Layer as L
 use Rattle.ild_typed.specs.Layer.{Layer}
 use Rattle.ild_schema.specs.Slots.{form_of}
-use Rattle.ild_typed.specs.Slots.{slot_of_member}
 use Rattle.ild_typed.specs.Fields.{is_implicit}
-use Rattle.ild_typed.specs.Spots.{Spot, value_spot, element_spots, entry_spots, field_steps, field_spots, spots_of}
+use Rattle.ild_typed.specs.Spots.{Spot, value_spot, element_spots, entry_spots, field_steps, field_spots, spots_of, member_spots}
 use Rattle.ild_typed.specs.RootSpots.{bucket_spots, root_spots}
 use Rattle.ild_typed.specs.Refused.{AreParts}
-use Rattle.ild_typed.specs.WhyLaws.{HasForm, FrontOrRefused}
+use Rattle.ild_typed.proofs.PartsTrees.{parts_trees}
+use Rattle.ild_typed.specs.WhyLaws.{PartsAreTrees, HasForm, FrontOrRefused}
 use Rattle.ild_data.specs.Trie as Trie
 use Rattle.ild_typed.proofs.WalkTotal.{front_or_refused}
 
@@ -76,11 +77,6 @@ each_number : {A : Type 0} (f : A → ℕ) (count : ℕ) (xs : List A) → All (
 each_number f count [] all = tt
 each_number f count (x ∷ xs) all = (all 0 0 (omega arith), each_number f count xs (λ i d h. all (suc i) d (omega (arith, h))))
 
-member_below : (count : ℕ) → 0 < count → (ms : List Member) → AllByRecursion (λ m. m.ty.0 < count) ms → (n : ℕ) → (slot_of_member (slice_get ms n)).ty.0 < count
-member_below count some [] all n = some
-member_below count some (m ∷ ms) all zero = all.0
-member_below count some (m ∷ ms) all (suc n) = member_below count some ms all.1 n
-
 -- ---- the slots of parts
 
 module _ (rows : List Row) where
@@ -123,51 +119,55 @@ module _ (rows : List Row) where
       append_low (bucket_spots key value n 0 es) (root_spots key value (n + 1) slots) (bucket_low key value k low n 0 es) (root_low key value k low (n + 1) slots)
   root_low key value k low n (Trie.child id ∷ slots) = root_low key value k low (n + 1) slots
 
-  module _ (some : 0 < length rows) where
-    spots_low : (d : TypeDef) (l : Layer Data) → All (λ n. n < length rows) (numbers_of d) → AllLow (spots_of d l)
-    spots_low D.Bool l all = tt
-    spots_low D.Text l all = tt
-    spots_low D.Bytes l all = tt
-    spots_low D.Int l all = tt
-    spots_low D.Any l all = tt
-    spots_low (D.Link target) l all = tt
-    spots_low (D.Unit form) l all = tt
-    spots_low (D.Enum en) l all = tt
-    spots_low (D.Copy target) l all = tt
-    spots_low (D.List elem at) l all = by l where
-      by : (k : Layer Data) → AllLow (spots_of (D.List elem at) k)
-      by (L.list ds) = elements_low elem (all 0 0 (omega arith)) 0 ds
-      by k = tt
-    spots_low (D.Map key key_at value at form) l all = by l where
-      by : (k : Layer Data) → AllLow (spots_of (D.Map key key_at value at form) k)
-      by (L.map es) = entries_low form key value (all 0 0 (omega arith)) (all 1 0 (omega arith)) 0 es
-      by k = tt
-    spots_low (D.Struct st) l all = by l where
-      by : (k : Layer Data) → AllLow (spots_of (D.Struct st) k)
-      by (L.struct os) = fields_low st.form 0 st.fields (each_number (λ (f : Field). f.slot.ty.0) (length rows) st.fields all) os
-      by k = tt
-    spots_low (D.Union u) l all = by l where
-      by : (k : Layer Data) → AllLow (spots_of (D.Union u) k)
-      by (L.union n x) = (member_below (length rows) some u.members (each_number (λ (m : Member). m.ty.0) (length rows) u.members all) n, tt)
-      by k = tt
+  member_low : (form : UnionForm) (d : Data) (ms : List Member) → AllByRecursion (λ m. m.ty.0 < length rows) ms → (n : ℕ) → AllLow (option_map_or (member_spots form d) (slice_get ms n) [])
+  member_low form d [] all n = tt
+  member_low form d (m ∷ ms) all zero = (all.0, tt)
+  member_low form d (m ∷ ms) all (suc n) = member_low form d ms all.1 n
 
-    parts_low : (d : TypeDef) (t : Data) (ps : List Spot) → All (λ n. n < length rows) (numbers_of d) → AreParts d t ps → AllLow ps
-    parts_low D.Bool t ps all (l, made, e) = subst AllLow (sym e) (spots_low D.Bool l all)
-    parts_low D.Text t ps all (l, made, e) = subst AllLow (sym e) (spots_low D.Text l all)
-    parts_low D.Bytes t ps all (l, made, e) = subst AllLow (sym e) (spots_low D.Bytes l all)
-    parts_low D.Int t ps all (l, made, e) = subst AllLow (sym e) (spots_low D.Int l all)
-    parts_low D.Any t ps all (l, made, e) = subst AllLow (sym e) (spots_low D.Any l all)
-    parts_low (D.Link target) t ps all (l, made, e) = subst AllLow (sym e) (spots_low (D.Link target) l all)
-    parts_low (D.Unit form) t ps all (l, made, e) = subst AllLow (sym e) (spots_low (D.Unit form) l all)
-    parts_low (D.Enum en) t ps all (l, made, e) = subst AllLow (sym e) (spots_low (D.Enum en) l all)
-    parts_low (D.Copy target) t ps all (l, made, e) = subst AllLow (sym e) (spots_low (D.Copy target) l all)
-    parts_low (D.List elem at) t ps all (l, made, e) = subst AllLow (sym e) (spots_low (D.List elem at) l all)
-    parts_low (D.Map key key_at value at MF.Map) t ps all (l, made, e) = subst AllLow (sym e) (spots_low (D.Map key key_at value at MF.Map) l all)
-    parts_low (D.Map key key_at value at MF.ListPairs) t ps all (l, made, e) = subst AllLow (sym e) (spots_low (D.Map key key_at value at MF.ListPairs) l all)
-    parts_low (D.Map key key_at value at (MF.StringPairs inner entry)) t ps all (l, made, e) = subst AllLow (sym e) (spots_low (D.Map key key_at value at (MF.StringPairs inner entry)) l all)
-    parts_low (D.Struct st) t ps all (l, made, e) = subst AllLow (sym e) (spots_low (D.Struct st) l all)
-    parts_low (D.Union u) t ps all (l, made, e) = subst AllLow (sym e) (spots_low (D.Union u) l all)
-    parts_low (D.Map key key_at value at MF.Hamt) t ps all (slots, root, e) = subst AllLow (sym e) (root_low key value (all 0 0 (omega arith)) (all 1 0 (omega arith)) 0 slots)
+  spots_low : (d : TypeDef) (l : Layer Data) → All (λ n. n < length rows) (numbers_of d) → AllLow (spots_of d l)
+  spots_low D.Bool l all = tt
+  spots_low D.Text l all = tt
+  spots_low D.Bytes l all = tt
+  spots_low D.Int l all = tt
+  spots_low D.Any l all = tt
+  spots_low (D.Link target) l all = tt
+  spots_low (D.Unit form) l all = tt
+  spots_low (D.Enum en) l all = tt
+  spots_low (D.Copy target) l all = tt
+  spots_low (D.List elem at) l all = by l where
+    by : (k : Layer Data) → AllLow (spots_of (D.List elem at) k)
+    by (L.list ds) = elements_low elem (all 0 0 (omega arith)) 0 ds
+    by k = tt
+  spots_low (D.Map key key_at value at form) l all = by l where
+    by : (k : Layer Data) → AllLow (spots_of (D.Map key key_at value at form) k)
+    by (L.map es) = entries_low form key value (all 0 0 (omega arith)) (all 1 0 (omega arith)) 0 es
+    by k = tt
+  spots_low (D.Struct st) l all = by l where
+    by : (k : Layer Data) → AllLow (spots_of (D.Struct st) k)
+    by (L.struct os) = fields_low st.form 0 st.fields (each_number (λ (f : Field). f.slot.ty.0) (length rows) st.fields all) os
+    by k = tt
+  spots_low (D.Union u) l all = by l where
+    by : (k : Layer Data) → AllLow (spots_of (D.Union u) k)
+    by (L.union n x) = member_low u.form x u.members (each_number (λ (m : Member). m.ty.0) (length rows) u.members all) n
+    by k = tt
+
+  parts_low : (d : TypeDef) (t : Data) (ps : List Spot) → All (λ n. n < length rows) (numbers_of d) → AreParts d t ps → AllLow ps
+  parts_low D.Bool t ps all (l, made, e) = subst AllLow (sym e) (spots_low D.Bool l all)
+  parts_low D.Text t ps all (l, made, e) = subst AllLow (sym e) (spots_low D.Text l all)
+  parts_low D.Bytes t ps all (l, made, e) = subst AllLow (sym e) (spots_low D.Bytes l all)
+  parts_low D.Int t ps all (l, made, e) = subst AllLow (sym e) (spots_low D.Int l all)
+  parts_low D.Any t ps all (l, made, e) = subst AllLow (sym e) (spots_low D.Any l all)
+  parts_low (D.Link target) t ps all (l, made, e) = subst AllLow (sym e) (spots_low (D.Link target) l all)
+  parts_low (D.Unit form) t ps all (l, made, e) = subst AllLow (sym e) (spots_low (D.Unit form) l all)
+  parts_low (D.Enum en) t ps all (l, made, e) = subst AllLow (sym e) (spots_low (D.Enum en) l all)
+  parts_low (D.Copy target) t ps all (l, made, e) = subst AllLow (sym e) (spots_low (D.Copy target) l all)
+  parts_low (D.List elem at) t ps all (l, made, e) = subst AllLow (sym e) (spots_low (D.List elem at) l all)
+  parts_low (D.Map key key_at value at MF.Map) t ps all (l, made, e) = subst AllLow (sym e) (spots_low (D.Map key key_at value at MF.Map) l all)
+  parts_low (D.Map key key_at value at MF.ListPairs) t ps all (l, made, e) = subst AllLow (sym e) (spots_low (D.Map key key_at value at MF.ListPairs) l all)
+  parts_low (D.Map key key_at value at (MF.StringPairs inner entry)) t ps all (l, made, e) = subst AllLow (sym e) (spots_low (D.Map key key_at value at (MF.StringPairs inner entry)) l all)
+  parts_low (D.Struct st) t ps all (l, made, e) = subst AllLow (sym e) (spots_low (D.Struct st) l all)
+  parts_low (D.Union u) t ps all (l, made, e) = subst AllLow (sym e) (spots_low (D.Union u) l all)
+  parts_low (D.Map key key_at value at MF.Hamt) t ps all (slots, root, e) = subst AllLow (sym e) (root_low key value (all 0 0 (omega arith)) (all 1 0 (omega arith)) 0 slots)
 
 low_forms : (rows : List Row) → All (λ r. IsWithin (length rows) r.def) rows → (ps : List Spot) → AllLow rows ps → AllByRecursion (λ p. HasForm rows p.slot) ps
 low_forms rows within [] all = tt
@@ -177,10 +177,17 @@ part_forms : (rows : List Row) → All (λ r. IsWithin (length rows) r.def) rows
     → AllByRecursion (λ p. HasForm rows p.slot) ps
 part_forms rows within s d t ps is parts =
     let x = within_at rows within (base rows s.ty.0) d is in
-    let h = x.1 in
-    low_forms rows within ps (parts_low rows (omega (arith, h)) d t ps x.0.1 parts)
+    low_forms rows within ps (parts_low rows d t ps x.0.1 parts)
+
+pub table_parts : PartsAreTrees
+table_parts rows schema s d is t ps tree parts =
+    let n = base rows s.ty.0 in
+    let says = legible rows schema.accepted in
+    let texts = schema.table.texts in
+    parts_trees d t ps (says.clear.types n d is) (says.delims n d is) (texts.spelled n d is) (texts.implicits n d is) tree parts
 
 pub table_walk : FrontOrRefused
-table_walk rows schema walked room s low t tree =
+table_walk rows schema room s low t tree =
     let within = schema.table.within in
-    front_or_refused rows (legible rows schema.accepted).clear (legible rows schema.accepted).delims walked (part_forms rows within) room s (form_there rows within s low) t tree
+    let says = legible rows schema.accepted in
+    front_or_refused rows says.clear says.delims (λ u d c ps is parts whole. table_parts rows schema u d is c ps whole parts) (part_forms rows within) room s (form_there rows within s low) t tree

@@ -1,6 +1,8 @@
 -- The walk refuses one piece at most.
+use Rattle.ild_schema.specs.declared.def.Member.{Member}
+use Rattle.std.specs.Option.{option_map_or}
 use Rattle.std.proofs.Common.{◌≡◌, ℕ, zero, suc, ◌+◌, ◌-◌, List, [], ◌∷◌, ◌++◌, Bool, true, false, cond, Option, Some, None, refl, sym, ◌∙◌, ap, subst, inl, inr}
-use Rattle.std.specs.Prelude.{◌⊎◌}
+use Rattle.std.specs.Prelude.{◌⊎◌, slice_get}
 use Rattle.std.specs.List.{AllByRecursion}
 use Rattle.std.proofs.lemmas.Option.{same_Some, none-some}
 use Rattle.ild_data.specs.Data.{Data}
@@ -18,7 +20,7 @@ use Rattle.ild_schema.specs.Value.{Value}
 use Rattle.ild_typed.specs.Layer as L
 use Rattle.ild_typed.specs.Layer.{Layer}
 use Rattle.ild_schema.specs.Slots.{form_of, plainly}
-use Rattle.ild_typed.specs.Slots.{member_of}
+use Rattle.ild_typed.specs.Slots.{slot_of}
 use Rattle.ild_typed.specs.Fields.{is_implicit}
 use Rattle.ild_typed.specs.Composed.{composed}
 use Rattle.ild_typed.specs.Hamt.{alone}
@@ -26,14 +28,14 @@ use Rattle.ild_typed.specs.Fits.{FitsPast}
 use Rattle.ild_typed.specs.Layers.{Shows}
 use Rattle.ild_schema.specs.Clear.{ClearType, IsClear, IsSafe, AreSafe}
 use Rattle.ild_typed.specs.Why.{Why}
-use Rattle.ild_typed.specs.Spots.{Spot, value_spot, element_spots, entry_spots, field_steps, field_spots, spots_of}
+use Rattle.ild_typed.specs.Spots.{Spot, value_spot, element_spots, entry_spots, field_steps, field_spots, spots_of, member_spots}
 use Rattle.ild_typed.specs.RootSpots.{bucket_spots, root_spots}
 use Rattle.ild_typed.specs.Pieces.{needs, why_at, HasNoRoot, IsWhy}
 use Rattle.ild_typed.specs.Refused.{Refusal, part_refusal, AreParts, FirstRefused, PieceRefused, RefusedPast}
 use Rattle.ild_schema.specs.Delims.{AllDelims}
 use Rattle.ild_data.specs.Trie as Trie
 use Rattle.ild_typed.proofs.Composing.{composed_tells, alone_tells}
-use Rattle.ild_typed.proofs.OneValue.{safe_parts, plain_safe, member_plain}
+use Rattle.ild_typed.proofs.OneValue.{safe_parts, plain_safe}
 use Rattle.ild_typed.proofs.WalkSound.{one_root, refused_sound}
 
 -- ---- the slots of the parts are safe
@@ -101,8 +103,12 @@ module _ (rows : List Row) where
     by (L.struct os) = fields_are_safe st.form 0 st.fields safe os
     by k = tt
   spots_safe (D.Union u) l safe = by l where
+    each : (o : Option Member) (d : Data) → AllSafe (option_map_or (member_spots u.form d) o [])
+    each None d = tt
+    each (Some m) d = (plain_safe rows (slot_of m) refl, tt)
+
     by : (k : Layer Data) → AllSafe (spots_of (D.Union u) k)
-    by (L.union n x) = (plain_safe rows (member_of (Some (D.Union u)) n) (member_plain (D.Union u) n), tt)
+    by (L.union n x) = each (slice_get u.members n) x
     by k = tt
 
   parts_safe : (d : TypeDef) (t : Data) (ps : List Spot) → AreSafe rows d → AreParts d t ps → AllSafe ps

@@ -1,7 +1,7 @@
 -- What has a front that fits is not refused.
 use Rattle.std.proofs.Common.{◌≡◌, ℕ, zero, suc, ◌+◌, ◌%◌, ◌-◌, ◌≤◌, List, [], ◌∷◌, ◌++◌, Bool, true, false, cond, Option, Some, None, refl, sym, ◌∙◌, ap, subst, arith, inl, inr}
 use Rattle.std.specs.Prelude.{IsSomeAnd, slice_get}
-use Rattle.std.specs.Option.{option_or}
+use Rattle.std.specs.Option.{option_or, option_map_or}
 use Rattle.std.specs.List.{AllByRecursion}
 use Rattle.std.specs.Cmp.Lexicographic.{same_text as text_same}
 use Rattle.std.proofs.lemmas.Option.{same_Some, none-some}
@@ -24,20 +24,20 @@ use Rattle.ild_schema.specs.Value.{Value}
 use Rattle.ild_typed.specs.Layer as L
 use Rattle.ild_typed.specs.Layer.{Layer, as_list, as_map, as_struct, as_union, as_hamt}
 use Rattle.ild_schema.specs.Slots.{form_of, plainly}
-use Rattle.ild_typed.specs.Slots.{member_of, slot_of_member}
+use Rattle.ild_typed.specs.Slots.{slot_of}
 use Rattle.ild_typed.specs.Fields.{is_implicit}
 use Rattle.ild_typed.specs.Strings.{map_data, listpairs, stringpairs}
 use Rattle.ild_typed.specs.Composed.{usual, composed, map_form, struct_form, union_form, member_form, any_data}
 use Rattle.ild_typed.specs.Hamt.{alone, a_map}
 use Rattle.ild_typed.specs.Represented.{represented}
 use Rattle.ild_typed.specs.Fits.{FormFits, ValueFits, FitsPast}
-use Rattle.ild_typed.specs.Layers.{AreApart, Shows}
+use Rattle.ild_typed.specs.Layers.{AreKeysApart, Shows}
 use Rattle.ild_schema.specs.Clear.{IsClear, IsSafe}
 use Rattle.ild_typed.specs.Named.{where_some, names, is_among, has_twice}
 use Rattle.ild_typed.specs.Causes.{why_of}
 use Rattle.ild_typed.specs.Why.{Why}
 use Rattle.ild_typed.specs.Why as W
-use Rattle.ild_typed.specs.Spots.{Spot, value_spot, element_spots, entry_spots, field_steps, field_spots, spots_of}
+use Rattle.ild_typed.specs.Spots.{Spot, value_spot, element_spots, entry_spots, field_steps, field_spots, spots_of, member_spots}
 use Rattle.ild_typed.specs.RootSpots.{bucket_spots, root_spots}
 use Rattle.ild_typed.specs.Pieces.{is_null_there, repeats_key, keys_why, needs, room_why, root_why, hamt_why, why_at, HasNoRoot, IsWhy}
 use Rattle.ild_typed.specs.Refused.{Refusal, AreParts, FirstRefused, RefusedPast}
@@ -57,7 +57,7 @@ use Rattle.ild_trie.proofs.Bits.{same_node}
 
 -- ---- keys that are apart
 
-apart_once : (es : List (List ℕ × Data)) → AreApart es → has_twice (names es) ≡ false
+apart_once : (es : List (List ℕ × Data)) → AreKeysApart es → has_twice (names es) ≡ false
 apart_once [] all = refl
 apart_once (e ∷ es) all = false_or (is_among e.0 (names es)) (has_twice (names es)) (by es all.0) (apart_once es all.1) where
   by : (qs : List (List ℕ × Data)) → AllByRecursion (λ (q : List ℕ × Data). e.0 ≡ q.0 → ⊥) qs → is_among e.0 (names qs) ≡ false
@@ -344,14 +344,8 @@ module _ (rows : List Row) (clear : IsClear rows) (room : ℕ) (s : Slot) (safe 
       let x = then_from (union_form u.form u.members) (as_union l) t made in
       let y = then_from (member_form u.form x.item.1) (slice_get u.members x.item.0) t x.made in
       let shown = union_shown rows clear room s u x.item.0 y.item x.item.1 t safe is y.there x.made shows in
-      let slot : member_of (Some own) x.item.0 ≡ plainly y.item.ty = ap slot_of_member y.there in
-      subst (Parts own) (sym (e ∙ ap (spots_of own) (only_union l x.item x.there))) (
-        (
-          plain_safe rows (member_of (Some own) x.item.0) (ap (λ (k : Slot). k.nullable) slot),
-          subst (λ k. Shows (FitsPast rows room zero) rows k x.item.1) (sym slot) shown,
-        ),
-        tt,
-      )
+      subst (Parts own) (sym (e ∙ ap (spots_of own) (only_union l x.item x.there) ∙ ap (λ o. option_map_or (member_spots u.form x.item.1) o []) y.there))
+      ((plain_safe rows (slot_of y.item) refl, shown), tt)
   parts_show D.Bool ps is (l, made, e) = none_in D.Bool ps e
   parts_show D.Text ps is (l, made, e) = none_in D.Text ps e
   parts_show D.Bytes ps is (l, made, e) = none_in D.Bytes ps e

@@ -1,7 +1,7 @@
 -- What is not refused has a front that fits.
 use Rattle.std.proofs.Common.{◌≡◌, ℕ, zero, suc, ◌+◌, ◌-◌, ◌≤◌, ◌<◌, List, [], ◌∷◌, ◌++◌, length, Bool, true, false, cond, Option, Some, None, refl, sym, ◌∙◌, ap, subst, arith, inl, inr}
 use Rattle.std.specs.Prelude.{IsTrue, IsSomeAnd, option_and_then, slice_get, nat_lt, ◌⊎◌}
-use Rattle.std.specs.Option.{option_or}
+use Rattle.std.specs.Option.{option_or, option_map_or}
 use Rattle.std.specs.List.{AllByRecursion}
 use Rattle.std.proofs.lemmas.Option.{same_Some, none-some}
 use Rattle.std.proofs.lemmas.Bool.{ltb-false}
@@ -29,7 +29,6 @@ use Rattle.ild_schema.specs.Value.{Value}
 use Rattle.ild_typed.specs.Layer as L
 use Rattle.ild_typed.specs.Layer.{Layer, as_boolean, as_integer, as_text, as_bytes, as_link, as_any, as_unit, as_enum, as_list, as_map, as_struct, as_union, as_hamt}
 use Rattle.ild_schema.specs.Slots.{form_of, plainly}
-use Rattle.ild_typed.specs.Slots.{member_of, slot_of_member}
 use Rattle.ild_typed.specs.Fields.{is_implicit, field_entries, are_absent, tuple_items, all_items}
 use Rattle.ild_typed.specs.Strings.{map_data, listpairs, stringpairs, stringjoin, in_key_order}
 use Rattle.ild_typed.specs.Composed.{usual, composed, map_form, struct_form, member_form, union_form, enum_form, unit_data, any_data}
@@ -37,17 +36,18 @@ use Rattle.ild_typed.specs.Hamt.{alone}
 use Rattle.ild_typed.specs.Levels.{struct_levels}
 use Rattle.ild_typed.specs.Represented.{layered}
 use Rattle.ild_typed.specs.Fits.{Front, FormFits, ValueFits, FitsPast}
-use Rattle.ild_typed.specs.Layers.{AreApart, AreKeys, Shows, IsNotNull}
+use Rattle.ild_typed.specs.Layers.{AreKeysApart, AreKeys, Shows, IsNotNull}
 use Rattle.ild_schema.specs.Clear.{IsClear}
 use Rattle.ild_typed.specs.Named.{where_some, names, is_among, has_twice}
 use Rattle.ild_typed.specs.Why.{Why}
 use Rattle.ild_typed.specs.Why as W
 use Rattle.ild_typed.specs.Causes.{why_of}
-use Rattle.ild_typed.specs.Spots.{Spot, value_spot, element_spots, entry_spots, field_steps, field_spots, spots_of}
+use Rattle.ild_typed.specs.Spots.{Spot, value_spot, element_spots, entry_spots, field_steps, field_spots, spots_of, member_spots}
 use Rattle.ild_typed.specs.RootSpots.{bucket_spots, root_spots}
 use Rattle.ild_typed.specs.Pieces.{HasNoRoot, is_null_there, repeats_key, keys_why, needs, room_why, hamt_why, why_at, IsNoRoot}
 use Rattle.ild_typed.specs.Refused.{Refused, Refusal, part_refusal, AreParts, FirstRefused, RefusedPast}
-use Rattle.ild_typed.specs.WhyLaws.{KeysRise, HasForm, IsWalked}
+use Rattle.ild_typed.specs.WhyLaws.{KeysRise, HasForm}
+use Rattle.ild_typed.proofs.NodeRoots.{root_or_none}
 use Rattle.ild_schema.specs.Delims.{AllDelims}
 use Rattle.ild_typed.specs.Node.{IsRoot, entries_in}
 use Rattle.ild_data.specs.Trie as Trie
@@ -98,7 +98,7 @@ keys_rise (T.link s) tree = tt
 
 -- ---- keys
 
-once_apart : (es : List (List ℕ × Data)) → has_twice (names es) ≡ false → AreApart es
+once_apart : (es : List (List ℕ × Data)) → has_twice (names es) ≡ false → AreKeysApart es
 once_apart [] e = tt
 once_apart (e ∷ es) h =
     let x = or_false (is_among e.0 (names es)) (has_twice (names es)) h in
@@ -346,8 +346,8 @@ module _ (rows : List Row) (clear : IsClear rows) (delims : AllDelims rows) (roo
       let x = then_from (union_form u.form u.members) (as_union l) t made in
       let y = then_from (member_form u.form x.item.1) (slice_get u.members x.item.0) t x.made in
       let good = subst (λ k. PartsGood own (spots_of own k)) (only_union l x.item x.there) all in
-      let slot : member_of (Some own) x.item.0 ≡ plainly y.item.ty = ap slot_of_member y.there in
-      union_shows rows clear room s u x.item.0 y.item x.item.1 t is y.there x.made (subst (λ k. Shows (FitsPast rows room zero) rows k x.item.1) slot good.0)
+      let own_part = subst (λ o. PartsGood own (option_map_or (member_spots u.form x.item.1) o [])) y.there good in
+      union_shows rows clear room s u x.item.0 y.item x.item.1 t is y.there x.made own_part.0
   whole_give (D.Map key key_at value at MF.Map) l is free other made trees all =
       let x = map_from map_data (as_map l) t made in
       let up : KeysRise (map_data x.item) = subst KeysRise (sym (same_Some (map_data x.item) t x.made)) (keys_rise t tree) in
@@ -462,7 +462,8 @@ flat_give rows s t tree (D.Struct st) l is fits made = by st.form fits where
   by (S.StringPairs inner entry) h = absurd (omega (arith, h))
   by (S.StringJoin delim) h = absurd (omega (arith, h))
 
-module _ (rows : List Row) (clear : IsClear rows) (delims : AllDelims rows) (walked : IsWalked rows)
+module _ (rows : List Row) (clear : IsClear rows) (delims : AllDelims rows)
+    (trees : (s : Slot) (d : TypeDef) (t : Data) (ps : List Spot) → form_of rows s ≡ Some d → AreParts d t ps → IsTree t → AllByRecursion (λ p. IsTree p.tree) ps)
     (forms : (s : Slot) (d : TypeDef) (t : Data) (ps : List Spot) → form_of rows s ≡ Some d → AreParts d t ps → AllByRecursion (λ p. HasForm rows p.slot) ps) where
   abbrev Answer : ℕ → ℕ → Slot → Data → Type 0
   Answer room over s t = Shows (FitsPast rows room over) rows s t ⊎ ((r : Refusal) × RefusedPast rows room over s t r)
@@ -494,7 +495,7 @@ module _ (rows : List Row) (clear : IsClear rows) (delims : AllDelims rows) (wal
         scan rows (FitsPast rows room (needs d t - 1)) (RefusedPast rows room (needs d t - 1)) ps
         (judge rows (FitsPast rows room (needs d t - 1)) (RefusedPast rows room (needs d t - 1))
         (λ u c form fine. each (needs d t - 1) u c (enough_less room (needs d t) f.enough) form fine)
-        ps (forms s d t ps is parts) (walked.trees s d t ps is parts tree))
+        ps (forms s d t ps is parts) (trees s d t ps is parts tree))
 
     others : is_null_there s t ≡ false → why_at (suc room) d t ≡ None → Free (suc room) d t → IsOther d → LayerFor d t → Answer (suc room) zero s t
     others there none f other x =
@@ -505,7 +506,7 @@ module _ (rows : List Row) (clear : IsClear rows) (delims : AllDelims rows) (wal
             ⊎ ((r : Refusal) × FirstRefused (FitsPast rows room (needs d t - 1)) (RefusedPast rows room (needs d t - 1)) rows (spots_of d x.layer) r) → Answer (suc room) zero s t
         pick (inl good) =
             let parts = other_parts d other x.layer t x.there in
-            inl (whole_give rows clear delims room s t tree d x.layer is f other x.there (walked.trees s d t (spots_of d x.layer) is parts tree) good)
+            inl (whole_give rows clear delims room s t tree d x.layer is f other x.there (trees s d t (spots_of d x.layer) is parts tree) good)
         pick (inr (r, first)) = inr (r, (there, d, is, inr (none, spots_of d x.layer, other_parts d other x.layer t x.there, first)))
 
     hamts : is_null_there s t ≡ false → why_at (suc room) d t ≡ None → Free (suc room) d t → (key : TypeNo) (key_at : ℕ) (value : Slot) (at : ℕ) → d ≡ D.Map key key_at value at MF.Hamt
@@ -530,7 +531,7 @@ module _ (rows : List Row) (clear : IsClear rows) (delims : AllDelims rows) (wal
     by false there None e = let f = free (suc room) d t e in go f (form_is d) where
       go : Free (suc room) d t → Form d → Answer (suc room) zero s t
       go f (other_form other) = others there e f other (there_is s t tree d is f.own)
-      go f (hamt_form key key_at value at same) = hamts there e f key key_at value at same (walked.roots t)
+      go f (hamt_form key key_at value at same) = hamts there e f key key_at value at same (root_or_none t tree)
 
   pub total : (room over : ℕ) (s : Slot) (t : Data) → over ≤ room → HasForm rows s → IsTree t → Answer room over s t
   unfolding FitsPast RefusedPast

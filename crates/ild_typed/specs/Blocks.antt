@@ -1,5 +1,6 @@
 -- The blocks of the HAMT nodes in a value (IPLD HashMap, "Element"): those beneath each root that has a trie, nested ones too.
 use Rattle.std.specs.Prelude.{ℕ, cond, List, [], ◌∷◌, ◌++◌, Option, Some, is_some}
+use Rattle.std.specs.Option.{option_map_or}
 use Rattle.ild_data.specs.ByteOrder.{in_byte_order}
 use Rattle.ild_data.specs.Data.{Data}
 use Rattle.ild_data.specs.Trie.{trie}
@@ -27,12 +28,11 @@ hamt_nodes h d es = []
 
 abbrev mutual
   pub nodes : (List ℕ → List ℕ) → List Row → Slot → Value → List (List ℕ)
-  nodes h rows s (V.list vs) = nodes_of_values h rows (element_of (form_of rows s)) vs
+  nodes h rows s (V.list vs) = option_map_or (λ u. nodes_of_values h rows u vs) (element_of (form_of rows s)) []
   nodes h rows s (V.map ps) =
-      hamt_nodes h (form_of rows s) (represented_pairs (whole h) rows (element_of (form_of rows s)) ps)
-      ++ nodes_of_pairs h rows (element_of (form_of rows s)) ps
+      option_map_or (λ u. hamt_nodes h (form_of rows s) (represented_pairs (whole h) rows u ps) ++ nodes_of_pairs h rows u ps) (element_of (form_of rows s)) []
   nodes h rows s (V.struct os) = nodes_of_fields h rows (fields_of (form_of rows s)) os
-  nodes h rows s (V.union n v) = nodes h rows (member_of (form_of rows s) n) v
+  nodes h rows s (V.union n v) = option_map_or (λ u. nodes h rows u v) (member_of (form_of rows s) n) []
   nodes h rows s v = []
 
   pub nodes_of_values : (List ℕ → List ℕ) → List Row → Slot → Values → List (List ℕ)

@@ -1,5 +1,6 @@
 -- A test of every layer of a value.
 use Rattle.std.specs.Prelude.{Bool, false, ◌||◌, List, [], ◌∷◌, Option}
+use Rattle.std.specs.Option.{option_map_or}
 use Rattle.ild_schema.specs.declared.number.Slot.{Slot}
 use Rattle.ild_schema.specs.declared.def.TypeDef.{TypeDef}
 use Rattle.ild_schema.specs.declared.def.Field.{Field}
@@ -13,10 +14,10 @@ use Rattle.ild_typed.specs.Slots.{element_of, fields_of, member_of}
 
 abbrev mutual
   pub some_layer : (Option TypeDef → Value → Bool) → List Row → Slot → Value → Bool
-  some_layer test rows s (V.list vs) = test (form_of rows s) (V.list vs) || some_value test rows (element_of (form_of rows s)) vs
-  some_layer test rows s (V.map ps) = test (form_of rows s) (V.map ps) || some_pair test rows (element_of (form_of rows s)) ps
+  some_layer test rows s (V.list vs) = test (form_of rows s) (V.list vs) || option_map_or (λ u. some_value test rows u vs) (element_of (form_of rows s)) false
+  some_layer test rows s (V.map ps) = test (form_of rows s) (V.map ps) || option_map_or (λ u. some_pair test rows u ps) (element_of (form_of rows s)) false
   some_layer test rows s (V.struct os) = test (form_of rows s) (V.struct os) || some_field test rows (fields_of (form_of rows s)) os
-  some_layer test rows s (V.union n v) = test (form_of rows s) (V.union n v) || some_layer test rows (member_of (form_of rows s) n) v
+  some_layer test rows s (V.union n v) = test (form_of rows s) (V.union n v) || option_map_or (λ u. some_layer test rows u v) (member_of (form_of rows s) n) false
   some_layer test rows s v = false
 
   pub some_value : (Option TypeDef → Value → Bool) → List Row → Slot → Values → Bool

@@ -1,6 +1,6 @@
 -- Values as holders of parts: what a segment can lead to, and how a part is set, inserted and removed. Nothing here speaks of
 -- paths, and what is not addressed stays.
-use Rattle.std.specs.Prelude.{ℕ, List, [], Bool, true, false, Option, Some}
+use Rattle.std.specs.Prelude.{ℕ, List, Bool, true, false, Option, Some}
 use Rattle.ild_data.specs.Data as D
 use Rattle.ild_data.specs.Data.{Data, items_of, items_list, members_of, members_list}
 use Rattle.ild_schema.specs.declared.def.TypeDef.{TypeDef}
@@ -11,9 +11,8 @@ use Rattle.ild_schema.specs.declared.def.Field.{Field}
 use Rattle.ild_schema.specs.declared.def.Member.{Member}
 use Rattle.ild_schema.specs.declared.number.Slot.{Slot}
 use Rattle.ild_schema.specs.declared.row.Row.{Row}
-use Rattle.ild_schema.specs.Value.{Value, null, boolean, integer, text, bytes, link, list, map, struct, union, enum, unit, any, hamt, values_of, values_list, pairs_of, pairs_list, optionals_of, optionals_list}
+use Rattle.ild_schema.specs.Value.{Value, Values, Pairs, Optionals, null, boolean, integer, text, bytes, link, list, map, struct, union, enum, unit, any, hamt, values_of, values_list, pairs_of, pairs_list, optionals_of, optionals_list}
 use Rattle.ild_schema.specs.Slots.{form_of}
-use Rattle.ild_typed.specs.Slots.{element_of, fields_of}
 
 -- data inside an Any as a value of the slot `nullable Any`, and back
 abbrev pub of_any : Data → Value
@@ -41,10 +40,7 @@ pub data Holder : Type 0 where
   any_elements : List Data → Holder
   nothing : Value → Holder
 
--- what a type says of its parts; of a type of another form, nothing that matters
-abbrev pub members_in : Option TypeDef → List Member
-members_in (Some (T.Union u)) = u.members
-members_in d = []
+-- ---- values of each form; a value that is not of its slot's type holds no parts
 
 abbrev pub is_paired : MapForm → Bool
 is_paired M.Map = false
@@ -52,14 +48,21 @@ is_paired M.ListPairs = true
 is_paired (M.StringPairs inner entry) = true
 is_paired M.Hamt = false
 
--- the type of a map's keys, and whether its entries keep an order of their own
-abbrev pub key_in : Option TypeDef → ℕ
-key_in (Some (T.Map key key_at slot at f)) = key.0
-key_in d = 0
+abbrev pub list_holder : Option TypeDef → Values → Holder
+list_holder (Some (T.List elem at)) vs = elements elem (values_list vs)
+list_holder d vs = nothing (list vs)
 
-abbrev pub paired_in : Option TypeDef → Bool
-paired_in (Some (T.Map key key_at slot at f)) = is_paired f
-paired_in d = false
+abbrev pub map_holder : Option TypeDef → Pairs → Holder
+map_holder (Some (T.Map key key_at slot at f)) ps = entries key.0 slot (is_paired f) (pairs_list ps)
+map_holder d ps = nothing (map ps)
+
+abbrev pub struct_holder : Option TypeDef → Optionals → Holder
+struct_holder (Some (T.Struct s)) os = fields s.fields (optionals_list os)
+struct_holder d os = nothing (struct os)
+
+abbrev pub union_holder : Option TypeDef → ℕ → Value → Holder
+union_holder (Some (T.Union u)) n v = member u.members n v
+union_holder d n v = nothing (union n v)
 
 -- data inside an Any
 abbrev pub any_holder : Data → Holder
@@ -74,10 +77,10 @@ holder_of rows slot (integer n) = nothing (integer n)
 holder_of rows slot (text s) = nothing (text s)
 holder_of rows slot (bytes s) = nothing (bytes s)
 holder_of rows slot (link s) = nothing (link s)
-holder_of rows slot (list vs) = elements (element_of (form_of rows slot)) (values_list vs)
-holder_of rows slot (map ps) = entries (key_in (form_of rows slot)) (element_of (form_of rows slot)) (paired_in (form_of rows slot)) (pairs_list ps)
-holder_of rows slot (struct os) = fields (fields_of (form_of rows slot)) (optionals_list os)
-holder_of rows slot (union n v) = member (members_in (form_of rows slot)) n v
+holder_of rows slot (list vs) = list_holder (form_of rows slot) vs
+holder_of rows slot (map ps) = map_holder (form_of rows slot) ps
+holder_of rows slot (struct os) = struct_holder (form_of rows slot) os
+holder_of rows slot (union n v) = union_holder (form_of rows slot) n v
 holder_of rows slot (enum n) = nothing (enum n)
 holder_of rows slot unit = nothing unit
 holder_of rows slot (any d) = any_holder d

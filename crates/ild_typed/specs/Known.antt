@@ -1,5 +1,5 @@
 -- Values whose HAMTs are known by the ids of their nodes: what a store that holds each node's block knows.
-use Rattle.std.specs.Prelude.{◌≡◌, ℕ, zero, suc, ◌+◌, ◌-◌, ◌<◌, List, [], ◌∷◌, length, Option, Some}
+use Rattle.std.specs.Prelude.{◌≡◌, ℕ, zero, suc, ◌+◌, ◌-◌, ◌<◌, List, [], ◌∷◌, length, Option, Some, IfSome}
 use Rattle.ild_data.specs.Data.{Data}
 use Rattle.ild_data.specs.Key.{Rises}
 use Rattle.ild_data.specs.Limits.{IsWithin}
@@ -46,15 +46,16 @@ LayerOk ok d l = Unit {0}
 
 module _ (at : Hamts) (ok : List (List ℕ × Data) → Type 0) (rows : List Row) where
   abbrev pub MapGood : Slot → Pairs → Type 0
-  MapGood s ps = (d : TypeDef) (ds : List (List ℕ × Data)) → form_of rows s ≡ Some d → represented_pairs at rows (element_of (Some d)) ps ≡ Some ds → LayerOk ok d (L.map ds)
+  MapGood s ps =
+      (d : TypeDef) (u : Slot) (ds : List (List ℕ × Data)) → form_of rows s ≡ Some d → element_of (Some d) ≡ Some u → represented_pairs at rows u ps ≡ Some ds → LayerOk ok d (L.map ds)
 
   -- each HAMT in a value meets what is asked
   abbrev mutual
     pub Good : Slot → Value → Type 0
-    Good s (V.list vs) = Goods (element_of (form_of rows s)) vs
-    Good s (V.map ps) = MapGood s ps × GoodPairs (element_of (form_of rows s)) ps
+    Good s (V.list vs) = IfSome (element_of (form_of rows s)) (λ u. Goods u vs)
+    Good s (V.map ps) = MapGood s ps × IfSome (element_of (form_of rows s)) (λ u. GoodPairs u ps)
     Good s (V.struct os) = GoodFields (fields_of (form_of rows s)) os
-    Good s (V.union n v) = Good (member_of (form_of rows s) n) v
+    Good s (V.union n v) = IfSome (member_of (form_of rows s) n) (λ u. Good u v)
     Good s v = Unit {0}
 
     pub Goods : Slot → Values → Type 0

@@ -50,15 +50,15 @@ IsNotNull T.null = ⊥
 IsNotNull d = Unit {0}
 
 -- no key stands twice
-abbrev pub AreApart : {V : Type 0} → List (List ℕ × V) → Type 0
-AreApart [] = Unit {0}
-AreApart (p ∷ ps) = AllByRecursion (λ q. p.0 ≡ q.0 → ⊥) ps × AreApart ps
+abbrev pub AreKeysApart : {V : Type 0} → List (List ℕ × V) → Type 0
+AreKeysApart [] = Unit {0}
+AreKeysApart (p ∷ ps) = AllByRecursion (λ q. p.0 ≡ q.0 → ⊥) ps × AreKeysApart ps
 
 -- the keys of maps rise, but pairs stand in any order
 abbrev pub AreKeys : {V : Type 0} → MapForm → List (List ℕ × V) → Type 0
 AreKeys MF.Map ps = Rises ps
-AreKeys MF.ListPairs ps = AreApart ps
-AreKeys (MF.StringPairs inner entry) ps = AreApart ps
+AreKeys MF.ListPairs ps = AreKeysApart ps
+AreKeys (MF.StringPairs inner entry) ps = AreKeysApart ps
 AreKeys MF.Hamt ps = Rises ps
 
 -- data for which some value stands that fits

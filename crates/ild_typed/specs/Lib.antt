@@ -9,6 +9,7 @@ pub mod Hamt
 pub mod Represented
 pub mod Levels
 pub mod Node
+pub mod NodeReading
 pub mod Layers
 pub mod Fits
 pub mod Typed

@@ -58,10 +58,10 @@ FieldSlots (f ∷ fs) (None ∷ os) = FieldSlots fs os
 FieldSlots (f ∷ fs) (Some p ∷ os) = (p.slot ≡ f.slot) × FieldSlots fs os
 
 abbrev pub AreSlots : TypeDef → Layer Part → Type 0
-AreSlots d (list ps) = AllByRecursion (λ p. p.slot ≡ element_of (Some d)) ps
-AreSlots d (map ps) = AllByRecursion (λ p. p.1.slot ≡ element_of (Some d)) ps
+AreSlots d (list ps) = AllByRecursion (λ p. element_of (Some d) ≡ Some p.slot) ps
+AreSlots d (map ps) = AllByRecursion (λ p. element_of (Some d) ≡ Some p.1.slot) ps
 AreSlots d (struct os) = FieldSlots (fields_of (Some d)) os
-AreSlots d (union n p) = p.slot ≡ member_of (Some d) n
+AreSlots d (union n p) = member_of (Some d) n ≡ Some p.slot
 AreSlots d l = Unit {0}
 
 -- one layer: a value and data of a type of this form correspond, with these parts

@@ -33,13 +33,13 @@ abbrev mutual
   represented at rows s (V.enum n) = layered at (form_of rows s) (Some (L.enum n))
   represented at rows s (V.hamt d) = layered at (form_of rows s) (Some (L.hamt d))
   represented at rows s (V.list vs) =
-      layered at (form_of rows s) (option_map L.list (represented_values at rows (element_of (form_of rows s)) vs))
+      layered at (form_of rows s) (option_map L.list (option_and_then (λ u. represented_values at rows u vs) (element_of (form_of rows s))))
   represented at rows s (V.map ps) =
-      layered at (form_of rows s) (option_map L.map (represented_pairs at rows (element_of (form_of rows s)) ps))
+      layered at (form_of rows s) (option_map L.map (option_and_then (λ u. represented_pairs at rows u ps) (element_of (form_of rows s))))
   represented at rows s (V.struct os) =
       layered at (form_of rows s) (option_map L.struct (represented_fields at rows (fields_of (form_of rows s)) os))
   represented at rows s (V.union n v) =
-      layered at (form_of rows s) (option_map (L.union n) (represented at rows (member_of (form_of rows s) n) v))
+      layered at (form_of rows s) (option_map (L.union n) (option_and_then (λ u. represented at rows u v) (member_of (form_of rows s) n)))
 
   pub represented_values : Hamts → List Row → Slot → Values → Option (List Data)
   represented_values at rows s V.no_values = Some []

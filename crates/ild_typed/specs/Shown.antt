@@ -1,11 +1,10 @@
 -- The shown form of a value (IPLD Schemas, "type-level representation"): fields and members by their names, whatever the
--- strategy. Of a HAMT's root alone the data are shown.
-use Rattle.std.specs.Prelude.{ℕ, List, [], ◌∷◌, Option, Some, None, slice_get}
+-- strategy. Of a HAMT's root alone the data are shown. Of a value that is not of its slot's type, parts without a slot are left out.
+use Rattle.std.specs.Prelude.{ℕ, List, [], ◌∷◌}
+use Rattle.std.specs.Option.{option_map_or}
 use Rattle.ild_data.specs.Data as T
 use Rattle.ild_data.specs.Data.{Data}
 use Rattle.ild_schema.specs.declared.number.Slot.{Slot}
-use Rattle.ild_schema.specs.declared.def.TypeDef.{TypeDef}
-use Rattle.ild_schema.specs.declared.def.TypeDef.TheVariants as D
 use Rattle.ild_schema.specs.declared.def.Field.{Field}
 use Rattle.ild_schema.specs.declared.def.Member.{Member}
 use Rattle.ild_schema.specs.declared.def.EnumMember.{EnumMember}
@@ -14,21 +13,7 @@ use Rattle.ild_schema.specs.Value as V
 use Rattle.ild_schema.specs.Value.{Value, Values, Pairs, Optionals}
 use Rattle.ild_typed.specs.Strings.{map_data, in_key_order}
 use Rattle.ild_schema.specs.Slots.{form_of}
-use Rattle.ild_typed.specs.Slots.{element_of, fields_of, member_of}
-
-abbrev pub member_name : Option TypeDef → ℕ → List ℕ
-member_name (Some (D.Union u)) n = name (slice_get u.members n) where
-  name : Option Member → List ℕ
-  name None = []
-  name (Some m) = m.name
-member_name d n = []
-
-abbrev pub enum_name : Option TypeDef → ℕ → List ℕ
-enum_name (Some (D.Enum e)) n = name (slice_get e.members n) where
-  name : Option EnumMember → List ℕ
-  name None = []
-  name (Some m) = m.name
-enum_name d n = []
+use Rattle.ild_typed.specs.Slots.{element_of, fields_of, member_at, enum_member_at, slot_of}
 
 abbrev mutual
   pub shown : List Row → Slot → Value → Data
@@ -40,12 +25,12 @@ abbrev mutual
   shown rows s (V.link t) = T.link t
   shown rows s (V.any d) = d
   shown rows s V.unit = T.map T.no_members
-  shown rows s (V.enum n) = T.text (enum_name (form_of rows s) n)
+  shown rows s (V.enum n) = T.text (option_map_or (λ (m : EnumMember). m.name) (enum_member_at (form_of rows s) n) [])
   shown rows s (V.hamt d) = d
-  shown rows s (V.list vs) = T.list (shown_values rows (element_of (form_of rows s)) vs)
-  shown rows s (V.map ps) = map_data (in_key_order (shown_pairs rows (element_of (form_of rows s)) ps))
+  shown rows s (V.list vs) = T.list (option_map_or (λ u. shown_values rows u vs) (element_of (form_of rows s)) T.no_items)
+  shown rows s (V.map ps) = map_data (option_map_or (λ u. in_key_order (shown_pairs rows u ps)) (element_of (form_of rows s)) [])
   shown rows s (V.struct os) = map_data (in_key_order (shown_fields rows (fields_of (form_of rows s)) os))
-  shown rows s (V.union n v) = map_data ((member_name (form_of rows s) n, shown rows (member_of (form_of rows s) n) v) ∷ [])
+  shown rows s (V.union n v) = map_data (option_map_or (λ (m : Member). (m.name, shown rows (slot_of m) v) ∷ []) (member_at (form_of rows s) n) [])
 
   pub shown_values : List Row → Slot → Values → T.Items
   shown_values rows s V.no_values = T.no_items

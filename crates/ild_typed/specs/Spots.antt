@@ -1,6 +1,7 @@
 -- The parts of a layer in their order, each with the slot that its type gives it and the way to the item in which it stands.
 -- A key is a part too, before its value. A part inside a text, or one that is left out, stands in the item of the whole.
-use Rattle.std.specs.Prelude.{ℕ, ◌+◌, Bool, true, false, cond, List, [], ◌∷◌, Option, Some, None}
+use Rattle.std.specs.Prelude.{ℕ, ◌+◌, Bool, true, false, cond, List, [], ◌∷◌, Option, Some, None, slice_get}
+use Rattle.std.specs.Option.{option_map_or}
 use Rattle.ild_data.specs.Data as T
 use Rattle.ild_data.specs.Data.{Data}
 use Rattle.ild_schema.specs.declared.number.Slot.{Slot}
@@ -13,15 +14,13 @@ use Rattle.ild_schema.specs.declared.def.StructForm.{StructForm}
 use Rattle.ild_schema.specs.declared.def.StructForm.TheVariants as S
 use Rattle.ild_schema.specs.declared.def.UnionForm.{UnionForm}
 use Rattle.ild_schema.specs.declared.def.UnionForm.TheVariants as UF
-use Rattle.ild_schema.specs.declared.def.UnionDef.{UnionDef}
 use Rattle.ild_schema.specs.declared.def.Field.{Field}
 use Rattle.ild_schema.specs.declared.def.Member.{Member}
 use Rattle.ild_typed.specs.Layer.{Layer, list, map, struct, union}
 use Rattle.ild_schema.specs.Slots.{plainly}
-use Rattle.ild_typed.specs.Slots.{member_of}
+use Rattle.ild_typed.specs.Slots.{slot_of}
 use Rattle.ild_typed.specs.Fields.{is_implicit}
 use Rattle.ild_schema.specs.Marks.{field_text, text_of as mark_text}
-use Rattle.std.specs.Prelude.{unwrap_or, option_and_then, slice_get}
 
 -- from an item to one in it
 pub data Step : Type 0 where
@@ -77,17 +76,17 @@ field_spots form n (f ∷ fs) (Some d ∷ os) =
     cond (is_implicit f.implicit d) (value_spot f.slot d [] ∷ field_spots form n fs os) (value_spot f.slot d (field_steps form f n) ∷ field_spots form (n + 1) fs os)
 
 -- the member of a union
-abbrev pub member_text : UnionDef → ℕ → List ℕ
-member_text u n = unwrap_or (option_and_then (λ (m : Member). mark_text m.mark) (slice_get u.members n)) []
+abbrev pub member_steps : UnionForm → Member → List Step
+member_steps UF.Keyed m = option_map_or (λ name. under name ∷ []) (mark_text m.mark) []
+member_steps (UF.Envelope k content) m = under content ∷ []
+member_steps form m = []
 
-abbrev pub member_steps : UnionForm → List ℕ → List Step
-member_steps UF.Keyed name = under name ∷ []
-member_steps (UF.Envelope k content) name = under content ∷ []
-member_steps form name = []
+abbrev pub member_spots : UnionForm → Data → Member → List Spot
+member_spots form d m = value_spot (slot_of m) d (member_steps form m) ∷ []
 
 abbrev pub spots_of : TypeDef → Layer Data → List Spot
 spots_of (D.List elem at) (list ds) = element_spots elem 0 ds
 spots_of (D.Map k key_at value at form) (map es) = entry_spots form k value 0 es
 spots_of (D.Struct s) (struct os) = field_spots s.form 0 s.fields os
-spots_of (D.Union u) (union n d) = value_spot (member_of (Some (D.Union u)) n) d (member_steps u.form (member_text u n)) ∷ []
+spots_of (D.Union u) (union n d) = option_map_or (member_spots u.form d) (slice_get u.members n) []
 spots_of d l = []

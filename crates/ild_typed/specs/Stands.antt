@@ -36,6 +36,10 @@ pub record IsFrame (f : Frame) : Type 0 where
 abbrev pub blocks_of : Frame → (List ℕ → List ℕ) → List Row → TypeNo → Value → Data → List (List ℕ)
 blocks_of f h rows n v d = spell (f.wrap d) ∷ (nodes h rows (plainly n) v ++ f.beside)
 
+-- the id of the root block
+abbrev pub root_id : Frame → Data → List ℕ
+root_id f d = id_of (spell (f.wrap d))
+
 -- a value that a store can hold
 pub record Storable (f : Frame) (h : List ℕ → List ℕ) (rows : List Row) (n : TypeNo) (v : Value) (d : Data) : Type 0 where
   pub fits : Fits rows f.room (plainly n) v
@@ -46,5 +50,5 @@ pub record Storable (f : Frame) (h : List ℕ → List ℕ) (rows : List Row) (n
 pub record Stands (f : Frame) (block : List ℕ → Option (List ℕ)) (h : List ℕ → List ℕ) (rows : List Row) (n : TypeNo) (id : List ℕ) (v : Value) : Type 0 where
   pub tree : Data
   pub storable : Storable f h rows n v tree
-  pub root : id ≡ id_of (spell (f.wrap tree))
+  pub root : id ≡ root_id f tree
   pub all : AllByRecursion (λ b. block (id_of b) ≡ Some b) (blocks_of f h rows n v tree)

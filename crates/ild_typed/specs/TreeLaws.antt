@@ -27,7 +27,13 @@ ValuesAreTrees =
     (h : List ℕ → List ℕ) (rows : List Row) → IsSchema rows → (room : ℕ) (s : Slot) (v : Value) (d : Data)
     → Fits rows room s v → represented (whole h) rows s v ≡ Some d → TreeIn room d
 
--- and so is each of its blocks, those of the nodes of its HAMTs too
+-- and they have a front: the block of a value can be viewed
+abbrev pub ValuesHaveFronts : Type 0
+ValuesHaveFronts =
+    (h : List ℕ → List ℕ) (rows : List Row) → IsSchema rows → (room : ℕ) (s : Slot) (v : Value) (d : Data)
+    → Fits rows room s v → represented (whole h) rows s v ≡ Some d → (f : Value) × Front rows room s f d
+
+-- each of its blocks is such a tree, those of the nodes of its HAMTs too
 abbrev pub BlocksAreNested : Type 0
 BlocksAreNested =
     (h : List ℕ → List ℕ) (rows : List Row) → IsSchema rows → (room : ℕ) (s : Slot) (v : Value) (d : Data)

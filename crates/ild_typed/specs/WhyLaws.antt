@@ -1,6 +1,6 @@
 -- The laws of causes: data of an accepted type have a layer, or there is a cause why they have none; a tree has a front
 -- that fits, or the walk of it refuses a piece.
-use Rattle.std.specs.Prelude.{◌≡◌, ◌↔◌, ◌⊎◌, ℕ, ◌<◌, length, List, None, Some}
+use Rattle.std.specs.Prelude.{◌≡◌, ◌↔◌, ◌⊎◌, ℕ, ◌<◌, true, length, List, None, Some}
 use Rattle.std.specs.List.{AllByRecursion}
 use Rattle.ild_data.specs.Data as T
 use Rattle.ild_data.specs.Data.{Data}
@@ -19,7 +19,7 @@ use Rattle.ild_data.specs.Trie as Trie
 use Rattle.ild_typed.specs.Fits.{Front}
 use Rattle.ild_schema.specs.Clear.{IsSafe, ClearType}
 use Rattle.ild_typed.specs.Spots.{Spot}
-use Rattle.ild_typed.specs.Pieces.{IsNoRoot}
+use Rattle.ild_typed.specs.NodeReading.{root_fits}
 use Rattle.ild_typed.specs.Refused.{Refusal, AreParts, Refused}
 use Rattle.ild_typed.specs.Layer.{Layer}
 use Rattle.ild_typed.specs.Hamt.{alone}
@@ -41,10 +41,15 @@ LayerOrWhy =
 abbrev pub HasForm : List Row → Slot → Type 0
 HasForm rows s = (d : TypeDef) × (form_of rows s ≡ Some d)
 
--- what is asked of trees: the parts of a tree's layer are trees, and data are the root of a HAMT or are not
-pub record IsWalked (rows : List Row) : Type 0 where
-  pub trees : (s : Slot) (d : TypeDef) (t : Data) (ps : List Spot) → form_of rows s ≡ Some d → AreParts d t ps → IsTree t → AllByRecursion (λ p. IsTree p.tree) ps
-  pub roots : (t : Data) → ((slots : List Trie.TrieSlot) × IsRoot usual slots t) ⊎ IsNoRoot t
+-- the parts of a tree of a type are trees
+abbrev pub PartsAreTrees : Type 0
+PartsAreTrees =
+    (rows : List Row) → IsSchema rows → (s : Slot) (d : TypeDef) → form_of rows s ≡ Some d
+    → (t : Data) (ps : List Spot) → IsTree t → AreParts d t ps → AllByRecursion (λ p. IsTree p.tree) ps
+
+-- a tree is the root of a HAMT exactly where the test says so
+abbrev pub RootsAreTold : Type 0
+RootsAreTold = (t : Data) → IsTree t → (root_fits usual t ≡ true) ↔ ((slots : List Trie.TrieSlot) × IsRoot usual slots t)
 
 -- what is refused has no front
 abbrev pub RefusedHaveNoFront : Type 0
@@ -55,7 +60,7 @@ RefusedHaveNoFront =
 -- and a tree is refused or has one
 abbrev pub FrontOrRefused : Type 0
 FrontOrRefused =
-    (rows : List Row) → IsSchema rows → IsWalked rows → (room : ℕ) (s : Slot) → s.ty.0 < length rows
+    (rows : List Row) → IsSchema rows → (room : ℕ) (s : Slot) → s.ty.0 < length rows
     → (t : Data) → IsTree t → ((f : Value) × Front rows room s f t) ⊎ ((r : Refusal) × Refused rows room s t r)
 
 -- of the walk there is one refusal at most

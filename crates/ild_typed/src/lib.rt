@@ -2,9 +2,9 @@
 //! without a body (IPLD Schemas; IPLD HashMap).
 #![tactic(auto)]
 
-ghost use Rattle.ild_typed.specs.WhyLaws.{FrontOrRefused, LayerOrWhy, OneRefusal, RefusedHaveNoFront};
+ghost use Rattle.ild_typed.specs.WhyLaws.{FrontOrRefused, LayerOrWhy, OneRefusal, PartsAreTrees, RefusedHaveNoFront, RootsAreTold};
 ghost use Rattle.ild_typed.specs.Ways.{WaysLead};
-ghost use Rattle.ild_typed.specs.TreeLaws.{BlocksAreNested, FrontsAreTrees, ShownAreTrees, StorableBlocks, ValuesAreTrees};
+ghost use Rattle.ild_typed.specs.TreeLaws.{BlocksAreNested, FrontsAreTrees, ShownAreTrees, StorableBlocks, ValuesAreTrees, ValuesHaveFronts};
 ghost use Rattle.ild_typed.specs.AtLaws.{IndicesAreDecimals, ReachesParts};
 ghost use Rattle.ild_typed.specs.JoinLaws.{JoinsAreJoins, PairsArePairs};
 ghost use Rattle.ild_typed.specs.Laws.{InLayersAll, LayersTell, OneFront, OneText, OneWhole, TextsRepresent};
@@ -45,6 +45,16 @@ pub fn layer_or_why()
     ensures { LayerOrWhy }
 {}
 
+/// The parts of a tree of a type are trees.
+pub fn parts_are_trees()
+    ensures { PartsAreTrees }
+{}
+
+/// A tree is the root map of a HAMT exactly where its test says so.
+pub fn roots_are_told()
+    ensures { RootsAreTold }
+{}
+
 /// Data of which a piece is refused have no front that fits.
 pub fn refused_have_no_front()
     ensures { RefusedHaveNoFront }
@@ -73,6 +83,11 @@ pub fn fronts_are_trees()
 /// The representation of a value is a tree, nested no deeper than the room in which the value fits.
 pub fn values_are_trees()
     ensures { ValuesAreTrees }
+{}
+
+/// The representation of a value has a front in the room in which the value fits.
+pub fn values_have_fronts()
+    ensures { ValuesHaveFronts }
 {}
 
 /// The blocks of the nodes of a value's HAMTs are nested no deeper than its room either.

@@ -1,0 +1,89 @@
+//! The same work as the engine's, as a good Rust programmer writes it without proofs. Words: WORK FILE TIMES.
+mod cbor;
+mod json;
+mod map;
+mod schema;
+
+use sha2::{Digest, Sha256};
+use std::hint::black_box;
+
+fn main() {
+    let words: Vec<String> = std::env::args().skip(1).collect();
+    let [work, file, times] = words.as_slice() else {
+        println!("words: WORK FILE TIMES");
+        std::process::exit(2);
+    };
+    let bytes = std::fs::read(file).expect("the file is there");
+    let times: u32 = times.parse().expect("a number");
+    let mut sum = 0u64;
+    match work.as_str() {
+        "check" => {
+            for _ in 0..times {
+                sum += cbor::check(black_box(&bytes)).expect("a block") as u64;
+            }
+        }
+        "items" => {
+            cbor::check(&bytes).expect("a block");
+            for _ in 0..times {
+                sum += cbor::items(black_box(&bytes));
+            }
+        }
+        "entries" => {
+            cbor::check(&bytes).expect("a block");
+            for _ in 0..times {
+                sum += cbor::entries(black_box(&bytes));
+            }
+        }
+        "entry" => {
+            cbor::check(&bytes).expect("a block");
+            let key = cbor::last_key(&bytes).to_vec();
+            for _ in 0..times {
+                sum += cbor::entry(black_box(&bytes), &key).expect("the key is there") as u64;
+            }
+        }
+        "id" => {
+            for _ in 0..times {
+                sum += Sha256::digest(black_box(&bytes))[0] as u64;
+            }
+        }
+        "read" => {
+            for _ in 0..times {
+                let tree = json::read(black_box(&bytes)).expect("JSON of a value");
+                black_box(&tree);
+                sum += bytes.len() as u64;
+            }
+        }
+        "print" => {
+            let tree = json::read(&bytes).expect("JSON of a value");
+            for _ in 0..times {
+                sum += json::print(black_box(&tree)).len() as u64;
+            }
+        }
+        "spell" => {
+            let tree = json::read(&bytes).expect("JSON of a value");
+            for _ in 0..times {
+                let mut out = Vec::new();
+                cbor::spell(&mut out, black_box(&tree));
+                sum += out.len() as u64;
+            }
+        }
+        "compile" => {
+            for _ in 0..times {
+                sum += schema::compile(black_box(&bytes)).expect("a schema") as u64;
+            }
+        }
+        "script" => {
+            for _ in 0..times {
+                sum += map::answer(black_box(&bytes)).len() as u64;
+            }
+        }
+        "files" => {
+            for _ in 0..times {
+                print!("{}", map::answer_in_folder(&bytes));
+            }
+            return;
+        }
+        _ => panic!("no such work"),
+    }
+    println!("sum {sum}");
+}

@@ -1,0 +1,42 @@
+//! One piece of the engine's work, done so many times over a file: what `bench/run` measures. Words: WORK FILE TIMES.
+#![tactic(auto)]
+
+mod blocks;
+mod given;
+mod trees;
+mod whole;
+
+use given::given;
+use std::io;
+use std::process::ExitCode;
+
+fn main(rt: HostRuntime) -> io::Result<ExitCode> {
+    let Some((work, bytes, times)) = given(&rt)? else {
+        println!(rt; "words: WORK FILE TIMES")?;
+        return Ok(ExitCode::from(2));
+    };
+    let alloc = rt.alloc();
+    let sum = match work.as_str() {
+        "check" => blocks::check_all(&bytes, times),
+        "items" => blocks::all_items(&bytes, times),
+        "entries" => blocks::all_entries(&bytes, times),
+        "entry" => blocks::last_entry(&bytes, times),
+        "id" => blocks::all_ids(&bytes, times),
+        "read" => trees::read_all(alloc, &bytes, times),
+        "print" => trees::print_all(alloc, &bytes, times),
+        "spell" => trees::spell_all(alloc, &bytes, times),
+        "compile" => whole::compile_all(alloc, &bytes, times),
+        "script" => whole::answer_all_of(alloc, &bytes, times),
+        _ => None,
+    };
+    match sum {
+        Some(sum) => {
+            println!(rt; "sum {sum}")?;
+            Ok(ExitCode::from(0))
+        }
+        None => {
+            println!(rt; "no such work, or the file isn't for it")?;
+            Ok(ExitCode::from(1))
+        }
+    }
+}

@@ -1,0 +1,6 @@
+pub mod Keyed
+pub mod Planned
+pub mod Putting
+pub mod Children
+pub mod Build
+pub mod Laws

@@ -1,0 +1,54 @@
+//! A HAMT from its entries.
+ghost use Rattle.std.specs.Prelude.{◌≡◌};
+ghost use Rattle.ild_edges.specs.Told.{BothTold};
+ghost use Rattle.ild_typed.specs.Composed.{usual};
+ghost use Rattle.ild_bulk.specs.Build.{Builds, is_long, any_long};
+ghost use Rattle.ild_bulk.specs.Children.{AddsWhole};
+
+use crate::plan::{keyed, plan_node};
+use crate::put::put_all;
+use ild_data::{KeyHash, LONGEST_BLOCK, Octets};
+use ild_edges::Store;
+use ild_node::{HamtFault, Rows};
+use std::alloc::Global;
+
+/// Whether a block is longer than a block may be.
+pub fn is_long(block: &Octets) -> bool
+    ensures { result ≡ is_long block.now }
+{
+    block.as_slice().len() > LONGEST_BLOCK
+}
+
+/// Whether one of the blocks is.
+pub fn any_long(blocks: &[Octets]) -> bool
+    ensures { result ≡ any_long blocks.now }
+{
+    let mut long = false;
+    for block in blocks {
+        long |= is_long(block);
+    }
+    long
+}
+
+/// The root node of the HAMT of these entries. The blocks beneath it are put, each behind those beneath it; the root isn't
+/// put. Nothing is put where there is no such HAMT, or where one of its nodes is too long.
+pub fn from_entries<K: Store, H: KeyHash>(
+    alloc: Global,
+    entries: &Rows,
+    keys: &H,
+    store: &mut K,
+) -> Result<Octets, HamtFault>
+    ensures built { Builds H.hash_of usual entries.now (K.moment store.old) result (K.moment store.new) }
+    // However it ends, each block that it added has all its children held.
+    ensures children { BothTold (K.moment store.old).blocks (K.moment store.new).blocks AddsWhole }
+{
+    let keyed = keyed(alloc, entries.as_slice(), keys)?;
+    let mut blocks = Vec::new(alloc);
+    let root = plan_node(alloc, &keyed, 0, &mut blocks)?;
+    let long = is_long(&root) | any_long(&blocks);
+    if long {
+        return Err(HamtFault::Size);
+    }
+    put_all(&blocks, store)?;
+    Ok(root)
+}

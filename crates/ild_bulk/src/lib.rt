@@ -1,0 +1,13 @@
+//! Whole HAMTs (IPLD HashMap): built from their entries.
+#![tactic(auto)]
+
+mod build;
+mod keyed;
+mod laws;
+mod plan;
+mod put;
+
+pub use build::{any_long, from_entries, is_long};
+pub use laws::{children_first, plan_is_of_nodes};
+pub use plan::plan_slot;
+pub use put::put_all;

@@ -1,0 +1,34 @@
+//! Putting blocks in their order.
+ghost use Rattle.std.specs.Prelude.{◌≡◌};
+ghost use Rattle.ild_bulk.specs.Putting.{PutsOne, PutsAll};
+
+use ild_data::{Octets, block_id};
+use ild_edges::{EdgeErr, Store};
+use ild_node::HamtFault;
+
+// Puts a block under its id.
+fn put<K: Store>(block: &Octets, store: &mut K) -> Result<(), HamtFault>
+    ensures { PutsOne (K.moment store.old) block.now result (K.moment store.new) }
+{
+    let id = block_id(block.as_slice());
+    match store.put(&id, block.as_slice()) {
+        Ok(None) => Ok(()),
+        Ok(Some(kept)) => Err(HamtFault::Clash {
+            id,
+            kept,
+            new: block.copy()?,
+        }),
+        Err(EdgeErr::Failed) => Err(HamtFault::Store),
+        Err(EdgeErr::Memory) => Err(HamtFault::Memory),
+    }
+}
+
+/// Puts blocks one after another, and stops at the first that isn't put.
+pub fn put_all<K: Store>(blocks: &[Octets], store: &mut K) -> Result<(), HamtFault>
+    ensures { PutsAll (K.moment store.old) blocks.now result (K.moment store.new) }
+{
+    for block in blocks {
+        put(block, store)?;
+    }
+    Ok(())
+}

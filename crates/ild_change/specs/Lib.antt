@@ -1,0 +1,4 @@
+pub mod TreeChange
+pub mod Laws
+pub mod Differences
+pub mod Spliced

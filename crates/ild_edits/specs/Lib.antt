@@ -1,0 +1,5 @@
+pub mod Table
+pub mod Edit
+pub mod EditLaws
+pub mod Along
+pub mod AlongLaws

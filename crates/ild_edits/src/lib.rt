@@ -1,0 +1,6 @@
+//! Edits of typed values at paths: definitions, and laws as the contracts of functions without a body.
+#![tactic(auto)]
+
+mod laws;
+
+pub use laws::{changes_are_judged_along_the_path, edits_are_local, edits_keep_types};

@@ -1,0 +1,12 @@
+pub mod Told
+pub mod Members
+pub mod ByParts
+pub mod TypedByParts
+pub mod Reading
+pub mod Meanings
+pub mod MeantWhole
+pub mod MeantTyped
+pub mod Showing
+pub mod Broken
+pub mod Mismatched
+mod Examples

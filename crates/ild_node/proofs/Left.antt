@@ -1,0 +1,249 @@
+-- Steps of the loops over the items of buckets and nodes.
+use Rattle.std.proofs.Common.{◌≡◌, ℕ, zero, suc, ◌+◌, ◌-◌, ◌<◌, ◌≤◌, ◌&&◌, Bool, true, false, not, cond, List, [], ◌∷◌, length, map, drop, Option, Some, None, option_map, refl, sym, ap, ◌∙◌, subst, arith}
+use Rattle.std.specs.Prelude.{slice_get}
+use Rattle.std.specs.Borrow.{Bor}
+use Rattle.std.specs.Option.{is_none}
+use Rattle.std.specs.List.{range_with_len}
+use Rattle.std.specs.Ordering.{eq_by_cmp}
+use Rattle.std.specs.FinMap.{find}
+use Rattle.std.proofs.lemmas.Bool.{false_from_ne_true}
+use Rattle.ild_data.specs.Data.{Data, bytes, Items, no_items, item, items_of}
+use Rattle.ild_cbor.specs.declared.node.Node.{Node}
+use Rattle.ild_cbor.specs.declared.items.Items.{Items as ItemsLeft}
+use Rattle.ild_cbor.specs.Nodes.{Stands, IsPart}
+use Rattle.ild_cbor.specs.Scalar.{bytes_of}
+use Rattle.ild_cbor.specs.Span.{place_of}
+use Rattle.ild_cbor.specs.Steps.{HasItems, ItemsGive}
+use Rattle.ild_data.specs.ByteOrder.{bytewise}
+use Rattle.ild_data.specs.Trie.{entry_data}
+use Rattle.ild_trie.proofs.Parts.{same_key, key_itself}
+use Rattle.ild_node.specs.Form.{bucket_data}
+use Rattle.ild_typed.specs.NodeReading.{pair_in, entry_in, rises, goes_on, are_entries, element_fits, elements_fit, map_bit, map_bits}
+use Rattle.ild_node.specs.Items.{IsAtItem}
+use Rattle.ild_node.specs.Parts.{PairIs, EntryIn}
+use Rattle.ild_node.specs.Places.{value_place}
+use Rattle.ild_node.specs.Views.{ValueIn}
+use Rattle.ild_node.proofs.Iter.{part-of, iter-step, iter-end}
+
+-- ---- entries
+
+abbrev pub Reads : Node → Option (Bor (List ℕ) × Node) → Type 0
+Reads n r = (d : Data) → Stands n d → EntryIn n d (entry_in d) r
+
+pub record EntriesLeft (s : ItemsLeft) (last : Option (List ℕ)) (ds : Items) : Type 0 where
+  pub more : Items
+  pub left : HasItems s more
+  pub same : are_entries ds None ≡ are_entries more last
+
+entry_on : (n : Node) (t : Data) (o : Option (List ℕ × Data)) (r : Bor (List ℕ) × Node) (last : Option (List ℕ)) (rest : Option (List ℕ) → Bool) → EntryIn n t o (Some r) → rises last r.0.now ≡ true → goes_on last o rest ≡ rest (Some r.0.now)
+entry_on n t None r last rest is up = absurd is
+entry_on n t (Some e) r last rest is up =
+    let keys : e.0 ≡ r.0.now = sym is.0 in
+    let above : rises last e.0 ≡ true = ap (rises last) keys ∙ up in
+    λ i. above i && rest (Some (keys i))
+
+entry_falls : (n : Node) (t : Data) (o : Option (List ℕ × Data)) (r : Bor (List ℕ) × Node) (last : Option (List ℕ)) (rest : Option (List ℕ) → Bool) → EntryIn n t o (Some r) → rises last r.0.now ≡ false → goes_on last o rest ≡ false
+entry_falls n t None r last rest is down = refl
+entry_falls n t (Some e) r last rest is down = ap (λ b. b && rest (Some e.0)) (ap (rises last) (sym is.0) ∙ down)
+
+entry_missing : (n : Node) (t : Data) (o : Option (List ℕ × Data)) (last : Option (List ℕ)) (rest : Option (List ℕ) → Bool) → EntryIn n t o None → goes_on last o rest ≡ false
+entry_missing n t None last rest is = refl
+entry_missing n t (Some e) last rest is = absurd is
+
+step_at : (s t : ItemsLeft) (n : Node) (last : Option (List ℕ)) (ds more : Items) (r : Bor (List ℕ) × Node) → HasItems s more → are_entries ds None ≡ are_entries more last
+    → ItemsGive s (Some n) t → Reads n (Some r) → rises last r.0.now ≡ true → EntriesLeft t (Some r.0.now) ds
+step_at s t n last ds no_items r left same gives reads up = absurd (gives no_items left)
+step_at s t n last ds (item d more) r left same gives reads up =
+    let step = gives (item d more) left in
+    record { more = more; left = step.left; same = same ∙ entry_on n d (entry_in d) r last (are_entries more) (reads d step.stands) up }
+
+pub entries_step : (s t : ItemsLeft) (n : Node) (last : Option (List ℕ)) (ds : Items) (r : Bor (List ℕ) × Node) → EntriesLeft s last ds
+    → ItemsGive s (Some n) t → Reads n (Some r) → rises last r.0.now ≡ true → EntriesLeft t (Some r.0.now) ds
+entries_step s t n last ds r l gives reads up = step_at s t n last ds l.more r l.left l.same gives reads up
+
+falls_at : (s t : ItemsLeft) (n : Node) (last : Option (List ℕ)) (ds more : Items) (r : Bor (List ℕ) × Node) → HasItems s more → are_entries ds None ≡ are_entries more last
+    → ItemsGive s (Some n) t → Reads n (Some r) → rises last r.0.now ≡ false → false ≡ are_entries ds None
+falls_at s t n last ds no_items r left same gives reads down = absurd (gives no_items left)
+falls_at s t n last ds (item d more) r left same gives reads down =
+    sym (same ∙ entry_falls n d (entry_in d) r last (are_entries more) (reads d (gives (item d more) left).stands) down)
+
+pub entries_fall : (s t : ItemsLeft) (n : Node) (last : Option (List ℕ)) (ds : Items) (r : Bor (List ℕ) × Node) → EntriesLeft s last ds
+    → ItemsGive s (Some n) t → Reads n (Some r) → rises last r.0.now ≡ false → false ≡ are_entries ds None
+entries_fall s t n last ds r l gives reads down = falls_at s t n last ds l.more r l.left l.same gives reads down
+
+missing_at : (s t : ItemsLeft) (n : Node) (last : Option (List ℕ)) (ds more : Items) → HasItems s more → are_entries ds None ≡ are_entries more last
+    → ItemsGive s (Some n) t → Reads n None → false ≡ are_entries ds None
+missing_at s t n last ds no_items left same gives reads = absurd (gives no_items left)
+missing_at s t n last ds (item d more) left same gives reads =
+    sym (same ∙ entry_missing n d (entry_in d) last (are_entries more) (reads d (gives (item d more) left).stands))
+
+pub entries_missing : (s t : ItemsLeft) (n : Node) (last : Option (List ℕ)) (ds : Items) → EntriesLeft s last ds
+    → ItemsGive s (Some n) t → Reads n None → false ≡ are_entries ds None
+entries_missing s t n last ds l gives reads = missing_at s t n last ds l.more l.left l.same gives reads
+
+done_at : (s t : ItemsLeft) (last : Option (List ℕ)) (ds more : Items) → HasItems s more → are_entries ds None ≡ are_entries more last → ItemsGive s None t → true ≡ are_entries ds None
+done_at s t last ds no_items left same gives = sym same
+done_at s t last ds (item d more) left same gives = absurd (gives (item d more) left)
+
+pub entries_done : (s t : ItemsLeft) (last : Option (List ℕ)) (ds : Items) → EntriesLeft s last ds → ItemsGive s None t → true ≡ are_entries ds None
+entries_done s t last ds l gives = done_at s t last ds l.more l.left l.same gives
+
+-- ---- the value at a key
+
+-- the iterator stands at an entry before which none has the key
+pub record ValuesLeft (b : Node) (s : ItemsLeft) (key : List ℕ) (es : List (List ℕ × Data)) : Type 0 where
+  pub at : ℕ
+  pub iter : IsAtItem b (map entry_data es) at s
+  pub same : find bytewise key es ≡ find bytewise key (drop at es)
+
+pub values-first : (b : Node) (s : ItemsLeft) (key : List ℕ) (es : List (List ℕ × Data)) → IsAtItem b (map entry_data es) 0 s → ValuesLeft b s key es
+values-first b s key es at = record { at = 0; iter = at; same = refl }
+
+-- the entry of an item
+record EntryAt (es : List (List ℕ × Data)) (k : ℕ) (d : Data) : Type 0 where
+  pub e : List ℕ × Data
+  pub is : d ≡ entry_data e
+  pub found : slice_get es k ≡ Some e
+  pub here : drop k es ≡ e ∷ drop (suc k) es
+
+entry-at : (es : List (List ℕ × Data)) (k : ℕ) (d : Data) → slice_get (map entry_data es) k ≡ Some d → EntryAt es k d
+entry-at [] k d is = absurd cc
+entry-at (e ∷ es) zero d is = let same : entry_data e ≡ d = some_same (entry_data e) d is in record { e = e; is = sym same; found = refl; here = refl }
+  where
+    some_same : (a b : Data) → ◌≡◌ {A = Option Data} (Some a) (Some b) → a ≡ b
+    some_same a b is = cc
+entry-at (e ∷ es) (suc k) d is = let r = entry-at es k d is in record { e = r.e; is = r.is; found = r.found; here = r.here }
+
+abbrev pub Halves : Node → Option (Node × Node) → Type 0
+Halves n r = (d : Data) → Stands n d → PairIs n d (pair_in d) r
+
+not_key : (key k : List ℕ) → (k ≡ key → ⊥) → eq_by_cmp bytewise key k ≡ false
+not_key key k apart = false_from_ne_true _ (λ e. apart (sym (same_key key k e)))
+
+next_is : (k : ℕ) → suc k ≡ k + 1
+next_is k = omega arith
+
+pub value-step : (b : Node) (s t : ItemsLeft) (n : Node) (key : List ℕ) (es : List (List ℕ × Data)) (r : Node × Node) → ValuesLeft b s key es → ItemsGive s (Some n) t → Halves n (Some r)
+    → ((d : Data) → Stands r.0 d → bytes_of d ≡ Some key → ⊥) → ValuesLeft b t key es
+value-step b s t n key es r l gives reads apart =
+    let step = iter-step b (map entry_data es) l.at s t n l.iter gives in
+    let e = entry-at es l.at step.of step.is in
+    let halves = reads (entry_data e.e) (subst (λ (d : Data). Stands n d) e.is step.part.stands) in
+    record {
+      at = l.at + 1;
+      iter = step.next;
+      same = l.same ∙ ap (find bytewise key) e.here
+          ∙ ap (λ c. cond c (Some e.e.1) (find bytewise key (drop (suc l.at) es))) (not_key key e.e.0 (λ is. apart (bytes e.e.0) halves.0.stands (ap Some is)))
+          ∙ ap (λ k. find bytewise key (drop k es)) (next_is l.at);
+    }
+
+pub value-here : (b : Node) (s t : ItemsLeft) (n : Node) (key : List ℕ) (es : List (List ℕ × Data)) (r : Node × Node) → ValuesLeft b s key es → ItemsGive s (Some n) t → Halves n (Some r)
+    → ((d : Data) → Stands r.0 d → bytes_of d ≡ Some key) → ValueIn b es key (find bytewise key es) (Some r.1)
+value-here b s t n key es r l gives reads found =
+    let step = iter-step b (map entry_data es) l.at s t n l.iter gives in
+    let e = entry-at es l.at step.of step.is in
+    let halves = reads (entry_data e.e) (subst (λ (d : Data). Stands n d) e.is step.part.stands) in
+    let keys : e.e.0 ≡ key = some_key e.e.0 key (found (bytes e.e.0) halves.0.stands) in
+    let is : find bytewise key es ≡ Some e.e.1 =
+    l.same ∙ ap (find bytewise key) e.here
+    ∙ ap (λ c. cond c (Some e.e.1) (find bytewise key (drop (suc l.at) es))) (ap (eq_by_cmp bytewise key) keys ∙ key_itself key) in
+    subst (λ (o : Option Data). ValueIn b es key o (Some r.1)) (sym is) (record {
+      at = l.at;
+      entry = e.found ∙ ap (λ k. Some (k, e.e.1)) keys;
+      part = subst (λ (k : List ℕ). IsPart b r.1 (value_place es l.at (k, e.e.1)) e.e.1) keys
+          (part-of b n r.1 _ _ (entry_data e.e) e.e.1 (subst (λ (d : Data). IsPart b n (place_of (bucket_data es) l.at) d) e.is step.part) halves.1);
+    })
+  where
+    some_key : (a b : List ℕ) → ◌≡◌ {A = Option (List ℕ)} (Some a) (Some b) → a ≡ b
+    some_key a b is = cc
+
+-- an item of a bucket is a pair
+pub value-missing : (b : Node) (s t : ItemsLeft) (n : Node) (key : List ℕ) (es : List (List ℕ × Data)) → ValuesLeft b s key es → ItemsGive s (Some n) t → Halves n None → ⊥
+value-missing b s t n key es l gives reads =
+    let step = iter-step b (map entry_data es) l.at s t n l.iter gives in
+    let e = entry-at es l.at step.of step.is in
+    reads (entry_data e.e) (subst (λ (d : Data). Stands n d) e.is step.part.stands)
+
+past_all : (key : List ℕ) (es : List (List ℕ × Data)) (k : ℕ) → length (map entry_data es) ≤ k → find bytewise key (drop k es) ≡ None
+past_all key [] zero le = refl
+past_all key [] (suc k) le = refl
+past_all key (e ∷ es) zero le = absurd (omega arith)
+past_all key (e ∷ es) (suc k) le = past_all key es k (omega arith)
+
+pub value-done : (b : Node) (s t : ItemsLeft) (key : List ℕ) (es : List (List ℕ × Data)) → ValuesLeft b s key es → ItemsGive s None t → ValueIn b es key (find bytewise key es) None
+value-done b s t key es l gives =
+    subst (λ (o : Option Data). ValueIn b es key o None) (sym (l.same ∙ past_all key es l.at (iter-end b (map entry_data es) l.at s t l.iter gives))) tt
+
+-- ---- the elements of a node
+
+-- what is left of the elements fits the bits from i on
+pub record ElementsLeft (s : ItemsLeft) (most : ℕ) (ones : List ℕ) (slots i : ℕ) (ds : Items) : Type 0 where
+  pub more : Items
+  pub left : HasItems s more
+  pub same : elements_fit most (map_bits ones 0 slots) ds ≡ elements_fit most (map_bits ones i (slots - i)) more
+
+bits_more : (ones : List ℕ) (slots i : ℕ) → i < slots → map_bits ones i (slots - i) ≡ map_bit ones i ∷ map_bits ones (i + 1) (slots - (i + 1))
+bits_more ones slots i lt = let e : slots - i ≡ suc (slots - (i + 1)) = omega arith in ap (map_bits ones i) e
+
+bits_done : (ones : List ℕ) (slots i : ℕ) → slots ≤ i → map_bits ones i (slots - i) ≡ []
+bits_done ones slots i le = let e : slots - i ≡ 0 = omega arith in ap (map_bits ones i) e
+
+pub elements_skip : (s : ItemsLeft) (most : ℕ) (ones : List ℕ) (slots i : ℕ) (ds : Items) → ElementsLeft s most ones slots i ds → i < slots → map_bit ones i ≡ false → ElementsLeft s most ones slots (i + 1) ds
+elements_skip s most ones slots i ds l lt off = record {
+  more = l.more;
+  left = l.left;
+  same = l.same ∙ ap (λ bits. elements_fit most bits l.more) (bits_more ones slots i lt ∙ ap (λ b. b ∷ map_bits ones (i + 1) (slots - (i + 1))) off);
+}
+
+fit_on : (most : ℕ) (ones : List ℕ) (slots i : ℕ) (ds more : Items) → elements_fit most (map_bits ones 0 slots) ds ≡ elements_fit most (map_bits ones i (slots - i)) more → i < slots → map_bit ones i ≡ true
+    → elements_fit most (map_bits ones 0 slots) ds ≡ elements_fit most (true ∷ map_bits ones (i + 1) (slots - (i + 1))) more
+fit_on most ones slots i ds more same lt on =
+    same ∙ ap (λ bits. elements_fit most bits more) (bits_more ones slots i lt ∙ ap (λ b. b ∷ map_bits ones (i + 1) (slots - (i + 1))) on)
+
+element_step_at : (s t : ItemsLeft) (n : Node) (most : ℕ) (ones : List ℕ) (slots i : ℕ) (ds more : Items) → HasItems s more → elements_fit most (map_bits ones 0 slots) ds ≡ elements_fit most (true ∷ map_bits ones (i + 1) (slots - (i + 1))) more
+    → ItemsGive s (Some n) t → ((d : Data) → Stands n d → true ≡ element_fits most d) → ElementsLeft t most ones slots (i + 1) ds
+element_step_at s t n most ones slots i ds no_items left same gives fits = absurd (gives no_items left)
+element_step_at s t n most ones slots i ds (item d more) left same gives fits =
+    let step = gives (item d more) left in
+    record { more = more; left = step.left; same = same ∙ ap (λ b. b && elements_fit most (map_bits ones (i + 1) (slots - (i + 1))) more) (sym (fits d step.stands)) }
+
+pub elements_step : (s t : ItemsLeft) (n : Node) (most : ℕ) (ones : List ℕ) (slots i : ℕ) (ds : Items) → ElementsLeft s most ones slots i ds → i < slots → map_bit ones i ≡ true
+    → ItemsGive s (Some n) t → ((d : Data) → Stands n d → true ≡ element_fits most d) → ElementsLeft t most ones slots (i + 1) ds
+elements_step s t n most ones slots i ds l lt on gives fits =
+    element_step_at s t n most ones slots i ds l.more l.left (fit_on most ones slots i ds l.more l.same lt on) gives fits
+
+element_other_at : (s t : ItemsLeft) (n : Node) (most : ℕ) (ones : List ℕ) (slots i : ℕ) (ds more : Items) → HasItems s more → elements_fit most (map_bits ones 0 slots) ds ≡ elements_fit most (true ∷ map_bits ones (i + 1) (slots - (i + 1))) more
+    → ItemsGive s (Some n) t → ((d : Data) → Stands n d → false ≡ element_fits most d) → false ≡ elements_fit most (map_bits ones 0 slots) ds
+element_other_at s t n most ones slots i ds no_items left same gives fits = absurd (gives no_items left)
+element_other_at s t n most ones slots i ds (item d more) left same gives fits =
+    sym (same ∙ ap (λ b. b && elements_fit most (map_bits ones (i + 1) (slots - (i + 1))) more) (sym (fits d (gives (item d more) left).stands)))
+
+pub elements_other : (s t : ItemsLeft) (n : Node) (most : ℕ) (ones : List ℕ) (slots i : ℕ) (ds : Items) → ElementsLeft s most ones slots i ds → i < slots → map_bit ones i ≡ true
+    → ItemsGive s (Some n) t → ((d : Data) → Stands n d → false ≡ element_fits most d) → false ≡ elements_fit most (map_bits ones 0 slots) ds
+elements_other s t n most ones slots i ds l lt on gives fits =
+    element_other_at s t n most ones slots i ds l.more l.left (fit_on most ones slots i ds l.more l.same lt on) gives fits
+
+element_missing_at : (s t : ItemsLeft) (most : ℕ) (ones : List ℕ) (slots i : ℕ) (ds more : Items) → HasItems s more → elements_fit most (map_bits ones 0 slots) ds ≡ elements_fit most (true ∷ map_bits ones (i + 1) (slots - (i + 1))) more
+    → ItemsGive s None t → false ≡ elements_fit most (map_bits ones 0 slots) ds
+element_missing_at s t most ones slots i ds no_items left same gives = sym same
+element_missing_at s t most ones slots i ds (item d more) left same gives = absurd (gives (item d more) left)
+
+pub elements_missing : (s t : ItemsLeft) (most : ℕ) (ones : List ℕ) (slots i : ℕ) (ds : Items) → ElementsLeft s most ones slots i ds → i < slots → map_bit ones i ≡ true
+    → ItemsGive s None t → false ≡ elements_fit most (map_bits ones 0 slots) ds
+elements_missing s t most ones slots i ds l lt on gives = element_missing_at s t most ones slots i ds l.more l.left (fit_on most ones slots i ds l.more l.same lt on) gives
+
+elements_end_at : (s t : ItemsLeft) (most : ℕ) (ds more : Items) (bits : List Bool) (o : Option Node) (b : Bool) → HasItems s more → elements_fit most bits ds ≡ elements_fit most [] more
+    → ItemsGive s o t → b ≡ is_none o → b ≡ elements_fit most bits ds
+elements_end_at s t most ds no_items bits None b left same gives is = is ∙ sym same
+elements_end_at s t most ds no_items bits (Some n) b left same gives is = absurd (gives no_items left)
+elements_end_at s t most ds (item d more) bits None b left same gives is = absurd (gives (item d more) left)
+elements_end_at s t most ds (item d more) bits (Some n) b left same gives is = is ∙ sym same
+
+pub elements_end : (s t : ItemsLeft) (most : ℕ) (ones : List ℕ) (slots i : ℕ) (ds : Items) (o : Option Node) (b : Bool) → ElementsLeft s most ones slots i ds → slots ≤ i
+    → ItemsGive s o t → b ≡ is_none o → b ≡ elements_fit most (map_bits ones 0 slots) ds
+elements_end s t most ones slots i ds o b l le gives is =
+    elements_end_at s t most ds l.more (map_bits ones 0 slots) o b l.left (l.same ∙ ap (λ bits. elements_fit most bits l.more) (bits_done ones slots i le)) gives is
+
+pub flipped : (a b : Bool) → a ≡ not b → b ≡ not a
+flipped a true is = ap not (sym is)
+flipped a false is = ap not (sym is)

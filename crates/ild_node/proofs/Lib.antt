@@ -1,0 +1,10 @@
+pub mod Iter
+pub mod Entries
+pub mod Trees
+pub mod Fits
+pub mod Left
+pub mod InSlot
+pub mod Pushing
+pub mod Rooting
+pub mod Writing
+pub mod Nodes

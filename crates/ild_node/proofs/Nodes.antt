@@ -1,0 +1,63 @@
+-- The node of sound slots is a tree that nests within the limits.
+use Rattle.std.proofs.Common.{◌≡◌, ℕ, ◌^◌, ◌≤◌, List, [], ◌∷◌, ◌++◌, length}
+use Rattle.std.specs.Prelude.{Result, Ok, Err, OnOk}
+use Rattle.std.specs.List.{AllByRecursion}
+use Rattle.ild_data.specs.Data.{Data, depth}
+use Rattle.ild_data.specs.Bytes.{AreBytes}
+use Rattle.ild_data.specs.Spell.{spell}
+use Rattle.ild_data.specs.Tree.{IsTree}
+use Rattle.ild_data.specs.Trie.{TrieSlot, empty, bucket, child, node_data}
+use Rattle.ild_data.specs.TrieShape.{TrieShape}
+use Rattle.ild_typed.specs.Composed.{usual}
+use Rattle.ild_typed.specs.Nested.{TreeIn}
+use Rattle.ild_typed.specs.Node.{IsSlot}
+use Rattle.ild_typed.proofs.TreeNodes.{SlotIn, node_in}
+use Rattle.ild_typed.proofs.Treed.{EntryIn}
+use Rattle.ild_typed.proofs.Utf8Texts.{link_fits}
+use Rattle.ild_node.specs.Form.{AreSlots, AreTexts}
+use Rattle.ild_node.specs.Rows.{AreRows, AreShallow, deepest_value}
+use Rattle.ild_node.specs.NewSlots.{hold_seen, slot_seen, IsFilled}
+use Rattle.ild_node.specs.Written.{IsNodeBlock, IsSound}
+use Rattle.ild_node.specs.declared.hold.NewHold.{NewHold}
+use Rattle.ild_node.specs.declared.hold.NewHold.TheVariants as N
+
+entries_in : (es : List (List ℕ × Data)) → AreTexts es → AllByRecursion (λ e. TreeIn deepest_value e.1) es → AllByRecursion (EntryIn deepest_value) es
+entries_in [] texts values = tt
+entries_in (e ∷ es) texts values = ((texts.0, values.0), entries_in es texts.1 values.1)
+
+slot_in : (s : TrieSlot) → IsSound usual s → SlotIn deepest_value s
+slot_in empty sound = tt
+slot_in (bucket es) sound = entries_in es sound.form.3 sound.values
+slot_in (child id) sound = link_fits id sound.form.0 sound.form.1
+
+slots_in : (slots : List TrieSlot) → AllByRecursion (IsSound usual) slots → AllByRecursion (SlotIn deepest_value) slots
+slots_in [] all = tt
+slots_in (s ∷ slots) all = (slot_in s all.0, slots_in slots all.1)
+
+forms_of : (slots : List TrieSlot) → AllByRecursion (IsSound usual) slots → AreSlots usual slots
+forms_of [] all = tt
+forms_of (s ∷ slots) all = (all.0.form, forms_of slots all.1)
+
+pub node-block : (slots : List TrieSlot) (b : List ℕ) → length slots ≡ 2 ^ usual.width → AllByRecursion (IsSound usual) slots → b ≡ spell (node_data slots) → IsNodeBlock usual slots b
+node-block slots b many all is = record {
+  spelled = is;
+  form = record { many = many; each = forms_of slots all };
+  tree = node_in deepest_value slots (slots_in slots all);
+}
+
+pub empty-sound : IsSound usual empty
+empty-sound = record { form = tt; values = tt }
+
+values_in : (es : List (List ℕ × Data)) → AreShallow es → AllByRecursion (λ e. IsTree e.1) es → AllByRecursion (λ e. TreeIn deepest_value e.1) es
+values_in [] shallow trees = tt
+values_in (e ∷ es) shallow trees = (record { tree = trees.0; nested = shallow.0 }, values_in es shallow.1 trees.1)
+
+bucket-sound : (es : List (List ℕ × Data)) → AreRows es → IsFilled usual (N.Bucket es) → AllByRecursion (λ e. IsTree e.1) es → IsSound usual (bucket es)
+bucket-sound es rows filled trees = record { form = (rows.0, filled.0, filled.1, rows.1); values = values_in es rows.2 trees }
+
+pub bucket-on : {E : Type 0} (r : Result (Unit {0}) E) (es : List (List ℕ × Data)) → OnOk r (AreRows es × AllByRecursion (λ e. IsTree e.1) es) → IsFilled usual (N.Bucket es) → OnOk r (IsSound usual (bucket es))
+bucket-on (Ok x) es rows filled = bucket-sound es rows.0 filled rows.1
+bucket-on (Err e) es rows filled = tt
+
+pub child-sound : (id : List ℕ) → length id ≡ 32 → AreBytes id → IsSound usual (child id)
+child-sound id long all = record { form = (long, all); values = tt }

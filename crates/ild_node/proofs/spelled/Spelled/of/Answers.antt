@@ -1,0 +1,11 @@
+use Rattle.std.proofs.Common.{◌∙◌}
+use Rattle.std.proofs.Math.Logic.{∥∥₁_elim}
+use Rattle.std.proofs.Math.Bool.{Bool-set}
+use Rattle.ild_node.proofs.Trees.{faultless, spelled-value}
+use Rattle.ild_node.proofs.spelled.Spelled.of.Goals as goal
+
+pub invariant_of-result : goal.invariant_of-result
+invariant_of-result c = ∥∥₁_elim c.args.node.now.stands (Bool-set _ _) (λ s. faultless _ s.of s.spells.within (c.in_ok-bytes.ensures ∙ c.spelling.ensures s.of s.spells))
+
+pub returns : goal.returns
+returns c = λ t h. spelled-value t _ h.within (c.in_ok-bytes.ensures ∙ c.spelling.ensures t h)

@@ -1,0 +1,12 @@
+pub mod Form
+pub mod Places
+pub mod Reading
+pub mod Parts
+pub mod Items
+pub mod Views
+pub mod Steps
+pub mod Spelled
+pub mod Rows
+pub mod NewSlots
+pub mod Roots
+pub mod Written

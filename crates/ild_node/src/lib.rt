@@ -1,0 +1,31 @@
+//! The blocks of a HAMT (IPLD HashMap): its nodes, their buckets and its root, read in place and written.
+#![tactic(auto)]
+
+mod bucket;
+mod fault;
+mod hold;
+mod level;
+mod node;
+mod parts;
+mod root;
+mod row;
+mod rows;
+mod shape;
+mod slots;
+mod spelled;
+mod view;
+mod walk;
+mod write;
+
+pub use bucket::Bucket;
+pub use fault::HamtFault;
+pub use hold::{NewHold, NewSlot};
+pub use level::index;
+pub use node::node_of;
+pub use root::root_of;
+pub use row::Row;
+pub use rows::Rows;
+pub use slots::Slots;
+pub use spelled::Spelled;
+pub use view::{NodeSlot, NodeView};
+pub use write::{write_node, write_root, write_slots};

@@ -1,0 +1,180 @@
+//! The parts of nodes and buckets, item by item.
+ghost use Rattle.std.specs.Prelude.{◌≡◌, ℕ, List, ◌↔◌, IsTrue, option_map, map, None, Some};
+ghost use Rattle.std.specs.FinMap.{find};
+ghost use Rattle.ild_data.specs.Data.{Data, Items as DataItems, items_of, bytes, list};
+ghost use Rattle.ild_cbor.specs.Nodes.{Stands};
+ghost use Rattle.ild_cbor.specs.Scalar.{bytes_of};
+ghost use Rattle.ild_cbor.specs.Steps.{HasItems};
+ghost use Rattle.ild_data.specs.ByteOrder.{bytewise};
+ghost use Rattle.ild_data.specs.Trie.{entry_data};
+ghost use Rattle.ild_typed.specs.NodeReading.{text_in, pair_in, entry_in, rises, are_entries, bucket_fits, child_in, element_fits, map_bit, map_bits, elements_fit, parts_fit};
+ghost use Rattle.ild_node.specs.Reading.{ones_below};
+ghost use Rattle.ild_node.specs.Items.{IsAtItem};
+ghost use Rattle.ild_node.specs.Parts.{PairIs, EntryIn, shape_of};
+ghost use Rattle.ild_node.specs.Views.{ValueIn};
+
+use crate::shape::HamtShape;
+use ild_cbor::{Items, Node};
+use ild_data::BlockId;
+
+/// The two items of a list of two.
+pub(crate) fn pair_in<'b>(node: &Node<'b>) -> Option<(Node<'b>, Node<'b>)>
+    ensures { (t : Data) → Stands node.now t → PairIs node.now t (pair_in t) result }
+{
+    if node.count() != Some(2) {
+        return None;
+    }
+    match (node.item(0), node.item(1)) {
+        (Some(first), Some(second)) => Some((first, second)),
+        _ => None,
+    }
+}
+
+fn text_in(bytes: &[u8]) -> Option<&str>
+    ensures { option_map (λ s. s.now) result ≡ text_in bytes.now }
+{
+    match str::from_utf8(bytes) {
+        Ok(text) => Some(text),
+        Err(_) => None,
+    }
+}
+
+/// The key and the value of an entry.
+pub(crate) fn entry_in<'b>(node: &Node<'b>) -> Option<(&'b str, Node<'b>)>
+    ensures { (t : Data) → Stands node.now t → EntryIn node.now t (entry_in t) result }
+{
+    let (key, value) = pair_in(node)?;
+    match text_in(key.bytes()?) {
+        Some(key) => Some((key, value)),
+        None => None,
+    }
+}
+
+fn rises(last: Option<&str>, key: &str) -> bool
+    ensures { result ≡ rises (option_map (λ s. s.now) last.entry) key.now }
+{
+    match last {
+        None => true,
+        Some(last) => last < key,
+    }
+}
+
+// Whether the items are entries whose keys rise.
+fn are_entries(items: Items<'_>) -> bool
+    ensures { (ds : DataItems) → HasItems items.entry ds → result ≡ are_entries ds None }
+{
+    let mut last = None;
+    for item in items {
+        match entry_in(&item) {
+            Some((key, _)) => {
+                if !rises(last, key) {
+                    return false;
+                }
+                last = Some(key);
+            }
+            None => return false,
+        }
+    }
+    true
+}
+
+// Whether an item is this byte string.
+fn is_bytes(node: &Node<'_>, wanted: &[u8]) -> bool
+    ensures { (t : Data) → Stands node.now t → IsTrue result ↔ (bytes_of t ≡ Some wanted.now) }
+{
+    match node.bytes() {
+        Some(bytes) => bytes == wanted,
+        None => false,
+    }
+}
+
+/// The value at a key among the entries of a bucket.
+pub(crate) fn value_at<'b>(bucket: &Node<'b>, entries: Items<'b>, key: &[u8]) -> Option<Node<'b>>
+    ensures { (es : List (List ℕ × Data)) → IsAtItem bucket.now (map entry_data es) 0 entries.entry → ValueIn bucket.now es key.now (find bytewise key.now es) result }
+{
+    for item in entries {
+        let (found, value) = pair_in(&item)?;
+        if is_bytes(&found, key) {
+            return Some(value);
+        }
+    }
+    None
+}
+
+/// Whether an item is a bucket of this many entries at most.
+pub(crate) fn bucket_fits(node: &Node<'_>, most: u32) -> bool
+    ensures { (t : Data) → Stands node.now t → result ≡ bucket_fits most t }
+{
+    match (node.count(), node.items()) {
+        (Some(count), Some(items)) => 0 < count && count <= most as u64 && are_entries(items),
+        _ => false,
+    }
+}
+
+/// The id of the block that a link leads to.
+pub(crate) fn child_in(node: &Node<'_>) -> Option<BlockId>
+    ensures { (t : Data) → Stands node.now t → option_map (λ id. id.0) result ≡ child_in t }
+{
+    match node.link() {
+        Some(cid) => cid.block(),
+        None => None,
+    }
+}
+
+fn element_fits(node: &Node<'_>, most: u32) -> bool
+    ensures { (t : Data) → Stands node.now t → result ≡ element_fits most t }
+{
+    child_in(node).is_some() || bucket_fits(node, most)
+}
+
+/// Whether the bit of a slot is set.
+pub(crate) fn map_bit(ones: &[u8], i: usize) -> bool
+    ensures { result ≡ map_bit ones.now i }
+{
+    match ones.get(i / 8) {
+        Some(byte) => (*byte >> (i % 8)) % 2 == 1,
+        None => false,
+    }
+}
+
+/// How many slots before this one are used.
+pub(crate) fn ones_below(ones: &[u8], i: usize) -> u64
+    ensures { result ≡ ones_below ones.now i }
+{
+    let mut below = 0;
+    for j in 0..i {
+        if map_bit(ones, j) {
+            below += 1;
+        }
+    }
+    below
+}
+
+// Whether there is one element for each bit that is set.
+fn elements_fit(ones: &[u8], slots: usize, most: u32, elements: Items<'_>) -> bool
+    ensures { (ds : DataItems) → HasItems elements.entry ds → result ≡ elements_fit most (map_bits ones.now 0 slots) ds }
+{
+    let mut elements = elements;
+    for i in 0..slots {
+        let on = map_bit(ones, i);
+        if on {
+            match elements.next() {
+                Some(element) => {
+                    if !element_fits(&element, most) {
+                        return false;
+                    }
+                }
+                None => return false,
+            }
+        }
+    }
+    elements.next().is_none()
+}
+
+/// Whether a map and elements are those of a node of this shape.
+pub(crate) fn parts_fit(ones: &[u8], elements: Items<'_>, shape: HamtShape) -> bool
+    ensures { (ds : DataItems) → HasItems elements.entry ds → result ≡ parts_fit (shape_of shape) (bytes ones.now, list ds) }
+{
+    let slots = shape.slots();
+    ones.len() == slots / 8 && elements_fit(ones, slots, shape.bucket, elements)
+}

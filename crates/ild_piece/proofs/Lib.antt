@@ -1,0 +1,4 @@
+pub mod Searching
+pub mod Stand
+pub mod Told
+pub mod Walking

@@ -1,0 +1,10 @@
+pub mod Causing
+pub mod Fielding
+pub mod Forms
+pub mod Layering
+pub mod Looking
+pub mod Noting
+pub mod Pairing
+pub mod Placing
+pub mod Splitting
+pub mod Surveying

@@ -1,0 +1,6 @@
+pub mod Causes
+pub mod Notes
+pub mod Pairs
+pub mod Parts
+pub mod Reading
+pub mod Source

@@ -1,0 +1,61 @@
+-- What a struct's layer hands out: what stands for each of its fields (IPLD Schemas, "Struct Representation Strategies").
+use Rattle.std.specs.Prelude.{◌≡◌, ℕ, true, List, Option, Some, None, slice_get}
+use Rattle.ild_data.specs.Data as T
+use Rattle.ild_data.specs.Data.{Data}
+use Rattle.ild_schema.specs.Kinds.{meant}
+use Rattle.ild_schema.specs.declared.def.Field.{Field}
+use Rattle.ild_schema.specs.declared.def.StructDef.{StructDef}
+use Rattle.ild_schema.specs.declared.def.TypeDef.TheVariants as D
+use Rattle.ild_schema.specs.declared.row.Row.{Row}
+use Rattle.ild_typed.specs.Fields.{is_implicit}
+use Rattle.ild_typed.specs.Layer as L
+use Rattle.ild_piece.specs.Answers.{Layered}
+use Rattle.ild_piece.specs.Pieces.{IsNumbered, StandsFor}
+use Rattle.ild_struct.specs.Source.{Shows}
+use Rattle.ild_struct.specs.declared.part.Part.{Part}
+use Rattle.ild_struct.specs.declared.part.Part.TheVariants as P
+use Rattle.ild_struct.specs.declared.parts.StructParts.{StructParts}
+
+-- the type with a number is a struct, copies followed
+abbrev pub IsStruct : List Row → ℕ → StructDef → Type 0
+IsStruct rows ty s = meant rows ty ≡ Some (D.Struct s)
+
+-- ---- a part
+
+-- what is handed out of a field with these data, or without
+abbrev pub IsPart : List Row → Field → Option Data → Part → Type 0
+IsPart rows f None P.Absent = Unit {0}
+IsPart rows f (Some d) P.Implicit = is_implicit f.implicit d ≡ true
+IsPart rows f (Some d) P.Null = d ≡ T.null
+IsPart rows f (Some d) (P.Held p) = StandsFor rows p d × (d ≡ T.null → ⊥)
+IsPart rows f o part = ⊥
+
+-- of the field with a number
+pub record IsFieldOf (rows : List Row) (fs : List Field) (os : List (Option Data)) (i : ℕ) (part : Part) : Type 0 where
+  pub field : Field
+  pub there : slice_get fs i ≡ Some field
+  pub held : Option Data
+  pub at : slice_get os i ≡ Some held
+  pub is : IsPart rows field held part
+
+-- no discriminant is passed over in what is handed out, but of a union in the table
+abbrev pub HasNumber : List Row → Part → Type 0
+HasNumber rows (P.Held p) = IsNumbered rows p
+HasNumber rows part = Unit {0}
+
+-- ---- all parts
+
+-- the fields of which parts were found
+abbrev pub fields_of : StructParts → List Field
+fields_of parts = parts.def.now.fields
+
+-- these data are the parts, one for each field
+pub record ArePartsOf (rows : List Row) (ty : ℕ) (t : Data) (os : List (Option Data)) (parts : StructParts) : Type 0 where
+  pub table : parts.acc.now ≡ rows
+  pub struct : IsStruct rows ty parts.def.now
+  pub shows : Shows rows parts.def.now.form parts.source t
+  pub layered : Layered rows ty t (L.struct os)
+
+-- there are such data
+abbrev pub HasParts : List Row → ℕ → Data → StructParts → Type 0
+HasParts rows ty t parts = (os : List (Option Data)) × ArePartsOf rows ty t os parts

@@ -1,0 +1,37 @@
+-- What a reader of one form answers: where the parts are looked up, or the first cause why the data are no struct's.
+use Rattle.std.specs.Prelude.{◌≡◌, ℕ, true, cond, List, Option, Some, None, Result, Ok, Err, length}
+use Rattle.ild_data.specs.Data.{Data}
+use Rattle.ild_cbor.specs.Nodes.{Stands}
+use Rattle.ild_cbor.specs.declared.node.Node.{Node}
+use Rattle.ild_cbor.specs.declared.why.Why.{Why}
+use Rattle.ild_schema.specs.declared.def.Field.{Field}
+use Rattle.ild_schema.specs.declared.def.StructForm.{StructForm}
+use Rattle.ild_schema.specs.declared.row.Row.{Row}
+use Rattle.ild_typed.specs.Fields.{is_implicit}
+use Rattle.ild_piece.specs.Answers.{told}
+use Rattle.ild_struct.specs.Causes.{struct_why}
+use Rattle.ild_struct.specs.Source.{Shows}
+use Rattle.ild_struct.specs.declared.source.Source.{Source}
+
+abbrev pub Answers : List Row → StructForm → List Field → Data → Result Source Why → Type 0
+Answers rows form fs t (Ok source) = (struct_why form fs t ≡ None) × Shows rows form source t
+Answers rows form fs t (Err why) = struct_why form fs t ≡ Some (told why)
+
+-- a node that is a list, and how many items it has
+abbrev pub IsList : Option (List Data) → Data → Option (Node × ℕ) → Type 0
+IsList (Some ds) t (Some x) = Stands x.0 t × (x.1 ≡ length ds)
+IsList None t None = Unit {0}
+IsList (Some ds) t None = ⊥
+IsList None t (Some x) = ⊥
+
+-- ---- a look-up of a field by its name
+
+-- a field that is absent is optional, and one with an implicit value is not
+pub record IsLookedUp (f : Field) (o : Option Data) : Type 0 where
+  pub absent : o ≡ None → f.optional ≡ true
+  pub required : f.optional ≡ true → f.implicit ≡ None
+
+-- what is found of a field with these data, or without
+abbrev pub shown : Field → Option Data → Option Data
+shown f None = None
+shown f (Some d) = cond (is_implicit f.implicit d) None (Some d)

@@ -1,0 +1,43 @@
+-- Where the parts of a struct are looked up, by the form of the struct (IPLD Schemas, "Struct Representation Strategies").
+use Rattle.std.specs.Prelude.{◌≡◌, ℕ, suc, ◌≤◌, List, length, map, Some}
+use Rattle.ild_data.specs.Data as T
+use Rattle.ild_data.specs.Data.{Data, Items}
+use Rattle.ild_cbor.specs.Nodes.{Stands}
+use Rattle.ild_cbor.specs.Steps.{HasItems}
+use Rattle.ild_cbor.specs.declared.piece.Piece.{Piece}
+use Rattle.ild_cbor.specs.declared.piece.Piece.TheVariants as P
+use Rattle.ild_schema.specs.declared.def.StructForm.{StructForm}
+use Rattle.ild_schema.specs.declared.def.StructForm.TheVariants as S
+use Rattle.ild_schema.specs.declared.row.Row.{Row}
+use Rattle.ild_text.specs.Parts.{parts, pairs_in}
+use Rattle.ild_typed.specs.Named.{split_entries}
+use Rattle.ild_typed.specs.Cuts.{parted}
+use Rattle.ild_piece.specs.Pieces.{StandsFor}
+use Rattle.ild_struct.specs.declared.source.Source.{Source}
+use Rattle.ild_struct.specs.declared.source.Source.TheVariants as R
+
+-- how many types a table has that has the union whose discriminant is passed over
+abbrev pub types_of : Piece → ℕ
+types_of (P.Inline n u) = suc u
+types_of p = 0
+
+abbrev pub types_in : Source → ℕ
+types_in (R.Map p) = types_of p
+types_in source = 0
+
+-- the union is in the table
+abbrev pub IsSourced : List Row → Source → Type 0
+IsSourced rows source = types_in source ≤ length rows
+
+-- names with the texts that are their values
+abbrev pub text_entries : List (List ℕ × List ℕ) → List (List ℕ × Data)
+text_entries ps = map {B = List ℕ × Data} (λ p. (p.0, T.text p.1)) ps
+
+-- the data there, in each form
+abbrev pub Shows : List Row → StructForm → Source → Data → Type 0
+Shows rows S.Map (R.Map p) t = StandsFor rows p t
+Shows rows S.Tuple (R.Tuple n) t = Stands n t
+Shows rows S.ListPairs (R.ListPairs s) t = (ds : Items) × (t ≡ T.list ds) × HasItems s ds
+Shows rows (S.StringPairs inner entry) (R.StringPairs split) t = split_entries inner entry t ≡ Some (text_entries (pairs_in split))
+Shows rows (S.StringJoin delim) (R.StringJoin split) t = (s : List ℕ) × (t ≡ T.text s) × (parted delim s ≡ parts split)
+Shows rows form source t = ⊥

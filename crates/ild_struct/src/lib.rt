@@ -1,0 +1,21 @@
+//! One layer of a struct inside a block: which of its fields stand there, and as what, or why the data are none (IPLD
+//! Schemas, "Struct Representation Strategies"). No memory is taken.
+#![tactic(auto)]
+
+mod causes;
+mod field;
+mod fields;
+mod map;
+mod notes;
+mod pair;
+mod pairs;
+mod part;
+mod parts;
+mod read;
+mod source;
+mod texts;
+mod tuple;
+
+pub use part::Part;
+pub use parts::StructParts;
+pub use read::layer;
