@@ -4,6 +4,8 @@
 #[cfg(test)]
 mod acceptance;
 #[cfg(test)]
+mod corners;
+#[cfg(test)]
 mod parts;
 #[cfg(test)]
 mod splits;

@@ -4,8 +4,6 @@
 #[cfg(test)]
 mod compile;
 #[cfg(test)]
-mod corners;
-#[cfg(test)]
 mod lex;
 #[cfg(test)]
 mod parse;
