@@ -1,0 +1,11 @@
+//! Tests of public calls on HAMTs: nodes that are written and read, and whole HAMTs, beside blocks of a plain trie in Python.
+#![tactic(auto)]
+
+#[cfg(test)]
+mod built;
+#[cfg(test)]
+mod nodes;
+#[cfg(test)]
+mod rows;
+#[cfg(test)]
+mod whys;
