@@ -4,9 +4,10 @@ use Rattle.std.specs.Prelude.{is_none}
 use Rattle.std.specs.Ordering.{match_ordering, ordering_reverse}
 use Rattle.std.specs.Cmp.Lexicographic.{same_text as text_same}
 use Rattle.std.proofs.lemmas.Option.{none-some, same_Some}
+use Rattle.std.specs.declared.cmp.Ordering.TheVariants.{Less}
 use Rattle.ild_data.specs.Data as T
 use Rattle.ild_data.specs.Data.{Data}
-use Rattle.ild_data.specs.Key.{same_text, value_at, put, Rises}
+use Rattle.ild_data.specs.Key.{key_cmp, same_text, value_at, put, Rises}
 use Rattle.ild_data.proofs.Rising.{key_cmp_total}
 use Rattle.ild_cbor.specs.declared.why.Why.{Why}
 use Rattle.ild_cbor.specs.declared.why.Why.TheVariants as Y
@@ -47,6 +48,14 @@ or_same true b false true p q = refl
 or_same true b false false p q = absurd cc
 or_same false b c d p q = absurd cc
 
+-- an entry beside another, in the order of their keys
+put_before : (key content : List ℕ) (d e : Data) → key_cmp key content ≡ Less → put key d ((content, e) ∷ []) ≡ (key, d) ∷ (content, e) ∷ []
+put_before key content d e less = ap (λ o. match_ordering o ((key, d) ∷ (content, e) ∷ []) ((key, d) ∷ []) ((content, e) ∷ (key, d) ∷ [])) less
+
+put_behind : (key content : List ℕ) (d e : Data) → key_cmp content key ≡ Less → put key d ((content, e) ∷ []) ≡ (content, e) ∷ (key, d) ∷ []
+put_behind key content d e less =
+    ap (λ o. match_ordering o ((key, d) ∷ (content, e) ∷ []) ((key, d) ∷ []) ((content, e) ∷ (key, d) ∷ [])) (key_cmp_total.antisymm key content ∙ ap ordering_reverse less)
+
 -- what is seen of two entries in the order of their keys
 record IsPair (key content : List ℕ) (d e : Data) (es : List (List ℕ × Data)) : Type 0 where
   whole : put key d ((content, e) ∷ []) ≡ es
@@ -63,7 +72,7 @@ module _ (key content : List ℕ) (d e : Data) (es : List (List ℕ × Data)) (a
       ap (value_at content) is ∙ ap (λ b. cond b (Some d) (cond (same_text content content) (Some e) None)) (unlike content key (λ s. apart (sym s)))
       ∙ ap (λ b. cond b (Some e) None) (same_text_self content) in
       record {
-        whole = ap (λ o. match_ordering o ((key, d) ∷ (content, e) ∷ []) ((key, d) ∷ []) ((content, e) ∷ (key, d) ∷ [])) h.0 ∙ sym is;
+        whole = put_before key content d e h.0 ∙ sym is;
         stranger = ap (has_stranger key content) is ∙ or_same (same_text key key) (same_text content key) (same_text key content) (same_text content content) (same_text_self key) (same_text_self content);
         lacks = λ i. is_none (under i) || is_none (beside i);
         under = under;
@@ -75,7 +84,7 @@ module _ (key content : List ℕ) (d e : Data) (es : List (List ℕ × Data)) (a
       ∙ ap (λ b. cond b (Some d) None) (same_text_self key) in
       let beside : value_at content es ≡ Some e = ap (value_at content) is ∙ ap (λ b. cond b (Some e) (value_at content ((key, d) ∷ []))) (same_text_self content) in
       record {
-        whole = ap (λ o. match_ordering o ((key, d) ∷ (content, e) ∷ []) ((key, d) ∷ []) ((content, e) ∷ (key, d) ∷ [])) (key_cmp_total.antisymm key content ∙ ap ordering_reverse h.0) ∙ sym is;
+        whole = put_behind key content d e h.0 ∙ sym is;
         stranger = ap (has_stranger key content) is ∙ other_same (same_text key content) (same_text content content) (same_text key key) (same_text content key) (same_text_self content) (same_text_self key);
         lacks = λ i. is_none (under i) || is_none (beside i);
         under = under;

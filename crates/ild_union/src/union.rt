@@ -61,7 +61,7 @@ fn of_form<'b>(
 
 /// The number of the member for which a piece stands, and the member's own piece. Else the first cause why it stands for
 /// none. Where the discriminant stands inline, the member's piece passes over the entry of this union's, by its number `ty`
-/// as it is given.
+/// as it is given; the piece itself passes over none then, as a member of such a union is a struct.
 pub fn layer<'b>(acc: &'b Accepted, ty: TypeNo, piece: Piece<'b>) -> Result<(u32, Piece<'b>), Why>
     requires within { ty.0 < length acc.now }
     requires form { IsUnionType acc.now ty.0 }
