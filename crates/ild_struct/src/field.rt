@@ -92,6 +92,7 @@ impl<'b> StructParts<'b> {
         ensures part { (rows : List Row) (ty : ℕ) (t : Data) (os : List (Option Data)) → ArePartsOf rows ty t os self.now → IsFieldOf rows (fields_of self.now) os i result }
         ensures numbered { (rows : List Row) → HasNumber rows result }
     {
+        // It does no work: its clauses say that the names of fields are apart.
         self.acc.types();
         let field = &self.def.fields.as_slice()[i];
         match &self.source {
