@@ -1,5 +1,5 @@
 -- The steps of a descent.
-use Rattle.std.proofs.Common.{◌≡◌, ◌⊎◌, inl, inr, ⊎_elim, ℕ, zero, suc, ◌+◌, ◌≤◌, ◌<◌, nat_le, Bool, true, false, ◌&&◌, is_some, cond, List, [], ◌∷◌, ◌++◌, length, get_or, Option, Some, None, option_map, Result, Ok, Err, refl, sym, ap, ◌∙◌, subst, arith}
+use Rattle.std.proofs.Common.{◌≡◌, ◌⊎◌, inl, inr, ⊎_elim, ℕ, suc, ◌+◌, ◌≤◌, ◌<◌, nat_le, Bool, true, false, ◌&&◌, is_some, cond, List, [], ◌∷◌, ◌++◌, length, get_or, Option, Some, None, option_map, Result, Ok, Err, refl, sym, ap, ◌∙◌, subst, arith}
 use Rattle.std.proofs.lemmas.List.{append-nil, length-append}
 use Rattle.std.proofs.lemmas.Bool.{le-leb, leb-true, cases_lt, false≢true}
 use Rattle.ild_data.specs.Data.{Data}
@@ -55,8 +55,8 @@ no-cause p m held id slots (Cbor fault) n tells node here cause =
 no-cause p m held id slots (NoNode why) n tells node here cause =
     let at : block_at held id ≡ Some cause.block = told m.blocks held (λ blocks. block_at blocks id ≡ Some cause.block) tells cause.at.held in
     let same : cause.block ≡ spell (node_data slots) = (let e : Some cause.block ≡ Some (spell (node_data slots)) = sym at ∙ here in cc) in
-    cause.wrong.other slots node.form ((one_spelling_within cause.wrong.data_in (node_data slots) [] [] cause.wrong.is.within node.is.within
-    (append-nil (spell cause.wrong.data_in) ∙ sym cause.wrong.is.spelled ∙ same ∙ sym (append-nil (spell (node_data slots))))).0)
+    cause.wrong.1.other slots node.form ((one_spelling_within cause.wrong.1.data_in (node_data slots) [] [] cause.wrong.1.is.within node.is.within
+    (append-nil (spell cause.wrong.1.data_in) ∙ sym cause.wrong.1.is.spelled ∙ same ∙ sym (append-nil (spell (node_data slots))))).0)
 
 pub record OnTrie (h : List ℕ → List ℕ) (p : TrieShape) (k : List ℕ) (held : List (List ℕ)) (es : List (List ℕ × Data)) (bs : List (List ℕ)) (last : List TrieSlot) : Type 0 where
   pub less : ℕ

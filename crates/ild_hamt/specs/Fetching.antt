@@ -12,6 +12,7 @@ use Rattle.ild_data.specs.Trie.{TrieSlot, node_data}
 use Rattle.ild_node.specs.Form.{IsNode}
 use Rattle.ild_cbor.specs.declared.why.BlockWhy.{BlockWhy}
 use Rattle.ild_cbor.specs.declared.why.BlockWhy.TheVariants.{Missing, Cbor, Shape as NoNode}
+use Rattle.ild_cbor.specs.declared.why.Why.TheVariants.{Trie}
 use Rattle.ild_node.specs.declared.fault.HamtFault.{HamtFault}
 use Rattle.ild_node.specs.declared.fault.HamtFault.TheVariants.{Block, Store, Memory}
 
@@ -32,7 +33,7 @@ abbrev pub Judges : TrieShape → List ℕ → Option BlockWhy → Type 0
 Judges p b None = IsNodeBlock p b
 Judges p b (Some Missing) = ⊥
 Judges p b (Some (Cbor fault)) = fault_of b ≡ Some fault
-Judges p b (Some (NoNode why)) = IsOtherBlock p b
+Judges p b (Some (NoNode why)) = (why ≡ Trie) × IsOtherBlock p b
 
 -- the block under an id
 pub record IsBlockAt (m : Moment) (id b : List ℕ) : Type 0 where

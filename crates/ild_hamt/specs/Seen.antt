@@ -1,5 +1,5 @@
 -- What a slot holds and what a search finds, without the places where it stands.
-use Rattle.std.specs.Prelude.{◌≡◌, List, Option, Some, None}
+use Rattle.std.specs.Prelude.{◌≡◌, Option, Some, None}
 use Rattle.ild_data.specs.Data.{Data}
 use Rattle.ild_data.specs.Trie.{TrieSlot, empty, bucket, child}
 use Rattle.ild_cbor.specs.Nodes.{Stands}

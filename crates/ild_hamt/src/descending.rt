@@ -1,43 +1,19 @@
 //! Reading the nodes on a key's way.
-ghost use Rattle.std.specs.Prelude.{◌≡◌, ◌<◌, ◌+◌, ◌&&◌, nat_le, is_some, ℕ, List, option_map};
+ghost use Rattle.std.specs.Prelude.{◌≡◌, ◌<◌, ◌+◌, ◌&&◌, nat_le, is_some, List};
 ghost use Rattle.ild_data.specs.Trie.{TrieSlot};
 ghost use Rattle.ild_data.specs.TrieShape.{trie_levels};
 ghost use Rattle.ild_typed.specs.Composed.{usual};
 ghost use Rattle.ild_node.specs.Views.{HasSlots};
-ghost use Rattle.ild_hamt.specs.Way.{IsNodeOf, slot_for, child_id};
 ghost use Rattle.ild_hamt.specs.Descending.{Descends};
 
-use crate::ending::{LEVELS, end_slot, is_full, slot_at};
-use crate::fetching::fetch;
-use crate::reading::view_in;
+use crate::ending::{LEVELS, end_slot, is_full};
+use crate::reaching::{child_at, reach};
 use crate::trail::Trail;
 use ild_cbor::{BlockWhy, Why};
-use ild_data::{BlockId, KeyHash, Octets, Txt};
+use ild_data::{BlockId, KeyHash, Txt};
 use ild_edges::Store;
-use ild_node::{HamtFault, NodeSlot, NodeView};
+use ild_node::{HamtFault, NodeView};
 use std::alloc::Global;
-
-// The id of the child on the way of a hash.
-fn child_at(view: NodeView<'_>, hash: &[u8; 32], depth: u32) -> Option<BlockId>
-    requires { depth < trie_levels usual }
-    ensures { (slots : List TrieSlot) → HasSlots usual view.entry slots → option_map (λ id. id.0) result ≡ child_id (slot_for usual hash.now depth slots) }
-{
-    match slot_at(view, hash, depth) {
-        NodeSlot::Child(id) => Some(id),
-        NodeSlot::Empty => None,
-        NodeSlot::Bucket(_) => None,
-    }
-}
-
-fn child_in(block: &[u8], hash: &[u8; 32], depth: u32) -> Option<BlockId>
-    requires { depth < trie_levels usual }
-    ensures { (slots : List TrieSlot) → IsNodeOf usual block.now slots → option_map (λ id. id.0) result ≡ child_id (slot_for usual hash.now depth slots) }
-{
-    match view_in(block) {
-        Some(view) => child_at(view, hash, depth),
-        None => None,
-    }
-}
 
 // Whether the node at a depth has a child, for which no level is left.
 fn is_beyond(child: Option<BlockId>, depth: u32) -> bool
@@ -63,16 +39,16 @@ pub fn descend<K: Store, H: KeyHash>(
     let mut depth: u32 = 0;
     let mut next = child_at(root, &hash, 0);
     while let Some(id) = next {
-        let block = fetch(&id, store)?;
         depth += 1;
-        next = child_in(block.as_slice(), &hash, depth);
-        if is_beyond(next, depth) {
+        let reached = reach(&id, &hash, depth, store)?;
+        if is_beyond(reached.child, depth) {
             return Err(HamtFault::Block {
                 id,
                 why: BlockWhy::Shape(Why::Trie),
             });
         }
-        blocks.push(block)?;
+        next = reached.child;
+        blocks.push(reached.block)?;
     }
     let slot = end_slot(root, &blocks, &hash, depth);
     let exhausted = is_full(slot, key, &hash, depth + 1, keys);

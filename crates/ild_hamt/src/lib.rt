@@ -3,12 +3,11 @@
 
 mod descending;
 mod ending;
-mod fetching;
+mod reaching;
 mod reading;
 mod trail;
 
 pub use descending::descend;
-pub use fetching::fetch;
 pub use ild_data::{KeyHash, PadKeys, Sha256Keys};
 pub use ild_node::HamtFault;
 pub use trail::Trail;

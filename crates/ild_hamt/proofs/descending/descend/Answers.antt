@@ -4,18 +4,18 @@ use Rattle.ild_typed.specs.Composed.{usual}
 use Rattle.ild_hamt.proofs.Going.{going-stopped, going-beyond, going-more, going-full, going-unnamed, going-done, going-start, room-next, stands-at}
 use Rattle.ild_hamt.proofs.descending.descend.Goals as goal
 
-pub returns-in_err-block : goal.returns-in_err-block
-returns-in_err-block g c = λ slots has.
+pub returns-in_err-reached : goal.returns-in_err-reached
+returns-in_err-reached g c = λ slots has.
     let p = err_from_is_err_and c.from_residual.result c.from_residual.ensures.1 in
     let inv = rw c.in-Some.is at c.loop-next.invariant in
     rw (p.1, p.2) (going-stopped g.H.KeyHash.hash_of usual c.args.key.now c.hash-hash.result slots _ _ c.loop-next.depth _ _ _ _ (omega arith)
-    (c.hash-hash.ensures ∙ ap g.H.KeyHash.hash_of c.as_bytes.ensures.value) (inv.2 slots has) (inv.1 refl) c.in_err-block.ensures)
+    (c.hash-hash.ensures ∙ ap g.H.KeyHash.hash_of c.as_bytes.ensures.value) (inv.2 slots has) (inv.1 refl) c.in_err-reached.ensures.fetched)
 
 pub returns-then-is_beyond : goal.returns-then-is_beyond
 returns-then-is_beyond g c = λ slots has.
     let inv = rw c.in-Some.is at c.loop-next.invariant in
     going-beyond g.H.KeyHash.hash_of usual c.args.key.now c.hash-hash.result slots _ _ c.loop-next.depth c.in-Some.id _ _ _ _ (c.loop-next.depth + 1) (omega arith)
-    (c.hash-hash.ensures ∙ ap g.H.KeyHash.hash_of c.as_bytes.ensures.value) (inv.2 slots has) c.in_ok-block.ensures refl (inv.1 refl) (rw c.as_slice.ensures.same at c.child_in-next.ensures)
+    (c.hash-hash.ensures ∙ ap g.H.KeyHash.hash_of c.as_bytes.ensures.value) (inv.2 slots has) c.in_ok-reached.ensures.fetched refl (inv.1 refl) c.in_ok-reached.ensures.child
     (sym c.is_beyond.ensures ∙ c.if-is_beyond.true)
 
 pub loop-next-preserved : goal.loop-next-preserved
@@ -24,8 +24,8 @@ loop-next-preserved g c =
       inv.1 refl,
       room-next usual _ (c.loop-next.depth + 1) (sym c.is_beyond.ensures ∙ c.if-is_beyond.false),
       λ slots has.
-          going-more usual c.hash-hash.result slots _ _ c.loop-next.depth _ _ _ _ c.push.new.self.items (c.loop-next.depth + 1) _ (inv.2 slots has) c.in_ok-block.ensures refl
-          (inv.1 refl) (rw c.as_slice.ensures.same at c.child_in-next.ensures) c.in_ok-push.ensures.items,
+          going-more usual c.hash-hash.result slots _ _ c.loop-next.depth _ _ _ _ c.push.new.self.items (c.loop-next.depth + 1) _ (inv.2 slots has) c.in_ok-reached.ensures.fetched refl
+          (inv.1 refl) c.in_ok-reached.ensures.child c.in_ok-push.ensures.items,
     )
 
 pub returns-in_err-push : goal.returns-in_err-push
@@ -33,7 +33,7 @@ returns-in_err-push g c = λ slots has.
     let p = err_from_is_err_and c.from_residual-in_err-push.result c.from_residual-in_err-push.ensures.1 in
     let inv = rw c.in-Some.is at c.loop-next.invariant in
     rw (p.1, p.2) (going-full g.H.KeyHash.hash_of usual c.args.key.now c.hash-hash.result slots _ _ c.loop-next.depth _ _ _ _ (omega arith)
-    (c.hash-hash.ensures ∙ ap g.H.KeyHash.hash_of c.as_bytes.ensures.value) (inv.2 slots has) (inv.1 refl) c.in_ok-block.ensures)
+    (c.hash-hash.ensures ∙ ap g.H.KeyHash.hash_of c.as_bytes.ensures.value) (inv.2 slots has) (inv.1 refl) c.in_ok-reached.ensures.fetched)
 
 pub returns-in_err-key : goal.returns-in_err-key
 returns-in_err-key g c = λ slots has.
@@ -49,8 +49,8 @@ returns g c = λ slots has.
     (c.hash-hash.ensures ∙ ap g.H.KeyHash.hash_of c.as_bytes.ensures.value) (inv.2 slots has) c.in_ok-key.ensures refl refl
     (stands-at c.args.root c.end_slot-slot.result c.hash-hash.result c.loop-next.depth slots c.deref.result.now _ c.deref.ensures.value has c.end_slot-slot.ensures) (λ y at. c.is_full-exhausted.ensures y at)
 
-pub child_in-next-requires : goal.child_in-next-requires
-child_in-next-requires g c = let inv = rw c.in-Some.is at c.loop-next.invariant in inv.1 refl
+pub reach-requires : goal.reach-requires
+reach-requires g c = let inv = rw c.in-Some.is at c.loop-next.invariant in inv.1 refl
 
 pub is_beyond-requires : goal.is_beyond-requires
 is_beyond-requires g c = let inv = rw c.in-Some.is at c.loop-next.invariant in inv.1 refl

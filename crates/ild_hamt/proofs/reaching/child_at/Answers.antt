@@ -1,6 +1,5 @@
-use Rattle.ild_data.specs.TrieShape.{index}
 use Rattle.ild_hamt.proofs.Shown.{child-shown, empty-shown, bucket-shown}
-use Rattle.ild_hamt.proofs.descending.child_at.Goals as goal
+use Rattle.ild_hamt.proofs.reaching.child_at.Goals as goal
 
 pub returns-in-Child : goal.returns-in-Child
 returns-in-Child c = λ slots has. child-shown c.in-Child.id _ (rw c.in-Child.is at c.slot_at.ensures slots has)

@@ -1,0 +1,74 @@
+//! Reading one node on a key's way from a store.
+ghost use Rattle.std.specs.Prelude.{◌≡◌, ◌<◌, List, IfOk, option_map};
+ghost use Rattle.ild_data.specs.Trie.{TrieSlot};
+ghost use Rattle.ild_data.specs.TrieShape.{trie_levels};
+ghost use Rattle.ild_typed.specs.Composed.{usual};
+ghost use Rattle.ild_node.specs.Views.{HasSlots};
+ghost use Rattle.ild_hamt.specs.Fetching.{Fetches, Judges};
+ghost use Rattle.ild_hamt.specs.Reaching.{refusal_of, reached_block};
+ghost use Rattle.ild_hamt.specs.Way.{IsNodeOf, slot_for, child_id};
+
+use crate::ending::slot_at;
+use ild_cbor::{BlockWhy, check};
+use ild_data::{BlockId, Octets};
+use ild_edges::{EdgeErr, Store};
+use ild_node::{HamtFault, NodeSlot, NodeView, node_of};
+
+/// The block of a node, and the id of its child on a key's way.
+#[derive(Drop)]
+pub(crate) struct Reached {
+    pub(crate) block: Octets,
+    pub(crate) child: Option<BlockId>,
+}
+
+/// The id of the child on the way of a hash.
+pub(crate) fn child_at(view: NodeView<'_>, hash: &[u8; 32], depth: u32) -> Option<BlockId>
+    requires { depth < trie_levels usual }
+    ensures { (slots : List TrieSlot) → HasSlots usual view.entry slots → option_map (λ id. id.0) result ≡ child_id (slot_for usual hash.now depth slots) }
+{
+    match slot_at(view, hash, depth) {
+        NodeSlot::Child(id) => Some(id),
+        NodeSlot::Empty => None,
+        NodeSlot::Bucket(_) => None,
+    }
+}
+
+// The same of a block, or what is wrong with it.
+fn child_in(block: &[u8], hash: &[u8; 32], depth: u32) -> Result<Option<BlockId>, BlockWhy>
+    requires { depth < trie_levels usual }
+    ensures judged { Judges usual block.now (refusal_of result) }
+    ensures child { (slots : List TrieSlot) → IsNodeOf usual block.now slots → IfOk result (λ c. option_map (λ id. id.0) c ≡ child_id (slot_for usual hash.now depth slots)) }
+{
+    match check(block) {
+        Err(fault) => Err(BlockWhy::Cbor(fault)),
+        Ok(node) => match node_of(node) {
+            Ok(view) => Ok(child_at(view, hash, depth)),
+            Err(why) => Err(BlockWhy::Shape(why)),
+        },
+    }
+}
+
+/// The node with an id, which stands at a depth, by one get of the store; or why it isn't to be had.
+pub(crate) fn reach<K: Store>(
+    id: &BlockId,
+    hash: &[u8; 32],
+    depth: u32,
+    store: &mut K,
+) -> Result<Reached, HamtFault>
+    requires { depth < trie_levels usual }
+    ensures fetched { Fetches usual (K.moment store.old) id.now.0 (reached_block result) (K.moment store.new) }
+    ensures child { IfOk result (λ r. (slots : List TrieSlot) → IsNodeOf usual r.block slots → option_map (λ id. id.0) r.child ≡ child_id (slot_for usual hash.now depth slots)) }
+{
+    match store.get(id) {
+        Ok(Some(block)) => match child_in(block.as_slice(), hash, depth) {
+            Ok(child) => Ok(Reached { block, child }),
+            Err(why) => Err(HamtFault::Block { id: *id, why }),
+        },
+        Ok(None) => Err(HamtFault::Block {
+            id: *id,
+            why: BlockWhy::Missing,
+        }),
+        Err(EdgeErr::Failed) => Err(HamtFault::Store),
+        Err(EdgeErr::Memory) => Err(HamtFault::Memory),
+    }
+}
