@@ -6,4 +6,6 @@ mod enums;
 #[cfg(test)]
 mod said;
 #[cfg(test)]
+mod structs;
+#[cfg(test)]
 mod unions;
