@@ -1,0 +1,4 @@
+pub mod Reads
+pub mod Ask
+pub mod Lines
+pub mod LinesLaws

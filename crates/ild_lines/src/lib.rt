@@ -1,0 +1,6 @@
+//! The lines of a script on typed values: definitions of what each is due, and laws as the contracts of functions without a body.
+#![tactic(auto)]
+
+mod laws;
+
+pub use laws::refused_lines_leave_the_state;
