@@ -2,3 +2,4 @@ pub mod Reads
 pub mod Ask
 pub mod Lines
 pub mod LinesLaws
+pub mod PlainMap
