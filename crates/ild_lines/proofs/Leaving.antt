@@ -1,11 +1,10 @@
 -- Refused lines leave the state.
-use Rattle.std.proofs.Common.{◌≡◌, List, [], Bool, false, Option, Some, None, Ok, Err, Result, refl, sym, ◌∙◌, ap}
+use Rattle.std.proofs.Common.{◌≡◌, [], Option, Some, None, Ok, Err, Result, refl}
 use Rattle.std.proofs.lemmas.Option.{same_Some}
 use Rattle.ild_data.specs.Data as D
 use Rattle.ild_json.specs.Printing.{json_text}
 use Rattle.ild_schema.specs.Value.{Value}
 use Rattle.ild_script.specs.declared.reply.No.{No}
-use Rattle.ild_script.specs.declared.reply.Reply.{Reply}
 use Rattle.ild_script.specs.declared.reply.Reply.TheVariants as R
 use Rattle.ild_session.specs.Session.{State, Due}
 use Rattle.ild_lines.specs.Ask.{Ask, nothing, to_tell, to_edit, to_tell_root, to_begin, to_commit, to_abort, unknown}

@@ -1,2 +1,5 @@
 pub mod Leaving
 pub mod PlainValues
+pub mod PlainJudged
+pub mod PlainChanges
+pub mod PlainLines

@@ -1,8 +1,7 @@
 -- A plain map as a typed value: its entries, its data, and how it is judged.
-use Rattle.std.proofs.Common.{◌≡◌, ℕ, zero, suc, ℤ, List, [], ◌∷◌, ◌++◌, map, length, Bool, true, false, cond, Option, Some, None, refl, sym, ◌∙◌, ap, subst, arith}
-use Rattle.std.specs.Prelude.{◌≤◌, ◌||◌, ◌&&◌, IsUtf8, IsSomeAnd, not, nat_le, option_map, if◌then◌else◌}
+use Rattle.std.proofs.Common.{◌≡◌, ℕ, ℤ, List, [], ◌∷◌, ◌++◌, map, Bool, true, false, Option, Some, refl, sym, ap, subst, arith}
+use Rattle.std.specs.Prelude.{IsUtf8, option_map, if◌then◌else◌}
 use Rattle.std.specs.List.{AllByRecursion}
-use Rattle.std.specs.Option.{option_map_or}
 use Rattle.std.specs.Ordering.{match_ordering}
 use Rattle.std.specs.declared.cmp.Ordering.{Ordering}
 use Rattle.std.specs.declared.cmp.Ordering.TheVariants.{Less, Equal, Greater}
@@ -10,7 +9,6 @@ use Rattle.ild_data.specs.Data as T
 use Rattle.ild_data.specs.Data.{Data}
 use Rattle.ild_data.specs.Integer.{IsInt}
 use Rattle.ild_data.specs.Key.{key_cmp, same_text, put, value_at, without, IsBelow, Rises}
-use Rattle.ild_data.specs.Limits.{longest_block}
 use Rattle.ild_schema.specs.declared.def.TypeDef.{TypeDef}
 use Rattle.ild_schema.specs.declared.def.MapForm.TheVariants as MF
 use Rattle.ild_schema.specs.declared.number.Slot.{Slot}
@@ -19,20 +17,16 @@ use Rattle.ild_schema.specs.Prelude.{number}
 use Rattle.ild_schema.specs.Slots.{form_of, plainly}
 use Rattle.ild_schema.specs.Value as V
 use Rattle.ild_schema.specs.Value.{pairs_of, pairs_list}
-use Rattle.ild_script.specs.declared.reply.No.{No}
-use Rattle.ild_script.specs.declared.reply.No.TheVariants as N
 use Rattle.ild_typed.specs.Blocks.{nodes_of_pairs}
 use Rattle.ild_typed.specs.EachLayer.{some_pair}
 use Rattle.ild_typed.specs.Fits.{FitsPast, Fits}
-use Rattle.ild_typed.specs.Hamt.{whole, alone}
-use Rattle.ild_typed.specs.Judged.{has_hole, breaks_delimiter, exhausts, is_hole, breaks, is_exhausted}
+use Rattle.ild_typed.specs.Hamt.{whole}
 use Rattle.ild_typed.specs.Layer as L
 use Rattle.ild_typed.specs.Layers.{EntriesFit, Shows}
 use Rattle.ild_typed.specs.Strings.{cons_both}
 use Rattle.ild_typed.specs.Represented.{represented, represented_pairs, layered}
 use Rattle.ild_typed.specs.Stands.{bare, blocks_of}
 use Rattle.ild_typed.proofs.Lists.{pairs_list-pairs_of}
-use Rattle.ild_edits.specs.Judged.{Tests, AreTests, judged, are_sized}
 use Rattle.ild_plain.specs.Value as P
 use Rattle.ild_lines.specs.PlainMap.{plain_rows, int_entry, as_value, IsPlain}
 
@@ -53,7 +47,7 @@ entry_put k n (e ∷ v) = by (key_cmp k e.0) (entry_put k n v)
   where
     by : (o : Ordering) → put k (V.integer n) (map int_entry v) ≡ map int_entry (put k n v)
         → match_ordering o ((k, V.integer n) ∷ int_entry e ∷ map int_entry v) ((k, V.integer n) ∷ map int_entry v) (int_entry e ∷ put k (V.integer n) (map int_entry v))
-          ≡ map int_entry (match_ordering o ((k, n) ∷ e ∷ v) ((k, n) ∷ v) (e ∷ put k n v))
+        ≡ map int_entry (match_ordering o ((k, n) ∷ e ∷ v) ((k, n) ∷ v) (e ∷ put k n v))
     by Less h = refl
     by Equal h = refl
     by Greater h = ap (λ es. int_entry e ∷ es) h
@@ -99,7 +93,7 @@ module _ (name : List ℕ) (at key_at value_at : ℕ) where
   pub one_block : (h : List ℕ → List ℕ) (v : P.Value) → blocks_of bare h R (number 8) (as_value v) (P.rep_of v) ≡ P.blocks_of v
   one_block h v = ap (λ bs. P.block_of v ∷ (bs ++ [])) (no_nodes h v)
 
-  no_layer : (test : Option TypeDef → V.Value → Bool) (v : P.Value) → some_pair test R int_slot (pairs_of (map int_entry v)) ≡ false
+  pub no_layer : (test : Option TypeDef → V.Value → Bool) (v : P.Value) → some_pair test R int_slot (pairs_of (map int_entry v)) ≡ false
   no_layer test [] = refl
   no_layer test (e ∷ v) = no_layer test v
 

@@ -3,3 +3,4 @@ pub mod Ask
 pub mod Lines
 pub mod LinesLaws
 pub mod PlainMap
+pub mod PlainLaws

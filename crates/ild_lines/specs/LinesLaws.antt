@@ -1,5 +1,5 @@
 -- The laws of lines on typed values.
-use Rattle.std.specs.Prelude.{◌≡◌, List, [], Some}
+use Rattle.std.specs.Prelude.{◌≡◌, [], Some}
 use Rattle.ild_schema.specs.Value.{Value}
 use Rattle.ild_script.specs.declared.reply.No.{No}
 use Rattle.ild_script.specs.declared.reply.Reply.TheVariants as R

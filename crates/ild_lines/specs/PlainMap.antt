@@ -1,5 +1,5 @@
 -- A plain map from texts to integers as a typed value: its table, its values and its states.
-use Rattle.std.specs.Prelude.{◌≡◌, ℕ, ℤ, List, [], ◌∷◌, ◌++◌, map, IsUtf8, Option, Some, option_map}
+use Rattle.std.specs.Prelude.{◌≡◌, ℕ, ℤ, List, [], ◌∷◌, ◌++◌, map, IsUtf8, Some, option_map}
 use Rattle.std.specs.List.{AllByRecursion}
 use Rattle.std.specs.Result.{result_ok}
 use Rattle.ild_data.specs.Data.{Data}

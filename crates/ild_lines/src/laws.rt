@@ -1,7 +1,14 @@
 //! Laws of the lines of a script on typed values.
 ghost use Rattle.ild_lines.specs.LinesLaws.{RefusedLeave};
+ghost use Rattle.ild_lines.specs.PlainLaws.{SaysPlainMap};
 
 /// A line that is refused leaves the state, and no block may come.
 pub fn refused_lines_leave_the_state()
     ensures { RefusedLeave }
+{}
+
+/// On a map from texts to integers, the lines that a plain map knows mean the same as on a plain map: the same reply, the same value, and
+/// the same blocks may come. A plain map knows `get`, `set` and `del` of a path that is not the root's, and `root`.
+pub fn lines_say_what_a_plain_map_says()
+    ensures { SaysPlainMap }
 {}

@@ -3,4 +3,4 @@
 
 mod laws;
 
-pub use laws::refused_lines_leave_the_state;
+pub use laws::{lines_say_what_a_plain_map_says, refused_lines_leave_the_state};
