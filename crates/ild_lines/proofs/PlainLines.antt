@@ -36,7 +36,7 @@ use Rattle.ild_plain.specs.Plain as P
 use Rattle.ild_plain.specs.Value as PV
 use Rattle.ild_session.specs.Session.{State, idle}
 use Rattle.ild_lines.specs.Ask.{Ask, to_edit, shown_form, asked, asked_by}
-use Rattle.ild_lines.specs.Lines.{Setting, due, edit_due, root_reply, value_blocks, printed_or, read_reply, told, show}
+use Rattle.ild_lines.specs.Lines.{Setting, due, edit_due, edit_gets, edit_puts, changed, root_reply, value_blocks, printed_or, read_reply, told, show}
 use Rattle.ild_lines.specs.PlainLaws.{SaysPlainMap}
 use Rattle.ild_lines.specs.PlainMap.{plain_rows, as_value, IsPlain, plain_setting, IsBelowRoot, MeansTree, IsKnown, IsKnownBy, SameDue}
 use Rattle.ild_lines.proofs.PlainValues.{data_is, one_block}
@@ -95,12 +95,12 @@ same_printed None = refl
 same_printed (Some text) = refl
 
 module _ (name : List ℕ) (at key_at value_place : ℕ) (h : List ℕ → List ℕ) (t : Tests) (tests : AreTests (plain_rows name at key_at value_place) t)
-    (children : V.Value → List ℕ → List (List ℕ)) (gets puts : Ask → State V.Value → ℕ) where
+    (children : V.Value → List ℕ → List (List ℕ)) where
   abbrev Q : List Row
   Q = plain_rows name at key_at value_place
 
   abbrev w : Setting
-  w = plain_setting h Q t children gets puts
+  w = plain_setting h Q t children
 
   root_is : (v : PV.Value) → root_reply w (as_value v) ≡ P.root_reply v
   root_is v = ap (λ o. R.Root (record { 0 = option_map_or (root_id bare) o [] })) (data_is name at key_at value_place h v)
@@ -109,22 +109,22 @@ module _ (name : List ℕ) (at key_at value_place : ℕ) (h : List ℕ → List 
   blocks_are v =
       ap (λ o. option_map_or (λ d. blocks_of bare h Q (number 8) (as_value v) d) o []) (data_is name at key_at value_place h v) ∙ one_block name at key_at value_place h v
 
-  edit_by : (a : Ask) (v c : PV.Value) (b : Bool)
-      → SameDue (P.edited (if b then Ok c else Err N.Size) (idle v)) (edit_due w a (idle (as_value v)) (unless_judged (as_value c) (if b then None else Some N.Size)))
-  edit_by a v c true = record { reply = ap Some (root_is c); next = refl; adds = blocks_are c }
-  edit_by a v c false = record { reply = refl; next = refl; adds = refl }
+  edit_by : (gets puts : ℕ) (v c : PV.Value) (b : Bool)
+      → SameDue (P.edited (if b then Ok c else Err N.Size) (idle v)) (edit_due w gets puts (idle (as_value v)) (unless_judged (as_value c) (if b then None else Some N.Size)))
+  edit_by gets puts v c true = record { reply = ap Some (root_is c); next = refl; adds = blocks_are c }
+  edit_by gets puts v c false = record { reply = refl; next = refl; adds = refl }
 
-  edit_same : (a : Ask) (v : PV.Value) (r : Result PV.Value No) → MakesPlain r
-      → SameDue (P.edited (PC.judged r) (idle v)) (edit_due w a (idle (as_value v)) (judged_result bare h Q t (number 8) (lifted r)))
-  edit_same a v (Err refusal) plain = record { reply = refl; next = refl; adds = refl }
-  edit_same a v (Ok c) plain =
-      subst (λ o. SameDue (P.edited (PC.judged (Ok c)) (idle v)) (edit_due w a (idle (as_value v)) (unless_judged (as_value c) o)))
-      (sym (plain_judged name at key_at value_place h t tests c plain)) (edit_by a v c (PV.is_storable c))
+  edit_same : (gets puts : ℕ) (v : PV.Value) (r : Result PV.Value No) → MakesPlain r
+      → SameDue (P.edited (PC.judged r) (idle v)) (edit_due w gets puts (idle (as_value v)) (judged_result bare h Q t (number 8) (lifted r)))
+  edit_same gets puts v (Err refusal) plain = record { reply = refl; next = refl; adds = refl }
+  edit_same gets puts v (Ok c) plain =
+      subst (λ o. SameDue (P.edited (PC.judged (Ok c)) (idle v)) (edit_due w gets puts (idle (as_value v)) (unless_judged (as_value c) o)))
+      (sym (plain_judged name at key_at value_place h t tests c plain)) (edit_by gets puts v c (PV.is_storable c))
 
-  edit_is : (a : Ask) (v : PV.Value) (r : Result PV.Value No) (changed : Result V.Value No) → changed ≡ lifted r → MakesPlain r
-      → SameDue (P.edited (PC.judged r) (idle v)) (edit_due w a (idle (as_value v)) (judged_result bare h Q t (number 8) changed))
-  edit_is a v r changed e plain =
-      subst (λ x. SameDue (P.edited (PC.judged r) (idle v)) (edit_due w a (idle (as_value v)) (judged_result bare h Q t (number 8) x))) (sym e) (edit_same a v r plain)
+  edit_is : (gets puts : ℕ) (v : PV.Value) (r : Result PV.Value No) (changed : Result V.Value No) → changed ≡ lifted r → MakesPlain r
+      → SameDue (P.edited (PC.judged r) (idle v)) (edit_due w gets puts (idle (as_value v)) (judged_result bare h Q t (number 8) changed))
+  edit_is gets puts v r changed e plain =
+      subst (λ x. SameDue (P.edited (PC.judged r) (idle v)) (edit_due w gets puts (idle (as_value v)) (judged_result bare h Q t (number 8) x))) (sym e) (edit_same gets puts v r plain)
 
   got_by : (o : Option ℤ) → told (option_map (show w) (option_and_then (λ q. Some q) (option_map (λ x. (plainly (number 3), x)) (option_map V.integer o)))) ≡ P.shown o
   got_by None = refl
@@ -146,10 +146,10 @@ module _ (name : List ℕ) (at key_at value_place : ℕ) (h : List ℕ → List 
       → SameDue (P.due (P.asked_by verb path json) (idle v)) (due w (asked_by verb path json) (idle (as_value v)))
   by_word W.Get path json v plain known = record { reply = ap Some (got_is path v known); next = refl; adds = refl }
   by_word W.Set path json v plain known =
-      edit_is (to_edit (set_at path json)) v (PC.change (PC.set_at path json) v) (line_change Q t.is_key (λ j. result_ok (json_read j)) (plainly (number 8), as_value v) (set_at path json))
+      edit_is (edit_gets w (idle (as_value v)) (set_at path json) None) (edit_puts w (idle (as_value v)) (set_at path json) (changed w (as_value v) (set_at path json)) None) v (PC.change (PC.set_at path json) v) (line_change Q t.is_key (λ j. result_ok (json_read j)) (plainly (number 8), as_value v) (set_at path json))
       (set_is name at key_at value_place t.is_key tests.keys path json v known.0) (set_plain path json v plain known.0 known.1)
   by_word W.Del path json v plain known =
-      edit_is (to_edit (del_at path)) v (PC.change (PC.del_at path) v) (line_change Q t.is_key (λ j. result_ok (json_read j)) (plainly (number 8), as_value v) (del_at path))
+      edit_is (edit_gets w (idle (as_value v)) (del_at path) None) (edit_puts w (idle (as_value v)) (del_at path) (changed w (as_value v) (del_at path)) None) v (PC.change (PC.del_at path) v) (line_change Q t.is_key (λ j. result_ok (json_read j)) (plainly (number 8), as_value v) (del_at path))
       (del_is name at key_at value_place t.is_key tests.keys path v known) (del_plain path v plain)
   by_word W.Root path json v plain known = record { reply = ap Some (root_is v); next = refl; adds = refl }
   by_word verb path json v plain known = absurd known
@@ -160,4 +160,4 @@ module _ (name : List ℕ) (at key_at value_place : ℕ) (h : List ℕ → List 
   by_reading v plain (command c) known = by_word c.verb c.path c.json v plain known
 
 pub says_plain_map : SaysPlainMap
-says_plain_map name at key_at value_place hash tests are children gets puts v plain line known = by_reading name at key_at value_place hash tests are children gets puts v plain line known
+says_plain_map name at key_at value_place hash tests are children v plain line known = by_reading name at key_at value_place hash tests are children v plain line known

@@ -13,5 +13,5 @@ use Rattle.ild_lines.specs.PlainMap.{plain_rows, as_value, IsPlain, plain_settin
 abbrev pub SaysPlainMap : Type 0
 SaysPlainMap =
     (name : List ℕ) (at key_at value_at : ℕ) (hash : List ℕ → List ℕ) (tests : Tests) → AreTests (plain_rows name at key_at value_at) tests
-    → (children : Value → List ℕ → List (List ℕ)) (gets puts : Ask → State Value → ℕ) (v : PV.Value) → IsPlain v → (line : Reading) → IsKnown line
-    → SameDue (P.due (P.asked line) (idle v)) (due (plain_setting hash (plain_rows name at key_at value_at) tests children gets puts) (asked line) (idle (as_value v)))
+    → (children : Value → List ℕ → List (List ℕ)) (v : PV.Value) → IsPlain v → (line : Reading) → IsKnown line
+    → SameDue (P.due (P.asked line) (idle v)) (due (plain_setting hash (plain_rows name at key_at value_at) tests children) (asked line) (idle (as_value v)))

@@ -49,9 +49,8 @@ pub record IsPlain (v : P.Value) : Type 0 where
   pub each : AllByRecursion (λ e. IsUtf8 e.0 × IsInt e.1) v
 
 -- the setting of its lines, over bare roots
-abbrev pub plain_setting : (List ℕ → List ℕ) → List Row → Tests → (V.Value → List ℕ → List (List ℕ)) → (Ask → State V.Value → ℕ) → (Ask → State V.Value → ℕ) → Setting
-plain_setting hash rows tests children gets puts =
-    record { frame = bare; hash = hash; rows = rows; tests = tests; ty = number 8; children = children; gets = gets; puts = puts }
+abbrev pub plain_setting : (List ℕ → List ℕ) → List Row → Tests → (V.Value → List ℕ → List (List ℕ)) → Setting
+plain_setting hash rows tests children = record { frame = bare; hash = hash; rows = rows; tests = tests; ty = number 8; children = children }
 
 -- ---- the lines that a plain map knows: of a path that is not the root's
 
