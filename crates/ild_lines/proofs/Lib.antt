@@ -3,3 +3,5 @@ pub mod PlainValues
 pub mod PlainJudged
 pub mod PlainChanges
 pub mod PlainLines
+pub mod Holding
+mod Examples

@@ -34,8 +34,8 @@ use Rattle.ild_edits.specs.Judged.{Tests, AreTests, judged_result, unless_judged
 use Rattle.ild_plain.specs.Change as PC
 use Rattle.ild_plain.specs.Plain as P
 use Rattle.ild_plain.specs.Value as PV
-use Rattle.ild_session.specs.Session.{State, idle}
-use Rattle.ild_lines.specs.Ask.{Ask, to_edit, shown_form, asked, asked_by}
+use Rattle.ild_session.specs.Session.{idle}
+use Rattle.ild_lines.specs.Ask.{shown_form, asked, asked_by}
 use Rattle.ild_lines.specs.Lines.{Setting, due, edit_due, edit_gets, edit_puts, changed, root_reply, value_blocks, printed_or, read_reply, told, show}
 use Rattle.ild_lines.specs.PlainLaws.{SaysPlainMap}
 use Rattle.ild_lines.specs.PlainMap.{plain_rows, as_value, IsPlain, plain_setting, IsBelowRoot, MeansTree, IsKnown, IsKnownBy, SameDue}

@@ -22,7 +22,7 @@ use Rattle.ild_typed.specs.Composed.{usual}
 use Rattle.ild_typed.specs.Hamt.{whole}
 use Rattle.ild_typed.specs.Represented.{represented_pairs}
 use Rattle.ild_meant.specs.MeantRead.{meant}
-use Rattle.ild_edits.specs.Edit.{Edit, set_at, ins_at, del_at, path_of, new_slot}
+use Rattle.ild_edits.specs.Edit.{Edit, set_at, ins_at, del_at, new_slot}
 use Rattle.ild_lines.specs.Ask.{Tell, shown_form, representation, presence, count, list_of_parts}
 
 -- the nodes beneath the root of a HAMT that lie on the hash of a key, whether it is there or not; without a trie there are none

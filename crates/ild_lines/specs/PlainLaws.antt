@@ -5,8 +5,8 @@ use Rattle.ild_script.specs.Line.{Reading}
 use Rattle.ild_edits.specs.Judged.{Tests, AreTests}
 use Rattle.ild_plain.specs.Plain as P
 use Rattle.ild_plain.specs.Value as PV
-use Rattle.ild_session.specs.Session.{State, idle}
-use Rattle.ild_lines.specs.Ask.{Ask, asked}
+use Rattle.ild_session.specs.Session.{idle}
+use Rattle.ild_lines.specs.Ask.{asked}
 use Rattle.ild_lines.specs.Lines.{due}
 use Rattle.ild_lines.specs.PlainMap.{plain_rows, as_value, IsPlain, plain_setting, IsKnown, SameDue}
 

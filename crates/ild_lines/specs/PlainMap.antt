@@ -23,7 +23,6 @@ use Rattle.ild_typed.specs.Stands.{bare}
 use Rattle.ild_edits.specs.Judged.{Tests}
 use Rattle.ild_plain.specs.Value as P
 use Rattle.ild_session.specs.Session.{State, Due}
-use Rattle.ild_lines.specs.Ask.{Ask}
 use Rattle.ild_lines.specs.Lines.{Setting}
 
 -- the table of a schema whose one type is a map from String to Int: the type's name, and the places of the type, its key and its value

@@ -3,4 +3,7 @@
 
 mod laws;
 
-pub use laws::{lines_say_what_a_plain_map_says, refused_lines_leave_the_state};
+pub use laws::{
+    lines_keep_values_that_can_be_held, lines_say_what_a_plain_map_says,
+    refused_lines_leave_the_state,
+};
