@@ -19,3 +19,5 @@ pub mod Elsewhere
 pub mod Judges
 pub mod Stops
 pub mod Moves
+pub mod TreeTests
+pub mod RoomTests

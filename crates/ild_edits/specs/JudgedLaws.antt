@@ -17,6 +17,10 @@ use Rattle.ild_edits.specs.Edit.{Edit, HasTextPath}
 use Rattle.ild_edits.specs.EditLaws.{ReadsTree}
 use Rattle.ild_edits.specs.Judged.{Tests, AreTests, judged, edited}
 
+-- each schema has tests of its texts and of rooms
+abbrev pub SchemasHaveTests : Type 0
+SchemasHaveTests = (rows : List Row) → IsSchema rows → (t : Tests) × AreTests rows t
+
 abbrev pub UnrefusedAreStorable : Type 0
 UnrefusedAreStorable = (f : Frame) (h : List ℕ → List ℕ) (rows : List Row) (t : Tests) → IsSchema rows → AreTests rows t → (n : TypeNo) (v : Value) → Typed rows (plainly n) v
     → (judged f h rows t n v ≡ None) ↔ ((d : Data) × Storable f h rows n v d)

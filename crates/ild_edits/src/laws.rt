@@ -1,6 +1,6 @@
 //! Laws of edits.
 ghost use Rattle.ild_edits.specs.AlongLaws.{DepthAlong, FirstAlong, JudgedAlong, SetIsJudged};
-ghost use Rattle.ild_edits.specs.JudgedLaws.{EditedAreStorable, JudgedInOrder, UnrefusedAreStorable};
+ghost use Rattle.ild_edits.specs.JudgedLaws.{EditedAreStorable, JudgedInOrder, SchemasHaveTests, UnrefusedAreStorable};
 ghost use Rattle.ild_edits.specs.EditLaws.{EditsKeepTyped, EditsKeepTypes, ElsewhereStays, LinesKeepTyped, OthersStay, SetStands};
 ghost use Rattle.ild_edits.specs.MoveLaws.{DeleteMoves, InsertMoves, InsertedStands, LastIsChanged};
 ghost use Rattle.ild_edits.specs.Stop.{PathFaults, StopsTell};
@@ -28,6 +28,11 @@ pub fn changes_are_judged_along_the_path()
     ensures set { SetIsJudged }
     ensures depth { DepthAlong }
     ensures first { FirstAlong }
+{}
+
+/// Each schema has the tests that judgements ask for: whether a text is one of a key type, and whether a value fits in a room.
+pub fn schemas_have_tests()
+    ensures { SchemasHaveTests }
 {}
 
 /// A typed value is refused exactly where a store can't hold it, and for the first cause; so what an edit makes can be held.

@@ -10,4 +10,8 @@ pub mod Showing
 pub mod Broken
 pub mod Mismatched
 mod Examples
+pub mod TextParts
+pub mod TextRooms
+pub mod InTable
+pub mod EnoughRooms
 pub mod KeyTests

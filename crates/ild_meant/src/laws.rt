@@ -24,7 +24,7 @@ pub fn nothing_is_meant_where_a_rule_is_broken()
     ensures { NothingWhereBroken }
 {}
 
-/// Whether a text is one of a key type can be tested, given rooms in which each such text is found.
+/// Whether a text is one of a key type can be tested, for the types of each schema.
 pub fn keys_are_tested()
     ensures { KeysAreTested }
 {}

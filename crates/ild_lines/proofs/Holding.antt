@@ -1,0 +1,54 @@
+-- Each line makes states that a store can hold of such states.
+use Rattle.std.proofs.Common.{◌≡◌, ℕ, List, Option, Some, None, Ok, Err, Result, refl}
+use Rattle.std.specs.Prelude.{IfSome}
+use Rattle.ild_schema.specs.Slots.{plainly}
+use Rattle.ild_schema.specs.Value.{Value}
+use Rattle.ild_script.specs.declared.reply.No.{No}
+use Rattle.ild_typed.specs.Schema.{IsSchema}
+use Rattle.ild_typed.specs.Typed.{Typed}
+use Rattle.ild_typed.proofs.Judging.{tree_sound}
+use Rattle.ild_edits.specs.Edit.{Edit}
+use Rattle.ild_edits.specs.Judged.{AreTests}
+use Rattle.ild_edits.proofs.Judges.{edited_are_storable}
+use Rattle.ild_session.specs.Session.{State}
+use Rattle.ild_lines.specs.Ask.{Ask, nothing, to_tell, to_edit, to_tell_root, to_begin, to_commit, to_abort, unknown}
+use Rattle.ild_lines.specs.Lines.{Setting, due, read_json, edit_due, edit_gets, edit_puts, changed, root_due, begin_due, commit_due, abort_due}
+use Rattle.ild_lines.specs.LinesLaws.{CanBeHeld, IsHeld, IsFair, LinesKeepHeld}
+
+module _ (w : Setting) (schema : IsSchema w.rows) (tests : AreTests w.rows w.tests) where
+  held_typed : (v : Value) → CanBeHeld w v → Typed w.rows (plainly w.ty) v
+  held_typed v held = (w.frame.room, held.1.fits, (tree_sound w.hash w.rows (plainly w.ty) v held.0 held.1.tree).0)
+
+  edit_held : (e : Edit (List ℕ)) (s : State Value) → IsFair (to_edit e) → IsHeld w s → (gets puts : ℕ) (r : Result Value No) → changed w s.value e ≡ r → IsHeld w (edit_due w gets puts s r).next
+  edit_held e s fair held gets puts (Ok c) is =
+      (edited_are_storable w.frame w.hash w.rows w.tests schema tests read_json w.ty s.value e c fair.0 fair.1 (held_typed s.value held.0) is, held.1)
+  edit_held e s fair held gets puts (Err refusal) is = held
+
+  root_held : (s : State Value) (o : Option Value) → IsHeld w s → IsHeld w (root_due w s o).next
+  root_held s None held = held
+  root_held s (Some v) held = held
+
+  begin_held : (s : State Value) (o : Option Value) → IsHeld w s → IsHeld w (begin_due s o).next
+  begin_held s None held = (held.0, held.0)
+  begin_held s (Some v) held = held
+
+  commit_held : (s : State Value) (o : Option Value) → IsHeld w s → IsHeld w (commit_due w s o).next
+  commit_held s None held = held
+  commit_held s (Some v) held = (held.0, tt)
+
+  abort_held : (s : State Value) (o : Option Value) → s.begun ≡ o → IfSome o (CanBeHeld w) → IsHeld w s → IsHeld w (abort_due s o).next
+  abort_held s None is begun held = held
+  abort_held s (Some v) is begun held = (begun, tt)
+
+  due_held : (a : Ask) (s : State Value) → IsFair a → IsHeld w s → IsHeld w (due w a s).next
+  due_held nothing s fair held = held
+  due_held (to_tell t path) s fair held = held
+  due_held (to_edit e) s fair held = edit_held e s fair held (edit_gets w s e s.begun) (edit_puts w s e (changed w s.value e) s.begun) (changed w s.value e) refl
+  due_held to_tell_root s fair held = root_held s s.begun held
+  due_held to_begin s fair held = begin_held s s.begun held
+  due_held to_commit s fair held = commit_held s s.begun held
+  due_held to_abort s fair held = abort_held s s.begun refl held.1 held
+  due_held unknown s fair held = held
+
+pub lines_keep_held : LinesKeepHeld
+lines_keep_held w schema tests a s fair held = due_held w schema tests a s fair held

@@ -1,0 +1,159 @@
+-- The lines of a script on typed values: what each is due, as the meaning that a session gives to lines.
+use Rattle.std.specs.Prelude.{ℕ, ◌+◌, List, [], length, is_some, Option, Some, None, Result, Ok, Err, option_map, option_and_then}
+use Rattle.std.specs.Option.{option_map_or}
+use Rattle.std.specs.Result.{result_ok}
+use Rattle.ild_data.specs.Data as D
+use Rattle.ild_data.specs.Data.{Data}
+use Rattle.ild_json.specs.Printing.{json_text}
+use Rattle.ild_json.specs.Reading.{json_read}
+use Rattle.ild_schema.specs.declared.number.TypeNo.{TypeNo}
+use Rattle.ild_schema.specs.declared.row.Row.{Row}
+use Rattle.ild_schema.specs.Slots.{plainly}
+use Rattle.ild_schema.specs.Value.{Value}
+use Rattle.ild_script.specs.Line.{reads}
+use Rattle.ild_script.specs.declared.reply.No.{No}
+use Rattle.ild_script.specs.declared.reply.No.TheVariants as N
+use Rattle.ild_script.specs.declared.reply.Reply.{Reply}
+use Rattle.ild_script.specs.declared.reply.Reply.TheVariants as R
+use Rattle.ild_typed.specs.At.{InSlot, seen, at}
+use Rattle.ild_typed.specs.Hamt.{whole}
+use Rattle.ild_typed.specs.Represented.{represented}
+use Rattle.ild_typed.specs.Shown.{shown}
+use Rattle.ild_typed.specs.Stands.{Frame, blocks_of, root_id}
+use Rattle.ild_edits.specs.Edit.{Edit, path_of, line_change}
+use Rattle.ild_edits.specs.Judged.{Tests, edited}
+use Rattle.ild_session.specs.Session.{State, Due, Meaning}
+use Rattle.ild_lines.specs.Ask.{Tell, shown_form, representation, presence, count, list_of_parts, Ask, nothing, to_tell, to_edit, to_tell_root, to_begin, to_commit, to_abort, unknown, asked}
+use Rattle.ild_lines.specs.Costs.{blocks_met, nodes_in, brought, changed_met, judged_puts, tell_gets}
+use Rattle.ild_lines.specs.Reads.{counted, walked}
+
+-- What lines are about: the frame of a root, the hash of keys, a table with its tests, and the type of the value. The children of each
+-- block of a value are told beside it.
+pub record Setting : Type 0 where
+  pub frame : Frame
+  pub hash : List ℕ → List ℕ
+  pub rows : List Row
+  pub tests : Tests
+  pub ty : TypeNo
+  pub children : Value → List ℕ → List (List ℕ)
+
+-- ---- blocks
+
+abbrev pub tree_in : Setting → InSlot → Option Data
+tree_in w p = represented (whole w.hash) w.rows p.0 p.1
+
+abbrev pub in_slot : Setting → Value → InSlot
+in_slot w v = (plainly w.ty, v)
+
+-- the blocks of a value, the root block first; a value without a representation has none
+abbrev pub value_blocks : Setting → Value → List (List ℕ)
+value_blocks w v = option_map_or (λ d. blocks_of w.frame w.hash w.rows w.ty v d) (tree_in w (in_slot w v)) []
+
+abbrev pub root_reply : Setting → Value → Reply
+root_reply w v = R.Root (record { 0 = option_map_or (root_id w.frame) (tree_in w (in_slot w v)) [] })
+
+-- ---- reads
+
+-- a JSON text; there is none of what holds a map whose only key is `/`
+abbrev pub printed_or : Option (List ℕ) → Reply
+printed_or None = R.No N.Reserved
+printed_or (Some text) = R.Ok text
+
+abbrev pub printed : Data → Reply
+printed d = printed_or (json_text d)
+
+-- nothing is told where a path does not lead, or of what has no such parts
+abbrev pub told : Option Data → Reply
+told None = R.No N.Path
+told (Some d) = printed d
+
+abbrev pub show : Setting → InSlot → Data
+show w p = shown w.rows p.0 p.1
+
+abbrev pub told_of : Setting → Tell → Option InSlot → Option Data
+told_of w presence p = Some (D.boolean (is_some p))
+told_of w shown_form p = option_map (show w) p
+told_of w representation p = option_and_then (tree_in w) p
+told_of w count p = option_and_then (λ q. counted (seen w.rows q)) p
+told_of w list_of_parts p = option_and_then (λ q. walked (show w) (seen w.rows q)) p
+
+abbrev pub read_reply : Setting → Tell → List (List ℕ) → Value → Reply
+read_reply w t path v = told (told_of w t (at w.rows (in_slot w v) path))
+
+-- ---- what a line is due
+
+-- a reply that leaves the value and the store
+abbrev pub quiet : ℕ → Option Reply → State Value → Due Value
+quiet gets reply s = record { reply = reply; next = s; adds = []; children = λ b. []; gets = gets; puts = 0 }
+
+-- one that leaves the store, and from which the next state begins
+abbrev pub turned : Reply → State Value → Due Value
+turned reply next = record { reply = Some reply; next = next; adds = []; children = λ b. []; gets = 0; puts = 0 }
+
+-- one that may put the blocks of a value
+abbrev pub putting : Setting → ℕ → ℕ → Reply → State Value → Value → Due Value
+putting w gets puts reply next c = record { reply = Some reply; next = next; adds = value_blocks w c; children = w.children c; gets = gets; puts = puts }
+
+-- ---- edits
+
+abbrev pub read_json : List ℕ → Option Data
+read_json json = result_ok (json_read json)
+
+-- the changed value of an edit, or its first refusal
+abbrev pub changed : Setting → Value → Edit (List ℕ) → Result Value No
+changed w v e = edited w.frame w.hash w.rows w.tests read_json w.ty v e
+
+abbrev pub new_nodes : Setting → Value → Edit (List ℕ) → ℕ
+new_nodes w v e = nodes_in w.hash w.rows (brought w.rows w.tests.is_key read_json (in_slot w v) e)
+
+-- the most gets and puts of an edit, outside a batch and inside one
+abbrev pub edit_gets : Setting → State Value → Edit (List ℕ) → Option Value → ℕ
+edit_gets w s e None = blocks_met w.hash w.rows (in_slot w s.value) (path_of e)
+edit_gets w s e (Some v) =
+    blocks_met w.hash w.rows (in_slot w s.value) (path_of e)
+    + changed_met w.hash w.rows (plainly w.ty) (path_of e) (new_nodes w s.value e) (line_change w.rows w.tests.is_key read_json (in_slot w s.value) e)
+
+abbrev pub edit_puts : Setting → State Value → Edit (List ℕ) → Result Value No → Option Value → ℕ
+edit_puts w s e c None = judged_puts w.hash w.rows (plainly w.ty) (path_of e) (new_nodes w s.value e) c
+edit_puts w s e c (Some v) = 0
+
+-- outside a batch an edit replies the new root, inside one null
+abbrev pub edit_reply : Setting → Value → Option Value → Reply
+edit_reply w c None = root_reply w c
+edit_reply w c (Some v) = printed D.null
+
+abbrev pub edit_due : Setting → ℕ → ℕ → State Value → Result Value No → Due Value
+edit_due w gets puts s (Ok c) = putting w gets puts (edit_reply w c s.begun) (record s { value = c }) c
+edit_due w gets puts s (Err refusal) = record { reply = Some (R.No refusal); next = s; adds = []; children = λ b. []; gets = gets; puts = puts }
+
+-- the root is told outside a batch
+abbrev pub root_due : Setting → State Value → Option Value → Due Value
+root_due w s None = quiet 0 (Some (root_reply w s.value)) s
+root_due w s (Some v) = quiet 0 (Some (R.No N.Batch)) s
+
+-- A batch is begun outside one, and ends with its value kept or with the value at its begin. What is kept is put, each block once at most.
+abbrev pub begin_due : State Value → Option Value → Due Value
+begin_due s None = turned (printed D.null) (record s { begun = Some s.value })
+begin_due s (Some v) = quiet 0 (Some (R.No N.Batch)) s
+
+abbrev pub commit_due : Setting → State Value → Option Value → Due Value
+commit_due w s None = quiet 0 (Some (R.No N.Batch)) s
+commit_due w s (Some v) = putting w 0 (length (value_blocks w s.value)) (root_reply w s.value) (record s { begun = None }) s.value
+
+abbrev pub abort_due : State Value → Option Value → Due Value
+abort_due s None = quiet 0 (Some (R.No N.Batch)) s
+abort_due s (Some v) = turned (printed D.null) (record { value = v; begun = None })
+
+abbrev pub due : Setting → Ask → State Value → Due Value
+due w nothing s = quiet 0 None s
+due w (to_tell t path) s = quiet (tell_gets w.hash w.rows t (in_slot w s.value) path) (Some (read_reply w t path s.value)) s
+due w (to_edit e) s = edit_due w (edit_gets w s e s.begun) (edit_puts w s e (changed w s.value e) s.begun) s (changed w s.value e)
+due w to_tell_root s = root_due w s s.begun
+due w to_begin s = begin_due s s.begun
+due w to_commit s = commit_due w s s.begun
+due w to_abort s = abort_due s s.begun
+due w unknown s = quiet 0 (Some (R.No N.Line)) s
+
+-- the meaning of every line; it doesn't matter what is held
+abbrev pub typed_lines : Setting → Meaning Value
+typed_lines w = record { due = λ held s line. due w (asked (reads line)) s; blocks = value_blocks w }
