@@ -35,7 +35,7 @@ module _ (fs : List Field) (k : List ℕ) (p : ℕ) (place : p ≡ place_of fs k
   entry_more old mid new b d apart at is step same ks es h =
       let n = h.names in
       let kept : IsNoted (length fs) (record old { needless = old.needless || b }) (map (place_of fs) ks) =
-      record { stranger = n.stranger; falls = n.falls; twice = n.twice; highest = n.highest; met = n.met; room = n.room } in
+      record { stranger = n.stranger; falls = n.falls; twice = n.twice; highest = n.highest; met = n.met } in
       let test : b ≡ is_needless fs (k, d) = at ∙ ap (λ q. implicit_at fs q d) place ∙ sym (needless_placed fs k d apart) in
       record {
         names = placed ks new (step (map (place_of fs) ks) (subst (λ (m : Notes). IsNoted (length fs) m (map (place_of fs) ks)) (sym is) kept));

@@ -3,6 +3,7 @@ pub mod Fielding
 pub mod Forms
 pub mod Layering
 pub mod Looking
+pub mod Marking
 pub mod Noting
 pub mod Pairing
 pub mod Placing

@@ -1,17 +1,20 @@
 -- One place more.
-use Rattle.std.proofs.Common.{◌≡◌, ℕ, ◌+◌, ◌≤◌, ◌<◌, List, [], ◌∷◌, ◌++◌, Bool, true, false, ◌||◌, refl, sym, ◌∙◌, ap, arith, length, max, get_or-set_same, get_or-set_other}
-use Rattle.std.proofs.Math.ListN.{length-set}
-use Rattle.std.specs.Prelude.{nat_eq, nat_lt, slice_index_or, slice_set}
+use Rattle.std.proofs.Common.{◌≡◌, ℕ, ◌+◌, ◌≤◌, ◌<◌, List, [], ◌∷◌, ◌++◌, Bool, true, false, ◌||◌, refl, sym, ◌∙◌, ap, arith, max}
+use Rattle.std.specs.Prelude.{nat_eq, nat_lt}
 use Rattle.std.specs.List.{list_any}
 use Rattle.std.proofs.lemmas.List.Folds.{list_any-append}
 use Rattle.std.proofs.lemmas.Bool.{eq-eqb, eqb-true, lt-ltb, le-ltb, ltb-true, ltb-false}
 use Rattle.ild_typed.specs.StructWhy.{has_fall}
 use Rattle.ild_struct.specs.declared.notes.Notes.{Notes}
-use Rattle.ild_struct.specs.Notes.{IsNoted, stands_twice, is_strange}
+use Rattle.ild_struct.specs.Notes.{IsNoted, is_marked, stands_twice, is_strange}
 
-or_none : (a : Bool) → (a || false) ≡ a
+pub or_none : (a : Bool) → (a || false) ≡ a
 or_none true = refl
 or_none false = refl
+
+pub or_right : (a : Bool) → (a || true) ≡ true
+or_right true = refl
+or_right false = refl
 
 -- a test of one element more
 pub any_more : {A : Type 0} (p : A → Bool) (xs : List A) (x : A) → list_any p (xs ++ x ∷ []) ≡ (list_any p xs || p x)
@@ -50,8 +53,8 @@ highest_more m h p = by (nat_lt m h) refl (nat_lt m p) refl where
 abbrev pub risen : ℕ → Notes → Notes
 risen p notes = record notes { falls = notes.falls || nat_lt p notes.highest; next = p + 1; highest = max notes.highest p }
 
-abbrev pub met_more : ℕ → Notes → Notes
-met_more p notes = record notes { twice = notes.twice || slice_index_or notes.met p false; met = slice_set notes.met p true }
+abbrev pub met_more : ℕ → List ℕ → Notes → Notes
+met_more p words notes = record notes { twice = notes.twice || is_marked notes.met p; met = words }
 
 module _ (count p : ℕ) (old mid : Notes) (is : mid ≡ risen p old) (ns : List ℕ) (h : IsNoted count old ns) where
   falls_more : mid.falls ≡ has_fall (ns ++ p ∷ [])
@@ -70,14 +73,9 @@ module _ (count p : ℕ) (old mid : Notes) (is : mid ≡ risen p old) (ns : List
     highest = highest_all;
     met = λ i less.
         let not_here : nat_eq i p ≡ false = other i less in
-        ap (λ (n : Notes). slice_index_or n.met i false) is ∙ h.met i less
+        ap (λ (n : Notes). is_marked n.met i) is ∙ h.met i less
         ∙ sym (any_more (λ n. nat_eq i n) ns p ∙ ap (λ b. list_any (λ n. nat_eq i n) ns || b) not_here ∙ or_none (list_any (λ n. nat_eq i n) ns));
-    room = omega (arith, h.room, ap (λ (n : Notes). length n.met) is);
   } where
-    or_right : (a : Bool) → (a || true) ≡ true
-    or_right true = refl
-    or_right false = refl
-
     strange : is_strange count (ns ++ p ∷ []) ≡ true
     strange = any_more (λ n. nat_eq n count) ns p ∙ ap (λ b. is_strange count ns || b) (eq-eqb p count at) ∙ or_right (is_strange count ns)
 
@@ -87,18 +85,19 @@ module _ (count p : ℕ) (old mid : Notes) (is : mid ≡ risen p old) (ns : List
       by true e = absurd (omega (arith, eqb-true i p e, at))
       by false e = refl
 
-  pub noted_field : (after : Notes) → after ≡ met_more p mid → (p ≡ count → ⊥) → p ≤ count → IsNoted count after (ns ++ p ∷ [])
-  noted_field after so at within = record {
+  pub noted_field : (after : Notes) → after ≡ met_more p after.met mid → ((i : ℕ) → is_marked after.met i ≡ (is_marked mid.met i || nat_eq i p))
+      → (p ≡ count → ⊥) → p ≤ count → IsNoted count after (ns ++ p ∷ [])
+  noted_field after so marked at within = record {
     stranger = ap (λ (n : Notes). n.stranger) so ∙ ap (λ (n : Notes). n.stranger) is ∙ h.stranger ∙ sym strange;
     falls = ap (λ (n : Notes). n.falls) so ∙ falls_more;
     twice = λ known.
-        ap (λ (n : Notes). n.twice) so ∙ ap (λ (n : Notes). n.twice || slice_index_or n.met p false) is
-        ∙ ap (λ b. b || slice_index_or old.met p false) (h.twice (sym strange ∙ known))
+        ap (λ (n : Notes). n.twice) so ∙ ap (λ (n : Notes). n.twice || is_marked n.met p) is
+        ∙ ap (λ b. b || is_marked old.met p) (h.twice (sym strange ∙ known))
         ∙ ap (λ b. stands_twice ns || b) (h.met p here)
         ∙ sym (twice_more ns p);
     highest = λ m. highest_all m ∙ ap (λ (n : Notes). nat_lt m n.highest) (sym so);
-    met = λ i less. ap (λ (n : Notes). slice_index_or n.met i false) so ∙ by i less (nat_eq i p) refl ∙ sym (any_more (λ n. nat_eq i n) ns p);
-    room = omega (arith, h.room, ap (λ (n : Notes). length n.met) is, ap (λ (n : Notes). length n.met) so, length-set mid.met p true);
+    met = λ i less.
+        marked i ∙ ap (λ (n : Notes). is_marked n.met i || nat_eq i p) is ∙ ap (λ b. b || nat_eq i p) (h.met i less) ∙ sym (any_more (λ n. nat_eq i n) ns p);
   } where
     here : p < count
     here = by (nat_lt p count) refl where
@@ -112,21 +111,5 @@ module _ (count p : ℕ) (old mid : Notes) (is : mid ≡ risen p old) (ns : List
       by true e = absurd (at (eqb-true p count e))
       by false e = refl
 
-    room : p < length mid.met
-    room = omega (arith, here, h.room, ap (λ (n : Notes). length n.met) is)
-
     strange : is_strange count (ns ++ p ∷ []) ≡ is_strange count ns
     strange = any_more (λ n. nat_eq n count) ns p ∙ ap (λ b. is_strange count ns || b) away ∙ or_none (is_strange count ns)
-
-    or_right : (a : Bool) → (a || true) ≡ true
-    or_right true = refl
-    or_right false = refl
-
-    by : (i : ℕ) → i < count → (b : Bool) → nat_eq i p ≡ b → slice_index_or (slice_set mid.met p true) i false ≡ (list_any (λ n. nat_eq i n) ns || nat_eq i p)
-    by i less true e =
-        ap (λ j. slice_index_or (slice_set mid.met p true) j false) (eqb-true i p e) ∙ get_or-set_same mid.met p true false room
-        ∙ sym (ap (λ c. list_any (λ n. nat_eq i n) ns || c) e ∙ or_right (list_any (λ n. nat_eq i n) ns))
-    by i less false e =
-        get_or-set_other mid.met p i true false (λ same. absurd (let bad : true ≡ false = sym (eq-eqb i p same) ∙ e in cc))
-        ∙ ap (λ (n : Notes). slice_index_or n.met i false) is ∙ h.met i less
-        ∙ sym (ap (λ c. list_any (λ n. nat_eq i n) ns || c) e ∙ or_none (list_any (λ n. nat_eq i n) ns))

@@ -1,10 +1,26 @@
 //! What one pass over the names of a struct's parts finds.
-ghost use Rattle.std.specs.Prelude.{◌≡◌, ◌+◌, ◌<◌, ◌≤◌, ◌||◌, ℕ, List, [], ◌∷◌, ◌++◌, false, true, nat_eq, nat_lt, max, slice_index_or, slice_set};
+ghost use Rattle.std.specs.Prelude.{◌≡◌, ◌+◌, ◌<◌, ◌≤◌, ◌||◌, ℕ, List, [], ◌∷◌, ◌++◌, false, nat_eq, nat_lt, max};
 ghost use Rattle.std.specs.List.{list_any};
-ghost use Rattle.ild_struct.specs.Notes.{IsNoted};
+ghost use Rattle.ild_struct.specs.Notes.{IsNoted, is_marked};
 
-/// The most fields that a type has.
-const MOST_FIELDS: usize = 1024;
+/// Words that have a bit for each of the 1024 fields that a type has at most, the lowest bit of the first word for the first.
+type Marks = [u64; 16];
+
+// Whether a field's bit is set.
+fn is_marked(marks: &Marks, place: usize) -> bool
+    requires { place < 1024 }
+    ensures { result ≡ is_marked marks.now place }
+{
+    (marks[place / 64] >> (place % 64)) % 2 == 1
+}
+
+// Sets a field's bit.
+fn mark(marks: &mut Marks, place: usize)
+    requires { place < 1024 }
+    ensures { (i : ℕ) → is_marked marks.new i ≡ (is_marked marks.old i || nat_eq i place) }
+{
+    marks[place / 64] |= 1 << (place % 64);
+}
 
 /// What was found of the names so far, of which each is the place of its field, or the number of fields where it is none's.
 #[derive(Drop)]
@@ -20,7 +36,7 @@ pub(crate) struct Notes {
     /// The place behind that of the last name.
     pub(crate) next: usize,
     highest: usize,
-    met: [bool; MOST_FIELDS],
+    met: Marks,
 }
 
 impl Notes {
@@ -36,7 +52,7 @@ impl Notes {
             needless: false,
             next: 0,
             highest: 0,
-            met: [false; MOST_FIELDS],
+            met: [0; 16],
         }
     }
 
@@ -53,10 +69,11 @@ impl Notes {
     // A field's name more.
     fn meet(&mut self, place: usize)
         requires { place < 1024 }
-        ensures { self.new ≡ record self.old { twice = self.old.twice || slice_index_or self.old.met place false; met = slice_set self.old.met place true } }
+        ensures twice { self.new ≡ record self.old { twice = self.old.twice || is_marked self.old.met place; met = self.new.met } }
+        ensures met { (i : ℕ) → is_marked self.new.met i ≡ (is_marked self.old.met i || nat_eq i place) }
     {
-        self.twice |= self.met[place];
-        self.met[place] = true;
+        self.twice |= is_marked(&self.met, place);
+        mark(&mut self.met, place);
     }
 
     /// One name more, of so many fields.
@@ -79,6 +96,6 @@ impl Notes {
         requires { place < 1024 }
         ensures { (count : ℕ) (ns : List ℕ) → IsNoted count self.now ns → place < count → result ≡ list_any (λ n. nat_eq place n) ns }
     {
-        self.met[place]
+        is_marked(&self.met, place)
     }
 }

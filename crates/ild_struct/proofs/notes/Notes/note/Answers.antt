@@ -6,4 +6,4 @@ returns-then-place-count-clause-noted c = λ ns h. noted_stranger c.args.count c
 
 pub returns-else-place-count-clause-noted : goal.returns-else-place-count-clause-noted
 returns-else-place-count-clause-noted c = λ ns h.
-    noted_field c.args.count c.args.place c.args.self.now c.rise.new.self c.rise.ensures ns h c.meet.new.self c.meet.ensures c.if-place-count.false c.requires.within
+    noted_field c.args.count c.args.place c.args.self.now c.rise.new.self c.rise.ensures ns h c.meet.new.self c.meet.ensures.twice c.meet.ensures.met c.if-place-count.false c.requires.within
