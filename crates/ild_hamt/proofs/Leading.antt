@@ -83,7 +83,7 @@ same_slots p ss ts b wide one two =
     (append-nil (spell (node_data ss)) ∙ sym one.is.spelled ∙ two.is.spelled ∙ sym (append-nil (spell (node_data ts))))).0 in
     same_node ss ts (whole_map p.width (length ss) wide one.form.many) (two.form.many ∙ sym one.form.many) same
 
-slots-many : (h : List ℕ → List ℕ) (p : TrieShape) (left depth : ℕ) (es : List (List ℕ × Data)) (slots : List TrieSlot) → slots_at h p left depth es ≡ Some slots → length slots ≡ 2 ^ p.width
+pub slots-many : (h : List ℕ → List ℕ) (p : TrieShape) (left depth : ℕ) (es : List (List ℕ × Data)) (slots : List TrieSlot) → slots_at h p left depth es ≡ Some slots → length slots ≡ 2 ^ p.width
 slots-many h p left depth es slots is =
     all_some-length (map (λ i. slot_of p.bucket (node_of h p left (depth + 1)) (part (at_depth h p depth) es i)) (range_with_len 0 (2 ^ p.width))) slots is
     ∙ length-map-range_with_len (λ i. slot_of p.bucket (node_of h p left (depth + 1)) (part (at_depth h p depth) es i)) 0 (2 ^ p.width)

@@ -2,3 +2,8 @@ pub mod Shown
 pub mod Leading
 pub mod Going
 pub mod Fulling
+pub mod Chain
+pub mod Upward
+pub mod Holding
+pub mod Roomy
+pub mod Sound

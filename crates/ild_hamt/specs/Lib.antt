@@ -4,3 +4,5 @@ pub mod Reaching
 pub mod Way
 pub mod Ends
 pub mod Descending
+pub mod Setting
+pub mod Holding

@@ -7,7 +7,7 @@ mod Finding
 mod Parts
 mod Writing
 pub mod Kinding
-mod Passing
-mod Ruling
+pub mod Passing
+pub mod Ruling
 mod Telling
 pub mod Legibly

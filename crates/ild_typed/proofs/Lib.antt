@@ -20,6 +20,9 @@ pub mod PartData
 pub mod PieceTexts
 pub mod Fronting
 pub mod PartsTrees
+pub mod WaySteps
+pub mod PartsReached
+pub mod RefusalsReached
 pub mod NodeEntries
 pub mod NodeElements
 pub mod NodeMaps

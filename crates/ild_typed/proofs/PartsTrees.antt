@@ -230,7 +230,7 @@ entries_without k (p ∷ ps) all = by (same_text k p.0) (entries_without k ps al
 rises_of : (ps : List (List ℕ × Data)) → AreEntries (T.members_of ps) → Rises ps
 rises_of ps all = rises_list ps all
 
-content_found : (key content : List ℕ) (name d : Data) → (key ≡ content → ⊥) → value_at content (put key name ((content, d) ∷ [])) ≡ Some d
+pub content_found : (key content : List ℕ) (name d : Data) → (key ≡ content → ⊥) → value_at content (put key name ((content, d) ∷ [])) ≡ Some d
 content_found key content name d apart =
     value_put content key name ((content, d) ∷ []) ∙ by (same_text content key) refl
   where

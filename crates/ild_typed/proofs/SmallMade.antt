@@ -113,7 +113,36 @@ made = by_number (MadeType rows) (each_row (MadeType rows) rows (tt, (tt, (tt, (
 
 spelled : IsSpelled rows
 unfolding encode
-spelled = by_number SpelledType (each_row SpelledType rows (tt, (tt, (tt, (tt, (tt, (tt, (tt, (tt, (record { delims = (codes ",", (refl, refl)); texts = ((codes "a", (refl, refl)), ((codes "b", (refl, refl)), tt)) }, (record { marks = (tt, (tt, tt)); keys = tt }, (record { delims = tt; texts = ((codes "w", (refl, refl)), tt) }, (record { marks = ((codes "box", (refl, refl)), tt); keys = (codes "tag", (refl, refl)) }, (tt, tt))))))))))))))
+spelled =
+    by_number SpelledType
+    (each_row SpelledType rows (
+      tt,
+      (
+        tt,
+        (
+          tt,
+          (
+            tt,
+            (
+              tt,
+              (
+                tt,
+                (
+                  tt,
+                  (
+                    tt,
+                    (
+                      record { delims = (codes ",", (refl, refl)); texts = ((codes "a", (refl, refl)), ((codes "b", (refl, refl)), tt)) },
+                      (record { marks = (tt, (tt, tt)); keys = tt }, (record { delims = tt; texts = ((codes "w", (refl, refl)), tt) }, (record { marks = ((codes "box", (refl, refl)), tt); keys = (codes "tag", (refl, refl)) }, (tt, tt)))),
+                    ),
+                  ),
+                ),
+              ),
+            ),
+          ),
+        ),
+      ),
+    ))
 
 named : IsNamed rows
 unfolding encode

@@ -36,6 +36,7 @@ pub mod Ways
 pub mod Pieces
 pub mod Refused
 pub mod WhyLaws
+pub mod WayLaws
 pub mod Laws
 pub mod TreeLaws
 pub mod StandLaws

@@ -3,6 +3,7 @@
 #![tactic(auto)]
 
 ghost use Rattle.ild_typed.specs.WhyLaws.{FrontOrRefused, LayerOrWhy, OneRefusal, PartsAreTrees, RefusedHaveNoFront, RootsAreTold};
+ghost use Rattle.ild_typed.specs.WayLaws.{PartsAreReached, RefusalsAreReached};
 ghost use Rattle.ild_typed.specs.Ways.{WaysLead};
 ghost use Rattle.ild_typed.specs.TreeLaws.{BlocksAreNested, FrontsAreTrees, ShownAreTrees, StorableBlocks, ValuesAreTrees, ValuesHaveFronts};
 ghost use Rattle.ild_typed.specs.AtLaws.{IndicesAreDecimals, ReachesParts};
@@ -73,6 +74,16 @@ pub fn one_refusal()
 /// A way in data leads to an item that is spelled at its offset.
 pub fn ways_lead()
     ensures { WaysLead }
+{}
+
+/// The way of a part leads to its item, or to that of the whole in which it stands.
+pub fn parts_are_reached()
+    ensures { PartsAreReached }
+{}
+
+/// The way of a refusal leads to the item that is refused.
+pub fn refusals_are_reached()
+    ensures { RefusalsAreReached }
 {}
 
 /// The data of a front are a tree, nested no deeper than the front's room.
