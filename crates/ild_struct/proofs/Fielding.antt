@@ -58,19 +58,19 @@ made_of rows ty t s os is h = sym (ap (option_and_then (λ (d : TypeDef). compos
 pub clear_of : (rows : List Row) (ty : ℕ) (s : StructDef) → IsLegible rows → IsStruct rows ty s → ClearStruct s.form s.fields
 clear_of rows ty s legible is = legible.clear.types (base rows ty) (D.Struct s) is
 
-delims_of : (rows : List Row) (ty : ℕ) (s : StructDef) → IsLegible rows → IsStruct rows ty s → HasDelims s.form s.fields
+pub delims_of : (rows : List Row) (ty : ℕ) (s : StructDef) → IsLegible rows → IsStruct rows ty s → HasDelims s.form s.fields
 delims_of rows ty s legible is = legible.delims (base rows ty) (D.Struct s) is
 
-field_at : (fs : List Field) (i : ℕ) (f : Field) → i < length fs → f ≡ get_or fs i f → slice_get fs i ≡ Some f
+pub field_at : (fs : List Field) (i : ℕ) (f : Field) → i < length fs → f ≡ get_or fs i f → slice_get fs i ≡ Some f
 field_at fs i f less is = get_at fs i f less ∙ ap Some (sym is)
 
 -- ---- maps
 
-record IsMap (rows : List Row) (form : StructForm) (p : Piece) (t : Data) : Type 0 where
-  form_is : form ≡ S.Map
-  stands : StandsFor rows p t
+pub record IsMap (rows : List Row) (form : StructForm) (p : Piece) (t : Data) : Type 0 where
+  pub form_is : form ≡ S.Map
+  pub stands : StandsFor rows p t
 
-shown_map : (rows : List Row) (form : StructForm) (p : Piece) (t : Data) → Shows rows form (R.Map p) t → IsMap rows form p t
+pub shown_map : (rows : List Row) (form : StructForm) (p : Piece) (t : Data) → Shows rows form (R.Map p) t → IsMap rows form p t
 shown_map rows S.Map p t h = record { form_is = refl; stands = h }
 shown_map rows S.Tuple p t h = absurd h
 shown_map rows S.ListPairs p t h = absurd h
@@ -79,11 +79,11 @@ shown_map rows (S.StringJoin delim) p t h = absurd h
 
 -- ---- tuples
 
-record IsTuple (form : StructForm) (n : Node) (t : Data) : Type 0 where
-  form_is : form ≡ S.Tuple
-  stands : Stands n t
+pub record IsTuple (form : StructForm) (n : Node) (t : Data) : Type 0 where
+  pub form_is : form ≡ S.Tuple
+  pub stands : Stands n t
 
-shown_tuple : (rows : List Row) (form : StructForm) (n : Node) (t : Data) → Shows rows form (R.Tuple n) t → IsTuple form n t
+pub shown_tuple : (rows : List Row) (form : StructForm) (n : Node) (t : Data) → Shows rows form (R.Tuple n) t → IsTuple form n t
 shown_tuple rows S.Map n t h = absurd h
 shown_tuple rows S.Tuple n t h = record { form_is = refl; stands = h }
 shown_tuple rows S.ListPairs n t h = absurd h
@@ -92,13 +92,13 @@ shown_tuple rows (S.StringJoin delim) n t h = absurd h
 
 -- ---- pairs of a list
 
-record IsListPairs (form : StructForm) (s : Items) (t : Data) : Type 0 where
-  form_is : form ≡ S.ListPairs
-  items : T.Items
-  list : t ≡ T.list items
-  left : HasItems s items
+pub record IsListPairs (form : StructForm) (s : Items) (t : Data) : Type 0 where
+  pub form_is : form ≡ S.ListPairs
+  pub items : T.Items
+  pub list : t ≡ T.list items
+  pub left : HasItems s items
 
-shown_listpairs : (rows : List Row) (form : StructForm) (s : Items) (t : Data) → Shows rows form (R.ListPairs s) t → IsListPairs form s t
+pub shown_listpairs : (rows : List Row) (form : StructForm) (s : Items) (t : Data) → Shows rows form (R.ListPairs s) t → IsListPairs form s t
 shown_listpairs rows S.Map s t h = absurd h
 shown_listpairs rows S.Tuple s t h = absurd h
 shown_listpairs rows S.ListPairs s t h = record { form_is = refl; items = h.0; list = h.1; left = h.2 }
@@ -109,33 +109,33 @@ items_inside : T.Items → Data → T.Items
 items_inside z (T.list ds) = ds
 items_inside z d = z
 
-same_items : (ds es : T.Items) → T.list ds ≡ T.list es → ds ≡ es
+pub same_items : (ds es : T.Items) → T.list ds ≡ T.list es → ds ≡ es
 unfolding items_inside
 same_items ds es e = ap (items_inside ds) e
 
 -- ---- texts
 
-record IsTextPairs (form : StructForm) (split : PairParts) (t : Data) : Type 0 where
-  inner : List ℕ
-  entry : List ℕ
-  form_is : form ≡ S.StringPairs inner entry
-  shown_as : split_entries inner entry t ≡ Some (text_entries (pairs_in split))
+pub record IsTextPairs (form : StructForm) (split : PairParts) (t : Data) : Type 0 where
+  pub inner : List ℕ
+  pub entry : List ℕ
+  pub form_is : form ≡ S.StringPairs inner entry
+  pub shown_as : split_entries inner entry t ≡ Some (text_entries (pairs_in split))
 
-shown_textpairs : (rows : List Row) (form : StructForm) (split : PairParts) (t : Data) → Shows rows form (R.StringPairs split) t → IsTextPairs form split t
+pub shown_textpairs : (rows : List Row) (form : StructForm) (split : PairParts) (t : Data) → Shows rows form (R.StringPairs split) t → IsTextPairs form split t
 shown_textpairs rows S.Map split t h = absurd h
 shown_textpairs rows S.Tuple split t h = absurd h
 shown_textpairs rows S.ListPairs split t h = absurd h
 shown_textpairs rows (S.StringPairs inner entry) split t h = record { inner = inner; entry = entry; form_is = refl; shown_as = h }
 shown_textpairs rows (S.StringJoin delim) split t h = absurd h
 
-record IsTextJoin (form : StructForm) (split : JoinParts) (t : Data) : Type 0 where
-  delim : List ℕ
-  form_is : form ≡ S.StringJoin delim
-  text : List ℕ
-  text_is : t ≡ T.text text
-  cuts : parted delim text ≡ joined_parts split
+pub record IsTextJoin (form : StructForm) (split : JoinParts) (t : Data) : Type 0 where
+  pub delim : List ℕ
+  pub form_is : form ≡ S.StringJoin delim
+  pub text : List ℕ
+  pub text_is : t ≡ T.text text
+  pub cuts : parted delim text ≡ joined_parts split
 
-shown_textjoin : (rows : List Row) (form : StructForm) (split : JoinParts) (t : Data) → Shows rows form (R.StringJoin split) t → IsTextJoin form split t
+pub shown_textjoin : (rows : List Row) (form : StructForm) (split : JoinParts) (t : Data) → Shows rows form (R.StringJoin split) t → IsTextJoin form split t
 shown_textjoin rows S.Map split t h = absurd h
 shown_textjoin rows S.Tuple split t h = absurd h
 shown_textjoin rows S.ListPairs split t h = absurd h
@@ -170,28 +170,28 @@ found_of n place None (Some m) h = h
 found_of n place (Some d) None h = h
 found_of n place (Some d) (Some m) h = h.stands
 
-module _ (rows : List Row) (ty : ℕ) (t : Data) (os : List (Option Data)) (parts : StructParts) (legible : IsLegible parts.acc.now) (i : ℕ) (f : Field)
-    (less : i < length parts.def.now.fields) (is : f ≡ get_or parts.def.now.fields i f) (part : Part) (h : ArePartsOf rows ty t os parts)
+module _ (rows : List Row) (ty : ℕ) (t : Data) (os : List (Option Data)) (parts : StructParts) (legible : IsLegible parts.fields.acc.now) (i : ℕ) (f : Field)
+    (less : i < length parts.fields.def.now.fields) (is : f ≡ get_or parts.fields.def.now.fields i f) (part : Part) (h : ArePartsOf rows ty t os parts)
   where
-    clear : ClearStruct parts.def.now.form parts.def.now.fields
-    clear = clear_of rows ty parts.def.now (subst IsLegible h.table legible) h.struct
+    clear : ClearStruct parts.fields.def.now.form parts.fields.def.now.fields
+    clear = clear_of rows ty parts.fields.def.now (subst IsLegible h.table legible) h.struct
 
-    delims : HasDelims parts.def.now.form parts.def.now.fields
-    delims = delims_of rows ty parts.def.now (subst IsLegible h.table legible) h.struct
+    delims : HasDelims parts.fields.def.now.form parts.fields.def.now.fields
+    delims = delims_of rows ty parts.fields.def.now (subst IsLegible h.table legible) h.struct
 
-    made : struct_form parts.def.now.form parts.def.now.fields os ≡ Some t
-    made = made_of rows ty t parts.def.now os h.struct h.layered
+    made : struct_form parts.fields.def.now.form parts.fields.def.now.fields os ≡ Some t
+    made = made_of rows ty t parts.fields.def.now os h.struct h.layered
 
     pub map_field : (p : Piece) (key : List ℕ) (r : Option Node) → parts.source ≡ R.Map p → key ≡ field_text f
-        → ((u : Data) → StandsFor parts.acc.now p u → Found (option_and_then (value_at key) (members_in u)) r)
+        → ((u : Data) → StandsFor parts.fields.acc.now p u → Found (option_and_then (value_at key) (members_in u)) r)
         → ((o : Option Data) → IsLookedUp f o → Found (shown f o) r → IsPart rows f o part)
-        → IsFieldOf rows parts.def.now.fields os i part
+        → IsFieldOf rows parts.fields.def.now.fields os i part
     map_field p key r source name found told =
-        let x = shown_map rows parts.def.now.form p t (subst (λ s. Shows rows parts.def.now.form s t) source h.shows) in
-        let fields : AreClearFields parts.def.now.fields = subst (λ form. ClearStruct form parts.def.now.fields) x.form_is clear in
-        let made_map : struct_form S.Map parts.def.now.fields os ≡ Some t = ap (λ form. struct_form form parts.def.now.fields os) (sym x.form_is) ∙ made in
-        let at = field_at parts.def.now.fields i f less is in
-        let k = map_keyed parts.def.now.fields os t i f fields.apart made_map at in
+        let x = shown_map rows parts.fields.def.now.form p t (subst (λ s. Shows rows parts.fields.def.now.form s t) source h.shows) in
+        let fields : AreClearFields parts.fields.def.now.fields = subst (λ form. ClearStruct form parts.fields.def.now.fields) x.form_is clear in
+        let made_map : struct_form S.Map parts.fields.def.now.fields os ≡ Some t = ap (λ form. struct_form form parts.fields.def.now.fields os) (sym x.form_is) ∙ made in
+        let at = field_at parts.fields.def.now.fields i f less is in
+        let k = map_keyed parts.fields.def.now.fields os t i f fields.apart made_map at in
         let there = found t (subst (λ rs. StandsFor rs p t) (sym h.table) x.stands) in
         let looked : option_and_then (value_at key) (members_in t) ≡ shown f k.held = ap (λ q. option_and_then (value_at q) (members_in t)) name ∙ k.looked in
         record {
@@ -199,24 +199,24 @@ module _ (rows : List Row) (ty : ℕ) (t : Data) (os : List (Option Data)) (part
           there = at;
           held = k.held;
           at = k.at;
-          is = told k.held (record { absent = k.absent; required = all_at (λ (g : Field). IsRequired g) parts.def.now.fields i f fields.required at }) (subst (λ o. Found o r) looked there);
+          is = told k.held (record { absent = k.absent; required = all_at (λ (g : Field). IsRequired g) parts.fields.def.now.fields i f fields.required at }) (subst (λ o. Found o r) looked there);
         }
 
     pub tuple_field : (n : Node) (r : Option Node) → parts.source ≡ R.Tuple n
         → ((u : Data) → Stands n u → Finds n (place_of u i) (item_of u i) r)
         → ((o : Option Data) → Found o r → IsPart rows f o part)
-        → IsFieldOf rows parts.def.now.fields os i part
+        → IsFieldOf rows parts.fields.def.now.fields os i part
     tuple_field n r source found told =
-        let x = shown_tuple rows parts.def.now.form n t (subst (λ s. Shows rows parts.def.now.form s t) source h.shows) in
-        let made_tuple : struct_form S.Tuple parts.def.now.fields os ≡ Some t = ap (λ form. struct_form form parts.def.now.fields os) (sym x.form_is) ∙ made in
-        let y = map_from (λ ds. T.list (T.items_of ds)) (tuple_items parts.def.now.fields os) t made_tuple in
-        let k = placed parts.def.now.fields os y.item i y.there less in
+        let x = shown_tuple rows parts.fields.def.now.form n t (subst (λ s. Shows rows parts.fields.def.now.form s t) source h.shows) in
+        let made_tuple : struct_form S.Tuple parts.fields.def.now.fields os ≡ Some t = ap (λ form. struct_form form parts.fields.def.now.fields os) (sym x.form_is) ∙ made in
+        let y = map_from (λ ds. T.list (T.items_of ds)) (tuple_items parts.fields.def.now.fields os) t made_tuple in
+        let k = placed parts.fields.def.now.fields os y.item i y.there less in
         let there : Found (item_of t i) r = found_of n (place_of t i) (item_of t i) r (found t x.stands) in
         let looked : item_of t i ≡ k.held =
         ap (λ u. item_of u i) (sym (same_Some (T.list (T.items_of y.item)) t y.made)) ∙ ap (λ ds. slice_get ds i) (items_list-items_of y.item) ∙ k.same in
         record {
           field = f;
-          there = field_at parts.def.now.fields i f less is;
+          there = field_at parts.fields.def.now.fields i f less is;
           held = k.held;
           at = k.at;
           is = told k.held (subst (λ o. Found o r) looked there);
@@ -225,14 +225,14 @@ module _ (rows : List Row) (ty : ℕ) (t : Data) (os : List (Option Data)) (part
     pub listpairs_field : (s : Items) (key : List ℕ) (r : Option Node) → parts.source ≡ R.ListPairs s → key ≡ field_text f
         → ((es : List (List ℕ × Data)) → HasItems s (T.items_of (map pair_data es)) → Found (value_at key es) r)
         → ((o : Option Data) → IsLookedUp f o → Found (shown f o) r → IsPart rows f o part)
-        → IsFieldOf rows parts.def.now.fields os i part
+        → IsFieldOf rows parts.fields.def.now.fields os i part
     listpairs_field s key r source name found told =
-        let x = shown_listpairs rows parts.def.now.form s t (subst (λ u. Shows rows parts.def.now.form u t) source h.shows) in
-        let fields : AreClearFields parts.def.now.fields = subst (λ form. ClearStruct form parts.def.now.fields) x.form_is clear in
-        let made_pairs : struct_form S.ListPairs parts.def.now.fields os ≡ Some t = ap (λ form. struct_form form parts.def.now.fields os) (sym x.form_is) ∙ made in
-        let at = field_at parts.def.now.fields i f less is in
-        let y = map_from listpairs (field_entries parts.def.now.fields os) t made_pairs in
-        let k = keyed parts.def.now.fields os y.item i f fields.apart y.there at in
+        let x = shown_listpairs rows parts.fields.def.now.form s t (subst (λ u. Shows rows parts.fields.def.now.form u t) source h.shows) in
+        let fields : AreClearFields parts.fields.def.now.fields = subst (λ form. ClearStruct form parts.fields.def.now.fields) x.form_is clear in
+        let made_pairs : struct_form S.ListPairs parts.fields.def.now.fields os ≡ Some t = ap (λ form. struct_form form parts.fields.def.now.fields os) (sym x.form_is) ∙ made in
+        let at = field_at parts.fields.def.now.fields i f less is in
+        let y = map_from listpairs (field_entries parts.fields.def.now.fields os) t made_pairs in
+        let k = keyed parts.fields.def.now.fields os y.item i f fields.apart y.there at in
         let same : x.items ≡ T.items_of (map pair_data y.item) = same_items x.items (T.items_of (map pair_data y.item)) (sym x.list ∙ sym (same_Some (listpairs y.item) t y.made)) in
         let there = found y.item (subst (λ (ds : T.Items). HasItems s ds) same x.left) in
         let looked : value_at key y.item ≡ shown f k.held = ap (λ q. value_at q y.item) name ∙ k.looked in
@@ -241,21 +241,21 @@ module _ (rows : List Row) (ty : ℕ) (t : Data) (os : List (Option Data)) (part
           there = at;
           held = k.held;
           at = k.at;
-          is = told k.held (record { absent = k.absent; required = all_at (λ (g : Field). IsRequired g) parts.def.now.fields i f fields.required at }) (subst (λ o. Found o r) looked there);
+          is = told k.held (record { absent = k.absent; required = all_at (λ (g : Field). IsRequired g) parts.fields.def.now.fields i f fields.required at }) (subst (λ o. Found o r) looked there);
         }
 
     pub stringpairs_field : (split : PairParts) (key : List ℕ) (r : Option (Bor (List ℕ))) → parts.source ≡ R.StringPairs split → key ≡ field_text f
         → option_map (λ (s : Bor (List ℕ)). s.now) r ≡ value_at key (pairs_in split)
         → ((o : Option Data) → IsLookedUp f o → shown f o ≡ option_map (λ (s : Bor (List ℕ)). T.text s.now) r → IsPart rows f o part)
-        → IsFieldOf rows parts.def.now.fields os i part
+        → IsFieldOf rows parts.fields.def.now.fields os i part
     stringpairs_field split key r source name found told =
-        let x = shown_textpairs rows parts.def.now.form split t (subst (λ u. Shows rows parts.def.now.form u t) source h.shows) in
-        let both : AreClearFields parts.def.now.fields × IsGiven x.inner = subst (λ form. ClearStruct form parts.def.now.fields) x.form_is clear in
-        let given : IsGiven x.entry = subst (λ form. HasDelims form parts.def.now.fields) x.form_is delims in
-        let made_pairs : struct_form (S.StringPairs x.inner x.entry) parts.def.now.fields os ≡ Some t = ap (λ form. struct_form form parts.def.now.fields os) (sym x.form_is) ∙ made in
-        let at = field_at parts.def.now.fields i f less is in
-        let y = then_from (stringpairs x.inner x.entry) (field_entries parts.def.now.fields os) t made_pairs in
-        let k = keyed parts.def.now.fields os y.item i f both.0.apart y.there at in
+        let x = shown_textpairs rows parts.fields.def.now.form split t (subst (λ u. Shows rows parts.fields.def.now.form u t) source h.shows) in
+        let both : AreClearFields parts.fields.def.now.fields × IsGiven x.inner = subst (λ form. ClearStruct form parts.fields.def.now.fields) x.form_is clear in
+        let given : IsGiven x.entry = subst (λ form. HasDelims form parts.fields.def.now.fields) x.form_is delims in
+        let made_pairs : struct_form (S.StringPairs x.inner x.entry) parts.fields.def.now.fields os ≡ Some t = ap (λ form. struct_form form parts.fields.def.now.fields os) (sym x.form_is) ∙ made in
+        let at = field_at parts.fields.def.now.fields i f less is in
+        let y = then_from (stringpairs x.inner x.entry) (field_entries parts.fields.def.now.fields os) t made_pairs in
+        let k = keyed parts.fields.def.now.fields os y.item i f both.0.apart y.there at in
         let split_is = split_of_pairs x.inner x.entry both.1 given y.item t y.made in
         let same : y.item ≡ text_entries (pairs_in split) = same_Some y.item (text_entries (pairs_in split)) (sym split_is.entries ∙ x.shown_as) in
         let looked : shown f k.held ≡ option_map (λ (s : Bor (List ℕ)). T.text s.now) r =
@@ -265,16 +265,16 @@ module _ (rows : List Row) (ty : ℕ) (t : Data) (os : List (Option Data)) (part
           there = at;
           held = k.held;
           at = k.at;
-          is = told k.held (record { absent = k.absent; required = all_at (λ (g : Field). IsRequired g) parts.def.now.fields i f both.0.required at }) looked;
+          is = told k.held (record { absent = k.absent; required = all_at (λ (g : Field). IsRequired g) parts.fields.def.now.fields i f both.0.required at }) looked;
         }
 
     pub stringjoin_field : (split : JoinParts) (r : Option (Bor (List ℕ))) → parts.source ≡ R.StringJoin split
         → option_map (λ (s : Bor (List ℕ)). s.now) r ≡ slice_get (joined_parts split) i
         → ((o : Option Data) → o ≡ option_map (λ (s : Bor (List ℕ)). T.text s.now) r → IsPart rows f o part)
-        → IsFieldOf rows parts.def.now.fields os i part
+        → IsFieldOf rows parts.fields.def.now.fields os i part
     stringjoin_field split r source found told =
-        let fs = parts.def.now.fields in
-        let x = shown_textjoin rows parts.def.now.form split t (subst (λ u. Shows rows parts.def.now.form u t) source h.shows) in
+        let fs = parts.fields.def.now.fields in
+        let x = shown_textjoin rows parts.fields.def.now.form split t (subst (λ u. Shows rows parts.fields.def.now.form u t) source h.shows) in
         let given : HasDelims (S.StringJoin x.delim) fs = subst (λ form. HasDelims form fs) x.form_is delims in
         let made_join : struct_form (S.StringJoin x.delim) fs os ≡ Some t = ap (λ form. struct_form form fs os) (sym x.form_is) ∙ made in
         let k = joined_at x.delim x.text fs os i given less (made_join ∙ ap Some x.text_is) in

@@ -33,11 +33,11 @@ struct_of rows ty n d s same def is = ap (def_at rows) (sym same) ∙ def ∙ ap
 pub refused_of : (rows : List Row) (ty : ℕ) (s : StructDef) (t : Data) (why : Why) → IsStruct rows ty s → struct_why s.form s.fields t ≡ Some (told why) → Refused rows ty t why
 refused_of rows ty s t why is h = ap (option_and_then (λ (d : TypeDef). why_of d t)) is ∙ h
 
-pub parts_of : (ty : ℕ) (p : Piece) (t : Data) (parts : StructParts) → IsLegible parts.acc.now → IsStruct parts.acc.now ty parts.def.now → StandsFor parts.acc.now p t
-    → struct_why parts.def.now.form parts.def.now.fields t ≡ None → Shows parts.acc.now parts.def.now.form parts.source t → HasParts parts.acc.now ty t parts
+pub parts_of : (ty : ℕ) (p : Piece) (t : Data) (parts : StructParts) → IsLegible parts.fields.acc.now → IsStruct parts.fields.acc.now ty parts.fields.def.now → StandsFor parts.fields.acc.now p t
+    → struct_why parts.fields.def.now.form parts.fields.def.now.fields t ≡ None → Shows parts.fields.acc.now parts.fields.def.now.form parts.source t → HasParts parts.fields.acc.now ty t parts
 parts_of ty p t parts legible is stands none shows =
-    let rows = parts.acc.now in
-    let s = parts.def.now in
+    let rows = parts.fields.acc.now in
+    let s = parts.fields.def.now in
     let x = (layer_or_why (D.Struct s) (legible.clear.types (base rows ty) (D.Struct s) is) (legible.delims (base rows ty) (D.Struct s) is) t (piece_rises rows p t stands)).0 none in
     let y = then_from (struct_form s.form s.fields) (as_struct x.0) t x.1 in
     (y.item, record { table = refl; struct = is; shows = shows; layered = ap (option_and_then (λ (d : TypeDef). composed alone d (L.struct y.item))) is ∙ y.made })

@@ -7,5 +7,8 @@ pub mod Marking
 pub mod Noting
 pub mod Pairing
 pub mod Placing
+pub mod Presenting
 pub mod Splitting
+pub mod Stepping
 pub mod Surveying
+pub mod Writing

@@ -239,6 +239,17 @@ value_inside : Data → Data → Data
 value_inside z (T.list (T.item k (T.item v ds))) = v
 value_inside z d = z
 
+-- a pair's name and value
+pub pair_of : (e : List ℕ × Data) (k : Bor (List ℕ)) (n : Node) → IsPairOf (pair_data e) (P.Entry k n) → (k.now ≡ e.0) × Stands n e.1
+unfolding name_inside value_inside
+pair_of e k n h = (sym (ap name_inside h.1), subst (Stands n) (sym (ap (value_inside e.1) h.1)) h.2)
+
+-- what is no name with a value is no pair
+pub no_pair_of : (e : List ℕ × Data) (pair : Pair) → IsPairOf (pair_data e) pair → (pair ≡ P.Odd) ⊎ ((pair ≡ P.Empty) ⊎ ((k : Bor (List ℕ)) × (pair ≡ P.Name k))) → ⊥
+no_pair_of e pair h (inl is) = let bad : true ≡ false = subst (IsPairOf (pair_data e)) is h in cc
+no_pair_of e pair h (inr (inl is)) = let bad : pair_data e ≡ T.list T.no_items = subst (IsPairOf (pair_data e)) is h in cc
+no_pair_of e pair h (inr (inr named)) = let bad : true ≡ false = (subst (IsPairOf (pair_data e)) named.1 h).1 in cc
+
 module _ (key : List ℕ) (e : List ℕ × Data) where
   pub value_there : (k : Bor (List ℕ)) (n : Node) → IsPairOf (pair_data e) (P.Entry k n) → same_text key k.now ≡ true → Found (value_at key (e ∷ [])) (Some n)
   unfolding name_inside value_inside
@@ -255,6 +266,4 @@ module _ (key : List ℕ) (e : List ℕ × Data) where
       subst (λ b. Found (cond b (Some e.1) None) None) (sym (ap (same_text key) name ∙ other)) tt
 
   pub value_none : (pair : Pair) → IsPairOf (pair_data e) pair → (pair ≡ P.Odd) ⊎ ((pair ≡ P.Empty) ⊎ ((k : Bor (List ℕ)) × (pair ≡ P.Name k))) → Found (value_at key (e ∷ [])) None
-  value_none pair h (inl is) = absurd (let bad : true ≡ false = subst (IsPairOf (pair_data e)) is h in cc)
-  value_none pair h (inr (inl is)) = absurd (let bad : pair_data e ≡ T.list T.no_items = subst (IsPairOf (pair_data e)) is h in cc)
-  value_none pair h (inr (inr named)) = absurd (let bad : true ≡ false = (subst (IsPairOf (pair_data e)) named.1 h).1 in cc)
+  value_none pair h other = absurd (no_pair_of e pair h other)

@@ -40,7 +40,7 @@ zero_suc n = by (nat_eq zero (suc n)) refl where
   by true is = absurd (omega (arith, eqb-true zero (suc n) is))
   by false is = refl
 
-text_turn : (a b : List ℕ) → same_text a b ≡ same_text b a
+pub text_turn : (a b : List ℕ) → same_text a b ≡ same_text b a
 text_turn a b = same_false (same_text a b) (same_text b a)
     (λ e. ap (same_text b) (text_same a b (sym e)) ∙ same_text_self b)
     (λ e. ap (same_text a) (text_same b a (sym e)) ∙ same_text_self a)

@@ -4,3 +4,5 @@ pub mod Pairs
 pub mod Parts
 pub mod Reading
 pub mod Source
+pub mod Present
+pub mod Stepping

@@ -47,13 +47,13 @@ HasNumber rows part = Unit {0}
 
 -- the fields of which parts were found
 abbrev pub fields_of : StructParts → List Field
-fields_of parts = parts.def.now.fields
+fields_of parts = parts.fields.def.now.fields
 
 -- these data are the parts, one for each field
 pub record ArePartsOf (rows : List Row) (ty : ℕ) (t : Data) (os : List (Option Data)) (parts : StructParts) : Type 0 where
-  pub table : parts.acc.now ≡ rows
-  pub struct : IsStruct rows ty parts.def.now
-  pub shows : Shows rows parts.def.now.form parts.source t
+  pub table : parts.fields.acc.now ≡ rows
+  pub struct : IsStruct rows ty parts.fields.def.now
+  pub shows : Shows rows parts.fields.def.now.form parts.source t
   pub layered : Layered rows ty t (L.struct os)
 
 -- there are such data

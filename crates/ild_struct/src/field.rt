@@ -93,10 +93,10 @@ impl<'b> StructParts<'b> {
         ensures numbered { (rows : List Row) → HasNumber rows result }
     {
         // It does no work: its clauses say that the names of fields are apart.
-        self.acc.types();
-        let field = &self.def.fields.as_slice()[i];
+        self.fields.acc.types();
+        let field = &self.fields.def.fields.as_slice()[i];
         match &self.source {
-            Source::Map(piece) => keyed(field, entry(self.acc, piece, text_of_field(field))),
+            Source::Map(piece) => keyed(field, entry(self.fields.acc, piece, text_of_field(field))),
             Source::Tuple(node) => placed(node.item(i as u64)),
             Source::ListPairs(items) => keyed(field, pair_value(*items, text_of_field(field))),
             Source::StringPairs(split) => {

@@ -1,5 +1,5 @@
 //! The fields of a struct: the place of a name, and whether a value is the one for which its field is left out.
-ghost use Rattle.std.specs.Prelude.{◌≡◌, ◌<◌, ◌≤◌, List, length, Some, ℤ, Bool, Option, true};
+ghost use Rattle.std.specs.Prelude.{◌≡◌, ◌<◌, ◌≤◌, List, length, Some, IfSome, ℤ, Bool, Option, true};
 ghost use Rattle.ild_data.specs.Data.{Data};
 ghost use Rattle.ild_schema.specs.Clear.{AreNamesApart};
 ghost use Rattle.ild_schema.specs.Marks.{field_text};
@@ -38,18 +38,38 @@ impl Fields<'_> {
         }
     }
 
-    /// The place of the field that has a name in a block, or the number of fields where none has it. The field at the
-    /// guessed place is asked first.
+    /// The place of the field that has a name in a block, or the number of fields where none has it. The fields at the
+    /// guessed place and right behind it are asked first, and then, of few fields, those at the front.
     pub(crate) fn place(&self, name: &str, guess: usize) -> usize
         ensures place { AreNamesApart self.now.def.now.fields → result ≡ place_of self.now.def.now.fields name.now }
         ensures within { result ≤ length self.now.def.now.fields }
     {
-        if is_named(self.def.fields.as_slice(), guess, name) {
-            guess
-        } else {
-            self.look_up(name)
+        let fields = self.def.fields.as_slice();
+        match place_near(fields, guess, name) {
+            Some(place) => place,
+            None => match place_near(fields, 0, name) {
+                Some(place) => place,
+                None => self.look_up(name),
+            },
         }
     }
+}
+
+/// How many fields are asked for a name one after another, before it is looked up.
+const NEAR: usize = 8;
+
+// The place of the field that has a name, where it is one of the next few.
+fn place_near(fields: &[Field], from: usize, name: &str) -> Option<usize>
+    ensures place { IfSome result (λ place. AreNamesApart fields.now → place ≡ place_of fields.now name.now) }
+    ensures within { IfSome result (λ place. place < length fields.now) }
+{
+    for step in 0..NEAR {
+        let place = from.saturating_add(step);
+        if is_named(fields, place, name) {
+            return Some(place);
+        }
+    }
+    None
 }
 
 // Whether the field at a place has a name in a block.

@@ -5,17 +5,22 @@
 mod causes;
 mod field;
 mod fields;
+mod left;
 mod map;
 mod notes;
 mod pair;
 mod pairs;
 mod part;
 mod parts;
+mod present;
 mod read;
 mod source;
+mod step;
 mod texts;
 mod tuple;
+mod written;
 
 pub use part::Part;
 pub use parts::StructParts;
+pub use present::Present;
 pub use read::layer;

@@ -1,14 +1,13 @@
 //! The fields of a struct that were found in a block.
 ghost use Rattle.ild_struct.specs.Source.{IsSourced};
 
+use crate::fields::Fields;
 use crate::source::Source;
-use ild_schema::{Accepted, StructDef};
 
 /// The fields of a struct in a block: borrows of the schema and of the block, with no memory of their own.
 #[derive(Clone, Copy)]
 pub struct StructParts<'b> {
-    pub(crate) acc: &'b Accepted,
-    pub(crate) def: &'b StructDef,
+    pub(crate) fields: Fields<'b>,
     pub(crate) source: Source<'b>,
-    ghost sourced: { IsSourced acc.now source },
+    ghost sourced: { IsSourced fields.acc.now source },
 }

@@ -54,10 +54,13 @@ pub fn layer<'b>(acc: &'b Accepted, ty: TypeNo, piece: Piece<'b>) -> Result<Stru
     acc.types();
     let base = acc.base(ty);
     match acc.def(base) {
-        TypeDef::Struct(def) => match source_of(&Fields { acc, base, def }, piece) {
-            Ok(source) => Ok(StructParts { acc, def, source }),
-            Err(why) => Err(why),
-        },
+        TypeDef::Struct(def) => {
+            let fields = Fields { acc, base, def };
+            match source_of(&fields, piece) {
+                Ok(source) => Ok(StructParts { fields, source }),
+                Err(why) => Err(why),
+            }
+        }
         _ => Err(Why::Kind),
     }
 }

@@ -1,0 +1,48 @@
+//! The parts of a struct that are written.
+ghost use Rattle.std.specs.Prelude.{◌≡◌, ◌<◌, ℕ, List, Option};
+ghost use Rattle.ild_data.specs.Data.{Data};
+ghost use Rattle.ild_schema.specs.declared.row.Row.{Row};
+ghost use Rattle.ild_struct.specs.Parts.{ArePartsOf, fields_of};
+ghost use Rattle.ild_struct.specs.Present.{IsWritten};
+ghost use Rattle.ild_struct.specs.Stepping.{Starts};
+
+use crate::left::Left;
+use crate::parts::StructParts;
+use crate::present::Present;
+use crate::source::Source;
+use ild_piece::entries;
+
+impl<'b> StructParts<'b> {
+    // All parts, of which none was taken.
+    fn all(&self) -> Left<'b>
+        ensures { (rows : List Row) (ty : ℕ) (t : Data) (os : List (Option Data)) → ArePartsOf rows ty t os self.now → Starts (fields_of self.now) os result }
+    {
+        // It does no work: its clauses say that the names of fields are apart.
+        self.fields.acc.types();
+        match &self.source {
+            Source::Map(piece) => match entries(self.fields.acc, piece) {
+                Some(entries) => Left::Map(entries),
+                None => Left::StringJoin(None),
+            },
+            Source::Tuple(node) => match node.items() {
+                Some(items) => Left::Tuple(items),
+                None => Left::StringJoin(None),
+            },
+            Source::ListPairs(items) => Left::ListPairs(*items),
+            Source::StringPairs(split) => Left::StringPairs(*split),
+            Source::StringJoin(split) => Left::StringJoin(Some(*split)),
+        }
+    }
+
+    /// The parts that are written, one after another, each with the number of its field: a pass over the data. Absent fields
+    /// and implicit ones that are left out don't come.
+    pub fn present(&self) -> Present<'b>
+        ensures { (rows : List Row) (ty : ℕ) (t : Data) (os : List (Option Data)) → ArePartsOf rows ty t os self.now → IsWritten (fields_of self.now) os result }
+    {
+        Present {
+            fields: self.fields,
+            left: self.all(),
+            next: 0,
+        }
+    }
+}
