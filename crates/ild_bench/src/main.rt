@@ -3,10 +3,12 @@
 
 mod blocks;
 mod given;
+mod layers;
 mod trees;
 mod whole;
 
 use given::given;
+use layers::{Work, all_structs};
 use std::io;
 use std::process::ExitCode;
 
@@ -21,6 +23,10 @@ fn main(rt: HostRuntime) -> io::Result<ExitCode> {
         "items" => blocks::all_items(&bytes, times),
         "entries" => blocks::all_entries(&bytes, times),
         "entry" => blocks::last_entry(&bytes, times),
+        "layers-straight" => all_structs(alloc, &bytes, times, "Straight", Work::Layer),
+        "layers-crossed" => all_structs(alloc, &bytes, times, "Crossed", Work::Layer),
+        "parts-straight" => all_structs(alloc, &bytes, times, "Straight", Work::Parts),
+        "parts-crossed" => all_structs(alloc, &bytes, times, "Crossed", Work::Parts),
         "id" => blocks::all_ids(&bytes, times),
         "read" => trees::read_all(alloc, &bytes, times),
         "print" => trees::print_all(alloc, &bytes, times),
