@@ -5,6 +5,7 @@ ghost use Rattle.ild_struct.specs.Parts.{fields_of};
 use ild_cbor::Why::{Count, Delimiter, Implicit, Kind, Missing, Name, Order, Repeat};
 use ild_cbor::{Piece, Why, check};
 use ild_compile::compile;
+use ild_piece::is_null;
 use ild_schema::{Accepted, TypeDef};
 use ild_struct::{Part, StructParts, layer};
 use std::process::Abort;
@@ -107,6 +108,22 @@ fn are_said(parts: &StructParts<'_>, count: usize, letters: &[u8]) -> bool
     same
 }
 
+/// Whether the parts that are written are those of the letters, each once.
+fn are_written(parts: &StructParts<'_>, letters: &[u8]) -> bool {
+    let mut same = true;
+    let mut count: usize = 0;
+    let mut present = parts.present();
+    while let Some((i, piece)) = present.next() {
+        count = count.saturating_add(1);
+        same &= match letters.get(i) {
+            Some(b'H') => !is_null(&piece),
+            Some(b'N') => is_null(&piece),
+            _ => false,
+        };
+    }
+    same && count == letters.iter().filter(|letter| matches!(**letter, b'H' | b'N')).count()
+}
+
 /// Whether a row is said.
 fn is_said(acc: &Accepted, row: &Row) -> Result<bool, &'static str> {
     let ty = acc.type_named(row.0).ok_or("a type")?;
@@ -118,7 +135,10 @@ fn is_said(acc: &Accepted, row: &Row) -> Result<bool, &'static str> {
         return Err("a struct");
     };
     match (layer(acc, ty, root), row.2) {
-        (Ok(parts), Ok(letters)) => Ok(are_said(&parts, def.fields.len(), letters.as_bytes())),
+        (Ok(parts), Ok(letters)) => {
+            let letters = letters.as_bytes();
+            Ok(are_said(&parts, def.fields.len(), letters) && are_written(&parts, letters))
+        }
         (Err(found), Err(wanted)) => Ok(found == wanted),
         _ => Ok(false),
     }
