@@ -37,7 +37,6 @@ quiet_plain m v reply = record {
   carries = λ h. h;
   stored = gains_block m m [] (adds_none m m [] refl);
   still = λ e. refl;
-  gained = gains_block m m [] (adds_none m m [] refl);
   stays = tt;
   gets = omega arith;
   puts = omega arith;
@@ -62,7 +61,6 @@ stored m v c id n s = record {
   carries = λ h. (s.answer.1, s.answer.1);
   stored = gains_block m n (blocks_of c) s.adds;
   still = λ e. no_puts (n.blocks ≡ m.blocks) e;
-  gained = gains_block m n (blocks_of c) s.adds;
   stays = tt;
   gets = let le = s.gets in omega arith;
   puts = s.puts;
@@ -77,7 +75,6 @@ wanting m v c id n s = record {
   carries = λ h. (holds_all_later m n (blocks_of v) s.later h.0, holds_all_later m n (blocks_of v) s.later h.0);
   stored = gains_block m n (blocks_of c) s.adds;
   still = λ e. no_puts (n.blocks ≡ m.blocks) e;
-  gained = gains_block m n (blocks_of c) s.adds;
   stays = tt;
   gets = let le = s.gets in omega arith;
   puts = s.puts;
@@ -91,7 +88,6 @@ refused m v c refusal n s = record {
   carries = λ h. (holds_all_later m n (blocks_of v) s.later h.0, holds_all_later m n (blocks_of v) s.later h.0);
   stored = gains_block m n (blocks_of c) s.adds;
   still = λ e. no_puts (n.blocks ≡ m.blocks) e;
-  gained = gains_block m n (blocks_of c) s.adds;
   stays = tt;
   gets = let le = s.gets in omega arith;
   puts = s.puts;

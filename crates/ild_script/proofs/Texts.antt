@@ -1,5 +1,5 @@
 -- The path and the json of a command are of texts.
-use Rattle.std.proofs.Common.{◌≡◌, ℕ, ◌+◌, ◌<◌, List, [], ◌∷◌, length, drop, map, Bool, true, false, cond, eqb, ltb, Option, Some, None, option_map, refl, sym, ap, ◌∙◌, subst, arith, nat_eq}
+use Rattle.std.proofs.Common.{◌≡◌, ℕ, ◌+◌, ◌<◌, List, [], ◌∷◌, length, drop, map, Bool, true, false, cond, eqb, ltb, Option, Some, None, option_map, refl, subst, arith, nat_eq}
 use Rattle.std.specs.Prelude.{IsUtf8, codes, ◌&&◌}
 use Rattle.std.specs.List.{AllByRecursion, slice_split, starts_with, list_all, before_first, after_first, position_or_len}
 use Rattle.std.specs.Str.Lossy.{utf8_valid_len}
@@ -9,7 +9,7 @@ use Rattle.std.proofs.lemmas.Str.{IsUtf8-nil}
 use Rattle.ild_data.specs.Key.{same_text}
 use Rattle.ild_script.specs.Escape.{unescaped}
 use Rattle.ild_script.specs.Laws.{IsOfTexts, CommandsAreOfTexts}
-use Rattle.ild_script.specs.Line.{Command, Reading, blank, command, outside, is_space, word_of, shape_of, at_path, read_json, read_rest, read_behind, read_shape, read_alone, reads_text, reads}
+use Rattle.ild_script.specs.Line.{Command, Reading, command, outside, is_space, word_of, shape_of, at_path, read_json, read_rest, read_behind, read_shape, read_alone, reads_text, reads}
 use Rattle.ild_script.specs.Path.{is_slash, is_bare, all_some, segments_of, path_of}
 use Rattle.ild_script.specs.declared.word.Shape.{Shape}
 use Rattle.ild_script.specs.declared.word.Shape.TheVariants.{Alone, WithPath, WithJson}

@@ -67,20 +67,20 @@ pub record Gains {V : Type 0} (m : Moment) (due : Due V) (n : Moment) : Type 0 w
   pub adds : AddsOnly m n due.adds
   pub whole : AddsWhole m n due.children
 
--- inside a batch, what was held together stays so
-abbrev pub StaysTogether : {V : Type 0} → Moment → Stage V → Moment → Stage V → Type 0
-StaysTogether m s n t = IfSome t.state.begun (λ v. BothTold (together m s).blocks (together n t).blocks Keeps)
+-- what the store and the batch held together stays so, and they gained no more than the line may add
+pub record StaysTogether {V : Type 0} (m : Moment) (s : Stage V) (due : Due V) (n : Moment) (t : Stage V) : Type 0 where
+  pub keeps : BothTold (together m s).blocks (together n t).blocks Keeps
+  pub gained : Gains (together m s) due (together n t)
 
 -- From the moment m and the stage s, a line with this due gets this reply and leaves the moment n and the stage t.
 pub record Replies {V : Type 0} (M : Meaning V) (m : Moment) (s : Stage V) (due : Due V) (reply : Option Reply) (n : Moment) (t : Stage V) : Type 0 where
   pub answered : ((reply ≡ due.reply) × (t.state ≡ due.next)) ⊎ (IsExcused m due.adds reply n (together n t) × (t.state ≡ s.state))
   pub later : Later m n
   pub carries : Carries M m s → Carries M n t
-  -- what came to the store, and nothing where no put is due; what came to store and batch together
+  -- what came to the store, and nothing where no put is due; and inside a batch what came to both together
   pub stored : Gains m due n
   pub still : due.puts ≡ 0 → n.blocks ≡ m.blocks
-  pub gained : Gains (together m s) due (together n t)
-  pub stays : StaysTogether m s n t
+  pub stays : IfSome t.state.begun (λ v. StaysTogether m s due n t)
   pub gets : n.gets ≤ m.gets + due.gets
   pub puts : n.puts ≤ m.puts + puts_at s due
   pub owed : owed_at t ≤ owed_at s + due.owes
