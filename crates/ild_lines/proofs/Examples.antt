@@ -20,7 +20,7 @@ use Rattle.ild_lines.specs.Lines.{Setting, in_slot, told_of, edit_due, due}
 use Rattle.ild_lines.specs.PlainMap.{plain_rows, as_value, plain_setting}
 
 abbrev w : Setting
-w = plain_setting (λ k. k) (plain_rows (codes "N") 0 0 0) (record { is_key = λ n k. true; fits = λ room s v. true }) (λ q b. [] ∷ [])
+w = plain_setting (λ k. k) (plain_rows (codes "N") 0 0 0) (record { is_key = λ n k. true; fits = λ room s v. true }) (λ q b. [] ∷ []) (λ x. [])
 
 abbrev v : Value
 v = as_value ((codes "a", pos 1) ∷ (codes "bb", pos 2) ∷ [])

@@ -109,12 +109,12 @@ same_printed None = refl
 same_printed (Some text) = refl
 
 module _ (name : List ℕ) (at key_at value_place : ℕ) (h : List ℕ → List ℕ) (t : Tests) (tests : AreTests (plain_rows name at key_at value_place) t)
-    (children : InSlot → List ℕ → List (List (List ℕ))) where
+    (children : InSlot → List ℕ → List (List (List ℕ))) (places : V.Value → List (List ℕ × List (List ℕ))) where
   abbrev Q : List Row
   Q = plain_rows name at key_at value_place
 
   abbrev w : Setting
-  w = plain_setting h Q t children
+  w = plain_setting h Q t children places
 
   root_is : (v : PV.Value) → root_reply w (as_value v) ≡ P.root_reply v
   root_is v = ap (λ o. R.Root (record { 0 = option_map_or (root_id bare) o [] })) (data_is name at key_at value_place h v)
@@ -181,5 +181,5 @@ module _ (name : List ℕ) (at key_at value_place : ℕ) (h : List ℕ → List 
   by_reading v plain (command c) texts known = by_word c.verb c.path c.json v plain (texts c refl).path known
 
 pub says_plain_map : SaysPlainMap
-says_plain_map name at key_at value_place hash tests are children v plain line known =
-    by_reading name at key_at value_place hash tests are children v plain (reads line) (λ c e. commands_of_texts line c e) known
+says_plain_map name at key_at value_place hash tests are children places v plain line known =
+    by_reading name at key_at value_place hash tests are children places v plain (reads line) (λ c e. commands_of_texts line c e) known

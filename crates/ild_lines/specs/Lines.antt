@@ -31,7 +31,7 @@ use Rattle.ild_lines.specs.Costs.{blocks_met, nodes_in, brought, changed_met, ju
 use Rattle.ild_lines.specs.Reads.{counted, walked}
 
 -- What lines are about: the frame of a root, the hash of keys, a table with its tests, and the type of the value. Told beside it: for each
--- place at which a block stands in a value, the ids of its children there.
+-- place at which a block stands in a part, the ids of its children there; for each place of a value's blocks, the block and all from there on down.
 pub record Setting : Type 0 where
   pub frame : Frame
   pub hash : List ℕ → List ℕ
@@ -39,6 +39,7 @@ pub record Setting : Type 0 where
   pub tests : Tests
   pub ty : TypeNo
   pub children : InSlot → List ℕ → List (List (List ℕ))
+  pub places : Value → List (List ℕ × List (List ℕ))
 
 -- ---- blocks
 
@@ -219,4 +220,4 @@ line_due w s line = due w (asked (reads line)) s
 
 -- the meaning of every line
 abbrev pub typed_lines : Setting → Meaning Value
-typed_lines w = record { due = λ held s line. line_due w s line; blocks = value_blocks w }
+typed_lines w = record { due = λ held s line. line_due w s line; blocks = value_blocks w; places = w.places }

@@ -46,8 +46,8 @@ pub record IsPlain (v : P.Value) : Type 0 where
   pub each : AllByRecursion (λ e. IsUtf8 e.0 × IsInt e.1) v
 
 -- the setting of its lines, over bare roots
-abbrev pub plain_setting : (List ℕ → List ℕ) → List Row → Tests → (InSlot → List ℕ → List (List (List ℕ))) → Setting
-plain_setting hash rows tests children = record { frame = bare; hash = hash; rows = rows; tests = tests; ty = number 8; children = children }
+abbrev pub plain_setting : (List ℕ → List ℕ) → List Row → Tests → (InSlot → List ℕ → List (List (List ℕ))) → (V.Value → List (List ℕ × List (List ℕ))) → Setting
+plain_setting hash rows tests children places = record { frame = bare; hash = hash; rows = rows; tests = tests; ty = number 8; children = children; places = places }
 
 -- ---- the lines that a plain map knows: of a path that is not the root's
 

@@ -12,7 +12,7 @@ use Rattle.ild_script.specs.declared.reply.No.TheVariants as N
 use Rattle.ild_script.specs.declared.reply.Reply.{Reply}
 use Rattle.ild_script.specs.declared.reply.Reply.TheVariants as R
 use Rattle.ild_session.specs.Session.{State, idle, resting}
-use Rattle.ild_session.specs.Step.{AddsOnly, Gains, Replies}
+use Rattle.ild_session.specs.Step.{Holds, AddsOnly, Carries, Gains, Replies}
 use Rattle.ild_session.proofs.Came.{adds_none, childless}
 use Rattle.ild_session.proofs.Steps.{holds_all_later}
 use Rattle.ild_plain.specs.Value.{Value, block_of, blocks_of}
@@ -24,6 +24,10 @@ use Rattle.ild_plain.specs.Puts.{Stores, StoresOrRefuses}
 gains_block : {V : Type 0} (m n : Moment) (new : List (List ℕ)) {reply : Option Reply} {next : State V} {gets puts owes : ℕ} → AddsOnly m n new
     → Gains m (record { reply = reply; next = next; adds = new; children = no_children; gets = gets; puts = puts; owes = owes }) n
 gains_block m n new adds = record { adds = adds; whole = childless m n new adds }
+
+-- a store that holds the block of a value carries it
+pub carries_plain : (m : Moment) (v : Value) → Holds m (blocks_of v) → Carries plain_map m (resting v)
+carries_plain m v held = record { kept = held; value = held; places = (inr held, tt) }
 
 -- a put is due
 no_puts : (A : Type 0) → suc 0 ≡ 0 → A
@@ -58,7 +62,7 @@ stored : (m : Moment) (v c : Value) (id : BlockId) (n : Moment) → Stores m (bl
 stored m v c id n s = record {
   answered = inl (ap (λ (x : List ℕ). Some (R.Root (record { 0 = x }))) s.answer.0, refl);
   later = s.later;
-  carries = λ h. (s.answer.1, s.answer.1);
+  carries = λ h. carries_plain n c s.answer.1;
   stored = gains_block m n (blocks_of c) s.adds;
   still = λ e. no_puts (n.blocks ≡ m.blocks) e;
   stays = tt;
@@ -72,7 +76,7 @@ wanting : (m : Moment) (v c : Value) (id : BlockId) (n : Moment) → Stores m (b
 wanting m v c id n s = record {
   answered = inr (inl tt, refl);
   later = s.later;
-  carries = λ h. (holds_all_later m n (blocks_of v) s.later h.0, holds_all_later m n (blocks_of v) s.later h.0);
+  carries = λ h. carries_plain n v (holds_all_later m n (blocks_of v) s.later h.kept);
   stored = gains_block m n (blocks_of c) s.adds;
   still = λ e. no_puts (n.blocks ≡ m.blocks) e;
   stays = tt;
@@ -85,7 +89,7 @@ refused : (m : Moment) (v c : Value) (refusal : No) (n : Moment) → Stores m (b
 refused m v c refusal n s = record {
   answered = inr (inl s.answer, refl);
   later = s.later;
-  carries = λ h. (holds_all_later m n (blocks_of v) s.later h.0, holds_all_later m n (blocks_of v) s.later h.0);
+  carries = λ h. carries_plain n v (holds_all_later m n (blocks_of v) s.later h.kept);
   stored = gains_block m n (blocks_of c) s.adds;
   still = λ e. no_puts (n.blocks ≡ m.blocks) e;
   stays = tt;

@@ -10,7 +10,7 @@ use Rattle.ild_script.specs.declared.reply.No.{No}
 use Rattle.ild_script.specs.declared.reply.No.TheVariants as N
 use Rattle.ild_script.specs.declared.reply.Reply.{Reply}
 use Rattle.ild_script.specs.declared.reply.Reply.TheVariants as R
-use Rattle.ild_plain.specs.Value.{Value, root_of, blocks_of}
+use Rattle.ild_plain.specs.Value.{Value, block_of, root_of, blocks_of}
 use Rattle.ild_plain.specs.Change.{Edit, set_at, del_at, only_segment, change, judged}
 use Rattle.ild_session.specs.Session.{State, Due, Meaning}
 
@@ -80,4 +80,4 @@ abbrev pub line_due : State Value → List ℕ → Due Value
 line_due s line = due (asked (reads line)) s
 
 abbrev pub plain_map : Meaning Value
-plain_map = record { due = λ held s line. line_due s line; blocks = blocks_of }
+plain_map = record { due = λ held s line. line_due s line; blocks = blocks_of; places = λ v. (block_of v, blocks_of v) ∷ [] }

@@ -7,6 +7,7 @@ use Rattle.ild_edges.specs.Store.{Moment, Later}
 use Rattle.ild_edges.specs.declared.inputs.Taken.TheVariants as Taken
 use Rattle.ild_plain.specs.Plain.{plain_map}
 use Rattle.ild_plain.specs.Value.{Value, blocks_of}
+use Rattle.ild_plain.proofs.Edits.{carries_plain}
 use Rattle.ild_script.specs.declared.reply.Reply.{Reply}
 use Rattle.ild_script.specs.Line.{lines_of}
 use Rattle.ild_session.specs.Lines.{LinesDone, LinesCut}
@@ -132,7 +133,7 @@ answered_all c job t b v r u k s refused named work empty ok puts done =
       replies = done'.replies;
       last = s;
       answered = answers_from c (lines_of b) done'.replies k s puts'.later puts'.answer puts'.tries done'.run;
-      stands = (done'.carries (puts'.answer, puts'.answer)).0;
+      stands = (done'.carries (carries_plain k [] puts'.answer)).kept;
       written = done'.written;
       refused_is = done'.refused_is;
     }

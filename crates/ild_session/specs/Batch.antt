@@ -1,5 +1,5 @@
 -- Batches: what a store and a batch hold together, and what is owed for the edits of a batch.
-use Rattle.std.specs.Prelude.{ℕ, List, ◌++◌, min, Option, Some, None, option_map}
+use Rattle.std.specs.Prelude.{ℕ, List, [], ◌++◌, min, Option, Some, None, option_map}
 use Rattle.std.specs.Option.{option_map_or}
 use Rattle.ild_edges.specs.Store.{Moment}
 use Rattle.ild_session.specs.Session.{Stage, Due, Meaning}
@@ -12,6 +12,10 @@ beside (Some v) own m = record m { blocks = option_map (λ held. own ++ held) m.
 -- the moment of a store, with what the batch of a stage holds beside it
 abbrev pub together : {V : Type 0} → Moment → Stage V → Moment
 together m s = beside s.state.begun s.own m
+
+-- the blocks that a batch holds of its own: outside one there are none
+abbrev pub own_at : {V : Type 0} → Stage V → List (List ℕ)
+own_at s = option_map_or (λ v. s.own) s.state.begun []
 
 -- what a line is due, which looks at what is held together
 abbrev pub due_at : {V : Type 0} → Meaning V → Moment → Stage V → List ℕ → Due V

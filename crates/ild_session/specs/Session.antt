@@ -44,5 +44,6 @@ pub record Due (V : Type 0) : Type 0 where
 pub record Meaning (V : Type 0) : Type 0 where
   -- what a line is due in a state, where these blocks are held, or none are told
   pub due : Option (List (List ℕ)) → State V → List ℕ → Due V
-  -- the blocks of a value, the root block first
+  -- the blocks of a value, the root block first; and for each place at which a block of it stands, that block and all from there on down
   pub blocks : V → List (List ℕ)
+  pub places : V → List (List ℕ × List (List ℕ))

@@ -10,7 +10,7 @@ use Rattle.ild_script.specs.declared.reply.No.{No}
 use Rattle.ild_script.specs.declared.reply.No.TheVariants as N
 use Rattle.ild_script.specs.declared.reply.Reply.{Reply}
 use Rattle.ild_script.specs.declared.reply.Reply.TheVariants as R
-use Rattle.ild_session.specs.Batch.{together, due_at, owed_at, puts_at}
+use Rattle.ild_session.specs.Batch.{together, own_at, due_at, owed_at, puts_at}
 use Rattle.ild_session.specs.Session.{Stage, Due, Meaning, left}
 
 -- each of these blocks is held under its id
@@ -58,9 +58,16 @@ abbrev pub IsExcused : Moment → List (List ℕ) → Option Reply → Moment �
 IsExcused m new (Some (R.No refusal)) n both = HasCause m new refusal n ⊎ HasCause m new refusal both
 IsExcused m new reply n both = ⊥
 
--- The value that a script would leave here is held by the store, and the value by the store and the batch together.
-abbrev pub Carries : {V : Type 0} → Meaning V → Moment → Stage V → Type 0
-Carries M m s = Holds m (M.blocks (left s.state)) × Holds (together m s) (M.blocks s.state.value)
+-- each of these places has its block in the batch, or the blocks from there on down in the store
+abbrev pub AreCarried : Moment → List (List ℕ) → List (List ℕ × List (List ℕ)) → Type 0
+AreCarried m own places = AllByRecursion (λ p. Contains own p.0 ⊎ Holds m p.1) places
+
+-- The store holds the value that a script would leave here, and together with the batch the value itself, of which it lacks nothing
+-- beneath a block that the batch does not hold.
+pub record Carries {V : Type 0} (M : Meaning V) (m : Moment) (s : Stage V) : Type 0 where
+  pub kept : Holds m (M.blocks (left s.state))
+  pub value : Holds (together m s) (M.blocks s.state.value)
+  pub places : AreCarried m (own_at s) (M.places s.state.value)
 
 -- only blocks that a line may add came, each with its children
 pub record Gains {V : Type 0} (m : Moment) (due : Due V) (n : Moment) : Type 0 where
