@@ -6,3 +6,4 @@ pub mod Keys
 pub mod Order
 pub mod Back
 pub mod Depths
+pub mod Meaning

@@ -1,6 +1,6 @@
 -- Lines by example: what the commands that read tell, and how batches go.
 use Rattle.std.proofs.Common.{refl}
-use Rattle.std.specs.Prelude.{◌≡◌, ℕ, pos, List, [], ◌∷◌, codes, true, false, Some, None}
+use Rattle.std.specs.Prelude.{◌≡◌, ℕ, pos, List, [], ◌∷◌, codes, true, false, Some, None, Ok}
 use Rattle.ild_data.specs.Data as T
 use Rattle.ild_data.specs.Data.{Data, items_of, members_of}
 use Rattle.ild_schema.specs.Prelude.{number}
@@ -9,14 +9,18 @@ use Rattle.ild_schema.specs.Value as V
 use Rattle.ild_schema.specs.Value.{Value}
 use Rattle.ild_script.specs.declared.reply.No.TheVariants as N
 use Rattle.ild_script.specs.declared.reply.Reply.TheVariants as R
+use Rattle.ild_edges.specs.Store.{Moment}
+use Rattle.ild_edits.specs.Edit.{Edit, del_at}
 use Rattle.ild_typed.specs.At.{InSlot, at}
-use Rattle.ild_session.specs.Session.{State, idle}
+use Rattle.ild_session.specs.Batch.{puts_at, together}
+use Rattle.ild_session.specs.Session.{State, Stage, idle}
 use Rattle.ild_lines.specs.Ask.{shown_form, presence, count, list_of_parts, to_tell_root, to_begin, to_commit, to_abort, unknown}
-use Rattle.ild_lines.specs.Lines.{Setting, in_slot, told_of, due}
+use Rattle.ild_lines.specs.Costs.{different}
+use Rattle.ild_lines.specs.Lines.{Setting, in_slot, told_of, edit_due, due}
 use Rattle.ild_lines.specs.PlainMap.{plain_rows, as_value, plain_setting}
 
 abbrev w : Setting
-w = plain_setting (λ k. k) (plain_rows (codes "N") 0 0 0) (record { is_key = λ n k. true; fits = λ room s v. true }) (λ v b. [])
+w = plain_setting (λ k. k) (plain_rows (codes "N") 0 0 0) (record { is_key = λ n k. true; fits = λ room s v. true }) (λ q b. [] ∷ []) (λ x. [])
 
 abbrev v : Value
 v = as_value ((codes "a", pos 1) ∷ (codes "bb", pos 2) ∷ [])
@@ -80,3 +84,39 @@ no_root_in_a_batch = refl
 
 outside_the_grammar : (due w unknown batch).reply ≡ Some (R.No N.Line)
 outside_the_grammar = refl
+
+-- an edit inside a batch puts nothing, and owes the root block
+abbrev gone : Edit (List ℕ)
+gone = del_at (codes "a" ∷ [])
+
+edit_in_a_batch : (edit_due w batch gone (Ok v)).puts ≡ 0
+edit_in_a_batch = refl
+
+edit_owes_its_way : (edit_due w batch gone (Ok v)).owes ≡ 1
+edit_owes_its_way = refl
+
+edit_outside : (edit_due w (idle v) gone (Ok v)).puts ≡ 1
+edit_outside = refl
+
+-- a commit puts the one block of the value, where as much is owed
+abbrev stage : ℕ → Stage Value
+stage owed = record { state = batch; owed = owed; own = [] }
+
+one_block_kept : puts_at (stage 2) (due w to_commit batch) ≡ 1
+one_block_kept = refl
+
+nothing_owed : puts_at (stage 0) (due w to_commit batch) ≡ 0
+nothing_owed = refl
+
+same_block_once : different ((1 ∷ []) ∷ (2 ∷ []) ∷ (1 ∷ []) ∷ []) ≡ (2 ∷ []) ∷ (1 ∷ []) ∷ []
+same_block_once = refl
+
+-- what the store and the batch hold together
+abbrev moment : Moment
+moment = record { blocks = Some ((1 ∷ []) ∷ []); given = None; gets = 0; puts = 0; lacks = 0; faults = 0 }
+
+held_together : (together moment (record { state = batch; owed = 1; own = (2 ∷ []) ∷ [] })).blocks ≡ Some ((2 ∷ []) ∷ (1 ∷ []) ∷ [])
+held_together = refl
+
+held_alone : (together moment (record { state = idle v; owed = 1; own = (2 ∷ []) ∷ [] })).blocks ≡ Some ((1 ∷ []) ∷ [])
+held_alone = refl

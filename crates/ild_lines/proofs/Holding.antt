@@ -1,28 +1,62 @@
 -- Each line makes states that a store can hold of such states.
-use Rattle.std.proofs.Common.{◌≡◌, ℕ, List, Option, Some, None, Ok, Err, Result, refl}
-use Rattle.std.specs.Prelude.{IfSome}
+use Rattle.std.proofs.Common.{◌≡◌, ℕ, List, Option, Some, None, Ok, Err, Result, refl, ap}
+use Rattle.std.specs.Prelude.{IfSome, IsUtf8}
+use Rattle.std.specs.List.{AllByRecursion}
+use Rattle.std.specs.Result.{result_ok}
+use Rattle.std.proofs.lemmas.Option.{same_Some}
+use Rattle.ild_data.specs.Data.{Data}
+use Rattle.ild_json.specs.Law.{MeansTree}
+use Rattle.ild_json.specs.Reading.{json_read}
+use Rattle.ild_json.specs.declared.error.JsonErr.{JsonErr}
 use Rattle.ild_schema.specs.Slots.{plainly}
 use Rattle.ild_schema.specs.Value.{Value}
+use Rattle.ild_script.specs.Laws.{IsOfTexts}
+use Rattle.ild_script.specs.Line.{Reading, Command, blank, command, outside, reads}
 use Rattle.ild_script.specs.declared.reply.No.{No}
+use Rattle.ild_script.specs.declared.word.Word.{Word}
+use Rattle.ild_script.specs.declared.word.Word.TheVariants as W
+use Rattle.ild_script.proofs.Texts.{commands_of_texts}
 use Rattle.ild_typed.specs.Schema.{IsSchema}
 use Rattle.ild_typed.specs.Typed.{Typed}
 use Rattle.ild_typed.proofs.Judging.{tree_sound}
-use Rattle.ild_edits.specs.Edit.{Edit}
+use Rattle.ild_edits.specs.Edit.{Edit, HasTextPath}
+use Rattle.ild_edits.specs.EditLaws.{ReadsTree}
 use Rattle.ild_edits.specs.Judged.{AreTests}
 use Rattle.ild_edits.proofs.Judges.{edited_are_storable}
 use Rattle.ild_session.specs.Session.{State}
-use Rattle.ild_lines.specs.Ask.{Ask, nothing, to_tell, to_edit, to_tell_root, to_begin, to_commit, to_abort, unknown}
-use Rattle.ild_lines.specs.Lines.{Setting, due, read_json, edit_due, edit_gets, edit_puts, changed, root_due, begin_due, commit_due, abort_due}
-use Rattle.ild_lines.specs.LinesLaws.{CanBeHeld, IsHeld, IsFair, LinesKeepHeld}
+use Rattle.ild_lines.specs.Ask.{Ask, asked, asked_by, nothing, to_tell, to_edit, to_tell_root, to_begin, to_commit, to_abort, unknown}
+use Rattle.ild_lines.specs.Lines.{Setting, due, read_json, edit_due, changed, root_due, begin_due, commit_due, abort_due}
+use Rattle.ild_lines.specs.LinesLaws.{CanBeHeld, IsHeld, BringsTree, LinesKeepHeld}
+
+-- what an edit brings is read as a tree, and its path is of texts
+abbrev IsFair : Ask → Type 0
+IsFair (to_edit e) = HasTextPath e × ReadsTree read_json e
+IsFair a = Unit {0}
+
+ok_of : (r : Result Data JsonErr) (d : Data) → result_ok r ≡ Some d → r ≡ Ok d
+ok_of (Ok c) d e = ap Ok (same_Some c d e)
+ok_of (Err fault) d e = absurd cc
+
+fair_by : (verb : Word) (path : List (List ℕ)) (json : List ℕ) → AllByRecursion IsUtf8 path → MeansTree json → IsFair (asked_by verb path json)
+fair_by W.Set path json texts tree = (texts, λ d e. tree d (ok_of (json_read json) d e))
+fair_by W.Ins path json texts tree = (texts, λ d e. tree d (ok_of (json_read json) d e))
+fair_by W.Del path json texts tree = (texts, tt)
+fair_by verb path json texts tree = tt
+
+-- a line that was read asks for something fair
+fair_line : (line : Reading) → ((c : Command) → line ≡ command c → IsOfTexts c) → BringsTree line → IsFair (asked line)
+fair_line blank texts tree = tt
+fair_line outside texts tree = tt
+fair_line (command c) texts tree = fair_by c.verb c.path c.json (texts c refl).path tree
 
 module _ (w : Setting) (schema : IsSchema w.rows) (tests : AreTests w.rows w.tests) where
   held_typed : (v : Value) → CanBeHeld w v → Typed w.rows (plainly w.ty) v
   held_typed v held = (w.frame.room, held.1.fits, (tree_sound w.hash w.rows (plainly w.ty) v held.0 held.1.tree).0)
 
-  edit_held : (e : Edit (List ℕ)) (s : State Value) → IsFair (to_edit e) → IsHeld w s → (gets puts : ℕ) (r : Result Value No) → changed w s.value e ≡ r → IsHeld w (edit_due w gets puts s r).next
-  edit_held e s fair held gets puts (Ok c) is =
+  edit_held : (e : Edit (List ℕ)) (s : State Value) → IsFair (to_edit e) → IsHeld w s → (r : Result Value No) → changed w s.value e ≡ r → IsHeld w (edit_due w s e r).next
+  edit_held e s fair held (Ok c) is =
       (edited_are_storable w.frame w.hash w.rows w.tests schema tests read_json w.ty s.value e c fair.0 fair.1 (held_typed s.value held.0) is, held.1)
-  edit_held e s fair held gets puts (Err refusal) is = held
+  edit_held e s fair held (Err refusal) is = held
 
   root_held : (s : State Value) (o : Option Value) → IsHeld w s → IsHeld w (root_due w s o).next
   root_held s None held = held
@@ -43,7 +77,7 @@ module _ (w : Setting) (schema : IsSchema w.rows) (tests : AreTests w.rows w.tes
   due_held : (a : Ask) (s : State Value) → IsFair a → IsHeld w s → IsHeld w (due w a s).next
   due_held nothing s fair held = held
   due_held (to_tell t path) s fair held = held
-  due_held (to_edit e) s fair held = edit_held e s fair held (edit_gets w s e s.begun) (edit_puts w s e (changed w s.value e) s.begun) (changed w s.value e) refl
+  due_held (to_edit e) s fair held = edit_held e s fair held (changed w s.value e) refl
   due_held to_tell_root s fair held = root_held s s.begun held
   due_held to_begin s fair held = begin_held s s.begun held
   due_held to_commit s fair held = commit_held s s.begun held
@@ -51,4 +85,4 @@ module _ (w : Setting) (schema : IsSchema w.rows) (tests : AreTests w.rows w.tes
   due_held unknown s fair held = held
 
 pub lines_keep_held : LinesKeepHeld
-lines_keep_held w schema tests a s fair held = due_held w schema tests a s fair held
+lines_keep_held w schema tests line s tree held = due_held w schema tests (asked (reads line)) s (fair_line (reads line) (λ c e. commands_of_texts line c e) tree) held

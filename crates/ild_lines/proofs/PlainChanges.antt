@@ -1,6 +1,7 @@
 -- What the edits of a plain map make, as edits of a typed value.
 use Rattle.std.proofs.Common.{◌≡◌, ℕ, ℤ, List, [], ◌∷◌, map, Bool, true, false, Option, Some, None, Ok, Err, Result, refl, sym, ◌∙◌, ap, subst, arith, ◌⊎◌, inl, inr}
 use Rattle.std.specs.Prelude.{◌||◌, IsUtf8, is_some, option_map, option_and_then, if◌then◌else◌}
+use Rattle.std.specs.List.{AllByRecursion}
 use Rattle.std.specs.Result.{result_ok}
 use Rattle.ild_data.specs.Data as T
 use Rattle.ild_data.specs.Data.{Data}
@@ -27,6 +28,15 @@ use Rattle.ild_plain.specs.Change as P
 use Rattle.ild_plain.specs.Value as PV
 use Rattle.ild_lines.specs.PlainMap.{plain_rows, int_entry, as_value, IsBelowRoot}
 use Rattle.ild_lines.proofs.PlainValues.{entry_there, entry_put, entry_gone}
+
+-- a path that is not the root's, of texts
+abbrev pub AreTextsBelow : List (List ℕ) → Type 0
+AreTextsBelow [] = ⊥
+AreTextsBelow (k ∷ path) = AllByRecursion IsUtf8 (k ∷ path)
+
+pub texts_below : (path : List (List ℕ)) → IsBelowRoot path → AllByRecursion IsUtf8 path → AreTextsBelow path
+texts_below [] below texts = below refl
+texts_below (k ∷ path) below texts = texts
 
 -- a changed plain map as a typed value
 abbrev pub lifted : Result PV.Value No → Result V.Value No
@@ -100,13 +110,13 @@ module _ (name : List ℕ) (place key_at value_place : ℕ) (is_key : ℕ → Li
   read_json json = result_ok (json_read json)
 
   -- what a plain map knows of edits
-  pub set_is : (path : List (List ℕ)) (json : List ℕ) (v : PV.Value) → IsBelowRoot path → line_change R is_key read_json (whole v) (set_at path json) ≡ lifted (P.change (P.set_at path json) v)
+  pub set_is : (path : List (List ℕ)) (json : List ℕ) (v : PV.Value) → AreTextsBelow path → line_change R is_key read_json (whole v) (set_at path json) ≡ lifted (P.change (P.set_at path json) v)
   set_is [] json v below_root = absurd below_root
   set_is (k ∷ []) json v below_root = set_by k below_root.0 v (json_read json)
   set_is (k ∷ l ∷ rest) json v below_root =
       set_deep k l rest json v read_json (new_slot R (whole v) (set_at (k ∷ l ∷ rest) json)) (no_slot (last_holder R (whole v) k (l ∷ rest)) (below k l rest v))
 
-  pub del_is : (path : List (List ℕ)) (v : PV.Value) → IsBelowRoot path → line_change R is_key read_json (whole v) (del_at path) ≡ lifted (P.change (P.del_at path) v)
+  pub del_is : (path : List (List ℕ)) (v : PV.Value) → AreTextsBelow path → line_change R is_key read_json (whole v) (del_at path) ≡ lifted (P.change (P.del_at path) v)
   del_is [] v below_root = absurd below_root
   del_is (k ∷ []) v below_root =
       ap (λ o. unless_kept (V.map (pairs_of (without k (pairs_list (pairs_of (map int_entry v)))))) (unless_there o)) (there k v) ∙ del_by k v (value_at k v)

@@ -1,5 +1,5 @@
 -- The lines of a plain map mean as those of a typed value.
-use Rattle.std.proofs.Common.{◌≡◌, ℕ, ℤ, List, [], ◌∷◌, Bool, true, false, Option, Some, None, Ok, Err, Result, refl, sym, ◌∙◌, ap, subst}
+use Rattle.std.proofs.Common.{◌≡◌, ◌≢◌, ℕ, ℤ, List, [], ◌∷◌, Bool, true, false, Option, Some, None, Ok, Err, Result, refl, sym, ◌∙◌, ap, subst}
 use Rattle.std.specs.Prelude.{IsUtf8, is_some, option_map, option_and_then, if◌then◌else◌}
 use Rattle.std.specs.List.{AllByRecursion}
 use Rattle.std.specs.Option.{option_map_or}
@@ -13,6 +13,7 @@ use Rattle.ild_data.specs.Integer.{IsInt}
 use Rattle.ild_data.specs.Key.{key_cmp, same_text, put, value_at, without}
 use Rattle.ild_data.specs.Tree.{IsTree}
 use Rattle.ild_data.proofs.Rising.{rises_put, rises_without}
+use Rattle.ild_json.specs.Law.{MeansTree}
 use Rattle.ild_json.specs.Printing.{json_text}
 use Rattle.ild_json.specs.Reading.{json_read}
 use Rattle.ild_json.specs.declared.error.JsonErr.{JsonErr}
@@ -21,27 +22,30 @@ use Rattle.ild_schema.specs.Prelude.{number}
 use Rattle.ild_schema.specs.Slots.{plainly}
 use Rattle.ild_schema.specs.Value as V
 use Rattle.ild_schema.specs.Value.{pairs_of, pairs_list}
-use Rattle.ild_script.specs.Line.{Reading, blank, command, outside}
+use Rattle.ild_script.specs.Line.{Reading, Command, blank, command, outside, reads}
+use Rattle.ild_script.specs.Laws.{IsOfTexts}
 use Rattle.ild_script.specs.declared.word.Word.{Word}
 use Rattle.ild_script.specs.declared.word.Word.TheVariants as W
 use Rattle.ild_script.specs.declared.reply.No.{No}
 use Rattle.ild_script.specs.declared.reply.No.TheVariants as N
 use Rattle.ild_script.specs.declared.reply.Reply.TheVariants as R
-use Rattle.ild_typed.specs.At.{at as path_at}
+use Rattle.ild_script.proofs.Texts.{commands_of_texts}
+use Rattle.ild_typed.specs.At.{InSlot, at as path_at}
 use Rattle.ild_typed.specs.Stands.{bare, blocks_of, root_id}
-use Rattle.ild_edits.specs.Edit.{set_at, del_at, line_change}
+use Rattle.ild_edits.specs.Edit.{Edit, set_at, del_at}
 use Rattle.ild_edits.specs.Judged.{Tests, AreTests, judged_result, unless_judged}
 use Rattle.ild_plain.specs.Change as PC
 use Rattle.ild_plain.specs.Plain as P
 use Rattle.ild_plain.specs.Value as PV
 use Rattle.ild_session.specs.Session.{idle}
 use Rattle.ild_lines.specs.Ask.{shown_form, asked, asked_by}
-use Rattle.ild_lines.specs.Lines.{Setting, due, edit_due, edit_gets, edit_puts, changed, root_reply, value_blocks, printed_or, read_reply, told, show}
+use Rattle.ild_lines.specs.Lines.{Setting, due, edit_due, line_changed, changed, root_reply, value_blocks, short, printed_or, read_reply, told, show}
 use Rattle.ild_lines.specs.PlainLaws.{SaysPlainMap}
-use Rattle.ild_lines.specs.PlainMap.{plain_rows, as_value, IsPlain, plain_setting, IsBelowRoot, MeansTree, IsKnown, IsKnownBy, SameDue}
+use Rattle.ild_lines.specs.PlainMap.{plain_rows, as_value, IsPlain, plain_setting, IsKnown, IsKnownBy, SameDue}
+use Rattle.ild_lines.proofs.Leaving.{comes_to_nothing}
 use Rattle.ild_lines.proofs.PlainValues.{data_is, one_block}
 use Rattle.ild_lines.proofs.PlainJudged.{plain_judged}
-use Rattle.ild_lines.proofs.PlainChanges.{lifted, there, set_is, del_is}
+use Rattle.ild_lines.proofs.PlainChanges.{AreTextsBelow, texts_below, lifted, there, set_is, del_is}
 
 -- ---- what edits make is a plain map
 
@@ -65,28 +69,38 @@ each_without k (e ∷ v) all = by (same_text k e.0) (each_without k v all.1)
     by true h = all.1
     by false h = (all.0, h)
 
+-- a plain map, or a refusal before an edit is found exhausted or too long
 abbrev MakesPlain : Result PV.Value No → Type 0
 MakesPlain (Ok c) = IsPlain c
-MakesPlain (Err refusal) = Unit {0}
+MakesPlain (Err refusal) = (refusal ≢ N.Exhausted) × (refusal ≢ N.Size)
 
-read_plain : (k : List ℕ) → IsUtf8 k → (v : PV.Value) → IsPlain v → (r : Result Data JsonErr) → ((d : Data) → result_ok r ≡ Some d → IsTree d) → MakesPlain (PC.put_read k v r)
-read_plain k utf8 v plain (Err e) tree = tt
+no_path : MakesPlain (Err N.Path)
+no_path = (λ e. cc, λ e. cc)
+
+no_json : MakesPlain (Err N.Json)
+no_json = (λ e. cc, λ e. cc)
+
+no_integer : MakesPlain (Err N.Mismatch)
+no_integer = (λ e. cc, λ e. cc)
+
+read_plain : (k : List ℕ) → IsUtf8 k → (v : PV.Value) → IsPlain v → (r : Result Data JsonErr) → ((d : Data) → r ≡ Ok d → IsTree d) → MakesPlain (PC.put_read k v r)
+read_plain k utf8 v plain (Err e) tree = no_json
 read_plain k utf8 v plain (Ok (T.integer n)) tree = record { rises = rises_put k n v plain.rises; each = each_put k n v (utf8, tree (T.integer n) refl) plain.each }
-read_plain k utf8 v plain (Ok d) tree = tt
+read_plain k utf8 v plain (Ok d) tree = no_integer
 
-set_plain : (path : List (List ℕ)) (json : List ℕ) (v : PV.Value) → IsPlain v → IsBelowRoot path → MeansTree json → MakesPlain (PC.change (PC.set_at path json) v)
+set_plain : (path : List (List ℕ)) (json : List ℕ) (v : PV.Value) → IsPlain v → AreTextsBelow path → MeansTree json → MakesPlain (PC.change (PC.set_at path json) v)
 set_plain [] json v plain below tree = absurd below
 set_plain (k ∷ []) json v plain below tree = read_plain k below.0 v plain (json_read json) tree
-set_plain (k ∷ l ∷ rest) json v plain below tree = tt
+set_plain (k ∷ l ∷ rest) json v plain below tree = no_path
 
 gone_plain : (k : List ℕ) (v : PV.Value) → IsPlain v → (b : Bool) → MakesPlain (if b then Ok (without k v) else Err N.Path)
 gone_plain k v plain true = record { rises = rises_without k v plain.rises; each = each_without k v plain.each }
-gone_plain k v plain false = tt
+gone_plain k v plain false = no_path
 
 del_plain : (path : List (List ℕ)) (v : PV.Value) → IsPlain v → MakesPlain (PC.change (PC.del_at path) v)
-del_plain [] v plain = tt
+del_plain [] v plain = no_path
 del_plain (k ∷ []) v plain = gone_plain k v plain (is_some (value_at k v))
-del_plain (k ∷ l ∷ rest) v plain = tt
+del_plain (k ∷ l ∷ rest) v plain = no_path
 
 -- ---- replies
 
@@ -95,12 +109,12 @@ same_printed None = refl
 same_printed (Some text) = refl
 
 module _ (name : List ℕ) (at key_at value_place : ℕ) (h : List ℕ → List ℕ) (t : Tests) (tests : AreTests (plain_rows name at key_at value_place) t)
-    (children : V.Value → List ℕ → List (List ℕ)) where
+    (children : InSlot → List ℕ → List (List (List ℕ))) (places : V.Value → List (List ℕ × List (List ℕ))) where
   abbrev Q : List Row
   Q = plain_rows name at key_at value_place
 
   abbrev w : Setting
-  w = plain_setting h Q t children
+  w = plain_setting h Q t children places
 
   root_is : (v : PV.Value) → root_reply w (as_value v) ≡ P.root_reply v
   root_is v = ap (λ o. R.Root (record { 0 = option_map_or (root_id bare) o [] })) (data_is name at key_at value_place h v)
@@ -109,22 +123,30 @@ module _ (name : List ℕ) (at key_at value_place : ℕ) (h : List ℕ → List 
   blocks_are v =
       ap (λ o. option_map_or (λ d. blocks_of bare h Q (number 8) (as_value v) d) o []) (data_is name at key_at value_place h v) ∙ one_block name at key_at value_place h v
 
-  edit_by : (gets puts : ℕ) (v c : PV.Value) (b : Bool)
-      → SameDue (P.edited (if b then Ok c else Err N.Size) (idle v)) (edit_due w gets puts (idle (as_value v)) (unless_judged (as_value c) (if b then None else Some N.Size)))
-  edit_by gets puts v c true = record { reply = ap Some (root_is c); next = refl; adds = blocks_are c }
-  edit_by gets puts v c false = record { reply = refl; next = refl; adds = refl }
+  -- the one block of a plain map is too long
+  none_short : (c : PV.Value) → PV.is_storable c ≡ false → short (PV.blocks_of c) ≡ []
+  none_short c long = rw long refl
 
-  edit_same : (gets puts : ℕ) (v : PV.Value) (r : Result PV.Value No) → MakesPlain r
-      → SameDue (P.edited (PC.judged r) (idle v)) (edit_due w gets puts (idle (as_value v)) (judged_result bare h Q t (number 8) (lifted r)))
-  edit_same gets puts v (Err refusal) plain = record { reply = refl; next = refl; adds = refl }
-  edit_same gets puts v (Ok c) plain =
-      subst (λ o. SameDue (P.edited (PC.judged (Ok c)) (idle v)) (edit_due w gets puts (idle (as_value v)) (unless_judged (as_value c) o)))
-      (sym (plain_judged name at key_at value_place h t tests c plain)) (edit_by gets puts v c (PV.is_storable c))
+  edit_by : (e : Edit (List ℕ)) (v c : PV.Value) (b : Bool) → PV.is_storable c ≡ b → line_changed w (as_value v) e ≡ Ok (as_value c)
+      → SameDue (P.edited (if b then Ok c else Err N.Size) (idle v)) (edit_due w (idle (as_value v)) e (unless_judged (as_value c) (if b then None else Some N.Size)))
+  edit_by e v c true sized is = record { reply = ap Some (root_is c); next = refl; adds = blocks_are c }
+  edit_by e v c false sized is = record {
+    reply = refl;
+    next = refl;
+    adds = ap (λ r. short (option_map_or (value_blocks w) (result_ok r) [])) is ∙ ap short (blocks_are c) ∙ none_short c sized;
+  }
 
-  edit_is : (gets puts : ℕ) (v : PV.Value) (r : Result PV.Value No) (changed : Result V.Value No) → changed ≡ lifted r → MakesPlain r
-      → SameDue (P.edited (PC.judged r) (idle v)) (edit_due w gets puts (idle (as_value v)) (judged_result bare h Q t (number 8) changed))
-  edit_is gets puts v r changed e plain =
-      subst (λ x. SameDue (P.edited (PC.judged r) (idle v)) (edit_due w gets puts (idle (as_value v)) (judged_result bare h Q t (number 8) x))) (sym e) (edit_same gets puts v r plain)
+  edit_same : (e : Edit (List ℕ)) (v : PV.Value) (r : Result PV.Value No) → MakesPlain r → line_changed w (as_value v) e ≡ lifted r
+      → SameDue (P.edited (PC.judged r) (idle v)) (edit_due w (idle (as_value v)) e (judged_result bare h Q t (number 8) (lifted r)))
+  edit_same e v (Err refusal) plain is = record { reply = refl; next = refl; adds = (comes_to_nothing w (idle (as_value v)) e refusal plain.0 plain.1).0 }
+  edit_same e v (Ok c) plain is =
+      subst (λ o. SameDue (P.edited (PC.judged (Ok c)) (idle v)) (edit_due w (idle (as_value v)) e (unless_judged (as_value c) o)))
+      (sym (plain_judged name at key_at value_place h t tests c plain)) (edit_by e v c (PV.is_storable c) refl is)
+
+  edit_is : (e : Edit (List ℕ)) (v : PV.Value) (r : Result PV.Value No) → line_changed w (as_value v) e ≡ lifted r → MakesPlain r
+      → SameDue (P.edited (PC.judged r) (idle v)) (edit_due w (idle (as_value v)) e (changed w (as_value v) e))
+  edit_is e v r is plain =
+      subst (λ x. SameDue (P.edited (PC.judged r) (idle v)) (edit_due w (idle (as_value v)) e (judged_result bare h Q t (number 8) x))) (sym is) (edit_same e v r plain is)
 
   got_by : (o : Option ℤ) → told (option_map (show w) (option_and_then (λ q. Some q) (option_map (λ x. (plainly (number 3), x)) (option_map V.integer o)))) ≡ P.shown o
   got_by None = refl
@@ -135,29 +157,29 @@ module _ (name : List ℕ) (at key_at value_place : ℕ) (h : List ℕ → List 
   none_by l rest None = refl
   none_by l rest (Some n) = refl
 
-  got_is : (path : List (List ℕ)) (v : PV.Value) → IsBelowRoot path → read_reply w shown_form path (as_value v) ≡ P.got path v
+  got_is : (path : List (List ℕ)) (v : PV.Value) → AreTextsBelow path → read_reply w shown_form path (as_value v) ≡ P.got path v
   got_is [] v below = absurd below
   got_is (k ∷ []) v below =
       ap (λ o. told (option_map (show w) (option_and_then (λ q. Some q) (option_map (λ x. (plainly (number 3), x)) o)))) (there k v) ∙ got_by (value_at k v)
   got_is (k ∷ l ∷ rest) v below =
       ap (λ o. told (option_map (show w) (option_and_then (λ q. path_at Q q (l ∷ rest)) (option_map (λ x. (plainly (number 3), x)) o)))) (there k v) ∙ none_by l rest (value_at k v)
 
-  by_word : (verb : Word) (path : List (List ℕ)) (json : List ℕ) (v : PV.Value) → IsPlain v → IsKnownBy verb path json
+  by_word : (verb : Word) (path : List (List ℕ)) (json : List ℕ) (v : PV.Value) → IsPlain v → AllByRecursion IsUtf8 path → IsKnownBy verb path json
       → SameDue (P.due (P.asked_by verb path json) (idle v)) (due w (asked_by verb path json) (idle (as_value v)))
-  by_word W.Get path json v plain known = record { reply = ap Some (got_is path v known); next = refl; adds = refl }
-  by_word W.Set path json v plain known =
-      edit_is (edit_gets w (idle (as_value v)) (set_at path json) None) (edit_puts w (idle (as_value v)) (set_at path json) (changed w (as_value v) (set_at path json)) None) v (PC.change (PC.set_at path json) v) (line_change Q t.is_key (λ j. result_ok (json_read j)) (plainly (number 8), as_value v) (set_at path json))
-      (set_is name at key_at value_place t.is_key tests.keys path json v known.0) (set_plain path json v plain known.0 known.1)
-  by_word W.Del path json v plain known =
-      edit_is (edit_gets w (idle (as_value v)) (del_at path) None) (edit_puts w (idle (as_value v)) (del_at path) (changed w (as_value v) (del_at path)) None) v (PC.change (PC.del_at path) v) (line_change Q t.is_key (λ j. result_ok (json_read j)) (plainly (number 8), as_value v) (del_at path))
-      (del_is name at key_at value_place t.is_key tests.keys path v known) (del_plain path v plain)
-  by_word W.Root path json v plain known = record { reply = ap Some (root_is v); next = refl; adds = refl }
-  by_word verb path json v plain known = absurd known
+  by_word W.Get path json v plain texts known = record { reply = ap Some (got_is path v (texts_below path known texts)); next = refl; adds = refl }
+  by_word W.Set path json v plain texts known =
+      let below = texts_below path known.0 texts in
+      edit_is (set_at path json) v (PC.change (PC.set_at path json) v) (set_is name at key_at value_place t.is_key tests.keys path json v below) (set_plain path json v plain below known.1)
+  by_word W.Del path json v plain texts known =
+      edit_is (del_at path) v (PC.change (PC.del_at path) v) (del_is name at key_at value_place t.is_key tests.keys path v (texts_below path known texts)) (del_plain path v plain)
+  by_word W.Root path json v plain texts known = record { reply = ap Some (root_is v); next = refl; adds = refl }
+  by_word verb path json v plain texts known = absurd known
 
-  by_reading : (v : PV.Value) → IsPlain v → (line : Reading) → IsKnown line → SameDue (P.due (P.asked line) (idle v)) (due w (asked line) (idle (as_value v)))
-  by_reading v plain blank known = record { reply = refl; next = refl; adds = refl }
-  by_reading v plain outside known = record { reply = refl; next = refl; adds = refl }
-  by_reading v plain (command c) known = by_word c.verb c.path c.json v plain known
+  by_reading : (v : PV.Value) → IsPlain v → (line : Reading) → ((c : Command) → line ≡ command c → IsOfTexts c) → IsKnown line → SameDue (P.due (P.asked line) (idle v)) (due w (asked line) (idle (as_value v)))
+  by_reading v plain blank texts known = record { reply = refl; next = refl; adds = refl }
+  by_reading v plain outside texts known = record { reply = refl; next = refl; adds = refl }
+  by_reading v plain (command c) texts known = by_word c.verb c.path c.json v plain (texts c refl).path known
 
 pub says_plain_map : SaysPlainMap
-says_plain_map name at key_at value_place hash tests are children v plain line known = by_reading name at key_at value_place hash tests are children v plain line known
+says_plain_map name at key_at value_place hash tests are children places v plain line known =
+    by_reading name at key_at value_place hash tests are children places v plain (reads line) (λ c e. commands_of_texts line c e) known

@@ -1,9 +1,11 @@
 -- What a line costs at most, in gets and puts: the nodes of HAMTs on the way of its path, in the value before it and in the changed
 -- value, and those of the part that is told or brought.
-use Rattle.std.specs.Prelude.{ℕ, ◌+◌, Bool, List, length, is_some, Option, Some, None, Result, Ok, Err, option_map, option_and_then, if◌then◌else◌}
+use Rattle.std.specs.Prelude.{ℕ, ◌+◌, Bool, List, [], ◌∷◌, length, is_some, Option, Some, None, Result, Ok, Err, option_map, option_and_then, if◌then◌else◌}
+use Rattle.std.specs.List.{list_any}
 use Rattle.std.specs.Option.{option_map_or}
 use Rattle.ild_data.specs.ByteOrder.{in_byte_order}
 use Rattle.ild_data.specs.Data.{Data}
+use Rattle.ild_data.specs.Key.{same_text}
 use Rattle.ild_data.specs.Trie.{trie}
 use Rattle.ild_data.specs.TrieShape.{trie_levels}
 use Rattle.ild_trie.specs.Way.{way as nodes_on_way}
@@ -72,9 +74,15 @@ abbrev pub changed_met : (List ℕ → List ℕ) → List Row → Slot → List 
 changed_met h rows slot path new (Ok c) = blocks_met h rows (slot, c) path + new
 changed_met h rows slot path new (Err refusal) = 0
 
--- Outside a batch a changed value that a store can hold is put along the way, and of one without a trie the nodes of the part
--- that was brought; another refusal puts nothing, and inside a batch nothing is put.
-abbrev pub judged_puts : (List ℕ → List ℕ) → List Row → Slot → List (List ℕ) → ℕ → Result Value No → ℕ
-judged_puts h rows slot path new (Ok c) = blocks_met h rows (slot, c) path + new
-judged_puts h rows slot path new (Err N.Exhausted) = new
-judged_puts h rows slot path new (Err refusal) = 0
+-- How many puts an edit makes outside a batch, where all are those along the way and new are those of the part that was brought: all
+-- also where some block is too long, new where there is no trie, and none where it is refused before that.
+abbrev pub judged_puts : ℕ → ℕ → Result Value No → ℕ
+judged_puts all new (Ok c) = all
+judged_puts all new (Err N.Size) = all
+judged_puts all new (Err N.Exhausted) = new
+judged_puts all new (Err refusal) = 0
+
+-- the blocks that stand in a list, each once
+abbrev pub different : List (List ℕ) → List (List ℕ)
+different [] = []
+different (b ∷ bs) = if list_any (same_text b) bs then different bs else b ∷ different bs

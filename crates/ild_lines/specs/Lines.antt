@@ -1,9 +1,11 @@
 -- The lines of a script on typed values: what each is due, as the meaning that a session gives to lines.
-use Rattle.std.specs.Prelude.{ℕ, ◌+◌, List, [], length, is_some, Option, Some, None, Result, Ok, Err, option_map, option_and_then}
+use Rattle.std.specs.Prelude.{ℕ, ◌+◌, List, [], length, nat_le, is_some, Option, Some, None, Result, Ok, Err, option_map, option_and_then}
+use Rattle.std.specs.List.{filter}
 use Rattle.std.specs.Option.{option_map_or}
 use Rattle.std.specs.Result.{result_ok}
 use Rattle.ild_data.specs.Data as D
 use Rattle.ild_data.specs.Data.{Data}
+use Rattle.ild_data.specs.Limits.{longest_block}
 use Rattle.ild_json.specs.Printing.{json_text}
 use Rattle.ild_json.specs.Reading.{json_read}
 use Rattle.ild_schema.specs.declared.number.TypeNo.{TypeNo}
@@ -16,26 +18,28 @@ use Rattle.ild_script.specs.declared.reply.No.TheVariants as N
 use Rattle.ild_script.specs.declared.reply.Reply.{Reply}
 use Rattle.ild_script.specs.declared.reply.Reply.TheVariants as R
 use Rattle.ild_typed.specs.At.{InSlot, seen, at}
+use Rattle.ild_typed.specs.Blocks.{nodes}
 use Rattle.ild_typed.specs.Hamt.{whole}
 use Rattle.ild_typed.specs.Represented.{represented}
 use Rattle.ild_typed.specs.Shown.{shown}
 use Rattle.ild_typed.specs.Stands.{Frame, blocks_of, root_id}
 use Rattle.ild_edits.specs.Edit.{Edit, path_of, line_change}
 use Rattle.ild_edits.specs.Judged.{Tests, edited}
-use Rattle.ild_session.specs.Session.{State, Due, Meaning}
+use Rattle.ild_session.specs.Session.{State, idle, Due, Meaning}
 use Rattle.ild_lines.specs.Ask.{Tell, shown_form, representation, presence, count, list_of_parts, Ask, nothing, to_tell, to_edit, to_tell_root, to_begin, to_commit, to_abort, unknown, asked}
-use Rattle.ild_lines.specs.Costs.{blocks_met, nodes_in, brought, changed_met, judged_puts, tell_gets}
+use Rattle.ild_lines.specs.Costs.{blocks_met, nodes_in, brought, changed_met, judged_puts, different, tell_gets}
 use Rattle.ild_lines.specs.Reads.{counted, walked}
 
--- What lines are about: the frame of a root, the hash of keys, a table with its tests, and the type of the value. The children of each
--- block of a value are told beside it.
+-- What lines are about: the frame of a root, the hash of keys, a table with its tests, and the type of the value. Told beside it: for each
+-- place at which a block stands in a part, the ids of its children there; for each place of a value's blocks, the block and all from there on down.
 pub record Setting : Type 0 where
   pub frame : Frame
   pub hash : List ℕ → List ℕ
   pub rows : List Row
   pub tests : Tests
   pub ty : TypeNo
-  pub children : Value → List ℕ → List (List ℕ)
+  pub children : InSlot → List ℕ → List (List (List ℕ))
+  pub places : Value → List (List ℕ × List (List ℕ))
 
 -- ---- blocks
 
@@ -82,17 +86,17 @@ read_reply w t path v = told (told_of w t (at w.rows (in_slot w v) path))
 
 -- ---- what a line is due
 
+-- a block of which there are none
+abbrev pub no_places : List ℕ → List (List (List ℕ))
+no_places b = []
+
 -- a reply that leaves the value and the store
 abbrev pub quiet : ℕ → Option Reply → State Value → Due Value
-quiet gets reply s = record { reply = reply; next = s; adds = []; children = λ b. []; gets = gets; puts = 0 }
+quiet gets reply s = record { reply = reply; next = s; adds = []; children = no_places; gets = gets; puts = 0; owes = 0 }
 
 -- one that leaves the store, and from which the next state begins
 abbrev pub turned : Reply → State Value → Due Value
-turned reply next = record { reply = Some reply; next = next; adds = []; children = λ b. []; gets = 0; puts = 0 }
-
--- one that may put the blocks of a value
-abbrev pub putting : Setting → ℕ → ℕ → Reply → State Value → Value → Due Value
-putting w gets puts reply next c = record { reply = Some reply; next = next; adds = value_blocks w c; children = w.children c; gets = gets; puts = puts }
+turned reply next = quiet 0 (Some reply) next
 
 -- ---- edits
 
@@ -103,57 +107,117 @@ read_json json = result_ok (json_read json)
 abbrev pub changed : Setting → Value → Edit (List ℕ) → Result Value No
 changed w v e = edited w.frame w.hash w.rows w.tests read_json w.ty v e
 
+-- the changed value, before it is judged
+abbrev pub line_changed : Setting → Value → Edit (List ℕ) → Result Value No
+line_changed w v e = line_change w.rows w.tests.is_key read_json (in_slot w v) e
+
+-- the part that an edit brings, and the number of its nodes
+abbrev pub part_of : Setting → Value → Edit (List ℕ) → Option InSlot
+part_of w v e = brought w.rows w.tests.is_key read_json (in_slot w v) e
+
 abbrev pub new_nodes : Setting → Value → Edit (List ℕ) → ℕ
-new_nodes w v e = nodes_in w.hash w.rows (brought w.rows w.tests.is_key read_json (in_slot w v) e)
+new_nodes w v e = nodes_in w.hash w.rows (part_of w v e)
 
--- the most gets and puts of an edit, outside a batch and inside one
-abbrev pub edit_gets : Setting → State Value → Edit (List ℕ) → Option Value → ℕ
-edit_gets w s e None = blocks_met w.hash w.rows (in_slot w s.value) (path_of e)
-edit_gets w s e (Some v) =
-    blocks_met w.hash w.rows (in_slot w s.value) (path_of e)
-    + changed_met w.hash w.rows (plainly w.ty) (path_of e) (new_nodes w s.value e) (line_change w.rows w.tests.is_key read_json (in_slot w s.value) e)
+-- those along the way in the changed value, and of the part
+abbrev pub all_met : Setting → Value → Edit (List ℕ) → ℕ
+all_met w v e = changed_met w.hash w.rows (plainly w.ty) (path_of e) (new_nodes w v e) (line_changed w v e)
 
-abbrev pub edit_puts : Setting → State Value → Edit (List ℕ) → Result Value No → Option Value → ℕ
-edit_puts w s e c None = judged_puts w.hash w.rows (plainly w.ty) (path_of e) (new_nodes w s.value e) c
-edit_puts w s e c (Some v) = 0
+-- The most gets of an edit, and the most puts, for which one inside a batch is owing.
+abbrev pub edit_gets : Setting → Value → Edit (List ℕ) → Option Value → ℕ
+edit_gets w v e None = blocks_met w.hash w.rows (in_slot w v) (path_of e)
+edit_gets w v e (Some begun) = blocks_met w.hash w.rows (in_slot w v) (path_of e) + all_met w v e
+
+abbrev pub edit_owes : Setting → Value → Edit (List ℕ) → Result Value No → ℕ
+edit_owes w v e r = judged_puts (all_met w v e) (new_nodes w v e) r
+
+abbrev pub edit_puts : ℕ → Option Value → ℕ
+edit_puts owes None = owes
+edit_puts owes (Some begun) = 0
+
+-- The blocks that may come: those of the changed value, or those that aren't too long; or, where there is no trie, the nodes of the part.
+abbrev pub short : List (List ℕ) → List (List ℕ)
+short bs = filter (λ b. nat_le (length b) longest_block) bs
+
+abbrev pub edit_blocks : Setting → Value → Edit (List ℕ) → Result Value No → List (List ℕ)
+edit_blocks w v e (Ok c) = value_blocks w c
+edit_blocks w v e (Err N.Size) = short (option_map_or (value_blocks w) (result_ok (line_changed w v e)) [])
+edit_blocks w v e (Err N.Exhausted) = option_map_or (λ q. nodes w.hash w.rows q.0 q.1) (part_of w v e) []
+edit_blocks w v e (Err refusal) = []
+
+abbrev pub edit_children : Setting → Value → Edit (List ℕ) → Result Value No → List ℕ → List (List (List ℕ))
+edit_children w v e (Ok c) = w.children (in_slot w c)
+edit_children w v e (Err N.Size) = option_map_or (λ c. w.children (in_slot w c)) (result_ok (line_changed w v e)) no_places
+edit_children w v e (Err N.Exhausted) = option_map_or w.children (part_of w v e) no_places
+edit_children w v e (Err refusal) = no_places
 
 -- outside a batch an edit replies the new root, inside one null
-abbrev pub edit_reply : Setting → Value → Option Value → Reply
-edit_reply w c None = root_reply w c
-edit_reply w c (Some v) = printed D.null
+abbrev pub root_or_null : Setting → Value → Option Value → Reply
+root_or_null w c None = root_reply w c
+root_or_null w c (Some begun) = printed D.null
 
-abbrev pub edit_due : Setting → ℕ → ℕ → State Value → Result Value No → Due Value
-edit_due w gets puts s (Ok c) = putting w gets puts (edit_reply w c s.begun) (record s { value = c }) c
-edit_due w gets puts s (Err refusal) = record { reply = Some (R.No refusal); next = s; adds = []; children = λ b. []; gets = gets; puts = puts }
+abbrev pub edit_reply : Setting → Result Value No → Option Value → Reply
+edit_reply w (Ok c) begun = root_or_null w c begun
+edit_reply w (Err refusal) begun = R.No refusal
+
+abbrev pub edit_next : State Value → Result Value No → State Value
+edit_next s (Ok c) = record s { value = c }
+edit_next s (Err refusal) = s
+
+abbrev pub edit_due : Setting → State Value → Edit (List ℕ) → Result Value No → Due Value
+edit_due w s e r = record {
+  reply = Some (edit_reply w r s.begun);
+  next = edit_next s r;
+  adds = edit_blocks w s.value e r;
+  children = edit_children w s.value e r;
+  gets = edit_gets w s.value e s.begun;
+  puts = edit_puts (edit_owes w s.value e r) s.begun;
+  owes = edit_owes w s.value e r;
+}
 
 -- the root is told outside a batch
 abbrev pub root_due : Setting → State Value → Option Value → Due Value
 root_due w s None = quiet 0 (Some (root_reply w s.value)) s
 root_due w s (Some v) = quiet 0 (Some (R.No N.Batch)) s
 
--- A batch is begun outside one, and ends with its value kept or with the value at its begin. What is kept is put, each block once at most.
+-- A batch is begun outside one, and ends with its value kept or with the value at its begin.
 abbrev pub begin_due : State Value → Option Value → Due Value
 begin_due s None = turned (printed D.null) (record s { begun = Some s.value })
 begin_due s (Some v) = quiet 0 (Some (R.No N.Batch)) s
 
+-- what is kept is put, each of its blocks once at most
+abbrev pub kept_due : Setting → State Value → List (List ℕ) → Due Value
+kept_due w s blocks = record {
+  reply = Some (root_reply w s.value);
+  next = idle s.value;
+  adds = blocks;
+  children = w.children (in_slot w s.value);
+  gets = 0;
+  puts = length (different blocks);
+  owes = 0;
+}
+
 abbrev pub commit_due : Setting → State Value → Option Value → Due Value
 commit_due w s None = quiet 0 (Some (R.No N.Batch)) s
-commit_due w s (Some v) = putting w 0 (length (value_blocks w s.value)) (root_reply w s.value) (record s { begun = None }) s.value
+commit_due w s (Some v) = kept_due w s (value_blocks w s.value)
 
 abbrev pub abort_due : State Value → Option Value → Due Value
 abort_due s None = quiet 0 (Some (R.No N.Batch)) s
-abort_due s (Some v) = turned (printed D.null) (record { value = v; begun = None })
+abort_due s (Some v) = turned (printed D.null) (idle v)
 
 abbrev pub due : Setting → Ask → State Value → Due Value
 due w nothing s = quiet 0 None s
 due w (to_tell t path) s = quiet (tell_gets w.hash w.rows t (in_slot w s.value) path) (Some (read_reply w t path s.value)) s
-due w (to_edit e) s = edit_due w (edit_gets w s e s.begun) (edit_puts w s e (changed w s.value e) s.begun) s (changed w s.value e)
+due w (to_edit e) s = edit_due w s e (changed w s.value e)
 due w to_tell_root s = root_due w s s.begun
 due w to_begin s = begin_due s s.begun
 due w to_commit s = commit_due w s s.begun
 due w to_abort s = abort_due s s.begun
 due w unknown s = quiet 0 (Some (R.No N.Line)) s
 
--- the meaning of every line; it doesn't matter what is held
+-- what a line is due; it doesn't matter what is held
+abbrev pub line_due : Setting → State Value → List ℕ → Due Value
+line_due w s line = due w (asked (reads line)) s
+
+-- the meaning of every line
 abbrev pub typed_lines : Setting → Meaning Value
-typed_lines w = record { due = λ held s line. due w (asked (reads line)) s; blocks = value_blocks w }
+typed_lines w = record { due = λ held s line. line_due w s line; blocks = value_blocks w; places = w.places }

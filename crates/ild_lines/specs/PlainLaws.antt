@@ -1,17 +1,17 @@
 -- The law that the lines of a plain map mean as those of a typed value, as far as a plain map knows them.
 use Rattle.std.specs.Prelude.{ℕ, List}
+use Rattle.ild_script.specs.Line.{reads}
 use Rattle.ild_schema.specs.Value.{Value}
-use Rattle.ild_script.specs.Line.{Reading}
+use Rattle.ild_typed.specs.At.{InSlot}
 use Rattle.ild_edits.specs.Judged.{Tests, AreTests}
 use Rattle.ild_plain.specs.Plain as P
 use Rattle.ild_plain.specs.Value as PV
 use Rattle.ild_session.specs.Session.{idle}
-use Rattle.ild_lines.specs.Ask.{asked}
-use Rattle.ild_lines.specs.Lines.{due}
+use Rattle.ild_lines.specs.Lines.{line_due}
 use Rattle.ild_lines.specs.PlainMap.{plain_rows, as_value, IsPlain, plain_setting, IsKnown, SameDue}
 
 abbrev pub SaysPlainMap : Type 0
 SaysPlainMap =
     (name : List ℕ) (at key_at value_at : ℕ) (hash : List ℕ → List ℕ) (tests : Tests) → AreTests (plain_rows name at key_at value_at) tests
-    → (children : Value → List ℕ → List (List ℕ)) (v : PV.Value) → IsPlain v → (line : Reading) → IsKnown line
-    → SameDue (P.due (P.asked line) (idle v)) (due (plain_setting hash (plain_rows name at key_at value_at) tests children) (asked line) (idle (as_value v)))
+    → (children : InSlot → List ℕ → List (List (List ℕ))) (places : Value → List (List ℕ × List (List ℕ))) (v : PV.Value) → IsPlain v → (line : List ℕ) → IsKnown (reads line)
+    → SameDue (P.line_due (idle v) line) (line_due (plain_setting hash (plain_rows name at key_at value_at) tests children places) (idle (as_value v)) line)

@@ -1,12 +1,9 @@
 -- A plain map from texts to integers as a typed value: its table, its values and its states.
-use Rattle.std.specs.Prelude.{◌≡◌, ℕ, ℤ, List, [], ◌∷◌, ◌++◌, map, IsUtf8, Some, option_map}
+use Rattle.std.specs.Prelude.{◌≡◌, ◌≢◌, ℕ, ℤ, List, [], ◌∷◌, ◌++◌, map, IsUtf8, option_map}
 use Rattle.std.specs.List.{AllByRecursion}
-use Rattle.std.specs.Result.{result_ok}
-use Rattle.ild_data.specs.Data.{Data}
 use Rattle.ild_data.specs.Integer.{IsInt}
 use Rattle.ild_data.specs.Key.{Rises}
-use Rattle.ild_data.specs.Tree.{IsTree}
-use Rattle.ild_json.specs.Reading.{json_read}
+use Rattle.ild_json.specs.Law.{MeansTree}
 use Rattle.ild_schema.specs.declared.def.TypeDef.{TypeDef}
 use Rattle.ild_schema.specs.declared.def.TypeDef.TheVariants as D
 use Rattle.ild_schema.specs.declared.def.MapForm.TheVariants as MF
@@ -19,6 +16,7 @@ use Rattle.ild_schema.specs.Value.{pairs_of}
 use Rattle.ild_script.specs.Line.{Reading, blank, command, outside}
 use Rattle.ild_script.specs.declared.word.Word.{Word}
 use Rattle.ild_script.specs.declared.word.Word.TheVariants as W
+use Rattle.ild_typed.specs.At.{InSlot}
 use Rattle.ild_typed.specs.Stands.{bare}
 use Rattle.ild_edits.specs.Judged.{Tests}
 use Rattle.ild_plain.specs.Value as P
@@ -48,18 +46,13 @@ pub record IsPlain (v : P.Value) : Type 0 where
   pub each : AllByRecursion (λ e. IsUtf8 e.0 × IsInt e.1) v
 
 -- the setting of its lines, over bare roots
-abbrev pub plain_setting : (List ℕ → List ℕ) → List Row → Tests → (V.Value → List ℕ → List (List ℕ)) → Setting
-plain_setting hash rows tests children = record { frame = bare; hash = hash; rows = rows; tests = tests; ty = number 8; children = children }
+abbrev pub plain_setting : (List ℕ → List ℕ) → List Row → Tests → (InSlot → List ℕ → List (List (List ℕ))) → (V.Value → List (List ℕ × List (List ℕ))) → Setting
+plain_setting hash rows tests children places = record { frame = bare; hash = hash; rows = rows; tests = tests; ty = number 8; children = children; places = places }
 
 -- ---- the lines that a plain map knows: of a path that is not the root's
 
 abbrev pub IsBelowRoot : List (List ℕ) → Type 0
-IsBelowRoot [] = ⊥
-IsBelowRoot (k ∷ path) = AllByRecursion IsUtf8 (k ∷ path)
-
--- what is read is a tree
-abbrev pub MeansTree : List ℕ → Type 0
-MeansTree json = (d : Data) → result_ok (json_read json) ≡ Some d → IsTree d
+IsBelowRoot path = path ≢ []
 
 abbrev pub IsKnownBy : Word → List (List ℕ) → List ℕ → Type 0
 IsKnownBy W.Get path json = IsBelowRoot path

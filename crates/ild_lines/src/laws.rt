@@ -1,10 +1,15 @@
 //! Laws of the lines of a script on typed values.
-ghost use Rattle.ild_lines.specs.LinesLaws.{LinesKeepHeld, RefusedLeave};
+ghost use Rattle.ild_lines.specs.LinesLaws.{BatchesOwe, LinesKeepHeld, RefusedLeave};
 ghost use Rattle.ild_lines.specs.PlainLaws.{SaysPlainMap};
 
-/// A line that is refused leaves the state, and no block may come.
+/// A line that is refused leaves the state. Unless it is refused as exhausted or for its size, no block may come, and nothing is put.
 pub fn refused_lines_leave_the_state()
     ensures { RefusedLeave }
+{}
+
+/// Inside a batch an edit puts nothing, and leaves the batch owing as many puts as the same edit makes outside one.
+pub fn edits_in_a_batch_are_owed()
+    ensures { BatchesOwe }
 {}
 
 /// Where the value of a state and the one at its batch's begin can be held by a store, so can those of the state that a line leaves.

@@ -4,6 +4,6 @@
 mod laws;
 
 pub use laws::{
-    lines_keep_values_that_can_be_held, lines_say_what_a_plain_map_says,
+    edits_in_a_batch_are_owed, lines_keep_values_that_can_be_held, lines_say_what_a_plain_map_says,
     refused_lines_leave_the_state,
 };

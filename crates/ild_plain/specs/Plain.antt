@@ -1,5 +1,5 @@
 -- The lines of a script on the values of a plain map from texts to integers.
-use Rattle.std.specs.Prelude.{ℕ, ℤ, List, [], Option, Some, None, Result, Ok, Err}
+use Rattle.std.specs.Prelude.{ℕ, ℤ, List, [], ◌∷◌, Option, Some, None, Result, Ok, Err}
 use Rattle.ild_data.specs.Data.{integer}
 use Rattle.ild_data.specs.Key.{value_at}
 use Rattle.ild_json.specs.Printing.{json_text}
@@ -10,7 +10,7 @@ use Rattle.ild_script.specs.declared.reply.No.{No}
 use Rattle.ild_script.specs.declared.reply.No.TheVariants as N
 use Rattle.ild_script.specs.declared.reply.Reply.{Reply}
 use Rattle.ild_script.specs.declared.reply.Reply.TheVariants as R
-use Rattle.ild_plain.specs.Value.{Value, root_of, blocks_of}
+use Rattle.ild_plain.specs.Value.{Value, block_of, root_of, blocks_of}
 use Rattle.ild_plain.specs.Change.{Edit, set_at, del_at, only_segment, change, judged}
 use Rattle.ild_session.specs.Session.{State, Due, Meaning}
 
@@ -55,13 +55,17 @@ got path v = got_at (only_segment path) v
 abbrev pub root_reply : Value → Reply
 root_reply v = R.Root (record { 0 = root_of v })
 
+-- a block of a plain map stands at one place, without children
+abbrev pub no_children : List ℕ → List (List (List ℕ))
+no_children b = [] ∷ []
+
 -- a reply that leaves the value and the store
 abbrev pub quiet : Option Reply → State Value → Due Value
-quiet reply s = record { reply = reply; next = s; adds = []; children = λ b. []; gets = 0; puts = 0 }
+quiet reply s = record { reply = reply; next = s; adds = []; children = no_children; gets = 0; puts = 0; owes = 0 }
 
 -- an edit puts the one block of the changed value, where it can be stored
 abbrev pub edited : Result Value No → State Value → Due Value
-edited (Ok c) s = record { reply = Some (root_reply c); next = record s { value = c }; adds = blocks_of c; children = λ b. []; gets = 0; puts = 1 }
+edited (Ok c) s = record { reply = Some (root_reply c); next = record s { value = c }; adds = blocks_of c; children = no_children; gets = 0; puts = 1; owes = 1 }
 edited (Err refusal) s = quiet (Some (R.No refusal)) s
 
 abbrev pub due : Ask → State Value → Due Value
@@ -76,4 +80,4 @@ abbrev pub line_due : State Value → List ℕ → Due Value
 line_due s line = due (asked (reads line)) s
 
 abbrev pub plain_map : Meaning Value
-plain_map = record { due = λ held s line. line_due s line; blocks = blocks_of }
+plain_map = record { due = λ held s line. line_due s line; blocks = blocks_of; places = λ v. (block_of v, blocks_of v) ∷ [] }

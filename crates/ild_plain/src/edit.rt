@@ -2,7 +2,7 @@
 ghost use Rattle.std.specs.Prelude.{◌≡◌, Ok, Some, option_map};
 ghost use Rattle.ild_data.specs.Key.{put};
 ghost use Rattle.ild_data.specs.Seen.{data_of};
-ghost use Rattle.ild_session.specs.Session.{idle};
+ghost use Rattle.ild_session.specs.Session.{idle, resting};
 ghost use Rattle.ild_session.specs.Step.{Replies};
 ghost use Rattle.ild_plain.specs.Change.{change, delete, judged, set_at, del_at, only_segment, integer_in};
 ghost use Rattle.ild_plain.specs.Plain.{edited, plain_map};
@@ -48,7 +48,7 @@ fn set_number<K: Store>(
     number: Int,
     store: &mut K,
 ) -> Reply
-    ensures { Replies plain_map (K.moment store.old) (idle value.old) (edited (judged (Ok (put key.now number value.old))) (idle value.old)) (Some result) (K.moment store.new) (idle value.new) }
+    ensures { Replies plain_map (K.moment store.old) (resting value.old) (edited (judged (Ok (put key.now number value.old))) (idle value.old)) (Some result) (K.moment store.new) (resting value.new) }
 {
     let Ok(block) = value.block_with(alloc, key, number) else {
         return Reply::No(No::Memory);
@@ -64,7 +64,7 @@ fn set_number<K: Store>(
 
 /// Removes a key that is there.
 fn remove_key<K: Store>(alloc: Global, value: &mut PlainMap, key: &str, store: &mut K) -> Reply
-    ensures { Replies plain_map (K.moment store.old) (idle value.old) (edited (judged (delete (Some key.now) value.old)) (idle value.old)) (Some result) (K.moment store.new) (idle value.new) }
+    ensures { Replies plain_map (K.moment store.old) (resting value.old) (edited (judged (delete (Some key.now) value.old)) (idle value.old)) (Some result) (K.moment store.new) (resting value.new) }
 {
     match value.block_without(alloc, key) {
         Ok(Some(block)) => match publish_storable(store, block.as_slice()) {
@@ -107,7 +107,7 @@ pub(crate) fn set<K: Store>(
     json: &[u8],
     store: &mut K,
 ) -> Reply
-    ensures { Replies plain_map (K.moment store.old) (idle value.old) (edited (judged (change (set_at path.now json.now) value.old)) (idle value.old)) (Some result) (K.moment store.new) (idle value.new) }
+    ensures { Replies plain_map (K.moment store.old) (resting value.old) (edited (judged (change (set_at path.now json.now) value.old)) (idle value.old)) (Some result) (K.moment store.new) (resting value.new) }
 {
     let Some(key) = only_segment(path) else {
         return Reply::No(No::Path);
@@ -129,7 +129,7 @@ pub(crate) fn del<K: Store>(
     path: &Path,
     store: &mut K,
 ) -> Reply
-    ensures { Replies plain_map (K.moment store.old) (idle value.old) (edited (judged (change (del_at path.now) value.old)) (idle value.old)) (Some result) (K.moment store.new) (idle value.new) }
+    ensures { Replies plain_map (K.moment store.old) (resting value.old) (edited (judged (change (del_at path.now) value.old)) (idle value.old)) (Some result) (K.moment store.new) (resting value.new) }
 {
     match only_segment(path) {
         Some(key) => remove_key(alloc, value, key.as_str(), store),

@@ -1,6 +1,6 @@
 //! The lines of a script over a plain map.
 ghost use Rattle.std.specs.Prelude.{◌≡◌, ◌⊎◌, Some};
-ghost use Rattle.ild_session.specs.Session.{idle};
+ghost use Rattle.ild_session.specs.Session.{idle, resting};
 ghost use Rattle.ild_session.specs.Step.{Step, Replies};
 ghost use Rattle.ild_plain.specs.Plain.{plain_map, asked_by, due, got, root_reply};
 
@@ -48,7 +48,7 @@ fn obey<K: Store>(
     json: &[u8],
     store: &mut K,
 ) -> Reply
-    ensures { Replies plain_map (K.moment store.old) (idle value.old) (due (asked_by line.now.verb line.now.path json.now) (idle value.old)) (Some result) (K.moment store.new) (idle value.new) }
+    ensures { Replies plain_map (K.moment store.old) (resting value.old) (due (asked_by line.now.verb line.now.path json.now) (idle value.old)) (Some result) (K.moment store.new) (resting value.new) }
 {
     match line.verb {
         Word::Get => get(alloc, value, &line.path),
@@ -66,7 +66,7 @@ fn answer_line<K: Store>(
     line: &[u8],
     store: &mut K,
 ) -> Option<Reply>
-    ensures { Step plain_map (K.moment store.old) (idle value.old) line.now result (K.moment store.new) (idle value.new) }
+    ensures { Step plain_map (K.moment store.old) (resting value.old) line.now result (K.moment store.new) (resting value.new) }
 {
     match line_of(alloc, line) {
         Ok(None) => None,
@@ -86,7 +86,7 @@ impl Session for PlainMap {
 
     ghost meaning = { λ v. plain_map };
 
-    ghost state = { λ v. idle v };
+    ghost stage = { λ v. resting v };
 
     fn answer<K: Store>(&mut self, alloc: Global, line: &[u8], store: &mut K) -> Option<Reply> {
         answer_line(alloc, self, line, store)

@@ -6,11 +6,12 @@ use Rattle.ild_edges.specs.Count.{Rose, bumped}
 use Rattle.ild_edges.specs.Inputs.{MayBe}
 use Rattle.ild_edges.specs.declared.inputs.Taken.{Taken}
 use Rattle.ild_plain.specs.Plain.{line_due, plain_map}
+use Rattle.ild_plain.proofs.Staying.{stays_out}
 use Rattle.ild_script.specs.Line.{lines_of}
 use Rattle.ild_session.specs.Run.{Run}
 use Rattle.ild_schema.specs.Names.{declared_names}
 use Rattle.ild_schema.specs.declared.row.Row.{Row}
-use Rattle.ild_session.specs.Session.{idle}
+use Rattle.ild_session.specs.Session.{resting}
 use Rattle.ild_session.proofs.Steps.{told_later, plain_run}
 use Rattle.ild_run.specs.Work.{Work, Taking, ends, lists, answers, script_work, built_work, compiled_work, schema_work, job_work, work_of, IsVerdict, IsTaking, AreTaken}
 use Rattle.ild_run.specs.Words.{Job, checks, runs}
@@ -83,11 +84,11 @@ plainly c script given calm t status refused taken is all =
     let later = all.answered.later in
     let told = told_later c.before.moment opened later calm.told in
     let calm_run : Rose opened.faults c.after.moment.faults → ⊥ = λ rose. calm.store (let r : bumped opened.faults ≤ c.after.moment.faults = rose in let le = later.faults in omega arith) in
-    let run : Run plain_map opened (idle []) (lines_of script) all.replies c.after.moment all.last = subst (λ (b : List ℕ). Run plain_map opened (idle []) (lines_of b) all.replies c.after.moment all.last) one all.answered.run in
+    let run : Run plain_map opened (resting []) (lines_of script) all.replies c.after.moment all.last = subst (λ (b : List ℕ). Run plain_map opened (resting []) (lines_of b) all.replies c.after.moment all.last) one all.answered.run in
     record {
       replies = all.replies;
-      last = all.last;
-      run = plain_run plain_map line_due (λ held s l. refl) opened (idle []) (lines_of script) all.replies c.after.moment all.last run told calm_run (λ kept new may. calm.apart kept new (inr may));
+      last = all.last.state;
+      run = plain_run plain_map line_due (λ held s l. refl) stays_out opened (resting []) (lines_of script) all.replies c.after.moment all.last refl run told calm_run (λ kept new may. calm.apart kept new (inr may));
       written = all.written;
       status_is = is ∙ ap (λ b. cond b S.Refused S.Done) all.refused_is;
     }

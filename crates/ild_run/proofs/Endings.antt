@@ -7,11 +7,12 @@ use Rattle.ild_edges.specs.Store.{Moment, Later}
 use Rattle.ild_edges.specs.declared.inputs.Taken.TheVariants as Taken
 use Rattle.ild_plain.specs.Plain.{plain_map}
 use Rattle.ild_plain.specs.Value.{Value, blocks_of}
+use Rattle.ild_plain.proofs.Edits.{carries_plain}
 use Rattle.ild_script.specs.declared.reply.Reply.{Reply}
 use Rattle.ild_script.specs.Line.{lines_of}
 use Rattle.ild_session.specs.Lines.{LinesDone, LinesCut}
 use Rattle.ild_session.specs.Run.{Run}
-use Rattle.ild_session.specs.Session.{State, idle}
+use Rattle.ild_session.specs.Session.{Stage, resting}
 use Rattle.ild_session.specs.Step.{Holds}
 use Rattle.ild_session.proofs.Steps.{run_gets, run_puts}
 use Rattle.ild_run.specs.First.{Tries}
@@ -108,41 +109,41 @@ ended_first c job t b v f status named a work empty puts told =
     ended_told c t f status (are_taken c job t named a) (due_first c t f has' puts'.answer) (leaves_first c t f has' puts'.answer puts'.tries) told
 
 -- lines that were answered from the first value on
-answers_from : (c : Call) (lines : List (List ℕ)) (replies : List Reply) (k : Moment) (s : State Value) → Later c.before.moment k → Holds k (blocks_of []) → Tries (blocks_of []) c.before.moment k
-    → Run plain_map k (idle []) lines replies c.after.moment s → Answers c lines replies s
+answers_from : (c : Call) (lines : List (List ℕ)) (replies : List Reply) (k : Moment) (s : Stage Value) → Later c.before.moment k → Holds k (blocks_of []) → Tries (blocks_of []) c.before.moment k
+    → Run plain_map k (resting []) lines replies c.after.moment s → Answers c lines replies s
 answers_from c lines replies k s later stands tries run = record {
   opened = k;
   later = later;
   stands = stands;
   tries = tries;
   run = run;
-  gets = let most = run_gets plain_map k (idle []) lines replies c.after.moment s run in let first = tries.gets in omega (arith, most, first);
-  puts = let most = run_puts plain_map k (idle []) lines replies c.after.moment s run in let first : k.puts ≤ c.before.moment.puts + 1 = tries.puts in omega (arith, most, first);
+  gets = let most = run_gets plain_map k (resting []) lines replies c.after.moment s run in let first = tries.gets in omega (arith, most, first);
+  puts = let most = run_puts plain_map k (resting []) lines replies c.after.moment s run in let first : k.puts ≤ c.before.moment.puts + 1 = tries.puts in omega (arith, most, first);
 }
 
 -- a call whose lines were all answered
-pub answered_all : (c : Call) (job : Job) (t : Taking) (b : List ℕ) (v : Value) (r : Result (Unit {0}) Fault) (u : Unit {0}) (k : Moment) (s : State Value) (refused : Bool) → c.job ≡ Some job → job_work job t ≡ answers b → v ≡ [] → r ≡ Ok u → PutsFirst c.before.moment v r k
-    → LinesDone plain_map k (idle v) (lines_of b) c.after.moment s c.before.output.written c.after.output.written refused → AnswersAll c t refused
+pub answered_all : (c : Call) (job : Job) (t : Taking) (b : List ℕ) (v : Value) (r : Result (Unit {0}) Fault) (u : Unit {0}) (k : Moment) (s : Stage Value) (refused : Bool) → c.job ≡ Some job → job_work job t ≡ answers b → v ≡ [] → r ≡ Ok u → PutsFirst c.before.moment v r k
+    → LinesDone plain_map k (resting v) (lines_of b) c.after.moment s c.before.output.written c.after.output.written refused → AnswersAll c t refused
 answered_all c job t b v r u k s refused named work empty ok puts done =
     let puts' = subst (λ (x : Result (Unit {0}) Fault). PutsFirst c.before.moment [] x k) ok (subst (λ (x : Value). PutsFirst c.before.moment x r k) empty puts) in
-    let done' = subst (λ (x : Value). LinesDone plain_map k (idle x) (lines_of b) c.after.moment s c.before.output.written c.after.output.written refused) empty done in
+    let done' = subst (λ (x : Value). LinesDone plain_map k (resting x) (lines_of b) c.after.moment s c.before.output.written c.after.output.written refused) empty done in
     record {
       bytes = b;
       work = has_script c.job job t b named work;
       replies = done'.replies;
       last = s;
       answered = answers_from c (lines_of b) done'.replies k s puts'.later puts'.answer puts'.tries done'.run;
-      stands = done'.stands puts'.answer;
+      stands = (done'.carries (carries_plain k [] puts'.answer)).kept;
       written = done'.written;
       refused_is = done'.refused_is;
     }
 
 -- a call whose replies were cut off
-pub answered_some : (c : Call) (job : Job) (t : Taking) (b : List ℕ) (v : Value) (r : Result (Unit {0}) Fault) (u : Unit {0}) (k : Moment) (s : State Value) → c.job ≡ Some job → job_work job t ≡ answers b → v ≡ [] → r ≡ Ok u → PutsFirst c.before.moment v r k
-    → LinesCut plain_map k (idle v) (lines_of b) c.after.moment s c.before.output.written c.after.output.written → AnswersSome c t
+pub answered_some : (c : Call) (job : Job) (t : Taking) (b : List ℕ) (v : Value) (r : Result (Unit {0}) Fault) (u : Unit {0}) (k : Moment) (s : Stage Value) → c.job ≡ Some job → job_work job t ≡ answers b → v ≡ [] → r ≡ Ok u → PutsFirst c.before.moment v r k
+    → LinesCut plain_map k (resting v) (lines_of b) c.after.moment s c.before.output.written c.after.output.written → AnswersSome c t
 answered_some c job t b v r u k s named work empty ok puts cut =
     let puts' = subst (λ (x : Result (Unit {0}) Fault). PutsFirst c.before.moment [] x k) ok (subst (λ (x : Value). PutsFirst c.before.moment x r k) empty puts) in
-    let cut' = subst (λ (x : Value). LinesCut plain_map k (idle x) (lines_of b) c.after.moment s c.before.output.written c.after.output.written) empty cut in
+    let cut' = subst (λ (x : Value). LinesCut plain_map k (resting x) (lines_of b) c.after.moment s c.before.output.written c.after.output.written) empty cut in
     record {
       bytes = b;
       work = has_script c.job job t b named work;

@@ -10,7 +10,7 @@ use Rattle.ild_script.specs.Line.{lines_of}
 use Rattle.ild_script.specs.Reply.{is_no}
 use Rattle.ild_plain.specs.Value.{Value, root_of, blocks_of}
 use Rattle.ild_plain.specs.Plain.{plain_map}
-use Rattle.ild_session.specs.Session.{State, idle, left}
+use Rattle.ild_session.specs.Session.{Stage, resting, left}
 use Rattle.ild_session.specs.Step.{Holds, Collides}
 use Rattle.ild_session.specs.Run.{Run, texts, most_gets, most_puts}
 use Rattle.ild_compile.specs.declared.error.SchemaFault.{SchemaFault}
@@ -70,23 +70,23 @@ Leaves c t f = c.after.moment ≡ c.before.moment
 
 -- The empty map's block was put, and these lines were answered from it. All in all there were no more gets and puts than the
 -- lines' bounds together, and that one put.
-pub record Answers (c : Call) (lines : List (List ℕ)) (replies : List Reply) (last : State Value) : Type 0 where
+pub record Answers (c : Call) (lines : List (List ℕ)) (replies : List Reply) (last : Stage Value) : Type 0 where
   pub opened : Moment
   pub later : Later c.before.moment opened
   pub stands : Holds opened (blocks_of [])
   pub tries : Tries (blocks_of []) c.before.moment opened
-  pub run : Run plain_map opened (idle []) lines replies c.after.moment last
-  pub gets : c.after.moment.gets ≤ c.before.moment.gets + most_gets plain_map opened (idle []) lines replies c.after.moment last run
-  pub puts : c.after.moment.puts ≤ c.before.moment.puts + 1 + most_puts plain_map opened (idle []) lines replies c.after.moment last run
+  pub run : Run plain_map opened (resting []) lines replies c.after.moment last
+  pub gets : c.after.moment.gets ≤ c.before.moment.gets + most_gets plain_map opened (resting []) lines replies c.after.moment last run
+  pub puts : c.after.moment.puts ≤ c.before.moment.puts + 1 + most_puts plain_map opened (resting []) lines replies c.after.moment last run
 
 -- every line of the script was answered, and all replies were written; the value that the script leaves is held
 pub record AnswersAll (c : Call) (t : Taking) (refused : Bool) : Type 0 where
   pub bytes : List ℕ
   pub work : work_of c.job t ≡ answers bytes
   pub replies : List Reply
-  pub last : State Value
+  pub last : Stage Value
   pub answered : Answers c (lines_of bytes) replies last
-  pub stands : Holds c.after.moment (blocks_of (left last))
+  pub stands : Holds c.after.moment (blocks_of (left last.state))
   pub written : Appends c.before.output.written c.after.output.written (texts replies)
   pub refused_is : refused ≡ list_any is_no replies
 
@@ -98,7 +98,7 @@ pub record AnswersSome (c : Call) (t : Taking) : Type 0 where
   pub rest : List (List ℕ)
   pub lines : lines_of bytes ≡ first ++ rest
   pub replies : List Reply
-  pub last : State Value
+  pub last : Stage Value
   pub answered : Answers c first replies last
   pub written : AppendsFront c.before.output.written c.after.output.written (texts replies)
 

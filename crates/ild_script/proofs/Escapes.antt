@@ -38,7 +38,7 @@ cut_at false b bs n e rest lt =
     let two : suc n + 1 ≡ suc (n + 1) = omega arith in
     rw (one, two) (plain_byte b bs e ∙ ap (option_map (λ zs. b ∷ zs)) (rest (omega arith)) ∙ map_cons b (take n bs) (unescaped (126 ∷ drop (n + 1) bs)))
 
-cut_tilde : (bs : List ℕ) → position_or_len is_tilde bs < length bs → Cuts bs (position_or_len is_tilde bs)
+pub cut_tilde : (bs : List ℕ) → position_or_len is_tilde bs < length bs → Cuts bs (position_or_len is_tilde bs)
 cut_tilde [] lt = absurd (omega arith)
 cut_tilde (b ∷ bs) lt = cut_at (eqb b 126) b bs (position_or_len is_tilde bs) refl (cut_tilde bs) lt
 
@@ -46,7 +46,7 @@ no_tilde_at : (t : Bool) (b : ℕ) (bs : List ℕ) (n : ℕ) → t ≡ eqb b 126
 no_tilde_at true b bs n e rest is = absurd (omega arith)
 no_tilde_at false b bs n e rest is = plain_byte b bs e ∙ ap (option_map (λ zs. b ∷ zs)) (rest (omega arith))
 
-no_tilde : (bs : List ℕ) → position_or_len is_tilde bs ≡ length bs → unescaped bs ≡ Some bs
+pub no_tilde : (bs : List ℕ) → position_or_len is_tilde bs ≡ length bs → unescaped bs ≡ Some bs
 no_tilde [] is = refl
 no_tilde (b ∷ bs) is = no_tilde_at (eqb b 126) b bs (position_or_len is_tilde bs) refl (no_tilde bs) is
 
@@ -102,7 +102,7 @@ chosen : (t : Bool) (x : ℕ) (o : Option ℕ) → x < 128 → ((b : ℕ) → o 
 chosen true x o lt rest b e = let q = same_Some x b e in omega arith
 chosen false x o lt rest b e = rest b e
 
-escaped_ascii : (c : ℕ) (b : ℕ) → escaped_byte c ≡ Some b → b < 128
+pub escaped_ascii : (c : ℕ) (b : ℕ) → escaped_byte c ≡ Some b → b < 128
 escaped_ascii c = chosen (eqb c 48) 126 _ (omega arith) (chosen (eqb c 49) 47 _ (omega arith) (chosen (eqb c 50) 32 _ (omega arith) (chosen (eqb c 51) 10 None (omega arith) (λ b e. absurd cc))))
 
 -- what stands for a byte behind a `~` is ASCII

@@ -10,7 +10,7 @@ use Rattle.ild_edges.specs.Count.{bumped}
 use Rattle.ild_edges.specs.Store.{Moment, Adds, IsFree, block_at, PutsAnswer}
 use Rattle.ild_edges.specs.Told.{IfTold, BothTold}
 use Rattle.ild_edges.specs.declared.error.EdgeErr.TheVariants as E
-use Rattle.ild_session.specs.Step.{Holds, AddsOnly, AddsWhole, Collides}
+use Rattle.ild_session.specs.Step.{Holds, AddsOnly, AddsWhole, IsWhole, Collides}
 
 pub contains_one : (b : List ℕ) → Contains (b ∷ []) b
 contains_one b = (0, omega arith, refl)
@@ -92,12 +92,12 @@ pub bumped_most : (n : ℕ) → bumped n ≤ n + 1
 bumped_most n = omega arith
 
 childless_by : (new : List (List ℕ)) (a b : Option (List (List ℕ))) → BothTold a b (CameOnly new)
-    → BothTold a b (λ was now. (id c : List ℕ) → block_at now id ≡ Some c → (block_at was id ≡ Some c) ⊎ Unit {0})
+    → BothTold a b (λ was now. (id c : List ℕ) → block_at now id ≡ Some c → (block_at was id ≡ Some c) ⊎ IsWhole now ([] ∷ []))
 childless_by new None None adds = tt
 childless_by new None (Some b) adds = absurd adds
 childless_by new (Some a) None adds = absurd adds
-childless_by new (Some a) (Some b) adds = λ id c held. inr tt
+childless_by new (Some a) (Some b) adds = λ id c held. inr (record { ids = []; place = (0, omega arith, refl); children = tt })
 
 -- blocks without children have all of them held
-pub childless : (m n : Moment) (new : List (List ℕ)) → AddsOnly m n new → AddsWhole m n (λ b. [])
+pub childless : (m n : Moment) (new : List (List ℕ)) → AddsOnly m n new → AddsWhole m n (λ b. [] ∷ [])
 childless m n new adds = childless_by new m.blocks n.blocks adds

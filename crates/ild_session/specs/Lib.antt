@@ -1,4 +1,5 @@
 pub mod Session
+pub mod Batch
 pub mod Step
 pub mod Run
 pub mod Plain

@@ -7,8 +7,8 @@ use Rattle.ild_edges.specs.Store.{Moment, Later}
 use Rattle.ild_script.specs.declared.reply.Reply.{Reply}
 use Rattle.ild_script.specs.Line.{lines_of}
 use Rattle.ild_script.specs.Reply.{reply_text, is_no}
-use Rattle.ild_session.specs.Session.{State, Meaning, left}
-use Rattle.ild_session.specs.Step.{Step, Holds}
+use Rattle.ild_session.specs.Session.{Stage, Meaning}
+use Rattle.ild_session.specs.Step.{Step, Carries}
 use Rattle.ild_session.specs.Run.{Run, texts}
 
 -- the lines that are left of a script
@@ -21,29 +21,29 @@ bytes_left None = 0
 bytes_left (Some b) = length b.now + 1
 
 -- a line was answered, and its reply written
-pub record LineDone {V : Type 0} (M : Meaning V) (m : Moment) (s : State V) (line : List ℕ) (n : Moment) (t : State V) (was now : Option (List ℕ)) (refused : Bool) : Type 0 where
+pub record LineDone {V : Type 0} (M : Meaning V) (m : Moment) (s : Stage V) (line : List ℕ) (n : Moment) (t : Stage V) (was now : Option (List ℕ)) (refused : Bool) : Type 0 where
   pub reply : Option Reply
   pub step : Step M m s line reply n t
   pub written : Appends was now (texts (cons_option reply []))
   pub refused_is : refused ≡ list_any is_no (cons_option reply [])
 
 -- a line was answered, and a front of its reply written
-pub record LineCut {V : Type 0} (M : Meaning V) (m : Moment) (s : State V) (line : List ℕ) (n : Moment) (t : State V) (was now : Option (List ℕ)) : Type 0 where
+pub record LineCut {V : Type 0} (M : Meaning V) (m : Moment) (s : Stage V) (line : List ℕ) (n : Moment) (t : Stage V) (was now : Option (List ℕ)) : Type 0 where
   pub reply : Reply
   pub step : Step M m s line (Some reply) n t
   pub written : AppendsFront was now (reply_text reply)
 
 -- these lines were answered, and their replies written
-pub record LinesDone {V : Type 0} (M : Meaning V) (m : Moment) (s : State V) (lines : List (List ℕ)) (n : Moment) (t : State V) (was now : Option (List ℕ)) (refused : Bool) : Type 0 where
+pub record LinesDone {V : Type 0} (M : Meaning V) (m : Moment) (s : Stage V) (lines : List (List ℕ)) (n : Moment) (t : Stage V) (was now : Option (List ℕ)) (refused : Bool) : Type 0 where
   pub replies : List Reply
   pub run : Run M m s lines replies n t
   pub later : Later m n
-  pub stands : Holds m (M.blocks (left s)) → Holds n (M.blocks (left t))
+  pub carries : Carries M m s → Carries M n t
   pub written : Appends was now (texts replies)
   pub refused_is : refused ≡ list_any is_no replies
 
 -- the first of these lines were answered, and a front of their replies written
-pub record LinesCut {V : Type 0} (M : Meaning V) (m : Moment) (s : State V) (lines : List (List ℕ)) (n : Moment) (t : State V) (was now : Option (List ℕ)) : Type 0 where
+pub record LinesCut {V : Type 0} (M : Meaning V) (m : Moment) (s : Stage V) (lines : List (List ℕ)) (n : Moment) (t : Stage V) (was now : Option (List ℕ)) : Type 0 where
   pub first : List (List ℕ)
   pub rest : List (List ℕ)
   pub split : lines ≡ first ++ rest

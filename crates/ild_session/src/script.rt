@@ -60,8 +60,8 @@ fn answer_and_write<S: Session, K: Store, W: Sink>(
     store: &mut K,
     out: &mut W,
 ) -> Result<bool, Cut>
-    ensures done { IfOk result (λ refused. LineDone (S.meaning session.old) (K.moment store.old) (S.state session.old) line.now (K.moment store.new) (S.state session.new) (W.output out.old).written (W.output out.new).written refused) }
-    ensures part { OnErr result (LineCut (S.meaning session.old) (K.moment store.old) (S.state session.old) line.now (K.moment store.new) (S.state session.new) (W.output out.old).written (W.output out.new).written) }
+    ensures done { IfOk result (λ refused. LineDone (S.meaning session.old) (K.moment store.old) (S.stage session.old) line.now (K.moment store.new) (S.stage session.new) (W.output out.old).written (W.output out.new).written refused) }
+    ensures part { OnErr result (LineCut (S.meaning session.old) (K.moment store.old) (S.stage session.old) line.now (K.moment store.new) (S.stage session.new) (W.output out.old).written (W.output out.new).written) }
     ensures same { S.meaning session.new ≡ S.meaning session.old }
     ensures faults { (W.output out.old).faults ≤ (W.output out.new).faults }
     ensures sink { IsErrOf result cut.Sink → Rose (W.output out.old).faults (W.output out.new).faults }
@@ -83,8 +83,8 @@ pub fn answer_all<S: Session, K: Store, W: Sink>(
     store: &mut K,
     out: &mut W,
 ) -> Result<bool, Cut>
-    ensures done { IfOk result (λ refused. LinesDone (S.meaning session.old) (K.moment store.old) (S.state session.old) (lines_of script.now) (K.moment store.new) (S.state session.new) (W.output out.old).written (W.output out.new).written refused) }
-    ensures part { OnErr result (LinesCut (S.meaning session.old) (K.moment store.old) (S.state session.old) (lines_of script.now) (K.moment store.new) (S.state session.new) (W.output out.old).written (W.output out.new).written) }
+    ensures done { IfOk result (λ refused. LinesDone (S.meaning session.old) (K.moment store.old) (S.stage session.old) (lines_of script.now) (K.moment store.new) (S.stage session.new) (W.output out.old).written (W.output out.new).written refused) }
+    ensures part { OnErr result (LinesCut (S.meaning session.old) (K.moment store.old) (S.stage session.old) (lines_of script.now) (K.moment store.new) (S.stage session.new) (W.output out.old).written (W.output out.new).written) }
     ensures same { S.meaning session.new ≡ S.meaning session.old }
     ensures faults { (W.output out.old).faults ≤ (W.output out.new).faults }
     ensures sink { IsErrOf result cut.Sink → Rose (W.output out.old).faults (W.output out.new).faults }

@@ -1,5 +1,5 @@
 use Rattle.std.proofs.Common.{option_map, true, false, refl, sym, ap, ◌∙◌}
-use Rattle.ild_session.specs.Session.{idle}
+use Rattle.ild_session.specs.Session.{resting}
 use Rattle.ild_edges.proofs.Later.{Later-trans}
 use Rattle.ild_schema.specs.Names.{declared_names}
 use Rattle.ild_run.specs.Words.{job_of}
@@ -29,7 +29,7 @@ returns-in-Ok-true-clause-ended g c =
     let work = rw c.in-Answer.is at opens.answer in
     let done = rw (c.as_slice.ensures.same, c.in-Ok-true.field-0-test) at c.in-Ok-true.ensures.done in
     ended_refused call (job_seen c.in-Some.job) opens.taking (sym c.in-Some.ensures) opens.taken
-    (answered_all call (job_seen c.in-Some.job) opens.taking _ c.new-value.result c.put_first.result c.in_default-put_first.field-0 (g.K.Store.moment c.put_first.new.store) (idle c.answer_all.new.session) true
+    (answered_all call (job_seen c.in-Some.job) opens.taking _ c.new-value.result c.put_first.result c.in_default-put_first.field-0 (g.K.Store.moment c.put_first.new.store) (resting c.answer_all.new.session) true
     (sym c.in-Some.ensures) work c.new-value.ensures c.in_default-put_first.is c.put_first.ensures done)
 
 pub returns-in-Ok-false-clause-ended : goal.returns-in-Ok-false-clause-ended
@@ -39,7 +39,7 @@ returns-in-Ok-false-clause-ended g c =
     let work = rw c.in-Answer.is at opens.answer in
     let done = rw (c.as_slice.ensures.same, c.in-Ok-false.field-0-test) at c.in-Ok-false.ensures.done in
     ended_done call (job_seen c.in-Some.job) opens.taking (sym c.in-Some.ensures) opens.taken
-    (answered_all call (job_seen c.in-Some.job) opens.taking _ c.new-value.result c.put_first.result c.in_default-put_first.field-0 (g.K.Store.moment c.put_first.new.store) (idle c.answer_all.new.session) false
+    (answered_all call (job_seen c.in-Some.job) opens.taking _ c.new-value.result c.put_first.result c.in_default-put_first.field-0 (g.K.Store.moment c.put_first.new.store) (resting c.answer_all.new.session) false
     (sym c.in-Some.ensures) work c.new-value.ensures c.in_default-put_first.is c.put_first.ensures done)
 
 pub returns-clause-ended : goal.returns-clause-ended
@@ -48,7 +48,7 @@ returns-clause-ended g c =
     let opens = c.in-Ok.ensures in
     let work = rw c.in-Answer.is at opens.answer in
     let cut = rw c.as_slice.ensures.same at c.in-Err-answer_all.ensures.part in
-    let some = answered_some call (job_seen c.in-Some.job) opens.taking _ c.new-value.result c.put_first.result c.in_default-put_first.field-0 (g.K.Store.moment c.put_first.new.store) (idle c.answer_all.new.session)
+    let some = answered_some call (job_seen c.in-Some.job) opens.taking _ c.new-value.result c.put_first.result c.in_default-put_first.field-0 (g.K.Store.moment c.put_first.new.store) (resting c.answer_all.new.session)
     (sym c.in-Some.ensures) work c.new-value.ensures c.in_default-put_first.is c.put_first.ensures cut in
     rw c.cut_status.ensures (ended_cut call (job_seen c.in-Some.job) opens.taking c.in-Err-answer_all.cut (sym c.in-Some.ensures) opens.taken some
     (cut_cause c.in-Err-answer_all.cut (g.W.Sink.output c.args.out.now) (g.W.Sink.output c.answer_all.new.out) c.in-Err-answer_all.ensures.sink))

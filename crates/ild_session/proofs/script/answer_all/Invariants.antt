@@ -6,7 +6,7 @@ use Rattle.ild_session.proofs.script.answer_all.Given as goal
 
 abbrev pub invariant-loop-rest : goal.invariant-loop-rest
 invariant-loop-rest g l = record {
-  so_far : SoFar (g.S.Session.meaning l.initial.session) (lines_of l.script) (lines_left l.rest) (g.K.Store.moment l.initial.store) (g.S.Session.state l.initial.session) (g.K.Store.moment l.store) (g.S.Session.state l.session) (g.W.Sink.output l.initial.out).written (g.W.Sink.output l.out).written l.refused;
+  so_far : SoFar (g.S.Session.meaning l.initial.session) (lines_of l.script) (lines_left l.rest) (g.K.Store.moment l.initial.store) (g.S.Session.stage l.initial.session) (g.K.Store.moment l.store) (g.S.Session.stage l.session) (g.W.Sink.output l.initial.out).written (g.W.Sink.output l.out).written l.refused;
   same : g.S.Session.meaning l.session ≡ g.S.Session.meaning l.initial.session;
   faults : (g.W.Sink.output l.initial.out).faults ≤ (g.W.Sink.output l.out).faults;
 }
