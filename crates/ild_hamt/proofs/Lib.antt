@@ -12,3 +12,6 @@ pub mod PutEach
 pub mod Weights
 pub mod Nested
 pub mod Leaving
+pub mod Sounded
+pub mod Whole
+pub mod After

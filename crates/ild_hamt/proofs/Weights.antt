@@ -32,7 +32,7 @@ weight-many most below es empty is lt = let e = ap length (other-held most below
 weight-many most below es (bucket fs) is lt = let e = ap length (other-held most below es (bucket fs) is refl) in omega (arith, lt, e)
 weight-many most below es (child id) is lt = child-many most below es (child id) is refl
 
-few-held : (most : ℕ) (below : List (List ℕ × Data) → Option Data) (es : List (List ℕ × Data)) (z : TrieSlot) → slot_of most below es ≡ Some z → length es ≤ most → bucket_entries z ≡ es
+pub few-held : (most : ℕ) (below : List (List ℕ × Data) → Option Data) (es : List (List ℕ × Data)) (z : TrieSlot) → slot_of most below es ≡ Some z → length es ≤ most → bucket_entries z ≡ es
 few-held most below es z is le =
     ⊎_elim (λ linked. absurd (let lt = child-many most below es z is linked in omega arith)) (λ other. other-held most below es z is other) (cases_Bool (is_child z))
 

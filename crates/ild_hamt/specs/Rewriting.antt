@@ -66,7 +66,7 @@ Rewrites h p k es m (Err Memory) n = (n ≡ m) ⊎ StopsAt h p k es m Memory n
 Rewrites h p k es m (Err e) n = StopsAt h p k es m e n
 
 -- where the trie of the entries was held, that of the new ones is, and each block that was added has all its children held
-pub record Keeps (h : List ℕ → List ℕ) (es fs : List (List ℕ × Data)) (result : Result (List ℕ) HamtFault) (was now : List (List ℕ)) : Type 0 where
+pub record HoldsAfter (h : List ℕ → List ℕ) (es fs : List (List ℕ × Data)) (result : Result (List ℕ) HamtFault) (was now : List (List ℕ)) : Type 0 where
   pub held : HoldsBelow h usual was (trie_levels usual) 0 es → IfOk result (λ root. HoldsBelow h usual now (trie_levels usual) 0 fs)
   pub whole : HoldsBelow h usual was (trie_levels usual) 0 es → AddsWhole was now
 

@@ -34,7 +34,8 @@ impl Trail {
     ghost use Rattle.ild_node.specs.Views.{HasSlots};
     ghost use Rattle.ild_hamt.specs.Descending.{IsTrailOf, trail_blocks};
     ghost use Rattle.ild_hamt.specs.Removing.{Removes, RestIs};
-    ghost use Rattle.ild_hamt.specs.Rewriting.{IsTrailFrom};
+    ghost use Rattle.ild_edges.specs.Told.{BothTold};
+    ghost use Rattle.ild_hamt.specs.Rewriting.{HoldsAfter, IsTrailFrom};
     ghost use Rattle.ild_hamt.specs.Seen.{ValueIs};
     ghost use Rattle.ild_hamt.specs.Setting.{Sets};
 
@@ -92,10 +93,8 @@ impl Trail {
         }
     }
 
-    /// Sets the value at the key: the answer is the new root node, and the other new nodes on the key's way are put, each
-    /// behind the one beneath it. The trail is that of this root, the key isn't exhausted, and the value leaves room for the
-    /// node around it. Nothing is put where a new node is longer than a block may be.
-    pub fn set<K: Store, H: KeyHash>(
+    // Sets the value at the key.
+    fn set_way<K: Store, H: KeyHash>(
         self,
         alloc: Global,
         root: NodeView<'_>,
@@ -117,17 +116,15 @@ impl Trail {
         rewrite(alloc, root, self.blocks, &hash, depth, slot, plan, store)
     }
 
-    /// Removes the key, in the same way. A node on the way beneath which a bucket takes all entries is one in the node above.
-    /// `keys` names the hash of the keys; none is computed.
-    pub fn remove<K: Store, H: KeyHash>(
+    // Removes the key.
+    fn remove_way<K: Store>(
         self,
         alloc: Global,
         root: NodeView<'_>,
-        _keys: &H,
         store: &mut K,
     ) -> Result<Octets, HamtFault>
-        ensures removes { (k : List ℕ) (slots : List TrieSlot) (es : List (List ℕ × Data)) → IsTrailFrom root.entry self H.hash_of k slots es
-            → Removes H.hash_of usual k es (K.moment store.old) result (K.moment store.new) }
+        ensures removes { (h : List ℕ → List ℕ) (k : List ℕ) (slots : List TrieSlot) (es : List (List ℕ × Data)) → IsTrailFrom root.entry self h k slots es
+            → Removes h usual k es (K.moment store.old) result (K.moment store.new) }
         ensures gets { (K.moment store.new).gets ≡ (K.moment store.old).gets }
     {
         let rows = match self.rest(alloc, root)? {
@@ -146,5 +143,49 @@ impl Trail {
             Vec::new(alloc),
             store,
         )
+    }
+
+    /// Sets the value at the key: the answer is the new root node, and the other new nodes on the key's way are put, each
+    /// behind the one beneath it. The trail is that of this root, the key isn't exhausted, and the value leaves room for the
+    /// node around it. Nothing is put where a new node is longer than a block may be.
+    pub fn set<K: Store, H: KeyHash>(
+        self,
+        alloc: Global,
+        root: NodeView<'_>,
+        val: &Node<'_>,
+        keys: &H,
+        store: &mut K,
+    ) -> Result<Octets, HamtFault>
+        requires { NestsIn deepest_value val.now }
+        ensures sets { (k : List ℕ) (v : Data) (slots : List TrieSlot) (es : List (List ℕ × Data)) → IsTrailFrom root.entry self H.hash_of k slots es → Stands val.now v
+            → is_some (node_of H.hash_of usual (trie_levels usual) 0 (put bytewise k v es)) ≡ true → Sets H.hash_of usual k v es (K.moment store.old) result (K.moment store.new) }
+        // Where the trie beneath the root was held, so is that beneath the answer; and each block that was added has its children held.
+        ensures held { (k : List ℕ) (v : Data) (slots : List TrieSlot) (es : List (List ℕ × Data)) → IsTrailFrom root.entry self H.hash_of k slots es → Stands val.now v
+            → is_some (node_of H.hash_of usual (trie_levels usual) 0 (put bytewise k v es)) ≡ true
+            → BothTold (K.moment store.old).blocks (K.moment store.new).blocks (HoldsAfter H.hash_of es (put bytewise k v es) result) }
+        ensures gets { (K.moment store.new).gets ≡ (K.moment store.old).gets }
+    {
+        let _text = self.key.as_str();
+        self.set_way(alloc, root, val, keys, store)
+    }
+
+    /// Removes the key: the answer is the new root node, and the other new nodes on the key's way are put, each behind the one
+    /// beneath it. A node beneath which a bucket takes all entries is a bucket in the node above, as far up as needed. Where the
+    /// key isn't there, nothing is done. `_keys` names the hash of the keys; none is computed.
+    pub fn remove<K: Store, H: KeyHash>(
+        self,
+        alloc: Global,
+        root: NodeView<'_>,
+        _keys: &H,
+        store: &mut K,
+    ) -> Result<Octets, HamtFault>
+        ensures removes { (k : List ℕ) (slots : List TrieSlot) (es : List (List ℕ × Data)) → IsTrailFrom root.entry self H.hash_of k slots es
+            → Removes H.hash_of usual k es (K.moment store.old) result (K.moment store.new) }
+        // Where the trie beneath the root was held, so is that beneath the answer; and each block that was added has its children held.
+        ensures held { (k : List ℕ) (slots : List TrieSlot) (es : List (List ℕ × Data)) → IsTrailFrom root.entry self H.hash_of k slots es
+            → BothTold (K.moment store.old).blocks (K.moment store.new).blocks (HoldsAfter H.hash_of es (without k es) result) }
+        ensures gets { (K.moment store.new).gets ≡ (K.moment store.old).gets }
+    {
+        self.remove_way(alloc, root, store)
     }
 }

@@ -107,7 +107,7 @@ by_order-all P Less a b c x y z = x
 by_order-all P Equal a b c x y z = y
 by_order-all P Greater a b c x y z = z
 
-all-put : (P : List ℕ × Data → Type 0) (k : List ℕ) (v : Data) (es : List (List ℕ × Data)) → ((q : List ℕ) (d : Data) → P (q, d) → P (q, v)) → AllByRecursion P es → P (k, v) → AllByRecursion P (put bytewise k v es)
+pub all-put : (P : List ℕ × Data → Type 0) (k : List ℕ) (v : Data) (es : List (List ℕ × Data)) → ((q : List ℕ) (d : Data) → P (q, d) → P (q, v)) → AllByRecursion P es → P (k, v) → AllByRecursion P (put bytewise k v es)
 all-put P k v [] keeps all is = (is, tt)
 all-put P k v (e ∷ es) keeps all is =
     by_order-all P (bytewise k e.0) ((k, v) ∷ e ∷ es) ((e.0, v) ∷ es) (e ∷ put bytewise k v es) (is, all) (keeps e.0 e.1 all.0, all.1) (all.0, all-put P k v es keeps all.1 is)
