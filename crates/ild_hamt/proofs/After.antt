@@ -1,14 +1,13 @@
 -- What a store holds after the rewriting of a way.
-use Rattle.std.proofs.Common.{◌≡◌, ◌⊎◌, inl, inr, ⊎_elim, ℕ, suc, ◌+◌, false, List, [], ◌∷◌, Option, Some, None, refl, sym, ap, ◌∙◌, subst}
-use Rattle.std.specs.Prelude.{Result, Ok, Err, IfOk, IsUtf8, reverse}
+use Rattle.std.proofs.Common.{◌≡◌, inl, ⊎_elim, ℕ, false, List, [], ◌∷◌, Option, Some, None, sym, ap, ◌∙◌, subst}
+use Rattle.std.specs.Prelude.{Result, Ok, Err, IsUtf8}
 use Rattle.std.specs.List.{AllByRecursion}
 use Rattle.std.specs.Prelude.{not}
 use Rattle.std.specs.Ordering.{eq_by_cmp}
 use Rattle.std.specs.FinMap.{put}
 use Rattle.ild_data.specs.ByteOrder.{bytewise, without}
 use Rattle.ild_data.specs.Data.{Data}
-use Rattle.ild_data.specs.Limits.{IsWithin}
-use Rattle.ild_data.specs.Trie.{TrieSlot, node_data, node_of, slots_at}
+use Rattle.ild_data.specs.Trie.{TrieSlot, node_of}
 use Rattle.ild_data.specs.TrieShape.{trie_levels}
 use Rattle.ild_edges.specs.Store.{Moment, Keeps}
 use Rattle.ild_edges.specs.Told.{BothTold}

@@ -1,9 +1,7 @@
 -- The trie of the new entries is held, where that of the old ones is and the nodes on the new way are.
-use Rattle.std.proofs.Common.{◌≡◌, ◌≢◌, ◌⊎◌, inl, inr, ⊎_elim, ℕ, zero, suc, ◌+◌, ◌≤◌, ◌<◌, ◌^◌, List, length, get_or, Option, Some, None, option_map, refl, sym, ap, ◌∙◌, subst, arith}
-use Rattle.std.specs.FinMap.{put}
+use Rattle.std.proofs.Common.{◌≡◌, ◌≢◌, ◌⊎◌, inl, inr, ⊎_elim, ℕ, zero, suc, ◌+◌, ◌≤◌, ◌<◌, List, length, get_or, Option, Some, None, option_map, refl, sym, ◌∙◌, subst, arith}
 use Rattle.std.proofs.lemmas.Bool.{cases_eq, cases_lt}
 use Rattle.ild_data.specs.Data.{Data}
-use Rattle.ild_data.specs.ByteOrder.{bytewise, IsInOrder}
 use Rattle.ild_data.specs.Trie.{TrieSlot, empty, part, link_to, node_of, at_depth, slots_at}
 use Rattle.ild_data.specs.TrieShape.{TrieShape, trie_levels}
 use Rattle.ild_trie.proofs.Fold.{slot-many, length-part}

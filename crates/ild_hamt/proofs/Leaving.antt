@@ -1,5 +1,5 @@
 -- How the rewriting of a way begins at the end of a trail, and how it ends.
-use Rattle.std.proofs.Common.{◌≡◌, ◌⊎◌, inl, inr, ℕ, suc, ◌+◌, ◌-◌, ◌≤◌, Bool, true, false, cond, not, ◌||◌, List, [], ◌∷◌, ◌++◌, length, Option, Some, None, is_some, refl, sym, ap, ◌∙◌, subst, arith, append-nil}
+use Rattle.std.proofs.Common.{◌≡◌, inl, inr, ℕ, suc, ◌+◌, ◌-◌, ◌≤◌, Bool, true, false, cond, not, ◌||◌, List, [], ◌∷◌, ◌++◌, length, Option, Some, None, is_some, refl, sym, ap, ◌∙◌, subst, arith, append-nil}
 use Rattle.std.specs.Prelude.{Result, Ok, Err, IfOk, IsSome}
 use Rattle.std.specs.Ordering.{eq_by_cmp}
 use Rattle.std.specs.FinMap.{find, put}
@@ -29,7 +29,7 @@ use Rattle.ild_node.specs.declared.fault.HamtFault.{HamtFault}
 use Rattle.ild_node.specs.declared.fault.HamtFault.TheVariants as F
 use Rattle.ild_hamt.specs.Descending.{IsTrailOf, trail_blocks}
 use Rattle.ild_hamt.specs.Removing.{Removes}
-use Rattle.ild_hamt.specs.Rewriting.{HasRoot, StopsAt, IsLongWay, Rewrites, ClimbState, way_up}
+use Rattle.ild_hamt.specs.Rewriting.{StopsAt, Rewrites, ClimbState, way_up}
 use Rattle.ild_hamt.specs.Seen.{Shows}
 use Rattle.ild_hamt.specs.declared.trail.Trail.{Trail}
 use Rattle.ild_hamt.proofs.Differing.{along-without}

@@ -1,27 +1,25 @@
 -- The values in a node leave room for the node around them.
-use Rattle.std.proofs.Common.{◌≡◌, ℕ, zero, suc, ◌+◌, ◌≤◌, ◌<◌, List, [], ◌∷◌, ◌++◌, length, map, get_or, flat_map, Option, Some, None, refl, sym, ap, ◌∙◌, subst, arith}
+use Rattle.std.proofs.Common.{◌≡◌, ℕ, zero, suc, ◌≤◌, List, [], ◌∷◌, ◌++◌, map, get_or, flat_map, Option, Some, None, refl, subst, arith}
 use Rattle.std.specs.Prelude.{slice_get}
 use Rattle.std.specs.Borrow.{Bor}
 use Rattle.std.specs.List.{AllByRecursion}
-use Rattle.ild_data.specs.Data.{Data, list, items_of, items_depth, depth}
+use Rattle.ild_data.specs.Data.{Data, items_of, items_depth, depth}
 use Rattle.ild_data.specs.Limits.{IsWithin}
-use Rattle.ild_data.specs.Tree.{IsTree, AreTrees}
-use Rattle.ild_data.specs.Trie.{TrieSlot, empty, bucket, child, entry_data, elements_of, node_data, map_of}
-use Rattle.ild_cbor.specs.Nodes.{Stands, block_of}
+use Rattle.ild_data.specs.Tree.{AreTrees}
+use Rattle.ild_data.specs.Trie.{TrieSlot, empty, bucket, child, entry_data, elements_of, node_data}
+use Rattle.ild_cbor.specs.Nodes.{Stands}
 use Rattle.ild_cbor.specs.declared.node.Node.{Node}
 use Rattle.ild_cbor.proofs.Blocks.{one_tree_lem}
 use Rattle.ild_typed.specs.Composed.{usual}
 use Rattle.ild_typed.specs.Nested.{TreeIn}
 use Rattle.ild_node.specs.Form.{bucket_data}
 use Rattle.ild_node.specs.Rows.{AreShallow, deepest_value}
-use Rattle.ild_node.specs.Steps.{IsAtSlot}
-use Rattle.ild_node.specs.Views.{HasSlots, HasEntries, EntryIs, SlotIs}
+use Rattle.ild_node.specs.Views.{HasSlots, EntryIs, SlotIs}
 use Rattle.ild_node.specs.declared.bucket.Bucket.{Bucket}
-use Rattle.ild_node.specs.declared.slots.Slots.{Slots}
 use Rattle.ild_node.specs.declared.view.NodeView.{NodeView}
 use Rattle.ild_node.specs.declared.view.NodeSlot.{NodeSlot}
 use Rattle.ild_node.specs.declared.view.NodeSlot.TheVariants as S
-use Rattle.ild_hamt.specs.Known.{SomeNode, SomeBucket, SomeSlot, SomeWalk}
+use Rattle.ild_hamt.specs.Known.{SomeBucket, SomeSlot}
 use Rattle.ild_hamt.specs.Seen.{Shows}
 use Rattle.ild_hamt.proofs.Shown.{slot-shows}
 

@@ -1,22 +1,18 @@
 -- The entries of a trie that is held are such as blocks hold.
-use Rattle.std.proofs.Common.{◌≡◌, ⊎_elim, ℕ, zero, suc, ◌+◌, ◌≤◌, ◌<◌, ◌^◌, ◌==◌, Bool, true, false, cond, List, [], ◌∷◌, ◌++◌, length, get_or, Option, Some, None, refl, sym, ap, ◌∙◌, subst, arith}
+use Rattle.std.proofs.Common.{◌≡◌, ⊎_elim, ℕ, zero, suc, ◌+◌, ◌<◌, ◌==◌, Bool, true, false, cond, List, [], ◌∷◌, ◌++◌, length, get_or, Some, None, refl, sym, ◌∙◌, subst, arith}
 use Rattle.std.specs.Prelude.{IsUtf8, reverse, ◌||◌}
 use Rattle.std.specs.List.{AllByRecursion}
 use Rattle.std.proofs.lemmas.Bool.{eq-eqb, cases_lt, leb-false}
 use Rattle.std.proofs.lemmas.List.{reverse-append}
-use Rattle.ild_data.specs.ByteOrder.{IsInOrder}
 use Rattle.ild_data.specs.Data.{Data}
 use Rattle.ild_data.specs.Limits.{IsWithin, longest_block}
-use Rattle.ild_data.specs.Spell.{spell, id_of}
-use Rattle.ild_data.specs.Trie.{TrieSlot, empty, bucket, child, bucket_entries, node_data, part, slot_of, node_of, at_depth, slots_at}
-use Rattle.ild_edges.specs.Store.{block_at}
+use Rattle.ild_data.specs.Trie.{TrieSlot, empty, bucket, child, bucket_entries, node_data, part, node_of, at_depth, slots_at}
 use Rattle.ild_trie.proofs.Fold.{slot-many}
 use Rattle.ild_trie.proofs.Index.{index_below}
 use Rattle.ild_trie.proofs.Node.{slots-node, no_node}
 use Rattle.ild_trie.proofs.Slots.{slot_at}
 use Rattle.ild_typed.specs.Composed.{usual}
 use Rattle.ild_typed.specs.Node.{IsSlot}
-use Rattle.ild_typed.specs.Nested.{TreeIn}
 use Rattle.ild_typed.proofs.Treed.{EntryIn}
 use Rattle.ild_node.specs.Rows.{AreShallow}
 use Rattle.ild_bulk.specs.Build.{any_long, is_long}

@@ -1,5 +1,5 @@
 -- From the bottom of a key's way up to the root.
-use Rattle.std.proofs.Common.{◌≡◌, ℕ, suc, ◌+◌, ◌-◌, ◌≤◌, ◌<◌, nat_le, Bool, true, false, cond, List, [], ◌∷◌, ◌++◌, length, set, get_or, Option, Some, is_some, option_map, refl, sym, ap, ◌∙◌, subst, arith, append-nil}
+use Rattle.std.proofs.Common.{◌≡◌, ℕ, suc, ◌+◌, ◌-◌, ◌≤◌, nat_le, Bool, true, false, cond, List, [], ◌∷◌, ◌++◌, length, set, get_or, Option, Some, is_some, option_map, refl, sym, ap, ◌∙◌, subst, arith, append-nil}
 use Rattle.std.specs.Prelude.{reverse, Result, Ok, Err, IfOk}
 use Rattle.std.specs.FinMap.{find, put}
 use Rattle.std.specs.FinMap.Entries.{length-put}
@@ -19,7 +19,7 @@ use Rattle.ild_trie.proofs.Climb.{in_order-along}
 use Rattle.ild_trie.proofs.Node.{node-slots, along-put}
 use Rattle.ild_trie.proofs.Way.{way_is}
 use Rattle.ild_bulk.specs.Planned.{planned, slot_plan}
-use Rattle.ild_hamt.specs.Way.{IsRootOf, IsNodeOf}
+use Rattle.ild_hamt.specs.Way.{IsRootOf}
 use Rattle.ild_hamt.specs.Descending.{NodeAt}
 use Rattle.ild_hamt.specs.Rewriting.{DiffersAt, Lifts, ClimbedTo, ClimbState, HasRoot, own_block, way_at, way_up}
 use Rattle.ild_hamt.proofs.Fulling.{next-part}

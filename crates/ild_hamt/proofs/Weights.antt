@@ -1,5 +1,5 @@
 -- Whether a bucket takes all entries of a node, told by its slots.
-use Rattle.std.proofs.Common.{◌≡◌, ◌≢◌, ⊎_elim, ℕ, suc, ◌+◌, ◌-◌, ◌≤◌, ◌<◌, ◌^◌, nat_le, Bool, true, false, List, [], ◌∷◌, ◌++◌, length, set, get_or, Option, Some, option_map, refl, sym, ap, ◌∙◌, subst, arith, append-nil}
+use Rattle.std.proofs.Common.{◌≡◌, ◌≢◌, ⊎_elim, ℕ, suc, ◌+◌, ◌≤◌, ◌<◌, ◌^◌, nat_le, false, List, [], ◌∷◌, ◌++◌, length, set, get_or, Option, Some, option_map, refl, sym, ap, ◌∙◌, arith, append-nil}
 use Rattle.std.proofs.lemmas.Bool.{le-leb, lt-leb, leb-false, cases_eq, cases_lt, cases_Bool}
 use Rattle.std.specs.Prelude.{Result, Ok, Err, IfOk}
 use Rattle.std.proofs.lemmas.List.{get_or-set_same, get_or-set_other}
@@ -17,7 +17,7 @@ use Rattle.ild_trie.proofs.Index.{index_below}
 use Rattle.ild_trie.proofs.Node.{node-slots}
 use Rattle.ild_trie.proofs.Slots.{slot_at}
 use Rattle.ild_hamt.specs.Gathering.{put_each, weight, held_to}
-use Rattle.ild_hamt.specs.Rewriting.{Lifts, own_block}
+use Rattle.ild_hamt.specs.Rewriting.{Lifts}
 use Rattle.ild_hamt.proofs.PutEach.{held-few, held-first, held-all, held-same, held-more, held-longer}
 
 -- ---- one slot

@@ -1,5 +1,5 @@
 -- The nodes on a new way have their children on the way or in the store.
-use Rattle.std.proofs.Common.{◌≡◌, ◌≢◌, ◌⊎◌, inl, inr, ⊎_elim, ℕ, zero, suc, ◌+◌, ◌≤◌, ◌<◌, ◌^◌, ◌==◌, nat_le, Bool, true, false, List, [], ◌∷◌, ◌++◌, length, get_or, take, Option, Some, None, refl, sym, ap, ◌∙◌, subst, arith, append_assoc, append-nil}
+use Rattle.std.proofs.Common.{◌≡◌, ◌≢◌, ◌⊎◌, inl, inr, ⊎_elim, ℕ, zero, suc, ◌+◌, ◌<◌, nat_le, Bool, true, false, List, [], ◌∷◌, ◌++◌, length, get_or, take, Option, Some, None, refl, sym, ap, ◌∙◌, subst, arith, append_assoc, append-nil}
 use Rattle.std.specs.Prelude.{IsSome, is_some, reverse}
 use Rattle.std.specs.List.{AllByRecursion}
 use Rattle.std.proofs.lemmas.Bool.{lt-leb, le-leb, cases_eq, cases_lt}
@@ -7,11 +7,10 @@ use Rattle.std.proofs.lemmas.List.{reverse-append}
 use Rattle.ild_data.specs.Data.{Data}
 use Rattle.ild_data.specs.Spell.{spell, id_of}
 use Rattle.ild_data.specs.TrieShape.{TrieShape}
-use Rattle.ild_data.specs.Trie.{TrieSlot, empty, bucket, child, link_to, node_data, part, slot_of, node_of, at_depth, slots_at}
+use Rattle.ild_data.specs.Trie.{TrieSlot, empty, bucket, child, node_data, part, node_of, at_depth, slots_at}
 use Rattle.ild_data.specs.TrieBlocks.{none_or, block_of}
 use Rattle.ild_edges.specs.Store.{block_at, Keeps}
 use Rattle.ild_trie.specs.Way.{way}
-use Rattle.ild_trie.proofs.Index.{index_below}
 use Rattle.ild_trie.proofs.Node.{slots-node, no_node}
 use Rattle.ild_trie.proofs.Slots.{slot_at}
 use Rattle.ild_trie.proofs.Way.{way_is}

@@ -4,7 +4,6 @@ use Rattle.std.specs.FinMap.{find}
 use Rattle.ild_data.specs.Data.{Data}
 use Rattle.ild_data.specs.Spell.{spell}
 use Rattle.ild_edges.specs.Store.{Moment}
-use Rattle.ild_edges.specs.Told.{BothTold}
 use Rattle.ild_data.specs.TrieShape.{TrieShape, trie_levels}
 use Rattle.ild_data.specs.Trie.{TrieSlot, slot_of, node_of}
 use Rattle.ild_data.specs.ByteOrder.{bytewise, IsInOrder}

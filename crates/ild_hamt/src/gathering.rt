@@ -16,12 +16,7 @@ use ild_node::{Bucket, NewHold, NodeSlot, Rows, Slots};
 use std::alloc::{AllocError, Global};
 
 // Puts an entry of a bucket among rows.
-fn put_entry(
-    alloc: Global,
-    bucket: Bucket<'_>,
-    i: usize,
-    rows: &mut Rows,
-) -> Result<(), AllocError>
+fn put_entry(alloc: Global, bucket: Bucket<'_>, i: usize, rows: &mut Rows) -> Result<(), AllocError>
     requires { ∥ SomeBucket bucket ∥₁ }
     ensures { (es : List (List ℕ × Data)) → HasEntries bucket.entry es → OnOk result (rows.new ≡ put_each (some_entry (slice_get es i)) rows.old) }
 {
@@ -54,11 +49,7 @@ fn put_other(
 }
 
 /// The rows of a bucket without that of a key.
-pub(crate) fn rows_without(
-    alloc: Global,
-    bucket: Bucket<'_>,
-    key: &str,
-) -> Result<Rows, AllocError>
+pub(crate) fn rows_without(alloc: Global, bucket: Bucket<'_>, key: &str) -> Result<Rows, AllocError>
     requires { ∥ SomeBucket bucket ∥₁ }
     ensures { (es : List (List ℕ × Data)) → HasEntries bucket.entry es → IsInOrder es → IfOk result (λ rows. rows ≡ without key.now es) }
 {

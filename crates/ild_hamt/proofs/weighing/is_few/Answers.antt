@@ -1,4 +1,4 @@
-use Rattle.std.proofs.Common.{◌+◌, sym, ◌∙◌, arith}
+use Rattle.std.proofs.Common.{◌+◌, arith}
 use Rattle.ild_data.specs.Trie.{node_of, at_depth}
 use Rattle.ild_typed.specs.Composed.{usual}
 use Rattle.ild_node.specs.NewSlots.{slot_seen}

@@ -1,4 +1,4 @@
-use Rattle.std.proofs.Common.{◌≡◌, ◌+◌, ℕ, List, set, Some}
+use Rattle.std.proofs.Common.{◌≡◌, ℕ, List, set, Some}
 use Rattle.ild_data.specs.Data.{Data}
 use Rattle.ild_data.specs.Trie.{TrieSlot, at_depth, slots_at}
 use Rattle.ild_typed.specs.Composed.{usual}

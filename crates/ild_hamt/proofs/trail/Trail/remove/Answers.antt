@@ -1,4 +1,3 @@
-use Rattle.ild_data.specs.ByteOrder.{without}
 use Rattle.ild_hamt.proofs.After.{removes-after}
 use Rattle.ild_hamt.proofs.trail.Trail.remove.Goals as goal
 

@@ -1,4 +1,4 @@
-use Rattle.std.proofs.Common.{Ok, inl, refl, ◌∙◌, arith}
+use Rattle.std.proofs.Common.{inl, refl, ◌∙◌, arith}
 use Rattle.std.specs.FinMap.{put}
 use Rattle.std.proofs.lemmas.Result.{err_from_is_err_and}
 use Rattle.ild_data.specs.ByteOrder.{bytewise}
