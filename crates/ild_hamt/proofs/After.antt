@@ -1,5 +1,5 @@
 -- What a store holds after the rewriting of a way.
-use Rattle.std.proofs.Common.{◌≡◌, inl, ⊎_elim, ℕ, false, List, [], ◌∷◌, Option, Some, None, sym, ap, ◌∙◌, subst}
+use Rattle.std.proofs.Common.{◌≡◌, inl, inr, ⊎_elim, ℕ, ◌+◌, false, List, [], ◌∷◌, Option, Some, None, sym, ap, ◌∙◌, subst}
 use Rattle.std.specs.Prelude.{Result, Ok, Err, IsUtf8}
 use Rattle.std.specs.List.{AllByRecursion}
 use Rattle.std.specs.Prelude.{not}
@@ -24,7 +24,9 @@ use Rattle.ild_node.specs.declared.fault.HamtFault.{HamtFault}
 use Rattle.ild_node.specs.declared.fault.HamtFault.TheVariants as F
 use Rattle.ild_bulk.specs.Build.{any_long}
 use Rattle.ild_bulk.specs.Children.{AddsWhole}
-use Rattle.ild_bulk.specs.Putting.{AreHeld, PutsAll, StopsAfter}
+use Rattle.ild_bulk.specs.Putting.{AddsOnly, AreHeld, PutsAll, StopsAfter}
+use Rattle.ild_data.specs.TrieBlocks.{nodes_beneath}
+use Rattle.ild_hamt.proofs.Beneath.{way-beneath, among-turned, among-take}
 use Rattle.ild_bulk.proofs.Puts.{told-map, told-same}
 use Rattle.ild_hamt.specs.Way.{HoldsBelow, IsRootOf}
 use Rattle.ild_hamt.specs.Removing.{Removes}
@@ -47,7 +49,7 @@ told-both (Some a) (Some b) P Q R f t u = f a b t u
 
 -- nothing was put
 unchanged : (h : List ℕ → List ℕ) (es fs : List (List ℕ × Data)) (e : HamtFault) (m n : Moment) → n ≡ m → BothTold m.blocks n.blocks (HoldsAfter h es fs (Err e))
-unchanged h es fs e m n is = told-same m.blocks n.blocks (HoldsAfter h es fs (Err e)) (ap (λ (x : Moment). x.blocks) is) (λ a. record { held = λ below. tt; whole = λ below id b held. inl held })
+unchanged h es fs e m n is = told-same m.blocks n.blocks (HoldsAfter h es fs (Err e)) (ap (λ (x : Moment). x.blocks) is) (λ a. record { nodes = λ id b held. inl held; held = λ below. tt; whole = λ below id b held. inl held })
 
 rises : (h : List ℕ → List ℕ) (k : List ℕ) (slots : List TrieSlot) (es fs : List (List ℕ × Data)) (root : List ℕ) (was : List (List ℕ)) → IsRootOf h usual es slots → DiffersAt k es fs → HasRoot h usual fs root
     → HoldsBelow h usual was (trie_levels usual) 0 es → Rising was [] (way_up h usual k fs)
@@ -63,27 +65,39 @@ whole-after h k slots es fs root m n r is d has puts =
     told-both m.blocks n.blocks Keeps (StopsAfter (way_up h usual k fs) puts.stops.0) (λ was now. HoldsBelow h usual was (trie_levels usual) 0 es → AddsWhole was now)
     (λ was now keeps stops below. stopped-whole (way_up h usual k fs) puts.stops.0 was now keeps (rises h k slots es fs root was is d has below) stops) puts.later.keeps puts.stops.1
 
+-- what was added is on the way
+nodes-after : (h : List ℕ → List ℕ) (k : List ℕ) (fs : List (List ℕ × Data)) (m n : Moment) (r : Result (Unit {0}) HamtFault) → PutsAll m (way_up h usual k fs) r n
+    → BothTold m.blocks n.blocks (AddsOnly (nodes_beneath h usual (trie_levels usual) 0 fs))
+nodes-after h k fs m n r puts =
+    told-map m.blocks n.blocks (StopsAfter (way_up h usual k fs) puts.stops.0) (AddsOnly (nodes_beneath h usual (trie_levels usual) 0 fs))
+    (λ was now stops id b held. ⊎_elim (λ before. inl before)
+    (λ among. inr (way-beneath h usual k (trie_levels usual) 0 fs b (among-turned b (way h usual k (trie_levels usual) 0 fs) (among-take b (puts.stops.0 + 1) (way_up h usual k fs) among))))
+    (stops.adds id b held)) puts.stops.1
+
 -- a put that stopped
 stops-after : (h : List ℕ → List ℕ) (k : List ℕ) (slots : List TrieSlot) (es fs : List (List ℕ × Data)) (root : List ℕ) (m n : Moment) (e : HamtFault) → IsRootOf h usual es slots → DiffersAt k es fs
     → HasRoot h usual fs root → PutsAll m (way_up h usual k fs) (Err e) n → BothTold m.blocks n.blocks (HoldsAfter h es fs (Err e))
 stops-after h k slots es fs root m n e is d has puts =
-    told-map m.blocks n.blocks (λ was now. HoldsBelow h usual was (trie_levels usual) 0 es → AddsWhole was now) (HoldsAfter h es fs (Err e)) (λ was now f. record { held = λ below. tt; whole = f })
-    (whole-after h k slots es fs root m n (Err e) is d has puts)
+    told-both m.blocks n.blocks (AddsOnly (nodes_beneath h usual (trie_levels usual) 0 fs)) (λ was now. HoldsBelow h usual was (trie_levels usual) 0 es → AddsWhole was now) (HoldsAfter h es fs (Err e))
+    (λ was now a f. record { nodes = a; held = λ below. tt; whole = f }) (nodes-after h k fs m n (Err e) puts) (whole-after h k slots es fs root m n (Err e) is d has puts)
 
 -- all was put
 done-after : (h : List ℕ → List ℕ) (k : List ℕ) (view : NodeView) (slots : List TrieSlot) (es fs : List (List ℕ × Data)) (root : List ℕ) (m n : Moment) → HasSlots usual view slots → IsRootOf h usual es slots → DiffersAt k es fs → KeepsSound es fs
     → HasRoot h usual fs root → any_long (root ∷ way_up h usual k fs) ≡ false → PutsAll m (way_up h usual k fs) (Ok tt) n → BothTold m.blocks n.blocks (HoldsAfter h es fs (Ok root))
 done-after h k view slots es fs root m n has_slots is d sound has short puts =
-    told-both m.blocks n.blocks (λ was now. Keeps was now × AreHeld (way_up h usual k fs) now) (λ was now. HoldsBelow h usual was (trie_levels usual) 0 es → AddsWhole was now) (HoldsAfter h es fs (Ok root))
+    told-both m.blocks n.blocks (λ was now. Keeps was now × AreHeld (way_up h usual k fs) now) (λ was now. AddsOnly (nodes_beneath h usual (trie_levels usual) 0 fs) was now × (HoldsBelow h usual was (trie_levels usual) 0 es → AddsWhole was now)) (HoldsAfter h es fs (Ok root))
     (λ was now p f. record {
+      nodes = f.0;
       held = λ below.
           let all = sound (entries-sound h was is.left 0 es slots is.node has_slots.stands.within has_slots.form.each (subst (λ (l : ℕ). HoldsBelow h usual was l 0 es) is.all below)) in
           all-holds h usual k was now es fs slots p.0 is d below
           (way-holds h k now (trie_levels usual) 0 fs d.now all (way-short (way h usual k (trie_levels usual) 0 fs) now root short p.1));
-      whole = f;
+      whole = f.1;
     })
     (told-both m.blocks n.blocks Keeps (λ was now. AreHeld (way_up h usual k fs) now) (λ was now. Keeps was now × AreHeld (way_up h usual k fs) now) (λ was now a b. (a, b)) puts.later.keeps puts.answer.0)
-    (whole-after h k slots es fs root m n (Ok tt) is d has puts)
+    (told-both m.blocks n.blocks (AddsOnly (nodes_beneath h usual (trie_levels usual) 0 fs)) (λ was now. HoldsBelow h usual was (trie_levels usual) 0 es → AddsWhole was now)
+    (λ was now. AddsOnly (nodes_beneath h usual (trie_levels usual) 0 fs) was now × (HoldsBelow h usual was (trie_levels usual) 0 es → AddsWhole was now)) (λ was now a b. (a, b))
+    (nodes-after h k fs m n (Ok tt) puts) (whole-after h k slots es fs root m n (Ok tt) is d has puts))
 
 pub holds-after : (h : List ℕ → List ℕ) (k : List ℕ) (view : NodeView) (slots : List TrieSlot) (es fs : List (List ℕ × Data)) (m n : Moment) (r : Result (List ℕ) HamtFault) → HasSlots usual view slots → IsRootOf h usual es slots
     → DiffersAt k es fs → KeepsSound es fs → Rewrites h usual k fs m r n → BothTold m.blocks n.blocks (HoldsAfter h es fs r)

@@ -14,4 +14,5 @@ pub mod Nested
 pub mod Leaving
 pub mod Sounded
 pub mod Whole
+pub mod Beneath
 pub mod After

@@ -7,7 +7,7 @@ use Rattle.ild_edges.specs.Store.{Moment}
 use Rattle.ild_data.specs.TrieShape.{TrieShape, trie_levels}
 use Rattle.ild_data.specs.Trie.{TrieSlot, slot_of, node_of}
 use Rattle.ild_data.specs.ByteOrder.{bytewise, IsInOrder}
-use Rattle.ild_data.specs.TrieBlocks.{node_and_beneath, none_or, block_of}
+use Rattle.ild_data.specs.TrieBlocks.{node_and_beneath, none_or, block_of, nodes_beneath}
 use Rattle.ild_trie.specs.Way.{along, way}
 use Rattle.ild_typed.specs.Composed.{usual}
 use Rattle.ild_hamt.specs.Descending.{NodeAt, IsTrailOf}
@@ -15,7 +15,7 @@ use Rattle.ild_hamt.specs.Way.{HoldsBelow}
 use Rattle.ild_hamt.specs.declared.trail.Trail.{Trail}
 use Rattle.ild_bulk.specs.Build.{any_long}
 use Rattle.ild_bulk.specs.Children.{AddsWhole}
-use Rattle.ild_bulk.specs.Putting.{PutsAll}
+use Rattle.ild_bulk.specs.Putting.{AddsOnly, PutsAll}
 use Rattle.ild_node.specs.Views.{HasSlots}
 use Rattle.ild_node.specs.declared.view.NodeView.{NodeView}
 use Rattle.ild_node.specs.declared.fault.HamtFault.{HamtFault}
@@ -64,8 +64,10 @@ Rewrites h p k es m (Err Size) n = IsLongWay h p k es × (n ≡ m)
 Rewrites h p k es m (Err Memory) n = (n ≡ m) ⊎ StopsAt h p k es m Memory n
 Rewrites h p k es m (Err e) n = StopsAt h p k es m e n
 
--- where the trie of the entries was held, that of the new ones is, and each block that was added has all its children held
+-- each block that was added is one of the trie of the new entries; where the trie of the old ones was held, that of the new ones
+-- is, and each block that was added has all its children held
 pub record HoldsAfter (h : List ℕ → List ℕ) (es fs : List (List ℕ × Data)) (result : Result (List ℕ) HamtFault) (was now : List (List ℕ)) : Type 0 where
+  pub nodes : AddsOnly (nodes_beneath h usual (trie_levels usual) 0 fs) was now
   pub held : HoldsBelow h usual was (trie_levels usual) 0 es → IfOk result (λ root. HoldsBelow h usual now (trie_levels usual) 0 fs)
   pub whole : HoldsBelow h usual was (trie_levels usual) 0 es → AddsWhole was now
 
