@@ -31,7 +31,9 @@ fn edit<H: KeyHash>(
     let node = check(root.as_slice()).ok().ok_or("a block")?;
     let view = node_of(node).ok().ok_or("a node")?;
     let (key, value) = edit;
-    let trail = descend(alloc, view, key, keys, store).ok().ok_or("a trail")?;
+    let trail = descend(alloc, view, key, keys, store)
+        .ok()
+        .ok_or("a trail")?;
     let answer = match value {
         Some(byte) => {
             let bytes = [byte];
@@ -168,12 +170,7 @@ fn shuffled<H: KeyHash>(
 }
 
 /// The CID of the root after so many edits.
-fn is_rooted<H: KeyHash>(
-    rt: &HostRuntime,
-    count: u16,
-    keys: &H,
-    cid: &str,
-) -> Result<bool, Fail> {
+fn is_rooted<H: KeyHash>(rt: &HostRuntime, count: u16, keys: &H, cid: &str) -> Result<bool, Fail> {
     let mut store = MemStore::new(rt.alloc(), &[], &[])?;
     let root = shuffled(rt.alloc(), count, keys, &mut store)?;
     let text = block_id(root.as_slice()).text(rt.alloc())?;
