@@ -64,6 +64,19 @@ def pseudo_random(count):
     return entries
 
 
+def edited(count):
+    """What is left of so many edits of keys of six letters a and b: each sets a key to a byte, or removes it where it is there."""
+    entries, state = {}, 1
+    for _ in range(count):
+        state = (state * 1103515245 + 12345) % 2**31
+        key = bytes(97 + (state >> shift) % 2 for shift in (21, 20, 19, 18, 17, 16))
+        if (state >> 24) % 8 < 5:
+            entries[key] = head(0, (state >> 27) % 16)
+        else:
+            entries.pop(key, None)
+    return entries
+
+
 def show(name, entries, hashed):
     blocks = []
     root = node(entries, hashed, 0, blocks)
@@ -78,5 +91,8 @@ if __name__ == "__main__":
     show("four", {bytes([0, n]): bytes([n]) for n in (1, 2, 3, 4)}, padded)
     show("three", {bytes([0, n]): bytes([n]) for n in (1, 2, 3)}, padded)
     show("two children", {bytes([m, n]): bytes([n]) for m in (1, 2) for n in (1, 2, 3, 4)}, padded)
+    for count in (50, 200, 400):
+        show(f"{count} edits, padded", edited(count), padded)
+        show(f"{count} edits, hashed", edited(count), sha256)
     for count in (100, 1000):
         show(f"{count} keys", pseudo_random(count), sha256)

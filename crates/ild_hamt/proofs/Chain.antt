@@ -48,7 +48,7 @@ one-piece {X = X} f j a (suc n) le lt none =
     (λ apart. ap (λ xs. xs ++ flat_map f (range_with_len (a + 1) n)) (none a apart) ∙ one-piece f j (a + 1) n (let e : a + 1 ≤ j = omega (arith, le, apart) in e) (omega arith) none)
     (cases_eq a j)
 
-one-reversed : (o : Option Data) → block_of o ≡ reverse (block_of o)
+pub one-reversed : (o : Option Data) → block_of o ≡ reverse (block_of o)
 one-reversed None = refl
 one-reversed (Some node) = refl
 

@@ -191,16 +191,16 @@ trail-end h p k slots es t trail = by_many (length (trail_blocks t)) refl
         }
 
 -- what is found in the slot at the end
-end-bucket : (most : ℕ) (fs : List (List ℕ × Data)) (b : Bucket) → length fs ≤ most → Shows (S.Bucket b) (sized most empty fs) → HasEntries b fs
+pub end-bucket : (most : ℕ) (fs : List (List ℕ × Data)) (b : Bucket) → length fs ≤ most → Shows (S.Bucket b) (sized most empty fs) → HasEntries b fs
 end-bucket most [] b le is = absurd is
 end-bucket most (e ∷ es) b le is =
     subst (λ (c : Bool). Shows (S.Bucket b) (cond c (bucket (e ∷ es)) empty)) (le-leb (length (e ∷ es)) most le) is
 
-not-empty : (most : ℕ) (fs : List (List ℕ × Data)) → length fs ≤ most → Shows S.Empty (sized most empty fs) → fs ≡ []
+pub not-empty : (most : ℕ) (fs : List (List ℕ × Data)) → length fs ≤ most → Shows S.Empty (sized most empty fs) → fs ≡ []
 not-empty most [] le is = refl
 not-empty most (e ∷ es) le is = absurd (subst (λ (c : Bool). Shows S.Empty (cond c (bucket (e ∷ es)) empty)) (le-leb (length (e ∷ es)) most le) is)
 
-not-child : (most : ℕ) (fs : List (List ℕ × Data)) (id : BlockId) → length fs ≤ most → Shows (S.Child id) (sized most empty fs) → fs ≡ []
+pub not-child : (most : ℕ) (fs : List (List ℕ × Data)) (id : BlockId) → length fs ≤ most → Shows (S.Child id) (sized most empty fs) → fs ≡ []
 not-child most [] id le is = refl
 not-child most (e ∷ es) id le is = absurd (subst (λ (c : Bool). Shows (S.Child id) (cond c (bucket (e ∷ es)) empty)) (le-leb (length (e ∷ es)) most le) is)
 

@@ -1,10 +1,10 @@
 -- Where a key isn't exhausted, the slot at the end of its way can be written.
-use Rattle.std.proofs.Common.{◌≡◌, ⊎_elim, ℕ, zero, suc, ◌+◌, ◌-◌, ◌≤◌, ◌<◌, Bool, true, false, not, List, length, get_or, Option, Some, None, is_some, refl, sym, ap, ◌∙◌, subst, arith}
+use Rattle.std.proofs.Common.{◌≡◌, ⊎_elim, ℕ, zero, suc, ◌+◌, ◌-◌, ◌≤◌, Bool, true, false, not, List, length, Option, Some, None, is_some, refl, sym, ap, ◌∙◌, arith}
 use Rattle.std.specs.FinMap.{put}
 use Rattle.std.proofs.lemmas.Bool.{cases_lt}
 use Rattle.ild_data.specs.Data.{Data}
-use Rattle.ild_data.specs.ByteOrder.{bytewise, IsInOrder}
-use Rattle.ild_data.specs.Trie.{TrieSlot, empty, part, slot_of, node_of, at_depth, slots_at}
+use Rattle.ild_data.specs.ByteOrder.{bytewise}
+use Rattle.ild_data.specs.Trie.{TrieSlot, empty, part, slot_of, node_of, at_depth}
 use Rattle.ild_data.specs.TrieShape.{TrieShape, trie_levels}
 use Rattle.ild_trie.specs.Way.{along}
 use Rattle.ild_trie.proofs.Fold.{slot-few}

@@ -1,5 +1,5 @@
 -- The nodes of a trie of sound entries are nodes of a block, where they are short enough.
-use Rattle.std.proofs.Common.{◌≡◌, ℕ, zero, suc, ◌+◌, ◌≤◌, ◌<◌, ◌^◌, ◌==◌, nat_le, Bool, true, false, List, [], ◌∷◌, ◌++◌, length, map, Option, Some, None, option_map, refl, sym, ap, ◌∙◌, subst, arith}
+use Rattle.std.proofs.Common.{◌≡◌, ℕ, zero, suc, ◌+◌, ◌≤◌, ◌^◌, ◌==◌, nat_le, Bool, true, false, List, [], ◌∷◌, ◌++◌, length, map, Option, Some, None, option_map, refl, sym, ap, ◌∙◌, subst, arith}
 use Rattle.std.specs.Prelude.{IsUtf8}
 use Rattle.std.specs.List.{AllByRecursion, range_with_len}
 use Rattle.std.proofs.lemmas.Bool.{lt-leb, leb-true}
@@ -9,7 +9,7 @@ use Rattle.ild_data.specs.Data.{Data}
 use Rattle.ild_data.specs.ByteOrder.{IsInOrder}
 use Rattle.ild_data.specs.Limits.{longest_block}
 use Rattle.ild_data.specs.Spell.{spell, id_of}
-use Rattle.ild_data.specs.Trie.{TrieSlot, empty, bucket, child, all_some, part, link_to, bucket_or, slot_of, node_data, node_of, at_depth, slots_at}
+use Rattle.ild_data.specs.Trie.{TrieSlot, empty, bucket, all_some, part, link_to, bucket_or, slot_of, node_of, at_depth, slots_at}
 use Rattle.ild_data.specs.TrieBlocks.{none_or, block_of}
 use Rattle.ild_data.specs.TrieShape.{TrieShape}
 use Rattle.ild_cbor.specs.Block.{IsBlockOf}
@@ -23,7 +23,6 @@ use Rattle.ild_typed.specs.Node.{IsSlot}
 use Rattle.ild_typed.proofs.Treed.{EntryIn}
 use Rattle.ild_typed.proofs.TreeNodes.{part_in, node_of_in}
 use Rattle.ild_typed.proofs.Utf8Texts.{id_bytes}
-use Rattle.ild_hamt.specs.Way.{IsHeldNode}
 use Rattle.ild_hamt.specs.Holding.{HoldsWay}
 use Rattle.ild_hamt.proofs.Leading.{slots-many}
 

@@ -6,3 +6,7 @@ pub mod Ends
 pub mod Descending
 pub mod Setting
 pub mod Holding
+pub mod Known
+pub mod Gathering
+pub mod Rewriting
+pub mod Removing

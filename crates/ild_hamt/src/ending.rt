@@ -17,7 +17,7 @@ use ild_node::{Bucket, NodeSlot, NodeView, index};
 pub(crate) const LEVELS: u32 = 32;
 
 /// How many entries a bucket takes.
-const BUCKET_SIZE: usize = 3;
+pub(crate) const BUCKET_SIZE: usize = 3;
 
 // The index of a hash at a depth.
 fn index_of(hash: &[u8; 32], depth: u32) -> u8

@@ -3,9 +3,13 @@
 
 mod descending;
 mod ending;
+mod gathering;
+mod lifting;
 mod reaching;
 mod reading;
+mod rewriting;
 mod trail;
+mod weighing;
 
 pub use descending::descend;
 pub use ild_data::{KeyHash, PadKeys, Sha256Keys};

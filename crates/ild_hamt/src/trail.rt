@@ -1,9 +1,14 @@
 //! The way of a key.
 
 use crate::ending::end_slot;
+use crate::gathering::rows_without;
+use crate::lifting::few_slot;
+use crate::rewriting::{end_again, rewrite, slot_of};
 use ild_cbor::Node;
-use ild_data::{Octets, Txt};
-use ild_node::{NodeSlot, NodeView};
+use ild_data::{KeyHash, Octets, Txt};
+use ild_edges::Store;
+use ild_node::{HamtFault, NodeSlot, NodeView, Rows};
+use std::alloc::{AllocError, Global};
 
 /// The nodes on a key's way beneath a root, as they were read. It borrows nothing.
 #[derive(Drop)]
@@ -16,16 +21,23 @@ pub struct Trail {
 }
 
 impl Trail {
-    ghost use Rattle.std.specs.Prelude.{◌≡◌, ℕ, List, not, is_some};
+    ghost use Rattle.std.specs.Prelude.{◌≡◌, ◌+◌, ℕ, List, length, not, is_some, true, IfOk};
     ghost use Rattle.std.specs.FinMap.{find, put};
     ghost use Rattle.ild_data.specs.Data.{Data};
-    ghost use Rattle.ild_data.specs.ByteOrder.{bytewise};
+    ghost use Rattle.ild_data.specs.ByteOrder.{bytewise, without};
     ghost use Rattle.ild_data.specs.Trie.{TrieSlot, node_of};
     ghost use Rattle.ild_data.specs.TrieShape.{trie_levels};
+    ghost use Rattle.ild_trie.specs.Way.{along};
     ghost use Rattle.ild_typed.specs.Composed.{usual};
+    ghost use Rattle.ild_cbor.specs.Nodes.{Stands};
+    ghost use Rattle.ild_node.specs.Rows.{NestsIn, deepest_value};
     ghost use Rattle.ild_node.specs.Views.{HasSlots};
     ghost use Rattle.ild_hamt.specs.Descending.{IsTrailOf, trail_blocks};
+    ghost use Rattle.ild_hamt.specs.Removing.{Removes, RestIs};
+    ghost use Rattle.ild_edges.specs.Told.{BothTold};
+    ghost use Rattle.ild_hamt.specs.Rewriting.{HoldsAfter, IsTrailFrom};
     ghost use Rattle.ild_hamt.specs.Seen.{ValueIs};
+    ghost use Rattle.ild_hamt.specs.Setting.{Sets};
 
     /// The blocks that were read, from the child of the root down.
     pub fn blocks(&self) -> &[Octets]
@@ -52,5 +64,128 @@ impl Trail {
             → result ≡ not (is_some (node_of h usual (trie_levels usual) 0 (put bytewise k v es))) }
     {
         self.exhausted
+    }
+
+    // The entries of the bucket in which the way ends, without the key's.
+    fn others(&self, alloc: Global, root: NodeView<'_>) -> Result<Rows, AllocError>
+        ensures { (h : List ℕ → List ℕ) (k : List ℕ) (slots : List TrieSlot) (es : List (List ℕ × Data)) → HasSlots usual root.entry slots → IsTrailOf h usual k slots es self.now
+            → IfOk result (λ rows. rows ≡ without k (along h usual k (length (trail_blocks self.now) + 1) 0 es)) }
+    {
+        match end_again(root, &self.blocks, &self.hash, self.depth) {
+            NodeSlot::Bucket(bucket) => rows_without(alloc, bucket, self.key.as_str()),
+            NodeSlot::Empty => Ok(Rows::new(alloc)),
+            NodeSlot::Child(_) => Ok(Rows::new(alloc)),
+        }
+    }
+
+    // The same where the key is there, or `None` where it isn't.
+    fn rest(&self, alloc: Global, root: NodeView<'_>) -> Result<Option<Rows>, AllocError>
+        ensures { (h : List ℕ → List ℕ) (k : List ℕ) (slots : List TrieSlot) (es : List (List ℕ × Data)) → HasSlots usual root.entry slots → IsTrailOf h usual k slots es self.now
+            → RestIs k (along h usual k (length (trail_blocks self.now) + 1) 0 es) result }
+    {
+        match end_again(root, &self.blocks, &self.hash, self.depth) {
+            NodeSlot::Bucket(bucket) => match bucket.find(self.key.as_str()) {
+                Some(_) => Ok(Some(rows_without(alloc, bucket, self.key.as_str())?)),
+                None => Ok(None),
+            },
+            NodeSlot::Empty => Ok(None),
+            NodeSlot::Child(_) => Ok(None),
+        }
+    }
+
+    // Sets the value at the key.
+    fn set_way<K: Store, H: KeyHash>(
+        self,
+        alloc: Global,
+        root: NodeView<'_>,
+        val: &Node<'_>,
+        keys: &H,
+        store: &mut K,
+    ) -> Result<Octets, HamtFault>
+        requires { NestsIn deepest_value val.now }
+        ensures sets { (k : List ℕ) (v : Data) (slots : List TrieSlot) (es : List (List ℕ × Data)) → IsTrailFrom root.entry self H.hash_of k slots es → Stands val.now v
+            → is_some (node_of H.hash_of usual (trie_levels usual) 0 (put bytewise k v es)) ≡ true → Sets H.hash_of usual k v es (K.moment store.old) result (K.moment store.new) }
+        ensures gets { (K.moment store.new).gets ≡ (K.moment store.old).gets }
+    {
+        let mut rows = self.others(alloc, root)?;
+        rows.put(alloc, self.key.as_str(), val)?;
+        let mut plan = Vec::new(alloc);
+        let depth = self.depth;
+        let hash = self.hash;
+        let slot = slot_of(alloc, rows, depth.saturating_add(1), keys, &mut plan)?;
+        rewrite(alloc, root, self.blocks, &hash, depth, slot, plan, store)
+    }
+
+    // Removes the key.
+    fn remove_way<K: Store>(
+        self,
+        alloc: Global,
+        root: NodeView<'_>,
+        store: &mut K,
+    ) -> Result<Octets, HamtFault>
+        ensures removes { (h : List ℕ → List ℕ) (k : List ℕ) (slots : List TrieSlot) (es : List (List ℕ × Data)) → IsTrailFrom root.entry self h k slots es
+            → Removes h usual k es (K.moment store.old) result (K.moment store.new) }
+        ensures gets { (K.moment store.new).gets ≡ (K.moment store.old).gets }
+    {
+        let rows = match self.rest(alloc, root)? {
+            Some(rows) => rows,
+            None => return Err(HamtFault::NoKey),
+        };
+        let hash = self.hash;
+        let slot = few_slot(rows);
+        rewrite(
+            alloc,
+            root,
+            self.blocks,
+            &hash,
+            self.depth,
+            slot,
+            Vec::new(alloc),
+            store,
+        )
+    }
+
+    /// Sets the value at the key: the answer is the new root node, and the other new nodes on the key's way are put, each
+    /// behind the one beneath it. The trail is that of this root, the key isn't exhausted, and the value leaves room for the
+    /// node around it. Nothing is put where a new node is longer than a block may be.
+    pub fn set<K: Store, H: KeyHash>(
+        self,
+        alloc: Global,
+        root: NodeView<'_>,
+        val: &Node<'_>,
+        keys: &H,
+        store: &mut K,
+    ) -> Result<Octets, HamtFault>
+        requires { NestsIn deepest_value val.now }
+        ensures sets { (k : List ℕ) (v : Data) (slots : List TrieSlot) (es : List (List ℕ × Data)) → IsTrailFrom root.entry self H.hash_of k slots es → Stands val.now v
+            → is_some (node_of H.hash_of usual (trie_levels usual) 0 (put bytewise k v es)) ≡ true → Sets H.hash_of usual k v es (K.moment store.old) result (K.moment store.new) }
+        // Where the trie beneath the root was held, so is that beneath the answer; and each block that was added has its children held.
+        ensures held { (k : List ℕ) (v : Data) (slots : List TrieSlot) (es : List (List ℕ × Data)) → IsTrailFrom root.entry self H.hash_of k slots es → Stands val.now v
+            → is_some (node_of H.hash_of usual (trie_levels usual) 0 (put bytewise k v es)) ≡ true
+            → BothTold (K.moment store.old).blocks (K.moment store.new).blocks (HoldsAfter H.hash_of es (put bytewise k v es) result) }
+        ensures gets { (K.moment store.new).gets ≡ (K.moment store.old).gets }
+    {
+        let _text = self.key.as_str();
+        self.set_way(alloc, root, val, keys, store)
+    }
+
+    /// Removes the key: the answer is the new root node, and the other new nodes on the key's way are put, each behind the one
+    /// beneath it. A node beneath which a bucket takes all entries is a bucket in the node above, as far up as needed. Where the
+    /// key isn't there, nothing is done. `_keys` names the hash of the keys; none is computed.
+    pub fn remove<K: Store, H: KeyHash>(
+        self,
+        alloc: Global,
+        root: NodeView<'_>,
+        _keys: &H,
+        store: &mut K,
+    ) -> Result<Octets, HamtFault>
+        ensures removes { (k : List ℕ) (slots : List TrieSlot) (es : List (List ℕ × Data)) → IsTrailFrom root.entry self H.hash_of k slots es
+            → Removes H.hash_of usual k es (K.moment store.old) result (K.moment store.new) }
+        // Where the trie beneath the root was held, so is that beneath the answer; and each block that was added has its children held.
+        ensures held { (k : List ℕ) (slots : List TrieSlot) (es : List (List ℕ × Data)) → IsTrailFrom root.entry self H.hash_of k slots es
+            → BothTold (K.moment store.old).blocks (K.moment store.new).blocks (HoldsAfter H.hash_of es (without k es) result) }
+        ensures gets { (K.moment store.new).gets ≡ (K.moment store.old).gets }
+    {
+        self.remove_way(alloc, root, store)
     }
 }

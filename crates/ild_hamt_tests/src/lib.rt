@@ -4,6 +4,8 @@
 #[cfg(test)]
 mod built;
 #[cfg(test)]
+mod edited;
+#[cfg(test)]
 mod nodes;
 #[cfg(test)]
 mod rows;

@@ -27,7 +27,8 @@ fn is_above(rows: &Rows, key: &str) -> bool
     }
 }
 
-fn is_scalar(node: &Node<'_>) -> bool
+/// Whether a value is a scalar.
+pub(crate) fn is_scalar(node: &Node<'_>) -> bool
     ensures { IsTrue result → NestsIn 92 node.now }
 {
     node.count().is_none()

@@ -9,3 +9,5 @@ pub mod Rooting
 pub mod Writing
 pub mod Nodes
 pub mod Counts
+pub mod Changing
+pub mod Placing

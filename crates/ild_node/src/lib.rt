@@ -2,12 +2,14 @@
 #![tactic(auto)]
 
 mod bucket;
+mod changed;
 mod fault;
 mod hold;
 mod laws;
 mod level;
 mod node;
 mod parts;
+mod placed;
 mod root;
 mod row;
 mod rows;
@@ -19,6 +21,7 @@ mod walk;
 mod write;
 
 pub use bucket::Bucket;
+pub use changed::write_changed;
 pub use fault::HamtFault;
 pub use hold::{NewHold, NewSlot};
 pub use laws::{one_node, written_are_read};

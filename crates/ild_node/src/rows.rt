@@ -13,7 +13,7 @@ use std::marker::Model;
 /// Keys and spelled values, rising bytewise by key.
 #[derive(Drop)]
 pub struct Rows {
-    rows: Vec<Row>,
+    pub(crate) rows: Vec<Row>,
 }
 
 impl Model for Rows {

@@ -96,7 +96,8 @@ fn used_of(alloc: Global, slots: &[Option<NewHold>]) -> Result<Vec<bool>, AllocE
     Ok(used)
 }
 
-fn count_of(used: &[bool]) -> u64
+/// How many are set.
+pub(crate) fn count_of(used: &[bool]) -> u64
     ensures { result ≡ count_by (λ b. b) used.now }
 {
     let mut count = 0;
@@ -106,8 +107,8 @@ fn count_of(used: &[bool]) -> u64
     count
 }
 
-// The beginning of a node, up to its elements.
-fn begin(alloc: Global, used: &[bool], elements: u64) -> Result<Emit, AllocError>
+/// The beginning of a node, up to its elements.
+pub(crate) fn begin(alloc: Global, used: &[bool], elements: u64) -> Result<Emit, AllocError>
     ensures { IfOk result (λ out. out ≡ head 4 2 ++ spell_bytes (bytes_of_bits used.now) ++ head 4 elements) }
 {
     let mut out = Emit::new(alloc);
@@ -158,8 +159,8 @@ fn add_hold(out: &mut Emit, hold: &NewHold) -> Result<(), AllocError>
     }
 }
 
-// Appends the element of a slot, where it has one.
-fn add_slot(out: &mut Emit, slot: &Option<NewHold>) -> Result<(), AllocError>
+/// Appends the element of a slot, where it has one.
+pub(crate) fn add_slot(out: &mut Emit, slot: &Option<NewHold>) -> Result<(), AllocError>
     requires { IsFilledSlot usual slot.now }
     ensures element { OnOk result (out.new ≡ out.old ++ spelled (elements_of (slot_seen slot.now))) }
     ensures sound { OnOk result (IsSound usual (slot_seen slot.now)) }

@@ -1,0 +1,183 @@
+-- How the rewriting of a way begins at the end of a trail, and how it ends.
+use Rattle.std.proofs.Common.{◌≡◌, inl, inr, ℕ, suc, ◌+◌, ◌-◌, ◌≤◌, Bool, true, false, cond, not, ◌||◌, List, [], ◌∷◌, ◌++◌, length, Option, Some, None, is_some, refl, sym, ap, ◌∙◌, subst, arith, append-nil}
+use Rattle.std.specs.Prelude.{Result, Ok, Err, IfOk, IsSome}
+use Rattle.std.specs.Ordering.{eq_by_cmp}
+use Rattle.std.specs.FinMap.{find, put}
+use Rattle.std.proofs.lemmas.Bool.{le-leb, false≢true}
+use Rattle.ild_data.specs.ByteOrder.{bytewise, without, IsInOrder}
+use Rattle.ild_data.specs.Data.{Data}
+use Rattle.ild_data.specs.Trie.{TrieSlot, empty, slot_of, node_of}
+use Rattle.ild_data.specs.TrieBlocks.{none_or, block_of}
+use Rattle.ild_data.specs.TrieShape.{TrieShape, trie_levels}
+use Rattle.ild_trie.specs.Collapse.{sized}
+use Rattle.ild_trie.specs.Way.{along}
+use Rattle.ild_trie.proofs.Climb.{in_order-along}
+use Rattle.ild_trie.proofs.Fold.{slot-few}
+use Rattle.ild_trie.proofs.Parts.{same_by_find, same_key, key_itself, in_order-put, in_order-without, find-put_at, find-without}
+use Rattle.ild_typed.specs.Composed.{usual}
+use Rattle.ild_cbor.specs.declared.node.Node.{Node}
+use Rattle.ild_edges.specs.Store.{Moment}
+use Rattle.ild_bulk.specs.Build.{is_long, any_long}
+use Rattle.ild_bulk.specs.Planned.{PlansSlot, planned, slot_plan}
+use Rattle.ild_bulk.specs.Putting.{PutsAll}
+use Rattle.ild_node.specs.NewSlots.{slot_seen}
+use Rattle.ild_node.specs.Views.{HasEntries, ValueIn, bucket_node}
+use Rattle.ild_node.specs.declared.bucket.Bucket.{Bucket}
+use Rattle.ild_node.specs.declared.hold.NewHold.{NewHold}
+use Rattle.ild_node.specs.declared.view.NodeSlot.TheVariants as S
+use Rattle.ild_node.specs.declared.fault.HamtFault.{HamtFault}
+use Rattle.ild_node.specs.declared.fault.HamtFault.TheVariants as F
+use Rattle.ild_hamt.specs.Descending.{IsTrailOf, trail_blocks}
+use Rattle.ild_hamt.specs.Removing.{Removes}
+use Rattle.ild_hamt.specs.Rewriting.{StopsAt, Rewrites, ClimbState, way_up}
+use Rattle.ild_hamt.specs.Seen.{Shows}
+use Rattle.ild_hamt.specs.declared.trail.Trail.{Trail}
+use Rattle.ild_hamt.proofs.Differing.{along-without}
+use Rattle.ild_hamt.proofs.Fulling.{end-bucket, full-is}
+use Rattle.ild_hamt.proofs.Roomy.{has-room}
+use Rattle.ild_hamt.proofs.Upward.{start-put, start-few}
+
+-- a put that ended with a fault
+pub stopped : (h : List ℕ → List ℕ) (p : TrieShape) (k : List ℕ) (es : List (List ℕ × Data)) (m : Moment) (e : HamtFault) (n : Moment) → StopsAt h p k es m e n → Rewrites h p k es m (Err e) n
+stopped h p k es m F.Exhausted n stops = absurd stops.puts.answer
+stopped h p k es m F.NoKey n stops = absurd stops.puts.answer
+stopped h p k es m F.Size n stops = absurd stops.puts.answer
+stopped h p k es m F.Memory n stops = inr stops
+stopped h p k es m (F.Block id why) n stops = stops
+stopped h p k es m F.Store n stops = stops
+stopped h p k es m (F.Clash id kept new) n stops = stops
+
+-- the blocks that were planned are the way
+pub way-long : (h : List ℕ → List ℕ) (p : TrieShape) (k : List ℕ) (es : List (List ℕ × Data)) (root : List ℕ) (plan blocks : List (List ℕ)) (a b both : Bool) → plan ≡ way_up h p k es → blocks ≡ plan
+    → a ≡ is_long root → b ≡ any_long blocks → (a || b) ≡ both → any_long (root ∷ way_up h p k es) ≡ both
+way-long h p k es root plan blocks a b both is same one all sums = (λ i. sym one i || sym (all ∙ ap any_long (same ∙ is)) i) ∙ sums
+
+pub way-puts : (h : List ℕ → List ℕ) (p : TrieShape) (k : List ℕ) (es : List (List ℕ × Data)) (plan blocks : List (List ℕ)) (m : Moment) (r : Result (Unit {0}) HamtFault) (n : Moment) → plan ≡ way_up h p k es → blocks ≡ plan
+    → PutsAll m blocks r n → PutsAll m (way_up h p k es) r n
+way-puts h p k es plan blocks m r n is same puts = subst (λ (bs : List (List ℕ)). PutsAll m bs r n) (same ∙ is) puts
+
+-- ---- the bottom
+
+pub plans-few : (h : List ℕ → List ℕ) (p : TrieShape) (left depth : ℕ) (rows : List (List ℕ × Data)) (o : Option NewHold) (plan : List (List ℕ)) → length rows ≤ p.bucket → slot_seen o ≡ sized p.bucket empty rows
+    → PlansSlot h p left depth rows (Ok o) plan plan
+plans-few h p left depth rows o plan few is = (
+  ap Some is ∙ sym (slot-few p.bucket (node_of h p left depth) rows empty few),
+  sym (ap (λ b. plan ++ none_or b (λ fs. planned h p left depth fs ++ block_of (node_of h p left depth fs)) rows) (le-leb (length rows) p.bucket few) ∙ append-nil plan),
+)
+
+-- a pair that is put where its key was taken away
+put-back : (q k : List ℕ) (v : Data) (b c : Bool) (x : Option Data) → eq_by_cmp bytewise q k ≡ b → eq_by_cmp bytewise k q ≡ c → cond b (Some v) (cond (not c) x None) ≡ cond b (Some v) x
+put-back q k v true c x one two = refl
+put-back q k v false true x one two = absurd (let same = same_key k q two in let itself : eq_by_cmp bytewise q k ≡ true = ap (eq_by_cmp bytewise q) same ∙ key_itself q in cc)
+put-back q k v false false x one two = refl
+
+pub put-without : (k : List ℕ) (v : Data) (es : List (List ℕ × Data)) → IsInOrder es → put bytewise k v (without k es) ≡ put bytewise k v es
+put-without k v es order =
+    same_by_find _ _ (in_order-put k v (without k es) (in_order-without k es order)) (in_order-put k v es order)
+    (λ q. find-put_at q k v (without k es) ∙ ap (λ o. cond (eq_by_cmp bytewise q k) (Some v) o) (find-without k es q)
+    ∙ put-back q k v (eq_by_cmp bytewise q k) (eq_by_cmp bytewise k q) (find bytewise q es) refl refl ∙ sym (find-put_at q k v es))
+
+-- the rows at the end of a trail with the pair
+pub rows-put : (h : List ℕ → List ℕ) (k key : List ℕ) (v : Data) (slots : List TrieSlot) (es others rows : List (List ℕ × Data)) (t : Trail) → IsTrailOf h usual k slots es t
+    → others ≡ without k (along h usual k (length (trail_blocks t) + 1) 0 es) → key ≡ k → rows ≡ put bytewise key v others → rows ≡ put bytewise k v (along h usual k (length (trail_blocks t) + 1) 0 es)
+rows-put h k key v slots es others rows t trail is named puts =
+    puts ∙ (λ i. put bytewise (named i) v (is i)) ∙ put-without k v (along h usual k (length (trail_blocks t) + 1) 0 es) (in_order-along h usual k (length (trail_blocks t) + 1) 0 es trail.root.order)
+
+-- what a plan of the end's slot gives
+pub end-state : (h : List ℕ → List ℕ) (k : List ℕ) (v : Data) (slots : List TrieSlot) (es rows : List (List ℕ × Data)) (t : Trail) (o : Option NewHold) (depth : ℕ) (old plan : List (List ℕ)) → IsTrailOf h usual k slots es t
+    → rows ≡ put bytewise k v (along h usual k (length (trail_blocks t) + 1) 0 es) → depth ≡ length (trail_blocks t) + 1 → old ≡ [] → PlansSlot h usual (trie_levels usual - depth) depth rows (Ok o) old plan
+    → ClimbState h usual k es (put bytewise k v es) (trail_blocks t) t.depth (slot_seen o) plan
+end-state h k v slots es rows t o depth old plan trail is deep none plans =
+    let n : ℕ = length (trail_blocks t) in
+    let there = subst (λ (d : ℕ). PlansSlot h usual (trie_levels usual - d) d rows (Ok o) old plan) deep plans in
+    record {
+      deep = trail.depth;
+      nodes = trail.nodes;
+      climbed = start-put h usual k v es rows n (slot_seen o) plan trail.root.order trail.ends is there.0 (there.1 ∙ ap (λ xs. xs ++ slot_plan usual.bucket (node_of h usual (trie_levels usual - (n + 1)) (n + 1)) (planned h usual (trie_levels usual - (n + 1)) (n + 1)) rows) none);
+    }
+
+-- and where it has none
+pub end-stopped : (h : List ℕ → List ℕ) (k : List ℕ) (v : Data) (slots : List TrieSlot) (es rows fs : List (List ℕ × Data)) (t : Trail) (e : HamtFault) (depth : ℕ) (old plan : List (List ℕ)) (m : Moment) → IsTrailOf h usual k slots es t
+    → rows ≡ put bytewise k v (along h usual k (length (trail_blocks t) + 1) 0 es) → depth ≡ length (trail_blocks t) + 1 → is_some (node_of h usual (trie_levels usual) 0 (put bytewise k v es)) ≡ true
+    → PlansSlot h usual (trie_levels usual - depth) depth rows (Err e) old plan → Rewrites h usual k fs m (Err e) m
+end-stopped h k v slots es rows fs t F.Exhausted depth old plan m trail is deep room plans =
+    let n : ℕ = length (trail_blocks t) in
+    let none : slot_of usual.bucket (node_of h usual (trie_levels usual - (n + 1)) (n + 1)) (put bytewise k v (along h usual k (n + 1) 0 es)) ≡ None =
+    (λ i. slot_of usual.bucket (node_of h usual (trie_levels usual - (sym deep i)) (sym deep i)) (sym is i)) ∙ plans in
+    let full : t.exhausted ≡ false = full-is h usual k slots es v t trail ∙ ap not room in
+    absurd (false≢true (sym (ap is_some none) ∙ has-room h usual k slots es v t trail full))
+end-stopped h k v slots es rows fs t F.Memory depth old plan m trail is deep room plans = inl refl
+end-stopped h k v slots es rows fs t F.NoKey depth old plan m trail is deep room plans = absurd plans
+end-stopped h k v slots es rows fs t F.Size depth old plan m trail is deep room plans = absurd plans
+end-stopped h k v slots es rows fs t (F.Block id why) depth old plan m trail is deep room plans = absurd plans
+end-stopped h k v slots es rows fs t F.Store depth old plan m trail is deep room plans = absurd plans
+end-stopped h k v slots es rows fs t (F.Clash id kept new) depth old plan m trail is deep room plans = absurd plans
+
+-- the bottom of a removal
+pub rest-state : (h : List ℕ → List ℕ) (k : List ℕ) (slots : List TrieSlot) (es rows : List (List ℕ × Data)) (t : Trail) (s : TrieSlot) (plan : List (List ℕ)) → IsTrailOf h usual k slots es t
+    → rows ≡ without k (along h usual k (length (trail_blocks t) + 1) 0 es) → (length rows ≤ usual.bucket → s ≡ sized usual.bucket empty rows) → plan ≡ []
+    → ClimbState h usual k es (without k es) (trail_blocks t) t.depth s plan
+rest-state h k slots es rows t s plan trail is slot none =
+    let n : ℕ = length (trail_blocks t) in
+    let gs : List (List ℕ × Data) = along h usual k (n + 1) 0 es in
+    let few : length rows ≤ usual.bucket = (let le = without-few k gs in omega (arith, ap length is, le, trail.ends)) in
+    record {
+      deep = trail.depth;
+      nodes = trail.nodes;
+      climbed = start-few h usual k (without k es) rows n s plan (is ∙ sym (along-without h usual k (n + 1) 0 es trail.root.order)) few (slot few) none;
+    }
+  where
+    without-few : (k : List ℕ) (es : List (List ℕ × Data)) → length (without k es) ≤ length es
+    without-few k [] = omega arith
+    without-few k (e ∷ es) =
+        let rest = without-few k es in
+        elim (eq_by_cmp bytewise k e.0) as (λ b. length (cond (not b) (e ∷ without k es) (without k es)) ≤ suc (length es)) [ true ↦ omega arith | false ↦ omega arith ]
+
+-- ---- what was read at the end
+
+pub others-bucket : {E : Type 0} (r : Result (List (List ℕ × Data)) E) (h : List ℕ → List ℕ) (k key : List ℕ) (slots : List TrieSlot) (es : List (List ℕ × Data)) (t : Trail) (b : Bucket) → IsTrailOf h usual k slots es t → key ≡ k
+    → Shows (S.Bucket b) (sized usual.bucket empty (along h usual k (length (trail_blocks t) + 1) 0 es)) → ((gs : List (List ℕ × Data)) → HasEntries b gs → IsInOrder gs → IfOk r (λ rows. rows ≡ without key gs))
+    → IfOk r (λ rows. rows ≡ without k (along h usual k (length (trail_blocks t) + 1) 0 es))
+others-bucket r h k key slots es t b trail named shows reads =
+    let gs : List (List ℕ × Data) = along h usual k (length (trail_blocks t) + 1) 0 es in
+    subst (λ (q : List ℕ). IfOk r (λ rows. rows ≡ without q gs)) named (reads gs (end-bucket usual.bucket gs b trail.ends shows) (in_order-along h usual k (length (trail_blocks t) + 1) 0 es trail.root.order))
+
+pub none-without : (k : List ℕ) (es : List (List ℕ × Data)) → es ≡ [] → [] ≡ without k es
+none-without k es none = ap (without k) (sym none)
+
+pub none-found : (k : List ℕ) (es : List (List ℕ × Data)) → es ≡ [] → find bytewise k es ≡ None
+none-found k es none = ap (find bytewise k) none
+
+value-some : (whole : Node) (es : List (List ℕ × Data)) (key : List ℕ) (o : Option Data) (n : Node) → ValueIn whole es key o (Some n) → IsSome o
+value-some whole es key None n is = absurd is
+value-some whole es key (Some d) n is = refl
+
+value-none : (whole : Node) (es : List (List ℕ × Data)) (key : List ℕ) (o : Option Data) → ValueIn whole es key o None → o ≡ None
+value-none whole es key None is = refl
+value-none whole es key (Some d) is = absurd is
+
+pub bucket-found : (h : List ℕ → List ℕ) (k key : List ℕ) (slots : List TrieSlot) (es : List (List ℕ × Data)) (t : Trail) (b : Bucket) (n : Node) → IsTrailOf h usual k slots es t → key ≡ k
+    → Shows (S.Bucket b) (sized usual.bucket empty (along h usual k (length (trail_blocks t) + 1) 0 es)) → ((gs : List (List ℕ × Data)) → HasEntries b gs → ValueIn (bucket_node b) gs key (find bytewise key gs) (Some n))
+    → IsSome (find bytewise k (along h usual k (length (trail_blocks t) + 1) 0 es))
+bucket-found h k key slots es t b n trail named shows finds =
+    let gs : List (List ℕ × Data) = along h usual k (length (trail_blocks t) + 1) 0 es in
+    subst (λ (q : List ℕ). IsSome (find bytewise q gs)) named (value-some (bucket_node b) gs key (find bytewise key gs) n (finds gs (end-bucket usual.bucket gs b trail.ends shows)))
+
+pub bucket-missing : (h : List ℕ → List ℕ) (k key : List ℕ) (slots : List TrieSlot) (es : List (List ℕ × Data)) (t : Trail) (b : Bucket) → IsTrailOf h usual k slots es t → key ≡ k
+    → Shows (S.Bucket b) (sized usual.bucket empty (along h usual k (length (trail_blocks t) + 1) 0 es)) → ((gs : List (List ℕ × Data)) → HasEntries b gs → ValueIn (bucket_node b) gs key (find bytewise key gs) None)
+    → find bytewise k (along h usual k (length (trail_blocks t) + 1) 0 es) ≡ None
+bucket-missing h k key slots es t b trail named shows finds =
+    let gs : List (List ℕ × Data) = along h usual k (length (trail_blocks t) + 1) 0 es in
+    subst (λ (q : List ℕ). find bytewise q gs ≡ None) named (value-none (bucket_node b) gs key (find bytewise key gs) (finds gs (end-bucket usual.bucket gs b trail.ends shows)))
+
+-- ---- the answer of a removal
+
+pub removes-some : (h : List ℕ → List ℕ) (p : TrieShape) (k : List ℕ) (es : List (List ℕ × Data)) (m : Moment) (r : Result (List ℕ) HamtFault) (n : Moment) → IsSome (find bytewise k es) → Rewrites h p k (without k es) m r n → Removes h p k es m r n
+removes-some h p k es m (Ok root) n some is = (some, is)
+removes-some h p k es m (Err F.NoKey) n some is = absurd is
+removes-some h p k es m (Err F.Exhausted) n some is = (some, is)
+removes-some h p k es m (Err F.Size) n some is = (some, is)
+removes-some h p k es m (Err F.Memory) n some is = (some, is)
+removes-some h p k es m (Err (F.Block id why)) n some is = (some, is)
+removes-some h p k es m (Err F.Store) n some is = (some, is)
+removes-some h p k es m (Err (F.Clash id kept new)) n some is = (some, is)

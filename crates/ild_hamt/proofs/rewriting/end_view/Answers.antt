@@ -1,0 +1,15 @@
+use Rattle.std.proofs.Common.{List, refl, subst, arith}
+use Rattle.std.specs.Prelude.{IsSome, IfSome}
+use Rattle.ild_data.specs.Trie.{TrieSlot}
+use Rattle.ild_typed.specs.Composed.{usual}
+use Rattle.ild_node.specs.Views.{HasSlots}
+use Rattle.ild_hamt.proofs.Fulling.{node-last}
+use Rattle.ild_hamt.proofs.rewriting.end_view.Goals as goal
+
+pub returns-then-count-eq0-clause-only : goal.returns-then-count-eq0-clause-only
+returns-then-count-eq0-clause-only c = λ slots last has ends.
+    subst (λ (ss : List TrieSlot). IsSome c.view_again.result × IfSome c.view_again.result (λ v. HasSlots usual v ss)) (ends.root (omega (arith, c.if-count-eq0.true))) (c.view_again.ensures.only slots has)
+
+pub returns-clause-only : goal.returns-clause-only
+returns-clause-only c = λ slots last has ends.
+    c.view_in.ensures.only last (node-last c.args.blocks.now c.index-blocks-count.result c.as_slice.result.now slots last _ c.as_slice.ensures.same c.index-blocks-count.is refl (omega (arith, c.if-count-eq0.false)) ends)

@@ -1,0 +1,28 @@
+use Rattle.std.proofs.Common.{inl, refl, sym, ap, ◌∙◌, ◌+◌, length}
+use Rattle.std.specs.Prelude.{is_some}
+use Rattle.std.proofs.lemmas.Result.{err_from_is_err_and}
+use Rattle.ild_data.specs.ByteOrder.{without}
+use Rattle.ild_trie.proofs.Way.{find-along}
+use Rattle.ild_node.specs.NewSlots.{slot_seen}
+use Rattle.ild_typed.specs.Composed.{usual}
+use Rattle.ild_hamt.specs.Descending.{trail_blocks}
+use Rattle.ild_hamt.proofs.Differing.{differs-without}
+use Rattle.ild_hamt.proofs.Leaving.{rest-state, removes-some}
+use Rattle.ild_hamt.proofs.trail.Trail.remove_way.Goals as goal
+
+pub returns-clause-removes : goal.returns-clause-removes
+returns-clause-removes g c = λ h k slots es from.
+    let rest = rw c.in-Some.is at c.in_ok-rows.ensures h k slots es from.has from.trail in
+    removes-some h usual k es _ c.rewrite.result _ (ap is_some (sym (find-along h usual k (length (trail_blocks c.args.self) + 1) 0 es)) ∙ rest.0)
+    (c.rewrite.ensures.rewrites h k slots es (without k es) from.has from.trail.root (differs-without k es from.trail.root.order) from.trail.hash
+    (rest-state h k slots es c.in-Some.rows c.args.self (slot_seen c.few_slot-slot.result) c.new.result.items from.trail rest.1 c.few_slot-slot.ensures.same c.new.ensures.items))
+
+pub returns-in-None-clause-removes : goal.returns-in-None-clause-removes
+returns-in-None-clause-removes g c = λ h k slots es from.
+    let missing = rw c.in-None.is at c.in_ok-rows.ensures h k slots es from.has from.trail in
+    (sym (find-along h usual k (length (trail_blocks c.args.self) + 1) 0 es) ∙ missing, refl)
+
+pub returns-in_err-rows-clause-removes : goal.returns-in_err-rows-clause-removes
+returns-in_err-rows-clause-removes g c = λ h k slots es from.
+    let p = err_from_is_err_and c.from_residual.result c.from_residual.ensures.1 in
+    rw (p.1, p.2) (ap is_some (sym (find-along h usual k (length (trail_blocks c.args.self) + 1) 0 es)) ∙ c.in_err-rows.ensures h k slots es from.has from.trail, inl refl)

@@ -1,0 +1,100 @@
+//! The new way of a key, planned whole and then put.
+ghost use Rattle.std.specs.Prelude.{◌≡◌, ◌-◌, ◌<◌, ℕ, List, length, IfOk, IfSome, IsSome};
+ghost use Rattle.ild_data.specs.Data.{Data};
+ghost use Rattle.ild_data.specs.Trie.{TrieSlot};
+ghost use Rattle.ild_data.specs.TrieShape.{trie_levels};
+ghost use Rattle.ild_typed.specs.Composed.{usual};
+ghost use Rattle.ild_node.specs.NewSlots.{IsFilledSlot, slot_seen};
+ghost use Rattle.ild_node.specs.Views.{HasSlots};
+ghost use Rattle.ild_bulk.specs.Planned.{PlansSlot};
+ghost use Rattle.ild_hamt.specs.Ends.{EndsAt};
+ghost use Rattle.ild_hamt.specs.Known.{SomeNode, SomeSlot};
+ghost use Rattle.ild_hamt.specs.Rewriting.{ClimbState, DiffersAt, Rewrites};
+ghost use Rattle.ild_hamt.specs.Seen.{Shows};
+ghost use Rattle.ild_hamt.specs.Way.{IsRootOf, slot_for};
+
+use crate::ending::{BUCKET_SIZE, LEVELS, slot_at};
+use crate::lifting::{climb, few_slot};
+use crate::reading::{view_again, view_in};
+use ild_bulk::{any_long, is_long, plan_slot, put_all};
+use ild_data::{KeyHash, Octets};
+use ild_edges::Store;
+use ild_node::{HamtFault, NewHold, NodeSlot, NodeView, Rows};
+use std::alloc::Global;
+
+// The node in which a way through these blocks ends.
+fn end_view<'b>(root: NodeView<'b>, blocks: &'b [Octets]) -> Option<NodeView<'b>>
+    ensures known { IfSome result (λ v. ∥ SomeNode v ∥₁) }
+    ensures only { (slots last : List TrieSlot) → HasSlots usual root.entry slots → EndsAt usual slots blocks.now last → IsSome result × IfSome result (λ v. HasSlots usual v last) }
+{
+    let count = blocks.len();
+    if count == 0 {
+        return view_again(root);
+    }
+    view_in(blocks[count - 1].as_slice())
+}
+
+/// The slot in which a way through these blocks ends, of which is known that it was read from a node.
+pub(crate) fn end_again<'b>(
+    root: NodeView<'b>,
+    blocks: &'b [Octets],
+    hash: &[u8; 32],
+    depth: u32,
+) -> NodeSlot<'b>
+    ensures known { ∥ SomeSlot result ∥₁ }
+    ensures shows { (slots last : List TrieSlot) → HasSlots usual root.entry slots → EndsAt usual slots blocks.now last → depth ≡ length blocks.now
+        → depth < trie_levels usual → Shows result (slot_for usual hash.now depth last) }
+{
+    if depth >= LEVELS {
+        return NodeSlot::Empty;
+    }
+    match end_view(root, blocks) {
+        Some(view) => slot_at(view, hash, depth),
+        None => NodeSlot::Empty,
+    }
+}
+
+/// The slot of rows in the node above them. The blocks of their own node and of those beneath it, where a bucket doesn't take
+/// them, are appended, each behind those beneath it.
+pub(crate) fn slot_of<H: KeyHash>(
+    alloc: Global,
+    rows: Rows,
+    depth: u32,
+    keys: &H,
+    plan: &mut Vec<Octets>,
+) -> Result<Option<NewHold>, HamtFault>
+    ensures filled { IfOk result (IsFilledSlot usual) }
+    ensures plans { PlansSlot H.hash_of usual (trie_levels usual - depth) depth rows result plan.old.items plan.new.items }
+{
+    if rows.len() <= BUCKET_SIZE {
+        return Ok(few_slot(rows));
+    }
+    plan_slot(alloc, &rows, depth, keys, plan)
+}
+
+/// The new root node, from the new slot at the end of a way. The other nodes on the way are put behind those that are planned,
+/// each behind the one beneath it. Nothing is put where one of them is too long.
+pub(crate) fn rewrite<K: Store>(
+    alloc: Global,
+    root: NodeView<'_>,
+    blocks: Vec<Octets>,
+    hash: &[u8; 32],
+    depth: u32,
+    slot: Option<NewHold>,
+    plan: Vec<Octets>,
+    store: &mut K,
+) -> Result<Octets, HamtFault>
+    requires { IsFilledSlot usual slot }
+    ensures gets { (K.moment store.new).gets ≡ (K.moment store.old).gets }
+    ensures rewrites { (h : List ℕ → List ℕ) (k : List ℕ) (slots : List TrieSlot) (es fs : List (List ℕ × Data)) → HasSlots usual root.entry slots → IsRootOf h usual es slots → DiffersAt k es fs
+        → hash.now ≡ h k → ClimbState h usual k es fs blocks.items depth (slot_seen slot) plan.items → Rewrites h usual k fs (K.moment store.old) result (K.moment store.new) }
+{
+    let mut plan = plan;
+    let root = climb(alloc, root, blocks, hash, depth, slot, &mut plan)?;
+    let long = is_long(&root) | any_long(&plan);
+    if long {
+        return Err(HamtFault::Size);
+    }
+    put_all(&plan, store)?;
+    Ok(root)
+}
