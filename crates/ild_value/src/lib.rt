@@ -3,5 +3,14 @@
 #![tactic(auto)]
 
 mod copying;
+mod entry;
+mod fault;
+mod key_test;
+mod part;
+mod read;
+mod scalar;
 
 pub use copying::copy;
+pub use fault::{ShownErr, ShownRule};
+pub use key_test::KeyTest;
+pub use read::of_shown;
