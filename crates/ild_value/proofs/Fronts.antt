@@ -9,12 +9,12 @@ within [] n x e = absurd (none-some x e)
 within (y ∷ xs) zero x e = omega arith
 within (y ∷ xs) (suc n) x e = let h = within xs n x e in omega arith
 
-take_next : {A : Type 0} (xs : List A) (n : ℕ) (x : A) → slice_get xs n ≡ Some x → take (suc n) xs ≡ take n xs ++ x ∷ []
+pub take_next : {A : Type 0} (xs : List A) (n : ℕ) (x : A) → slice_get xs n ≡ Some x → take (suc n) xs ≡ take n xs ++ x ∷ []
 take_next [] n x e = absurd (none-some x e)
 take_next (y ∷ xs) zero x e = ap (λ z. z ∷ []) (same_Some y x e)
 take_next (y ∷ xs) (suc n) x e = ap (λ zs. y ∷ zs) (take_next xs n x e)
 
-take_past : {A : Type 0} (xs : List A) (n : ℕ) → slice_get xs n ≡ None → take n xs ≡ xs
+pub take_past : {A : Type 0} (xs : List A) (n : ℕ) → slice_get xs n ≡ None → take n xs ≡ xs
 take_past [] zero e = refl
 take_past [] (suc n) e = refl
 take_past (y ∷ xs) zero e = absurd (none-some y (sym e))
@@ -29,7 +29,7 @@ front_more xs ys zs n x y front at there same more =
 pub front_all : {A : Type 0} (xs ys : List A) (n : ℕ) → ys ≡ take (length ys) xs → n ≡ length ys → None ≡ slice_get xs n → ys ≡ xs
 front_all xs ys n front at past = front ∙ take_past xs (length ys) (ap (slice_get xs) (sym at) ∙ sym past)
 
-pub front_less : {A : Type 0} (xs ys zs : List A) (n : ℕ) (x y : A) → n ≡ length ys → Some x ≡ slice_get xs n → zs ≡ ys ++ y ∷ [] → length ys < length xs × (length zs ≡ length ys + 1)
+pub front_less : {A B : Type 0} (xs : List A) (ys zs : List B) (n : ℕ) (x : A) (y : B) → n ≡ length ys → Some x ≡ slice_get xs n → zs ≡ ys ++ y ∷ [] → length ys < length xs × (length zs ≡ length ys + 1)
 front_less xs ys zs n x y at there more =
     let h = within xs n x (sym there) in
     let count : length zs ≡ length ys + 1 = ap length more ∙ length-append ys (y ∷ []) in

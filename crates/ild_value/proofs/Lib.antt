@@ -6,3 +6,5 @@ pub mod Shows
 pub mod Entries
 pub mod Named
 pub mod Picked
+pub mod Orders
+pub mod Forms

@@ -6,11 +6,14 @@ mod copying;
 mod entry;
 mod fault;
 mod key_test;
+mod order;
 mod part;
 mod read;
 mod scalar;
+mod show;
 
 pub use copying::copy;
 pub use fault::{ShownErr, ShownRule};
 pub use key_test::KeyTest;
 pub use read::of_shown;
+pub use show::shown;
