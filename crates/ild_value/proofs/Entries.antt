@@ -44,12 +44,3 @@ pub only_depth : (k : List ℕ) (ms : Members) (d : Data) → Some (k, d) ≡ on
 only_depth k no_members d h = absurd (none-some (k, d) (sym h))
 only_depth k (member j c no_members) d h = let e = ap (λ (p : List ℕ × Data). depth p.1) (same_Some (k, d) (j, c) h) in omega arith
 only_depth k (member j c (member l e ms)) d h = absurd (none-some (k, d) (sym h))
-
-pub one_entry : (p : List ℕ × Tree) (ms : Members) → map pair_of (p ∷ []) ≡ members_list ms → Some (pair_of p) ≡ only_member ms
-one_entry p no_members h = absurd cc
-one_entry p (member k d no_members) h = λ i. Some (first (h i))
-  where
-    first : List (List ℕ × Data) → List ℕ × Data
-    first [] = (k, d)
-    first (m ∷ ms) = m
-one_entry p (member k d (member l e ms)) h = absurd cc

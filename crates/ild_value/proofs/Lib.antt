@@ -8,3 +8,4 @@ pub mod Named
 pub mod Picked
 pub mod Orders
 pub mod Forms
+pub mod Exact

@@ -10,6 +10,7 @@ use Rattle.ild_schema.specs.declared.row.Row.{Row}
 use Rattle.ild_schema.specs.Slots.{form_of}
 use Rattle.ild_schema.specs.Value.{Value}
 use Rattle.ild_typed.specs.OfType.{TestsKeys}
+use Rattle.ild_meant.specs.Meant.{Meant}
 use Rattle.ild_meant.specs.MeantRead.{meant}
 use Rattle.ild_meant.specs.Mismatch as M
 use Rattle.ild_meant.specs.Mismatch.{IsMismatch}
@@ -37,6 +38,14 @@ pub record Breaks (rows : List Row) (slot : Slot) (t : Data) (ty : TypeNo) (rule
 abbrev pub IsRefused : List Row → Slot → Data → ShownErr → Type 0
 IsRefused rows slot t (E.Mismatch ty rule) = Breaks rows slot t ty (rule_of rule)
 IsRefused rows slot t E.Memory = Unit {0}
+
+-- where a rule is told, they mean no value at all
+pub record MeansNothing (rows : List Row) (slot : Slot) (t : Data) : Type 0 where
+  pub none : (is_key : ℕ → List ℕ → Bool) → TestsKeys rows is_key → (v : Value) → Meant rows is_key slot t v → ⊥
+
+abbrev pub MeansNone : List Row → Slot → Data → ShownErr → Type 0
+MeansNone rows slot t (E.Mismatch ty rule) = MeansNothing rows slot t
+MeansNone rows slot t E.Memory = Unit {0}
 
 -- the slot's type is a list with such elements
 pub record IsListOf (rows : List Row) (slot elem : Slot) : Type 0 where

@@ -23,10 +23,9 @@ use ild_schema::{
 };
 use std::alloc::Global;
 
-/// The value that a tree means in a slot, or a rule that a part of the tree breaks, with the type at which it does. It calls
-/// itself once a level of the tree, of which one that was read from JSON has 127 at most.
+/// A tree. It is entered once a level of the tree, of which there are at most 127 in one that was read from JSON.
 #[cycle(read)]
-pub fn of_shown<K: KeyTest>(
+pub(crate) fn tree_value<K: KeyTest>(
     alloc: Global,
     keys: &K,
     acc: &Accepted,
@@ -88,7 +87,7 @@ fn elements<K: KeyTest>(
 {
     let mut vals = Vals::new(alloc);
     for tree in trees.as_slice() {
-        let val = of_shown(alloc, keys, acc, elem, tree)?;
+        let val = tree_value(alloc, keys, acc, elem, tree)?;
         vals.push(val)?;
     }
     Ok(vals)
@@ -160,7 +159,7 @@ fn pairs<K: KeyTest>(
                 rule: ShownRule::Key,
             });
         }
-        let val = of_shown(alloc, keys, acc, elem, &pair.1)?;
+        let val = tree_value(alloc, keys, acc, elem, &pair.1)?;
         let name = pair.0.copy()?;
         vals.push((name, val))?;
     }
@@ -215,7 +214,7 @@ fn field_value<K: KeyTest>(
 {
     match value_at(entries, field.name.as_str()) {
         Some(tree) => {
-            let val = of_shown(alloc, keys, acc, field.slot, tree)?;
+            let val = tree_value(alloc, keys, acc, field.slot, tree)?;
             Ok(Some(val))
         }
         None => left_out(ty, field),
@@ -248,7 +247,7 @@ fn union_value<K: KeyTest>(
         ty: def.members.as_slice()[n].ty,
         nullable: false,
     };
-    let val = of_shown(alloc, keys, acc, part, &pair.1)?;
+    let val = tree_value(alloc, keys, acc, part, &pair.1)?;
     Ok(Val::Union(n as u32, ValPart::new(alloc, val)?))
 }
 

@@ -24,13 +24,13 @@ use Rattle.ild_value.proofs.Picked.{number_low, picked, if_ok}
 use Rattle.ild_value.proofs.Shows.{read_item, read_pair, read_field, list_means, list_refused, map_means, map_refused, key_refused, key_read, struct_means, name_refused, field_refused, field_there, field_gone, union_means, union_refused, many_refused, stranger_refused}
 use Rattle.ild_value.proofs.read.+read.Goals as goal
 
-pub of_shown-returns-in-Null-clause-err : goal.of_shown-returns-in-Null-clause-err
-of_shown-returns-in-Null-clause-err g t c = rw c.in-Null.is (c.null_value.ensures.err c.args.acc.now)
+pub tree_value-returns-in-Null-clause-err : goal.tree_value-returns-in-Null-clause-err
+tree_value-returns-in-Null-clause-err g t c = rw c.in-Null.is (c.null_value.ensures.err c.args.acc.now)
 
 -- ---- lists
 
-pub elements-of_shown-requires : goal.elements-of_shown-requires
-elements-of_shown-requires g t c = λ κs le.
+pub elements-tree_value-requires : goal.elements-tree_value-requires
+elements-tree_value-requires g t c = λ κs le.
     let below : depth (data_of c.tree-item.result) ≤ items_depth c.args.trees.now =
     item_depth-in c.as_slice-tree-items.result.now c.args.trees.now c.loop-tree.tree-index c.tree-item.result c.as_slice-tree-items.ensures c.loop-tree-test.true c.tree-item.is in
     (omega arith, (le, c.requires.there))
@@ -53,8 +53,8 @@ elements-returns-clause-ok g t c =
 
 -- ---- maps
 
-pub pairs-of_shown-requires : goal.pairs-of_shown-requires
-pairs-of_shown-requires g t c = λ κs le.
+pub pairs-tree_value-requires : goal.pairs-tree_value-requires
+pairs-tree_value-requires g t c = λ κs le.
     let below : depth (data_of c.pair-item.result.1) ≤ members_depth c.args.entries.now =
     member_depth-in c.as_slice-pair-items.result.now c.args.entries.now c.loop-pair.pair-index c.pair-item.result c.as_slice-pair-items.ensures c.loop-pair-test.true c.pair-item.is in
     (omega arith, (le, c.requires.there))
@@ -89,8 +89,8 @@ pairs-returns-clause-ok g t c =
 
 -- ---- structs
 
-pub field_value-of_shown-requires : goal.field_value-of_shown-requires
-field_value-of_shown-requires g t c = λ κs le.
+pub field_value-tree_value-requires : goal.field_value-tree_value-requires
+field_value-tree_value-requires g t c = λ κs le.
     let below : depth (data_of c.in-Some.tree.now) ≤ members_depth c.args.entries.now = value_depth c.as_str.result.now c.args.entries.now (data_of c.in-Some.tree.now) (sym c.in-Some.ensures) in
     (omega arith, (le, c.requires))
 
@@ -164,8 +164,8 @@ union_value-bounds-as_slice-n-in-Some-member_named g t c =
     let same = ap length c.as_slice.ensures in
     omega arith
 
-pub union_value-of_shown-requires : goal.union_value-of_shown-requires
-union_value-of_shown-requires g t c = λ κs le.
+pub union_value-tree_value-requires : goal.union_value-tree_value-requires
+union_value-tree_value-requires g t c = λ κs le.
     let m = c.in-Some-member_named.ensures in
     let is = picked c.args.def.now.members c.as_slice.result.now c.in-Some-member_named.n m.member c.index-as_slice-n.result c.as_slice.ensures m.there in
     let low = number_low (λ (m : Member). m.ty.0) (length c.args.acc.now) c.args.def.now.members c.requires.within.1 c.in-Some-member_named.n m.member m.there in

@@ -8,8 +8,8 @@ use Rattle.ild_value.proofs.AllOf.{all_of}
 use Rattle.ild_value.proofs.Shows.{read_item, read_pair, read_field}
 use Rattle.ild_value.proofs.read.+read.Given as goal
 
-abbrev pub decreases-of_shown : goal.decreases-of_shown
-decreases-of_shown g l = 4 * depth (data_of l.tree.now)
+abbrev pub decreases-tree_value : goal.decreases-tree_value
+decreases-tree_value g l = 4 * depth (data_of l.tree.now)
 
 abbrev pub decreases-list_value : goal.decreases-list_value
 decreases-list_value g l = 4 * items_depth l.trees.now + 3
