@@ -89,7 +89,7 @@ null_kind false h = refl
 
 -- the first field of a name is that field
 
-abbrev AreFirst : List Field → List Field → Type 0
+abbrev pub AreFirst : List Field → List Field → Type 0
 AreFirst all [] = Unit {0}
 AreFirst all (f ∷ fs) = (slot_named f.name all ≡ Some f.slot) × AreFirst all fs
 
@@ -106,12 +106,12 @@ first_more g all (f ∷ fs) h a =
     let x = not_that g.name f.name f.slot (slot_named g.name fs) (same_text g.name f.name) refl h in
     (ap (λ b. cond b (Some g.slot) (slot_named f.name all)) (other_is f.name g.name (λ p. x.0 (sym p))) ∙ a.0, first_more g all fs x.1 a.1)
 
-are_first : (fs : List Field) → AreProper fs → AreFirst fs fs
+pub are_first : (fs : List Field) → AreProper fs → AreFirst fs fs
 are_first [] h = tt
 are_first (f ∷ fs) h = (ap (λ b. cond b (Some f.slot) (slot_named f.name fs)) (own_text f.name), first_more f fs fs h.0 (are_first fs h.2))
 
 -- the place of an entry among the parts
-found_at : (slot : List ℕ → Option Slot) (k : List ℕ) (s : Slot) (ms : Members) (d : Data) → slot k ≡ Some s → value_at k (members_list ms) ≡ Some d → (i : ℕ) × (slice_get (parts_named slot ms) i ≡ Some (s, d))
+pub found_at : (slot : List ℕ → Option Slot) (k : List ℕ) (s : Slot) (ms : Members) (d : Data) → slot k ≡ Some s → value_at k (members_list ms) ≡ Some d → (i : ℕ) × (slice_get (parts_named slot ms) i ≡ Some (s, d))
 found_at slot k s no_members d e h = absurd (none-some d h)
 found_at slot k s (member j c ms) d e h = by (same_text k j) refl h (slot j) refl (λ g. found_at slot k s ms d e g)
   where

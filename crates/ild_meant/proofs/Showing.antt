@@ -32,7 +32,7 @@ use Rattle.ild_typed.proofs.Rising.{rises_sorted}
 use Rattle.ild_typed.proofs.Treed.{all_sorted}
 
 -- entries that rise stay as they are
-risen-same : (ms : List (List ℕ × Data)) → Rises ms → in_key_order ms ≡ ms
+pub risen-same : (ms : List (List ℕ × Data)) → Rises ms → in_key_order ms ≡ ms
 risen-same ms up = same_entries (in_key_order ms) ms (rises_sorted ms) up (λ k. value_sorted k ms)
 
 -- names

@@ -1,0 +1,262 @@
+//! The values that trees mean. The walk goes down the tree, each part by the type of its place.
+ghost use Rattle.std.specs.Prelude.{◌≡◌, ◌<◌, IfErr, IfOk, Some, length};
+ghost use Rattle.ild_data.specs.Data as D;
+ghost use Rattle.ild_data.specs.Seen.{data_of};
+ghost use Rattle.ild_schema.specs.Slots.{form_of};
+ghost use Rattle.ild_schema.specs.Table.{IsWithin};
+ghost use Rattle.ild_schema.specs.Value as V;
+ghost use Rattle.ild_schema.specs.ValueSeen.{optional_of, value_of};
+ghost use Rattle.ild_schema.specs.declared.def.TypeDef.TheVariants as T;
+ghost use Rattle.ild_value.specs.Parts.{FieldMeans, IsFieldRefused};
+ghost use Rattle.ild_value.specs.Readings.{IsListOf, IsMapOf, IsRefused, IsUnit, Means};
+
+use crate::entry::{only, value_at};
+use crate::part::{are_named, left_out, member_named};
+use crate::scalar::{
+    boolean_value, bytes_value, form, integer_value, link_value, null_value, text_value, wrong_kind,
+};
+use crate::{KeyTest, ShownErr, ShownRule};
+use ild_data::{Entries, Tree, Trees};
+use ild_schema::{
+    Accepted, Field, Slot, StructDef, TypeDef, TypeNo, UnionDef, Val, ValFields, ValPairs, ValPart,
+    Vals,
+};
+use std::alloc::Global;
+
+/// A tree. It is entered once a level of the tree, of which there are at most 127 in one that was read from JSON.
+#[cycle(read)]
+pub(crate) fn tree_value<K: KeyTest>(
+    alloc: Global,
+    keys: &K,
+    acc: &Accepted,
+    slot: Slot,
+    tree: &Tree,
+) -> Result<Val, ShownErr>
+    requires { slot.ty.0 < length acc.now }
+    ensures ok { IfOk result (λ v. Means acc.now slot (data_of tree.now) (value_of v)) }
+    ensures err { IfErr result (IsRefused acc.now slot (data_of tree.now)) }
+{
+    match tree {
+        Tree::Null => null_value(slot),
+        Tree::Bool(b) => boolean_value(acc, slot, *b),
+        Tree::Int(n) => integer_value(acc, slot, *n),
+        Tree::Text(text) => text_value(acc, slot, text),
+        Tree::Bytes(bytes) => bytes_value(acc, slot, bytes),
+        Tree::List(trees) => list_value(alloc, keys, acc, slot, trees),
+        Tree::Map(entries) => map_value(alloc, keys, acc, slot, entries),
+        Tree::Link(cid) => link_value(acc, slot, cid),
+    }
+}
+
+// A list.
+#[cycle(read)]
+fn list_value<K: KeyTest>(
+    alloc: Global,
+    keys: &K,
+    acc: &Accepted,
+    slot: Slot,
+    trees: &Trees,
+) -> Result<Val, ShownErr>
+    requires { slot.ty.0 < length acc.now }
+    ensures ok { IfOk result (λ v. Means acc.now slot (D.list trees.now) (value_of v)) }
+    ensures err { IfErr result (IsRefused acc.now slot (D.list trees.now)) }
+{
+    match form(acc, slot) {
+        TypeDef::List { elem, .. } => Ok(Val::List(elements(
+            alloc, keys, acc, slot, *elem, trees,
+        )?)),
+        TypeDef::Any => Ok(Val::Any(Tree::List(trees.copy()?))),
+        _ => Err(wrong_kind(slot)),
+    }
+}
+
+// The elements of a list.
+#[cycle(read)]
+fn elements<K: KeyTest>(
+    alloc: Global,
+    keys: &K,
+    acc: &Accepted,
+    slot: Slot,
+    elem: Slot,
+    trees: &Trees,
+) -> Result<Vals, ShownErr>
+    requires there { elem.ty.0 < length acc.now }
+    requires form { IsListOf acc.now slot elem }
+    ensures ok { IfOk result (λ vals. Means acc.now slot (D.list trees.now) (V.list vals)) }
+    ensures err { IfErr result (IsRefused acc.now slot (D.list trees.now)) }
+{
+    let mut vals = Vals::new(alloc);
+    for tree in trees.as_slice() {
+        let val = tree_value(alloc, keys, acc, elem, tree)?;
+        vals.push(val)?;
+    }
+    Ok(vals)
+}
+
+// A map.
+#[cycle(read)]
+fn map_value<K: KeyTest>(
+    alloc: Global,
+    keys: &K,
+    acc: &Accepted,
+    slot: Slot,
+    entries: &Entries,
+) -> Result<Val, ShownErr>
+    requires { slot.ty.0 < length acc.now }
+    ensures ok { IfOk result (λ v. Means acc.now slot (D.map entries.now) (value_of v)) }
+    ensures err { IfErr result (IsRefused acc.now slot (D.map entries.now)) }
+{
+    match form(acc, slot) {
+        TypeDef::Map { key, value, .. } => Ok(Val::Map(pairs(
+            alloc, keys, acc, slot, *key, *value, entries,
+        )?)),
+        TypeDef::Struct(def) => Ok(Val::Struct(fields(alloc, keys, acc, slot, def, entries)?)),
+        TypeDef::Union(def) => union_value(alloc, keys, acc, slot, def, entries),
+        TypeDef::Unit(_) => unit_value(acc, slot, entries),
+        TypeDef::Any => Ok(Val::Any(Tree::Map(entries.copy()?))),
+        _ => Err(wrong_kind(slot)),
+    }
+}
+
+// A unit, which is shown as the empty map.
+fn unit_value(acc: &Accepted, slot: Slot, entries: &Entries) -> Result<Val, ShownErr>
+    requires { IsUnit acc.now slot }
+    ensures ok { IfOk result (λ v. Means acc.now slot (D.map entries.now) (value_of v)) }
+    ensures err { IfErr result (IsRefused acc.now slot (D.map entries.now)) }
+{
+    if entries.len() == 0 {
+        Ok(Val::Unit)
+    } else {
+        Err(ShownErr::Mismatch {
+            ty: slot.ty,
+            rule: ShownRule::Name,
+        })
+    }
+}
+
+// The entries of a map.
+#[cycle(read)]
+fn pairs<K: KeyTest>(
+    alloc: Global,
+    keys: &K,
+    acc: &Accepted,
+    slot: Slot,
+    key: TypeNo,
+    elem: Slot,
+    entries: &Entries,
+) -> Result<ValPairs, ShownErr>
+    requires key_there { key.0 < length acc.now }
+    requires there { elem.ty.0 < length acc.now }
+    requires form { IsMapOf acc.now slot key elem }
+    ensures ok { IfOk result (λ pairs. Means acc.now slot (D.map entries.now) (V.map pairs)) }
+    ensures err { IfErr result (IsRefused acc.now slot (D.map entries.now)) }
+{
+    let mut vals = ValPairs::new(alloc);
+    for pair in entries.as_slice() {
+        if !keys.is_key(acc, key, pair.0.as_str()) {
+            return Err(ShownErr::Mismatch {
+                ty: slot.ty,
+                rule: ShownRule::Key,
+            });
+        }
+        let val = tree_value(alloc, keys, acc, elem, &pair.1)?;
+        let name = pair.0.copy()?;
+        vals.push((name, val))?;
+    }
+    Ok(vals)
+}
+
+// The fields of a struct.
+#[cycle(read)]
+fn fields<K: KeyTest>(
+    alloc: Global,
+    keys: &K,
+    acc: &Accepted,
+    slot: Slot,
+    def: &StructDef,
+    entries: &Entries,
+) -> Result<ValFields, ShownErr>
+    requires there { slot.ty.0 < length acc.now }
+    requires form { form_of acc.now slot ≡ Some (T.Struct def.now) }
+    requires within { IsWithin (length acc.now) (T.Struct def.now) }
+    ensures ok { IfOk result (λ fields. Means acc.now slot (D.map entries.now) (V.struct fields)) }
+    ensures err { IfErr result (IsRefused acc.now slot (D.map entries.now)) }
+{
+    // It does no work: its clauses say what acceptance says of the struct.
+    acc.types();
+    if !are_named(acc, slot, def, entries) {
+        return Err(ShownErr::Mismatch {
+            ty: slot.ty,
+            rule: ShownRule::Name,
+        });
+    }
+    let mut vals = ValFields::new(alloc);
+    for field in def.fields.as_slice() {
+        let val = field_value(alloc, keys, acc, slot.ty, field, entries)?;
+        vals.push(val)?;
+    }
+    Ok(vals)
+}
+
+// A field of a struct.
+#[cycle(read)]
+fn field_value<K: KeyTest>(
+    alloc: Global,
+    keys: &K,
+    acc: &Accepted,
+    ty: TypeNo,
+    field: &Field,
+    entries: &Entries,
+) -> Result<Option<Val>, ShownErr>
+    requires { field.now.slot.ty.0 < length acc.now }
+    ensures ok { IfOk result (λ val. FieldMeans acc.now field.now entries.now (optional_of val)) }
+    ensures err { IfErr result (IsFieldRefused acc.now ty field.now entries.now) }
+{
+    match value_at(entries, field.name.as_str()) {
+        Some(tree) => {
+            let val = tree_value(alloc, keys, acc, field.slot, tree)?;
+            Ok(Some(val))
+        }
+        None => left_out(ty, field),
+    }
+}
+
+// A union.
+#[cycle(read)]
+fn union_value<K: KeyTest>(
+    alloc: Global,
+    keys: &K,
+    acc: &Accepted,
+    slot: Slot,
+    def: &UnionDef,
+    entries: &Entries,
+) -> Result<Val, ShownErr>
+    requires there { slot.ty.0 < length acc.now }
+    requires form { form_of acc.now slot ≡ Some (T.Union def.now) }
+    requires within { IsWithin (length acc.now) (T.Union def.now) }
+    ensures ok { IfOk result (λ v. Means acc.now slot (D.map entries.now) (value_of v)) }
+    ensures err { IfErr result (IsRefused acc.now slot (D.map entries.now)) }
+{
+    let Some(pair) = only(entries) else {
+        return Err(no_member(slot));
+    };
+    let Some(n) = member_named(acc, slot, def, pair.0.as_str()) else {
+        return Err(no_member(slot));
+    };
+    let part = Slot {
+        ty: def.members.as_slice()[n].ty,
+        nullable: false,
+    };
+    let val = tree_value(alloc, keys, acc, part, &pair.1)?;
+    Ok(Val::Union(n as u32, ValPart::new(alloc, val)?))
+}
+
+// The map hasn't one entry under the name of a member.
+fn no_member(slot: Slot) -> ShownErr
+    ensures { result ≡ ShownErr.Mismatch slot.ty ShownRule.Member }
+{
+    ShownErr::Mismatch {
+        ty: slot.ty,
+        rule: ShownRule::Member,
+    }
+}
