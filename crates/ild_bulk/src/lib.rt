@@ -2,12 +2,13 @@
 #![tactic(auto)]
 
 mod build;
-mod keyed;
 mod laws;
 mod plan;
+mod planned;
 mod put;
 
 pub use build::{any_long, from_entries, is_long};
 pub use laws::{children_first, plan_is_of_nodes};
 pub use plan::plan_slot;
+pub use planned::PlannedBlock;
 pub use put::put_all;

@@ -7,5 +7,6 @@ pub mod InSlot
 pub mod Pushing
 pub mod Rooting
 pub mod Writing
+pub mod Drafting
 pub mod Nodes
 pub mod Counts

@@ -2,8 +2,10 @@
 #![tactic(auto)]
 
 mod bucket;
+mod draft;
 mod fault;
 mod hold;
+mod keyed;
 mod laws;
 mod level;
 mod node;
@@ -19,10 +21,12 @@ mod walk;
 mod write;
 
 pub use bucket::Bucket;
+pub use draft::Draft;
 pub use fault::HamtFault;
 pub use hold::{NewHold, NewSlot};
+pub use keyed::Keyed;
 pub use laws::{one_node, written_are_read};
-pub use level::index;
+pub use level::{BUCKET_SIZE, LEVELS, index, index_of};
 pub use node::node_of;
 pub use root::root_of;
 pub use row::Row;

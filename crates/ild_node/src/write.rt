@@ -17,7 +17,8 @@ ghost use Rattle.ild_node.specs.Written.{IsNodeBlock, IsSound, bytes_of_bits, sp
 use crate::hold::{NewHold, NewSlot};
 use crate::row::Row;
 use crate::rows::Rows;
-use crate::shape::{BUCKET_SIZE, HamtShape};
+use crate::level::BUCKET_SIZE;
+use crate::shape::HamtShape;
 use ild_cbor::Node;
 use ild_data::Octets;
 use ild_emit::Emit;
@@ -96,7 +97,7 @@ fn used_of(alloc: Global, slots: &[Option<NewHold>]) -> Result<Vec<bool>, AllocE
     Ok(used)
 }
 
-fn count_of(used: &[bool]) -> u64
+pub(crate) fn count_of(used: &[bool]) -> u64
     ensures { result ≡ count_by (λ b. b) used.now }
 {
     let mut count = 0;
@@ -107,7 +108,7 @@ fn count_of(used: &[bool]) -> u64
 }
 
 // The beginning of a node, up to its elements.
-fn begin(alloc: Global, used: &[bool], elements: u64) -> Result<Emit, AllocError>
+pub(crate) fn begin(alloc: Global, used: &[bool], elements: u64) -> Result<Emit, AllocError>
     ensures { IfOk result (λ out. out ≡ head 4 2 ++ spell_bytes (bytes_of_bits used.now) ++ head 4 elements) }
 {
     let mut out = Emit::new(alloc);
@@ -118,7 +119,7 @@ fn begin(alloc: Global, used: &[bool], elements: u64) -> Result<Emit, AllocError
 }
 
 // Appends an entry of a bucket. An error may leave the front of it.
-fn add_entry(out: &mut Emit, row: &Row) -> Result<(), AllocError>
+pub(crate) fn add_entry(out: &mut Emit, row: &Row) -> Result<(), AllocError>
     ensures { OnOk result (out.new ≡ out.old ++ spell (entry_data (row_seen row.now))) }
 {
     out.head(4, 2)?;
@@ -139,7 +140,7 @@ fn add_bucket(out: &mut Emit, rows: &Rows) -> Result<(), AllocError>
 }
 
 // The items of a slice of bytes are bytes; a caller that needs the fact makes this call, which does no work.
-fn are_bytes(bytes: &[u8])
+pub(crate) fn are_bytes(bytes: &[u8])
     ensures { AreBytes bytes.now }
 {}
 
