@@ -1,5 +1,5 @@
 //! The nodes of a HAMT, before any is put.
-ghost use Rattle.std.specs.Prelude.{◌≡◌, ◌^◌, ◌-◌, ◌<◌, List, ℕ, IfOk};
+ghost use Rattle.std.specs.Prelude.{◌≡◌, ◌^◌, ◌-◌, ◌<◌, List, ℕ, IfOk, length};
 ghost use Rattle.ild_data.specs.TrieShape.{trie_levels, index};
 ghost use Rattle.ild_typed.specs.Composed.{usual};
 ghost use Rattle.ild_node.specs.NewSlots.{IsFilledSlot};
@@ -134,9 +134,27 @@ fn plan_part<'r>(
         draft.bucket(rows)?;
         return Ok(());
     }
-    let block = PlannedBlock::of(plan_node(alloc, rows, depth, spare, blocks)?);
-    draft.child(&block.id())?;
-    blocks.push(block)?;
+    plan_child(alloc, rows, depth, spare, draft, blocks)
+}
+
+// The same of rows that a bucket doesn't take.
+#[cycle(plan)]
+fn plan_child<'r>(
+    alloc: Global,
+    rows: &[Keyed<'r>],
+    depth: u32,
+    spare: &mut Vec<Parts<'r>>,
+    draft: &mut Draft,
+    blocks: &mut Vec<PlannedBlock>,
+) -> Result<(), HamtFault>
+    requires rows { AreRows (keyed_rows rows.now) }
+    requires many { usual.bucket < length rows.now }
+    ensures { (h : List ℕ → List ℕ) → AreKeyed h rows.now → (slots : List TrieSlot) → HasWritten draft.old slots
+        → PlansInto h usual (trie_levels usual - depth) depth (keyed_rows rows.now) result slots draft.new blocks.old.items blocks.new.items }
+{
+    let child = PlannedBlock::of(plan_node(alloc, rows, depth, spare, blocks)?);
+    draft.child(&child.id())?;
+    blocks.push(child)?;
     Ok(())
 }
 

@@ -63,8 +63,8 @@ plan_node-returns t c = λ h all.
     (subst (λ (ps : List (Vec Keyed)). PartsAre (at_depth h usual c.args.depth) (2 ^ usual.width) (keyed_rows c.args.rows.now) ps) (sym c.deref-part-items.ensures.value)
     (parts-are h usual c.args.depth (2 ^ usual.width) c.args.rows.now c.in_ok-parts.parts.items all c.in_ok-parts.ensures)) (omega arith) was written.spelled
 
-pub plan_part-returns-in_err-plan_node : goal.plan_part-returns-in_err-plan_node
-plan_part-returns-in_err-plan_node t c = λ h all slots written.
-    let p = err_from_is_err_and c.from_residual-in_err-plan_node.result c.from_residual-in_err-plan_node.ensures.1 in
+pub plan_child-returns-in_err-plan_node : goal.plan_child-returns-in_err-plan_node
+plan_child-returns-in_err-plan_node t c = λ h all slots written.
+    let p = err_from_is_err_and c.from_residual.result c.from_residual.ensures.1 in
     rw (p.1, p.2) (into-stop h usual (trie_levels usual - c.args.depth) c.args.depth (keyed_rows c.args.rows.now) c.in_err-plan_node.field-0.0 slots _ c.args.blocks.now.items c.plan_node.new.blocks.items c.plan_node.new.blocks.items
-    (omega (arith, length-map c.args.rows.now keyed_seen)) (c.in_err-plan_node.ensures h all))
+    (omega (arith, c.requires.many, length-map c.args.rows.now keyed_seen)) (c.in_err-plan_node.ensures h all))
