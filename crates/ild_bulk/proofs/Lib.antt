@@ -6,3 +6,4 @@ pub mod Puts
 pub mod Tries
 pub mod Plans
 pub mod Nests
+pub mod Opening

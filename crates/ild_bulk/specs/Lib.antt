@@ -4,3 +4,5 @@ pub mod Putting
 pub mod Children
 pub mod Build
 pub mod Laws
+pub mod Gives
+pub mod Todo
