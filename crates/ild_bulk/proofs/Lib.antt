@@ -7,3 +7,6 @@ pub mod Tries
 pub mod Plans
 pub mod Nests
 pub mod Opening
+pub mod Stepping
+pub mod Walking
+pub mod Nexting

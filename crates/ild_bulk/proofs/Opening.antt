@@ -98,7 +98,7 @@ bucket-off h p held path j todo given (f ∷ fs) es all =
 
 -- ---- the slots of a node
 
-abbrev beneath : (List ℕ → List ℕ) → TrieShape → List (List ℕ) → List ℕ → List ℕ → List (List ℕ × Data) → Type 0
+abbrev pub beneath : (List ℕ → List ℕ) → TrieShape → List (List ℕ) → List ℕ → List ℕ → List (List ℕ × Data) → Type 0
 beneath h p held path = TreeGives h p held (trie_levels p - suc (length path)) (suc (length path))
 
 slot-on : (h : List ℕ → List ℕ) (p : TrieShape) (held : List (List ℕ)) (path : List ℕ) (j : ℕ) (todo : List Todo) (given : ℕ) (s : TrieSlot) (here more : List (List ℕ × Data)) → AllFit h p path j here → SlotGives (beneath h p held path) s here
@@ -168,3 +168,25 @@ slots-off h p held path i j todo given (s ∷ slots) es all =
       fit = all-join (λ e. fits h p path i e.0 ≡ true) first.here others.here (fit-child h p path i j first.here first.fit) others.fit;
       gives = (first.here, others.here, refl, fit-at h p path i j first.here first.fit, first.gives, others.gives);
     }
+
+-- ---- the slots of a root
+
+fit-root : (h : List ℕ → List ℕ) (p : TrieShape) (j : ℕ) (es : List (List ℕ × Data)) → AtIndex h p 0 j es → AllFit h p [] j es
+fit-root h p j [] at = tt
+fit-root h p j (e ∷ es) at = (eq-eqb (at_depth h p 0 e.0) j at.0, fit-root h p j es at.1)
+
+root-fit : (h : List ℕ → List ℕ) (p : TrieShape) (j : ℕ) (es : List (List ℕ × Data)) → AllFit h p [] j es → AtIndex h p 0 j es
+root-fit h p j [] fit = tt
+root-fit h p j (e ∷ es) fit = (eqb-true (at_depth h p 0 e.0) j fit.0, root-fit h p j es fit.1)
+
+pub root-on : (h : List ℕ → List ℕ) (p : TrieShape) (held : List (List ℕ)) (j given : ℕ) (slots : List TrieSlot) (es : List (List ℕ × Data)) → SlotsGive h p 0 j (beneath h p held []) slots es → StillGives h p held (node_todo j slots) [] given es
+root-on h p held j given [] es gives = gives
+root-on h p held j given (s ∷ slots) es gives =
+    subst (λ xs. StillGives h p held (slot_todo j s ++ node_todo (j + 1) slots) [] given xs) (sym gives.2)
+    (slot-on h p held [] j (node_todo (j + 1) slots) given s gives.0 gives.1 (fit-root h p j gives.0 gives.3) gives.4 (root-on h p held (j + 1) (given + length gives.0) slots gives.1 gives.5))
+
+pub root-off : (h : List ℕ → List ℕ) (p : TrieShape) (held : List (List ℕ)) (j given : ℕ) (slots : List TrieSlot) (es : List (List ℕ × Data)) → StillGives h p held (node_todo j slots) [] given es → SlotsGive h p 0 j (beneath h p held []) slots es
+root-off h p held j given [] es all = all
+root-off h p held j given (s ∷ slots) es all =
+    let first = slot-off h p held [] j (node_todo (j + 1) slots) given s es all in
+    (first.here, first.parts.more, first.parts.is, root-fit h p j first.here first.fit, first.gives, root-off h p held (j + 1) (given + length first.here) slots first.parts.more first.parts.rest)

@@ -6,3 +6,8 @@ pub mod Build
 pub mod Laws
 pub mod Gives
 pub mod Todo
+pub mod Steps
+pub mod Shown
+pub mod Gathered
+pub mod Fetching
+pub mod Ahead

@@ -15,9 +15,9 @@ ghost use Rattle.ild_node.specs.Rows.{AreRows, row_seen};
 ghost use Rattle.ild_node.specs.Written.{IsNodeBlock, IsSound, bytes_of_bits, spelled};
 
 use crate::hold::{NewHold, NewSlot};
+use crate::level::BUCKET_SIZE;
 use crate::row::Row;
 use crate::rows::Rows;
-use crate::level::BUCKET_SIZE;
 use crate::shape::HamtShape;
 use ild_cbor::Node;
 use ild_data::Octets;
