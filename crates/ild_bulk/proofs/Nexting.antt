@@ -1,5 +1,5 @@
 -- One call of a walker's next, put together.
-use Rattle.std.proofs.Common.{◌≡◌, ◌⊎◌, inl, inr, ⊎_elim, ◌↔◌, ℕ, zero, suc, ◌+◌, ◌-◌, ◌<◌, ◌≤◌, Bool, true, false, List, [], ◌∷◌, ◌++◌, length, Option, Some, None, refl, sym, ap, ◌∙◌, subst, arith}
+use Rattle.std.proofs.Common.{◌≡◌, ◌⊎◌, inl, inr, ⊎_elim, ◌↔◌, ℕ, zero, suc, ◌+◌, ◌-◌, ◌<◌, ◌≤◌, Bool, true, false, List, [], ◌∷◌, ◌++◌, length, Option, Some, None, refl, sym, ap, ◌∙◌, subst, arith, append_assoc, append-nil}
 use Rattle.std.specs.Prelude.{Result, Ok, Err}
 use Rattle.std.proofs.lemmas.Bool.{false≢true}
 use Rattle.ild_cbor.specs.declared.why.BlockWhy.{BlockWhy}
@@ -9,15 +9,18 @@ use Rattle.ild_data.specs.Spell.{spell}
 use Rattle.ild_data.specs.Trie.{TrieSlot}
 use Rattle.ild_data.specs.TrieShape.{trie_levels}
 use Rattle.ild_edges.specs.Count.{Rose}
-use Rattle.ild_edges.specs.Store.{Moment, block_at}
+use Rattle.ild_edges.specs.Store.{Moment, Later, block_at}
 use Rattle.ild_edges.specs.Told.{IfTold}
 use Rattle.ild_edges.proofs.Later.{Later-refl, Later-trans}
 use Rattle.ild_typed.specs.Composed.{usual}
 use Rattle.ild_node.specs.declared.fault.HamtFault.{HamtFault}
 use Rattle.ild_node.specs.declared.fault.HamtFault.TheVariants as F
+use Rattle.std.proofs.lemmas.List.{length-append}
+use Rattle.ild_bulk.specs.Gives.{RootGives}
+use Rattle.ild_bulk.specs.Checked.{HasWalked, Checks, CheckAnswer}
 use Rattle.ild_bulk.specs.Fetching.{IsRefused, GotFaulty, IsFaulty, OnlyGets}
 use Rattle.ild_bulk.specs.Todo.{Todo, give, enter, leave, node_todo, fits, StillGives}
-use Rattle.ild_bulk.specs.Ahead.{Ahead, StillAhead, Begins, BeginsWith, GivesStill, GivesRow, walker_todo, walker_path, IsTrieFault, NothingAhead, SameAhead, SameTold, NothingTold, KeepsAhead, Leaves, Enters, EnterAnswer, IsCause, IsUnchanged, IsTaken, Takes, Gives, GiveAnswer, GivesNext, IsNew, IsReady, NextAnswer, Nexts}
+use Rattle.ild_bulk.specs.Ahead.{Ahead, StillAhead, Begins, BeginsWith, GivesStill, GivesRow, walker_todo, walker_path, IsTrieFault, NothingAhead, SameAhead, SameTold, NothingTold, KeepsAhead, Leaves, Enters, EnterAnswer, IsCause, IsUnchanged, IsTaken, Takes, Gives, GiveAnswer, GivesNext, IsNew, IsReady, NextAnswer, Nexts, Counts}
 use Rattle.ild_bulk.proofs.Opening.{root-on, root-off}
 use Rattle.ild_bulk.proofs.Walking.{unchanged-same}
 use Rattle.ild_bulk.specs.declared.row.Row.{Row}
@@ -28,19 +31,19 @@ use Rattle.ild_bulk.specs.declared.walker.Walker.{Walker}
 rose-later : (a b c : ℕ) → a ≤ b → Rose b c → Rose a c
 rose-later a b c le rose = omega arith
 
-refused-before : (m n o : Moment) (id : List ℕ) (why : BlockWhy) → OnlyGets 32 m n → IsRefused n id why o → IsRefused m id why o
-refused-before m n o id Missing only r = (subst (λ b. IfTold b (λ bs. block_at bs id ≡ None)) only.blocks r.0, rose-later m.lacks n.lacks o.lacks only.later.lacks r.1)
-refused-before m n o id (Cbor fault) only r = record { block = r.block; at = record { named = r.at.named; held = subst (λ b. IfTold b (λ bs. block_at bs id ≡ Some r.block)) only.blocks r.at.held }; wrong = r.wrong }
-refused-before m n o id (NoNode why) only r = record { block = r.block; at = record { named = r.at.named; held = subst (λ b. IfTold b (λ bs. block_at bs id ≡ Some r.block)) only.blocks r.at.held }; wrong = r.wrong }
+refused-before : (m n o : Moment) (id : List ℕ) (why : BlockWhy) → Later m n → n.blocks ≡ m.blocks → IsRefused n id why o → IsRefused m id why o
+refused-before m n o id Missing later blocks r = (subst (λ b. IfTold b (λ bs. block_at bs id ≡ None)) blocks r.0, rose-later m.lacks n.lacks o.lacks later.lacks r.1)
+refused-before m n o id (Cbor fault) later blocks r = record { block = r.block; at = record { named = r.at.named; held = subst (λ b. IfTold b (λ bs. block_at bs id ≡ Some r.block)) blocks r.at.held }; wrong = r.wrong }
+refused-before m n o id (NoNode why) later blocks r = record { block = r.block; at = record { named = r.at.named; held = subst (λ b. IfTold b (λ bs. block_at bs id ≡ Some r.block)) blocks r.at.held }; wrong = r.wrong }
 
-cause-before : (m n o : Moment) (e : HamtFault) → OnlyGets 32 m n → IsCause n e o → IsCause m e o
-cause-before m n o (F.Block id why) only c = ⊎_elim (λ r. inl (refused-before m n o id.0 why only r)) (λ s. inr s) c
-cause-before m n o F.Exhausted only c = absurd c
-cause-before m n o F.Store only c = absurd c
-cause-before m n o (F.Clash id kept new) only c = absurd c
-cause-before m n o F.Size only c = absurd c
-cause-before m n o F.NoKey only c = absurd c
-cause-before m n o F.Memory only c = absurd c
+cause-later : (m n o : Moment) (e : HamtFault) → Later m n → n.blocks ≡ m.blocks → IsCause n e o → IsCause m e o
+cause-later m n o (F.Block id why) later blocks c = ⊎_elim (λ r. inl (refused-before m n o id.0 why later blocks r)) (λ s. inr s) c
+cause-later m n o F.Exhausted later blocks c = absurd c
+cause-later m n o F.Store later blocks c = absurd c
+cause-later m n o (F.Clash id kept new) later blocks c = absurd c
+cause-later m n o F.Size later blocks c = absurd c
+cause-later m n o F.NoKey later blocks c = absurd c
+cause-later m n o F.Memory later blocks c = absurd c
 
 same-told : (m n : Moment) (u v w : Walker) → n.blocks ≡ m.blocks → SameTold m u v → SameTold n v w → SameTold m u w
 same-told m n u v w blocks a b = λ h held es told. (λ s. (b h held es (blocks ∙ told)).0 ((a h held es told).0 s), λ s. (a h held es told).1 ((b h held es (blocks ∙ told)).1 s))
@@ -64,7 +67,7 @@ enters-more a b c m n o u v w r small le x y = record {
 }
   where
     failed : (e : HamtFault) → IsCause n e o × NothingTold n v → IsCause m e o × NothingTold m u
-    failed e p = (cause-before m n o e (only-most a 32 m n x.only small) p.0, nothing-told m n u v x.only.blocks x.same p.1)
+    failed e p = (cause-later m n o e x.only.later x.only.blocks p.0, nothing-told m n u v x.only.blocks x.same p.1)
 
     by : (r : Result (Unit {0}) HamtFault) → EnterAnswer n v r w o → EnterAnswer m u r w o
     by (Ok t) p = p
@@ -96,6 +99,7 @@ taken h v w g (Ok (Some row)) fit t = record {
           },
     );
   };
+  counts = (t.given, t.most);
   path = t.path;
 }
   where
@@ -113,7 +117,7 @@ taken h v w g (Ok (Some row)) fit t = record {
     back held rest s = subst (λ ts. StillGives h usual held ts (walker_path v) (v.given + 1) rest) t.todo
         (subst (λ q. StillGives h usual held (walker_todo w) q (v.given + 1) rest) t.path (subst (λ n. StillGives h usual held (walker_todo w) (walker_path w) n rest) t.given s))
 taken h v w g (Ok None) fit t = absurd t
-taken h v w g (Err F.Memory) fit t = record { answer = t; path = t.path }
+taken h v w g (Err F.Memory) fit t = record { answer = t; counts = tt; path = t.path }
 taken h v w g (Err F.Exhausted) fit t = absurd t
 taken h v w g (Err (F.Block id why)) fit t = absurd t
 taken h v w g (Err F.Store) fit t = absurd t
@@ -130,11 +134,12 @@ gives-end h v none = record {
     λ a. subst (λ ts. StillGives h usual held ts (walker_path v) v.given es) none a.gives,
     λ e. record { gives = subst (λ ts. StillGives h usual held ts (walker_path v) v.given es) (sym none) e },
   );
+  counts = refl;
   path = refl;
 }
 
 pub gives-misfit : (h : List ℕ → List ℕ) (v : Walker) (k : List ℕ) (d : Data) (i : ℕ) (rest : List Todo) (e : HamtFault) → walker_todo v ≡ give k d i ∷ rest → fits h usual (walker_path v) i k ≡ false → IsTrieFault e → Gives h v (Err e) v
-gives-misfit h v k d i rest e is misfit fault = record { answer = by e fault; path = refl }
+gives-misfit h v k d i rest e is misfit fault = record { answer = by e fault; counts = tt; path = refl }
   where
     none : (held : List (List ℕ)) (es : List (List ℕ × Data)) → StillAhead h held v es → ⊥
     none held es a = let s = subst (λ ts. StillGives h usual held ts (walker_path v) v.given es) is a.gives in false≢true (sym misfit ∙ s.2)
@@ -150,7 +155,7 @@ gives-misfit h v k d i rest e is misfit fault = record { answer = by e fault; pa
 
 -- a node of which nothing was given
 pub gives-leave : (h : List ℕ → List ℕ) (v : Walker) (before : ℕ) (rest : List Todo) (e : HamtFault) → walker_todo v ≡ leave before ∷ rest → IsReady v.given (walker_todo v) → IsTrieFault e → Gives h v (Err e) v
-gives-leave h v before rest e is ready fault = record { answer = by e fault; path = refl }
+gives-leave h v before rest e is ready fault = record { answer = by e fault; counts = tt; path = refl }
   where
     none : (held : List (List ℕ)) (es : List (List ℕ × Data)) → StillAhead h held v es → ⊥
     none held es a =
@@ -210,6 +215,7 @@ no-gets m = record { later = Later-refl m; blocks = refl; given = refl; puts = r
 pub next-deep : (h : List ℕ → List ℕ) (m : Moment) (v : Walker) (e : HamtFault) → trie_levels usual ≤ length (walker_path v) → IsTrieFault e → Nexts h m v (Err e) v m
 next-deep h m v e deep fault = record {
   answer = faulty h m m v v e (cause-trie m m e fault) (λ held es told a. let short = a.short in omega arith) (λ held es told. (λ a. a, λ a. a));
+  counts = tt;
   only = no-gets m;
 }
 
@@ -217,6 +223,7 @@ pub next-left : (h : List ℕ → List ℕ) (m : Moment) (u v : Walker) (e : Ham
 next-left h m u v e short l = record {
   answer = faulty h m m u v e (cause-trie m m e l.answer.0) (λ held es told a. l.answer.1 h held es a.still)
       (still-both h m u v short (let p = l.path in omega arith) (λ held es told. l.same h held es));
+  counts = tt;
   only = no-gets m;
 }
 
@@ -224,7 +231,7 @@ told-of : (u v : Walker) (m : Moment) → Leaves u (Ok tt) v → SameTold m u v
 told-of u v m l = λ h held es told. l.same h held es
 
 pub next-entered : (h : List ℕ → List ℕ) (m n : Moment) (u v w : Walker) (e : HamtFault) → length (walker_path u) < trie_levels usual → Leaves u (Ok tt) v → Enters (trie_levels usual) m v (Err e) w n → Nexts h m u (Err e) w n
-next-entered h m n u v w e short l x = record { answer = by e x.answer; only = x.only }
+next-entered h m n u v w e short l x = record { answer = by e x.answer; counts = tt; only = x.only }
   where
     same : KeepsAhead h m u w
     same = still-both h m u w short x.short (same-of h m u w (same-told m m u v w refl (told-of u v m l) x.same))
@@ -242,8 +249,13 @@ next-entered h m n u v w e short l x = record { answer = by e x.answer; only = x
     by F.NoKey p = failed F.NoKey p
 
 pub next-given : (h : List ℕ → List ℕ) (m n : Moment) (u v w x : Walker) (r : Result (Option Row) HamtFault) → length (walker_path u) < trie_levels usual → Leaves u (Ok tt) v → Enters (trie_levels usual) m v (Ok tt) w n → Gives h w r x → Nexts h m u r x n
-next-given h m n u v w x r short l e g = record { answer = by r g.answer; only = e.only }
+next-given h m n u v w x r short l e g = record { answer = by r g.answer; counts = counted r g.counts; only = e.only }
   where
+    counted : (r : Result (Option Row) HamtFault) → Counts w r x → Counts u r x
+    counted (Ok (Some row)) c = (c.0 ∙ ap (λ n. n + 1) (e.given ∙ l.given), c.1)
+    counted (Ok None) c = c ∙ (e.given ∙ l.given)
+    counted (Err f) c = tt
+
     same : (held : List (List ℕ)) (es : List (List ℕ × Data)) → m.blocks ≡ Some held → StillAhead h held u es ↔ StillAhead h held w es
     same = same-of h m u w (same-told m m u v w refl (told-of u v m l) e.same)
 
@@ -291,3 +303,77 @@ new-ahead slots w todo path = λ h held es. (
     };
   },
 )
+
+-- ---- walking to the end
+
+pub begun : (h : List ℕ → List ℕ) (slots : List TrieSlot) (m : Moment) (w : Walker) → IsNew slots w → w.given ≡ 0 → HasWalked h slots m w m
+begun h slots m w new none = record {
+  walked = λ held told. record { done = []; many = sym none; ahead = λ es. (λ r. record { rest = es; is = refl; ahead = (new h held es).1 r }, λ b. subst (λ xs. RootGives h usual held (trie_levels usual - 1) slots xs) (sym b.is) ((new h held b.rest).0 b.ahead)) };
+  later = Later-refl m;
+  blocks = refl;
+}
+
+pub walked-more : (h : List ℕ → List ℕ) (slots : List TrieSlot) (m n o : Moment) (v w : Walker) (row : Row) → HasWalked h slots m v n → Nexts h n v (Ok (Some row)) w o → HasWalked h slots m w o
+walked-more h slots m n o v w row was next = record {
+  walked = λ held told.
+      let b = was.walked held told in
+      let g = next.answer in
+      let x : List ℕ × Data = (row.key, g.value) in
+      record {
+        done = b.done ++ x ∷ [];
+        many = length-append b.done (x ∷ []) ∙ ap (λ k. k + 1) b.many ∙ sym next.counts.0;
+        ahead = λ es. (
+          λ r.
+              let u = (b.ahead es).0 r in
+              let f = (g.ahead held u.rest (was.blocks ∙ told)).0 u.ahead in
+              record { rest = f.rest; is = u.is ∙ ap (λ xs. b.done ++ xs) f.is ∙ sym (append_assoc b.done (x ∷ []) f.rest); ahead = f.ahead },
+          λ s.
+              (b.ahead es).1 (record {
+                rest = x ∷ s.rest;
+                is = s.is ∙ append_assoc b.done (x ∷ []) s.rest;
+                ahead = (g.ahead held (x ∷ s.rest) (was.blocks ∙ told)).1 (record { rest = s.rest; is = refl; ahead = s.ahead });
+              }),
+        );
+      };
+  later = Later-trans m n o was.later next.only.later;
+  blocks = next.only.blocks ∙ was.blocks;
+}
+
+pub walked-end : (h : List ℕ → List ℕ) (slots : List TrieSlot) (m n o : Moment) (v w : Walker) (count : ℕ) → HasWalked h slots m v n → Nexts h n v (Ok None) w o → w.given ≡ count → Checks h slots m (Ok count) o
+walked-end h slots m n o v w count was next is = record {
+  answer = λ held told.
+      let b = was.walked held told in
+      record {
+        entries = b.done;
+        many = b.many ∙ sym next.counts ∙ is;
+        gives = (b.ahead b.done).1 (record { rest = []; is = sym (append-nil b.done); ahead = (next.answer held [] (was.blocks ∙ told)).1 refl });
+      };
+  later = Later-trans m n o was.later next.only.later;
+  blocks = next.only.blocks ∙ was.blocks;
+}
+
+pub walked-stop : (h : List ℕ → List ℕ) (slots : List TrieSlot) (m n o : Moment) (v w : Walker) (e : HamtFault) → HasWalked h slots m v n → Nexts h n v (Err e) w o → Checks h slots m (Err e) o
+walked-stop h slots m n o v w e was next = record {
+  answer = by e next.answer;
+  later = Later-trans m n o was.later next.only.later;
+  blocks = next.only.blocks ∙ was.blocks;
+}
+  where
+    none : ((held : List (List ℕ)) (es : List (List ℕ × Data)) → n.blocks ≡ Some held → Ahead h held v es → ⊥) → (held : List (List ℕ)) (es : List (List ℕ × Data)) → m.blocks ≡ Some held → RootGives h usual held (trie_levels usual - 1) slots es → ⊥
+    none no_more held es told r = let u = ((was.walked held told).ahead es).0 r in no_more held u.rest (was.blocks ∙ told) u.ahead
+
+    by : (e : HamtFault) → NextAnswer h n v (Err e) w o → CheckAnswer h slots m (Err e) o
+    by F.Store p = rose-later m.faults n.faults o.faults was.later.faults p.0
+    by F.Memory p = tt
+    by (F.Block id why) p = (cause-later m n o (F.Block id why) was.later was.blocks p.0, none p.1)
+    by F.Exhausted p = absurd p.0
+    by (F.Clash id kept new) p = absurd p.0
+    by F.Size p = absurd p.0
+    by F.NoKey p = absurd p.0
+
+pub check-memory : (h : List ℕ → List ℕ) (slots : List TrieSlot) (m : Moment) → Checks h slots m (Err F.Memory) m
+check-memory h slots m = record { answer = tt; later = Later-refl m; blocks = refl }
+
+pub none-of : (o : Option Row) → ((row : Row) → o ≡ Some row → ⊥) → o ≡ None
+none-of None other = refl
+none-of (Some row) other = absurd (other row refl)

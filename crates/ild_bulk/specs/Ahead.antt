@@ -1,5 +1,5 @@
 -- What a walker has still to give (IPLD HashMap), and what its calls do to it.
-use Rattle.std.specs.Prelude.{◌≡◌, ◌↔◌, ◌⊎◌, ℕ, ◌+◌, ◌-◌, ◌<◌, ◌≤◌, List, [], ◌∷◌, ◌++◌, length, Option, Some, None, Result, Ok, Err}
+use Rattle.std.specs.Prelude.{◌≡◌, ◌↔◌, ◌⊎◌, ℕ, ◌+◌, ◌-◌, ◌^◌, ◌<◌, ◌≤◌, List, [], ◌∷◌, ◌++◌, length, Option, Some, None, Result, Ok, Err}
 use Rattle.ild_data.specs.Data.{Data}
 use Rattle.ild_data.specs.Spell.{spell}
 use Rattle.ild_data.specs.Trie.{TrieSlot}
@@ -156,6 +156,7 @@ pub record IsTaken (v : Walker) (row : Row) (w : Walker) : Type 0 where
   pub spelled : row.value ≡ spell value
   pub path : walker_path w ≡ walker_path v
   pub given : w.given ≡ v.given + 1
+  pub most : w.given < 2 ^ 64
 
 abbrev pub Takes : Walker → Result (Option Row) HamtFault → Walker → Type 0
 Takes v (Ok (Some row)) w = IsTaken v row w
@@ -180,8 +181,15 @@ GiveAnswer h v (Ok None) w = (held : List (List ℕ)) (es : List (List ℕ × Da
 GiveAnswer h v (Err Memory) w = IsUnchanged v w
 GiveAnswer h v (Err e) w = IsTrieFault e × ((held : List (List ℕ)) (es : List (List ℕ × Data)) → StillAhead h held v es → ⊥) × IsUnchanged v w
 
+-- one more is given, and the count doesn't wrap
+abbrev pub Counts : Walker → Result (Option Row) HamtFault → Walker → Type 0
+Counts v (Ok (Some row)) w = (w.given ≡ v.given + 1) × (w.given < 2 ^ 64)
+Counts v (Ok None) w = w.given ≡ v.given
+Counts v (Err e) w = Unit {0}
+
 pub record Gives (h : List ℕ → List ℕ) (v : Walker) (result : Result (Option Row) HamtFault) (w : Walker) : Type 0 where
   pub answer : GiveAnswer h v result w
+  pub counts : Counts v result w
   pub path : walker_path w ≡ walker_path v
 
 -- ---- one call of next
@@ -212,4 +220,5 @@ NextAnswer h m v (Err e) w n = IsCause m e n × ((held : List (List ℕ)) (es : 
 
 pub record Nexts (h : List ℕ → List ℕ) (m : Moment) (v : Walker) (result : Result (Option Row) HamtFault) (w : Walker) (n : Moment) : Type 0 where
   pub answer : NextAnswer h m v result w n
+  pub counts : Counts v result w
   pub only : OnlyGets (trie_levels usual) m n

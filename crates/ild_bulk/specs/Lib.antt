@@ -11,3 +11,4 @@ pub mod Shown
 pub mod Gathered
 pub mod Fetching
 pub mod Ahead
+pub mod Checked

@@ -2,6 +2,7 @@
 #![tactic(auto)]
 
 mod build;
+mod check;
 mod due;
 mod fetch;
 mod laws;
@@ -13,6 +14,7 @@ mod step;
 mod walker;
 
 pub use build::{any_long, from_entries, is_long};
+pub use check::check_tree;
 pub use laws::{children_first, plan_is_of_nodes};
 pub use plan::plan_slot;
 pub use planned::PlannedBlock;

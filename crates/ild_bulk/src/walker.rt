@@ -50,7 +50,8 @@ impl Walker {
 
     /// A walk beneath a root, which stands in the block of this id.
     pub fn new(alloc: Global, root: NodeView<'_>, at: BlockId) -> Result<Walker, AllocError>
-        ensures { (slots : List TrieSlot) → HasSlots usual root.entry slots → IfOk result (IsNew slots) }
+        ensures ahead { (slots : List TrieSlot) → HasSlots usual root.entry slots → IfOk result (IsNew slots) }
+        ensures given { IfOk result (λ w. w.given ≡ 0) }
     {
         let steps = steps_in(alloc, root)?;
         Ok(Walker {
@@ -60,6 +61,13 @@ impl Walker {
             path: Vec::new(alloc),
             given: 0,
         })
+    }
+
+    /// How many entries were given.
+    pub fn given(&self) -> u64
+        ensures { result ≡ self.now.given }
+    {
+        self.given
     }
 
     // The id of the block of the node on whose steps the walk is.
