@@ -22,10 +22,12 @@ use Rattle.ild_node.specs.declared.hold.NewHold.TheVariants as N
 use Rattle.ild_node.specs.declared.fault.HamtFault.{HamtFault}
 use Rattle.ild_node.specs.declared.fault.HamtFault.TheVariants as F
 use Rattle.ild_node.specs.NewSlots.{slot_seen, hold_seen, IsFilledSlot}
-use Rattle.ild_bulk.specs.declared.keyed.Keyed.{Keyed}
-use Rattle.ild_bulk.specs.Keyed.{keyed_rows}
+use Rattle.ild_node.specs.declared.keyed.Keyed.{Keyed}
+use Rattle.ild_node.specs.Keyed.{keyed_rows}
 use Rattle.ild_bulk.proofs.Keys.{PartsAre}
-use Rattle.ild_bulk.specs.Planned.{PlansNode, PlansSlot, planned, slot_plan, slots_left}
+use Rattle.ild_node.specs.Drafts.{HasWritten}
+use Rattle.ild_node.specs.declared.draft.Draft.{Draft}
+use Rattle.ild_bulk.specs.Planned.{PlansInto, PlansNode, PlansSlot, planned, slot_plan, slots_left}
 
 pub node-left : (h : List ℕ → List ℕ) (p : TrieShape) (left depth : ℕ) (es : List (List ℕ × Data)) → node_of h p left depth es ≡ option_map node_data (slots_left h p left depth es)
 node-left h p zero depth es = none_left h p depth es
@@ -87,12 +89,10 @@ build-none h p depth es parts yielded rest v lt parted same is =
     ∙ all_some-none (map f yielded) (map f rest))
 
 -- one part more
-pub build-more : (f : Vec Keyed → Option TrieSlot) (yielded : List (Vec Keyed)) (v : Vec Keyed) (holds written : List (Option NewHold)) (hold : Option NewHold)
-    → all_some (map f yielded) ≡ Some (map slot_seen holds) → Some (slot_seen hold) ≡ f v → written ≡ holds ++ hold ∷ []
-    → all_some (map f (yielded ++ v ∷ [])) ≡ Some (map slot_seen written)
-build-more f yielded v holds written hold was is pushes =
-    ap all_some (map-append f yielded (v ∷ []) ∙ ap (λ o. map f yielded ++ o ∷ []) (sym is)) ∙ all_some-push (map f yielded) (map slot_seen holds) (slot_seen hold) was
-    ∙ ap Some (sym (ap (map slot_seen) pushes ∙ map-append slot_seen holds (hold ∷ [])))
+pub build-more : (f : Vec Keyed → Option TrieSlot) (yielded : List (Vec Keyed)) (v : Vec Keyed) (slots : List TrieSlot) (s : TrieSlot)
+    → all_some (map f yielded) ≡ Some slots → Some s ≡ f v → all_some (map f (yielded ++ v ∷ [])) ≡ Some (slots ++ s ∷ [])
+build-more f yielded v slots s was is =
+    ap all_some (map-append f yielded (v ∷ []) ∙ ap (λ o. map f yielded ++ o ∷ []) (sym is)) ∙ all_some-push (map f yielded) slots s was
 
 -- ---- the blocks
 
@@ -130,40 +130,55 @@ slot_in h p depth v = slot_of p.bucket (node_of h p (trie_levels p - (depth + 1)
 abbrev pub plan_in : (List ℕ → List ℕ) → TrieShape → ℕ → Vec Keyed → List (List ℕ)
 plan_in h p depth v = slot_plan p.bucket (node_of h p (trie_levels p - (depth + 1)) (depth + 1)) (planned h p (trie_levels p - (depth + 1)) (depth + 1)) (keyed_rows v.items)
 
--- the parts so far have their slots, and their blocks are appended
-pub record PlansParts (h : List ℕ → List ℕ) (p : TrieShape) (depth : ℕ) (yielded : List (Vec Keyed)) (slots : List (Option NewHold)) (old now : List (List ℕ)) : Type 0 where
-  pub slots_are : all_some (map (slot_in h p depth) yielded) ≡ Some (map slot_seen slots)
+-- the parts so far have their slots, which are written, and their blocks are appended
+pub record PlansParts (h : List ℕ → List ℕ) (p : TrieShape) (depth : ℕ) (yielded : List (Vec Keyed)) (d : Draft) (old now : List (List ℕ)) : Type 0 where
+  pub slots : List TrieSlot
+  pub slots_are : all_some (map (slot_in h p depth) yielded) ≡ Some slots
   pub blocks_are : now ≡ old ++ flat_map (plan_in h p depth) yielded
+  pub written : HasWritten d slots
 
-pub plans-more : (h : List ℕ → List ℕ) (p : TrieShape) (depth : ℕ) (yielded : List (Vec Keyed)) (slots written : List (Option NewHold)) (old now new : List (List ℕ)) (v : Vec Keyed) (slot : Option NewHold)
-    → PlansParts h p depth yielded slots old now → PlansSlot h p (trie_levels p - (depth + 1)) (depth + 1) (keyed_rows v.items) (Ok slot) now new → written ≡ slots ++ slot ∷ []
-    → PlansParts h p depth (yielded ++ v ∷ []) written old new
-plans-more h p depth yielded slots written old now new v slot was plans pushes = record {
-  slots_are = build-more (slot_in h p depth) yielded v slots written slot was.slots_are plans.0 pushes;
-  blocks_are = plans.1 ∙ ap (λ bs. bs ++ plan_in h p depth v) was.blocks_are ∙ append_assoc old (flat_map (plan_in h p depth) yielded) (plan_in h p depth v)
+pub plans-more : (h : List ℕ → List ℕ) (p : TrieShape) (depth : ℕ) (yielded : List (Vec Keyed)) (d e : Draft) (old now new : List (List ℕ)) (v : Vec Keyed) (was : PlansParts h p depth yielded d old now)
+    → PlansInto h p (trie_levels p - (depth + 1)) (depth + 1) (keyed_rows v.items) (Ok tt) was.slots e now new
+    → PlansParts h p depth (yielded ++ v ∷ []) e old new
+plans-more h p depth yielded d e old now new v was plans = record {
+  slots = was.slots ++ plans.0 ∷ [];
+  slots_are = build-more (slot_in h p depth) yielded v was.slots plans.0 was.slots_are plans.1;
+  blocks_are = plans.2 ∙ ap (λ bs. bs ++ plan_in h p depth v) was.blocks_are ∙ append_assoc old (flat_map (plan_in h p depth) yielded) (plan_in h p depth v)
       ∙ ap (λ bs. old ++ bs) (ap (λ bs. flat_map (plan_in h p depth) yielded ++ bs) (sym (append-nil (plan_in h p depth v))) ∙ sym (flat_map-append (plan_in h p depth) yielded (v ∷ [])));
+  written = plans.3;
 }
 
-pub plans-first : (h : List ℕ → List ℕ) (p : TrieShape) (depth : ℕ) (bs : List (List ℕ)) → PlansParts h p depth [] [] bs bs
-plans-first h p depth bs = record { slots_are = refl; blocks_are = sym (append-nil bs) }
+pub plans-first : (h : List ℕ → List ℕ) (p : TrieShape) (depth : ℕ) (d : Draft) (bs : List (List ℕ)) → HasWritten d [] → PlansParts h p depth [] d bs bs
+plans-first h p depth d bs none = record { slots = []; slots_are = refl; blocks_are = sym (append-nil bs); written = none }
 
 -- one part more, of those by number
-pub plans-step : (h : List ℕ → List ℕ) (p : TrieShape) (depth : ℕ) (parts : List (Vec Keyed)) (i : ℕ) (slots written : List (Option NewHold)) (old now new : List (List ℕ)) (v : Vec Keyed) (slot : Option NewHold)
-    → PlansParts h p depth (take i parts) slots old now → PlansSlot h p (trie_levels p - (depth + 1)) (depth + 1) (keyed_rows v.items) (Ok slot) now new → written ≡ slots ++ slot ∷ []
-    → i < length parts → v ≡ get_or parts i v → PlansParts h p depth (take (i + 1) parts) written old new
-plans-step h p depth parts i slots written old now new v slot was plans pushes lt is =
-    subst (λ (vs : List (Vec Keyed)). PlansParts h p depth vs written old new) (sym (take_more parts i v lt ∙ ap (λ w. take i parts ++ w ∷ []) (sym is)))
-    (plans-more h p depth (take i parts) slots written old now new v slot was plans pushes)
+pub plans-step : (h : List ℕ → List ℕ) (p : TrieShape) (depth : ℕ) (parts : List (Vec Keyed)) (i : ℕ) (d e : Draft) (old now new : List (List ℕ)) (v : Vec Keyed) (was : PlansParts h p depth (take i parts) d old now)
+    → PlansInto h p (trie_levels p - (depth + 1)) (depth + 1) (keyed_rows v.items) (Ok tt) was.slots e now new
+    → i < length parts → v ≡ get_or parts i v → PlansParts h p depth (take (i + 1) parts) e old new
+plans-step h p depth parts i d e old now new v was plans lt is =
+    subst (λ (vs : List (Vec Keyed)). PlansParts h p depth vs e old new) (sym (take_more parts i v lt ∙ ap (λ w. take i parts ++ w ∷ []) (sym is)))
+    (plans-more h p depth (take i parts) d e old now new v was plans)
+
+all_some-long : {X : Type 0} (os : List (Option X)) (xs : List X) → all_some os ≡ Some xs → length xs ≡ length os
+all_some-long [] xs is = let e : xs ≡ [] = cc in ap length e
+all_some-long (None ∷ os) xs is = absurd cc
+all_some-long (Some y ∷ os) xs is = let parts = some_cons y (all_some os) xs is in ap length parts.2 ∙ ap suc (all_some-long os parts.0 parts.1)
+
+-- as many slots as parts
+pub plans-many : (h : List ℕ → List ℕ) (p : TrieShape) (depth i : ℕ) (parts : List (Vec Keyed)) (d : Draft) (old now : List (List ℕ)) (was : PlansParts h p depth (take i parts) d old now) → length parts ≤ i
+    → length was.slots ≡ length parts
+plans-many h p depth i parts d old now was le =
+    all_some-long (map (slot_in h p depth) (take i parts)) was.slots was.slots_are ∙ length-map (take i parts) (slot_in h p depth) ∙ ap (λ (vs : List (Vec Keyed)). length vs) (take_all i parts le)
 
 -- all parts have their slots: the node is written
-pub plans-done : (h : List ℕ → List ℕ) (p : TrieShape) (depth : ℕ) (es : List (List ℕ × Data)) (parts : List (Vec Keyed)) (i : ℕ) (slots : List (Option NewHold)) (old new : List (List ℕ)) (block : List ℕ)
-    → depth < trie_levels p → PartsAre (at_depth h p depth) (2 ^ p.width) es parts → length parts ≤ i → PlansParts h p depth (take i parts) slots old new → block ≡ spell (node_data (map slot_seen slots))
+pub plans-done : (h : List ℕ → List ℕ) (p : TrieShape) (depth : ℕ) (es : List (List ℕ × Data)) (parts : List (Vec Keyed)) (i : ℕ) (d : Draft) (old new : List (List ℕ)) (block : List ℕ)
+    → depth < trie_levels p → PartsAre (at_depth h p depth) (2 ^ p.width) es parts → length parts ≤ i → (plans : PlansParts h p depth (take i parts) d old new) → block ≡ spell (node_data plans.slots)
     → PlansNode h p (trie_levels p - depth) depth es (Ok block) old new
-plans-done h p depth es parts i slots old new block lt parted le plans written =
+plans-done h p depth es parts i d old new block lt parted le plans written =
     let left : ℕ = trie_levels p - (depth + 1) in
     let one : trie_levels p - depth ≡ suc left = one_more (trie_levels p) depth lt in
     let same : parts ≡ take i parts = sym (take_all i parts le) in (
-      ap Some written ∙ ap (option_map (λ s. spell (node_data s))) (build-done h p depth es parts (take i parts) (map slot_seen slots) lt parted same plans.slots_are)
+      ap Some written ∙ ap (option_map (λ s. spell (node_data s))) (build-done h p depth es parts (take i parts) plans.slots lt parted same plans.slots_are)
           ∙ spelled_node (slots_left h p (trie_levels p - depth) depth es) ∙ ap (option_map spell) (sym (node-left h p (trie_levels p - depth) depth es)),
       plans.blocks_are
           ∙ ap (λ bs. old ++ bs) (ap (flat_map (plan_in h p depth)) (sym same)
@@ -186,15 +201,15 @@ no_node h p depth es is = node-left h p (trie_levels p - depth) depth es ∙ ap 
 -- a part that has no slot, or want of memory
 pub plans-stop : (h : List ℕ → List ℕ) (p : TrieShape) (depth : ℕ) (es : List (List ℕ × Data)) (parts : List (Vec Keyed)) (i : ℕ) (v : Vec Keyed) (e : HamtFault) (old new now more : List (List ℕ))
     → depth < trie_levels p → PartsAre (at_depth h p depth) (2 ^ p.width) es parts → i < length parts → v ≡ get_or parts i v
-    → PlansSlot h p (trie_levels p - (depth + 1)) (depth + 1) (keyed_rows v.items) (Err e) now more → PlansNode h p (trie_levels p - depth) depth es (Err e) old new
-plans-stop h p depth es parts i v F.Exhausted old new now more lt parted within is plans =
+    → (slots : List TrieSlot) (d : Draft) → PlansInto h p (trie_levels p - (depth + 1)) (depth + 1) (keyed_rows v.items) (Err e) slots d now more → PlansNode h p (trie_levels p - depth) depth es (Err e) old new
+plans-stop h p depth es parts i v F.Exhausted old new now more lt parted within is slots d plans =
     no_node h p depth es (build-none h p depth es parts (take i parts) (drop (suc i) parts) v lt parted (parted_at parts i v within is) (sym plans))
-plans-stop h p depth es parts i v F.Memory old new now more lt parted within is plans = tt
-plans-stop h p depth es parts i v (F.Block id why) old new now more lt parted within is plans = absurd plans
-plans-stop h p depth es parts i v F.Store old new now more lt parted within is plans = absurd plans
-plans-stop h p depth es parts i v (F.Clash id kept other) old new now more lt parted within is plans = absurd plans
-plans-stop h p depth es parts i v F.Size old new now more lt parted within is plans = absurd plans
-plans-stop h p depth es parts i v F.NoKey old new now more lt parted within is plans = absurd plans
+plans-stop h p depth es parts i v F.Memory old new now more lt parted within is slots d plans = tt
+plans-stop h p depth es parts i v (F.Block id why) old new now more lt parted within is slots d plans = absurd plans
+plans-stop h p depth es parts i v F.Store old new now more lt parted within is slots d plans = absurd plans
+plans-stop h p depth es parts i v (F.Clash id kept other) old new now more lt parted within is slots d plans = absurd plans
+plans-stop h p depth es parts i v F.Size old new now more lt parted within is slots d plans = absurd plans
+plans-stop h p depth es parts i v F.NoKey old new now more lt parted within is slots d plans = absurd plans
 
 pub plans-exhausted : (h : List ℕ → List ℕ) (p : TrieShape) (depth : ℕ) (es : List (List ℕ × Data)) → trie_levels p ≤ depth → node_of h p (trie_levels p - depth) depth es ≡ None
 plans-exhausted h p depth es le = let none : trie_levels p - depth ≡ 0 = omega arith in ap (λ n. node_of h p n depth es) none ∙ none_left h p depth es
@@ -237,14 +252,31 @@ slot-stop h p left depth es (F.Clash id kept other) old now new many plans = abs
 slot-stop h p left depth es F.Size old now new many plans = absurd plans
 slot-stop h p left depth es F.NoKey old now new many plans = absurd plans
 
-pub filled-push : (p : TrieShape) (slots new : List (Option NewHold)) (slot : Option NewHold) → AllByRecursion (IsFilledSlot p) slots → IsFilledSlot p slot → new ≡ slots ++ slot ∷ [] → AllByRecursion (IsFilledSlot p) new
-filled-push p slots new slot all is pushes = subst (λ (ss : List (Option NewHold)). AllByRecursion (IsFilledSlot p) ss) (sym pushes) (by slots all)
-  where
-    by : (ss : List (Option NewHold)) → AllByRecursion (IsFilledSlot p) ss → AllByRecursion (IsFilledSlot p) (ss ++ slot ∷ [])
-    by [] all = (is, tt)
-    by (s ∷ ss) all = (all.0, by ss all.1)
+-- ---- slots that are written
+
+pub into-empty : (h : List ℕ → List ℕ) (p : TrieShape) (left depth : ℕ) (es : List (List ℕ × Data)) (slots : List TrieSlot) (d : Draft) (bs : List (List ℕ)) → length es ≡ 0 → HasWritten d (slots ++ empty ∷ []) → PlansInto h p left depth es (Ok tt) slots d bs bs
+into-empty h p left depth es slots d bs none written = let s = slot-empty h p left depth es bs none in (empty, s.0, s.1, written)
+
+pub into-few : (h : List ℕ → List ℕ) (p : TrieShape) (left depth : ℕ) (es : List (List ℕ × Data)) (slots : List TrieSlot) (d : Draft) (bs : List (List ℕ)) → 0 < length es → length es ≤ p.bucket → HasWritten d (slots ++ bucket es ∷ [])
+    → PlansInto h p left depth es (Ok tt) slots d bs bs
+into-few h p left depth es slots d bs some few written = let s = slot-few h p left depth es es bs refl some few in (bucket es, s.0, s.1, written)
+
+pub into-many : (h : List ℕ → List ℕ) (p : TrieShape) (left depth : ℕ) (es : List (List ℕ × Data)) (slots : List TrieSlot) (d : Draft) (old now new : List (List ℕ)) (block : List ℕ) (id : BlockId) → p.bucket < length es
+    → PlansNode h p left depth es (Ok block) old now → id.0 ≡ id_of block → new ≡ now ++ block ∷ [] → HasWritten d (slots ++ child id.0 ∷ []) → PlansInto h p left depth es (Ok tt) slots d old new
+into-many h p left depth es slots d old now new block id many plans named pushes written =
+    let s = slot-many h p left depth es old now new block id many plans named pushes in (child id.0, s.0, s.1, written)
+
+pub into-stop : (h : List ℕ → List ℕ) (p : TrieShape) (left depth : ℕ) (es : List (List ℕ × Data)) (e : HamtFault) (slots : List TrieSlot) (d : Draft) (old now new : List (List ℕ)) → p.bucket < length es
+    → PlansNode h p left depth es (Err e) old now → PlansInto h p left depth es (Err e) slots d old new
+into-stop h p left depth es F.Exhausted slots d old now new many plans = slot-many_lem p.bucket (node_of h p left depth) es many ∙ ap (option_map link_to) plans
+into-stop h p left depth es F.Memory slots d old now new many plans = tt
+into-stop h p left depth es (F.Block id why) slots d old now new many plans = absurd plans
+into-stop h p left depth es F.Store slots d old now new many plans = absurd plans
+into-stop h p left depth es (F.Clash id kept other) slots d old now new many plans = absurd plans
+into-stop h p left depth es F.Size slots d old now new many plans = absurd plans
+into-stop h p left depth es F.NoKey slots d old now new many plans = absurd plans
 
 -- the same rows
-pub slot-as : (h : List ℕ → List ℕ) (p : TrieShape) (left depth : ℕ) (ks js : List Keyed) (r : Result (Option NewHold) HamtFault) (old new : List (List ℕ)) → ks ≡ js → PlansSlot h p left depth (keyed_rows ks) r old new
-    → PlansSlot h p left depth (keyed_rows js) r old new
-slot-as h p left depth ks js r old new same plans = subst (λ (xs : List Keyed). PlansSlot h p left depth (keyed_rows xs) r old new) same plans
+pub into-as : (h : List ℕ → List ℕ) (p : TrieShape) (left depth : ℕ) (ks js : List Keyed) (r : Result (Unit {0}) HamtFault) (slots : List TrieSlot) (d : Draft) (old new : List (List ℕ)) → ks ≡ js → PlansInto h p left depth (keyed_rows ks) r slots d old new
+    → PlansInto h p left depth (keyed_rows js) r slots d old new
+into-as h p left depth ks js r slots d old new same plans = subst (λ (xs : List Keyed). PlansInto h p left depth (keyed_rows xs) r slots d old new) same plans

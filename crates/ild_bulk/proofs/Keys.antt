@@ -14,8 +14,9 @@ use Rattle.ild_data.specs.Trie.{part, at_depth}
 use Rattle.ild_typed.proofs.NodeEntries.{T_of, true_of}
 use Rattle.ild_typed.specs.Nested.{TreeIn}
 use Rattle.ild_node.specs.Rows.{AreRows, deepest_value}
-use Rattle.ild_bulk.specs.declared.keyed.Keyed.{Keyed}
-use Rattle.ild_bulk.specs.Keyed.{AreKeyed, Parted, keyed_index, keyed_rows, keyed_seen}
+use Rattle.ild_node.specs.declared.keyed.Keyed.{Keyed}
+use Rattle.ild_bulk.specs.Keyed.{AreKeyed, Parted, keyed_index}
+use Rattle.ild_node.specs.Keyed.{keyed_rows, keyed_seen}
 
 -- the parts have the entries of their index
 pub record PartsAre (at : List ℕ → ℕ) (count : ℕ) (es : List (List ℕ × Data)) (parts : List (Vec Keyed)) : Type 0 where

@@ -6,3 +6,7 @@ pub mod Puts
 pub mod Tries
 pub mod Plans
 pub mod Nests
+pub mod Opening
+pub mod Stepping
+pub mod Walking
+pub mod Nexting

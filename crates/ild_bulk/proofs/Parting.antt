@@ -4,20 +4,46 @@ use Rattle.std.specs.Global.{Vec}
 use Rattle.std.proofs.lemmas.List.{length-set, get_or-set_same, get_or-set_other, length-append, get_or_push, get_or_append_left, append-nil, take_more}
 use Rattle.std.proofs.lemmas.List.Elements.{filter-append}
 use Rattle.std.proofs.lemmas.Bool.{cases_eq, eq-eqb, ne_eqb, cases_lt}
-use Rattle.ild_bulk.specs.declared.keyed.Keyed.{Keyed}
-use Rattle.ild_bulk.specs.Keyed.{Parted}
+use Rattle.ild_node.specs.declared.keyed.Keyed.{Keyed}
+use Rattle.ild_bulk.specs.Keyed.{AreEmpty, Parted}
 
-pub Parted-none : (at : Keyed → ℕ) → Parted at 0 [] []
-Parted-none at = record { many = refl; each = λ i z lt. absurd (omega arith) }
+pub parted-first : (at : Keyed → ℕ) (n : ℕ) (parts : List (Vec Keyed)) → AreEmpty n parts → Parted at n [] parts
+parted-first at n parts none = record { many = none.many; each = none.each }
 
-pub Parted-empty : (at : Keyed → ℕ) (n : ℕ) (parts : List (Vec Keyed)) (v : Vec Keyed) → Parted at n [] parts → v.items ≡ [] → Parted at (n + 1) [] (parts ++ v ∷ [])
-Parted-empty at n parts v was none = record {
-  many = length-append parts (v ∷ []) ∙ omega (arith, was.many);
-  each = λ i z lt. ⊎_elim
-      (λ inside. ap (λ (w : Vec Keyed). w.items) (get_or_append_left parts (v ∷ []) z i (omega (arith, was.many))) ∙ was.each i z inside)
-      (λ past. ap (λ (w : Vec Keyed). w.items) (get_or_push parts v z i (omega (arith, was.many))) ∙ none)
-      (cases_lt i n);
-}
+-- the vectors up to a place are empty
+pub record EmptiedTo (count i : ℕ) (parts : List (Vec Keyed)) : Type 0 where
+  pub first : (j : ℕ) (z : Vec Keyed) → j < i → (get_or parts j z).items ≡ []
+  pub reached : i ≤ length parts
+  pub few : length parts ≤ count
+
+pub emptied-more : (count i : ℕ) (parts : List (Vec Keyed)) (v : Vec Keyed) → EmptiedTo count i parts → length parts ≤ i → i < count → v.items ≡ [] → EmptiedTo count (i + 1) (parts ++ v ∷ [])
+emptied-more count i parts v was le lt none =
+    let reached = was.reached in
+    let long = length-append parts (v ∷ []) in
+    record {
+      first = λ j z below. ⊎_elim
+          (λ inside. ap (λ (w : Vec Keyed). w.items) (get_or_append_left parts (v ∷ []) z j (omega arith)) ∙ was.first j z inside)
+          (λ past. ap (λ (w : Vec Keyed). w.items) (get_or_push parts v z j (omega arith)) ∙ none)
+          (cases_lt j i);
+      reached = omega (arith, long);
+      few = omega (arith, long);
+    }
+
+pub emptied-again : (count i : ℕ) (parts : List (Vec Keyed)) (v : Vec Keyed) → EmptiedTo count i parts → i < length parts → v.items ≡ [] → EmptiedTo count (i + 1) (set parts i v)
+emptied-again count i parts v was lt none =
+    let long = length-set parts i v in
+    let few = was.few in
+    record {
+      first = λ j z below. ⊎_elim
+          (λ same. ap (λ (w : Vec Keyed). w.items) (ap (λ m. get_or (set parts i v) m z) same ∙ get_or-set_same parts i v z lt) ∙ none)
+          (λ other. ap (λ (w : Vec Keyed). w.items) (get_or-set_other parts i j v z other) ∙ was.first j z (omega (arith, other)))
+          (cases_eq j i);
+      reached = omega (arith, long);
+      few = omega (arith, long);
+    }
+
+pub emptied-done : (count i : ℕ) (parts : List (Vec Keyed)) → EmptiedTo count i parts → count ≤ i → AreEmpty count parts
+emptied-done count i parts was le = let reached = was.reached in let few = was.few in record { many = omega arith; each = λ j z lt. was.first j z (omega arith) }
 
 pub Parted-more : (at : Keyed → ℕ) (n : ℕ) (rows : List Keyed) (parts : List (Vec Keyed)) (row : Keyed) (i : ℕ) (old w : Vec Keyed)
     → Parted at n rows parts → i < n → at row ≡ i → old ≡ get_or parts i old → w.items ≡ old.items ++ row ∷ [] → Parted at n (rows ++ row ∷ []) (set parts i w)

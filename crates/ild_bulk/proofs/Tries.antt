@@ -21,8 +21,9 @@ use Rattle.ild_bulk.specs.Build.{plan_of, HasTrie, HasShortTrie, HasLongTrie, St
 use Rattle.ild_bulk.specs.Putting.{PutsAll}
 use Rattle.ild_node.specs.declared.fault.HamtFault.{HamtFault}
 use Rattle.ild_node.specs.declared.fault.HamtFault.TheVariants as F
-use Rattle.ild_bulk.specs.declared.keyed.Keyed.{Keyed}
-use Rattle.ild_bulk.specs.Keyed.{AreKeyed, keyed_rows, keyed_seen}
+use Rattle.ild_node.specs.declared.keyed.Keyed.{Keyed}
+use Rattle.ild_bulk.specs.Keyed.{AreKeyed}
+use Rattle.ild_node.specs.Keyed.{keyed_rows, keyed_seen}
 
 no_find : (k : List ℕ) (es : List (List ℕ × Data)) → below_all bytewise k es ≡ true → find bytewise k es ≡ None
 no_find k [] below = refl

@@ -1,12 +1,14 @@
 -- The blocks of a HAMT in an order in which they can be put.
-use Rattle.std.specs.Prelude.{◌≡◌, ℕ, zero, suc, ◌+◌, ◌^◌, nat_le, List, [], ◌++◌, length, Option, Some, None, option_map, Result, Ok, Err}
+use Rattle.std.specs.Prelude.{◌≡◌, ℕ, zero, suc, ◌+◌, ◌^◌, nat_le, List, [], ◌∷◌, ◌++◌, length, Option, Some, None, option_map, Result, Ok, Err}
 use Rattle.std.specs.List.{flat_map, range_with_len}
 use Rattle.ild_data.specs.Data.{Data}
 use Rattle.ild_data.specs.Spell.{spell}
 use Rattle.ild_data.specs.TrieShape.{TrieShape}
 use Rattle.ild_data.specs.Trie.{TrieSlot, part, at_depth, node_of, slot_of, slots_at}
 use Rattle.ild_data.specs.TrieBlocks.{block_of, none_or}
+use Rattle.ild_node.specs.Drafts.{HasWritten}
 use Rattle.ild_node.specs.NewSlots.{slot_seen}
+use Rattle.ild_node.specs.declared.draft.Draft.{Draft}
 use Rattle.ild_node.specs.declared.hold.NewHold.{NewHold}
 use Rattle.ild_node.specs.declared.fault.HamtFault.{HamtFault}
 use Rattle.ild_node.specs.declared.fault.HamtFault.TheVariants.{Exhausted, Memory}
@@ -41,3 +43,11 @@ PlansSlot h p left depth es (Ok o) old new =
 PlansSlot h p left depth es (Err Exhausted) old new = slot_of p.bucket (node_of h p left depth) es ≡ None
 PlansSlot h p left depth es (Err Memory) old new = Unit {0}
 PlansSlot h p left depth es (Err e) old new = ⊥
+
+-- what planning a slot into a draft gives: the slot behind those that were written, with the blocks of its node behind those that were there
+abbrev pub PlansInto : (List ℕ → List ℕ) → TrieShape → ℕ → ℕ → List (List ℕ × Data) → Result (Unit {0}) HamtFault → List TrieSlot → Draft → List (List ℕ) → List (List ℕ) → Type 0
+PlansInto h p left depth es (Ok u) slots d old new =
+    (s : TrieSlot) × (Some s ≡ slot_of p.bucket (node_of h p left depth) es) × (new ≡ old ++ slot_plan p.bucket (node_of h p left depth) (planned h p left depth) es) × HasWritten d (slots ++ s ∷ [])
+PlansInto h p left depth es (Err Exhausted) slots d old new = slot_of p.bucket (node_of h p left depth) es ≡ None
+PlansInto h p left depth es (Err Memory) slots d old new = Unit {0}
+PlansInto h p left depth es (Err e) slots d old new = ⊥

@@ -8,6 +8,7 @@ ghost use Rattle.ild_bulk.specs.Build.{Builds, is_long, any_long, plan_of};
 ghost use Rattle.ild_bulk.specs.Children.{AddsWhole};
 
 use crate::plan::{keyed, plan_node};
+use crate::planned::PlannedBlock;
 use crate::put::put_all;
 use ild_data::{KeyHash, LONGEST_BLOCK, Octets};
 use ild_edges::Store;
@@ -22,12 +23,12 @@ pub fn is_long(block: &Octets) -> bool
 }
 
 /// Whether one of the blocks is.
-pub fn any_long(blocks: &[Octets]) -> bool
+pub fn any_long(blocks: &[PlannedBlock]) -> bool
     ensures { result ≡ any_long blocks.now }
 {
     let mut long = false;
     for block in blocks {
-        long |= is_long(block);
+        long |= is_long(block.block());
     }
     long
 }
@@ -48,7 +49,8 @@ pub fn from_entries<K: Store, H: KeyHash>(
 {
     let keyed = keyed(alloc, entries.as_slice(), keys)?;
     let mut blocks = Vec::new(alloc);
-    let root = plan_node(alloc, &keyed, 0, &mut blocks)?;
+    let mut spare = Vec::new(alloc);
+    let root = plan_node(alloc, &keyed, 0, &mut spare, &mut blocks)?;
     let long = is_long(&root) | any_long(&blocks);
     if long {
         return Err(HamtFault::Size);

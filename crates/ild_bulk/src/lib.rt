@@ -2,12 +2,22 @@
 #![tactic(auto)]
 
 mod build;
-mod keyed;
+mod check;
+mod due;
+mod fetch;
 mod laws;
 mod plan;
+mod planned;
 mod put;
+mod row;
+mod step;
+mod walker;
 
 pub use build::{any_long, from_entries, is_long};
+pub use check::check_tree;
 pub use laws::{children_first, plan_is_of_nodes};
 pub use plan::plan_slot;
+pub use planned::PlannedBlock;
 pub use put::put_all;
+pub use row::Row;
+pub use walker::Walker;

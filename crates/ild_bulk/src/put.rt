@@ -2,21 +2,21 @@
 ghost use Rattle.std.specs.Prelude.{◌≡◌};
 ghost use Rattle.ild_bulk.specs.Putting.{PutsOne, PutsAll};
 
-use ild_data::{Octets, block_id};
+use crate::planned::PlannedBlock;
 use ild_edges::{EdgeErr, Store};
 use ild_node::HamtFault;
 
 // Puts a block under its id.
-fn put<K: Store>(block: &Octets, store: &mut K) -> Result<(), HamtFault>
-    ensures { PutsOne (K.moment store.old) block.now result (K.moment store.new) }
+fn put<K: Store>(planned: &PlannedBlock, store: &mut K) -> Result<(), HamtFault>
+    ensures { PutsOne (K.moment store.old) planned.now result (K.moment store.new) }
 {
-    let id = block_id(block.as_slice());
-    match store.put(&id, block.as_slice()) {
+    let id = planned.id();
+    match store.put(&id, planned.block().as_slice()) {
         Ok(None) => Ok(()),
         Ok(Some(kept)) => Err(HamtFault::Clash {
             id,
             kept,
-            new: block.copy()?,
+            new: planned.block().copy()?,
         }),
         Err(EdgeErr::Failed) => Err(HamtFault::Store),
         Err(EdgeErr::Memory) => Err(HamtFault::Memory),
@@ -24,7 +24,7 @@ fn put<K: Store>(block: &Octets, store: &mut K) -> Result<(), HamtFault>
 }
 
 /// Puts blocks one after another, and stops at the first that isn't put.
-pub fn put_all<K: Store>(blocks: &[Octets], store: &mut K) -> Result<(), HamtFault>
+pub fn put_all<K: Store>(blocks: &[PlannedBlock], store: &mut K) -> Result<(), HamtFault>
     ensures { PutsAll (K.moment store.old) blocks.now result (K.moment store.new) }
 {
     for block in blocks {

@@ -7,6 +7,7 @@ pub mod InSlot
 pub mod Pushing
 pub mod Rooting
 pub mod Writing
+pub mod Drafting
 pub mod Nodes
 pub mod Counts
 pub mod Changing

@@ -32,7 +32,7 @@ hold_items s = elements_of (hold_seen s.hold)
 abbrev pub slot_items : Option NewHold → List Data
 slot_items s = elements_of (slot_seen s)
 
-spelled-append : (xs ys : List Data) → spelled (xs ++ ys) ≡ spelled xs ++ spelled ys
+pub spelled-append : (xs ys : List Data) → spelled (xs ++ ys) ≡ spelled xs ++ spelled ys
 spelled-append [] ys = refl
 spelled-append (x ∷ xs) ys = ap (λ s. spell x ++ s) (spelled-append xs ys) ∙ sym (append_assoc (spell x) (spelled xs) (spelled ys))
 

@@ -7,7 +7,9 @@ pub mod Views
 pub mod Steps
 pub mod Spelled
 pub mod Rows
+pub mod Keyed
 pub mod NewSlots
 pub mod Roots
 pub mod Written
+pub mod Drafts
 pub mod Laws

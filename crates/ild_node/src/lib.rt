@@ -3,8 +3,10 @@
 
 mod bucket;
 mod changed;
+mod draft;
 mod fault;
 mod hold;
+mod keyed;
 mod laws;
 mod level;
 mod node;
@@ -22,10 +24,12 @@ mod write;
 
 pub use bucket::Bucket;
 pub use changed::write_changed;
+pub use draft::Draft;
 pub use fault::HamtFault;
 pub use hold::{NewHold, NewSlot};
+pub use keyed::Keyed;
 pub use laws::{one_node, written_are_read};
-pub use level::index;
+pub use level::{BUCKET_SIZE, LEVELS, index, index_of};
 pub use node::node_of;
 pub use root::root_of;
 pub use row::Row;

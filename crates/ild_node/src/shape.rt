@@ -1,11 +1,10 @@
 //! The shape of a HAMT (IPLD HashMap, "bitWidth" and "bucketSize").
 ghost use Rattle.std.specs.Prelude.{◌≡◌, ◌≤◌, ◌^◌};
 
+use crate::level::BUCKET_SIZE;
+
 /// How many bits of the hash choose a slot.
 const BIT_WIDTH: u32 = 8;
-
-/// How many entries a bucket takes.
-pub(crate) const BUCKET_SIZE: u32 = 3;
 
 /// How many bits of the hash choose a slot, and how many entries a bucket takes.
 #[derive(Clone, Copy, Debug, PartialEq, Eq)]
@@ -26,7 +25,7 @@ impl HamtShape {
     {
         HamtShape {
             width: BIT_WIDTH,
-            bucket: BUCKET_SIZE,
+            bucket: BUCKET_SIZE as u32,
         }
     }
 

@@ -49,6 +49,14 @@ impl Spelled {
         })
     }
 
+    /// The bytes alone.
+    pub fn into_octets(self) -> Octets
+        ensures { result ≡ spell self }
+    {
+        let _bytes = self.bytes.as_slice();
+        self.bytes
+    }
+
     /// The bytes, of a value within the limits of a block.
     pub fn as_slice(&self) -> &[u8]
         ensures spelled { result.now ≡ spell self.now }

@@ -15,9 +15,10 @@ ghost use Rattle.ild_node.specs.Rows.{AreRows, row_seen};
 ghost use Rattle.ild_node.specs.Written.{IsNodeBlock, IsSound, bytes_of_bits, spelled};
 
 use crate::hold::{NewHold, NewSlot};
+use crate::level::BUCKET_SIZE;
 use crate::row::Row;
 use crate::rows::Rows;
-use crate::shape::{BUCKET_SIZE, HamtShape};
+use crate::shape::HamtShape;
 use ild_cbor::Node;
 use ild_data::Octets;
 use ild_emit::Emit;
@@ -119,7 +120,7 @@ pub(crate) fn begin(alloc: Global, used: &[bool], elements: u64) -> Result<Emit,
 }
 
 // Appends an entry of a bucket. An error may leave the front of it.
-fn add_entry(out: &mut Emit, row: &Row) -> Result<(), AllocError>
+pub(crate) fn add_entry(out: &mut Emit, row: &Row) -> Result<(), AllocError>
     ensures { OnOk result (out.new ≡ out.old ++ spell (entry_data (row_seen row.now))) }
 {
     out.head(4, 2)?;
@@ -140,7 +141,7 @@ fn add_bucket(out: &mut Emit, rows: &Rows) -> Result<(), AllocError>
 }
 
 // The items of a slice of bytes are bytes; a caller that needs the fact makes this call, which does no work.
-fn are_bytes(bytes: &[u8])
+pub(crate) fn are_bytes(bytes: &[u8])
     ensures { AreBytes bytes.now }
 {}
 

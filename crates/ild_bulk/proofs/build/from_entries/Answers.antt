@@ -2,8 +2,9 @@ use Rattle.std.proofs.Common.{List, ◌∙◌, [], Ok, Err, refl, sym, ap, subst
 use Rattle.std.proofs.lemmas.Result.{err_from_is_err_and}
 use Rattle.ild_typed.specs.Composed.{usual}
 use Rattle.ild_data.specs.TrieShape.{trie_levels}
-use Rattle.ild_bulk.specs.Keyed.{AreKeyed, keyed_rows}
-use Rattle.ild_bulk.specs.declared.keyed.Keyed.{Keyed}
+use Rattle.ild_bulk.specs.Keyed.{AreKeyed}
+use Rattle.ild_node.specs.Keyed.{keyed_rows}
+use Rattle.ild_node.specs.declared.keyed.Keyed.{Keyed}
 use Rattle.ild_bulk.specs.Build.{plan_of}
 use Rattle.ild_bulk.specs.Putting.{PutsAll}
 use Rattle.ild_bulk.specs.Planned.{PlansNode}

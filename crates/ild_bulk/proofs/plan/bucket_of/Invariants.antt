@@ -1,6 +1,6 @@
 use Rattle.std.proofs.Common.{◌≡◌, take}
 use Rattle.ild_node.specs.Rows.{rows_seen}
-use Rattle.ild_bulk.specs.Keyed.{keyed_rows}
+use Rattle.ild_node.specs.Keyed.{keyed_rows}
 use Rattle.ild_bulk.proofs.plan.bucket_of.Given as goal
 
 abbrev pub invariant-loop-keyed : goal.invariant-loop-keyed

@@ -1,0 +1,14 @@
+use Rattle.std.proofs.Common.{◌-◌, arith}
+use Rattle.std.proofs.lemmas.List.{length-map}
+use Rattle.std.proofs.lemmas.Result.{err_from_is_err_and}
+use Rattle.ild_data.specs.TrieShape.{trie_levels}
+use Rattle.ild_typed.specs.Composed.{usual}
+use Rattle.ild_node.specs.Keyed.{keyed_rows, keyed_seen}
+use Rattle.ild_bulk.proofs.Building.{slot-stop}
+use Rattle.ild_bulk.proofs.plan.held_slot.Goals as goal
+
+pub returns-in_err-plan_node-clause-plans : goal.returns-in_err-plan_node-clause-plans
+returns-in_err-plan_node-clause-plans c = λ h all.
+    let p = err_from_is_err_and c.from_residual-in_err-plan_node.result c.from_residual-in_err-plan_node.ensures.1 in
+    rw (p.1, p.2) (slot-stop h usual (trie_levels usual - c.args.depth) c.args.depth (keyed_rows c.args.rows.now) c.in_err-plan_node.field-0.0 c.args.blocks.now.items c.plan_node.new.blocks.items c.plan_node.new.blocks.items
+    (omega (arith, length-map c.args.rows.now keyed_seen)) (c.in_err-plan_node.ensures h all))

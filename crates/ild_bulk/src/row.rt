@@ -1,0 +1,10 @@
+//! One entry that a walk gives.
+use ild_data::{BlockId, Octets, Txt};
+
+/// A key, the spelling of its value, and the id of the block in which the entry stands.
+#[derive(Drop)]
+pub struct Row {
+    pub key: Txt,
+    pub value: Octets,
+    pub block: BlockId,
+}
