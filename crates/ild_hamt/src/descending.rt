@@ -6,13 +6,13 @@ ghost use Rattle.ild_typed.specs.Composed.{usual};
 ghost use Rattle.ild_node.specs.Views.{HasSlots};
 ghost use Rattle.ild_hamt.specs.Descending.{Descends};
 
-use crate::ending::{LEVELS, end_slot, is_full};
+use crate::ending::{end_slot, is_full};
 use crate::reaching::{child_at, reach};
 use crate::trail::Trail;
 use ild_cbor::{BlockWhy, Why};
 use ild_data::{BlockId, KeyHash, Txt};
 use ild_edges::Store;
-use ild_node::{HamtFault, NodeView};
+use ild_node::{HamtFault, LEVELS, NodeView};
 use std::alloc::Global;
 
 // Whether the node at a depth has a child, for which no level is left.

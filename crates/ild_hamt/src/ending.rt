@@ -11,24 +11,7 @@ ghost use Rattle.ild_hamt.specs.Ends.{EndsAt, agree, agreeing, is_full, agrees_s
 
 use crate::reading::view_in;
 use ild_data::{KeyHash, Octets};
-use ild_node::{Bucket, NodeSlot, NodeView, index};
-
-/// How many levels a HAMT has at most.
-pub(crate) const LEVELS: u32 = 32;
-
-/// How many entries a bucket takes.
-pub(crate) const BUCKET_SIZE: usize = 3;
-
-// The index of a hash at a depth.
-fn index_of(hash: &[u8; 32], depth: u32) -> u8
-    requires { depth < trie_levels usual }
-    ensures { result ≡ index usual hash.now depth }
-{
-    match index(hash, depth) {
-        Some(i) => i,
-        None => 0,
-    }
-}
+use ild_node::{BUCKET_SIZE, Bucket, LEVELS, NodeSlot, NodeView, index_of};
 
 /// The slot of a hash in a node at a depth.
 pub(crate) fn slot_at<'b>(view: NodeView<'b>, hash: &[u8; 32], depth: u32) -> NodeSlot<'b>

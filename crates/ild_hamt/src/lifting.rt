@@ -12,12 +12,12 @@ ghost use Rattle.ild_hamt.specs.Known.{SomeNode};
 ghost use Rattle.ild_hamt.specs.Rewriting.{ClimbState, DiffersAt, HasRoot, Lifts, way_up};
 ghost use Rattle.ild_hamt.specs.Way.{IsNodeOf, IsRootOf};
 
-use crate::ending::BUCKET_SIZE;
 use crate::gathering::{put_next, rows_of};
 use crate::reading::view_in;
 use crate::weighing::{SLOTS, is_few};
-use ild_data::{Octets, block_id};
-use ild_node::{NewHold, NodeView, Rows, index, write_changed};
+use ild_bulk::PlannedBlock;
+use ild_data::Octets;
+use ild_node::{BUCKET_SIZE, NewHold, NodeView, Rows, index, write_changed};
 use std::alloc::{AllocError, Global};
 
 /// The slot of rows that a bucket takes.
@@ -59,7 +59,7 @@ fn lift(
     view: NodeView<'_>,
     i: u8,
     slot: Option<NewHold>,
-    plan: &mut Vec<Octets>,
+    plan: &mut Vec<PlannedBlock>,
 ) -> Result<Option<NewHold>, AllocError>
     requires known { ∥ SomeNode view ∥₁ }
     requires filled { IsFilledSlot usual slot }
@@ -70,8 +70,8 @@ fn lift(
     if is_few(view, i, &slot) {
         return gathered(alloc, view, i, slot);
     }
-    let block = write_changed(alloc, view, i, &slot)?;
-    let id = block_id(block.as_slice());
+    let block = PlannedBlock::of(write_changed(alloc, view, i, &slot)?);
+    let id = block.id();
     plan.push(block)?;
     Ok(Some(NewHold::Child(id)))
 }
@@ -93,7 +93,7 @@ fn lift_block(
     hash: &[u8; 32],
     depth: u32,
     slot: Option<NewHold>,
-    plan: &mut Vec<Octets>,
+    plan: &mut Vec<PlannedBlock>,
 ) -> Result<Option<NewHold>, AllocError>
     requires { IsFilledSlot usual slot }
     ensures filled { IfOk result (IsFilledSlot usual) }
@@ -116,7 +116,7 @@ pub(crate) fn climb(
     hash: &[u8; 32],
     depth: u32,
     slot: Option<NewHold>,
-    plan: &mut Vec<Octets>,
+    plan: &mut Vec<PlannedBlock>,
 ) -> Result<Octets, AllocError>
     requires { IsFilledSlot usual slot }
     ensures { (h : List ℕ → List ℕ) (k : List ℕ) (slots : List TrieSlot) (es fs : List (List ℕ × Data)) → HasSlots usual root.entry slots → IsRootOf h usual es slots → DiffersAt k es fs

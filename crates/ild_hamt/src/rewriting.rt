@@ -13,13 +13,13 @@ ghost use Rattle.ild_hamt.specs.Rewriting.{ClimbState, DiffersAt, Rewrites};
 ghost use Rattle.ild_hamt.specs.Seen.{Shows};
 ghost use Rattle.ild_hamt.specs.Way.{IsRootOf, slot_for};
 
-use crate::ending::{BUCKET_SIZE, LEVELS, slot_at};
+use crate::ending::slot_at;
 use crate::lifting::{climb, few_slot};
 use crate::reading::{view_again, view_in};
-use ild_bulk::{any_long, is_long, plan_slot, put_all};
+use ild_bulk::{PlannedBlock, any_long, is_long, plan_slot, put_all};
 use ild_data::{KeyHash, Octets};
 use ild_edges::Store;
-use ild_node::{HamtFault, NewHold, NodeSlot, NodeView, Rows};
+use ild_node::{BUCKET_SIZE, HamtFault, LEVELS, NewHold, NodeSlot, NodeView, Rows};
 use std::alloc::Global;
 
 // The node in which a way through these blocks ends.
@@ -61,7 +61,7 @@ pub(crate) fn slot_of<H: KeyHash>(
     rows: Rows,
     depth: u32,
     keys: &H,
-    plan: &mut Vec<Octets>,
+    plan: &mut Vec<PlannedBlock>,
 ) -> Result<Option<NewHold>, HamtFault>
     ensures filled { IfOk result (IsFilledSlot usual) }
     ensures plans { PlansSlot H.hash_of usual (trie_levels usual - depth) depth rows result plan.old.items plan.new.items }
@@ -81,7 +81,7 @@ pub(crate) fn rewrite<K: Store>(
     hash: &[u8; 32],
     depth: u32,
     slot: Option<NewHold>,
-    plan: Vec<Octets>,
+    plan: Vec<PlannedBlock>,
     store: &mut K,
 ) -> Result<Octets, HamtFault>
     requires { IsFilledSlot usual slot }

@@ -10,8 +10,7 @@ ghost use Rattle.ild_node.specs.declared.view.NodeView.{NodeView};
 ghost use Rattle.ild_hamt.specs.Gathering.{weight};
 ghost use Rattle.ild_hamt.specs.Seen.{Shows};
 
-use crate::ending::BUCKET_SIZE;
-use ild_node::{NewHold, NodeSlot, NodeView, Slots};
+use ild_node::{BUCKET_SIZE, NewHold, NodeSlot, NodeView, Slots};
 
 /// How many slots a node has.
 pub(crate) const SLOTS: usize = 256;

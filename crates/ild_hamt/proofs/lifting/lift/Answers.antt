@@ -1,6 +1,5 @@
-use Rattle.std.proofs.Common.{length, set, sym, ap, ◌∙◌}
+use Rattle.std.proofs.Common.{length, set, sym, ◌∙◌}
 use Rattle.std.proofs.lemmas.Bool.{leb-true}
-use Rattle.ild_data.specs.Spell.{id_of}
 use Rattle.ild_typed.specs.Composed.{usual}
 use Rattle.ild_node.specs.NewSlots.{slot_seen}
 use Rattle.ild_hamt.proofs.Weights.{ok-lifts, lifts-link}
@@ -13,5 +12,5 @@ returns-then-is_few-clause-lifts c = λ h left depth ss gs has order is.
 
 pub returns-clause-lifts : goal.returns-clause-lifts
 returns-clause-lifts c = λ h left depth ss gs has order is.
-    lifts-link h usual left depth (set ss c.args.i (slot_seen c.args.slot)) gs c.in_ok-block.block _ c.args.plan.now.items c.push.new.self.items (sym (c.is_few.ensures h left depth ss gs has is) ∙ c.if-is_few.false)
-    is (c.in_ok-block.ensures ss has) (c.block_id-id.ensures ∙ ap id_of c.as_slice.ensures.same) c.in_ok-push.ensures.items
+    lifts-link h usual left depth (set ss c.args.i (slot_seen c.args.slot)) gs c.of-block.result _ c.args.plan.now.items c.push.new.self.items (sym (c.is_few.ensures h left depth ss gs has is) ∙ c.if-is_few.false)
+    is (c.of-block.ensures ∙ c.in_ok-write_changed.ensures ss has) c.id-id.ensures c.in_ok-push.ensures.items
