@@ -9,6 +9,7 @@ mod Searches
 mod Ranking
 mod Telling
 mod Among
+mod Holding
 mod Texts
 pub mod Verdicts
 mod Orders

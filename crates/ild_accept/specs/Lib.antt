@@ -3,3 +3,4 @@ pub mod Judged
 pub mod Search
 pub mod Verdict
 pub mod Ordered
+pub mod Held

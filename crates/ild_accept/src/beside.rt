@@ -4,29 +4,33 @@ ghost use Rattle.std.specs.List.{list_any};
 ghost use Rattle.ild_schema.specs.Places.{first_beside, first_place};
 ghost use Rattle.ild_schema.specs.declared.def.Field.{Field};
 ghost use Rattle.ild_schema.specs.Rules.{is_kind_wrong, is_not_bytes, is_optional_wrong, kind_fault, optional_fault, union_kind_fault};
+ghost use Rattle.ild_accept.specs.Held.{HoldsKinds};
 
 use crate::kinds::{declared_kinds, kinds_at};
 use ild_schema::{
-    Field, KindWord, Mark, Member, Schema, StructDef, StructForm, TypeDef, UnionDef, UnionForm,
+    Field, KindWord, Kinds, Mark, Member, Schema, StructDef, StructForm, TypeDef, UnionDef,
+    UnionForm,
 };
 
 /// Whether a member of a union of kinds has others than the one that it declares, or one that was declared before.
-fn is_kind_wrong(schema: &Schema, before: &[Member], member: &Member) -> bool
+fn is_kind_wrong(schema: &Schema, kinds: &[Kinds], before: &[Member], member: &Member) -> bool
+    requires { HoldsKinds schema.now kinds.now }
     ensures { result ≡ is_kind_wrong schema.now before.now member.now }
 {
     match &member.mark {
         Mark::Kind(kind) => {
-            !kinds_at(schema, member.ty).has_only(*kind) || declared_kinds(before).has(*kind)
+            !kinds_at(schema, kinds, member.ty).has_only(*kind) || declared_kinds(before).has(*kind)
         }
         Mark::Bare | Mark::Text(_) => false,
     }
 }
 
-fn kinded_member(schema: &Schema, members: &[Member]) -> Option<usize>
+fn kinded_member(schema: &Schema, kinds: &[Kinds], members: &[Member]) -> Option<usize>
+    requires { HoldsKinds schema.now kinds.now }
     ensures { result ≡ first_beside (is_kind_wrong schema.now) (λ m. m.at) [] members.now }
 {
     for (i, member) in members.iter().enumerate() {
-        if is_kind_wrong(schema, &members[..i], member) {
+        if is_kind_wrong(schema, kinds, &members[..i], member) {
             return Some(member.at);
         }
     }
@@ -34,35 +38,42 @@ fn kinded_member(schema: &Schema, members: &[Member]) -> Option<usize>
 }
 
 /// Whether a member behind a prefix of bytes has other kinds than bytes.
-fn is_not_bytes(schema: &Schema, member: &Member) -> bool
+fn is_not_bytes(schema: &Schema, kinds: &[Kinds], member: &Member) -> bool
+    requires { HoldsKinds schema.now kinds.now }
     ensures { result ≡ is_not_bytes schema.now member.now }
 {
-    matches!(member.mark, Mark::Text(_)) && !kinds_at(schema, member.ty).has_only(KindWord::Bytes)
+    matches!(member.mark, Mark::Text(_))
+        && !kinds_at(schema, kinds, member.ty).has_only(KindWord::Bytes)
 }
 
-fn bytes_member(schema: &Schema, members: &[Member]) -> Option<usize>
+fn bytes_member(schema: &Schema, kinds: &[Kinds], members: &[Member]) -> Option<usize>
+    requires { HoldsKinds schema.now kinds.now }
     ensures { result ≡ first_place (is_not_bytes schema.now) (λ m. m.at) members.now }
 {
-    let member = members.iter().find(|member| is_not_bytes(schema, member))?;
+    let member = members
+        .iter()
+        .find(|member| is_not_bytes(schema, kinds, member))?;
     Some(member.at)
 }
 
-fn union_kind_fault(schema: &Schema, def: &UnionDef) -> Option<usize>
+fn union_kind_fault(schema: &Schema, kinds: &[Kinds], def: &UnionDef) -> Option<usize>
+    requires { HoldsKinds schema.now kinds.now }
     ensures { result ≡ union_kind_fault schema.now def.now.form def.now.members }
 {
     match def.form {
-        UnionForm::Kinded => kinded_member(schema, def.members.as_slice()),
-        UnionForm::BytesPrefix => bytes_member(schema, def.members.as_slice()),
+        UnionForm::Kinded => kinded_member(schema, kinds, def.members.as_slice()),
+        UnionForm::BytesPrefix => bytes_member(schema, kinds, def.members.as_slice()),
         _ => None,
     }
 }
 
 /// The kinds of members are those that are declared, each once.
-pub(crate) fn kind_fault(schema: &Schema, def: &TypeDef) -> Option<usize>
+pub(crate) fn kind_fault(schema: &Schema, kinds: &[Kinds], def: &TypeDef) -> Option<usize>
+    requires { HoldsKinds schema.now kinds.now }
     ensures { result ≡ kind_fault schema.now def.now }
 {
     match def {
-        TypeDef::Union(u) => union_kind_fault(schema, u),
+        TypeDef::Union(u) => union_kind_fault(schema, kinds, u),
         _ => None,
     }
 }

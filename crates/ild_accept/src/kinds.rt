@@ -1,11 +1,13 @@
 //! The kinds that the representation of a type may have (IPLD Schemas, "Representations").
-ghost use Rattle.std.specs.Prelude.{◌≡◌, ◌<◌, length, option_map};
+ghost use Rattle.std.specs.Prelude.{◌≡◌, ◌<◌, IfOk, length, option_map};
 ghost use Rattle.ild_schema.specs.Kinds.{all_but_null, declared_kinds, def_kinds, enum_kinds, has_text_form, kinds_of, map_kinds, meant, struct_kinds, union_kinds, unit_kinds, with_mark};
+ghost use Rattle.ild_accept.specs.Held.{HoldsKinds};
 
 use ild_schema::{
     EnumForm, KindWord, Kinds, MapForm, Mark, Member, Schema, StructForm, TypeDef, TypeNo,
     UnionDef, UnionForm, UnitForm,
 };
+use std::alloc::{AllocError, Global};
 
 /// All kinds but null.
 fn all_but_null() -> Kinds
@@ -128,21 +130,35 @@ pub(crate) fn meant(schema: &Schema, ty: TypeNo) -> Option<&TypeDef>
     }
 }
 
-/// The kinds of a type, or none where it isn't in the table.
-pub(crate) fn kinds_at(schema: &Schema, ty: TypeNo) -> Kinds
+/// The kinds of each type of a table by its number, where a copy has none of its own.
+pub(crate) fn kinds_of_all(alloc: Global, schema: &Schema) -> Result<Vec<Kinds>, AllocError>
+    ensures { IfOk result (λ kinds. HoldsKinds schema.now kinds.items) }
+{
+    let mut kinds = Vec::with_capacity(alloc, schema.types() as usize)?;
+    for n in 0..schema.types() {
+        kinds.push(def_kinds(schema.def(TypeNo(n))))?;
+    }
+    Ok(kinds)
+}
+
+/// The kinds of a type, looked up where copies end, or none where it isn't in the table.
+pub(crate) fn kinds_at(schema: &Schema, kinds: &[Kinds], ty: TypeNo) -> Kinds
+    requires { HoldsKinds schema.now kinds.now }
     ensures { result ≡ kinds_of schema.now ty.0 }
 {
-    match meant(schema, ty) {
-        None => Kinds::none(),
-        Some(def) => def_kinds(def),
+    if ty.0 < schema.types() {
+        kinds[schema.base(ty).0 as usize]
+    } else {
+        Kinds::none()
     }
 }
 
 /// Whether a type stands in a block as a text.
-pub(crate) fn has_text_form(schema: &Schema, ty: TypeNo) -> bool
+pub(crate) fn has_text_form(schema: &Schema, kinds: &[Kinds], ty: TypeNo) -> bool
+    requires { HoldsKinds schema.now kinds.now }
     ensures { result ≡ has_text_form schema.now ty.0 }
 {
-    kinds_at(schema, ty).has_only(KindWord::Text)
+    kinds_at(schema, kinds, ty).has_only(KindWord::Text)
 }
 
 /// The kinds that the representation of a type may have.
@@ -150,5 +166,8 @@ pub fn kinds_of(schema: &Schema, ty: TypeNo) -> Kinds
     requires { ty.0 < length schema.now }
     ensures { result ≡ kinds_of schema.now ty.0 }
 {
-    kinds_at(schema, ty)
+    match meant(schema, ty) {
+        None => Kinds::none(),
+        Some(def) => def_kinds(def),
+    }
 }

@@ -3,48 +3,53 @@ ghost use Rattle.std.specs.Prelude.{◌≡◌, ◌&&◌, not, Some};
 ghost use Rattle.ild_schema.specs.Places.{first_place};
 ghost use Rattle.ild_schema.specs.Rules.{implicit_fault, inline_fault, is_implicit_wrong, is_inline, is_map_struct, is_no_text, is_null_twice, is_of, is_text_map, is_text_struct, is_text_union, key_fault, null_fault, text_fault};
 ghost use Rattle.ild_schema.specs.Kinds.{has_text_form, meant};
+ghost use Rattle.ild_accept.specs.Held.{HoldsKinds};
 
 use crate::kinds::{has_text_form, kinds_at, meant};
 use ild_schema::{
-    Field, MapForm, Scalar, Schema, Slot, StructDef, StructForm, TypeDef, TypeNo, UnionDef,
+    Field, Kinds, MapForm, Scalar, Schema, Slot, StructDef, StructForm, TypeDef, TypeNo, UnionDef,
     UnionForm,
 };
 
 /// Whether what may be null has a value of its type that stands as null too.
-fn is_null_twice(schema: &Schema, slot: &Slot) -> bool
+fn is_null_twice(schema: &Schema, kinds: &[Kinds], slot: &Slot) -> bool
+    requires { HoldsKinds schema.now kinds.now }
     ensures { result ≡ is_null_twice schema.now slot.now }
 {
-    slot.nullable && kinds_at(schema, slot.ty).null
+    slot.nullable && kinds_at(schema, kinds, slot.ty).null
 }
 
-fn null_field(schema: &Schema, def: &StructDef) -> Option<usize>
+fn null_field(schema: &Schema, kinds: &[Kinds], def: &StructDef) -> Option<usize>
+    requires { HoldsKinds schema.now kinds.now }
     ensures { result ≡ first_place (λ f. is_null_twice schema.now f.slot) (λ f. f.at) def.now.fields }
 {
     let field = def
         .fields
         .as_slice()
         .iter()
-        .find(|field| is_null_twice(schema, &field.slot))?;
+        .find(|field| is_null_twice(schema, kinds, &field.slot))?;
     Some(field.at)
 }
 
 /// What may be null has no other value that stands as null.
-pub(crate) fn null_fault(schema: &Schema, def: &TypeDef) -> Option<usize>
+pub(crate) fn null_fault(schema: &Schema, kinds: &[Kinds], def: &TypeDef) -> Option<usize>
+    requires { HoldsKinds schema.now kinds.now }
     ensures { result ≡ null_fault schema.now def.now }
 {
     match def {
-        TypeDef::List { elem, at } => is_null_twice(schema, elem).then_some(*at),
-        TypeDef::Map { value, at, .. } => is_null_twice(schema, value).then_some(*at),
-        TypeDef::Struct(s) => null_field(schema, s),
+        TypeDef::List { elem, at } => is_null_twice(schema, kinds, elem).then_some(*at),
+        TypeDef::Map { value, at, .. } => is_null_twice(schema, kinds, value).then_some(*at),
+        TypeDef::Struct(s) => null_field(schema, kinds, s),
         _ => None,
     }
 }
 
 /// Whether a part of a text may be null, or its type is none in text form.
-fn is_no_text(schema: &Schema, slot: &Slot) -> bool
+fn is_no_text(schema: &Schema, kinds: &[Kinds], slot: &Slot) -> bool
+    requires { HoldsKinds schema.now kinds.now }
     ensures { result ≡ is_no_text schema.now slot.now }
 {
-    slot.nullable || !has_text_form(schema, slot.ty)
+    slot.nullable || !has_text_form(schema, kinds, slot.ty)
 }
 
 fn is_text_struct(form: &StructForm) -> bool
@@ -68,37 +73,40 @@ fn is_text_union(form: &UnionForm) -> bool
     matches!(form, UnionForm::StringPrefix)
 }
 
-fn no_text_field(schema: &Schema, def: &StructDef) -> Option<usize>
+fn no_text_field(schema: &Schema, kinds: &[Kinds], def: &StructDef) -> Option<usize>
+    requires { HoldsKinds schema.now kinds.now }
     ensures { result ≡ first_place (λ f. is_text_struct def.now.form && is_no_text schema.now f.slot) (λ f. f.at) def.now.fields }
 {
     let field = def.fields.as_slice().iter().find(|field| {
-        is_text_struct(&def.form) && is_no_text(schema, &field.slot)
+        is_text_struct(&def.form) && is_no_text(schema, kinds, &field.slot)
     })?;
     Some(field.at)
 }
 
-fn no_text_member(schema: &Schema, def: &UnionDef) -> Option<usize>
+fn no_text_member(schema: &Schema, kinds: &[Kinds], def: &UnionDef) -> Option<usize>
+    requires { HoldsKinds schema.now kinds.now }
     ensures { result ≡ first_place (λ m. is_text_union def.now.form && not (has_text_form schema.now m.ty.0)) (λ m. m.at) def.now.members }
 {
     let member = def.members.as_slice().iter().find(|member| {
-        is_text_union(&def.form) && !has_text_form(schema, member.ty)
+        is_text_union(&def.form) && !has_text_form(schema, kinds, member.ty)
     })?;
     Some(member.at)
 }
 
 /// The parts of a text are texts.
-pub(crate) fn text_fault(schema: &Schema, def: &TypeDef) -> Option<usize>
+pub(crate) fn text_fault(schema: &Schema, kinds: &[Kinds], def: &TypeDef) -> Option<usize>
+    requires { HoldsKinds schema.now kinds.now }
     ensures { result ≡ text_fault schema.now def.now }
 {
     match def {
-        TypeDef::Struct(s) => no_text_field(schema, s),
+        TypeDef::Struct(s) => no_text_field(schema, kinds, s),
         TypeDef::Map {
             value,
             at,
             form,
             ..
-        } => (is_text_map(form) && is_no_text(schema, value)).then_some(*at),
-        TypeDef::Union(u) => no_text_member(schema, u),
+        } => (is_text_map(form) && is_no_text(schema, kinds, value)).then_some(*at),
+        TypeDef::Union(u) => no_text_member(schema, kinds, u),
         _ => None,
     }
 }
@@ -191,11 +199,14 @@ pub(crate) fn inline_fault(schema: &Schema, def: &TypeDef) -> Option<usize>
 }
 
 /// The keys of a map are texts.
-pub(crate) fn key_fault(schema: &Schema, def: &TypeDef) -> Option<usize>
+pub(crate) fn key_fault(schema: &Schema, kinds: &[Kinds], def: &TypeDef) -> Option<usize>
+    requires { HoldsKinds schema.now kinds.now }
     ensures { result ≡ key_fault schema.now def.now }
 {
     match def {
-        TypeDef::Map { key, key_at, .. } => (!has_text_form(schema, *key)).then_some(*key_at),
+        TypeDef::Map { key, key_at, .. } => (!has_text_form(schema, kinds, *key)).then_some(
+            *key_at,
+        ),
         _ => None,
     }
 }

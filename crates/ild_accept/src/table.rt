@@ -9,15 +9,17 @@ ghost use Rattle.ild_schema.specs.Rules.{implicit_fault, inline_fault, key_fault
 ghost use Rattle.ild_schema.specs.Table.{def_at};
 ghost use Rattle.ild_schema.specs.declared.rule.Rule.TheVariants as R;
 ghost use Rattle.ild_accept.specs.Judged.{Tells};
+ghost use Rattle.ild_accept.specs.Held.{HoldsKinds};
 
 use crate::AcceptErr;
 use crate::beside::{kind_fault, optional_fault};
 use crate::clash::name_fault;
 use crate::delimiter::delim_fault;
+use crate::kinds::kinds_of_all;
 use crate::part::{implicit_fault, inline_fault, key_fault, null_fault, text_fault};
 use crate::prefix::prefix_fault;
 use crate::strategy::strategy_fault;
-use ild_schema::{Rule, Schema, TypeDef, TypeNo};
+use ild_schema::{Kinds, Rule, Schema, TypeDef, TypeNo};
 use std::alloc::{AllocError, Global};
 
 fn fails_at(rule: Rule, place: Option<usize>) -> Option<(Rule, usize)>
@@ -33,10 +35,12 @@ fn fails_at(rule: Rule, place: Option<usize>) -> Option<(Rule, usize)>
 fn last_rules(
     alloc: Global,
     schema: &Schema,
+    kinds: &[Kinds],
     ty: TypeNo,
     at: usize,
     def: &TypeDef,
 ) -> Result<Option<(Rule, usize)>, AllocError>
+    requires kinds { HoldsKinds schema.now kinds.now }
     requires within { ty.0 < length schema.now }
     requires def { def_at schema.now ty.0 ≡ Some def.now }
     ensures { IfOk result (λ fault. fault ≡ option_or (fails_at R.NameClash (name_fault schema.now at def.now)) (option_or (fails_at R.InlineMember (inline_fault schema.now def.now)) (option_or (fails_at R.MapKey (key_fault schema.now def.now)) (fails_at R.Strategy (strategy_fault at def.now))))) }
@@ -49,7 +53,7 @@ fn last_rules(
     if inline.is_some() {
         return Ok(inline);
     }
-    let key = fails_at(Rule::MapKey, key_fault(schema, def));
+    let key = fails_at(Rule::MapKey, key_fault(schema, kinds, def));
     if key.is_some() {
         return Ok(key);
     }
@@ -60,10 +64,12 @@ fn last_rules(
 fn later_rules(
     alloc: Global,
     schema: &Schema,
+    kinds: &[Kinds],
     ty: TypeNo,
     at: usize,
     def: &TypeDef,
 ) -> Result<Option<(Rule, usize)>, AllocError>
+    requires kinds { HoldsKinds schema.now kinds.now }
     requires within { ty.0 < length schema.now }
     requires def { def_at schema.now ty.0 ≡ Some def.now }
     ensures { IfOk result (λ fault. fault ≡ option_or (fails_at R.Delim (delim_fault at def.now)) (option_or (fails_at R.NotText (text_fault schema.now def.now)) (option_or (fails_at R.OptionalPlace (optional_fault def.now)) (option_or (fails_at R.Implicit (implicit_fault schema.now def.now)) (option_or (fails_at R.NameClash (name_fault schema.now at def.now)) (option_or (fails_at R.InlineMember (inline_fault schema.now def.now)) (option_or (fails_at R.MapKey (key_fault schema.now def.now)) (fails_at R.Strategy (strategy_fault at def.now))))))))) }
@@ -72,7 +78,7 @@ fn later_rules(
     if delim.is_some() {
         return Ok(delim);
     }
-    let text = fails_at(Rule::NotText, text_fault(schema, def));
+    let text = fails_at(Rule::NotText, text_fault(schema, kinds, def));
     if text.is_some() {
         return Ok(text);
     }
@@ -84,26 +90,28 @@ fn later_rules(
     if implicit.is_some() {
         return Ok(implicit);
     }
-    last_rules(alloc, schema, ty, at, def)
+    last_rules(alloc, schema, kinds, ty, at, def)
 }
 
 /// The first rule that fails for a type at a place, beside that on cycles.
 fn type_fault(
     alloc: Global,
     schema: &Schema,
+    kinds: &[Kinds],
     ty: TypeNo,
     at: usize,
     def: &TypeDef,
 ) -> Result<Option<(Rule, usize)>, AllocError>
+    requires kinds { HoldsKinds schema.now kinds.now }
     requires within { ty.0 < length schema.now }
     requires def { def_at schema.now ty.0 ≡ Some def.now }
     ensures { IfOk result (λ fault. fault ≡ type_fault schema.now at def.now) }
 {
-    let null = fails_at(Rule::NullClash, null_fault(schema, def));
+    let null = fails_at(Rule::NullClash, null_fault(schema, kinds, def));
     if null.is_some() {
         return Ok(null);
     }
-    let kind = fails_at(Rule::KindClash, kind_fault(schema, def));
+    let kind = fails_at(Rule::KindClash, kind_fault(schema, kinds, def));
     if kind.is_some() {
         return Ok(kind);
     }
@@ -111,16 +119,17 @@ fn type_fault(
     if prefix.is_some() {
         return Ok(prefix);
     }
-    later_rules(alloc, schema, ty, at, def)
+    later_rules(alloc, schema, kinds, ty, at, def)
 }
 
 /// Judges each type by the rules beside that on cycles.
 pub(crate) fn judge_types(alloc: Global, schema: &Schema) -> Result<(), AcceptErr>
     ensures { Tells (first_failing schema.now 0 schema.now) result }
 {
+    let kinds = kinds_of_all(alloc, schema)?;
     for n in 0..schema.types() {
         let ty = TypeNo(n);
-        match type_fault(alloc, schema, ty, schema.place(ty), schema.def(ty))? {
+        match type_fault(alloc, schema, &kinds, ty, schema.place(ty), schema.def(ty))? {
             Some((rule, at)) => return Err(AcceptErr::Fault { rule, ty, at }),
             None => {}
         }

@@ -21,7 +21,7 @@ fn bytes_of<'b>(piece: Piece<'b>) -> &'b [u8] {
 }
 
 /// The number of a declared type.
-pub fn number(acc: &Accepted, name: &str) -> Result<TypeNo, &'static str> {
+pub(crate) fn number(acc: &Accepted, name: &str) -> Result<TypeNo, &'static str> {
     acc.type_named(name).ok_or("a type")
 }
 
@@ -44,7 +44,7 @@ fn said<'b>(acc: &'b Accepted, name: &str, block: &'b [u8]) -> Result<Said<'b>, 
 }
 
 /// Each row of a table is said.
-pub fn all_said(rt: &impl Abort, acc: &Accepted, table: &[Row]) -> Result<(), Fail> {
+pub(crate) fn all_said(rt: &impl Abort, acc: &Accepted, table: &[Row]) -> Result<(), Fail> {
     for (name, block, want) in table {
         assert_eq!(rt; said(acc, name, block)?, *want, "{name} {block:?}");
     }

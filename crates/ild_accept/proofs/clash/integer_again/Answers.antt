@@ -29,6 +29,8 @@ loop-member-preserved c =
     record {
       so_far = beside_next (is_value_again E.Int) (λ m. m.at) c.args.def.now.members c.loop-member.member-index c.member-item.result _ (rw c.as_slice-member-items.ensures at c.loop-member-test.true) (rw c.as_slice-member-items.ensures at c.member-item.is) (is ∙ c.if-branch.false) c.loop-member.invariant.so_far;
       size = ap length kept ∙ (rw c.deref_mut.ensures.value at c.is_integer_seen.ensures.size) ∙ c.loop-member.invariant.size;
-      names = λ q. ap (λ ms. is_seen ms (first q)) kept ∙ names_next (λ m. m.name) (is_valued E.Int) first c.args.def.now.members c.loop-member.member-index c.member-item.result c.loop-member.names.items c.is_integer_seen.new.names (rw c.as_slice-member-items.ensures at c.loop-member-test.true) (rw c.as_slice-member-items.ensures at c.member-item.is) (λ t. ap (option_and_then (part_named t)) c.requires.def) c.loop-member.invariant.names (rw c.deref_mut.ensures.value at c.in_ok-is_integer_seen.ensures.names) q;
-      numbers = among_next (λ q g. is_valued E.Int g && are_equal (Some q) (member_integer g)) c.args.def.now.members c.loop-member.member-index c.member-item.result (λ q. contains int_cmp c.loop-member.numbers q) (λ q. contains int_cmp c.is_integer_seen.new.numbers q) (rw c.as_slice-member-items.ensures at c.loop-member-test.true) (rw c.as_slice-member-items.ensures at c.member-item.is) c.loop-member.invariant.numbers c.in_ok-is_integer_seen.ensures.numbers;
+      names = λ q. ap (λ ms. is_seen ms (first q)) kept ∙ names_next (λ m. m.name) (is_valued E.Int) first c.args.def.now.members c.loop-member.member-index c.member-item.result c.loop-member.names.items c.is_integer_seen.new.names
+          (rw c.as_slice-member-items.ensures at c.loop-member-test.true) (rw c.as_slice-member-items.ensures at c.member-item.is) (λ t. ap (option_and_then (part_named t)) c.requires.def) c.loop-member.invariant.names (rw c.deref_mut.ensures.value at c.in_ok-is_integer_seen.ensures.names) q;
+      numbers = among_next (λ q g. is_valued E.Int g && are_equal (Some q) (member_integer g)) c.args.def.now.members c.loop-member.member-index c.member-item.result (λ q. contains int_cmp c.loop-member.numbers q) (λ q. contains int_cmp c.is_integer_seen.new.numbers q)
+          (rw c.as_slice-member-items.ensures at c.loop-member-test.true) (rw c.as_slice-member-items.ensures at c.member-item.is) c.loop-member.invariant.numbers c.in_ok-is_integer_seen.ensures.numbers;
     }

@@ -25,5 +25,6 @@ loop-part-preserved c =
     record {
       so_far = beside_next (is_member_again c.args.schema.now c.args.def.now.form) (λ m. m.at) c.args.def.now.members c.loop-part.part c.member-item.result _ (rw c.as_slice-member-items.ensures at c.loop-part-test.true) (rw c.as_slice-member-items.ensures at c.member-item.is) (is ∙ c.if-is_member_seen.false) c.loop-part.invariant.so_far;
       size = ap length kept ∙ (rw c.deref_mut.ensures.value at c.is_member_seen.ensures.size) ∙ c.loop-part.invariant.size;
-      names = λ q. ap (λ ms. is_seen ms (first q)) kept ∙ names_next (λ m. m.name) (is_marked c.args.def.now.form) first c.args.def.now.members c.loop-part.part c.member-item.result c.loop-part.names.items c.is_member_seen.new.names (rw c.as_slice-member-items.ensures at c.loop-part-test.true) (rw c.as_slice-member-items.ensures at c.member-item.is) (λ t. ap (option_and_then (part_named t)) c.requires.def) c.loop-part.invariant.names (rw c.deref_mut.ensures.value at c.is_member_seen.ensures.names) q;
+      names = λ q. ap (λ ms. is_seen ms (first q)) kept ∙ names_next (λ m. m.name) (is_marked c.args.def.now.form) first c.args.def.now.members c.loop-part.part c.member-item.result c.loop-part.names.items c.is_member_seen.new.names
+          (rw c.as_slice-member-items.ensures at c.loop-part-test.true) (rw c.as_slice-member-items.ensures at c.member-item.is) (λ t. ap (option_and_then (part_named t)) c.requires.def) c.loop-part.invariant.names (rw c.deref_mut.ensures.value at c.is_member_seen.ensures.names) q;
     }
