@@ -115,9 +115,9 @@ const AGREE: [Edit<'static>; 4] = [
 
 /// A word for how an edit ends.
 fn ending(answer: Result<Octets, &'static str>) -> &'static str {
-    match answer {
-        Ok(_) => "root",
-        Err(word) => word,
+    match answer.err() {
+        Some(word) => word,
+        None => "root",
     }
 }
 
