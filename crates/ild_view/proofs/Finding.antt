@@ -33,6 +33,7 @@ use Rattle.ild_schema.specs.declared.def.UnionDef.{UnionDef}
 use Rattle.ild_schema.specs.declared.def.UnionForm.{UnionForm}
 use Rattle.ild_schema.specs.declared.def.UnionForm.TheVariants as UF
 use Rattle.ild_struct.proofs.Placing.{all_at}
+use Rattle.ild_struct.proofs.Splitting.{given_some}
 use Rattle.ild_schema.specs.declared.def.TypeDef.{TypeDef}
 use Rattle.ild_schema.specs.declared.def.TypeDef.TheVariants as D
 use Rattle.ild_schema.specs.declared.def.MapForm.{MapForm}
@@ -291,3 +292,10 @@ pub map_low : (rows : List Row) (found : TypeDef) (key : TypeNo) (key_at : ℕ) 
 map_low rows found key key_at value at form is within =
     let w : IsWithin (length rows) (D.Map key key_at value at form) = subst (IsWithin (length rows)) is within in
     (w.1 0 0 (omega arith), w.1 1 0 (omega arith))
+
+-- the delimiters of pairs are given
+pub pairs_given : (rows : List Row) → IsLegible rows → (ty n : ℕ) (found : TypeDef) (key : TypeNo) (key_at : ℕ) (value : Slot) (at : ℕ) (inner entry : List ℕ) → n ≡ base rows ty → def_at rows n ≡ Some found
+    → found ≡ D.Map key key_at value at (MF.StringPairs inner entry) → (0 < length inner) × (0 < length entry)
+pairs_given rows legible ty n found key key_at value at inner entry same there is =
+    let known : def_at rows n ≡ Some (D.Map key key_at value at (MF.StringPairs inner entry)) = there ∙ ap Some is in
+    (given_some inner (legible.clear.types n (D.Map key key_at value at (MF.StringPairs inner entry)) known), given_some entry (legible.delims n (D.Map key key_at value at (MF.StringPairs inner entry)) known))

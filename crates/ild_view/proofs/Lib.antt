@@ -3,6 +3,9 @@ pub mod Finding
 pub mod Nesting
 pub mod Rooting
 pub mod Rooted
+pub mod Meeting
+pub mod Keyed
+pub mod Texting
 pub mod Stepping
 pub mod Structing
 pub mod Walking

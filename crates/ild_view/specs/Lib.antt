@@ -4,6 +4,8 @@ pub mod Elements
 pub mod Entries
 pub mod Fields
 pub mod Root
+pub mod Keys
+pub mod Texts
 pub mod Parts
 pub mod Ready
 pub mod Opens

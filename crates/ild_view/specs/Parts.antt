@@ -8,6 +8,7 @@ use Rattle.ild_view.specs.declared.parts.Parts.TheVariants as P
 use Rattle.ild_view.specs.Elements.{HasElements, elements_left}
 use Rattle.ild_view.specs.Entries.{HasEntries, entries_left}
 use Rattle.ild_view.specs.Fields.{HasFields, fields_left}
+use Rattle.ild_view.specs.Texts.{HasTexts, texts_left}
 use Rattle.ild_view.specs.Root.{HasRoot, root_left}
 use Rattle.ild_view.specs.Part.{FitsAnywhere, IsFirst, IsSpotted, Takes}
 
@@ -18,6 +19,7 @@ parts_left (P.Map s) = entries_left s
 parts_left (P.Root s) = root_left s
 parts_left (P.Struct s) = fields_left s
 parts_left (P.Member x) = 1
+parts_left (P.Texts s) = texts_left s
 
 abbrev pub HasLeft : List Row → Parts → List Spot → Type 0
 HasLeft rows P.Nothing ps = ps ≡ []
@@ -26,6 +28,7 @@ HasLeft rows (P.Map s) ps = HasEntries s ps
 HasLeft rows (P.Root s) ps = HasRoot s ps
 HasLeft rows (P.Struct s) ps = HasFields rows s ps
 HasLeft rows (P.Member x) ps = Takes rows ps [] x
+HasLeft rows (P.Texts s) ps = HasTexts s ps
 
 pub record SplitsOff (rows : List Row) (ps : List Spot) (o : Option Part) (rest : Parts) : Type 0 where
   pub taken : List Spot

@@ -10,6 +10,7 @@ use crate::entries::Entries;
 use crate::fields::Fields;
 use crate::part::Part;
 use crate::root::RootEntries;
+use crate::text_entries::TextEntries;
 
 /// The parts of a piece that are left, in the order in which they are checked.
 #[derive(Clone, Copy)]
@@ -20,6 +21,7 @@ pub(crate) enum Parts<'b> {
     Root(RootEntries<'b>),
     Struct(Fields<'b>),
     Member(Part<'b>),
+    Texts(TextEntries<'b>),
 }
 
 impl<'b> Parts<'b> {
@@ -48,6 +50,10 @@ impl<'b> Parts<'b> {
                 None => None,
             },
             Parts::Member(part) => Some((Some(*part), Parts::Nothing)),
+            Parts::Texts(entries) => match entries.split_first() {
+                Some((part, behind)) => Some((Some(part), Parts::Texts(behind))),
+                None => None,
+            },
         }
     }
 }

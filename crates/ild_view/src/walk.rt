@@ -17,6 +17,7 @@ use crate::hamt::open_hamt;
 use crate::list::open_list;
 use crate::map::open_map;
 use crate::opening::{Opening, Stop};
+use crate::pairs::open_stringpairs;
 use crate::place::place_of;
 use crate::refusal::{own_refusal, part_refusal};
 use crate::scalar::{open_enum, open_scalar, open_unit};
@@ -66,7 +67,16 @@ fn open_piece<'b>(
         } => match form {
             MapForm::Map => open_map(acc, *key, *value, piece, room),
             MapForm::Hamt => open_hamt(*key, *value, piece, room),
-            MapForm::ListPairs | MapForm::StringPairs(_, _) => Err(Stop::Memory),
+            MapForm::StringPairs(inner, entry) => open_stringpairs(
+                alloc,
+                *key,
+                *value,
+                inner.as_str(),
+                entry.as_str(),
+                piece,
+                room,
+            ),
+            MapForm::ListPairs => Err(Stop::Memory),
         },
         TypeDef::Struct(def) => open_struct(acc, slot.ty, def, piece, room),
         TypeDef::Union(def) => open_union(acc, slot.ty, def, piece, room),

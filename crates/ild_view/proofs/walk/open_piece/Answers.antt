@@ -1,4 +1,4 @@
-use Rattle.std.proofs.Common.{◌≡◌, ℕ, List, Some, sym, ◌∙◌, ap, subst}
+use Rattle.std.proofs.Common.{◌≡◌, ◌<◌, length, ℕ, List, Some, sym, ◌∙◌, ap, subst}
 use Rattle.ild_data.specs.Data.{Data}
 use Rattle.ild_schema.specs.declared.def.TypeDef.{TypeDef}
 use Rattle.ild_schema.specs.declared.def.TypeDef.TheVariants as D
@@ -7,7 +7,7 @@ use Rattle.ild_schema.specs.declared.def.MapForm.TheVariants as MF
 use Rattle.ild_piece.proofs.Stand.{piece_rises}
 use Rattle.ild_view.specs.Opens.{Opens}
 use Rattle.ild_view.specs.Scalars.{scalar_kind}
-use Rattle.ild_view.proofs.Finding.{map_low, type_is}
+use Rattle.ild_view.proofs.Finding.{map_low, pairs_given, type_is}
 use Rattle.ild_view.proofs.walk.open_piece.Goals as goal
 
 pub returns-in-Bool-clause-opens : goal.returns-in-Bool-clause-opens
@@ -73,3 +73,28 @@ pub returns-in-Hamt-clause-ready : goal.returns-in-Hamt-clause-ready
 returns-in-Hamt-clause-ready c =
     let low = map_low c.args.acc.now c.def.result.now c.in-Map.key c.in-Map.key_at c.in-Map.value c.in-Map.at c.in-Map.form c.in-Map.is c.def.ensures.within in
     c.open_hamt.ensures.ready c.args.acc.now low.0 low.1
+
+pub open_stringpairs-requires : goal.open_stringpairs-requires
+open_stringpairs-requires c =
+    let own : MapForm → TypeDef = λ f. D.Map c.in-Map.key c.in-Map.key_at c.in-Map.value c.in-Map.at f in
+    let given = pairs_given c.args.acc.now c.types-types.ensures.legible c.args.slot.ty.0 c.base.result.0 c.def.result.now c.in-Map.key c.in-Map.key_at c.in-Map.value c.in-Map.at c.in-StringPairs.inner c.in-StringPairs.entry
+    c.base.ensures.same c.def.ensures.same (c.in-Map.is ∙ ap own c.in-StringPairs.is) in
+    record {
+      inner_some = subst (λ (s : List ℕ). 0 < length s) (sym c.as_str.ensures.same) given.0;
+      entry_some = subst (λ (s : List ℕ). 0 < length s) (sym c.as_str-in-StringPairs.ensures.same) given.1;
+    }
+
+pub returns-in-StringPairs-clause-opens : goal.returns-in-StringPairs-clause-opens
+returns-in-StringPairs-clause-opens c = λ d t stands is.
+    let own : MapForm → TypeDef = λ f. D.Map c.in-Map.key c.in-Map.key_at c.in-Map.value c.in-Map.at f in
+    let cut : List ℕ → List ℕ → TypeDef = λ a b. D.Map c.in-Map.key c.in-Map.key_at c.in-Map.value c.in-Map.at (MF.StringPairs a b) in
+    let the : d ≡ cut c.in-StringPairs.inner c.in-StringPairs.entry =
+    type_is c.args.acc.now c.args.slot.ty.0 c.base.result.0 c.def.result.now (own c.in-Map.form) d c.base.ensures.same c.def.ensures.same c.in-Map.is is ∙ ap own c.in-StringPairs.is in
+    let texts : cut c.in-StringPairs.inner c.in-StringPairs.entry ≡ cut c.as_str.result.now c.as_str-in-StringPairs.result.now =
+    ap (λ a. cut a c.in-StringPairs.entry) (sym c.as_str.ensures.same) ∙ ap (cut c.as_str.result.now) (sym c.as_str-in-StringPairs.ensures.same) in
+    subst (λ (k : TypeDef). Opens c.args.acc.now c.args.room k t c.open_stringpairs.result) (sym (the ∙ texts)) (c.open_stringpairs.ensures.opens c.args.acc.now c.in-Map.key_at c.in-Map.at t stands)
+
+pub returns-in-StringPairs-clause-ready : goal.returns-in-StringPairs-clause-ready
+returns-in-StringPairs-clause-ready c =
+    let low = map_low c.args.acc.now c.def.result.now c.in-Map.key c.in-Map.key_at c.in-Map.value c.in-Map.at c.in-Map.form c.in-Map.is c.def.ensures.within in
+    c.open_stringpairs.ensures.ready c.args.acc.now low.0 low.1

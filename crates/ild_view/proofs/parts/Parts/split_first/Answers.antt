@@ -46,3 +46,22 @@ returns-in-Some-split_first-3-clause-step c = λ rows ps h.
 pub returns-in-Some-split_first-3-clause-ready : goal.returns-in-Some-split_first-3-clause-ready
 returns-in-Some-split_first-3-clause-ready c = λ rows all.
     c.in-Some-split_first-3.ensures.ready rows (subst (AreReady rows) c.in-Struct.is all)
+
+pub returns-in-Some-split_first-4-clause-step : goal.returns-in-Some-split_first-4-clause-step
+returns-in-Some-split_first-4-clause-step c = λ rows ps h.
+    let x = c.in-Some-split_first-4.ensures.step rows ps (left_as rows c.args.self.now (P.Texts c.in-Texts.entries) ps c.in-Texts.is h) in
+    takes_off rows ps x.0 c.in-Some-split_first-4.part (P.Texts c.in-Some-split_first-4.behind) x.1 x.2
+
+pub returns-in-Some-split_first-4-clause-ready : goal.returns-in-Some-split_first-4-clause-ready
+returns-in-Some-split_first-4-clause-ready c = λ rows all.
+    let own = subst (AreReady rows) c.in-Texts.is all in
+    let x = c.in-Some-split_first-4.ensures.ready rows own.0 own.1 in
+    (x.0, (x.1, x.2))
+
+pub returns-in-None-split_first-3-clause-step : goal.returns-in-None-split_first-3-clause-step
+returns-in-None-split_first-3-clause-step c = λ rows ps h.
+    c.in-None-split_first-3.ensures.step rows ps (left_as rows c.args.self.now (P.Struct c.in-Struct.fields) ps c.in-Struct.is h)
+
+pub returns-in-None-split_first-4-clause-step : goal.returns-in-None-split_first-4-clause-step
+returns-in-None-split_first-4-clause-step c = λ rows ps h.
+    c.in-None-split_first-4.ensures.step rows ps (left_as rows c.args.self.now (P.Texts c.in-Texts.entries) ps c.in-Texts.is h)
