@@ -4,6 +4,7 @@ pub mod Nesting
 pub mod Rooting
 pub mod Rooted
 pub mod Meeting
+pub mod Paired
 pub mod Keyed
 pub mod Texting
 pub mod Stepping

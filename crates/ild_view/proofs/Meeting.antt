@@ -85,3 +85,7 @@ not_true false e = refl
 pub not_false : (b : Bool) → false ≡ not b → b ≡ true
 not_false true e = refl
 not_false false e = absurd cc
+
+pub turned : (a b : Bool) → a ≡ not b → not a ≡ b
+turned a true e = ap not e
+turned a false e = ap not e

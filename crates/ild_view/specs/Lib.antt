@@ -4,6 +4,9 @@ pub mod Elements
 pub mod Entries
 pub mod Fields
 pub mod Root
+pub mod Shape
+pub mod PairEntries
+pub mod Judged
 pub mod Keys
 pub mod Texts
 pub mod Parts

@@ -9,6 +9,7 @@ use Rattle.ild_view.specs.Elements.{HasElements, elements_left}
 use Rattle.ild_view.specs.Entries.{HasEntries, entries_left}
 use Rattle.ild_view.specs.Fields.{HasFields, fields_left}
 use Rattle.ild_view.specs.Texts.{HasTexts, texts_left}
+use Rattle.ild_view.specs.PairEntries.{HasPairs, pairs_left}
 use Rattle.ild_view.specs.Root.{HasRoot, root_left}
 use Rattle.ild_view.specs.Part.{FitsAnywhere, IsFirst, IsSpotted, Takes}
 
@@ -20,6 +21,7 @@ parts_left (P.Root s) = root_left s
 parts_left (P.Struct s) = fields_left s
 parts_left (P.Member x) = 1
 parts_left (P.Texts s) = texts_left s
+parts_left (P.Pairs s) = pairs_left s
 
 abbrev pub HasLeft : List Row → Parts → List Spot → Type 0
 HasLeft rows P.Nothing ps = ps ≡ []
@@ -29,6 +31,7 @@ HasLeft rows (P.Root s) ps = HasRoot s ps
 HasLeft rows (P.Struct s) ps = HasFields rows s ps
 HasLeft rows (P.Member x) ps = Takes rows ps [] x
 HasLeft rows (P.Texts s) ps = HasTexts s ps
+HasLeft rows (P.Pairs s) ps = HasPairs s ps
 
 pub record SplitsOff (rows : List Row) (ps : List Spot) (o : Option Part) (rest : Parts) : Type 0 where
   pub taken : List Spot

@@ -43,6 +43,7 @@ AreReady rows (P.Root s) = IsIn rows (plainly s.key) × IsIn rows s.value
 AreReady rows (P.Struct s) = AreIn rows s.def.now.fields
 AreReady rows (P.Member x) = IsReady rows x
 AreReady rows (P.Texts s) = IsIn rows (plainly s.key) × IsIn rows s.value
+AreReady rows (P.Pairs s) = IsIn rows (plainly s.key) × IsIn rows s.value
 
 abbrev pub IsPartReady : List Row → Option Part → Type 0
 IsPartReady rows None = Unit {0}

@@ -9,12 +9,14 @@ ghost use Rattle.ild_schema.specs.declared.row.Row.{Row};
 ghost use Rattle.ild_view.specs.Opens.{IsOpening, Opens};
 ghost use Rattle.ild_view.specs.Ready.{IsIn};
 
+use crate::judge::pairs_cause;
 use crate::keys::repeats_text;
 use crate::opening::{Opening, Stop};
+use crate::pair_entries::PairEntries;
 use crate::parts::Parts;
 use crate::text_entries::TextEntries;
 use ild_cbor::{Piece, Why};
-use ild_piece::text;
+use ild_piece::{items, text};
 use ild_schema::{Slot, TypeNo};
 use ild_text::pairs;
 use std::alloc::Global;
@@ -59,6 +61,42 @@ pub(crate) fn open_stringpairs<'b>(
     };
     Ok(Some(Opening {
         parts: Parts::Texts(entries),
+        room,
+    }))
+}
+
+/// The pairs of a list.
+pub(crate) fn open_listpairs<'b>(
+    alloc: Global,
+    key: TypeNo,
+    value: Slot,
+    piece: &Piece<'b>,
+    room: u32,
+) -> Result<Option<Opening<'b>>, Stop>
+    ensures opens { (rows : List Row) (key_at at : ℕ) (t : Data) → StandsFor rows piece.now t → Opens rows room (D.Map key key_at value at MF.ListPairs) t result }
+    ensures ready { (rows : List Row) → IsIn rows (plainly key) → IsIn rows value → IsOpening rows room result }
+{
+    let Some(items) = items(piece) else {
+        return Err(Stop::Why(Why::Kind));
+    };
+    let cause = match pairs_cause(alloc, items) {
+        Ok(cause) => cause,
+        Err(_) => return Err(Stop::Memory),
+    };
+    if let Some(why) = cause {
+        return Err(Stop::Why(why));
+    }
+    let Some(room) = room.checked_sub(2) else {
+        return Err(Stop::Why(Why::Depth));
+    };
+    let entries = PairEntries {
+        key,
+        value,
+        items,
+        held: None,
+    };
+    Ok(Some(Opening {
+        parts: Parts::Pairs(entries),
         room,
     }))
 }

@@ -8,6 +8,7 @@ ghost use Rattle.ild_view.specs.Ready.{AreReady, AreReadyBoth};
 use crate::elements::Elements;
 use crate::entries::Entries;
 use crate::fields::Fields;
+use crate::pair_entries::PairEntries;
 use crate::part::Part;
 use crate::root::RootEntries;
 use crate::text_entries::TextEntries;
@@ -22,6 +23,7 @@ pub(crate) enum Parts<'b> {
     Struct(Fields<'b>),
     Member(Part<'b>),
     Texts(TextEntries<'b>),
+    Pairs(PairEntries<'b>),
 }
 
 impl<'b> Parts<'b> {
@@ -52,6 +54,10 @@ impl<'b> Parts<'b> {
             Parts::Member(part) => Some((Some(*part), Parts::Nothing)),
             Parts::Texts(entries) => match entries.split_first() {
                 Some((part, behind)) => Some((Some(part), Parts::Texts(behind))),
+                None => None,
+            },
+            Parts::Pairs(entries) => match entries.split_first() {
+                Some((part, behind)) => Some((Some(part), Parts::Pairs(behind))),
                 None => None,
             },
         }

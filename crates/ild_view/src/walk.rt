@@ -17,7 +17,7 @@ use crate::hamt::open_hamt;
 use crate::list::open_list;
 use crate::map::open_map;
 use crate::opening::{Opening, Stop};
-use crate::pairs::open_stringpairs;
+use crate::pairs::{open_listpairs, open_stringpairs};
 use crate::place::place_of;
 use crate::refusal::{own_refusal, part_refusal};
 use crate::scalar::{open_enum, open_scalar, open_unit};
@@ -76,7 +76,7 @@ fn open_piece<'b>(
                 piece,
                 room,
             ),
-            MapForm::ListPairs => Err(Stop::Memory),
+            MapForm::ListPairs => open_listpairs(alloc, *key, *value, piece, room),
         },
         TypeDef::Struct(def) => open_struct(acc, slot.ty, def, piece, room),
         TypeDef::Union(def) => open_union(acc, slot.ty, def, piece, room),

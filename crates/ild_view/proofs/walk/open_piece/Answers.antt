@@ -98,3 +98,15 @@ pub returns-in-StringPairs-clause-ready : goal.returns-in-StringPairs-clause-rea
 returns-in-StringPairs-clause-ready c =
     let low = map_low c.args.acc.now c.def.result.now c.in-Map.key c.in-Map.key_at c.in-Map.value c.in-Map.at c.in-Map.form c.in-Map.is c.def.ensures.within in
     c.open_stringpairs.ensures.ready c.args.acc.now low.0 low.1
+
+pub returns-in-ListPairs-clause-opens : goal.returns-in-ListPairs-clause-opens
+returns-in-ListPairs-clause-opens c = λ d t stands is.
+    let own : MapForm → TypeDef = λ f. D.Map c.in-Map.key c.in-Map.key_at c.in-Map.value c.in-Map.at f in
+    let the : d ≡ own MF.ListPairs =
+    type_is c.args.acc.now c.args.slot.ty.0 c.base.result.0 c.def.result.now (own c.in-Map.form) d c.base.ensures.same c.def.ensures.same c.in-Map.is is ∙ ap own c.in-ListPairs.is in
+    subst (λ (k : TypeDef). Opens c.args.acc.now c.args.room k t c.open_listpairs.result) (sym the) (c.open_listpairs.ensures.opens c.args.acc.now c.in-Map.key_at c.in-Map.at t stands)
+
+pub returns-in-ListPairs-clause-ready : goal.returns-in-ListPairs-clause-ready
+returns-in-ListPairs-clause-ready c =
+    let low = map_low c.args.acc.now c.def.result.now c.in-Map.key c.in-Map.key_at c.in-Map.value c.in-Map.at c.in-Map.form c.in-Map.is c.def.ensures.within in
+    c.open_listpairs.ensures.ready c.args.acc.now low.0 low.1

@@ -65,3 +65,18 @@ returns-in-None-split_first-3-clause-step c = λ rows ps h.
 pub returns-in-None-split_first-4-clause-step : goal.returns-in-None-split_first-4-clause-step
 returns-in-None-split_first-4-clause-step c = λ rows ps h.
     c.in-None-split_first-4.ensures.step rows ps (left_as rows c.args.self.now (P.Texts c.in-Texts.entries) ps c.in-Texts.is h)
+
+pub returns-in-Some-split_first-5-clause-step : goal.returns-in-Some-split_first-5-clause-step
+returns-in-Some-split_first-5-clause-step c = λ rows ps h.
+    let x = c.in-Some-split_first-5.ensures.step rows ps (left_as rows c.args.self.now (P.Pairs c.in-Pairs.entries) ps c.in-Pairs.is h) in
+    takes_off rows ps x.0 c.in-Some-split_first-5.part (P.Pairs c.in-Some-split_first-5.behind) x.1 x.2
+
+pub returns-in-Some-split_first-5-clause-ready : goal.returns-in-Some-split_first-5-clause-ready
+returns-in-Some-split_first-5-clause-ready c = λ rows all.
+    let own = subst (AreReady rows) c.in-Pairs.is all in
+    let x = c.in-Some-split_first-5.ensures.ready rows own.0 own.1 in
+    (x.0, (x.1, x.2))
+
+pub returns-in-None-split_first-5-clause-step : goal.returns-in-None-split_first-5-clause-step
+returns-in-None-split_first-5-clause-step c = λ rows ps h.
+    c.in-None-split_first-5.ensures.step rows ps (left_as rows c.args.self.now (P.Pairs c.in-Pairs.entries) ps c.in-Pairs.is h)
