@@ -1,5 +1,5 @@
 -- What is found of data of each form by themselves.
-use Rattle.std.proofs.Common.{◌≡◌, ℕ, zero, suc, ◌+◌, ◌<◌, ◌≤◌, List, [], ◌∷◌, length, get_or, map, Bool, true, false, ◌||◌, Option, Some, None, refl, sym, ◌∙◌, ap, subst, arith, inl, inr}
+use Rattle.std.proofs.Common.{◌≡◌, ℕ, zero, suc, ◌+◌, ◌<◌, ◌≤◌, List, [], ◌∷◌, length, get_or, map, Bool, true, false, ◌||◌, Some, None, refl, sym, ◌∙◌, ap, subst, arith, inl}
 use Rattle.std.specs.Prelude.{is_some, slice_get, IfSome}
 use Rattle.std.specs.List.{All, AllByRecursion}
 use Rattle.std.specs.Option.{option_and_then, option_map_or}
@@ -16,7 +16,7 @@ use Rattle.ild_cbor.specs.declared.piece.Piece.{Piece}
 use Rattle.ild_cbor.specs.declared.why.Why.{Why}
 use Rattle.ild_enum.specs.Forms.{IsEnumType, IsUnitType, is_enum, is_unit}
 use Rattle.ild_piece.specs.Answers.{Layered, Refused, told}
-use Rattle.ild_piece.specs.Entries.{HasLeft, Lists, Maps}
+use Rattle.ild_piece.specs.Entries.{Lists, Maps}
 use Rattle.ild_piece.specs.declared.walk.MapEntries.{MapEntries}
 use Rattle.ild_piece.specs.Pieces.{StandsFor, form_key, inline_key, passed_key}
 use Rattle.ild_piece.proofs.Stand.{piece_rises}
@@ -60,7 +60,6 @@ use Rattle.ild_view.specs.declared.part.Part.{Part}
 use Rattle.ild_view.specs.declared.way.Way.{Way}
 use Rattle.ild_view.specs.Part.{IsSpotted}
 use Rattle.ild_view.specs.Ready.{IsInlined, is_struct}
-use Rattle.ild_view.specs.declared.opening.Opening.{Opening}
 use Rattle.ild_view.specs.declared.parts.Parts.TheVariants as P
 use Rattle.ild_view.specs.Opens.{HasOpened}
 use Rattle.ild_view.specs.Scalars.{scalar_kind}

@@ -1,5 +1,5 @@
 -- How deep data nest, part by part.
-use Rattle.std.proofs.Common.{◌≡◌, ℕ, ◌+◌, ◌-◌, ◌<◌, ◌≤◌, List, [], Bool, true, false, Option, Some, None, refl, sym, ◌∙◌, ap, subst, arith, inl}
+use Rattle.std.proofs.Common.{◌≡◌, ℕ, ◌+◌, ◌-◌, ◌<◌, ◌≤◌, List, [], Bool, true, false, Some, None, refl, sym, ◌∙◌, ap, subst, arith, inl}
 use Rattle.std.specs.Prelude.{nat_le, max}
 use Rattle.std.specs.Borrow.{Bor}
 use Rattle.std.proofs.lemmas.Bool.Decides.{nat_tests}
@@ -18,7 +18,7 @@ use Rattle.ild_typed.specs.Causes.{why_of}
 use Rattle.ild_typed.specs.Pieces.{IsWhy, why_at}
 use Rattle.ild_typed.specs.Refused.{AreParts}
 use Rattle.ild_typed.specs.Why as W
-use Rattle.ild_view.proofs.Asking.{deep_at, none_at, own_at}
+use Rattle.ild_view.proofs.Asking.{deep_at, none_at}
 
 max_within : (a b r : ℕ) → nat_le a r ≡ true → nat_le (max a b) r ≡ nat_le b r
 max_within a b r h = grind (arith, nat_tests)

@@ -1,10 +1,10 @@
 -- The pairs of a list, one after another, and what is found of such a map by itself.
-use Rattle.std.proofs.Common.{◌≡◌, ℕ, zero, suc, ◌+◌, ◌<◌, ◌≤◌, List, [], ◌∷◌, ◌++◌, append_assoc, length, map, Bool, true, false, cond, not, ◌||◌, Option, Some, None, refl, sym, ◌∙◌, ap, subst, arith, inl, inr}
+use Rattle.std.proofs.Common.{◌≡◌, ℕ, zero, suc, ◌+◌, ◌<◌, ◌≤◌, List, [], ◌∷◌, ◌++◌, append_assoc, map, Bool, true, false, cond, not, ◌||◌, Some, None, refl, sym, ◌∙◌, ap, subst, arith, inl, inr}
 use Rattle.std.specs.Borrow.{Bor}
 use Rattle.std.specs.BTreeSet.{BTreeSet}
 use Rattle.std.specs.List.{list_any}
 use Rattle.std.specs.Prelude.{◌⊎◌}
-use Rattle.std.proofs.lemmas.Option.{none-some, same_Some}
+use Rattle.std.proofs.lemmas.Option.{same_Some}
 use Rattle.ild_data.specs.Data as T
 use Rattle.ild_data.specs.Data.{Data}
 use Rattle.ild_data.specs.Key.{same_text}
@@ -20,7 +20,6 @@ use Rattle.ild_piece.specs.Answers.{told}
 use Rattle.ild_piece.specs.Entries.{Lists}
 use Rattle.ild_schema.specs.Slots.{plainly}
 use Rattle.ild_schema.specs.declared.def.MapForm.TheVariants as MF
-use Rattle.ild_schema.specs.declared.def.TypeDef.{TypeDef}
 use Rattle.ild_schema.specs.declared.def.TypeDef.TheVariants as D
 use Rattle.ild_schema.specs.declared.number.Slot.{Slot}
 use Rattle.ild_schema.specs.declared.number.TypeNo.{TypeNo}
@@ -29,15 +28,14 @@ use Rattle.ild_struct.proofs.Pairing.{item_end, list_of}
 use Rattle.ild_typed.specs.Causes.{why_of}
 use Rattle.ild_typed.specs.Layer as L
 use Rattle.ild_typed.specs.Layer.{as_map}
-use Rattle.ild_typed.specs.Named.{has_twice, is_among, is_pair, is_two, items_in, items_or, name_of, pair_names, where_some}
-use Rattle.ild_typed.specs.Pieces.{IsWhy, keys_why, repeats_key}
+use Rattle.ild_typed.specs.Named.{has_twice, is_among, is_pair, is_two, items_in, items_or, name_of, pair_names}
+use Rattle.ild_typed.specs.Pieces.{IsWhy, keys_why}
 use Rattle.ild_typed.specs.Spots.{Spot, entry_spots, item, key_spot, value_spot}
 use Rattle.ild_typed.specs.Strings.{listpairs, pair_data}
 use Rattle.ild_typed.specs.Why as W
 use Rattle.ild_typed.specs.WhyLaws.{KeysRise}
 use Rattle.ild_typed.proofs.Basics.{map_from}
 use Rattle.ild_typed.proofs.CleanTypes.{layer_or_why}
-use Rattle.ild_typed.proofs.Onlies.{only_map}
 use Rattle.ild_view.specs.declared.pair_entries.PairEntries.{PairEntries}
 use Rattle.ild_view.specs.declared.part.Part.{Part}
 use Rattle.ild_view.specs.declared.parts.Parts.TheVariants as P

@@ -1,5 +1,5 @@
 -- What is found of the root of a HAMT by itself.
-use Rattle.std.proofs.Common.{◌≡◌, ℕ, ◌+◌, ◌<◌, ◌≤◌, List, [], ◌∷◌, Bool, true, false, not, cond, pos, negsuc, ℤ, Option, Some, None, Err, refl, sym, ◌∙◌, ap, subst, arith, inl, inr}
+use Rattle.std.proofs.Common.{◌≡◌, ℕ, ◌+◌, ◌<◌, ◌≤◌, List, Bool, true, false, not, cond, pos, negsuc, ℤ, Option, Some, None, Err, refl, sym, ◌∙◌, ap, subst, arith, inl, inr}
 use Rattle.std.specs.Prelude.{codes, option_and_then, Result}
 use Rattle.std.proofs.lemmas.Bool.{eq-eqb, eqb-true}
 use Rattle.std.proofs.lemmas.Option.{none-some, same_Some}
@@ -31,12 +31,11 @@ use Rattle.ild_typed.specs.Node.{IsRoot}
 use Rattle.ild_typed.specs.Pieces.{IsWhy, has_odd, is_odd, root_why, why_at}
 use Rattle.ild_typed.specs.RootSpots.{root_spots}
 use Rattle.ild_typed.specs.Why as W
-use Rattle.ild_view.specs.declared.opening.Opening.{Opening}
 use Rattle.ild_view.specs.declared.parts.Parts.TheVariants as P
 use Rattle.ild_view.specs.declared.root.RootEntries.{RootEntries}
 use Rattle.ild_view.specs.Opens.{HasOpened}
 use Rattle.ild_view.specs.Root.{HasRoot}
-use Rattle.ild_view.proofs.Asking.{deep_at, own_at, past_room}
+use Rattle.ild_view.proofs.Asking.{deep_at, past_room}
 
 -- ---- an integer that is another
 
@@ -112,8 +111,12 @@ module _ (room : ℕ) (key : TypeNo) (key_at : ℕ) (value : Slot) (at : ℕ) (t
     root_refused Y.Trie is hash size rootless =
         let no_hash : HasOtherInt t hash_alg 18 → ⊥ = λ h. absurd (trie_not_hash (hash.1 h)) in
         let no_size : HasOtherInt t bucket_size 3 → ⊥ = λ h. absurd (trie_not_size (size.1 (no_hash, h))) in
-        inr (asked ∙ ap (λ b. cond b (Some W.HashAlg) (cond (has_odd (codes "bucketSize") 3 t) (Some W.BucketSize) None)) (even_there t hash_alg 18 map no_hash)
-        ∙ ap (λ b. cond b (Some W.BucketSize) None) (even_there t bucket_size 3 map no_size), rootless, refl)
+        inr (
+          asked ∙ ap (λ b. cond b (Some W.HashAlg) (cond (has_odd (codes "bucketSize") 3 t) (Some W.BucketSize) None)) (even_there t hash_alg 18 map no_hash)
+              ∙ ap (λ b. cond b (Some W.BucketSize) None) (even_there t bucket_size 3 map no_size),
+          rootless,
+          refl,
+        )
       where
         trie_not_hash : Y.Trie ≡ Y.HashAlg → ⊥
         trie_not_hash e = cc

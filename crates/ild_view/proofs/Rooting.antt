@@ -1,5 +1,5 @@
 -- The entries in the block of a HAMT's root, one after another, and what is found of such a root by itself.
-use Rattle.std.proofs.Common.{◌≡◌, ℕ, zero, suc, ◌+◌, ◌<◌, ◌≤◌, List, [], ◌∷◌, ◌++◌, length, drop, get_or, Bool, true, false, Option, Some, None, refl, sym, ◌∙◌, ap, subst, arith, inl, inr}
+use Rattle.std.proofs.Common.{◌≡◌, ℕ, zero, suc, ◌+◌, ◌<◌, ◌≤◌, List, [], ◌∷◌, ◌++◌, length, drop, get_or, true, false, Option, Some, None, refl, sym, ◌∙◌, ap, subst, arith}
 use Rattle.std.specs.Prelude.{slice_get}
 use Rattle.std.specs.List.{AllByRecursion}
 use Rattle.std.specs.Borrow.{Bor}
@@ -11,10 +11,8 @@ use Rattle.ild_data.specs.Trie.{TrieSlot}
 use Rattle.ild_data.specs.declared.id.BlockId.{BlockId}
 use Rattle.ild_cbor.specs.declared.node.Node.{Node}
 use Rattle.ild_cbor.specs.declared.piece.Piece.TheVariants as Q
-use Rattle.ild_cbor.specs.Nodes.{Stands}
-use Rattle.ild_node.specs.Form.{IsNode}
 use Rattle.ild_node.specs.Steps.{IsAtSlot, SlotStep}
-use Rattle.ild_node.specs.Views.{EntryIs, HasEntries, HasSlots, SlotHolds, SlotIs}
+use Rattle.ild_node.specs.Views.{EntryIs, HasEntries, HasSlots, SlotHolds}
 use Rattle.ild_node.specs.declared.bucket.Bucket.{Bucket}
 use Rattle.ild_node.specs.declared.slots.Slots.{Slots}
 use Rattle.ild_node.specs.declared.view.NodeSlot.{NodeSlot}
@@ -27,7 +25,7 @@ use Rattle.ild_schema.specs.declared.row.Row.{Row}
 use Rattle.ild_typed.specs.Composed.{usual}
 use Rattle.ild_typed.specs.Node.{IsSlot}
 use Rattle.ild_typed.specs.RootSpots.{bucket_spots, in_node, root_spots}
-use Rattle.ild_typed.specs.Spots.{Spot, Step, key_spot, value_spot}
+use Rattle.ild_typed.specs.Spots.{Spot, key_spot, value_spot}
 use Rattle.ild_view.specs.declared.part.Part.{Part}
 use Rattle.ild_view.specs.declared.root.RootEntries.{RootEntries}
 use Rattle.ild_view.specs.declared.way.Way.{Way}

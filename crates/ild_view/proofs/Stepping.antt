@@ -1,8 +1,6 @@
 -- The first of the parts that are left, form by form.
-use Rattle.std.proofs.Common.{◌≡◌, ℕ, ◌+◌, List, [], ◌∷◌, Option, Some, None, false, true, refl, sym, ◌∙◌, ap, subst}
+use Rattle.std.proofs.Common.{◌≡◌, ℕ, ◌+◌, List, [], ◌∷◌, Some, None, true, refl, sym, ◌∙◌, ap, subst}
 use Rattle.std.specs.Borrow.{Bor}
-use Rattle.ild_data.specs.Data as T
-use Rattle.ild_data.specs.Data.{Data}
 use Rattle.ild_cbor.specs.declared.node.Node.{Node}
 use Rattle.ild_cbor.specs.declared.piece.Piece.TheVariants as P
 use Rattle.ild_piece.specs.Entries.{EntriesGive}
@@ -13,10 +11,8 @@ use Rattle.ild_schema.specs.declared.def.MapForm.TheVariants as MF
 use Rattle.ild_schema.specs.declared.row.Row.{Row}
 use Rattle.ild_typed.specs.Spots.{Spot, entry_spots, key_spot, value_spot, key, under}
 use Rattle.ild_view.specs.declared.entries.Entries.{Entries}
-use Rattle.ild_view.specs.declared.elements.Elements.{Elements}
 use Rattle.ild_view.specs.declared.part.Part.{Part}
 use Rattle.ild_view.specs.declared.parts.Parts.{Parts}
-use Rattle.ild_view.specs.declared.parts.Parts.TheVariants as R
 use Rattle.ild_view.specs.declared.way.Way.{Way}
 use Rattle.ild_view.specs.Entries.{HasEntries, IsHeld}
 use Rattle.ild_view.specs.Part.{IsSpotted, Takes}

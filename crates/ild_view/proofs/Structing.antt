@@ -2,14 +2,12 @@
 use Rattle.std.proofs.Common.{◌≡◌, ℕ, zero, suc, ◌+◌, ◌<◌, ◌≤◌, List, [], ◌∷◌, ◌++◌, length, drop, map, Bool, true, false, cond, Option, Some, None, refl, sym, ◌∙◌, ap, subst, arith, inl, inr}
 use Rattle.std.specs.Prelude.{slice_get, ◌⊎◌}
 use Rattle.std.specs.List.{All, AllByRecursion}
-use Rattle.std.specs.Option.{option_and_then}
 use Rattle.std.proofs.lemmas.Option.{none-some, same_Some}
 use Rattle.ild_data.specs.Data as T
 use Rattle.ild_data.specs.Data.{Data}
 use Rattle.ild_data.specs.Tree.{IsTree}
 use Rattle.ild_cbor.specs.declared.piece.Piece.{Piece}
 use Rattle.ild_cbor.specs.declared.piece.Piece.TheVariants as Q
-use Rattle.ild_piece.specs.Answers.{Layered}
 use Rattle.ild_piece.specs.Pieces.{IsNumbered, StandsFor}
 use Rattle.ild_schema.specs.Clear.{IsClear}
 use Rattle.ild_schema.specs.Copies.{base}
@@ -23,16 +21,15 @@ use Rattle.ild_schema.specs.declared.def.Field.{Field}
 use Rattle.ild_schema.specs.declared.def.Scalar.{Scalar}
 use Rattle.ild_schema.specs.declared.def.Scalar.TheVariants as C
 use Rattle.ild_schema.specs.declared.def.StructDef.{StructDef}
-use Rattle.ild_schema.specs.declared.def.StructForm.{StructForm}
 use Rattle.ild_schema.specs.declared.def.TypeDef.{TypeDef}
 use Rattle.ild_schema.specs.declared.def.TypeDef.TheVariants as D
 use Rattle.ild_schema.specs.declared.number.Slot.{Slot}
 use Rattle.ild_schema.specs.declared.row.Row.{Row}
-use Rattle.ild_struct.specs.Parts.{ArePartsOf, HasParts, IsFieldOf, IsPart, fields_of}
+use Rattle.ild_struct.specs.Parts.{HasParts, IsFieldOf, IsPart, fields_of}
 use Rattle.ild_struct.specs.declared.part.Part.{Part as Held}
 use Rattle.ild_struct.specs.declared.parts.StructParts.{StructParts}
 use Rattle.ild_typed.specs.Composed.{composed}
-use Rattle.ild_typed.specs.Fields.{is_implicit, is_scalar}
+use Rattle.ild_typed.specs.Fields.{is_implicit}
 use Rattle.ild_typed.specs.Fits.{Fits}
 use Rattle.ild_typed.specs.Hamt.{alone}
 use Rattle.ild_typed.specs.Layer as L
@@ -45,11 +42,10 @@ use Rattle.ild_typed.proofs.Structs.{scalar_data, scalar_same}
 use Rattle.ild_typed.proofs.WalkTotal.{plain_fits}
 use Rattle.ild_union.specs.Forms.{passes_over}
 use Rattle.ild_view.specs.declared.fields.Fields.{Fields}
-use Rattle.ild_view.specs.declared.opening.Opening.{Opening}
 use Rattle.ild_view.specs.declared.part.Part.{Part}
 use Rattle.ild_view.specs.declared.parts.Parts.TheVariants as P
 use Rattle.ild_view.specs.declared.way.Way.{Way}
-use Rattle.ild_view.specs.Fields.{FieldsLeft, Handed, HasFields, SplitsField}
+use Rattle.ild_view.specs.Fields.{FieldsLeft, Handed}
 use Rattle.ild_view.specs.Opens.{HasOpened}
 use Rattle.ild_view.specs.Part.{FitsAnywhere, IsSpotted}
 use Rattle.ild_view.proofs.Asking.{deep_at, none_at}

@@ -1,5 +1,5 @@
 -- The pairs of a text, one after another, and what is found of such a map by itself.
-use Rattle.std.proofs.Common.{◌≡◌, ℕ, ◌+◌, ◌<◌, ◌≤◌, List, [], ◌∷◌, length, Bool, true, false, cond, not, Option, option_map, Some, None, refl, sym, ◌∙◌, ap, subst, arith, inl}
+use Rattle.std.proofs.Common.{◌≡◌, ℕ, ◌+◌, ◌<◌, List, [], ◌∷◌, length, Bool, true, false, cond, not, option_map, Some, None, refl, sym, ◌∙◌, ap, subst, arith, inl}
 use Rattle.std.specs.Borrow.{Bor}
 use Rattle.std.specs.Option.{option_and_then}
 use Rattle.std.proofs.lemmas.Option.{none-some, same_Some}
@@ -23,7 +23,7 @@ use Rattle.ild_typed.specs.Cuts as Cuts
 use Rattle.ild_typed.specs.Cuts.{is_split_pairs}
 use Rattle.ild_typed.specs.Layer as L
 use Rattle.ild_typed.specs.Named.{has_twice, names, split_entries, where_some}
-use Rattle.ild_typed.specs.Pieces.{IsWhy, keys_why, repeats_key, why_at}
+use Rattle.ild_typed.specs.Pieces.{IsWhy, keys_why, repeats_key}
 use Rattle.ild_typed.specs.Spots.{Spot, entry_spots, key_spot, value_spot}
 use Rattle.ild_typed.specs.Strings.{text_in, text_pairs}
 use Rattle.ild_typed.specs.Texts.{join_pairs}

@@ -1,15 +1,13 @@
 -- The walk over a piece and its parts: what is known of the parts behind, and of those ahead.
-use Rattle.std.proofs.Common.{◌≡◌, ℕ, zero, suc, ◌+◌, ◌-◌, ◌<◌, List, [], ◌∷◌, ◌++◌, append_assoc, length, Bool, true, false, cond, Option, Some, None, Ok, Err, refl, sym, ◌∙◌, ap, subst, arith, inl, inr}
+use Rattle.std.proofs.Common.{◌≡◌, ℕ, zero, suc, ◌+◌, ◌-◌, ◌<◌, List, [], ◌∷◌, ◌++◌, append_assoc, length, Bool, true, false, cond, Some, None, Ok, Err, refl, sym, ◌∙◌, ap, subst, arith, inl, inr}
 use Rattle.std.specs.Prelude.{◌⊎◌}
 use Rattle.std.specs.List.{AllByRecursion}
-use Rattle.std.proofs.lemmas.Option.{none-some, same_Some}
 use Rattle.ild_data.specs.Data.{Data}
 use Rattle.ild_data.specs.Tree.{IsTree}
 use Rattle.ild_cbor.specs.declared.why.Why.{Why}
 use Rattle.ild_cbor.specs.declared.why.Why.TheVariants as Y
 use Rattle.ild_piece.specs.Answers.{told}
 use Rattle.ild_piece.specs.Pieces.{StandsFor}
-use Rattle.ild_schema.specs.Copies.{base}
 use Rattle.ild_schema.specs.Kinds.{meant}
 use Rattle.ild_schema.specs.Legible.{IsLegible}
 use Rattle.ild_schema.specs.Slots.{form_of}
@@ -76,9 +74,17 @@ part_refused rows (suc room) left s t d there is none done p others parts sum le
     let same : room ≡ left + (needs d t - 1) = omega (arith, sum, less) in
     let shown : AllByRecursion (λ (x : Spot). Shows fits rows x.slot x.tree) done =
     all_more (λ (x : Spot). Shows (Fits rows left) rows x.slot x.tree) (λ (x : Spot). Shows fits rows x.slot x.tree)
-    (λ x k. shows_more rows (Fits rows left) fits (λ u v m. past_fits rows (needs d t - 1) left room same u v m) x.slot x.tree k) done all in
-    (there, d, is, inr (none, done ++ p ∷ others, parts,
-    first_behind rows fits (RefusedPast rows room (needs d t - 1)) done p others q shown (past_refused rows (needs d t - 1) left room same p.slot p.tree q h)))
+    (λ x k. shows_more rows (Fits rows left) fits (λ u v m. past_fits rows (needs d t - 1) left room same u v m) x.slot x.tree k) done all in (
+      there,
+      d,
+      is,
+      inr (
+        none,
+        done ++ p ∷ others,
+        parts,
+        first_behind rows fits (RefusedPast rows room (needs d t - 1)) done p others q shown (past_refused rows (needs d t - 1) left room same p.slot p.tree q h),
+      ),
+    )
 
 -- ---- what is told of a part
 

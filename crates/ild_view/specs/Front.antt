@@ -1,5 +1,5 @@
 -- The front of a piece: what it shows of a value of a slot's type by itself.
-use Rattle.std.specs.Prelude.{◌≡◌, ℕ, List}
+use Rattle.std.specs.Prelude.{ℕ, List}
 use Rattle.ild_data.specs.Data.{Data}
 use Rattle.ild_cbor.specs.declared.piece.Piece.{Piece}
 use Rattle.ild_piece.specs.Pieces.{StandsFor}

@@ -1,5 +1,5 @@
 -- The parts of a piece that are left, as spots of the walk, and the first of them.
-use Rattle.std.specs.Prelude.{◌≡◌, ℕ, List, [], ◌∷◌, ◌++◌, Option, Some, None}
+use Rattle.std.specs.Prelude.{◌≡◌, ℕ, List, [], ◌++◌, Option, Some, None}
 use Rattle.ild_schema.specs.declared.row.Row.{Row}
 use Rattle.ild_typed.specs.Spots.{Spot}
 use Rattle.ild_view.specs.declared.part.Part.{Part}
@@ -11,7 +11,7 @@ use Rattle.ild_view.specs.Fields.{HasFields, fields_left}
 use Rattle.ild_view.specs.Texts.{HasTexts, texts_left}
 use Rattle.ild_view.specs.PairEntries.{HasPairs, pairs_left}
 use Rattle.ild_view.specs.Root.{HasRoot, root_left}
-use Rattle.ild_view.specs.Part.{FitsAnywhere, IsFirst, IsSpotted, Takes}
+use Rattle.ild_view.specs.Part.{IsFirst, Takes}
 
 abbrev pub parts_left : Parts → ℕ
 parts_left P.Nothing = 0

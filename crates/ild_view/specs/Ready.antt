@@ -1,5 +1,5 @@
 -- What a check of a piece asks for: the slot's type is in the table, and an entry of a map is passed over in a struct alone.
-use Rattle.std.specs.Prelude.{◌≡◌, ℕ, ◌<◌, Bool, true, false, List, length, Option, Some, None}
+use Rattle.std.specs.Prelude.{◌≡◌, ◌<◌, Bool, true, false, List, length, Option, Some, None}
 use Rattle.std.specs.List.{AllByRecursion}
 use Rattle.std.specs.Option.{option_map_or}
 use Rattle.ild_cbor.specs.declared.piece.Piece.{Piece}

@@ -1,5 +1,5 @@
 -- What an item of a list of pairs is (IPLD Schemas, "listpairs").
-use Rattle.std.specs.Prelude.{◌≡◌, true, false, List, Option, Some}
+use Rattle.std.specs.Prelude.{◌≡◌, true, false}
 use Rattle.ild_data.specs.Data.{Data}
 use Rattle.ild_cbor.specs.Nodes.{Stands}
 use Rattle.ild_typed.specs.Named.{is_pair, is_two}

@@ -1,5 +1,5 @@
 -- What a check of an item answers: a view of it, or the refusal of the walk.
-use Rattle.std.specs.Prelude.{◌≡◌, ℕ, ◌⊎◌, List, Result, Ok, Err}
+use Rattle.std.specs.Prelude.{◌≡◌, ℕ, List, Result, Ok, Err}
 use Rattle.ild_data.specs.Data.{Data}
 use Rattle.ild_cbor.specs.declared.node.Node.{Node}
 use Rattle.ild_cbor.specs.declared.piece.Piece.{Piece}

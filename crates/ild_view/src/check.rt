@@ -46,11 +46,7 @@ impl<'b> View<'b> {
     {
         let piece = Piece::Node(node);
         match check_piece(alloc, acc, slot, &piece, room) {
-            Ok(()) => Ok(View {
-                acc,
-                slot,
-                piece,
-            }),
+            Ok(()) => Ok(View { acc, slot, piece }),
             Err(fault) => Err(in_block(&node, fault)),
         }
     }

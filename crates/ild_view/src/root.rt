@@ -34,7 +34,11 @@ fn entry_at<'b>(bucket: &Bucket<'b>, i: usize) -> Option<(&'b str, Node<'b>)>
     ensures entry { (es : List (List ℕ × Data)) → HasEntries bucket.now es → length es ≤ 3 → EntryIs bucket.now es i (slice_get es i) result }
     ensures most { IfSome result (λ r. i < 3) }
 {
-    if i < MOST_ENTRIES { bucket.entry(i) } else { None }
+    if i < MOST_ENTRIES {
+        bucket.entry(i)
+    } else {
+        None
+    }
 }
 
 impl<'b> RootEntries<'b> {

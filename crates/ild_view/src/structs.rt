@@ -54,10 +54,7 @@ impl<'b> Fields<'b> {
             next: self.next + 1,
         };
         match piece_of(self.parts.field(self.next)) {
-            Some(piece) => Some((
-                Some(value_part(field.slot, piece, Way::Here)),
-                behind,
-            )),
+            Some(piece) => Some((Some(value_part(field.slot, piece, Way::Here)), behind)),
             None => Some((None, behind)),
         }
     }

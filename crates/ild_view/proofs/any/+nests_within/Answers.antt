@@ -1,4 +1,4 @@
-use Rattle.std.proofs.Common.{◌≡◌, true, false, arith, sym, ◌∙◌}
+use Rattle.std.proofs.Common.{sym, ◌∙◌}
 use Rattle.ild_view.proofs.Nesting.{items_on, members_on, not_false}
 use Rattle.ild_view.proofs.any.+nests_within.Goals as goal
 

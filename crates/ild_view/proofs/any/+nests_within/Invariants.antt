@@ -1,4 +1,4 @@
-use Rattle.std.proofs.Common.{◌≡◌, ◌-◌}
+use Rattle.std.proofs.Common.{◌-◌}
 use Rattle.ild_data.specs.Data.{Data}
 use Rattle.ild_cbor.specs.Nodes.{Stands}
 use Rattle.ild_view.proofs.Nesting.{ItemsNest, MembersNest}

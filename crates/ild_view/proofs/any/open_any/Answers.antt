@@ -1,4 +1,4 @@
-use Rattle.std.proofs.Common.{◌≡◌, true, false, sym, subst, ◌∙◌}
+use Rattle.std.proofs.Common.{sym, subst, ◌∙◌}
 use Rattle.ild_piece.specs.Pieces.{StandsFor}
 use Rattle.ild_view.proofs.Nesting.{any_plain, bytes_any, text_any}
 use Rattle.ild_view.proofs.any.open_any.Goals as goal

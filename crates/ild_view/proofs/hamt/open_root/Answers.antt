@@ -1,7 +1,6 @@
-use Rattle.std.proofs.Common.{◌≡◌, ◌+◌, ◌≤◌, Err, refl, ap, sym, ◌∙◌, arith}
+use Rattle.std.proofs.Common.{◌≡◌, ◌≤◌, Err, refl, ap, sym, ◌∙◌, arith}
 use Rattle.ild_cbor.specs.Scalar.{kind_of}
 use Rattle.ild_cbor.specs.declared.kind.Kind.TheVariants as K
-use Rattle.ild_cbor.specs.declared.why.Why.{Why}
 use Rattle.ild_cbor.specs.declared.why.Why.TheVariants as Y
 use Rattle.ild_view.proofs.Rooted.{err_same, false_true, hamt_opens, root_refused}
 use Rattle.ild_view.proofs.hamt.open_root.Goals as goal

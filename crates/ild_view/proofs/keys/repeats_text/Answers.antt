@@ -1,4 +1,4 @@
-use Rattle.std.proofs.Common.{◌≡◌, ℕ, List, sym, ◌∙◌, ap}
+use Rattle.std.proofs.Common.{sym, ◌∙◌, ap}
 use Rattle.ild_struct.specs.Source.{text_entries}
 use Rattle.ild_text.specs.Parts.{pairs_in}
 use Rattle.ild_typed.specs.Named.{names}

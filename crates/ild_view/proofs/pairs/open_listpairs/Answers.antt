@@ -1,5 +1,4 @@
-use Rattle.std.proofs.Common.{◌≡◌, ◌<◌, Option, Some, None, subst, arith}
-use Rattle.ild_data.specs.Data as T
+use Rattle.std.proofs.Common.{subst, arith}
 use Rattle.ild_data.specs.Data.{items_list}
 use Rattle.ild_view.specs.Judged.{IsJudged}
 use Rattle.ild_view.proofs.Paired.{pairs_deep, pairs_open, pairs_refused, under_two}

@@ -1,4 +1,4 @@
-use Rattle.std.proofs.Common.{◌≡◌, sym, ◌∙◌, refl, arith, inl}
+use Rattle.std.proofs.Common.{sym, ◌∙◌, refl, arith}
 use Rattle.ild_text.specs.Parts.{pairs_in}
 use Rattle.ild_view.proofs.Finding.{under_one}
 use Rattle.ild_view.proofs.Texting.{text_deep, text_opens, text_repeats, text_unsplit, split_never}

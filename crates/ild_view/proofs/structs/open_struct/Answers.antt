@@ -1,4 +1,4 @@
-use Rattle.std.proofs.Common.{◌<◌, ◌≤◌, refl, arith}
+use Rattle.std.proofs.Common.{◌<◌, refl, arith}
 use Rattle.std.proofs.Common.{length}
 use Rattle.ild_view.proofs.Structing.{fields_low, struct_deep, struct_opens, under}
 use Rattle.ild_view.proofs.structs.open_struct.Goals as goal

@@ -1,8 +1,6 @@
-use Rattle.std.proofs.Common.{arith, ◌≡◌, ◌<◌, ap, sym, subst, ◌∙◌, List, get_or, length, false, Some}
+use Rattle.std.proofs.Common.{arith, ◌≡◌, ◌<◌, ap, sym, subst, ◌∙◌, List, get_or, length, Some}
 use Rattle.std.specs.Prelude.{slice_get}
-use Rattle.ild_cbor.specs.declared.piece.Piece.{Piece}
 use Rattle.ild_schema.specs.Copies.{base}
-use Rattle.ild_schema.specs.Slots.{plainly}
 use Rattle.ild_schema.specs.declared.def.Member.{Member}
 use Rattle.ild_schema.specs.declared.row.Row.{Row}
 use Rattle.ild_view.specs.Ready.{IsReady}

@@ -1,5 +1,4 @@
-use Rattle.std.proofs.Common.{◌≡◌, ℕ, List, Some, None, Ok, sym, ◌∙◌, ap, subst, true, false, arith}
-use Rattle.ild_data.specs.Data.{Data}
+use Rattle.std.proofs.Common.{List, Some, Ok, sym, ◌∙◌, subst, arith}
 use Rattle.ild_schema.specs.declared.row.Row.{Row}
 use Rattle.ild_typed.specs.Schema.{IsSchema}
 use Rattle.ild_view.specs.Opens.{IsOpening, Opens}
