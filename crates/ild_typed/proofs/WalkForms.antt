@@ -68,7 +68,7 @@ followed_low rows within (suc k) n h = by (target_in (def_at rows n)) refl (foll
   by None is more = h
   by (Some t) is more = more t (target_here rows within n t is)
 
-form_there : (rows : List Row) → All (λ r. IsWithin (length rows) r.def) rows → (s : Slot) → s.ty.0 < length rows → HasForm rows s
+pub form_there : (rows : List Row) → All (λ r. IsWithin (length rows) r.def) rows → (s : Slot) → s.ty.0 < length rows → HasForm rows s
 form_there rows within s h =
     there_at rows (base rows s.ty.0) (followed_low rows within (length rows) s.ty.0 h)
 

@@ -62,6 +62,7 @@ use Rattle.ild_typed.proofs.CleanPairs.{pairs_names}
 use Rattle.ild_typed.proofs.CleanStructs.{split_of_pairs}
 use Rattle.ild_typed.proofs.CleanTypes.{LayerFor, layer_for}
 use Rattle.ild_typed.proofs.WalkSound.{any_is}
+use Rattle.ild_typed.proofs.Rooms.{all_more, shows_more}
 
 -- ---- what is left where no cause holds
 
@@ -545,3 +546,71 @@ module _ (rows : List Row) (clear : IsClear rows) (delims : AllDelims rows)
     by : Answer room zero s t → ((f : Value) × Front rows room s f t) ⊎ ((r : Refusal) × Refused rows room s t r)
     by (inl (f, fits, shows)) = inl (f, record { fits = fits; tree = shows })
     by (inr h) = inr h
+
+-- ---- data of which all causes were asked, and whose parts all show
+
+-- the parts of data that are no HAMT's root
+parts_from : (d : TypeDef) → IsOther d → (t : Data) (ps : List Spot) → AreParts d t ps → (l : Layer Data) × (composed alone d l ≡ Some t) × (ps ≡ spots_of d l)
+parts_from D.Bool other t ps h = h
+parts_from D.Text other t ps h = h
+parts_from D.Bytes other t ps h = h
+parts_from D.Int other t ps h = h
+parts_from D.Any other t ps h = h
+parts_from (D.Link target) other t ps h = h
+parts_from (D.Unit form) other t ps h = h
+parts_from (D.List elem at) other t ps h = h
+parts_from (D.Map key key_at value at MF.Map) other t ps h = h
+parts_from (D.Map key key_at value at MF.ListPairs) other t ps h = h
+parts_from (D.Map key key_at value at (MF.StringPairs inner entry)) other t ps h = h
+parts_from (D.Struct st) other t ps h = h
+parts_from (D.Union u) other t ps h = h
+parts_from (D.Enum en) other t ps h = h
+parts_from (D.Copy target) other t ps h = h
+parts_from (D.Map key key_at value at MF.Hamt) other t ps h = absurd other
+
+-- what fits in a room fits where so much more is passed over
+pub past_fits : (rows : List Row) (over room n : ℕ) → n ≡ room + over → (s : Slot) (v : Value) → FitsPast rows room zero s v → FitsPast rows n over s v
+unfolding FitsPast
+past_fits rows zero room n e s v h = let same : room ≡ n = omega (arith, e) in subst (λ k. FitsPast rows k zero s v) same h
+past_fits rows (suc over) room zero e s v h = absurd (omega (arith, e))
+past_fits rows (suc over) room (suc n) e s v h = past_fits rows over room n (omega (arith, e)) s v h
+
+module _ (rows : List Row) (s : Slot) (t : Data) (tree : IsTree t) where
+  pub null_fits : (room : ℕ) → is_null_there s t ≡ true → Shows (FitsPast rows room zero) rows s t
+  unfolding FitsPast
+  null_fits zero e = null_shows rows zero (λ over u w. ⊥) s t tree e
+  null_fits (suc room) e = null_shows rows (suc room) (FitsPast rows room) s t tree e
+
+  module _ (clear : IsClear rows) (delims : AllDelims rows) (d : TypeDef) (is : form_of rows s ≡ Some d) where
+    fits_given : (room : ℕ) → why_at (suc room) d t ≡ None → (ps : List Spot) → AreParts d t ps → AllByRecursion (λ p. IsTree p.tree) ps
+        → AllByRecursion (Good rows (FitsPast rows room (needs d t - 1))) ps → Shows (FitsPast rows (suc room) zero) rows s t
+    fits_given room none ps parts trees all = by (form_is d) where
+      by : Form d → Shows (FitsPast rows (suc room) zero) rows s t
+      by (other_form other) =
+          let x = parts_from d other t ps parts in
+          whole_give rows clear delims room s t tree d x.0 is (free (suc room) d t none) other x.1
+          (subst (AllByRecursion (λ p. IsTree p.tree)) x.2 trees) (subst (AllByRecursion (Good rows (FitsPast rows room (needs d t - 1)))) x.2 all)
+      by (hamt_form key key_at value at same) =
+          let x : (slots : List Trie.TrieSlot) × IsRoot usual slots t × (ps ≡ root_spots key value 0 slots) = subst (λ k. AreParts k t ps) same parts in
+          let five : 5 ≤ suc room = subst (λ k. needs k t ≤ suc room) same (free (suc room) d t none).enough in
+          let good = subst (λ k. AllByRecursion (Good rows (FitsPast rows room (needs k t - 1))) ps) same all in
+          root_give rows clear delims room s t tree key key_at value at (is ∙ ap Some same) five x.0 x.1 (subst (AllByRecursion (Good rows (FitsPast rows room 4))) x.2 good)
+
+    -- without parts
+    pub plain_fits : (room : ℕ) → why_at room d t ≡ None → AreParts d t [] → Shows (FitsPast rows room zero) rows s t
+    plain_fits (suc room) none parts = fits_given room none [] parts tt tt
+    plain_fits zero none parts = by (form_is d) where
+      by : Form d → Shows (FitsPast rows zero zero) rows s t
+      by (other_form other) = let x = parts_from d other t [] parts in flat_give rows s t tree d x.0 is (free zero d t none).enough x.1
+      by (hamt_form key key_at value at same) =
+          let five : 5 ≤ zero = subst (λ k. needs k t ≤ zero) same (free zero d t none).enough in
+          absurd (omega (arith, five))
+
+    -- with parts, in what room the form leaves
+    pub parts_fit : (room left : ℕ) → why_at room d t ≡ None → (ps : List Spot) → AreParts d t ps → AllByRecursion (λ p. IsTree p.tree) ps → left + needs d t ≡ room → left < room
+        → AllByRecursion (Good rows (FitsPast rows left zero)) ps → Shows (FitsPast rows room zero) rows s t
+    parts_fit zero left none ps parts trees sum less all = absurd (omega (arith, less))
+    parts_fit (suc room) left none ps parts trees sum less all =
+        fits_given room none ps parts trees
+        (all_more (Good rows (FitsPast rows left zero)) (Good rows (FitsPast rows room (needs d t - 1)))
+        (λ p h. shows_more rows (FitsPast rows left zero) (FitsPast rows room (needs d t - 1)) (λ u v k. past_fits rows (needs d t - 1) left room (omega (arith, sum, less)) u v k) p.slot p.tree h) ps all)

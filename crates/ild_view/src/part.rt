@@ -1,0 +1,44 @@
+//! Parts of a piece.
+ghost use Rattle.std.specs.Prelude.{◌≡◌, false, true};
+ghost use Rattle.ild_schema.specs.Slots.{plainly};
+ghost use Rattle.ild_cbor.specs.declared.piece.Piece.TheVariants.{Text};
+
+use crate::way::Way;
+use ild_cbor::Piece;
+use ild_schema::{Slot, TypeNo};
+
+/// A part of a piece: the slot that the type gives it, what stands for it, and where.
+#[derive(Clone, Copy)]
+pub(crate) struct Part<'b> {
+    pub(crate) slot: Slot,
+    pub(crate) piece: Piece<'b>,
+    pub(crate) is_key: bool,
+    pub(crate) way: Way<'b>,
+}
+
+/// A key of a map, as a value of the type of its keys.
+pub(crate) fn key_part<'b>(ty: TypeNo, key: &'b str, way: Way<'b>) -> Part<'b>
+    ensures { result ≡ record { slot = plainly ty; piece = Text key.entry; is_key = true; way = way.entry } }
+{
+    Part {
+        slot: Slot {
+            ty,
+            nullable: false,
+        },
+        piece: Piece::Text(key),
+        is_key: true,
+        way,
+    }
+}
+
+/// A value.
+pub(crate) fn value_part<'b>(slot: Slot, piece: Piece<'b>, way: Way<'b>) -> Part<'b>
+    ensures { result ≡ record { slot = slot; piece = piece.entry; is_key = false; way = way.entry } }
+{
+    Part {
+        slot,
+        piece,
+        is_key: false,
+        way,
+    }
+}
