@@ -9,3 +9,5 @@ mod said;
 mod structs;
 #[cfg(test)]
 mod unions;
+#[cfg(test)]
+mod views;

@@ -121,7 +121,11 @@ fn are_written(parts: &StructParts<'_>, letters: &[u8]) -> bool {
             _ => false,
         };
     }
-    same && count == letters.iter().filter(|letter| matches!(**letter, b'H' | b'N')).count()
+    same && count
+        == letters
+            .iter()
+            .filter(|letter| matches!(**letter, b'H' | b'N'))
+            .count()
 }
 
 /// Whether a row is said.

@@ -6,20 +6,8 @@ use Rattle.ild_piece.specs.Pieces.{StandsFor}
 use Rattle.ild_schema.specs.declared.row.Row.{Row}
 use Rattle.ild_typed.specs.Fits.{Fits}
 use Rattle.ild_typed.specs.Layers.{Shows}
-use Rattle.ild_typed.specs.RootSpots.{in_node}
-use Rattle.ild_typed.specs.Spots.{Spot, Step, item, key, under}
+use Rattle.ild_typed.specs.Spots.{Spot}
 use Rattle.ild_view.specs.declared.part.Part.{Part}
-use Rattle.ild_view.specs.declared.way.Way.{Way}
-use Rattle.ild_view.specs.declared.way.Way.TheVariants as W
-
--- the steps to it
-abbrev pub steps : Way → List Step
-steps W.Here = []
-steps (W.Item n) = item n ∷ []
-steps (W.InPair i j) = item i ∷ item j ∷ []
-steps (W.Key k) = key k.now ∷ []
-steps (W.Under k) = under k.now ∷ []
-steps (W.InBucket element entry part) = in_node element entry part
 
 pub record IsSpotted (rows : List Row) (x : Part) (p : Spot) : Type 0 where
   pub slot : x.slot ≡ p.slot

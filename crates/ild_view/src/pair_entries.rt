@@ -7,8 +7,8 @@ ghost use Rattle.ild_view.specs.PairEntries.{HasPairs, SplitsPairs, pairs_left};
 ghost use Rattle.ild_view.specs.Ready.{IsIn, IsReady};
 
 use crate::part::{Part, key_part, value_part};
+use crate::place::{at_item, at_key};
 use crate::shape::{Shape, shape_of};
-use crate::way::Way;
 use ild_cbor::{Items, Node, Piece};
 use ild_schema::{Slot, TypeNo};
 
@@ -42,7 +42,7 @@ impl<'b> PairEntries<'b> {
         let mut items = self.items;
         if let Some(value) = self.held {
             return Some((
-                value_part(self.value, Piece::Node(value), Way::Here),
+                value_part(self.value, Piece::Node(value), at_item(&value)),
                 self.on(items, None),
             ));
         }
@@ -51,7 +51,7 @@ impl<'b> PairEntries<'b> {
         };
         match shape_of(&item) {
             Shape::Pair(key, value) => Some((
-                key_part(self.key, key, Way::Here),
+                key_part(self.key, key, at_key(key, &value)),
                 self.on(items, Some(value)),
             )),
             Shape::Odd => None,

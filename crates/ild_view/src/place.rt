@@ -10,9 +10,16 @@ fn behind(node: &Node<'_>, part: Option<Node<'_>>) -> usize {
     }
 }
 
-// The item of an item of a list.
-fn in_pair<'b>(node: &Node<'b>, i: u64, j: u64) -> Option<Node<'b>> {
-    node.item(i)?.item(j)
+// The item behind a name, in the pairs of a list.
+fn named<'b>(node: &Node<'b>, name: &str) -> Option<Node<'b>> {
+    let mut pairs = node.items()?;
+    while let Some(pair) = pairs.next() {
+        let mut parts = pair.items()?;
+        if parts.next()?.text()? == name {
+            return parts.next();
+        }
+    }
+    None
 }
 
 // How many bytes the head of a text with so many bytes takes.
@@ -27,15 +34,20 @@ fn head(length: usize) -> usize {
 }
 
 // The key of an entry stands in front of its value.
-fn key_place(node: &Node<'_>, key: &str) -> usize {
-    behind(node, node.entry(key))
+fn before(value: usize, key: &str) -> usize {
+    value
         .saturating_sub(key.len())
         .saturating_sub(head(key.len()))
 }
 
-fn in_root<'b>(node: &Node<'b>, element: u64, entry: u64, part: u64) -> Option<Node<'b>> {
-    let elements = node.entry("hamt")?.item(1)?;
-    in_pair(&elements.item(element)?, entry, part)
+/// An item of the block.
+pub(crate) fn at_item<'b>(item: &Node<'b>) -> Way<'b> {
+    Way::At(item.span().0)
+}
+
+/// The item of a key that stands right in front of its value.
+pub(crate) fn at_key<'b>(key: &str, value: &Node<'b>) -> Way<'b> {
+    Way::At(before(value.span().0, key))
 }
 
 // Where a part of a node's item begins.
@@ -43,12 +55,10 @@ fn place_in(node: &Node<'_>, way: &Way<'_>) -> usize {
     match way {
         Way::Here => 0,
         Way::Item(i) => behind(node, node.item(*i)),
-        Way::InPair(i, j) => behind(node, in_pair(node, *i, *j)),
-        Way::Key(key) => key_place(node, key),
+        Way::Named(name) => behind(node, named(node, name)),
+        Way::Key(key) => before(behind(node, node.entry(key)), key),
         Way::Under(key) => behind(node, node.entry(key)),
-        Way::InBucket(element, entry, part) => {
-            behind(node, in_root(node, *element, *entry, *part))
-        }
+        Way::At(place) => place.saturating_sub(node.span().0),
     }
 }
 

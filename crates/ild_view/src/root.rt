@@ -9,7 +9,7 @@ ghost use Rattle.ild_view.specs.Ready.{IsIn, IsPartReady};
 ghost use Rattle.ild_view.specs.Root.{HasRoot, SplitsRoot, root_left};
 
 use crate::part::{Part, key_part, value_part};
-use crate::way::Way;
+use crate::place::{at_item, at_key};
 use ild_cbor::{Node, Piece};
 use ild_node::{Bucket, NodeSlot, Slots};
 use ild_schema::{Slot, TypeNo};
@@ -78,14 +78,14 @@ impl<'b> RootEntries<'b> {
     {
         if let Some((_, node)) = self.held {
             return Some((
-                Some(value_part(self.value, Piece::Node(node), Way::Here)),
+                Some(value_part(self.value, Piece::Node(node), at_item(&node))),
                 self.in_bucket(self.entry, None),
             ));
         }
         if let Some(bucket) = self.bucket {
             return match entry_at(&bucket, self.entry) {
                 Some((key, node)) => Some((
-                    Some(key_part(self.key, key, Way::Here)),
+                    Some(key_part(self.key, key, at_key(key, &node))),
                     self.in_bucket(self.entry + 1, Some((key, node))),
                 )),
                 None => Some((None, self.behind(self.slots, None))),

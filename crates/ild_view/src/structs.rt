@@ -20,9 +20,10 @@ use crate::null::null_item;
 use crate::opening::{Opening, Stop};
 use crate::part::{Part, value_part};
 use crate::parts::Parts;
+use crate::place::at_item;
 use crate::way::Way;
 use ild_cbor::{Piece, Why};
-use ild_schema::{Accepted, StructDef, StructForm, TypeNo};
+use ild_schema::{Accepted, Field, StructDef, StructForm, TypeNo};
 use ild_struct::{Part as Held, layer};
 
 // The piece that stands for a field, where one does.
@@ -34,6 +35,28 @@ fn piece_of(held: Held<'_>) -> Option<Piece<'_>>
         Held::Absent | Held::Implicit => None,
         Held::Null => Some(Piece::Node(null_item())),
         Held::Held(piece) => Some(piece),
+    }
+}
+
+// Where the part of a field stands.
+fn way_of<'b>(form: &StructForm, field: &'b Field, i: usize, held: &Held<'b>) -> Way<'b> {
+    match held {
+        Held::Held(Piece::Node(item)) => return at_item(item),
+        _ => {}
+    }
+    match form {
+        StructForm::Map => Way::Under(text_of(field)),
+        StructForm::Tuple => Way::Item(i as u64),
+        StructForm::ListPairs => Way::Named(text_of(field)),
+        StructForm::StringPairs(_, _) | StructForm::StringJoin(_) => Way::Here,
+    }
+}
+
+// The name of a field in a block.
+fn text_of(field: &Field) -> &str {
+    match &field.rename {
+        Some(rename) => rename.as_str(),
+        None => field.name.as_str(),
     }
 }
 
@@ -53,8 +76,10 @@ impl<'b> Fields<'b> {
             parts: self.parts,
             next: self.next + 1,
         };
-        match piece_of(self.parts.field(self.next)) {
-            Some(piece) => Some((Some(value_part(field.slot, piece, Way::Here)), behind)),
+        let held = self.parts.field(self.next);
+        let way = way_of(&self.def.form, field, self.next, &held);
+        match piece_of(held) {
+            Some(piece) => Some((Some(value_part(field.slot, piece, way)), behind)),
             None => Some((None, behind)),
         }
     }

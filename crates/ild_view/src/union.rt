@@ -5,10 +5,8 @@ ghost use Rattle.ild_piece.specs.Pieces.{IsNumbered, StandsFor};
 ghost use Rattle.ild_schema.specs.Kinds.{meant};
 ghost use Rattle.ild_schema.specs.Table.{IsWithin as IsTypeWithin};
 ghost use Rattle.ild_schema.specs.declared.def.TypeDef.TheVariants as D;
-ghost use Rattle.ild_typed.specs.Spots.{member_steps};
 ghost use Rattle.ild_union.specs.Forms.{passes_over};
 ghost use Rattle.ild_view.specs.Opens.{IsOpening, Opens};
-ghost use Rattle.ild_view.specs.Part.{steps};
 
 use crate::opening::{Opening, Stop};
 use crate::part::value_part;
@@ -19,9 +17,7 @@ use ild_schema::{Accepted, Mark, Member, Slot, TypeNo, UnionDef, UnionForm};
 use ild_union::layer;
 
 // Where the member of a union stands.
-fn way_of<'b>(form: &'b UnionForm, member: &'b Member) -> Way<'b>
-    ensures { steps result ≡ member_steps form.now member.now }
-{
+fn way_of<'b>(form: &'b UnionForm, member: &'b Member) -> Way<'b> {
     match form {
         UnionForm::Keyed => match &member.mark {
             Mark::Text(name) => Way::Under(name.as_str()),

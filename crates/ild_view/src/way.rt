@@ -7,12 +7,12 @@ pub(crate) enum Way<'b> {
     Here,
     /// The item of a list.
     Item(u64),
-    /// An item in an item of a list.
-    InPair(u64, u64),
+    /// The item behind a name, in the pairs of a list.
+    Named(&'b str),
     /// The key of a map.
     Key(&'b str),
     /// The value under the key of a map.
     Under(&'b str),
-    /// In the root of a HAMT: the element of its node, the entry of the bucket, and the key or the value.
-    InBucket(u64, u64, u64),
+    /// An item that begins at an offset of the block.
+    At(usize),
 }

@@ -1,14 +1,13 @@
-use Rattle.ild_view.specs.declared.way.Way.TheVariants as W
 use Rattle.ild_view.proofs.Rooting.{root_bucket, root_child, root_empty, root_end, root_key, root_out, root_value}
 use Rattle.ild_view.proofs.root.RootEntries.split_first.Goals as goal
 
 pub returns-in-Some-clause-step : goal.returns-in-Some-clause-step
 returns-in-Some-clause-step c = λ rows ps h.
-    root_value c.args.self.now ps h rows (c.in-Some.field-0-0, c.in-Some.node) c.value_part.result W.Here c.in-Some.is c.value_part.ensures c.in_bucket.result c.in_bucket.ensures
+    root_value c.args.self.now ps h rows (c.in-Some.field-0-0, c.in-Some.node) c.value_part.result _ c.in-Some.is c.value_part.ensures c.in_bucket.result c.in_bucket.ensures
 
 pub returns-in-Some-entry_at-clause-step : goal.returns-in-Some-entry_at-clause-step
 returns-in-Some-entry_at-clause-step c = λ rows ps h.
-    root_key c.args.self.now ps h c.in_default.is c.in-Some-bucket.bucket c.in-Some-bucket.is rows (c.in-Some-entry_at.key, c.in-Some-entry_at.node) c.key_part.result W.Here c.key_part.ensures
+    root_key c.args.self.now ps h c.in_default.is c.in-Some-bucket.bucket c.in-Some-bucket.is rows (c.in-Some-entry_at.key, c.in-Some-entry_at.node) c.key_part.result _ c.key_part.ensures
     c.in-Some-entry_at.ensures.entry c.in_bucket-in-Some-entry_at.result c.in_bucket-in-Some-entry_at.ensures
 
 pub returns-in-None-clause-step : goal.returns-in-None-clause-step
