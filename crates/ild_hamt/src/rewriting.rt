@@ -7,6 +7,7 @@ ghost use Rattle.ild_typed.specs.Composed.{usual};
 ghost use Rattle.ild_node.specs.NewSlots.{IsFilledSlot, slot_seen};
 ghost use Rattle.ild_node.specs.Views.{HasSlots};
 ghost use Rattle.ild_bulk.specs.Planned.{PlansSlot};
+ghost use Rattle.ild_hamt.specs.Descending.{trail_blocks};
 ghost use Rattle.ild_hamt.specs.Ends.{EndsAt};
 ghost use Rattle.ild_hamt.specs.Known.{SomeNode, SomeSlot};
 ghost use Rattle.ild_hamt.specs.Rewriting.{ClimbState, DiffersAt, Rewrites};
@@ -16,6 +17,7 @@ ghost use Rattle.ild_hamt.specs.Way.{IsRootOf, slot_for};
 use crate::ending::slot_at;
 use crate::lifting::{climb, few_slot};
 use crate::reading::{view_again, view_in};
+use crate::trail::Trail;
 use ild_bulk::{PlannedBlock, any_long, is_long, plan_slot, put_all};
 use ild_data::{KeyHash, Octets};
 use ild_edges::Store;
@@ -77,9 +79,7 @@ pub(crate) fn slot_of<H: KeyHash>(
 pub(crate) fn rewrite<K: Store>(
     alloc: Global,
     root: NodeView<'_>,
-    blocks: Vec<Octets>,
-    hash: &[u8; 32],
-    depth: u32,
+    trail: Trail,
     slot: Option<NewHold>,
     plan: Vec<PlannedBlock>,
     store: &mut K,
@@ -87,10 +87,12 @@ pub(crate) fn rewrite<K: Store>(
     requires { IsFilledSlot usual slot }
     ensures gets { (K.moment store.new).gets ≡ (K.moment store.old).gets }
     ensures rewrites { (h : List ℕ → List ℕ) (k : List ℕ) (slots : List TrieSlot) (es fs : List (List ℕ × Data)) → HasSlots usual root.entry slots → IsRootOf h usual es slots → DiffersAt k es fs
-        → hash.now ≡ h k → ClimbState h usual k es fs blocks.items depth (slot_seen slot) plan.items → Rewrites h usual k fs (K.moment store.old) result (K.moment store.new) }
+        → trail.hash ≡ h k → ClimbState h usual k es fs (trail_blocks trail) trail.depth (slot_seen slot) plan.items → Rewrites h usual k fs (K.moment store.old) result (K.moment store.new) }
 {
     let mut plan = plan;
-    let root = climb(alloc, root, blocks, hash, depth, slot, &mut plan)?;
+    let hash = trail.hash;
+    let depth = trail.depth;
+    let root = climb(alloc, root, trail.blocks, &hash, depth, slot, &mut plan)?;
     let long = is_long(&root) | any_long(&plan);
     if long {
         return Err(HamtFault::Size);

@@ -110,10 +110,9 @@ impl Trail {
         let mut rows = self.others(alloc, root)?;
         rows.put(alloc, self.key.as_str(), val)?;
         let mut plan = Vec::new(alloc);
-        let depth = self.depth;
-        let hash = self.hash;
-        let slot = slot_of(alloc, rows, depth.saturating_add(1), keys, &mut plan)?;
-        rewrite(alloc, root, self.blocks, &hash, depth, slot, plan, store)
+        let depth = self.depth.saturating_add(1);
+        let slot = slot_of(alloc, rows, depth, keys, &mut plan)?;
+        rewrite(alloc, root, self, slot, plan, store)
     }
 
     // Removes the key.
@@ -131,18 +130,7 @@ impl Trail {
             Some(rows) => rows,
             None => return Err(HamtFault::NoKey),
         };
-        let hash = self.hash;
-        let slot = few_slot(rows);
-        rewrite(
-            alloc,
-            root,
-            self.blocks,
-            &hash,
-            self.depth,
-            slot,
-            Vec::new(alloc),
-            store,
-        )
+        rewrite(alloc, root, self, few_slot(rows), Vec::new(alloc), store)
     }
 
     /// Sets the value at the key: the answer is the new root node, and the other new nodes on the key's way are put, each

@@ -15,7 +15,7 @@ returns-clause-removes g c = λ h k slots es from.
     let rest = rw c.in-Some.is at c.in_ok-rows.ensures h k slots es from.has from.trail in
     removes-some h usual k es _ c.rewrite.result _ (ap is_some (sym (find-along h usual k (length (trail_blocks c.args.self) + 1) 0 es)) ∙ rest.0)
     (c.rewrite.ensures.rewrites h k slots es (without k es) from.has from.trail.root (differs-without k es from.trail.root.order) from.trail.hash
-    (rest-state h k slots es c.in-Some.rows c.args.self (slot_seen c.few_slot-slot.result) c.new.result.items from.trail rest.1 c.few_slot-slot.ensures.same c.new.ensures.items))
+    (rest-state h k slots es c.in-Some.rows c.args.self (slot_seen c.few_slot.result) c.new.result.items from.trail rest.1 c.few_slot.ensures.same c.new.ensures.items))
 
 pub returns-in-None-clause-removes : goal.returns-in-None-clause-removes
 returns-in-None-clause-removes g c = λ h k slots es from.
