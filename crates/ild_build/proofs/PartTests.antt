@@ -38,7 +38,7 @@ entry_of : (ps : List (List ℕ × Value)) (i : ℕ) (w : Value) (o : Option (Li
 entry_of ps i w None is e = absurd (none-some w e)
 entry_of ps i w (Some p) is e = record { entry = p; is = is; value = same_Some p.1 w e }
 
-field_is : (os : List (Option Value)) (i : ℕ) (w : Value) (o : Option (Option Value)) → slice_get os i ≡ o → option_and_then (λ (x : Option Value). x) o ≡ Some w → slice_get os i ≡ Some (Some w)
+pub field_is : (os : List (Option Value)) (i : ℕ) (w : Value) (o : Option (Option Value)) → slice_get os i ≡ o → option_and_then (λ (x : Option Value). x) o ≡ Some w → slice_get os i ≡ Some (Some w)
 field_is os i w None is e = absurd (none-some w e)
 field_is os i w (Some x) is e = is ∙ ap Some e
 
@@ -79,12 +79,12 @@ value_height V.no_values i w e = absurd (none-some w e)
 value_height (V.value v vs) zero w e = subst (λ x. height x ≤ values_height (V.value v vs)) (same_Some v w e) (omega arith)
 value_height (V.value v vs) (suc i) w e = omega (arith, value_height vs i w e)
 
-pair_height : (ps : Pairs) (i : ℕ) (p : List ℕ × Value) → slice_get (pairs_list ps) i ≡ Some p → height p.1 ≤ pairs_height ps
+pub pair_height : (ps : Pairs) (i : ℕ) (p : List ℕ × Value) → slice_get (pairs_list ps) i ≡ Some p → height p.1 ≤ pairs_height ps
 pair_height V.no_pairs i p e = absurd (none-some {A = List ℕ × Value} p e)
 pair_height (V.pair k v ps) zero p e = subst (λ (x : List ℕ × Value). height x.1 ≤ pairs_height (V.pair k v ps)) (same_Some {A = List ℕ × Value} (k, v) p e) (omega arith)
 pair_height (V.pair k v ps) (suc i) p e = omega (arith, pair_height ps i p e)
 
-field_height : (os : Optionals) (i : ℕ) (w : Value) → slice_get (optionals_list os) i ≡ Some (Some w) → height w ≤ optionals_height os
+pub field_height : (os : Optionals) (i : ℕ) (w : Value) → slice_get (optionals_list os) i ≡ Some (Some w) → height w ≤ optionals_height os
 field_height V.no_optionals i w e = absurd (none-some {A = Option Value} (Some w) e)
 field_height (V.absent os) zero w e = absurd (none-some w (same_Some {A = Option Value} None (Some w) e))
 field_height (V.absent os) (suc i) w e = field_height os i w e

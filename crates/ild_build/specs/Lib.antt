@@ -1,1 +1,4 @@
 pub mod PartAt
+pub mod LeftOut
+pub mod TextRep
+pub mod TextParts
