@@ -6,3 +6,4 @@ pub mod Seams
 pub mod TextForms
 pub mod Texting
 pub mod Turns
+pub mod PartFits

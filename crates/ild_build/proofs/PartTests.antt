@@ -17,11 +17,11 @@ use Rattle.ild_build.specs.PartAt.{in_slot, places, field_at, member_at, part_at
 
 -- ---- what stands at a place
 
-record At (os : Option Slot) (ov : Option Value) (u : Slot) (w : Value) : Type 0 where
-  slot : os ≡ Some u
-  value : ov ≡ Some w
+pub record At (os : Option Slot) (ov : Option Value) (u : Slot) (w : Value) : Type 0 where
+  pub slot : os ≡ Some u
+  pub value : ov ≡ Some w
 
-at_of : (os : Option Slot) (ov : Option Value) (u : Slot) (w : Value) → in_slot os ov ≡ Some (u, w) → At os ov u w
+pub at_of : (os : Option Slot) (ov : Option Value) (u : Slot) (w : Value) → in_slot os ov ≡ Some (u, w) → At os ov u w
 at_of None ov u w e = absurd (none-some {A = Slot × Value} (u, w) e)
 at_of (Some s) None u w e = absurd (none-some {A = Slot × Value} (u, w) e)
 at_of (Some s) (Some v) u w e =
@@ -29,12 +29,12 @@ at_of (Some s) (Some v) u w e =
     record { slot = ap (λ (p : Slot × Value). Some p.0) same; value = ap (λ (p : Slot × Value). Some p.1) same }
 
 -- the value of an entry at a place
-record Entry (ps : List (List ℕ × Value)) (i : ℕ) (w : Value) : Type 0 where
-  entry : List ℕ × Value
-  is : slice_get ps i ≡ Some entry
-  value : entry.1 ≡ w
+pub record Entry (ps : List (List ℕ × Value)) (i : ℕ) (w : Value) : Type 0 where
+  pub entry : List ℕ × Value
+  pub is : slice_get ps i ≡ Some entry
+  pub value : entry.1 ≡ w
 
-entry_of : (ps : List (List ℕ × Value)) (i : ℕ) (w : Value) (o : Option (List ℕ × Value)) → slice_get ps i ≡ o → option_map (λ (p : List ℕ × Value). p.1) o ≡ Some w → Entry ps i w
+pub entry_of : (ps : List (List ℕ × Value)) (i : ℕ) (w : Value) (o : Option (List ℕ × Value)) → slice_get ps i ≡ o → option_map (λ (p : List ℕ × Value). p.1) o ≡ Some w → Entry ps i w
 entry_of ps i w None is e = absurd (none-some w e)
 entry_of ps i w (Some p) is e = record { entry = p; is = is; value = same_Some p.1 w e }
 
@@ -42,16 +42,16 @@ pub field_is : (os : List (Option Value)) (i : ℕ) (w : Value) (o : Option (Opt
 field_is os i w None is e = absurd (none-some w e)
 field_is os i w (Some x) is e = is ∙ ap Some e
 
-record FieldSlot (fs : List Field) (i : ℕ) (u : Slot) : Type 0 where
-  field : Field
-  is : slice_get fs i ≡ Some field
-  slot : field.slot ≡ u
+pub record FieldSlot (fs : List Field) (i : ℕ) (u : Slot) : Type 0 where
+  pub field : Field
+  pub is : slice_get fs i ≡ Some field
+  pub slot : field.slot ≡ u
 
-field_slot_of : (fs : List Field) (i : ℕ) (u : Slot) (o : Option Field) → slice_get fs i ≡ o → option_map (λ (f : Field). f.slot) o ≡ Some u → FieldSlot fs i u
+pub field_slot_of : (fs : List Field) (i : ℕ) (u : Slot) (o : Option Field) → slice_get fs i ≡ o → option_map (λ (f : Field). f.slot) o ≡ Some u → FieldSlot fs i u
 field_slot_of fs i u None is e = absurd (none-some u e)
 field_slot_of fs i u (Some f) is e = record { field = f; is = is; slot = same_Some f.slot u e }
 
-only_member : (v : Value) (i : ℕ) (w : Value) → member_at v i ≡ Some w → v ≡ w
+pub only_member : (v : Value) (i : ℕ) (w : Value) → member_at v i ≡ Some w → v ≡ w
 only_member v zero w e = same_Some v w e
 only_member v (suc i) w e = absurd (none-some w e)
 

@@ -4,7 +4,10 @@
 mod delims;
 mod form;
 mod hole;
+mod joined;
 mod joints;
 mod left_out;
 mod parts;
 mod text;
+
+pub use joined::text_of;
