@@ -7,3 +7,6 @@ pub mod TextForms
 pub mod Texting
 pub mod Turns
 pub mod PartFits
+pub mod RoomParts
+pub mod TreeRooms
+pub mod EachKey

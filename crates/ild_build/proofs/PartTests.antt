@@ -120,7 +120,7 @@ or_none : (a b : Bool) → a ≡ false → b ≡ false → (a || b) ≡ false
 or_none true b x y = absurd cc
 or_none false b x y = y
 
-placed : (os : Option Slot) (ov : Option Value) (u : Slot) (w : Value) → os ≡ Some u → ov ≡ Some w → in_slot os ov ≡ Some (u, w)
+pub placed : (os : Option Slot) (ov : Option Value) (u : Slot) (w : Value) → os ≡ Some u → ov ≡ Some w → in_slot os ov ≡ Some (u, w)
 placed os ov u w a b = ap (λ o. in_slot o ov) a ∙ ap (in_slot (Some u)) b
 
 module _ (test : Option TypeDef → Value → Bool) (rows : List Row) where

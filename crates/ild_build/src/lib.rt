@@ -6,8 +6,13 @@ mod form;
 mod hole;
 mod joined;
 mod joints;
+mod judgement;
+mod key_rooms;
 mod left_out;
 mod parts;
+mod room;
 mod text;
 
 pub use joined::text_of;
+pub use judgement::{Judged, judge_by};
+pub use key_rooms::KeyRooms;
