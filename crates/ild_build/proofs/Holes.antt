@@ -1,5 +1,5 @@
 -- Holes, as they are met from field to field, and in layers.
-use Rattle.std.proofs.Common.{◌≡◌, ℕ, zero, suc, ◌+◌, ◌<◌, ◌≤◌, length, Bool, true, false, Option, Some, None, slice_get, refl, sym, ◌∙◌, ap, arith, add-one, List}
+use Rattle.std.proofs.Common.{◌≡◌, ℕ, zero, suc, ◌+◌, ◌≤◌, length, Bool, true, false, Option, Some, None, slice_get, refl, sym, ◌∙◌, ap, arith, add-one, List}
 use Rattle.std.specs.Prelude.{option_and_then}
 use Rattle.std.proofs.lemmas.Option.{same_Some, none-some}
 use Rattle.ild_schema.specs.declared.number.Slot.{Slot}

@@ -1,7 +1,6 @@
 -- What splits and searches say of joined texts.
-use Rattle.std.proofs.Common.{◌≡◌, ◌⊎◌, inl, inr, ℕ, zero, suc, ◌+◌, ◌<◌, ◌≤◌, List, [], ◌∷◌, ◌++◌, length, take, drop, Bool, true, false, ◌&&◌, cond, nat_eq, Option, Some, None, refl, sym, ◌∙◌, ap, subst, arith, zero-add, add-zero}
+use Rattle.std.proofs.Common.{◌≡◌, ℕ, zero, suc, ◌+◌, ◌<◌, ◌≤◌, List, [], ◌∷◌, length, take, drop, Bool, true, false, ◌&&◌, cond, nat_eq, Option, Some, None, refl, sym, ◌∙◌, ap, subst, arith, zero-add, add-zero}
 use Rattle.std.proofs.lemmas.Bool.Decides.{nat_tests}
-use Rattle.std.proofs.lemmas.Option.{same_Some, none-some}
 use Rattle.ild_schema.specs.Joins.{Occurs, joined, pair_text, IsJoin, JoinsByCount}
 use Rattle.ild_schema.specs.Prefixes.{begins}
 use Rattle.ild_typed.specs.JoinLaws.{JoinsAreJoins}

@@ -1,12 +1,11 @@
 -- Parts of what fits fit, and parts of texts are texts.
-use Rattle.std.proofs.Common.{◌≡◌, ℕ, zero, suc, ◌+◌, ◌<◌, not, ◌≤◌, List, [], ◌∷◌, ◌++◌, length, Bool, true, false, Option, Some, None, option_map, slice_get, refl, sym, ◌∙◌, ap, subst, arith}
+use Rattle.std.proofs.Common.{◌≡◌, ℕ, zero, suc, ◌+◌, ◌<◌, not, List, [], ◌∷◌, ◌++◌, Bool, true, false, Option, Some, None, option_map, slice_get, refl, sym, ◌∙◌, ap, subst, arith}
 use Rattle.std.specs.Prelude.{IsUtf8, option_and_then}
 use Rattle.std.specs.List.{AllByRecursion}
 use Rattle.std.proofs.lemmas.Option.{same_Some, none-some}
 use Rattle.ild_data.specs.Data as T
 use Rattle.ild_data.specs.Data.{Data}
 use Rattle.ild_schema.specs.declared.number.Slot.{Slot}
-use Rattle.ild_schema.specs.declared.number.TypeNo.{TypeNo}
 use Rattle.ild_schema.specs.declared.def.TypeDef.{TypeDef}
 use Rattle.ild_schema.specs.declared.def.TypeDef.TheVariants as D
 use Rattle.ild_schema.specs.declared.def.MapForm.{MapForm}
@@ -15,14 +14,13 @@ use Rattle.ild_schema.specs.declared.def.StructForm.{StructForm}
 use Rattle.ild_schema.specs.declared.def.StructForm.TheVariants as S
 use Rattle.ild_schema.specs.declared.def.UnionForm.{UnionForm}
 use Rattle.ild_schema.specs.declared.def.UnionForm.TheVariants as UF
-use Rattle.ild_schema.specs.declared.def.UnitForm.TheVariants as U
 use Rattle.ild_schema.specs.declared.def.KindWord.{KindWord}
 use Rattle.ild_schema.specs.declared.def.KindWord.TheVariants as K
 use Rattle.ild_schema.specs.declared.def.Field.{Field}
 use Rattle.ild_schema.specs.declared.def.Member.{Member}
 use Rattle.ild_schema.specs.declared.row.Row.{Row}
 use Rattle.ild_schema.specs.Copies.{base}
-use Rattle.ild_schema.specs.DataKinds.{same_kind, slot_has, has_kind, kind_in, is_marked, map_kind, struct_kind, union_has}
+use Rattle.ild_schema.specs.DataKinds.{same_kind, has_kind, kind_in, is_marked, map_kind, struct_kind, union_has}
 use Rattle.ild_schema.specs.Made.{HasOnly, IsTextSlot, MadeStruct, MadeMap, MadeMember, MadeType, IsMade}
 use Rattle.ild_schema.specs.Marks.{kind_of as mark_kind}
 use Rattle.ild_schema.specs.Slots.{form_of, plainly}
@@ -33,13 +31,12 @@ use Rattle.ild_typed.specs.Layer as L
 use Rattle.ild_typed.specs.Layer.{Layer}
 use Rattle.ild_typed.specs.Layers.{layer_of, FieldsFit, LayerFits}
 use Rattle.ild_typed.specs.OfType.{OfType}
-use Rattle.ild_typed.specs.Slots.{element_of, fields_of, member_of, slot_of, member_at as union_member}
-use Rattle.ild_typed.specs.EachLayer.{some_layer}
+use Rattle.ild_typed.specs.Slots.{element_of, fields_of, member_of, slot_of}
 use Rattle.ild_typed.specs.Judged.{has_hole, is_hole, breaks, breaks_delimiter, is_exhausted, exhausts, map_exhausts, struct_breaks, map_breaks}
 use Rattle.ild_typed.specs.Typed.{Typed}
 use Rattle.ild_typed.specs.Represented.{represented, represented_pairs, represented_fields}
 use Rattle.ild_typed.specs.Hamt.{whole, alone}
-use Rattle.ild_typed.proofs.OneLayer.{in_layer, of_layer, HasForm}
+use Rattle.ild_typed.proofs.OneLayer.{in_layer, of_layer}
 use Rattle.ild_typed.proofs.TreeParts.{list_fits, struct_fits, union_fits, map_fits}
 use Rattle.ild_typed.specs.Strings.{text_in}
 use Rattle.ild_typed.proofs.Basics.{then_from, both_true}
@@ -49,9 +46,9 @@ use Rattle.ild_typed.proofs.OfKinds.{any_at}
 use Rattle.ild_typed.proofs.Making.{text_slot}
 use Rattle.ild_typed.proofs.MakingValues.{typed_tree}
 use Rattle.ild_typed.proofs.Flat.{flat_text, flat_alone, flat_whole}
-use Rattle.ild_build.specs.PartAt.{in_slot, field_at, member_at, part_at}
-use Rattle.ild_build.specs.TextRep.{text_rep, Appended, TextAnswer, is_text_map, is_text_struct, is_text_layer}
-use Rattle.ild_build.proofs.PartTests.{At, at_of, entry_of, Entry, field_is, field_slot_of, FieldSlot, only_member, part_lower, parts_none, part_found, by_part}
+use Rattle.ild_build.specs.PartAt.{field_at, member_at, part_at}
+use Rattle.ild_build.specs.TextRep.{text_rep, TextAnswer, is_text_map, is_text_struct, is_text_layer}
+use Rattle.ild_build.proofs.PartTests.{at_of, entry_of, field_is, field_slot_of, only_member, part_lower, parts_none, by_part}
 
 all_at : {X : Type 0} (P : X → Type 0) (xs : List X) (i : ℕ) (x : X) → AllByRecursion P xs → slice_get xs i ≡ Some x → P x
 all_at P [] i x all e = absurd (none-some x e)

@@ -1,5 +1,5 @@
 -- To fit in a room is that the levels of the form are there, and that the parts, the keys too, fit in what they leave.
-use Rattle.std.proofs.Common.{◌≡◌, ◌⊎◌, inl, inr, ℕ, zero, suc, ◌+◌, ◌-◌, ◌<◌, ◌≤◌, List, [], ◌∷◌, length, Bool, true, false, Option, Some, None, option_map, slice_get, refl, sym, ◌∙◌, ap, subst, arith}
+use Rattle.std.proofs.Common.{◌≡◌, ℕ, zero, suc, ◌+◌, ◌-◌, ◌<◌, ◌≤◌, List, [], ◌∷◌, true, Option, Some, None, option_map, slice_get, refl, sym, ◌∙◌, ap, subst, arith}
 use Rattle.std.specs.Prelude.{IsUtf8, IsSomeAnd, option_and_then}
 use Rattle.std.specs.List.{AllByRecursion}
 use Rattle.std.proofs.lemmas.Option.{same_Some, none-some, slice_get_within}
@@ -14,7 +14,6 @@ use Rattle.ild_schema.specs.declared.def.MapForm.TheVariants as MF
 use Rattle.ild_schema.specs.declared.def.StructForm.{StructForm}
 use Rattle.ild_schema.specs.declared.def.StructForm.TheVariants as S
 use Rattle.ild_schema.specs.declared.def.Field.{Field}
-use Rattle.ild_schema.specs.declared.def.Member.{Member}
 use Rattle.ild_schema.specs.declared.row.Row.{Row}
 use Rattle.ild_schema.specs.Slots.{form_of, plainly}
 use Rattle.ild_schema.specs.Value as V
@@ -22,12 +21,12 @@ use Rattle.ild_schema.specs.Value.{Value, values_list, pairs_list, optionals_lis
 use Rattle.ild_typed.specs.Layer as L
 use Rattle.ild_typed.specs.Layer.{Layer}
 use Rattle.ild_typed.specs.Levels.{levels_of, map_levels, struct_levels, any_levels}
-use Rattle.ild_typed.specs.Layers.{layer_of, Shows, FieldsFit, EntriesFit, LayerFits}
+use Rattle.ild_typed.specs.Layers.{layer_of, Shows, FieldsFit, LayerFits}
 use Rattle.ild_typed.specs.Fits.{FormFits, ValueFits, FitsPast, Fits}
 use Rattle.ild_typed.specs.OfType.{OfType}
 use Rattle.ild_typed.specs.Slots.{element_of, fields_of, member_of, slot_of}
 use Rattle.ild_typed.proofs.FormOf.{there_entries, entries_there, boolean_form, integer_form, text_form, bytes_form, link_form, any_form, unit_form, enum_form, list_form, struct_form, union_form, map_form}
-use Rattle.ild_typed.proofs.OneLayer.{in_layer, from_form, past_over, HasForm}
+use Rattle.ild_typed.proofs.OneLayer.{in_layer, from_form, past_over}
 use Rattle.ild_typed.proofs.Rooms.{layer_more, fits_more, past_less}
 use Rattle.ild_build.specs.KeysIn.{KeysIn, IsPlainLayer}
 use Rattle.ild_build.specs.PartAt.{field_at, places, part_at}

@@ -1,6 +1,6 @@
 -- The text that represents a value, by the form of its type.
-use Rattle.std.proofs.Common.{◌≡◌, ℕ, ℤ, List, [], ◌∷◌, ◌++◌, length, Bool, true, false, cond, Option, Some, None, option_map, slice_get, refl, sym, ◌∙◌, ap, subst, arith}
-use Rattle.std.specs.Prelude.{option_and_then, bytes_eq, is_none}
+use Rattle.std.proofs.Common.{◌≡◌, ℕ, ℤ, List, [], ◌∷◌, ◌++◌, Bool, true, false, cond, Option, Some, None, option_map, slice_get, refl, sym, ◌∙◌, ap}
+use Rattle.std.specs.Prelude.{option_and_then, is_none}
 use Rattle.std.specs.List.{AllByRecursion}
 use Rattle.std.proofs.lemmas.Option.{same_Some, none-some}
 use Rattle.ild_data.specs.Data as T
@@ -39,16 +39,16 @@ use Rattle.ild_schema.specs.Slots.{form_of, plainly}
 use Rattle.ild_schema.specs.Value as V
 use Rattle.ild_schema.specs.Value.{Value, Pairs, Optionals, pairs_list, optionals_list}
 use Rattle.ild_typed.specs.Composed.{Hamts, composed, map_form, struct_form, member_form, marked_form, inlined}
-use Rattle.ild_typed.specs.Fields.{is_scalar, is_implicit, entries_of, field_entries, tuple_items, all_items}
+use Rattle.ild_typed.specs.Fields.{is_scalar, is_implicit, entries_of, field_entries, all_items}
 use Rattle.ild_typed.specs.Hamt.{alone, a_map}
 use Rattle.ild_typed.specs.Kinds.{kind_of}
 use Rattle.ild_typed.specs.Layer as L
 use Rattle.ild_typed.specs.Layer.{Layer, as_boolean, as_integer, as_text, as_map, as_hamt}
 use Rattle.ild_typed.specs.Represented.{represented, represented_pairs, represented_fields, layered}
 use Rattle.ild_typed.specs.Slots.{element_of, fields_of, member_of, slot_of}
-use Rattle.ild_typed.specs.Strings.{text_in, bytes_in, members_in, texts_in, text_pairs, cons_both, in_key_order, map_data, listpairs, stringpairs, stringjoin}
+use Rattle.ild_typed.specs.Strings.{text_in, bytes_in, members_in, texts_in, text_pairs, cons_both, map_data, listpairs, stringpairs, stringjoin}
 use Rattle.ild_typed.specs.Texts.{join, join_pairs}
-use Rattle.ild_typed.proofs.Basics.{map_from, From}
+use Rattle.ild_typed.proofs.Basics.{map_from}
 use Rattle.ild_typed.proofs.OfKinds.{composed_kind, alone_kind}
 use Rattle.ild_typed.proofs.PartData.{values_data, member_data}
 use Rattle.ild_typed.proofs.OneValue.{Way, as_null, as_layer, way_of, layer_data, scalar_of, scalar_value}

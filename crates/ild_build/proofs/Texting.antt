@@ -1,13 +1,11 @@
 -- Texts as they are appended part by part: what was appended stands in front of what is still to come.
-use Rattle.std.proofs.Common.{◌≡◌, ℕ, zero, suc, ◌+◌, ◌<◌, ◌≤◌, List, [], ◌∷◌, ◌++◌, length, drop, map, Bool, true, false, cond, ◌&&◌, nat_eq, Option, Some, None, option_map, slice_get, refl, sym, ◌∙◌, ap, subst, arith, append_assoc, append-nil, length-append, add-one}
+use Rattle.std.proofs.Common.{◌≡◌, ℕ, zero, suc, ◌+◌, ◌<◌, ◌≤◌, List, [], ◌∷◌, ◌++◌, length, drop, map, Bool, true, false, cond, ◌&&◌, Option, Some, None, option_map, slice_get, refl, sym, ◌∙◌, ap, arith, append_assoc, append-nil, length-append, add-one}
 use Rattle.std.specs.Prelude.{option_and_then}
-use Rattle.std.specs.List.{list_all, AllByRecursion}
+use Rattle.std.specs.List.{list_all}
 use Rattle.std.proofs.lemmas.List.{map-append, length-map}
 use Rattle.std.proofs.lemmas.List.Folds.{list_all-append}
 use Rattle.std.proofs.Math.Seq.{drop-append_seam}
 use Rattle.std.proofs.lemmas.Option.{same_Some, none-some}
-use Rattle.std.proofs.lemmas.Bool.Decides.{nat_tests}
-use Rattle.ild_schema.specs.declared.number.Slot.{Slot}
 use Rattle.ild_schema.specs.declared.def.Field.{Field}
 use Rattle.ild_schema.specs.declared.row.Row.{Row}
 use Rattle.ild_schema.specs.Joins.{joined, pair_text}
@@ -17,7 +15,7 @@ use Rattle.ild_typed.specs.Strings.{cons_both}
 use Rattle.ild_typed.specs.Texts.{is_parted, join, join_pairs}
 use Rattle.ild_build.specs.LeftOut.{is_left_out}
 use Rattle.ild_build.specs.TextRep.{text_rep, TextAnswer}
-use Rattle.ild_build.specs.TextParts.{field_texts, field_pairs, entry_texts, between, pair_added}
+use Rattle.ild_build.specs.TextParts.{field_texts, field_pairs, between, pair_added}
 
 -- ---- texts with delimiters
 

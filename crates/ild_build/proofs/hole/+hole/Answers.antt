@@ -1,10 +1,7 @@
-use Rattle.std.proofs.Common.{◌≡◌, ◌<◌, ℕ, Some, false, sym, ◌∙◌, arith, length}
-use Rattle.ild_schema.specs.declared.number.Slot.{Slot}
-use Rattle.ild_schema.specs.Value.{Value, height}
+use Rattle.std.proofs.Common.{◌≡◌, Some, false, sym, ◌∙◌, arith, length}
 use Rattle.ild_schema.specs.ValueSeen.{value_of}
 use Rattle.ild_typed.specs.Judged.{is_hole, has_hole}
 use Rattle.ild_build.proofs.PartTests.{part_lower, by_part, by_parts, parts_next, parts_absent}
-use Rattle.ild_build.proofs.Holes.{hole_found}
 use Rattle.ild_build.proofs.hole.+hole.Goals as goal
 use Rattle.ild_build.proofs.hole.+hole.Goals.{in-Some+else-has_hole, in_default}
 

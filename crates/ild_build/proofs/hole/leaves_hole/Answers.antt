@@ -1,4 +1,4 @@
-use Rattle.std.proofs.Common.{◌≡◌, ◌+◌, sym, subst, arith}
+use Rattle.std.proofs.Common.{◌+◌, sym, subst, arith}
 use Rattle.ild_schema.specs.ValueSeen.{value_of}
 use Rattle.ild_build.proofs.Holes.{IsMet, met_absent, met_present, met_hole, met_all}
 use Rattle.ild_build.proofs.hole.leaves_hole.Goals as goal

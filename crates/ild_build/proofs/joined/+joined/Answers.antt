@@ -1,6 +1,6 @@
-use Rattle.std.proofs.Common.{◌≡◌, ◌<◌, ℕ, Some, false, length, sym, ◌∙◌, arith}
+use Rattle.std.proofs.Common.{◌≡◌, Some, false, length, sym, ◌∙◌, arith}
 use Rattle.ild_schema.specs.declared.number.Slot.{Slot}
-use Rattle.ild_schema.specs.Value.{Value, height}
+use Rattle.ild_schema.specs.Value.{Value}
 use Rattle.ild_schema.specs.ValueSeen.{value_of}
 use Rattle.ild_typed.specs.Judged.{breaks, breaks_delimiter, has_hole}
 use Rattle.ild_typed.specs.Typed.{Typed}

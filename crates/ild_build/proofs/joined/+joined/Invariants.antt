@@ -1,6 +1,5 @@
-use Rattle.std.proofs.Common.{◌≡◌, ◌<◌, ℕ, Some, false}
-use Rattle.ild_schema.specs.declared.number.Slot.{Slot}
-use Rattle.ild_schema.specs.Value.{Value, height}
+use Rattle.std.proofs.Common.{◌≡◌, false}
+use Rattle.ild_schema.specs.Value.{height}
 use Rattle.ild_schema.specs.ValueSeen.{value_of}
 use Rattle.ild_typed.specs.Judged.{has_hole, breaks_delimiter}
 use Rattle.ild_typed.specs.Typed.{Typed}

@@ -1,4 +1,4 @@
-use Rattle.std.proofs.Common.{rules, ◌≡◌, List, ℕ, Some, [], ◌++◌, sym, ◌∙◌, ap, string_bytes, refl}
+use Rattle.std.proofs.Common.{rules, Some, sym, ◌∙◌, ap, string_bytes}
 use Rattle.ild_data.specs.Data.{text}
 use Rattle.ild_schema.specs.ValueSeen.{value_of}
 use Rattle.ild_build.proofs.PartFits.{text_there, text_whole, text_made}

@@ -1,5 +1,3 @@
-use Rattle.std.proofs.Common.{sym, arith}
-use Rattle.std.proofs.lemmas.Bool.Decides.{nat_tests}
 use Rattle.ild_text.specs.Parts.{parts}
 use Rattle.ild_build.proofs.Joining.{joined_there, joined_not, joined_empty}
 use Rattle.ild_build.proofs.joints.is_joined.Goals as goal

@@ -1,5 +1,3 @@
-use Rattle.std.proofs.Common.{drop, ap, ◌∙◌, refl, sym}
-use Rattle.std.proofs.lemmas.List.{take_rest}
 use Rattle.ild_text.proofs.Finding.{found_next, found_none}
 use Rattle.ild_build.proofs.Joining.{parted_found, parted_none}
 use Rattle.ild_build.proofs.joints.is_parted.Goals as goal

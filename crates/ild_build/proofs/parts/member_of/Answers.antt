@@ -1,5 +1,4 @@
 use Rattle.std.proofs.Common.{rules}
-use Rattle.ild_schema.specs.Table.{IsWithin}
 use Rattle.ild_build.proofs.Low.{member_low}
 use Rattle.ild_build.proofs.parts.member_of.Goals as goal
 

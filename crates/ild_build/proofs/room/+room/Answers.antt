@@ -1,6 +1,5 @@
-use Rattle.std.proofs.Common.{◌≡◌, ℕ, List, true, false, Some, length, ap, refl, sym, subst, ◌∙◌, ◌-◌, arith}
+use Rattle.std.proofs.Common.{◌≡◌, true, false, Some, length, ap, refl, sym, subst, ◌∙◌, ◌-◌, arith}
 use Rattle.ild_data.specs.Seen.{data_of}
-use Rattle.ild_schema.specs.Value.{height}
 use Rattle.ild_schema.specs.ValueSeen.{value_of}
 use Rattle.ild_typed.specs.Fits.{Fits}
 use Rattle.ild_typed.specs.OfType.{OfType}

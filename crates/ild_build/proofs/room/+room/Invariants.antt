@@ -1,6 +1,5 @@
-use Rattle.std.proofs.Common.{◌≡◌, ◌+◌, ◌*◌, ℕ}
-use Rattle.ild_schema.specs.declared.number.Slot.{Slot}
-use Rattle.ild_schema.specs.Value.{Value, height}
+use Rattle.std.proofs.Common.{◌+◌, ◌*◌}
+use Rattle.ild_schema.specs.Value.{height}
 use Rattle.ild_schema.specs.ValueSeen.{value_of}
 use Rattle.ild_typed.specs.Fits.{Fits}
 use Rattle.ild_typed.specs.OfType.{OfType}

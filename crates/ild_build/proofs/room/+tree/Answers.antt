@@ -1,4 +1,4 @@
-use Rattle.std.proofs.Common.{◌≡◌, ◌≤◌, length, false, true, refl, arith}
+use Rattle.std.proofs.Common.{◌≤◌, refl, arith}
 use Rattle.ild_data.specs.Data.{depth, items_depth, members_depth}
 use Rattle.ild_data.specs.Seen.{data_of}
 use Rattle.ild_data.proofs.Spelling.{item_depth-in, member_depth-in}

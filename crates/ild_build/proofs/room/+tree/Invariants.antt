@@ -1,4 +1,4 @@
-use Rattle.std.proofs.Common.{◌+◌, ◌*◌, ◌≤◌}
+use Rattle.std.proofs.Common.{◌+◌, ◌*◌}
 use Rattle.ild_data.specs.Data.{depth, items_depth, members_depth}
 use Rattle.ild_data.specs.Seen.{data_of}
 use Rattle.ild_build.proofs.TreeRooms.{TreesFit, EntriesFit}

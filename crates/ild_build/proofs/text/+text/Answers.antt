@@ -1,6 +1,5 @@
-use Rattle.std.proofs.Common.{rules, ◌≡◌, ◌<◌, ◌+◌, ◌++◌, ◌∙◌, ℕ, List, [], length, Some, None, option_map, slice_get, drop, Bool, true, false, refl, sym, ap, arith, string_bytes, append_assoc, subst}
+use Rattle.std.proofs.Common.{rules, ◌<◌, ◌+◌, ◌++◌, ◌∙◌, length, Some, drop, true, false, refl, sym, ap, arith, string_bytes, append_assoc, subst}
 use Rattle.std.specs.Prelude.{option_and_then}
-use Rattle.ild_schema.specs.declared.def.MapForm.TheVariants as MF
 use Rattle.ild_schema.specs.Joins.{pair_text}
 use Rattle.ild_schema.specs.Table.{IsWithin}
 use Rattle.ild_schema.specs.Value.{height, optionals_list, pairs_list}
@@ -11,9 +10,9 @@ use Rattle.ild_build.specs.TextParts.{field_texts, field_pairs, entry_texts, bet
 use Rattle.ild_build.specs.TextRep.{text_rep}
 use Rattle.ild_build.proofs.PartTests.{pair_height, field_height}
 use Rattle.ild_build.proofs.Low.{field_low, member_low}
-use Rattle.ild_build.proofs.Texting.{joining_starts, joining_goes, joining_breaks, joining_ends, pairing_starts, pairing_goes, pairing_breaks, pairing_stops, pairing_skips, pairing_ends, texts_apart, pairs_apart, drop_all}
-use Rattle.ild_build.proofs.Turns.{answered, fitting, join_given, fields_given, map_given, got, value_got, turn_text, turn_no_text, turn_pair, turn_no_pair, turn_entry, no_answer, an_answer, range_ok, given, pair_answer, pair_out, pair_behind, piece_is}
-use Rattle.ild_build.proofs.TextForms.{joined_rep, fields_rep, entries_rep, no_struct_text, no_map_text, union_rep, no_pairs_text, no_kind_text, other_map_text, plain_kind, map_val}
+use Rattle.ild_build.proofs.Texting.{joining_goes, joining_breaks, pairing_goes, pairing_breaks, pairing_stops, pairing_skips, texts_apart, pairs_apart}
+use Rattle.ild_build.proofs.Turns.{answered, fitting, join_given, fields_given, map_given, got, value_got, turn_text, turn_no_text, turn_pair, turn_no_pair, turn_entry, no_answer, an_answer, range_ok, pair_answer, pair_out, pair_behind, piece_is}
+use Rattle.ild_build.proofs.TextForms.{joined_rep, fields_rep, entries_rep, union_rep, no_pairs_text, no_kind_text, other_map_text, plain_kind, map_val}
 use Rattle.ild_build.proofs.text.+text.Goals as goal
 use Rattle.ild_build.proofs.text.+text.Goals.{add_fields-in-Some+else-is_left_out+in_ok-add_pair-in-Some+else-not-branch, add_fields-in-None+else-not-field}
 

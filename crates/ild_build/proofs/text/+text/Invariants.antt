@@ -1,4 +1,4 @@
-use Rattle.std.proofs.Common.{◌≡◌, ◌+◌, ◌*◌, ◌≤◌, drop, length, string_bytes}
+use Rattle.std.proofs.Common.{◌+◌, ◌*◌, ◌≤◌, drop, string_bytes}
 use Rattle.ild_schema.specs.Value.{height, pairs_height, optionals_height, optionals_list, pairs_list}
 use Rattle.ild_schema.specs.ValueSeen.{value_of}
 use Rattle.ild_build.specs.TextParts.{field_texts, field_pairs, entry_texts}
