@@ -1,0 +1,12 @@
+pub mod Low
+pub mod PartTests
+pub mod Holes
+pub mod Joining
+pub mod Seams
+pub mod TextForms
+pub mod Texting
+pub mod Turns
+pub mod PartFits
+pub mod RoomParts
+pub mod TreeRooms
+pub mod EachKey

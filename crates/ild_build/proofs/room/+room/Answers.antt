@@ -1,0 +1,66 @@
+use Rattle.std.proofs.Common.{◌≡◌, true, false, Some, length, ap, refl, sym, subst, ◌∙◌, ◌-◌, arith}
+use Rattle.ild_data.specs.Seen.{data_of}
+use Rattle.ild_schema.specs.ValueSeen.{value_of}
+use Rattle.ild_typed.specs.Fits.{Fits}
+use Rattle.ild_typed.specs.OfType.{OfType}
+use Rattle.ild_typed.proofs.OneLayer.{null_in}
+use Rattle.ild_build.proofs.PartTests.{part_lower}
+use Rattle.ild_build.proofs.PartFits.{part_typed}
+use Rattle.ild_build.proofs.EachKey.{any_room, plain_val}
+use Rattle.ild_build.proofs.RoomParts.{null_room, too_deep, a_part, its_keys, keys_typed, fits_by}
+use Rattle.ild_build.proofs.room.+room.Goals as goal
+
+false_true : {A : Type 0} → false ≡ true → A
+false_true e = absurd cc
+
+pub fits-returns-in-Null : goal.fits-returns-in-Null
+fits-returns-in-Null g t c = λ typed.
+    let is = ap value_of c.in-Null.is in
+    ((λ e. subst (Fits c.args.acc.now c.args.room c.args.slot) (sym is) (null_room c.args.acc.now c.args.room c.args.slot (null_in c.args.acc.now c.args.slot (subst (OfType c.args.acc.now c.args.slot) is typed)))), (λ h. refl))
+
+pub fits-returns-in-Any : goal.fits-returns-in-Any
+fits-returns-in-Any g t c = λ typed.
+    let is = ap value_of c.in-Any.is in
+    let both = any_room c.args.acc.now c.args.room c.args.slot (data_of c.in-Any.tree) (subst (OfType c.args.acc.now c.args.slot) is typed) in (
+      (λ e. subst (Fits c.args.acc.now c.args.room c.args.slot) (sym is) (both.0 (c.tree_fits.ensures.0 e))),
+      (λ h. c.tree_fits.ensures.1 (both.1 (subst (Fits c.args.acc.now c.args.room c.args.slot) is h))),
+    )
+
+pub fits-returns-in_default : goal.fits-returns-in_default
+fits-returns-in_default g t c = λ typed. c.layer_fits.ensures (plain_val c.args.val.now c.in_default.not-Null c.in_default.not-Any) typed
+
+pub layer_fits-returns-then-room-levels : goal.layer_fits-returns-then-room-levels
+layer_fits-returns-then-room-levels g t c = λ plain typed. (
+  (λ e. false_true e),
+  (λ h. absurd (too_deep c.args.acc.now c.args.room 0 c.levels_of-levels.result c.args.slot (value_of c.args.val.now) c.form_of-def.result.now c.form_of-def.ensures.same plain c.levels_of-levels.ensures c.if-room-levels.true h)),
+)
+
+pub layer_fits-fits-requires : goal.layer_fits-fits-requires
+layer_fits-fits-requires g t c =
+    let lower = part_lower (Some c.form_of-def.result.now) (value_of c.args.val.now) c.loop-i.i c.in-Some.slot (value_of c.in-Some.part.now) (sym c.in-Some.ensures.same) in
+    λ κs lives. (omega arith, (lives, c.in-Some.ensures.within (length c.args.acc.now) c.form_of-def.ensures.within))
+
+pub layer_fits-returns-then-not-fits : goal.layer_fits-returns-then-not-fits
+layer_fits-returns-then-not-fits g t c = λ plain typed.
+    let rows = c.args.acc.now in
+    let v = value_of c.args.val.now in
+    let w = value_of c.in-Some.part.now in
+    let at = sym c.in-Some.ensures.same in
+    let part = part_typed rows c.args.slot v c.form_of-def.result.now c.form_of-def.ensures.same typed c.loop-i.i c.in-Some.slot w at in (
+      (λ e. false_true e),
+      (λ h. sym c.if-not-fits.true
+          ∙ (c.fits.ensures part).1 (a_part rows c.args.room (c.args.room - c.levels_of-levels.result) c.levels_of-levels.result c.args.slot v c.form_of-def.result.now c.form_of-def.ensures.same plain c.levels_of-levels.ensures refl h c.loop-i.i c.in-Some.slot w at)),
+    )
+
+pub layer_fits-returns : goal.layer_fits-returns
+layer_fits-returns g t c = λ plain typed.
+    let rows = c.args.acc.now in
+    let v = value_of c.args.val.now in
+    let d = c.form_of-def.result.now in
+    let n = c.levels_of-levels.result in
+    let is = c.form_of-def.ensures.same in
+    let both = c.keys_fit.ensures (keys_typed rows c.args.room (c.args.room - n) n c.args.slot v d is plain c.levels_of-levels.ensures typed) in (
+      (λ e. fits_by rows c.args.room (c.args.room - n) n c.args.slot v d is plain c.levels_of-levels.ensures typed (omega arith) refl c.loop-i.i (omega arith)
+          (λ j u w less at. c.loop-i.invariant j u w less at (part_typed rows c.args.slot v d is typed j u w at)) (both.0 e)),
+      (λ h. both.1 (its_keys rows c.args.room (c.args.room - n) n c.args.slot v d is plain c.levels_of-levels.ensures refl h)),
+    )

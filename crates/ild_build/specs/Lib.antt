@@ -1,0 +1,6 @@
+pub mod PartAt
+pub mod LeftOut
+pub mod TextRep
+pub mod TextParts
+pub mod KeysIn
+pub mod IsJudged

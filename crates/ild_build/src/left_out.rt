@@ -1,0 +1,32 @@
+//! Fields that are left out of a block, since they have the value that stands for them.
+ghost use Rattle.std.specs.Prelude.{◌≡◌, List, Some, true, false};
+ghost use Rattle.ild_data.specs.Data.{Data};
+ghost use Rattle.ild_schema.specs.Fitting.{ImplicitFits};
+ghost use Rattle.ild_schema.specs.Marks.{field_text};
+ghost use Rattle.ild_schema.specs.ValueSeen.{value_of};
+ghost use Rattle.ild_schema.specs.declared.row.Row.{Row};
+ghost use Rattle.ild_build.specs.LeftOut.{is_left_out};
+
+use ild_schema::{Field, Scalar, Val};
+
+/// The name of a field in a block.
+pub(crate) fn text_of_field(field: &Field) -> &str
+    ensures { result.now ≡ field_text field.now }
+{
+    match &field.rename {
+        Some(rename) => rename.as_str(),
+        None => field.name.as_str(),
+    }
+}
+
+/// Whether the value is the one that stands for the field where it is left out.
+pub(crate) fn is_left_out(field: &Field, val: &Val) -> bool
+    ensures { result ≡ is_left_out field.now.implicit (value_of val.now) }
+{
+    match (&field.implicit, val) {
+        (Some(Scalar::Bool(implicit)), Val::Bool(b)) => *implicit == *b,
+        (Some(Scalar::Int(implicit)), Val::Int(n)) => implicit.get() == n.get(),
+        (Some(Scalar::Text(implicit)), Val::Text(text)) => implicit.as_str() == text.as_str(),
+        _ => false,
+    }
+}

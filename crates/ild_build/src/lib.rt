@@ -1,0 +1,18 @@
+//! Typed values are judged and written: their texts, and their blocks from scratch (IPLD Schemas, "Representations").
+#![tactic(auto)]
+
+mod delims;
+mod form;
+mod hole;
+mod joined;
+mod joints;
+mod judgement;
+mod key_rooms;
+mod left_out;
+mod parts;
+mod room;
+mod text;
+
+pub use joined::text_of;
+pub use judgement::{Judged, judge_by};
+pub use key_rooms::KeyRooms;

@@ -1,0 +1,141 @@
+//! Whether a value nests at most so many levels, its keys too.
+ghost use Rattle.std.specs.Prelude.{◌≡◌, ◌<◌, ◌≤◌, ◌↔◌, Some, length, true};
+ghost use Rattle.ild_data.specs.Data.{depth, items_depth, members_depth};
+ghost use Rattle.ild_data.specs.Seen.{data_of};
+ghost use Rattle.ild_schema.specs.Table.{IsWithin};
+ghost use Rattle.ild_schema.specs.Value as V;
+ghost use Rattle.ild_schema.specs.ValueSeen.{value_of};
+ghost use Rattle.ild_typed.specs.Fits.{Fits};
+ghost use Rattle.ild_typed.specs.Levels.{levels_of, map_levels, struct_levels};
+ghost use Rattle.ild_typed.specs.OfType.{OfType};
+ghost use Rattle.ild_build.specs.KeysIn.{IsPlainLayer, KeysIn};
+
+use crate::KeyRooms;
+use crate::form::form_of;
+use crate::parts::{part_at, places};
+use ild_data::{Entries, Tree, Trees};
+use ild_schema::{Accepted, MapForm, Slot, StructForm, TypeDef, Val};
+
+fn map_levels(form: &MapForm) -> u32
+    ensures { result ≡ map_levels form.now }
+{
+    match form {
+        MapForm::Map | MapForm::StringPairs(_, _) => 1,
+        MapForm::ListPairs => 2,
+        MapForm::Hamt => 5,
+    }
+}
+
+fn struct_levels(form: &StructForm) -> u32
+    ensures { result ≡ struct_levels form.now }
+{
+    match form {
+        StructForm::ListPairs => 2,
+        _ => 1,
+    }
+}
+
+// How many levels the form of a type takes, but for the data of Any.
+fn levels_of(def: &TypeDef) -> u32
+    ensures { result ≡ levels_of def.now V.null }
+{
+    match def {
+        TypeDef::Unit(_) | TypeDef::List { .. } | TypeDef::Union(_) => 1,
+        TypeDef::Map { form, .. } => map_levels(form),
+        TypeDef::Struct(s) => struct_levels(&s.form),
+        _ => 0,
+    }
+}
+
+// Whether a tree nests at most so many levels.
+#[cycle(tree)]
+fn tree_fits(tree: &Tree, room: u32) -> bool
+    ensures { (result ≡ true) ↔ depth (data_of tree.now) ≤ room }
+{
+    match tree {
+        Tree::List(trees) => room > 0 && trees_fit(trees, room - 1),
+        Tree::Map(entries) => room > 0 && entries_fit(entries, room - 1),
+        _ => true,
+    }
+}
+
+// Whether each of these trees does.
+#[cycle(tree)]
+fn trees_fit(trees: &Trees, room: u32) -> bool
+    ensures { (result ≡ true) ↔ items_depth trees.now ≤ room }
+{
+    for part in trees.as_slice() {
+        if !tree_fits(part, room) {
+            return false;
+        }
+    }
+    true
+}
+
+// And each of these entries.
+#[cycle(tree)]
+fn entries_fit(entries: &Entries, room: u32) -> bool
+    ensures { (result ≡ true) ↔ members_depth entries.now ≤ room }
+{
+    for pair in entries.as_slice() {
+        if !tree_fits(&pair.1, room) {
+            return false;
+        }
+    }
+    true
+}
+
+// Whether the keys of a layer nest at most so many levels.
+fn keys_fit<K: KeyRooms>(keys: &K, acc: &Accepted, def: &TypeDef, val: &Val, room: u32) -> bool
+    requires { IsWithin (length acc.now) def.now }
+    ensures { KeysIn (OfType acc.now) acc.now def.now (value_of val.now) → (result ≡ true) ↔ KeysIn (Fits acc.now room) acc.now def.now (value_of val.now) }
+{
+    match (def, val) {
+        (TypeDef::Map { key, .. }, Val::Map(pairs)) => {
+            for i in 0..pairs.len() {
+                if let Some(pair) = pairs.get(i) {
+                    if !keys.fits(acc, *key, pair.0.as_str(), room) {
+                        return false;
+                    }
+                }
+            }
+            true
+        }
+        _ => true,
+    }
+}
+
+/// Whether a value of a type nests at most so many levels.
+#[cycle(room)]
+pub(crate) fn fits<K: KeyRooms>(keys: &K, acc: &Accepted, slot: Slot, val: &Val, room: u32) -> bool
+    requires { slot.ty.0 < length acc.now }
+    ensures { OfType acc.now slot (value_of val.now) → (result ≡ true) ↔ Fits acc.now room slot (value_of val.now) }
+{
+    match val {
+        Val::Null => true,
+        Val::Any(tree) => tree_fits(tree, room),
+        _ => layer_fits(keys, acc, slot, val, room),
+    }
+}
+
+// The same, where it is neither null nor of Any.
+#[cycle(room)]
+fn layer_fits<K: KeyRooms>(keys: &K, acc: &Accepted, slot: Slot, val: &Val, room: u32) -> bool
+    requires { slot.ty.0 < length acc.now }
+    ensures { IsPlainLayer (value_of val.now) → OfType acc.now slot (value_of val.now) → (result ≡ true) ↔ Fits acc.now room slot (value_of val.now) }
+{
+    let def = form_of(acc, slot);
+    let levels = levels_of(def);
+    if room < levels {
+        return false;
+    }
+    let left = room - levels;
+    for i in 0..places(val) {
+        if let Some((slot, part)) = part_at(def, val, i) {
+            if !fits(keys, acc, slot, part, left) {
+                return false;
+            }
+        }
+    }
+    keys_fit(keys, acc, def, val, left)
+}
