@@ -10,3 +10,4 @@ pub mod Opening
 pub mod Stepping
 pub mod Walking
 pub mod Nexting
+pub mod Tried
