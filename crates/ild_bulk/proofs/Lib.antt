@@ -11,3 +11,4 @@ pub mod Stepping
 pub mod Walking
 pub mod Nexting
 pub mod Tried
+pub mod Regiven

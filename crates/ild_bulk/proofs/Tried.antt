@@ -179,7 +179,7 @@ each-slots h p held left depth i (s ∷ slots) [] each = absurd each
 each-slots h p held left depth i (s ∷ slots) (es ∷ ess) each =
     ap (λ o. all_some (o ∷ map (slot_of p.bucket (node_of h p left (depth + 1))) (map in_byte_order ess))) each.1.slot ∙ ap (option_map (λ ss. s ∷ ss)) (each-slots h p held left depth (i + 1) slots ess each.2)
 
-abbrev ordered : (List ℕ → List ℕ) → TrieShape → ℕ → ℕ → List (List ℕ × Data) → List (List ℕ × Data)
+abbrev pub ordered : (List ℕ → List ℕ) → TrieShape → ℕ → ℕ → List (List ℕ × Data) → List (List ℕ × Data)
 ordered h p left depth fs = part_or (nat_le (length fs) p.bucket) (in_trie_order h p left (depth + 1)) fs
 
 each-order : (h : List ℕ → List ℕ) (p : TrieShape) (held : List (List ℕ)) (left depth i : ℕ) (slots : List TrieSlot) (ess : List (List (List ℕ × Data))) → Each h p held left depth i slots ess → joined ess ≡ flat_map (ordered h p left depth) (map in_byte_order ess)
@@ -223,7 +223,7 @@ no-part : (at : List ℕ → ℕ) (i : ℕ) (es : List (List ℕ × Data)) → (
 no-part at i [] other = refl
 no-part at i (e ∷ es) other = ap (λ b. cond b (e ∷ part at es i) (part at es i)) (ne_eqb (at e.0) i (other e.0)) ∙ no-part at i es other
 
-walk_step : (h : List ℕ → List ℕ) (p : TrieShape) (left depth : ℕ) (es : List (List ℕ × Data)) → in_trie_order h p (suc left) depth es ≡ flat_map (λ i. ordered h p left depth (part (at_depth h p depth) es i)) (range_with_len 0 (2 ^ p.width))
+pub walk_step : (h : List ℕ → List ℕ) (p : TrieShape) (left depth : ℕ) (es : List (List ℕ × Data)) → in_trie_order h p (suc left) depth es ≡ flat_map (λ i. ordered h p left depth (part (at_depth h p depth) es i)) (range_with_len 0 (2 ^ p.width))
 unfolding in_trie_order
 walk_step h p left depth es = refl
 

@@ -1,5 +1,5 @@
 -- The HAMT that a store holds, and the entries that a walk of it gives.
-use Rattle.std.specs.Prelude.{◌≡◌, ℕ, zero, suc, ◌+◌, ◌-◌, ◌<◌, true, List, length, Some}
+use Rattle.std.specs.Prelude.{◌≡◌, ◌↔◌, ℕ, zero, suc, ◌+◌, ◌-◌, ◌<◌, true, List, length, Some}
 use Rattle.ild_data.specs.ByteOrder.{in_byte_order, no_key_twice}
 use Rattle.ild_data.specs.Data.{Data}
 use Rattle.ild_data.specs.Spell.{spell, id_of}
@@ -32,6 +32,6 @@ pub record IsTrieOf (h : List ℕ → List ℕ) (held : List (List ℕ)) (slots 
   pub tree : trie h usual es 0 ≡ Some (node_data slots)
   pub holds : HoldsBelow h usual held (trie_levels usual) 0 (in_byte_order es)
 
--- what blocks give is the trie of it
+-- the blocks beneath a root give exactly the entries of which they are the trie
 abbrev pub GivenIsTrie : Type 0
-GivenIsTrie = (h : List ℕ → List ℕ) (held : List (List ℕ)) (slots : List TrieSlot) (es : List (List ℕ × Data)) → IsNode usual slots → RootGives h usual held (trie_levels usual - 1) slots es → IsTrieOf h held slots es
+GivenIsTrie = (h : List ℕ → List ℕ) (held : List (List ℕ)) (slots : List TrieSlot) (es : List (List ℕ × Data)) → IsNode usual slots → RootGives h usual held (trie_levels usual - 1) slots es ↔ IsTrieOf h held slots es

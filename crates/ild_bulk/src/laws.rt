@@ -12,7 +12,7 @@ pub fn children_first()
     ensures { ChildrenFirst }
 {}
 
-/// What the blocks beneath a root give is the HAMT of it, in the order of the trie and with no key twice.
+/// The blocks beneath a root give exactly the entries whose HAMT they are, in the order of the trie and with no key twice.
 pub fn given_is_trie()
     ensures { GivenIsTrie }
 {}
