@@ -78,5 +78,5 @@ if __name__ == "__main__":
     show("four", {bytes([0, n]): bytes([n]) for n in (1, 2, 3, 4)}, padded)
     show("three", {bytes([0, n]): bytes([n]) for n in (1, 2, 3)}, padded)
     show("two children", {bytes([m, n]): bytes([n]) for m in (1, 2) for n in (1, 2, 3, 4)}, padded)
-    for count in (100, 1000):
+    for count in (100, 1000, 10000):
         show(f"{count} keys", pseudo_random(count), sha256)
