@@ -94,5 +94,5 @@ if __name__ == "__main__":
     for count in (50, 200, 400):
         show(f"{count} edits, padded", edited(count), padded)
         show(f"{count} edits, hashed", edited(count), sha256)
-    for count in (100, 1000):
+    for count in (100, 1000, 10000):
         show(f"{count} keys", pseudo_random(count), sha256)

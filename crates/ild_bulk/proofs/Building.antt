@@ -1,9 +1,9 @@
 -- The steps of a build.
-use Rattle.std.proofs.Common.{◌≡◌, ◌≤◌, ◌<◌, ◌+◌, ◌-◌, ◌^◌, ◌/◌, ℕ, zero, suc, length, map, take, drop, get_or, List, [], ◌∷◌, ◌++◌, Option, Some, None, option_map, refl, sym, ap, ◌∙◌, subst, arith}
+use Rattle.std.proofs.Common.{◌≡◌, ◌≤◌, ◌<◌, ◌+◌, ◌-◌, ◌^◌, ℕ, zero, suc, length, map, take, drop, get_or, List, [], ◌∷◌, ◌++◌, Option, Some, None, option_map, refl, sym, ap, ◌∙◌, subst, arith}
 use Rattle.std.specs.Global.{Vec}
-use Rattle.std.specs.List.{AllByRecursion, range_with_len, flat_map}
-use Rattle.std.specs.Prelude.{nat_le, Bool, true, false, Result, Ok, Err}
-use Rattle.std.proofs.lemmas.Bool.{le-leb, lt-leb, false≢true}
+use Rattle.std.specs.List.{range_with_len, flat_map}
+use Rattle.std.specs.Prelude.{nat_le, Result, Ok, Err}
+use Rattle.std.proofs.lemmas.Bool.{le-leb, lt-leb}
 use Rattle.std.proofs.lemmas.Grind.{flat_map-append}
 use Rattle.std.proofs.lemmas.List.Folds.{flat_map-map}
 use Rattle.std.proofs.lemmas.List.{same_lists, length-map, get_or-map, map-append, append_assoc, append-nil, take_more, take_all}
@@ -12,16 +12,14 @@ use Rattle.ild_data.specs.Data.{Data}
 use Rattle.ild_data.specs.declared.id.BlockId.{BlockId}
 use Rattle.ild_data.specs.Spell.{spell, id_of}
 use Rattle.ild_data.specs.TrieShape.{TrieShape, trie_levels}
-use Rattle.ild_data.specs.Trie.{TrieSlot, empty, bucket, child, bucket_or, link_to, node_data, part, slot_of, slots_of, all_some, node_of, at_depth, slots_at}
+use Rattle.ild_data.specs.Trie.{TrieSlot, empty, bucket, child, bucket_or, link_to, node_data, part, slot_of, slots_of, all_some, node_of, at_depth}
 use Rattle.ild_data.specs.TrieBlocks.{block_of, none_or}
 use Rattle.ild_trie.proofs.Fold.{slot-many as slot-many_lem}
 use Rattle.ild_trie.proofs.Slots.{some_cons}
 use Rattle.ild_trie.proofs.Node.{node-slots, no_node as none_left}
-use Rattle.ild_node.specs.declared.hold.NewHold.{NewHold}
 use Rattle.ild_node.specs.declared.hold.NewHold.TheVariants as N
 use Rattle.ild_node.specs.declared.fault.HamtFault.{HamtFault}
 use Rattle.ild_node.specs.declared.fault.HamtFault.TheVariants as F
-use Rattle.ild_node.specs.NewSlots.{slot_seen, hold_seen, IsFilledSlot}
 use Rattle.ild_node.specs.declared.keyed.Keyed.{Keyed}
 use Rattle.ild_node.specs.Keyed.{keyed_rows}
 use Rattle.ild_bulk.proofs.Keys.{PartsAre}

@@ -1,12 +1,12 @@
 -- In the plan of a HAMT each node stands behind its children; and what that leaves in a store.
-use Rattle.std.proofs.Common.{◌≡◌, ◌⊎◌, inl, inr, ⊎_elim, ℕ, zero, suc, ◌+◌, ◌^◌, ◌<◌, nat_le, Bool, true, false, List, [], ◌∷◌, ◌++◌, length, map, take, Option, Some, None, refl, sym, ap, ◌∙◌, subst, arith, flat_map, append_assoc, append-nil}
+use Rattle.std.proofs.Common.{◌≡◌, inl, inr, ⊎_elim, ℕ, zero, suc, ◌+◌, ◌^◌, nat_le, Bool, true, false, List, [], ◌∷◌, ◌++◌, length, map, take, Option, Some, None, refl, sym, ap, ◌∙◌, subst, arith, flat_map, append_assoc, append-nil}
 use Rattle.std.specs.Prelude.{IsSome, is_some, Result}
 use Rattle.std.specs.List.{AllByRecursion, range_with_len}
 use Rattle.std.proofs.lemmas.Bool.{lt-leb}
 use Rattle.ild_data.specs.Data.{Data}
 use Rattle.ild_data.specs.Spell.{spell, id_of}
 use Rattle.ild_data.specs.TrieShape.{TrieShape}
-use Rattle.ild_data.specs.Trie.{TrieSlot, empty, bucket, child, link_to, node_data, part, slot_of, all_some, node_of, at_depth, slots_at}
+use Rattle.ild_data.specs.Trie.{TrieSlot, empty, bucket, child, part, slot_of, all_some, node_of, at_depth}
 use Rattle.ild_data.specs.TrieBlocks.{block_of, none_or}
 use Rattle.ild_trie.proofs.Node.{slots-node, no_node}
 use Rattle.ild_trie.proofs.Slots.{all_some-cons}
@@ -16,7 +16,7 @@ use Rattle.ild_edges.specs.Told.{BothTold}
 use Rattle.ild_node.specs.declared.fault.HamtFault.{HamtFault}
 use Rattle.ild_bulk.specs.Children.{IsIdAmong, ChildIn, IsNodeOver, Follows, AddsWhole}
 use Rattle.ild_bulk.specs.Planned.{planned, slot_plan}
-use Rattle.ild_bulk.specs.Putting.{AreHeld, IsAmong, AddsOnly, PutsAll, StopsAfter}
+use Rattle.ild_bulk.specs.Putting.{AreHeld, IsAmong, PutsAll, StopsAfter}
 use Rattle.ild_bulk.proofs.Building.{planned_is}
 use Rattle.ild_bulk.proofs.Puts.{among-left, among-right, told-map, told-same}
 

@@ -1,5 +1,5 @@
 -- Rows with their hashes: parts of them by index are parts of the entries.
-use Rattle.std.proofs.Common.{◌≡◌, ◌<◌, ◌≤◌, ◌==◌, ℕ, Bool, true, false, cond, ◌&&◌, T, length, map, get_or, List, [], ◌∷◌, refl, sym, ap, ◌∙◌, subst, filter}
+use Rattle.std.proofs.Common.{◌≡◌, ◌<◌, ◌==◌, ℕ, Bool, true, false, cond, length, get_or, List, [], ◌∷◌, refl, sym, ap, ◌∙◌, subst, filter}
 use Rattle.std.specs.Prelude.{IsUtf8, slice_index_or}
 use Rattle.std.specs.List.{AllByRecursion}
 use Rattle.std.specs.Global.{Vec}

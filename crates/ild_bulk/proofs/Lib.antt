@@ -10,3 +10,5 @@ pub mod Opening
 pub mod Stepping
 pub mod Walking
 pub mod Nexting
+pub mod Tried
+pub mod Regiven

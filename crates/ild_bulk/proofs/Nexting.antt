@@ -1,11 +1,10 @@
 -- One call of a walker's next, put together.
-use Rattle.std.proofs.Common.{◌≡◌, ◌⊎◌, inl, inr, ⊎_elim, ◌↔◌, ℕ, zero, suc, ◌+◌, ◌-◌, ◌<◌, ◌≤◌, Bool, true, false, List, [], ◌∷◌, ◌++◌, length, Option, Some, None, refl, sym, ap, ◌∙◌, subst, arith, append_assoc, append-nil}
+use Rattle.std.proofs.Common.{◌≡◌, inl, inr, ⊎_elim, ◌↔◌, ℕ, ◌+◌, ◌-◌, ◌<◌, ◌≤◌, true, false, List, [], ◌∷◌, ◌++◌, length, Option, Some, None, refl, sym, ap, ◌∙◌, subst, arith, append_assoc, append-nil}
 use Rattle.std.specs.Prelude.{Result, Ok, Err}
 use Rattle.std.proofs.lemmas.Bool.{false≢true}
 use Rattle.ild_cbor.specs.declared.why.BlockWhy.{BlockWhy}
 use Rattle.ild_cbor.specs.declared.why.BlockWhy.TheVariants.{Missing, Cbor, Shape as NoNode}
 use Rattle.ild_data.specs.Data.{Data}
-use Rattle.ild_data.specs.Spell.{spell}
 use Rattle.ild_data.specs.Trie.{TrieSlot}
 use Rattle.ild_data.specs.TrieShape.{trie_levels}
 use Rattle.ild_edges.specs.Count.{Rose}
@@ -18,9 +17,9 @@ use Rattle.ild_node.specs.declared.fault.HamtFault.TheVariants as F
 use Rattle.std.proofs.lemmas.List.{length-append}
 use Rattle.ild_bulk.specs.Gives.{RootGives}
 use Rattle.ild_bulk.specs.Checked.{HasWalked, Checks, CheckAnswer}
-use Rattle.ild_bulk.specs.Fetching.{IsRefused, GotFaulty, IsFaulty, OnlyGets}
+use Rattle.ild_bulk.specs.Fetching.{IsRefused, OnlyGets}
 use Rattle.ild_bulk.specs.Todo.{Todo, give, enter, leave, node_todo, fits, StillGives}
-use Rattle.ild_bulk.specs.Ahead.{Ahead, StillAhead, Begins, BeginsWith, GivesStill, GivesRow, walker_todo, walker_path, IsTrieFault, NothingAhead, SameAhead, SameTold, NothingTold, KeepsAhead, Leaves, Enters, EnterAnswer, IsCause, IsUnchanged, IsTaken, Takes, Gives, GiveAnswer, GivesNext, IsNew, IsReady, NextAnswer, Nexts, Counts}
+use Rattle.ild_bulk.specs.Ahead.{Ahead, StillAhead, walker_todo, walker_path, IsTrieFault, SameTold, NothingTold, KeepsAhead, Leaves, Enters, EnterAnswer, IsCause, IsUnchanged, Takes, Gives, GiveAnswer, GivesNext, IsNew, IsReady, NextAnswer, Nexts, Counts}
 use Rattle.ild_bulk.proofs.Opening.{root-on, root-off}
 use Rattle.ild_bulk.proofs.Walking.{unchanged-same}
 use Rattle.ild_bulk.specs.declared.row.Row.{Row}

@@ -1,5 +1,5 @@
 -- Opening a child: what it gives, and what is still to be given once its slots are to be done.
-use Rattle.std.proofs.Common.{◌≡◌, ℕ, zero, suc, ◌+◌, ◌-◌, ◌<◌, ◌==◌, ◌&&◌, Bool, true, false, List, [], ◌∷◌, ◌++◌, length, map, refl, sym, ap, ◌∙◌, subst, arith, append_assoc, append-nil}
+use Rattle.std.proofs.Common.{◌≡◌, ℕ, suc, ◌+◌, ◌-◌, ◌==◌, ◌&&◌, Bool, true, false, List, [], ◌∷◌, ◌++◌, length, map, refl, sym, ap, ◌∙◌, subst, arith, append_assoc}
 use Rattle.std.specs.List.{AllByRecursion}
 use Rattle.std.proofs.lemmas.Bool.{and_parts, and_from, eq-eqb, eqb-true}
 use Rattle.std.proofs.lemmas.List.{length-append}
@@ -7,7 +7,7 @@ use Rattle.ild_data.specs.Data.{Data}
 use Rattle.ild_data.specs.Trie.{TrieSlot, empty, bucket, child, at_depth}
 use Rattle.ild_data.specs.TrieShape.{TrieShape, index, trie_levels}
 use Rattle.ild_bulk.specs.Gives.{SlotGives, SlotsGive, AtIndex, TreeGives}
-use Rattle.ild_bulk.specs.Todo.{Todo, give, enter, leave, slot_todo, node_todo, agrees, fits, AllFit, StillGives}
+use Rattle.ild_bulk.specs.Todo.{Todo, give, slot_todo, node_todo, agrees, fits, AllFit, StillGives}
 
 -- ---- paths
 

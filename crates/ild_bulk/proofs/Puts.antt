@@ -1,15 +1,11 @@
 -- Puts of blocks, one after another.
-use Rattle.std.proofs.Common.{◌≡◌, ◌≢◌, ◌⊎◌, inl, inr, ⊎_elim, ℕ, zero, suc, ◌+◌, ◌≤◌, ◌<◌, Bool, true, false, List, [], ◌∷◌, ◌++◌, length, map, take, drop, get_or, Option, Some, None, Result, Ok, Err, refl, sym, ap, ◌∙◌, subst, arith, append_assoc, append-nil}
-use Rattle.std.specs.Prelude.{min}
+use Rattle.std.proofs.Common.{◌≡◌, ◌⊎◌, inl, inr, ⊎_elim, ℕ, zero, suc, ◌+◌, ◌≤◌, ◌<◌, Bool, true, false, List, [], ◌∷◌, ◌++◌, length, map, take, drop, get_or, Option, Some, None, Ok, Err, refl, sym, ap, ◌∙◌, subst, arith, append_assoc}
 use Rattle.std.specs.Cmp.Lexicographic.{same_text as text_same, other_text}
-use Rattle.std.proofs.lemmas.Bool.{cases_Bool}
 use Rattle.std.proofs.lemmas.List.{take_more, take_all, take_at, length-append, map-append}
 use Rattle.ild_data.specs.Key.{same_text}
 use Rattle.ild_data.specs.Spell.{id_of}
-use Rattle.ild_edges.specs.Count.{Rose, bumped}
 use Rattle.ild_edges.specs.Store.{Moment, Later, Puts, Adds, IsFree, Keeps, Gives, block_at}
-use Rattle.ild_edges.specs.Told.{IfTold, BothTold}
-use Rattle.ild_edges.specs.declared.error.EdgeErr.{EdgeErr}
+use Rattle.ild_edges.specs.Told.{BothTold}
 use Rattle.ild_edges.specs.declared.error.EdgeErr.TheVariants as E
 use Rattle.ild_edges.proofs.Later.{Later-refl, Later-trans}
 use Rattle.ild_bulk.specs.Putting.{AreHeld, IsAmong, AddsOnly, PutAnswer, PutsOne, PutsAnswer, PutsAll, StopsAfter, GivesAll}

@@ -2,14 +2,14 @@
 use Rattle.std.proofs.Common.{◌≡◌, ℕ, zero, suc, ◌+◌, ◌<◌, ◌≤◌, ◌^◌, List, [], ◌∷◌, ◌++◌, length, map, take, get_or, Option, Some, None, refl, sym, ap, ◌∙◌, subst, arith, append_assoc, append-nil}
 use Rattle.std.specs.Prelude.{slice_get, reverse, Result, Ok, Err, OnOk}
 use Rattle.std.specs.Borrow.{Bor}
-use Rattle.std.proofs.lemmas.List.{take_more, take_all, map-append, length-append, reverse-append}
+use Rattle.std.proofs.lemmas.List.{take_all, map-append, reverse-append}
 use Rattle.ild_data.specs.Data.{Data}
 use Rattle.ild_data.specs.Trie.{TrieSlot, empty, bucket, child}
 use Rattle.ild_typed.specs.Composed.{usual}
 use Rattle.ild_cbor.specs.Nodes.{Stands}
 use Rattle.ild_cbor.specs.declared.node.Node.{Node}
-use Rattle.ild_node.specs.Steps.{IsAtSlot, SlotsGive, SlotStep}
-use Rattle.ild_node.specs.Views.{HasSlots, SlotHolds, SlotIs, EntryIs}
+use Rattle.ild_node.specs.Steps.{SlotsGive}
+use Rattle.ild_node.specs.Views.{HasSlots, SlotHolds, EntryIs}
 use Rattle.ild_node.specs.declared.bucket.Bucket.{Bucket}
 use Rattle.ild_node.specs.declared.slots.Slots.{Slots}
 use Rattle.ild_node.specs.declared.view.NodeView.{NodeView}
@@ -24,7 +24,7 @@ use Rattle.ild_bulk.specs.Fetching.{ReadsBlock, IsBlockAt, OnlyGets, Fetches}
 use Rattle.ild_bulk.specs.Gathered.{Gathered}
 use Rattle.ild_bulk.specs.Shown.{Shows}
 use Rattle.ild_bulk.specs.Steps.{step_todo, steps_todo}
-use Rattle.ild_bulk.specs.Todo.{Todo, give, enter, slot_todo, node_todo}
+use Rattle.ild_bulk.specs.Todo.{Todo, give, slot_todo, node_todo}
 use Rattle.ild_bulk.specs.declared.step.Step.{Step}
 use Rattle.ild_bulk.specs.declared.step.Step.TheVariants as T
 use Rattle.ild_bulk.specs.declared.step.Entry.{Entry}

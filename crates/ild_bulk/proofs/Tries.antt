@@ -1,14 +1,14 @@
 -- The trie of rows, and its blocks.
-use Rattle.std.proofs.Common.{◌≡◌, ℕ, ◌+◌, ◌-◌, ◌≤◌, ◌<◌, Bool, true, false, not, cond, ◌&&◌, ◌||◌, List, [], ◌∷◌, ◌++◌, map, take, length, get_or, Ok, Err, Result, inl, inr, Option, Some, None, is_some, option_map, refl, sym, ap, ◌∙◌, subst, arith}
-use Rattle.std.specs.Ordering.{is_lt, is_eq, eq_by_cmp}
+use Rattle.std.proofs.Common.{◌≡◌, ℕ, ◌+◌, ◌-◌, ◌≤◌, ◌<◌, Bool, true, false, not, cond, ◌&&◌, ◌||◌, List, [], ◌∷◌, ◌++◌, take, length, get_or, Ok, Err, Result, inl, inr, Option, Some, None, is_some, option_map, refl, sym, ap, ◌∙◌, subst, arith}
+use Rattle.std.specs.Ordering.{is_lt, is_eq}
 use Rattle.std.specs.FinMap.{find, is_sorted}
 use Rattle.std.specs.FinMap.Entries.{below_all}
-use Rattle.std.proofs.lemmas.Bool.{and_parts, and_from}
+use Rattle.std.proofs.lemmas.Bool.{and_parts}
 use Rattle.std.proofs.lemmas.List.{take_more, take_all, map-append}
 use Rattle.ild_data.specs.Data.{Data}
 use Rattle.ild_data.specs.Spell.{spell}
 use Rattle.ild_data.specs.TrieShape.{TrieShape, trie_levels}
-use Rattle.ild_data.specs.ByteOrder.{bytewise, in_byte_order, no_key_twice}
+use Rattle.ild_data.specs.ByteOrder.{bytewise, no_key_twice}
 use Rattle.ild_data.specs.Trie.{node_of, trie}
 use Rattle.ild_trie.proofs.Node.{trie-sorted}
 use Rattle.ild_trie.proofs.Parts.{sorted_in_order}

@@ -1,5 +1,5 @@
 -- What the calls of a walker do to what is ahead.
-use Rattle.std.proofs.Common.{◌≡◌, ◌⊎◌, inl, inr, ⊎_elim, ◌↔◌, ℕ, zero, suc, ◌+◌, ◌-◌, ◌<◌, ◌≤◌, ◌==◌, Bool, true, false, List, [], ◌∷◌, ◌++◌, length, map, set, take, Option, Some, None, refl, sym, ap, ◌∙◌, subst, arith, append_assoc, append-nil}
+use Rattle.std.proofs.Common.{◌≡◌, inl, ℕ, suc, ◌+◌, ◌-◌, ◌<◌, ◌≤◌, List, [], ◌∷◌, ◌++◌, length, map, set, Some, None, refl, sym, ap, ◌∙◌, subst, arith, append_assoc, append-nil}
 use Rattle.std.specs.Prelude.{slice_get, reverse, Result, Ok, Err, OnOk}
 use Rattle.std.specs.Global.{Vec}
 use Rattle.std.proofs.lemmas.List.{map-append, reverse-append, length-append, length-map}
@@ -12,17 +12,17 @@ use Rattle.ild_data.specs.Spell.{spell}
 use Rattle.ild_edges.specs.Told.{IfTold}
 use Rattle.ild_data.specs.Data.{Data}
 use Rattle.ild_data.specs.Trie.{TrieSlot, node_data, empty, bucket, child}
-use Rattle.ild_data.specs.TrieShape.{TrieShape, trie_levels}
+use Rattle.ild_data.specs.TrieShape.{trie_levels}
 use Rattle.ild_edges.specs.Store.{Moment, block_at}
 use Rattle.ild_typed.specs.Composed.{usual}
 use Rattle.ild_trie.proofs.Bits.{same_node}
 use Rattle.ild_node.proofs.Fits.{whole_map}
 use Rattle.ild_node.specs.declared.fault.HamtFault.{HamtFault}
 use Rattle.ild_node.specs.declared.fault.HamtFault.TheVariants as F
-use Rattle.ild_bulk.specs.Gives.{IsNodeOf, NodeGives, TreeGives, SlotsGive}
-use Rattle.ild_bulk.specs.Todo.{Todo, give, enter, leave, slot_todo, node_todo, AllFit, StillGives}
+use Rattle.ild_bulk.specs.Gives.{IsNodeOf, TreeGives, SlotsGive}
+use Rattle.ild_bulk.specs.Todo.{Todo, enter, leave, slot_todo, node_todo, StillGives}
 use Rattle.ild_bulk.specs.Steps.{step_todo, steps_todo, path_of}
-use Rattle.ild_bulk.specs.Ahead.{StillAhead, NextIs, walker_todo, walker_path, IsTrieFault, NothingAhead, SameAhead, Leaves, IsPast, IsEntered, IsUnchanged, SameTold, NothingTold, Opens, EnterAnswer, Enters}
+use Rattle.ild_bulk.specs.Ahead.{NextIs, walker_todo, walker_path, NothingAhead, Leaves, IsPast, IsEntered, IsUnchanged, SameTold, NothingTold, Opens, EnterAnswer, Enters}
 use Rattle.ild_bulk.specs.Fetching.{GotSteps, IsRefused, FetchAnswer, Fetches}
 use Rattle.ild_bulk.specs.declared.step.Child.{Child}
 use Rattle.ild_bulk.specs.declared.step.Step.{Step}

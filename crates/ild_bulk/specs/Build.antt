@@ -1,9 +1,9 @@
 -- What building a HAMT from its entries gives and leaves.
-use Rattle.std.specs.Prelude.{◌≡◌, ◌⊎◌, ℕ, ◌+◌, ◌≤◌, nat_lt, Bool, true, false, ◌||◌, List, [], ◌∷◌, length, Option, Some, None, IsSome, Result, Ok, Err}
+use Rattle.std.specs.Prelude.{◌≡◌, ◌⊎◌, ℕ, nat_lt, Bool, true, false, ◌||◌, List, [], ◌∷◌, length, Some, None, Result, Ok, Err}
 use Rattle.ild_data.specs.Data.{Data}
 use Rattle.ild_data.specs.Limits.{longest_block}
 use Rattle.ild_data.specs.Spell.{spell}
-use Rattle.ild_edges.specs.Store.{Moment, Later}
+use Rattle.ild_edges.specs.Store.{Moment}
 use Rattle.ild_data.specs.TrieShape.{TrieShape, trie_levels}
 use Rattle.ild_data.specs.Trie.{trie}
 use Rattle.ild_bulk.specs.Planned.{planned}

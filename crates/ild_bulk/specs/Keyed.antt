@@ -1,8 +1,7 @@
 -- Rows with the hashes of their keys, and their parts by index.
-use Rattle.std.specs.Prelude.{◌≡◌, ◌<◌, ℕ, ◌==◌, List, [], length, map, slice_index_or}
+use Rattle.std.specs.Prelude.{◌≡◌, ◌<◌, ℕ, ◌==◌, List, [], length, slice_index_or}
 use Rattle.std.specs.List.{AllByRecursion, filter}
 use Rattle.std.specs.Global.{Vec}
-use Rattle.ild_data.specs.Data.{Data}
 use Rattle.ild_data.specs.TrieShape.{TrieShape, index}
 use Rattle.ild_node.specs.Keyed.{keyed_seen}
 use Rattle.ild_node.specs.declared.keyed.Keyed.{Keyed}

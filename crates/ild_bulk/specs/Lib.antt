@@ -12,3 +12,4 @@ pub mod Gathered
 pub mod Fetching
 pub mod Ahead
 pub mod Checked
+pub mod Trees

@@ -1,5 +1,5 @@
 -- What puts of many blocks leave.
-use Rattle.std.specs.Prelude.{◌≡◌, ◌≢◌, ◌⊎◌, ◌↔◌, Contains, ℕ, ◌+◌, ◌≤◌, List, [], ◌∷◌, ◌++◌, length, map, take, Result, Ok, Err, Some}
+use Rattle.std.specs.Prelude.{◌≡◌, ◌≢◌, ◌⊎◌, ◌↔◌, Contains, ℕ, ◌+◌, ◌≤◌, List, [], ◌∷◌, length, map, take, Result, Ok, Err, Some}
 use Rattle.ild_data.specs.Spell.{id_of}
 use Rattle.ild_edges.specs.Count.{Rose}
 use Rattle.ild_edges.specs.Store.{Moment, Later, Gives, block_at}

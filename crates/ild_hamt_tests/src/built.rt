@@ -8,9 +8,14 @@ use std::alloc::Global;
 use std::test::Fail;
 
 /// Keys of two bytes, of which the first is the index at depth 0.
-const FOUR: [(&str, u8); 4] = [("\0\x01", 1), ("\0\x02", 2), ("\0\x03", 3), ("\0\x04", 4)];
+pub(crate) const FOUR: [(&str, u8); 4] = [
+    ("\0\x01", 1),
+    ("\0\x02", 2),
+    ("\0\x03", 3),
+    ("\0\x04", 4),
+];
 
-const TWO_CHILDREN: [(&str, u8); 8] = [
+pub(crate) const TWO_CHILDREN: [(&str, u8); 8] = [
     ("\x01\x01", 1),
     ("\x01\x02", 2),
     ("\x01\x03", 3),
@@ -32,19 +37,29 @@ const AGREE: [(&str, u8); 4] = [
 const ABC: &[u8] =
     b"\x82\x58\x20\x00\x00\x00\x00\x00\x00\x00\x00\x00\x00\x00\x00\x00\x00\x00\x00\x00\x00\x00\x00\x00\x00\x00\x04\x00\x00\x00\x00\x00\x00\x00\x00\x81\x81\x82\x43\x61\x62\x63\x01";
 
-const ROOT_OF_FOUR: &[u8] =
+pub(crate) const ROOT_OF_FOUR: &[u8] =
     b"\x82\x58\x20\x01\x00\x00\x00\x00\x00\x00\x00\x00\x00\x00\x00\x00\x00\x00\x00\x00\x00\x00\x00\x00\x00\x00\x00\x00\x00\x00\x00\x00\x00\x00\x00\x81\xd8\x2a\x58\x25\x00\x01\x71\x12\x20\x7d\x10\x5d\x38\xfa\x26\xfd\xeb\xff\x46\x24\x9f\x5c\x31\xf5\x98\x4d\x2c\xad\x8e\x59\xf6\x21\xc9\x4a\xf6\xcd\x77\x8d\x9a\x81\x0e";
 
-const CHILD_OF_FOUR: &[u8] =
+pub(crate) const CHILD_OF_FOUR: &[u8] =
     b"\x82\x58\x20\x1e\x00\x00\x00\x00\x00\x00\x00\x00\x00\x00\x00\x00\x00\x00\x00\x00\x00\x00\x00\x00\x00\x00\x00\x00\x00\x00\x00\x00\x00\x00\x00\x84\x81\x82\x42\x00\x01\x01\x81\x82\x42\x00\x02\x02\x81\x82\x42\x00\x03\x03\x81\x82\x42\x00\x04\x04";
 
 const ROOT_OF_THREE: &[u8] =
     b"\x82\x58\x20\x01\x00\x00\x00\x00\x00\x00\x00\x00\x00\x00\x00\x00\x00\x00\x00\x00\x00\x00\x00\x00\x00\x00\x00\x00\x00\x00\x00\x00\x00\x00\x00\x81\x83\x82\x42\x00\x01\x01\x82\x42\x00\x02\x02\x82\x42\x00\x03\x03";
 
-const THOUSAND: &str = "bafyreihetmn3hkdixua3ovdbstjtijxkuayjcr3ihlemi4zljuig7vwpsm";
+/// How many keys, and the CID of the root node of their HAMT.
+const MANY: [(u16, &str); 2] = [
+    (
+        1000,
+        "bafyreihetmn3hkdixua3ovdbstjtijxkuayjcr3ihlemi4zljuig7vwpsm",
+    ),
+    (
+        10000,
+        "bafyreicpa3ynjflb6l6325sdipj7vsyoddht2zf3pjnypp5lufk5ztt32a",
+    ),
+];
 
 /// The root node of these entries.
-fn built<H: KeyHash>(
+pub(crate) fn built<H: KeyHash>(
     alloc: Global,
     pairs: &[(&str, u8)],
     keys: &H,
@@ -129,7 +144,7 @@ fn letter(n: u32, shift: u32) -> char {
 }
 
 /// So many rising keys of eight letters: four that count, and four of a linear congruential generator.
-fn pseudo_random(alloc: Global, count: u16) -> Result<Rows, Fail> {
+pub(crate) fn pseudo_random(alloc: Global, count: u16) -> Result<Rows, Fail> {
     let mut rows = Rows::new(alloc);
     let mut state: u32 = 1;
     for n in 0..count {
@@ -149,13 +164,15 @@ fn pseudo_random(alloc: Global, count: u16) -> Result<Rows, Fail> {
 }
 
 #[test]
-fn a_thousand_keys(rt: HostRuntime) -> Result<(), Fail> {
-    let mut store = MemStore::new(rt.alloc(), &[], &[])?;
-    let rows = pseudo_random(rt.alloc(), 1000)?;
-    let root = from_entries(rt.alloc(), &rows, &Sha256Keys, &mut store)
-        .ok()
-        .ok_or("a root")?;
-    let text = block_id(root.as_slice()).text(rt.alloc())?;
-    assert_eq!(rt; text.as_str(), THOUSAND);
+fn many_keys(rt: HostRuntime) -> Result<(), Fail> {
+    for (count, cid) in MANY {
+        let mut store = MemStore::new(rt.alloc(), &[], &[])?;
+        let rows = pseudo_random(rt.alloc(), count)?;
+        let root = from_entries(rt.alloc(), &rows, &Sha256Keys, &mut store)
+            .ok()
+            .ok_or("a root")?;
+        let text = block_id(root.as_slice()).text(rt.alloc())?;
+        assert_eq!(rt; text.as_str(), cid);
+    }
     Ok(())
 }

@@ -10,4 +10,6 @@ mod nodes;
 #[cfg(test)]
 mod rows;
 #[cfg(test)]
+mod walked;
+#[cfg(test)]
 mod whys;

@@ -1,12 +1,12 @@
 -- What a draft of a node has written so far.
-use Rattle.std.proofs.Common.{◌≡◌, ℕ, ◌+◌, ◌<◌, ◌≤◌, ◌^◌, Bool, true, false, List, [], ◌∷◌, ◌++◌, length, map, take, get_or, refl, sym, ap, ◌∙◌, subst, arith, flat_map, append_assoc, append-nil}
+use Rattle.std.proofs.Common.{◌≡◌, ℕ, ◌+◌, ◌<◌, ◌≤◌, ◌^◌, Bool, List, [], ◌∷◌, ◌++◌, length, map, take, get_or, refl, sym, ap, ◌∙◌, arith, flat_map, append_assoc, append-nil}
 use Rattle.std.specs.List.{AllByRecursion, count_by}
 use Rattle.std.proofs.lemmas.List.{take_all, length-map, map-append}
 use Rattle.std.proofs.lemmas.Grind.{flat_map-append}
 use Rattle.ild_data.specs.Data.{Data, items_of, items_list}
 use Rattle.ild_data.specs.Spell.{head, spell, spell_bytes}
 use Rattle.ild_data.proofs.Lists.{length-items}
-use Rattle.ild_data.specs.Trie.{TrieSlot, bucket, is_used, entry_data, elements_of, node_data}
+use Rattle.ild_data.specs.Trie.{TrieSlot, bucket, is_used, entry_data, elements_of}
 use Rattle.ild_typed.specs.Composed.{usual}
 use Rattle.ild_node.specs.Drafts.{HasWritten, FillBucket}
 use Rattle.ild_node.specs.Form.{bucket_data}

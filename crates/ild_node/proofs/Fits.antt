@@ -1,30 +1,21 @@
 -- What is read as a node is one, and a node is read.
-use Rattle.std.proofs.Common.{◌≡◌, ℕ, zero, suc, ◌+◌, ◌-◌, ◌*◌, ◌/◌, ◌%◌, ◌^◌, ◌<◌, ◌≤◌, ◌==◌, Bool, true, false, cond, ◌&&◌, List, [], ◌∷◌, ◌++◌, length, map, take, drop, Option, Some, None, refl, sym, ap, ◌∙◌, subst, arith, flat_map}
+use Rattle.std.proofs.Common.{◌≡◌, ℕ, zero, suc, ◌*◌, ◌/◌, ◌%◌, ◌^◌, ◌≤◌, Bool, false, List, Option, Some, None, refl, sym, ap, ◌∙◌, subst, arith, flat_map}
 use Rattle.std.specs.Prelude.{MatchOption}
-use Rattle.std.specs.List.{range_with_len}
-use Rattle.std.proofs.lemmas.Bool.{and_parts, and_from, eqb-true, eq-eqb}
-use Rattle.std.proofs.lemmas.List.{length-map}
-use Rattle.std.proofs.lemmas.List.FromFn.{length-map-range_with_len}
 use native.Mathlib.Numerals.{unary_clauses}
-use Rattle.ild_data.specs.Data.{Data, null, boolean, integer, text, bytes, list, map as map_data, link, Items, no_items, item, items_of, items_list}
-use Rattle.ild_data.specs.Bytes.{AreBytes}
-use Rattle.ild_data.specs.Tree.{IsTree}
-use Rattle.ild_data.proofs.Lists.{items_by_list, items_list-items_of}
+use Rattle.ild_data.specs.Data.{Data, bytes, list, Items, items_of}
 use Rattle.ild_cbor.specs.declared.node.Node.{Node}
-use Rattle.ild_data.specs.Tree.{AreTrees}
 use Rattle.ild_cbor.specs.Nodes.{Stands, IsPart}
 use Rattle.ild_cbor.specs.Span.{place_of}
 use Rattle.ild_cbor.specs.declared.items.Items.{Items as ItemsLeft}
 use Rattle.ild_cbor.specs.Scalar.{bytes_of}
 use Rattle.ild_cbor.specs.Steps.{IteratesItems, FindsItems, items_of as list_items}
 use Rattle.ild_data.specs.TrieShape.{TrieShape}
-use Rattle.ild_data.specs.Trie.{TrieSlot, is_used, map_of, byte_of, elements_of, node_data}
+use Rattle.ild_data.specs.Trie.{TrieSlot, map_of, elements_of, node_data}
 use Rattle.ild_node.specs.Form.{IsNode}
-use Rattle.ild_typed.specs.NodeReading.{pair_in, two_of, map_bit, map_bits, elements_fit, parts_fit, pair_fits, node_fits}
+use Rattle.ild_typed.specs.NodeReading.{pair_in, parts_fit, pair_fits, node_fits}
 use Rattle.ild_node.specs.Parts.{IsViewOf, PairIs}
 use Rattle.ild_node.specs.Views.{HasSlots}
 use Rattle.ild_node.specs.declared.view.NodeView.{NodeView}
-use Rattle.ild_typed.proofs.NodeEntries.{pair-taken}
 use Rattle.ild_node.proofs.Iter.{iter-first}
 use Rattle.ild_typed.proofs.NodeRoots.{node-taken}
 

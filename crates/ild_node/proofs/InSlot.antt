@@ -1,13 +1,12 @@
 -- What stands in one slot of a node.
-use Rattle.std.proofs.Common.{◌≡◌, ◌≢◌, ℕ, zero, suc, ◌+◌, ◌-◌, ◌*◌, ◌/◌, ◌%◌, ◌^◌, ◌<◌, ◌≤◌, ◌==◌, ⊎_elim, Bool, true, false, cond, List, [], ◌∷◌, ◌++◌, length, map, take, drop, get_or, Option, Some, None, option_map, refl, sym, ap, ◌∙◌, subst, arith, flat_map, append-nil}
+use Rattle.std.proofs.Common.{◌≡◌, ℕ, zero, suc, ◌+◌, ◌*◌, ◌/◌, ◌%◌, ◌^◌, ◌<◌, ◌≤◌, ◌==◌, ⊎_elim, true, false, cond, List, [], ◌∷◌, ◌++◌, length, map, take, drop, get_or, Option, Some, None, option_map, refl, sym, ap, ◌∙◌, subst, arith, flat_map, append-nil}
 use Rattle.std.specs.Prelude.{nat_le, slice_get, IsSome, IfSome, IsUtf8, ◌↔◌}
 use Rattle.std.proofs.Math.Seq.{take-suc}
 use Rattle.std.proofs.lemmas.Bool.{false≢true, false_from_ne_true, cases_lt, agree_below_at, leb-true}
-use Rattle.std.specs.List.{range_with_len}
 use Rattle.std.proofs.lemmas.List.FromFn.{length-map-range_with_len}
 use Rattle.std.proofs.lemmas.List.{length-append}
 use Rattle.std.proofs.lemmas.Grind.{flat_map-append}
-use Rattle.ild_data.specs.Data.{Data, null, boolean, integer, text, bytes, list, map as map_data, link, Items, items_of, items_list}
+use Rattle.ild_data.specs.Data.{Data, link}
 use Rattle.ild_data.specs.CidRead.{CidParts}
 use Rattle.ild_data.specs.declared.id.BlockId.{BlockId}
 use Rattle.ild_data.specs.Spell.{cid_of}
@@ -28,7 +27,7 @@ use Rattle.ild_node.specs.Items.{IsAtItem}
 use Rattle.ild_node.specs.Parts.{EntryIn}
 use Rattle.ild_node.specs.Places.{elements_data, elements_before, slot_place}
 use Rattle.ild_node.specs.Steps.{IsAtSlot}
-use Rattle.ild_node.specs.Views.{HasSlots, HasEntries, IsBucketAt, EntryIs, SlotHolds, SlotIs, ElementIs}
+use Rattle.ild_node.specs.Views.{HasSlots, IsBucketAt, EntryIs, SlotHolds, SlotIs, ElementIs}
 use Rattle.ild_node.specs.declared.slots.Slots.{Slots}
 use Rattle.ild_cbor.specs.declared.items.Items.{Items as ItemsLeft}
 use Rattle.ild_cbor.specs.Steps.{ItemsGive}

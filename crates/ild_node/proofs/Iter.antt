@@ -1,15 +1,14 @@
 -- Steps of an iterator over the items of a list, each at its place.
-use Rattle.std.proofs.Common.{◌≡◌, ℕ, zero, suc, ◌+◌, ◌<◌, ◌≤◌, List, [], ◌∷◌, ◌++◌, length, drop, take, Option, Some, None, refl, sym, ap, ◌∙◌, subst, arith, append_assoc, append-nil}
+use Rattle.std.proofs.Common.{◌≡◌, ℕ, zero, suc, ◌+◌, ◌≤◌, List, [], ◌∷◌, ◌++◌, length, drop, Some, None, refl, sym, ap, ◌∙◌, subst, arith, append_assoc, append-nil}
 use Rattle.std.specs.Prelude.{slice_get}
 use Rattle.std.proofs.lemmas.List.{length-append}
-use Rattle.ild_data.specs.Data.{Data, list, Items, no_items, item, items_of, items_list}
+use Rattle.ild_data.specs.Data.{Data, list, no_items, items_of, items_list}
 use Rattle.ild_data.specs.Spell.{head, spell}
-use Rattle.ild_data.proofs.Lists.{items_list-items_of}
 use Rattle.ild_cbor.specs.declared.node.Node.{Node}
 use Rattle.ild_cbor.specs.declared.items.Items.{Items as ItemsLeft}
-use Rattle.ild_cbor.specs.Nodes.{Stands, IsPart, block_of, start_of}
+use Rattle.ild_cbor.specs.Nodes.{IsPart, start_of}
 use Rattle.ild_cbor.specs.Span.{place_of, items_before}
-use Rattle.ild_cbor.specs.Steps.{HasItems, ItemStep, ItemsGive, IteratesItems}
+use Rattle.ild_cbor.specs.Steps.{HasItems, ItemsGive, IteratesItems}
 use Rattle.ild_node.specs.Items.{IsAtItem}
 
 -- a part of a part

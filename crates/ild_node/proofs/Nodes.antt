@@ -1,24 +1,20 @@
 -- The node of sound slots is a tree that nests within the limits.
-use Rattle.std.proofs.Common.{◌≡◌, ℕ, ◌^◌, ◌≤◌, List, [], ◌∷◌, ◌++◌, length}
+use Rattle.std.proofs.Common.{◌≡◌, ℕ, ◌^◌, List, [], ◌∷◌, length}
 use Rattle.std.specs.Prelude.{Result, Ok, Err, OnOk}
 use Rattle.std.specs.List.{AllByRecursion}
-use Rattle.ild_data.specs.Data.{Data, depth}
+use Rattle.ild_data.specs.Data.{Data}
 use Rattle.ild_data.specs.Bytes.{AreBytes}
 use Rattle.ild_data.specs.Spell.{spell}
-use Rattle.ild_data.specs.Tree.{IsTree}
 use Rattle.ild_data.specs.Trie.{TrieSlot, empty, bucket, child, node_data}
-use Rattle.ild_data.specs.TrieShape.{TrieShape}
 use Rattle.ild_typed.specs.Composed.{usual}
 use Rattle.ild_typed.specs.Nested.{TreeIn}
-use Rattle.ild_typed.specs.Node.{IsSlot}
 use Rattle.ild_typed.proofs.TreeNodes.{SlotIn, node_in}
 use Rattle.ild_typed.proofs.Treed.{EntryIn}
 use Rattle.ild_typed.proofs.Utf8Texts.{link_fits}
 use Rattle.ild_node.specs.Form.{AreSlots, AreTexts}
-use Rattle.ild_node.specs.Rows.{AreRows, AreShallow, deepest_value}
-use Rattle.ild_node.specs.NewSlots.{hold_seen, slot_seen, IsFilled}
+use Rattle.ild_node.specs.Rows.{AreRows, deepest_value}
+use Rattle.ild_node.specs.NewSlots.{IsFilled}
 use Rattle.ild_node.specs.Written.{IsNodeBlock, IsSound}
-use Rattle.ild_node.specs.declared.hold.NewHold.{NewHold}
 use Rattle.ild_node.specs.declared.hold.NewHold.TheVariants as N
 
 entries_in : (es : List (List ℕ × Data)) → AreTexts es → AllByRecursion (λ e. TreeIn deepest_value e.1) es → AllByRecursion (EntryIn deepest_value) es

@@ -1,13 +1,13 @@
 -- A row that is pushed behind lesser ones.
-use Rattle.std.proofs.Common.{◌≡◌, ℕ, Bool, true, ◌&&◌, T, List, [], ◌∷◌, ◌++◌, map, refl, sym, ap, ◌∙◌, subst}
-use Rattle.std.specs.Prelude.{IsUtf8, ◌≤◌}
+use Rattle.std.proofs.Common.{◌≡◌, ℕ, true, List, [], ◌∷◌, ◌++◌, refl, sym, ap, ◌∙◌, subst}
+use Rattle.std.specs.Prelude.{IsUtf8}
 use Rattle.std.specs.Ordering.{is_lt}
 use Rattle.std.specs.FinMap.{is_sorted}
 use Rattle.std.specs.FinMap.Entries.{below_all}
 use Rattle.std.proofs.lemmas.Bool.{and_parts, and_from}
 use Rattle.std.proofs.lemmas.List.{map-append}
-use Rattle.ild_data.specs.Data.{Data, depth}
-use Rattle.ild_data.specs.ByteOrder.{bytewise, IsInOrder}
+use Rattle.ild_data.specs.Data.{Data}
+use Rattle.ild_data.specs.ByteOrder.{bytewise}
 use Rattle.ild_trie.proofs.Parts.{total}
 use Rattle.ild_typed.specs.Nested.{TreeIn}
 use Rattle.ild_node.specs.Form.{AreTexts}

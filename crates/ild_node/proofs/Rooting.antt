@@ -1,6 +1,6 @@
 -- What is read as a root is one.
-use Rattle.std.proofs.Common.{◌≡◌, ◌≢◌, ℕ, ℤ, Bool, true, false, not, IsTrue, List, Option, Some, None, is_some, refl, sym, ap, ◌∙◌, subst}
-use Rattle.std.specs.Prelude.{pos, codes, option_and_then, ◌↔◌, ◌+◌, ◌++◌, length}
+use Rattle.std.proofs.Common.{◌≡◌, ℕ, ℤ, Bool, true, false, not, IsTrue, List, Option, Some, None, is_some, refl, sym, ap, ◌∙◌, subst}
+use Rattle.std.specs.Prelude.{pos, codes, option_and_then, ◌↔◌, length}
 use Rattle.std.proofs.Common.{arith}
 use Rattle.std.proofs.lemmas.List.{length-append}
 use Rattle.std.specs.Borrow.{Bor}
@@ -9,9 +9,9 @@ use Rattle.ild_data.specs.Data.{Data, integer, map as map_data, Members, no_memb
 use Rattle.ild_data.specs.Spell.{head, spell_text}
 use Rattle.ild_cbor.specs.declared.node.Node.{Node}
 use Rattle.ild_cbor.specs.declared.pairs.Pairs.{Pairs}
-use Rattle.ild_cbor.specs.Nodes.{Stands, Finds, IsPart, block_of, start_of}
+use Rattle.ild_cbor.specs.Nodes.{Stands, Finds, IsPart}
 use Rattle.ild_cbor.specs.Scalar.{int_of}
-use Rattle.ild_cbor.specs.Span.{entry_of, place_of, values_before}
+use Rattle.ild_cbor.specs.Span.{entry_of, place_of}
 use Rattle.ild_cbor.specs.Steps.{HasEntries, IteratesEntries, FindsEntries, EntryStep, EntriesGive, members_of as map_members}
 use Rattle.ild_data.specs.TrieShape.{TrieShape}
 use Rattle.ild_typed.specs.Hamt.{root_map}

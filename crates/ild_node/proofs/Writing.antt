@@ -3,12 +3,12 @@ use Rattle.std.proofs.Common.{◌≡◌, ℕ, zero, suc, ◌+◌, ◌-◌, ◌*�
 use Rattle.std.specs.Prelude.{is_some, codes}
 use Rattle.std.specs.List.{range_with_len, AllByRecursion, count_by}
 use Rattle.std.proofs.lemmas.Bool.{eqb-true, eqb-false, cases_Bool, cases_lt, false≢true}
-use Rattle.std.proofs.lemmas.List.{take_more, take_all, length-map, length-append, take-map, drop-map, map-append}
+use Rattle.std.proofs.lemmas.List.{take_more, take_all, length-map, length-append, take-map, drop-map}
 use Rattle.std.proofs.lemmas.List.FromFn.{map-range_with_len_more}
 use Rattle.std.proofs.lemmas.List.Recursion.{is_count_by}
 use Rattle.std.proofs.lemmas.Grind.{flat_map-append}
-use Rattle.ild_data.specs.Data.{Data, bytes, list, items_of, items_list}
-use Rattle.ild_data.specs.Spell.{head, spell, spell_bytes, spell_text, spell_items}
+use Rattle.ild_data.specs.Data.{Data, items_of, items_list}
+use Rattle.ild_data.specs.Spell.{head, spell, spell_bytes, spell_text}
 use Rattle.ild_data.proofs.Lists.{length-items}
 use Rattle.ild_data.specs.Trie.{TrieSlot, empty, bucket, child, byte_of, is_used, map_of, entry_data, elements_of, node_data}
 use Rattle.ild_data.specs.TrieShape.{TrieShape}

@@ -1,6 +1,6 @@
 -- Laws of nodes.
 use Rattle.std.specs.Prelude.{◌≡◌, ℕ, ◌≤◌, List, length}
-use Rattle.ild_data.specs.Limits.{IsWithin, longest_block}
+use Rattle.ild_data.specs.Limits.{longest_block}
 use Rattle.ild_data.specs.Trie.{TrieSlot, node_data}
 use Rattle.ild_cbor.specs.Block.{IsBlockOf}
 use Rattle.ild_typed.specs.Composed.{usual}

@@ -1,6 +1,5 @@
 -- The slots of a node that is written.
-use Rattle.std.specs.Prelude.{◌≡◌, ◌<◌, ◌≤◌, ℕ, zero, suc, ◌+◌, ◌^◌, ◌==◌, if◌then◌else◌, Bool, false, List, [], ◌∷◌, length, map, Option, Some, None}
-use Rattle.std.specs.List.{AllByRecursion}
+use Rattle.std.specs.Prelude.{◌<◌, ◌≤◌, ℕ, zero, suc, ◌+◌, ◌^◌, ◌==◌, if◌then◌else◌, Bool, false, List, [], ◌∷◌, length, Option, Some, None}
 use Rattle.ild_data.specs.Trie.{TrieSlot, empty, bucket, child}
 use Rattle.ild_data.specs.TrieShape.{TrieShape}
 use Rattle.ild_node.specs.declared.hold.NewHold.{NewHold}

@@ -3,7 +3,7 @@ use Rattle.std.specs.Prelude.{◌≡◌, ℕ, true, List, Option, Some, None}
 use Rattle.std.specs.Borrow.{Bor}
 use Rattle.ild_data.specs.Data.{Data, bytes, list, Items}
 use Rattle.ild_data.specs.TrieShape.{TrieShape}
-use Rattle.ild_cbor.specs.Nodes.{Stands, IsPart}
+use Rattle.ild_cbor.specs.Nodes.{IsPart}
 use Rattle.ild_cbor.specs.Span.{place_of}
 use Rattle.ild_cbor.specs.Steps.{IteratesItems}
 use Rattle.ild_cbor.specs.declared.node.Node.{Node}

@@ -1,4 +1,4 @@
-use Rattle.std.proofs.Common.{List, ◌∙◌, [], Ok, Err, refl, sym, ap, subst}
+use Rattle.std.proofs.Common.{List, ◌∙◌, [], Ok, Err, refl, sym, subst}
 use Rattle.std.proofs.lemmas.Result.{err_from_is_err_and}
 use Rattle.ild_typed.specs.Composed.{usual}
 use Rattle.ild_data.specs.TrieShape.{trie_levels}
@@ -6,8 +6,6 @@ use Rattle.ild_bulk.specs.Keyed.{AreKeyed}
 use Rattle.ild_node.specs.Keyed.{keyed_rows}
 use Rattle.ild_node.specs.declared.keyed.Keyed.{Keyed}
 use Rattle.ild_bulk.specs.Build.{plan_of}
-use Rattle.ild_bulk.specs.Putting.{PutsAll}
-use Rattle.ild_bulk.specs.Planned.{PlansNode}
 use Rattle.ild_bulk.proofs.Childs.{plan-follows, puts-whole}
 use Rattle.ild_bulk.proofs.Nests.{short-blocks}
 use Rattle.ild_bulk.proofs.Tries.{plan-stopped, build-long, build-short, puts-plan, stops-any, node-as}

@@ -1,5 +1,4 @@
-use Rattle.std.proofs.Common.{◌+◌, ◌^◌, ◌<◌, sym, arith}
-use Rattle.std.specs.Prelude.{Ok, Err, Some, None}
+use Rattle.std.proofs.Common.{sym, arith}
 use Rattle.std.proofs.lemmas.Result.{err_from_is_err_and}
 use Rattle.ild_bulk.proofs.Nexting.{begun, walked-more, walked-end, walked-stop, check-memory, none-of}
 use Rattle.ild_bulk.proofs.check.check_tree.Goals as goal

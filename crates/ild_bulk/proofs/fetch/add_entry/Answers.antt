@@ -1,4 +1,4 @@
-use Rattle.std.proofs.Common.{Some, None, refl, ◌∙◌}
+use Rattle.std.proofs.Common.{refl, ◌∙◌}
 use Rattle.std.specs.Prelude.{slice_get}
 use Rattle.ild_bulk.proofs.Stepping.{entry-pushed, entry-read, entry-none}
 use Rattle.ild_bulk.proofs.fetch.add_entry.Goals as goal

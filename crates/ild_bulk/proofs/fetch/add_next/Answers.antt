@@ -1,4 +1,4 @@
-use Rattle.std.proofs.Common.{rules, arith}
+use Rattle.std.proofs.Common.{arith}
 use Rattle.ild_bulk.proofs.Stepping.{gathered-on, gathered-end}
 use Rattle.ild_bulk.proofs.fetch.add_next.Goals as goal
 

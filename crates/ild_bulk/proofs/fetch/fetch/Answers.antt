@@ -1,4 +1,4 @@
-use Rattle.std.proofs.Common.{List, ℕ, sym, subst, arith, ◌∙◌}
+use Rattle.std.proofs.Common.{List, ℕ, subst, arith}
 use Rattle.ild_bulk.specs.Fetching.{ReadsBlock}
 use Rattle.ild_bulk.proofs.Stepping.{fetched}
 use Rattle.ild_bulk.proofs.fetch.fetch.Goals as goal

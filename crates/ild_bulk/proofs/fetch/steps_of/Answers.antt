@@ -1,4 +1,4 @@
-use Rattle.std.proofs.Common.{refl, ℕ, subst}
+use Rattle.std.proofs.Common.{refl, subst}
 use Rattle.std.proofs.lemmas.Bool.{false≢true}
 use Rattle.ild_data.specs.Data.{Data}
 use Rattle.ild_data.specs.Trie.{node_data}

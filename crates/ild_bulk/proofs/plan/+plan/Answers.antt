@@ -1,4 +1,4 @@
-use Rattle.std.proofs.Common.{rules, ℕ, List, ◌≡◌, ◌<◌, ◌-◌, ◌+◌, ◌^◌, [], ◌∷◌, get_or, arith, ap, sym, ◌∙◌, map, length, subst, Ok, Err}
+use Rattle.std.proofs.Common.{rules, List, ◌≡◌, ◌<◌, ◌-◌, ◌+◌, ◌^◌, get_or, arith, ap, sym, ◌∙◌, length, subst, Ok, Err}
 use Rattle.std.specs.Global.{Vec}
 use Rattle.std.proofs.lemmas.List.{length-map}
 use Rattle.std.proofs.lemmas.Result.{err_from_is_err_and}
@@ -9,7 +9,7 @@ use Rattle.ild_node.specs.Keyed.{keyed_rows, keyed_seen}
 use Rattle.ild_node.specs.Rows.{AreRows}
 use Rattle.ild_node.specs.declared.keyed.Keyed.{Keyed}
 use Rattle.ild_bulk.specs.Keyed.{AreKeyed, keyed_index}
-use Rattle.ild_bulk.proofs.Building.{plans-exhausted, plans-first, plans-step, plans-stop, plans-done, plans-many, into-stop, into-as}
+use Rattle.ild_bulk.proofs.Building.{plans-exhausted, plans-step, plans-stop, plans-done, plans-many, into-stop, into-as}
 use Rattle.ild_bulk.proofs.Keys.{PartsAre, parts-are, rows-part, keyed-part}
 use Rattle.ild_bulk.proofs.plan.+plan.Goals as goal
 

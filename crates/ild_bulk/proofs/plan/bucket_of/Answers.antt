@@ -1,6 +1,4 @@
-use Rattle.std.proofs.Common.{ap, ◌∙◌, arith}
-use Rattle.std.proofs.lemmas.List.{take_all}
-use Rattle.ild_node.specs.Keyed.{keyed_rows}
+use Rattle.std.proofs.Common.{arith}
 use Rattle.ild_bulk.proofs.Tries.{copied-more}
 use Rattle.ild_bulk.proofs.plan.bucket_of.Goals as goal
 

@@ -1,10 +1,8 @@
-use Rattle.std.proofs.Common.{rules, arith, ◌≡◌, ◌<◌, ◌^◌, ℕ, List, length, take, vec_len, sym, ap, ◌∙◌, subst}
-use Rattle.std.proofs.lemmas.List.{take_more}
+use Rattle.std.proofs.Common.{arith, ◌^◌, sym}
 use Rattle.ild_trie.proofs.Index.{index_below}
 use Rattle.ild_typed.specs.Composed.{usual}
-use Rattle.ild_bulk.specs.Keyed.{Parted, keyed_index}
-use Rattle.ild_node.specs.declared.keyed.Keyed.{Keyed}
-use Rattle.ild_bulk.proofs.Parting.{Parted-more, parted-next}
+use Rattle.ild_bulk.specs.Keyed.{keyed_index}
+use Rattle.ild_bulk.proofs.Parting.{parted-next}
 use Rattle.ild_bulk.proofs.plan.parted.Goals as goal
 
 pub loop-row-preserved : goal.loop-row-preserved

@@ -1,4 +1,4 @@
-use Rattle.std.proofs.Common.{◌-◌, rules, arith, length, take, drop}
+use Rattle.std.proofs.Common.{◌-◌, rules, arith, length, drop}
 use Rattle.std.proofs.lemmas.List.{length-take, length-drop}
 use Rattle.ild_bulk.proofs.walker.+agrees.Goals as goal
 

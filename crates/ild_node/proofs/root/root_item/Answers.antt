@@ -1,7 +1,5 @@
-use Rattle.std.proofs.Common.{refl, sym, ◌∙◌, false, true}
-use Rattle.std.specs.Prelude.{pos}
+use Rattle.std.proofs.Common.{refl, sym, ◌∙◌}
 use Rattle.std.proofs.lemmas.Bool.{false≢true}
-use Rattle.ild_data.specs.Data.{integer}
 use Rattle.ild_node.specs.Parts.{shape_of}
 use Rattle.ild_typed.specs.Hamt.{root_map}
 use Rattle.ild_node.proofs.Rooting.{root-found, no-more}

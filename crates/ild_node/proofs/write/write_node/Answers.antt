@@ -1,13 +1,11 @@
-use Rattle.std.proofs.Common.{◌^◌, Bool, length, map, sym, ap, ◌∙◌, refl, arith}
-use Rattle.std.specs.List.{count_by}
-use Rattle.std.proofs.lemmas.List.{length-map}
+use Rattle.std.proofs.Common.{◌^◌, length, map, sym, ap, ◌∙◌, refl, arith}
 use Rattle.ild_data.specs.Trie.{is_used}
 use Rattle.ild_data.specs.TrieShape.{TrieShape}
 use Rattle.ild_typed.specs.Composed.{usual}
-use Rattle.ild_node.specs.NewSlots.{hold_seen, slot_seen, IsFilled, IsFilledSlot, slots_seen, spread}
+use Rattle.ild_node.specs.NewSlots.{hold_seen, IsFilled, slots_seen, spread}
 use Rattle.ild_node.specs.Written.{IsSound}
 use Rattle.ild_node.proofs.Nodes.{node-block, empty-sound}
-use Rattle.ild_node.proofs.Writing.{hold_items, slot_items, grown-more, spelled-more, all-more, all-of, all-at, all-spread, all-map, all-items, length-spread, elements-spread, hold-count, count-used, node-done}
+use Rattle.ild_node.proofs.Writing.{hold_items, grown-more, spelled-more, all-more, all-of, all-at, all-spread, length-spread, elements-spread, hold-count, node-done}
 use Rattle.ild_node.proofs.write.write_node.Goals as goal
 
 pub add_hold-requires : goal.add_hold-requires

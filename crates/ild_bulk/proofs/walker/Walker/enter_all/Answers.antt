@@ -1,4 +1,4 @@
-use Rattle.std.proofs.Common.{◌+◌, suc, length, arith}
+use Rattle.std.proofs.Common.{length, arith}
 use Rattle.std.specs.Prelude.{Ok, Err}
 use Rattle.std.proofs.lemmas.Result.{err_from_is_err_and}
 use Rattle.ild_data.specs.TrieShape.{trie_levels}

@@ -1,4 +1,4 @@
-use Rattle.std.proofs.Common.{ℕ, length}
+use Rattle.std.proofs.Common.{length}
 use Rattle.std.specs.Prelude.{Ok}
 use Rattle.ild_bulk.specs.Ahead.{Leaves}
 use Rattle.ild_bulk.proofs.walker.Walker.leave_done.Given as goal

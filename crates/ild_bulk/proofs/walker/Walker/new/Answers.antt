@@ -1,4 +1,4 @@
-use Rattle.std.proofs.Common.{map, ap}
+use Rattle.std.proofs.Common.{ap}
 use Rattle.ild_bulk.specs.Steps.{path_of}
 use Rattle.ild_bulk.proofs.Nexting.{new-ahead}
 use Rattle.ild_bulk.proofs.walker.Walker.new.Goals as goal

@@ -1,4 +1,4 @@
-use Rattle.std.proofs.Common.{◌≡◌, ◌++◌, ◌+◌, ◌-◌, Bool, true, cond, set, length, refl, ap, ◌∙◌, arith, rules}
+use Rattle.std.proofs.Common.{◌≡◌, ◌++◌, ◌-◌, Bool, true, cond, set, refl, ap, ◌∙◌, arith, rules}
 use Rattle.std.specs.Prelude.{is_ok}
 use Rattle.ild_bulk.specs.Todo.{enter}
 use Rattle.ild_bulk.specs.declared.step.Step.TheVariants.{Leave}

@@ -1,4 +1,4 @@
-use Rattle.std.proofs.Common.{ℕ, List, map, subst, sym}
+use Rattle.std.proofs.Common.{ℕ, List, map, subst}
 use Rattle.std.specs.FinMap.{find}
 use Rattle.ild_data.specs.ByteOrder.{bytewise}
 use Rattle.ild_data.specs.Trie.{entry_data}
