@@ -7,6 +7,7 @@ pub mod Meanings
 pub mod MeantWhole
 pub mod MeantTyped
 pub mod Showing
+pub mod Filling
 pub mod Broken
 pub mod Mismatched
 mod Examples

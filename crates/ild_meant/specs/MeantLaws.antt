@@ -10,6 +10,7 @@ use Rattle.ild_typed.specs.OfType.{OfType, TestsKeys}
 use Rattle.ild_typed.specs.Schema.{IsSchema}
 use Rattle.ild_typed.specs.Shown.{shown}
 use Rattle.ild_typed.specs.Typed.{Typed}
+use Rattle.ild_meant.specs.Filled.{filled}
 use Rattle.ild_meant.specs.Meant.{Meant}
 use Rattle.ild_meant.specs.MeantRead.{meant}
 use Rattle.ild_meant.specs.Mismatch.{Rule, IsMismatch}
@@ -43,3 +44,7 @@ ShownIsMeant = (rows : List Row) (is_key : ℕ → List ℕ → Bool) → IsSche
 abbrev pub NothingWhereBroken : Type 0
 NothingWhereBroken = (rows : List Row) (is_key : ℕ → List ℕ → Bool) → IsSchema rows → (slot : Slot) (t : Data) → IsTree t
     → (meant rows is_key slot t ≡ None) ↔ ((ty : TypeNo) × (rule : Rule) × IsMismatch rows is_key slot t ty rule)
+
+-- a tree that means a value is its shown form, but for fields with their implicit value, which may be left out
+abbrev pub FilledIsShown : Type 0
+FilledIsShown = (rows : List Row) (is_key : ℕ → List ℕ → Bool) → IsSchema rows → (slot : Slot) (t : Data) (v : Value) → Meant rows is_key slot t v → filled rows slot t ≡ shown rows slot v

@@ -1,6 +1,6 @@
 //! Laws of the values that data mean.
 ghost use Rattle.ild_meant.specs.KeyTests.{KeysAreTested};
-ghost use Rattle.ild_meant.specs.MeantLaws.{MeantIsRead, MeantIsTyped, NothingWhereBroken, OneMeant, ReadIsMeant, ShownIsMeant};
+ghost use Rattle.ild_meant.specs.MeantLaws.{FilledIsShown, MeantIsRead, MeantIsTyped, NothingWhereBroken, OneMeant, ReadIsMeant, ShownIsMeant};
 
 /// Data mean one value of a slot at most, and the reading by the types finds it and no other.
 pub fn one_value_is_meant()
@@ -17,6 +17,12 @@ pub fn meant_is_typed()
 /// The shown form of a value, whose maps rise, means it.
 pub fn shown_is_meant()
     ensures { ShownIsMeant }
+{}
+
+/// A tree that means a value is its shown form, but for fields with their implicit value, which may be left out: with these put in
+/// it is the shown form.
+pub fn filled_is_shown()
+    ensures { FilledIsShown }
 {}
 
 /// A tree means no value of a slot exactly where some part of it breaks one of the five rules, at its type.
