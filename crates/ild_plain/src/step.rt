@@ -1,7 +1,8 @@
 //! The lines of a script over a plain map.
 ghost use Rattle.std.specs.Prelude.{◌≡◌, ◌⊎◌, Some};
 ghost use Rattle.ild_session.specs.Session.{idle, resting};
-ghost use Rattle.ild_session.specs.Step.{Step, Replies};
+ghost use Rattle.ild_session.specs.Batch.{due_at};
+ghost use Rattle.ild_session.specs.Step.{Replies};
 ghost use Rattle.ild_plain.specs.Plain.{plain_map, asked_by, due, got, root_reply};
 
 use crate::PlainMap;
@@ -66,7 +67,7 @@ fn answer_line<K: Store>(
     line: &[u8],
     store: &mut K,
 ) -> Option<Reply>
-    ensures { Step plain_map (K.moment store.old) (resting value.old) line.now result (K.moment store.new) (resting value.new) }
+    ensures { Replies plain_map (K.moment store.old) (resting value.old) (due_at plain_map (K.moment store.old) (resting value.old) line.now) result (K.moment store.new) (resting value.new) }
 {
     match line_of(alloc, line) {
         Ok(None) => None,

@@ -88,7 +88,7 @@ plainly c script given calm t status refused taken is all =
     record {
       replies = all.replies;
       last = all.last.state;
-      run = plain_run plain_map line_due (λ held s l. refl) stays_out opened (resting []) (lines_of script) all.replies c.after.moment all.last refl run told calm_run (λ kept new may. calm.apart kept new (inr may));
+      run = plain_run plain_map line_due (λ held s l. refl) stays_out opened (resting []) (lines_of script) all.replies c.after.moment all.last refl run all.answered.carried told calm_run (λ kept new may. calm.apart kept new (inr may));
       written = all.written;
       status_is = is ∙ ap (λ b. cond b S.Refused S.Done) all.refused_is;
     }

@@ -114,11 +114,11 @@ answers_from : (c : Call) (lines : List (List ℕ)) (replies : List Reply) (k : 
 answers_from c lines replies k s later stands tries run = record {
   opened = k;
   later = later;
-  stands = stands;
+  carried = carries_plain k [] stands;
   tries = tries;
   run = run;
-  gets = let most = run_gets plain_map k (resting []) lines replies c.after.moment s run in let first = tries.gets in omega (arith, most, first);
-  puts = let most = run_puts plain_map k (resting []) lines replies c.after.moment s run in let first : k.puts ≤ c.before.moment.puts + 1 = tries.puts in omega (arith, most, first);
+  gets = let most = run_gets plain_map k (resting []) lines replies c.after.moment s run (carries_plain k [] stands) in let first = tries.gets in omega (arith, most, first);
+  puts = let most = run_puts plain_map k (resting []) lines replies c.after.moment s run (carries_plain k [] stands) in let first : k.puts ≤ c.before.moment.puts + 1 = tries.puts in omega (arith, most, first);
 }
 
 -- a call whose lines were all answered

@@ -11,7 +11,7 @@ use Rattle.ild_script.specs.Reply.{is_no}
 use Rattle.ild_plain.specs.Value.{Value, root_of, blocks_of}
 use Rattle.ild_plain.specs.Plain.{plain_map}
 use Rattle.ild_session.specs.Session.{Stage, resting, left}
-use Rattle.ild_session.specs.Step.{Holds, Collides}
+use Rattle.ild_session.specs.Step.{Holds, Collides, Carries}
 use Rattle.ild_session.specs.Run.{Run, texts, most_gets, most_puts}
 use Rattle.ild_compile.specs.declared.error.SchemaFault.{SchemaFault}
 use Rattle.ild_run.specs.Words.{Job}
@@ -73,7 +73,7 @@ Leaves c t f = c.after.moment ≡ c.before.moment
 pub record Answers (c : Call) (lines : List (List ℕ)) (replies : List Reply) (last : Stage Value) : Type 0 where
   pub opened : Moment
   pub later : Later c.before.moment opened
-  pub stands : Holds opened (blocks_of [])
+  pub carried : Carries plain_map opened (resting [])
   pub tries : Tries (blocks_of []) c.before.moment opened
   pub run : Run plain_map opened (resting []) lines replies c.after.moment last
   pub gets : c.after.moment.gets ≤ c.before.moment.gets + most_gets plain_map opened (resting []) lines replies c.after.moment last run

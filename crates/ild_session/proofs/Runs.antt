@@ -51,7 +51,7 @@ module _ {V : Type 0} (M : Meaning V) where
       replies = so.done.replies ++ cons_option one.reply [];
       run = Run-push M m s so.first so.done.replies n t l one.reply o u so.done.run one.step;
       later = Later-trans m n o so.done.later one.step.later;
-      carries = λ h. one.step.carries (so.done.carries h);
+      carries = λ h. let at = so.done.carries h in (one.step.replies at).carries at;
       written = subst (Appends a c) (sym (flat_map-append reply_text so.done.replies (cons_option one.reply []))) (appends_then a b c _ _ so.done.written one.written);
       refused_is = ap (λ x. x || q) so.done.refused_is ∙ ap (λ x. list_any is_no so.done.replies || x) one.refused_is ∙ sym (list_any-append is_no so.done.replies (cons_option one.reply []));
     };

@@ -12,7 +12,7 @@ use Rattle.ild_script.specs.declared.reply.Reply.{Reply}
 use Rattle.ild_script.specs.declared.reply.Reply.TheVariants as R
 use Rattle.ild_session.specs.Batch.{beside, together, due_at, puts_at}
 use Rattle.ild_session.specs.Session.{State, Stage, Due, Meaning}
-use Rattle.ild_session.specs.Step.{Holds, Collides, HasCause, IsExcused}
+use Rattle.ild_session.specs.Step.{Holds, Collides, HasCause, IsExcused, Carries}
 use Rattle.ild_session.specs.Run.{Run, most_gets, most_puts}
 use Rattle.ild_session.specs.Plain.{PlainRun, MayPut, AreApart}
 
@@ -72,19 +72,21 @@ module _ {V : Type 0} (M : Meaning V) where
   run_later m s [] rs n t run = subst (λ (k : Moment). Later m k) (sym run.2) (Later-refl m)
   run_later m s (l ∷ ls) rs n t run = Later-trans m run.2 n run.4.later (run_later run.2 run.1 ls run.3 n t run.6)
 
-  -- a run makes no more gets than its lines do
-  pub run_gets : (m : Moment) (s : Stage V) (ls : List (List ℕ)) (rs : List Reply) (n : Moment) (t : Stage V) (run : Run M m s ls rs n t) → n.gets ≤ m.gets + most_gets M m s ls rs n t run
-  run_gets m s [] rs n t run = let same : n.gets ≡ m.gets = ap (λ (k : Moment). k.gets) run.2 in omega arith
-  run_gets m s (l ∷ ls) rs n t run =
-      let here : (run.2).gets ≤ m.gets + (due_at M m s l).gets = run.4.gets in
-      let rest = run_gets run.2 run.1 ls run.3 n t run.6 in
+  -- a run from where the value is carried makes no more gets than its lines do
+  pub run_gets : (m : Moment) (s : Stage V) (ls : List (List ℕ)) (rs : List Reply) (n : Moment) (t : Stage V) (run : Run M m s ls rs n t) → Carries M m s → n.gets ≤ m.gets + most_gets M m s ls rs n t run
+  run_gets m s [] rs n t run at = let same : n.gets ≡ m.gets = ap (λ (k : Moment). k.gets) run.2 in omega arith
+  run_gets m s (l ∷ ls) rs n t run at =
+      let step = run.4.replies at in
+      let here : (run.2).gets ≤ m.gets + (due_at M m s l).gets = step.gets in
+      let rest = run_gets run.2 run.1 ls run.3 n t run.6 (step.carries at) in
       omega (arith, here, rest)
 
-  pub run_puts : (m : Moment) (s : Stage V) (ls : List (List ℕ)) (rs : List Reply) (n : Moment) (t : Stage V) (run : Run M m s ls rs n t) → n.puts ≤ m.puts + most_puts M m s ls rs n t run
-  run_puts m s [] rs n t run = let same : n.puts ≡ m.puts = ap (λ (k : Moment). k.puts) run.2 in omega arith
-  run_puts m s (l ∷ ls) rs n t run =
-      let here : (run.2).puts ≤ m.puts + puts_at s (due_at M m s l) = run.4.puts in
-      let rest = run_puts run.2 run.1 ls run.3 n t run.6 in
+  pub run_puts : (m : Moment) (s : Stage V) (ls : List (List ℕ)) (rs : List Reply) (n : Moment) (t : Stage V) (run : Run M m s ls rs n t) → Carries M m s → n.puts ≤ m.puts + most_puts M m s ls rs n t run
+  run_puts m s [] rs n t run at = let same : n.puts ≡ m.puts = ap (λ (k : Moment). k.puts) run.2 in omega arith
+  run_puts m s (l ∷ ls) rs n t run at =
+      let step = run.4.replies at in
+      let here : (run.2).puts ≤ m.puts + puts_at s (due_at M m s l) = step.puts in
+      let rest = run_puts run.2 run.1 ls run.3 n t run.6 (step.carries at) in
       omega (arith, here, rest)
 
   -- outside a batch, what is held together is what the store holds
@@ -99,13 +101,14 @@ module _ {V : Type 0} (M : Meaning V) where
     out_by s u l P Q out (inr excused) = ap (λ (x : State V). x.begun) excused.1 ∙ out
 
     -- a run over a store that tells, without faults and collisions, is one on plain values
-    pub plain_run : (m : Moment) (s : Stage V) (ls : List (List ℕ)) (rs : List Reply) (n : Moment) (t : Stage V) → s.state.begun ≡ None → Run M m s ls rs n t → m.blocks ≢ None → (Rose m.faults n.faults → ⊥) → AreApart n (MayPut due s.state ls)
+    pub plain_run : (m : Moment) (s : Stage V) (ls : List (List ℕ)) (rs : List Reply) (n : Moment) (t : Stage V) → s.state.begun ≡ None → Run M m s ls rs n t → Carries M m s → m.blocks ≢ None → (Rose m.faults n.faults → ⊥) → AreApart n (MayPut due s.state ls)
         → PlainRun due s.state ls rs t.state
-    plain_run m s [] rs n t out run told calm apart = (run.0, ap (λ (x : Stage V). x.state) run.1)
-    plain_run m s (l ∷ ls) rs n t out run told calm apart =
+    plain_run m s [] rs n t out run at told calm apart = (run.0, ap (λ (x : Stage V). x.state) run.1)
+    plain_run m s (l ∷ ls) rs n t out run at told calm apart =
         let k = run.2 in
         let u : Stage V = run.1 in
-        let step = run.4 in
+        let step = run.4.replies at in
+        let at_rest = step.carries at in
         let rest = run_later k u ls run.3 n t run.6 in
         let told_rest = told_later m k step.later told in
         let calm_here : Rose m.faults k.faults → ⊥ = λ rose. calm (let r : bumped m.faults ≤ k.faults = rose in let le = rest.faults in omega arith) in
@@ -117,8 +120,8 @@ module _ {V : Type 0} (M : Meaning V) where
         let answered : ((run.0 ≡ (due s.state l).reply) × (u.state ≡ (due s.state l).next)) ⊎ (IsExcused m (due s.state l).adds run.0 k k × (u.state ≡ s.state)) =
         subst (λ (both : Moment). ((run.0 ≡ (due s.state l).reply) × (u.state ≡ (due s.state l).next)) ⊎ (IsExcused m (due s.state l).adds run.0 k both × (u.state ≡ s.state))) (alone k u out_rest) first in
         by_answer m s.state l ls run.0 u.state k run.3 rs n t.state run.5 told calm_here apart_here answered
-        (λ (is : u.state ≡ (due s.state l).next). plain_run k u ls run.3 n t out_rest run.6 told_rest calm_rest (λ kept new may. apart kept new (inr (inl (subst (λ (x : State V). MayPut due x ls new) is may)))))
-        (λ (is : u.state ≡ s.state). plain_run k u ls run.3 n t out_rest run.6 told_rest calm_rest (λ kept new may. apart kept new (inr (inr (subst (λ (x : State V). MayPut due x ls new) is may)))))
+        (λ (is : u.state ≡ (due s.state l).next). plain_run k u ls run.3 n t out_rest run.6 at_rest told_rest calm_rest (λ kept new may. apart kept new (inr (inl (subst (λ (x : State V). MayPut due x ls new) is may)))))
+        (λ (is : u.state ≡ s.state). plain_run k u ls run.3 n t out_rest run.6 at_rest told_rest calm_rest (λ kept new may. apart kept new (inr (inr (subst (λ (x : State V). MayPut due x ls new) is may)))))
       where
         by_answer : (m : Moment) (s : State V) (l : List ℕ) (ls : List (List ℕ)) (r : Option Reply) (u : State V) (k : Moment) (more rs : List Reply) (n : Moment) (t : State V) → rs ≡ cons_option r more
             → m.blocks ≢ None → (Rose m.faults k.faults → ⊥) → (Collides k (due s l).adds → ⊥)

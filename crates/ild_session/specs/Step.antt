@@ -92,5 +92,7 @@ pub record Replies {V : Type 0} (M : Meaning V) (m : Moment) (s : Stage V) (due 
   pub puts : n.puts ≤ m.puts + puts_at s due
   pub owed : owed_at t ≤ owed_at s + due.owes
 
-abbrev pub Step : {V : Type 0} → Meaning V → Moment → Stage V → List ℕ → Option Reply → Moment → Stage V → Type 0
-Step M m s line reply n t = Replies M m s (due_at M m s line) reply n t
+-- One line: what was held is held, and where the value is carried, the line is answered so.
+pub record Step {V : Type 0} (M : Meaning V) (m : Moment) (s : Stage V) (line : List ℕ) (reply : Option Reply) (n : Moment) (t : Stage V) : Type 0 where
+  pub later : Later m n
+  pub replies : Carries M m s → Replies M m s (due_at M m s line) reply n t
