@@ -80,7 +80,7 @@ module _ (rows : List Row) where
           ∙ ap (λ o. map_data (in_key_order (filled_member ((h.1).name, λ s. filled rows s h.2) o ++ []))) (apart.unions slot h.0 n h.1 h.3 h.4)
           ∙ ap (λ (d : Data). map_data (((h.1).name, d) ∷ [])) (shown_value v (plainly (h.1).ty) h.2 h.6)
           ∙ sym (ap (λ f. map_data (option_map_or (λ (m : Member). (m.name, shown rows (slot_of m) v) ∷ []) (member_at f n) [])) h.3
-              ∙ ap (λ o. map_data (option_map_or (λ (m : Member). (m.name, shown rows (slot_of m) v) ∷ []) o [])) h.4)
+          ∙ ap (λ o. map_data (option_map_or (λ (m : Member). (m.name, shown rows (slot_of m) v) ∷ []) o [])) h.4)
       shown_value (enum n) slot t h =
           ap (λ d. filled rows slot d) h.4
           ∙ sym (ap (λ f. D.text (option_map_or (λ (m : EnumMember). m.name) (enum_member_at f n) [])) h.2 ∙ ap (λ o. D.text (option_map_or (λ (m : EnumMember). m.name) o [])) h.3)

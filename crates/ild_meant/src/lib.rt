@@ -5,6 +5,6 @@
 mod laws;
 
 pub use laws::{
-    filled_is_shown, keys_are_tested, meant_is_typed, nothing_is_meant_where_a_rule_is_broken, one_value_is_meant,
-    shown_is_meant,
+    filled_is_shown, keys_are_tested, meant_is_typed, nothing_is_meant_where_a_rule_is_broken,
+    one_value_is_meant, shown_is_meant,
 };
