@@ -42,6 +42,14 @@ Leaves fs (L.ListPairs s) n xs = AreNamesApart fs × (es : List (List ℕ × Dat
 Leaves fs (L.StringPairs split) n xs = AreNamesApart fs × (xs ≡ by_place fs (text_entries (pairs_in split)))
 Leaves fs (L.StringJoin split) n xs = xs ≡ numbered n (map T.text (parts_left split))
 
+-- how many there are at most
+abbrev pub count_left : Left → ℕ
+count_left (L.Map s) = s.pairs.left
+count_left (L.Tuple s) = s.left
+count_left (L.ListPairs s) = s.left
+count_left (L.StringPairs split) = length (pairs_in split)
+count_left (L.StringJoin split) = length (parts_left split)
+
 -- the iterator has these left
 pub record HasPresent (s : Present) (xs : List (ℕ × Data)) : Type 0 where
   pub within : AllByRecursion (λ x. x.0 < length s.fields.def.now.fields) xs

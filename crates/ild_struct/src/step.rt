@@ -1,5 +1,5 @@
 //! Steps over the parts of a struct, form by form.
-ghost use Rattle.std.specs.Prelude.{◌≡◌, ◌≤◌, ◌<◌, List, ℕ, map, suc};
+ghost use Rattle.std.specs.Prelude.{◌<◌, IfSome, List, ℕ, map};
 ghost use Rattle.ild_data.specs.Data as T;
 ghost use Rattle.ild_data.specs.Data.{Data, Items as Parts, items_list, items_of};
 ghost use Rattle.ild_cbor.specs.Steps.{HasItems};
@@ -8,8 +8,10 @@ ghost use Rattle.ild_schema.specs.Clear.{AreNamesApart};
 ghost use Rattle.ild_schema.specs.declared.def.Field.{Field};
 ghost use Rattle.ild_text.specs.Parts.{pairs_in, parts_left};
 ghost use Rattle.ild_typed.specs.Strings.{pair_data};
-ghost use Rattle.ild_struct.specs.Present.{HasPresent, PresentGives, by_place, numbered};
+ghost use Rattle.std.specs.Iterator.{at_most};
+ghost use Rattle.ild_struct.specs.Present.{HasPresent, PresentGives, count_left, by_place, numbered};
 ghost use Rattle.ild_struct.specs.Source.{text_entries};
+ghost use Rattle.ild_struct.specs.declared.left.Left.TheVariants as L;
 ghost use Rattle.ild_struct.specs.Stepping.{Takes};
 
 use crate::fields::Fields;
@@ -25,7 +27,8 @@ type Taken<'b> = (usize, Piece<'b>, Left<'b>);
 
 // The first entry of a map.
 fn take_entry<'b>(fields: &Fields<'b>, entries: MapEntries<'b>, next: usize) -> Option<Taken<'b>>
-    ensures { AreNamesApart fields.now.def.now.fields → (es : List (List ℕ × Data)) → HasLeft entries.entry es → Takes fields.now.def.now.fields (by_place fields.now.def.now.fields es) result }
+    ensures fewer { IfSome result (λ r. count_left r.2 < count_left (L.Map entries.entry)) }
+    ensures takes { AreNamesApart fields.now.def.now.fields → (es : List (List ℕ × Data)) → HasLeft entries.entry es → Takes fields.now.def.now.fields (by_place fields.now.def.now.fields es) result }
 {
     let mut left = entries;
     let (name, value) = left.next()?;
@@ -35,7 +38,8 @@ fn take_entry<'b>(fields: &Fields<'b>, entries: MapEntries<'b>, next: usize) -> 
 
 // The first item of a list.
 fn take_item<'b>(items: Items<'b>, next: usize) -> Option<Taken<'b>>
-    ensures { (fs : List Field) (ds : Parts) → HasItems items.entry ds → Takes fs (numbered next (items_list ds)) result }
+    ensures fewer { IfSome result (λ r. count_left r.2 < count_left (L.Tuple items.entry)) }
+    ensures takes { (fs : List Field) (ds : Parts) → HasItems items.entry ds → Takes fs (numbered next (items_list ds)) result }
 {
     let mut left = items;
     let value = left.next()?;
@@ -44,7 +48,8 @@ fn take_item<'b>(items: Items<'b>, next: usize) -> Option<Taken<'b>>
 
 // The first pair of a list.
 fn take_pair<'b>(fields: &Fields<'b>, items: Items<'b>, next: usize) -> Option<Taken<'b>>
-    ensures { AreNamesApart fields.now.def.now.fields → (es : List (List ℕ × Data)) → HasItems items.entry (items_of (map pair_data es)) → Takes fields.now.def.now.fields (by_place fields.now.def.now.fields es) result }
+    ensures fewer { IfSome result (λ r. count_left r.2 < count_left (L.ListPairs items.entry)) }
+    ensures takes { AreNamesApart fields.now.def.now.fields → (es : List (List ℕ × Data)) → HasItems items.entry (items_of (map pair_data es)) → Takes fields.now.def.now.fields (by_place fields.now.def.now.fields es) result }
 {
     let mut left = items;
     let item = left.next()?;
@@ -59,7 +64,8 @@ fn take_pair<'b>(fields: &Fields<'b>, items: Items<'b>, next: usize) -> Option<T
 
 // The first pair of a text.
 fn take_text_pair<'b>(fields: &Fields<'b>, split: PairParts<'b>, next: usize) -> Option<Taken<'b>>
-    ensures { AreNamesApart fields.now.def.now.fields → Takes fields.now.def.now.fields (by_place fields.now.def.now.fields (text_entries (pairs_in split.entry))) result }
+    ensures fewer { IfSome result (λ r. count_left r.2 < count_left (L.StringPairs split.entry)) }
+    ensures takes { AreNamesApart fields.now.def.now.fields → Takes fields.now.def.now.fields (by_place fields.now.def.now.fields (text_entries (pairs_in split.entry))) result }
 {
     let ((name, value), behind) = split.split_first()?;
     let place = fields.place(name, next);
@@ -68,7 +74,8 @@ fn take_text_pair<'b>(fields: &Fields<'b>, split: PairParts<'b>, next: usize) ->
 
 // The first part of a text.
 fn take_text<'b>(split: Option<JoinParts<'b>>, next: usize) -> Option<Taken<'b>>
-    ensures { (fs : List Field) → Takes fs (numbered next (map T.text (parts_left split.entry))) result }
+    ensures fewer { IfSome result (λ r. count_left r.2 < count_left (L.StringJoin split.entry)) }
+    ensures takes { (fs : List Field) → Takes fs (numbered next (map T.text (parts_left split.entry))) result }
 {
     let (part, behind) = split?.split_first();
     Some((next, Piece::Text(part), Left::StringJoin(behind)))
@@ -77,7 +84,8 @@ fn take_text<'b>(split: Option<JoinParts<'b>>, next: usize) -> Option<Taken<'b>>
 impl<'b> Present<'b> {
     // The first of the parts that are left.
     fn first(&self) -> Option<Taken<'b>>
-        ensures { (xs : List (ℕ × Data)) → HasPresent self.now xs → Takes self.now.fields.def.now.fields xs result }
+        ensures fewer { IfSome result (λ r. count_left r.2 < count_left self.now.left) }
+        ensures takes { (xs : List (ℕ × Data)) → HasPresent self.now xs → Takes self.now.fields.def.now.fields xs result }
     {
         match self.left {
             Left::Map(entries) => take_entry(&self.fields, entries, self.next),
@@ -93,6 +101,8 @@ impl<'b> Iterator for Present<'b> {
     type Item = (usize, Piece<'b>);
 
     ghost next_gives = { PresentGives };
+
+    ghost remaining = { λ s. at_most (count_left s.left) };
 
     fn next(&mut self) -> Option<(usize, Piece<'b>)> {
         let (place, piece, left) = self.first()?;
