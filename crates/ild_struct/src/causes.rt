@@ -21,7 +21,7 @@ impl Notes {
     pub(crate) fn note_name(&mut self, fields: &Fields<'_>, name: &str)
         ensures { AreNamesApart fields.now.def.now.fields → (ks : List (List ℕ)) (es : List (List ℕ × Data)) → Noted fields.now.def.now.fields ks es self.old → Noted fields.now.def.now.fields (ks ++ name.now ∷ []) es self.new }
     {
-        let place = fields.place(name, self.next);
+        let place = fields.place_left(name, self);
         self.note(place, fields.def.fields.len());
     }
 
@@ -29,7 +29,7 @@ impl Notes {
     pub(crate) fn note_entry(&mut self, fields: &Fields<'_>, name: &str, value: &Piece<'_>)
         ensures { AreNamesApart fields.now.def.now.fields → (rows : List Row) (d : Data) → StandsFor rows value.now d → (ks : List (List ℕ)) (es : List (List ℕ × Data)) → Noted fields.now.def.now.fields ks es self.old → Noted fields.now.def.now.fields (ks ++ name.now ∷ []) (es ++ (name.now, d) ∷ []) self.new }
     {
-        let place = fields.place(name, self.next);
+        let place = fields.place_left(name, self);
         self.needless |= is_implicit_at(fields.def.fields.as_slice(), place, value);
         self.note(place, fields.def.fields.len());
     }

@@ -11,6 +11,7 @@ ghost use Rattle.ild_typed.specs.Fields.{is_implicit, is_scalar};
 ghost use Rattle.ild_typed.specs.StructWhy.{place_of};
 ghost use Rattle.ild_struct.specs.Notes.{implicit_at};
 
+use crate::notes::Notes;
 use ild_cbor::Piece;
 use ild_piece::{boolean, int, text};
 use ild_schema::{Accepted, Field, Scalar, StructDef, TypeNo};
@@ -53,6 +54,21 @@ impl Fields<'_> {
             },
         }
     }
+
+    /// The same, where it is noted which fields were met: those are asked last, since a field stands there once.
+    pub(crate) fn place_left(&self, name: &str, notes: &Notes) -> usize
+        ensures place { AreNamesApart self.now.def.now.fields → result ≡ place_of self.now.def.now.fields name.now }
+        ensures within { result ≤ length self.now.def.now.fields }
+    {
+        let fields = self.def.fields.as_slice();
+        match left_near(fields, notes, notes.next, name) {
+            Some(place) => place,
+            None => match left_near(fields, notes, 0, name) {
+                Some(place) => place,
+                None => self.look_up(name),
+            },
+        }
+    }
 }
 
 /// How many fields are asked for a name one after another, before it is looked up.
@@ -66,6 +82,20 @@ fn place_near(fields: &[Field], from: usize, name: &str) -> Option<usize>
     for step in 0..NEAR {
         let place = from.saturating_add(step);
         if is_named(fields, place, name) {
+            return Some(place);
+        }
+    }
+    None
+}
+
+// The same, of fields that were not met.
+fn left_near(fields: &[Field], notes: &Notes, from: usize, name: &str) -> Option<usize>
+    ensures place { IfSome result (λ place. AreNamesApart fields.now → place ≡ place_of fields.now name.now) }
+    ensures within { IfSome result (λ place. place < length fields.now) }
+{
+    for step in 0..NEAR {
+        let place = from.saturating_add(step);
+        if !notes.may_have_met(place) && is_named(fields, place, name) {
             return Some(place);
         }
     }

@@ -91,6 +91,11 @@ impl Notes {
         }
     }
 
+    /// Whether the field at a place was met, for a guess: no contract depends on the answer.
+    pub(crate) fn may_have_met(&self, place: usize) -> bool {
+        place < 1024 && is_marked(&self.met, place)
+    }
+
     /// Whether the field at a place was met.
     pub(crate) fn has_met(&self, place: usize) -> bool
         requires { place < 1024 }
