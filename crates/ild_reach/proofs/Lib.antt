@@ -1,0 +1,6 @@
+mod Meeting
+mod Walking
+pub mod Freeing
+pub mod FreeValues
+pub mod FreeNodes
+pub mod FreeTests
