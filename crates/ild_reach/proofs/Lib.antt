@@ -4,3 +4,4 @@ pub mod Freeing
 pub mod FreeValues
 pub mod FreeNodes
 pub mod FreeTests
+pub mod FreeBlocks

@@ -6,5 +6,8 @@ mod reach;
 mod steps;
 mod walk;
 
-pub use laws::{free_are_alone, free_exhaust_none, free_have_no_nodes};
+pub use laws::{
+    free_are_alone, free_are_storable, free_exhaust_none, free_have_no_nodes, free_have_one_block,
+    free_have_trees,
+};
 pub use reach::reaches_hamt;
