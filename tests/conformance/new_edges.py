@@ -1,0 +1,144 @@
+"""What `new` does with big values, with inputs and outputs that fail and with the folder of blocks, as `edges.py` does for `run`.
+
+Each test is a function named for what it shows. It gets the program and a fresh folder, and yields what is wrong. What a run must write
+is worked out by `values.py`.
+"""
+import os
+import resource
+import subprocess
+
+import edges
+import values
+
+
+def give(place, source, text, value="v"):
+    place.mkdir(parents=True, exist_ok=True)
+    (place / "s").write_bytes(source.encode())
+    (place / value).write_bytes(text.encode())
+
+
+def start(program, place, ty, value="v", **how):
+    return edges.start(program, place, ["new", "s", ty, value], **how)
+
+
+def asked(program, place, source, ty, text):
+    """What is wrong with a run, what it must write being worked out here."""
+    give(place, source, text)
+    written, status, block = values.answer(source.encode(), ty, text.encode())
+    yield from edges.differs(start(program, place, ty), written.encode(), status)
+    held = {} if block is None else {values.cid_text(block): block}
+    if edges.files_in(place) != held:
+        yield f"left {sorted(edges.files_in(place))}, and {sorted(held)} is wanted"
+
+
+def a_text_that_fills_a_block(program, place):
+    for length in (4_194_298, 4_194_299, 4_194_300):
+        for wrong in asked(program, place / str(length), "type S string\n", "S", f'"{"x" * length}"'):
+            yield f"{length}: {wrong}"
+
+
+def refused_values_leave_the_folder(program, place):
+    source = "type S struct { a Int b optional Int c optional Int j optional J } representation tuple\ntype J struct { x String } representation stringjoin { join \":\" }\n"
+    for name, text in (("json", "1.5"), ("mismatch", "{}"), ("hole", '{"a":1,"c":1}'), ("delimiter", '{"a":1,"b":1,"c":1,"j":{"x":":"}}')):
+        yield from (f"{name}: {wrong}" for wrong in asked(program, place / name, source, "S", text))
+        if (place / name / "blocks").exists():
+            yield f"{name}: the folder of blocks was made"
+
+
+def values_that_are_no_inputs(program, place):
+    give(place, "type A any\n", "[]")
+    (place / "folder").mkdir()
+    for name, size in (("limit", 16_777_216), ("long", 16_777_217), ("huge", 1 << 40)):
+        edges.zeros(place / name, size)
+    for name, text, status in (
+        ("limit", "fault 9 value 3 json\n", 9),
+        ("long", "fault 5 input value long\n", 5),
+        ("huge", "fault 5 input value long\n", 5),
+        ("none", "fault 5 input value absent\n", 5),
+        ("", "fault 5 input value absent\n", 5),
+        ("v/none", "fault 5 input value absent\n", 5),
+        ("folder", "fault 5 input value failed\n", 5),
+    ):
+        yield from (f"{name!r}: {wrong}" for wrong in edges.differs(start(program, place, "A", name), text.encode(), status))
+
+
+def a_value_at_standard_input(program, place):
+    give(place, "type A any\n", "")
+    text, status, _ = values.answer(b"type A any\n", "A", b"[1]")
+    run = start(program, place, "A", "/dev/stdin", stdin=subprocess.PIPE)
+    yield from edges.differs(run, text.encode(), status, b"[1]")
+
+
+def a_file_in_place_of_the_folder(program, place):
+    give(place, "type A any\n", "[]")
+    (place / "blocks").write_bytes(b"mine")
+    yield from edges.differs(start(program, place, "A"), b"fault 6 store\n", 6)
+    if (place / "blocks").read_bytes() != b"mine":
+        yield "the file was written"
+
+
+def a_write_that_is_cut_off_leaves_nothing(program, place):
+    give(place, "type A any\n", '"abcdefghijkl"')
+    limited = {"preexec_fn": lambda: resource.setrlimit(resource.RLIMIT_FSIZE, (8, 8)), "restore_signals": False}
+    yield from edges.differs(start(program, place, "A", **limited), b"fault 6 store\n", 6)
+    if edges.files_in(place):
+        yield f"left {sorted(edges.files_in(place))}"
+
+
+def standard_output_that_fails(program, place):
+    give(place, "type A any\n", "[]")
+    for value in ("v", "none"):
+        with open("/dev/full", "wb") as full:
+            yield from edges.differs(start(program, place, "A", value, stdout=full), None, 7)
+    near, far = os.pipe()
+    os.close(near)
+    with open(far, "wb") as closed:
+        yield from edges.differs(start(program, place, "A", stdout=closed), None, 7)
+
+
+def two_runs_side_by_side(program, place):
+    text, status, block = values.answer(b"type A any\n", "A", b'{"a":[1,2,3]}')
+    for number in range(100):
+        room = place / str(number)
+        give(room, "type A any\n", '{"a":[1,2,3]}')
+        for run in [start(program, room, "A") for _ in range(2)]:
+            yield from (f"in round {number}: {wrong}" for wrong in edges.differs(run, text.encode(), status))
+        if edges.files_in(room) != {values.cid_text(block): block}:
+            yield f"in round {number}: left {sorted(edges.files_in(room))}"
+
+
+HAMT = "type H {String:Int} representation advanced HAMT\n"
+
+
+def big_values(program, place):
+    """Above the sizes at which a call that always gave memory up could be told from one that works."""
+    numbers = ",".join(str(n * 4093) for n in range(100_000))
+    entries = ",".join(f'"k{n}":{n}' for n in range(20_000))
+    fields = " ".join(f"f{n} optional Int" for n in range(1_024))
+    given = ",".join(f'"f{n}":{n}' for n in range(0, 1_024, 3))
+    # Each type leads to the next one, so that a walk over the types of parts comes to all of them.
+    chain = "".join(f"type T{n:05} struct {{ a nullable T{n + 1:05} }}\n" for n in range(12_000))
+    for name, source, ty, text in (
+        ("list", "type L [Int]\n", "L", f"[{numbers}]"),
+        ("map", "type M {String:Int}\n", "M", f"{{{entries}}}"),
+        ("pairs in a list", "type M {String:Int} representation listpairs\n", "M", f"{{{entries}}}"),
+        ("struct", f"type S struct {{ {fields} }}\n", "S", f"{{{given}}}"),
+        ("text of pairs", 'type Q {String:String} representation stringpairs { innerDelim "=" entryDelim "&" }\n', "Q", "{%s}" % ",".join(f'"k{n}":"{n}"' for n in range(20_000))),
+        ("texts of a kind of list", "type L [U]\ntype U union { | String string | Int int } representation kinded\n", "L", "[%s]" % ",".join(['{"String":"x"}', '{"Int":1}'] * 10_000)),
+        ("chain of types", chain + "type T12000 int\n", "T00000", '{"a":{"a":null}}'),
+        ("chain of types to a HAMT", chain + "type T12000 = H\n" + HAMT, "T00000", '{"a":null}'),
+    ):
+        yield from (f"{name}: {wrong}" for wrong in asked(program, place / name, source, ty, text))
+
+
+TESTS = (
+    a_text_that_fills_a_block,
+    refused_values_leave_the_folder,
+    values_that_are_no_inputs,
+    a_value_at_standard_input,
+    a_file_in_place_of_the_folder,
+    a_write_that_is_cut_off_leaves_nothing,
+    standard_output_that_fails,
+    two_runs_side_by_side,
+    big_values,
+)
