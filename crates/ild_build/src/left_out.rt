@@ -10,7 +10,7 @@ ghost use Rattle.ild_build.specs.LeftOut.{is_left_out};
 use ild_schema::{Field, Scalar, Val};
 
 /// The name of a field in a block.
-pub(crate) fn text_of_field(field: &Field) -> &str
+pub fn text_of_field(field: &Field) -> &str
     ensures { result.now ≡ field_text field.now }
 {
     match &field.rename {
@@ -20,7 +20,7 @@ pub(crate) fn text_of_field(field: &Field) -> &str
 }
 
 /// Whether the value is the one that stands for the field where it is left out.
-pub(crate) fn is_left_out(field: &Field, val: &Val) -> bool
+pub fn is_left_out(field: &Field, val: &Val) -> bool
     ensures { result ≡ is_left_out field.now.implicit (value_of val.now) }
 {
     match (&field.implicit, val) {

@@ -13,6 +13,10 @@ mod parts;
 mod room;
 mod text;
 
+pub use form::form_of;
 pub use joined::text_of;
 pub use judgement::{Judged, judge_by};
 pub use key_rooms::KeyRooms;
+pub use left_out::{is_left_out, text_of_field};
+pub use parts::field_at;
+pub use text::add_text;

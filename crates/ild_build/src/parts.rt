@@ -86,7 +86,7 @@ fn entry_at(pairs: &ValPairs, i: usize) -> Option<&Val>
 }
 
 /// The value of the field at a place, where it is not left out.
-pub(crate) fn field_at(fields: &ValFields, i: usize) -> Option<&Val>
+pub fn field_at(fields: &ValFields, i: usize) -> Option<&Val>
     ensures { option_map (λ v. value_of v.now) result ≡ field_at (optionals_list fields.now) i }
 {
     match fields.get(i) {

@@ -57,9 +57,10 @@ fn add_between(out: &mut String, delim: &str, count: usize) -> Result<(), AllocE
     Ok(())
 }
 
-// Appends the text that represents the value, and answers whether there is one.
+/// Appends the text that represents the value, and answers whether there is one. Where there is none, or memory is wanting, a
+/// front of some text may have been appended.
 #[cycle(text)]
-pub(crate) fn add_text(
+pub fn add_text(
     acc: &Accepted,
     slot: Slot,
     val: &Val,

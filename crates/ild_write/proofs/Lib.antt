@@ -1,0 +1,12 @@
+mod Digits
+mod Hexing
+mod Ordered
+mod Turns
+mod Writing
+mod Alike
+mod Forms
+mod StructForms
+mod Unions
+mod Heights
+mod Loops
+mod Placed

@@ -1,0 +1,490 @@
+//! One pass over a value: each layer by the form of its type.
+ghost use Rattle.std.specs.Prelude.{◌≡◌, ◌<◌, OnOk, OnErr, length, option_map, option_and_then, false, true};
+ghost use Rattle.ild_data.specs.Spell.{spell};
+ghost use Rattle.ild_emit.specs.Grown.{IsGrown};
+ghost use Rattle.ild_schema.specs.Clear.{KeysApart};
+ghost use Rattle.ild_schema.specs.Made.{MadeMember};
+ghost use Rattle.ild_schema.specs.Rules.{is_map_struct};
+ghost use Rattle.ild_schema.specs.Slots.{form_of, plainly};
+ghost use Rattle.ild_schema.specs.Table.{IsWithin};
+ghost use Rattle.ild_schema.specs.Value as V;
+ghost use Rattle.ild_schema.specs.Value.{optionals_list, pairs_list, values_list};
+ghost use Rattle.ild_schema.specs.ValueSeen.{value_of};
+ghost use Rattle.ild_schema.specs.declared.def.TypeDef.TheVariants as D;
+ghost use Rattle.ild_schema.specs.declared.def.UnionForm.TheVariants as UF;
+ghost use Rattle.ild_typed.specs.Composed.{member_form};
+ghost use Rattle.ild_typed.specs.Hamt.{alone};
+ghost use Rattle.ild_typed.specs.Represented.{represented};
+ghost use Rattle.ild_write.specs.Made.{counted, entries_made, entry_made, entries_major, fields_made, items_made, made, marked_made, tuple_made};
+ghost use Rattle.ild_write.specs.Places.{count_present, count_written, map_made, name_at, named, place_made, places_made};
+ghost use Rattle.ild_write.specs.Wrote.{Wrote};
+
+use crate::hex::{add_hex, behind_head};
+use crate::leaf::{Tag, add_as_text, add_count, add_enum, add_key, add_tag, add_unit};
+use crate::order::{in_order, places, present, put, written};
+use ild_build::{field_at, form_of, is_left_out, text_of_field};
+use ild_data::key_less;
+use ild_emit::Emit;
+use ild_schema::{
+    Accepted, MapForm, Mark, Member, Slot, StructDef, StructForm, TypeDef, UnionForm, Val,
+    ValFields, ValPairs, ValPart, Vals,
+};
+use std::alloc::{AllocError, Global};
+
+// For a struct that is no member of an inline union: no place stands past its fields.
+const NO_TAG: Tag<'static> = Tag { key: "", name: "" };
+
+/// Appends a value of a slot.
+#[cycle(pass)]
+pub(crate) fn add(
+    alloc: Global,
+    acc: &Accepted,
+    slot: Slot,
+    val: &Val,
+    out: &mut Emit,
+) -> Result<(), AllocError>
+    requires { slot.ty.0 < length acc.now }
+    ensures ok { OnOk result (Wrote (made acc.now slot (value_of val.now)) out.old out.new) }
+    ensures err { OnErr result (IsGrown out.old out.new) }
+{
+    match val {
+        Val::Null => out.simple(None),
+        Val::Bool(b) => out.simple(Some(*b)),
+        Val::Int(n) => out.int(*n),
+        Val::Text(text) => out.text(text.as_str()),
+        Val::Bytes(bytes) => out.bytes(bytes.as_slice()),
+        Val::Link(cid) => out.link(&cid.view()),
+        Val::Any(tree) => out.tree(tree),
+        Val::Unit => add_unit(acc, slot, out),
+        Val::Enum(number) => add_enum(acc, slot, *number, out),
+        Val::List(vals) => add_list(alloc, acc, slot, vals, out),
+        Val::Map(pairs) => add_map(alloc, acc, slot, val, pairs, out),
+        Val::Struct(fields) => add_struct(alloc, acc, slot, val, fields, out),
+        Val::Union(number, part) => add_union(alloc, acc, slot, val, *number, part, out),
+    }
+}
+
+// Appends a list.
+#[cycle(pass)]
+fn add_list(
+    alloc: Global,
+    acc: &Accepted,
+    slot: Slot,
+    vals: &Vals,
+    out: &mut Emit,
+) -> Result<(), AllocError>
+    requires { slot.ty.0 < length acc.now }
+    ensures ok { OnOk result (Wrote (made acc.now slot (V.list vals.now)) out.old out.new) }
+    ensures err { OnErr result (IsGrown out.old out.new) }
+{
+    match form_of(acc, slot) {
+        TypeDef::List { elem, .. } => add_items(alloc, acc, *elem, vals, out),
+        _ => Ok(()),
+    }
+}
+
+// Appends the count of elements, and each in this slot.
+#[cycle(pass)]
+fn add_items(
+    alloc: Global,
+    acc: &Accepted,
+    elem: Slot,
+    vals: &Vals,
+    out: &mut Emit,
+) -> Result<(), AllocError>
+    requires { elem.ty.0 < length acc.now }
+    ensures ok { OnOk result (Wrote (counted 4 (length (values_list vals.now)) (items_made acc.now elem (values_list vals.now))) out.old out.new) }
+    ensures err { OnErr result (IsGrown out.old out.new) }
+{
+    out.head(4, vals.len() as u64)?;
+    for i in 0..vals.len() {
+        let Some(val) = vals.get(i) else {
+            return Ok(());
+        };
+        add(alloc, acc, elem, val, out)?;
+    }
+    Ok(())
+}
+
+// Appends a map.
+#[cycle(pass)]
+fn add_map(
+    alloc: Global,
+    acc: &Accepted,
+    slot: Slot,
+    val: &Val,
+    pairs: &ValPairs,
+    out: &mut Emit,
+) -> Result<(), AllocError>
+    requires within { slot.ty.0 < length acc.now }
+    requires same { value_of val.now ≡ V.map pairs.now }
+    ensures ok { OnOk result (Wrote (made acc.now slot (V.map pairs.now)) out.old out.new) }
+    ensures err { OnErr result (IsGrown out.old out.new) }
+{
+    match form_of(acc, slot) {
+        TypeDef::Map { value, form, .. } => match form {
+            MapForm::Map => add_pairs(alloc, acc, *value, pairs, false, out),
+            MapForm::ListPairs => add_pairs(alloc, acc, *value, pairs, true, out),
+            MapForm::StringPairs(_, _) => add_as_text(alloc, acc, slot, val, out),
+            MapForm::Hamt => Ok(()),
+        },
+        _ => Ok(()),
+    }
+}
+
+// Appends the count of entries, and each, as entries of a map or as pairs.
+#[cycle(pass)]
+fn add_pairs(
+    alloc: Global,
+    acc: &Accepted,
+    value: Slot,
+    pairs: &ValPairs,
+    paired: bool,
+    out: &mut Emit,
+) -> Result<(), AllocError>
+    requires { value.ty.0 < length acc.now }
+    ensures ok { OnOk result (Wrote (counted (entries_major paired) (length (pairs_list pairs.now)) (entries_made acc.now paired value (pairs_list pairs.now))) out.old out.new) }
+    ensures err { OnErr result (IsGrown out.old out.new) }
+{
+    add_count(paired, pairs.len(), out)?;
+    for i in 0..pairs.len() {
+        let Some(pair) = pairs.get(i) else {
+            return Ok(());
+        };
+        add_entry(alloc, acc, pair.0.as_str(), value, &pair.1, paired, out)?;
+    }
+    Ok(())
+}
+
+// Appends a key and its value, as an entry of a map or as a pair.
+#[cycle(pass)]
+fn add_entry(
+    alloc: Global,
+    acc: &Accepted,
+    key: &str,
+    slot: Slot,
+    val: &Val,
+    paired: bool,
+    out: &mut Emit,
+) -> Result<(), AllocError>
+    requires { slot.ty.0 < length acc.now }
+    ensures ok { OnOk result (Wrote (entry_made acc.now paired key.now slot (value_of val.now)) out.old out.new) }
+    ensures err { OnErr result (IsGrown out.old out.new) }
+{
+    add_key(paired, key, out)?;
+    add(alloc, acc, slot, val, out)
+}
+
+// Appends a struct.
+#[cycle(pass)]
+fn add_struct(
+    alloc: Global,
+    acc: &Accepted,
+    slot: Slot,
+    val: &Val,
+    vals: &ValFields,
+    out: &mut Emit,
+) -> Result<(), AllocError>
+    requires within { slot.ty.0 < length acc.now }
+    requires same { value_of val.now ≡ V.struct vals.now }
+    ensures ok { OnOk result (Wrote (made acc.now slot (V.struct vals.now)) out.old out.new) }
+    ensures err { OnErr result (IsGrown out.old out.new) }
+{
+    let _legible = acc.types();
+    match form_of(acc, slot) {
+        TypeDef::Struct(def) => match def.form {
+            StructForm::Map => add_fields(alloc, acc, def, vals, out),
+            StructForm::Tuple => add_tuple(alloc, acc, def, vals, out),
+            StructForm::ListPairs => add_listed(alloc, acc, def, vals, out),
+            StructForm::StringPairs(_, _) | StructForm::StringJoin(_) => {
+                add_as_text(alloc, acc, slot, val, out)
+            }
+        },
+        _ => Ok(()),
+    }
+}
+
+// Appends the values that are there, without their names.
+#[cycle(pass)]
+fn add_tuple(
+    alloc: Global,
+    acc: &Accepted,
+    def: &StructDef,
+    vals: &ValFields,
+    out: &mut Emit,
+) -> Result<(), AllocError>
+    requires { IsWithin (length acc.now) (D.Struct def.now) }
+    ensures ok { OnOk result (Wrote (counted 4 (count_present (optionals_list vals.now)) (tuple_made acc.now def.now.fields (optionals_list vals.now))) out.old out.new) }
+    ensures err { OnErr result (IsGrown out.old out.new) }
+{
+    out.head(4, present(vals) as u64)?;
+    for (i, field) in def.fields.as_slice().iter().enumerate() {
+        let Some(val) = field_at(vals, i) else {
+            continue;
+        };
+        add(alloc, acc, field.slot, val, out)?;
+    }
+    Ok(())
+}
+
+// Appends the fields that are there and not left out as pairs, in the order of declaration.
+#[cycle(pass)]
+fn add_listed(
+    alloc: Global,
+    acc: &Accepted,
+    def: &StructDef,
+    vals: &ValFields,
+    out: &mut Emit,
+) -> Result<(), AllocError>
+    requires { IsWithin (length acc.now) (D.Struct def.now) }
+    ensures ok { OnOk result (Wrote (counted 4 (count_written def.now.fields (optionals_list vals.now)) (fields_made acc.now true def.now.fields (optionals_list vals.now))) out.old out.new) }
+    ensures err { OnErr result (IsGrown out.old out.new) }
+{
+    out.head(4, written(&def.fields, vals) as u64)?;
+    for (i, field) in def.fields.as_slice().iter().enumerate() {
+        let Some(val) = field_at(vals, i) else {
+            continue;
+        };
+        if is_left_out(field, val) {
+            continue;
+        }
+        add_entry(alloc, acc, text_of_field(field), field.slot, val, true, out)?;
+    }
+    Ok(())
+}
+
+// Appends the fields that are there and not left out as a map.
+#[cycle(pass)]
+fn add_fields(
+    alloc: Global,
+    acc: &Accepted,
+    def: &StructDef,
+    vals: &ValFields,
+    out: &mut Emit,
+) -> Result<(), AllocError>
+    requires { IsWithin (length acc.now) (D.Struct def.now) }
+    ensures ok { OnOk result (Wrote (map_made acc.now def.now.fields (optionals_list vals.now)) out.old out.new) }
+    ensures err { OnErr result (IsGrown out.old out.new) }
+{
+    let places = places(alloc, &def.fields, vals)?;
+    let places = in_order(alloc, &def.fields, NO_TAG.key, places)?;
+    add_places(alloc, acc, def, vals, NO_TAG, &places, out)
+}
+
+// Appends the fields at these places, and a text under a key for the place past them, as a map.
+#[cycle(pass)]
+fn add_places(
+    alloc: Global,
+    acc: &Accepted,
+    def: &StructDef,
+    vals: &ValFields,
+    tag: Tag<'_>,
+    places: &[usize],
+    out: &mut Emit,
+) -> Result<(), AllocError>
+    requires { IsWithin (length acc.now) (D.Struct def.now) }
+    ensures ok { OnOk result (Wrote (counted 5 (length places.now) (places_made acc.now def.now.fields (optionals_list vals.now) tag.entry.name.now (named def.now.fields tag.entry.key.now places.now))) out.old out.new) }
+    ensures err { OnErr result (IsGrown out.old out.new) }
+{
+    out.head(5, places.len() as u64)?;
+    for place in places {
+        add_place(alloc, acc, def, vals, tag, *place, out)?;
+    }
+    Ok(())
+}
+
+// Appends the field at a place under its name, or the text under its key.
+#[cycle(pass)]
+fn add_place(
+    alloc: Global,
+    acc: &Accepted,
+    def: &StructDef,
+    vals: &ValFields,
+    tag: Tag<'_>,
+    place: usize,
+    out: &mut Emit,
+) -> Result<(), AllocError>
+    requires { IsWithin (length acc.now) (D.Struct def.now) }
+    ensures ok { OnOk result (Wrote (place_made acc.now def.now.fields (optionals_list vals.now) tag.entry.name.now (name_at def.now.fields tag.entry.key.now place, place)) out.old out.new) }
+    ensures err { OnErr result (IsGrown out.old out.new) }
+{
+    match def.fields.get(place) {
+        Some(field) => match field_at(vals, place) {
+            Some(val) => add_entry(alloc, acc, text_of_field(field), field.slot, val, false, out),
+            None => Ok(()),
+        },
+        None => add_tag(tag, out),
+    }
+}
+
+// Appends a union.
+#[cycle(pass)]
+fn add_union(
+    alloc: Global,
+    acc: &Accepted,
+    slot: Slot,
+    val: &Val,
+    number: u32,
+    part: &ValPart,
+    out: &mut Emit,
+) -> Result<(), AllocError>
+    requires within { slot.ty.0 < length acc.now }
+    requires same { value_of val.now ≡ V.union number part.now }
+    ensures ok { OnOk result (Wrote (made acc.now slot (V.union number part.now)) out.old out.new) }
+    ensures err { OnErr result (IsGrown out.old out.new) }
+{
+    let _legible = acc.types();
+    match form_of(acc, slot) {
+        TypeDef::Union(def) => match &def.form {
+            UnionForm::StringPrefix => add_as_text(alloc, acc, slot, val, out),
+            form => match def.members.get(number as usize) {
+                Some(member) => add_member(alloc, acc, form, member, part, out),
+                None => Ok(()),
+            },
+        },
+        _ => Ok(()),
+    }
+}
+
+// Appends a union's member by the union's form, which is no prefix of a text.
+#[cycle(pass)]
+fn add_member(
+    alloc: Global,
+    acc: &Accepted,
+    form: &UnionForm,
+    member: &Member,
+    part: &ValPart,
+    out: &mut Emit,
+) -> Result<(), AllocError>
+    requires within { member.now.ty.0 < length acc.now }
+    requires form { form.now ≡ UF.StringPrefix → ⊥ }
+    requires made { MadeMember acc.now form.now member.now }
+    requires apart { KeysApart form.now }
+    ensures ok { OnOk result (Wrote (option_map spell (option_and_then (λ d. member_form form.now d member.now) (represented alone acc.now (plainly member.now.ty) part.now))) out.old out.new) }
+    ensures err { OnErr result (IsGrown out.old out.new) }
+{
+    let slot = Slot {
+        ty: member.ty,
+        nullable: false,
+    };
+    let val = part.get();
+    match (form, &member.mark) {
+        (UnionForm::Kinded, _) => add(alloc, acc, slot, val, out),
+        (UnionForm::Keyed, Mark::Text(name)) => {
+            add_keyed(alloc, acc, name.as_str(), slot, val, out)
+        }
+        (UnionForm::Envelope(key, content), Mark::Text(name)) => {
+            let tag = Tag {
+                key: key.as_str(),
+                name: name.as_str(),
+            };
+            add_envelope(alloc, acc, tag, content.as_str(), slot, val, out)
+        }
+        (UnionForm::Inline(key), Mark::Text(name)) => {
+            let tag = Tag {
+                key: key.as_str(),
+                name: name.as_str(),
+            };
+            add_inline(alloc, acc, tag, slot, val, out)
+        }
+        (UnionForm::BytesPrefix, Mark::Text(digits)) => {
+            add_prefixed(alloc, acc, digits.as_str(), slot, val, out)
+        }
+        _ => Ok(()),
+    }
+}
+
+// Appends a member under its text.
+#[cycle(pass)]
+fn add_keyed(
+    alloc: Global,
+    acc: &Accepted,
+    name: &str,
+    slot: Slot,
+    val: &Val,
+    out: &mut Emit,
+) -> Result<(), AllocError>
+    requires { slot.ty.0 < length acc.now }
+    ensures ok { OnOk result (Wrote (marked_made acc.now UF.Keyed slot (value_of val.now) name.now) out.old out.new) }
+    ensures err { OnErr result (IsGrown out.old out.new) }
+{
+    out.head(5, 1)?;
+    add_entry(alloc, acc, name, slot, val, false, out)
+}
+
+// Appends a member beside its text, both under keys, in the key order.
+#[cycle(pass)]
+fn add_envelope(
+    alloc: Global,
+    acc: &Accepted,
+    tag: Tag<'_>,
+    content: &str,
+    slot: Slot,
+    val: &Val,
+    out: &mut Emit,
+) -> Result<(), AllocError>
+    requires within { slot.ty.0 < length acc.now }
+    requires apart { tag.key.now ≡ content.now → ⊥ }
+    ensures ok { OnOk result (Wrote (marked_made acc.now (UF.Envelope tag.entry.key.now content.now) slot (value_of val.now) tag.entry.name.now) out.old out.new) }
+    ensures err { OnErr result (IsGrown out.old out.new) }
+{
+    out.head(5, 2)?;
+    if key_less(tag.key, content) {
+        add_tag(tag, out)?;
+        add_entry(alloc, acc, content, slot, val, false, out)
+    } else {
+        add_entry(alloc, acc, content, slot, val, false, out)?;
+        add_tag(tag, out)
+    }
+}
+
+// Appends a member, which is a struct as a map, with an entry more for its text.
+#[cycle(pass)]
+fn add_inline(
+    alloc: Global,
+    acc: &Accepted,
+    tag: Tag<'_>,
+    slot: Slot,
+    val: &Val,
+    out: &mut Emit,
+) -> Result<(), AllocError>
+    requires within { slot.ty.0 < length acc.now }
+    requires plain { slot.nullable ≡ false }
+    requires map { is_map_struct (form_of acc.now slot) ≡ true }
+    ensures ok { OnOk result (Wrote (marked_made acc.now (UF.Inline tag.entry.key.now) slot (value_of val.now) tag.entry.name.now) out.old out.new) }
+    ensures err { OnErr result (IsGrown out.old out.new) }
+{
+    let _legible = acc.types();
+    match (form_of(acc, slot), val) {
+        (TypeDef::Struct(def), Val::Struct(vals)) => {
+            let places = places(alloc, &def.fields, vals)?;
+            let mut places = in_order(alloc, &def.fields, tag.key, places)?;
+            put(&def.fields, tag.key, &mut places, def.fields.len())?;
+            add_places(alloc, acc, def, vals, tag, &places, out)
+        }
+        _ => Ok(()),
+    }
+}
+
+// Appends the bytes of a member behind its prefix.
+#[cycle(pass)]
+fn add_prefixed(
+    alloc: Global,
+    acc: &Accepted,
+    digits: &str,
+    slot: Slot,
+    val: &Val,
+    out: &mut Emit,
+) -> Result<(), AllocError>
+    requires { slot.ty.0 < length acc.now }
+    ensures ok { OnOk result (Wrote (marked_made acc.now UF.BytesPrefix slot (value_of val.now) digits.now) out.old out.new) }
+    ensures err { OnErr result (out.new ≡ out.old) }
+{
+    let mut member = Emit::new(alloc);
+    add(alloc, acc, slot, val, &mut member)?;
+    let spelled = member.finish();
+    let mut bytes = Vec::new(alloc);
+    add_hex(&mut bytes, digits.as_bytes())?;
+    bytes.extend_from_slice(behind_head(spelled.as_slice()))?;
+    out.bytes(&bytes)
+}
