@@ -1,3 +1,4 @@
 pub mod Wrote
 pub mod Made
 pub mod Places
+pub mod Builds
