@@ -1,8 +1,6 @@
 -- The spelling of a layer's representation, by the form of its type.
-use Rattle.std.proofs.Common.{◌≡◌, ℕ, zero, suc, ◌+◌, List, [], ◌∷◌, ◌++◌, length, map, Bool, true, false, cond, Option, Some, None, option_map, slice_get, refl, sym, ap, ◌∙◌, subst, arith, append_assoc, append-nil}
+use Rattle.std.proofs.Common.{◌≡◌, ℕ, suc, List, [], ◌∷◌, ◌++◌, length, map, true, false, Option, Some, None, option_map, refl, sym, ap, ◌∙◌, append_assoc, append-nil}
 use Rattle.std.specs.Prelude.{option_and_then}
-use Rattle.std.specs.List.{AllByRecursion}
-use Rattle.std.specs.Option.{option_map_or}
 use Rattle.std.proofs.lemmas.Option.{same_Some, none-some}
 use Rattle.ild_data.specs.Data as T
 use Rattle.ild_data.specs.Data.{Data}
@@ -13,31 +11,20 @@ use Rattle.ild_schema.specs.declared.def.TypeDef.{TypeDef}
 use Rattle.ild_schema.specs.declared.def.TypeDef.TheVariants as D
 use Rattle.ild_schema.specs.declared.def.MapForm.{MapForm}
 use Rattle.ild_schema.specs.declared.def.MapForm.TheVariants as MF
-use Rattle.ild_schema.specs.declared.def.StructForm.TheVariants as S
-use Rattle.ild_schema.specs.declared.def.StructDef.{StructDef}
-use Rattle.ild_schema.specs.declared.def.Field.{Field}
 use Rattle.ild_schema.specs.declared.row.Row.{Row}
-use Rattle.ild_schema.specs.Fitting.{ImplicitFits}
-use Rattle.ild_schema.specs.Marks.{field_text}
 use Rattle.ild_schema.specs.Slots.{form_of}
 use Rattle.ild_schema.specs.Value as V
 use Rattle.ild_schema.specs.Value.{Value, Values, Pairs, Optionals, values_list, pairs_list, optionals_list}
-use Rattle.ild_typed.specs.Composed.{composed, map_form, struct_form}
-use Rattle.ild_typed.specs.Fields.{is_implicit, entries_of, field_entries, tuple_items, are_absent}
+use Rattle.ild_typed.specs.Composed.{composed}
 use Rattle.ild_typed.specs.Hamt.{alone}
 use Rattle.ild_typed.specs.Layer as L
 use Rattle.ild_typed.specs.Layer.{Layer}
-use Rattle.ild_typed.specs.Represented.{represented, represented_values, represented_pairs, represented_fields, layered}
-use Rattle.ild_typed.specs.Slots.{element_of, fields_of}
-use Rattle.ild_typed.specs.Strings.{map_data, listpairs, pair_data, in_key_order}
-use Rattle.ild_typed.proofs.Basics.{map_from, if_from}
+use Rattle.ild_typed.specs.Represented.{represented, represented_values, represented_pairs, layered}
+use Rattle.ild_typed.specs.Slots.{element_of}
+use Rattle.ild_typed.specs.Strings.{pair_data}
+use Rattle.ild_typed.proofs.Basics.{map_from}
 use Rattle.ild_typed.proofs.Entries.{both_from}
-use Rattle.ild_build.specs.LeftOut.{is_left_out}
-use Rattle.ild_build.specs.PartAt.{field_at}
-use Rattle.ild_build.proofs.TextForms.{left_out_same}
-use Rattle.ild_write.specs.Made.{made, both, counted, items_made, before_key, entry_made, entries_major, entries_made, tuple_made, fields_made}
-use Rattle.ild_write.specs.Places.{places_from, name_at, named, in_order, value_made, count_present, count_written, map_made, places_made}
-use Rattle.ild_write.proofs.Alike.{Alike, alike_sorted, alike_length, alike_made}
+use Rattle.ild_write.specs.Made.{made, both, counted, items_made, entries_made}
 
 -- ---- no such type
 

@@ -1,5 +1,5 @@
 -- Places under names that rise, and places that are put in the key order one after the other.
-use Rattle.std.proofs.Common.{◌≡◌, ℕ, zero, suc, ◌+◌, ◌-◌, ◌<◌, ◌≤◌, List, [], ◌∷◌, ◌++◌, length, take, get_or, set, insert, slice_get, map, true, Option, Some, None, option_map, Result, Ok, Err, refl, sym, ap, ◌∙◌, subst, arith, add-one}
+use Rattle.std.proofs.Common.{◌≡◌, ℕ, zero, suc, ◌+◌, ◌-◌, ◌<◌, ◌≤◌, List, [], ◌∷◌, ◌++◌, length, take, get_or, set, insert, slice_get, map, true, Some, option_map, Result, Ok, Err, refl, sym, ap, ◌∙◌, subst, arith, add-one}
 use Rattle.std.specs.Prelude.{IfOk, IfErr}
 use Rattle.std.specs.List.Sorted.{IsBinarySearchResult, IsSearchInRange}
 use Rattle.std.specs.Ordering.{is_lt, match_ordering, ordering_index}
@@ -7,7 +7,7 @@ use Rattle.std.specs.declared.cmp.Ordering.{Ordering}
 use Rattle.std.specs.declared.cmp.Ordering.TheVariants.{Less, Equal, Greater}
 use Rattle.std.proofs.lemmas.List.{get_or-map, length-map, map-set}
 use Rattle.std.proofs.Math.ListN.{get_or-map as map_default}
-use Rattle.std.proofs.lemmas.Option.{same_Some, none-some, slice_get_read, slice_get-map}
+use Rattle.std.proofs.lemmas.Option.{same_Some, none-some, slice_get-map}
 use Rattle.ild_data.proofs.Lists.{map-insert}
 use Rattle.ild_data.proofs.Places.{searched, place_set, place_inserted}
 use Rattle.ild_data.specs.Key.{key_cmp, key_less, put, Rises}
@@ -79,8 +79,8 @@ module _ (f : ℕ → List ℕ × ℕ) (k : List ℕ) where
   found_named ps (Err i) le h = λ up.
       let low : i ≤ length ps = le in
       let parted = h (λ a b d low high.
-          subst (λ (q : List ℕ × ℕ). ordering_index (key_cmp (f (get_or ps a d)).0 k) ≤ ordering_index (key_cmp q.0 k)) (map_default f ps b d)
-          (subst (λ (q : List ℕ × ℕ). ordering_index (key_cmp q.0 k) ≤ ordering_index (key_cmp (get_or (map f ps) b (f d)).0 k)) (map_default f ps a d) (up a b (f d) low (omega (arith, high, length-map ps f))))) in (
+      subst (λ (q : List ℕ × ℕ). ordering_index (key_cmp (f (get_or ps a d)).0 k) ≤ ordering_index (key_cmp q.0 k)) (map_default f ps b d)
+      (subst (λ (q : List ℕ × ℕ). ordering_index (key_cmp q.0 k) ≤ ordering_index (key_cmp (get_or (map f ps) b (f d)).0 k)) (map_default f ps a d) (up a b (f d) low (omega (arith, high, length-map ps f))))) in (
         λ j e from lt. let below : j < i = lt in ap (λ (q : List ℕ × ℕ). key_cmp q.0 k) (get_or-map f ps j 0 e (omega (arith, below, low))) ∙ parted.0 j 0 from below,
         λ j e from lt. let below : j < length (map f ps) = lt in ap (λ (q : List ℕ × ℕ). key_cmp q.0 k) (get_or-map f ps j 0 e (omega (arith, below, length-map ps f))) ∙ parted.1 j 0 from (omega (arith, below, length-map ps f)),
       )

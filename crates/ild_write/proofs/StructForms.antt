@@ -1,6 +1,6 @@
 -- The spelling of a struct's representation, by its form.
-use Rattle.std.proofs.Common.{◌≡◌, ℕ, zero, suc, ◌+◌, List, [], ◌∷◌, ◌++◌, length, map, Bool, true, false, cond, Option, Some, None, option_map, slice_get, refl, sym, ap, ◌∙◌, subst, arith}
-use Rattle.std.specs.Prelude.{option_and_then, is_none, ◌&&◌}
+use Rattle.std.proofs.Common.{◌≡◌, ℕ, suc, ◌+◌, List, [], ◌∷◌, ◌++◌, length, map, Bool, true, false, cond, Option, Some, None, option_map, slice_get, refl, sym, ap, ◌∙◌, subst, arith}
+use Rattle.std.specs.Prelude.{option_and_then, is_none}
 use Rattle.std.specs.List.{AllByRecursion}
 use Rattle.std.specs.Option.{option_map_or}
 use Rattle.std.proofs.lemmas.Option.{same_Some, none-some}
@@ -37,7 +37,7 @@ use Rattle.ild_build.specs.PartAt.{field_at}
 use Rattle.ild_build.proofs.TextForms.{left_out_same}
 use Rattle.ild_write.specs.Made.{made, both, counted, entry_made, tuple_made, fields_made, marked_made}
 use Rattle.ild_write.specs.Places.{places_from, name_at, named, in_order, value_made, count_present, count_written, map_made, places_made}
-use Rattle.ild_write.proofs.Alike.{Alike, Stands, alike_put, alike_sorted, alike_length, alike_made}
+use Rattle.ild_write.proofs.Alike.{Alike, alike_put, alike_sorted, alike_length, alike_made}
 use Rattle.ild_write.proofs.Forms.{pair_spelled}
 
 module _ (rows : List Row) where

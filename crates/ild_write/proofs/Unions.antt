@@ -1,13 +1,13 @@
 -- The spelling of a union's representation, by its form.
-use Rattle.std.proofs.Common.{◌≡◌, ℕ, ◌<◌, ◌^◌, List, [], ◌∷◌, ◌++◌, length, Bool, true, false, Option, Some, None, option_map, slice_get, refl, sym, ap, ◌∙◌, subst, arith, append_assoc, append-nil}
+use Rattle.std.proofs.Common.{◌≡◌, ℕ, List, [], ◌∷◌, ◌++◌, true, false, Option, Some, None, option_map, refl, ap, ◌∙◌, append-nil}
 use Rattle.std.specs.Prelude.{option_and_then}
 use Rattle.std.specs.Ordering.{is_lt, match_ordering}
 use Rattle.std.specs.declared.cmp.Ordering.{Ordering}
 use Rattle.std.specs.declared.cmp.Ordering.TheVariants.{Less, Equal, Greater}
-use Rattle.std.proofs.lemmas.Option.{same_Some, none-some}
+use Rattle.std.proofs.lemmas.Option.{same_Some}
 use Rattle.ild_data.specs.Data as T
 use Rattle.ild_data.specs.Data.{Data}
-use Rattle.ild_data.specs.Key.{key_cmp, key_less, put}
+use Rattle.ild_data.specs.Key.{key_cmp, key_less}
 use Rattle.ild_data.specs.Spell.{head, spell, spell_text, spell_bytes}
 use Rattle.ild_data.proofs.Rising.{key_exact}
 use Rattle.ild_schema.specs.declared.number.Slot.{Slot}

@@ -310,7 +310,15 @@ fn add_place(
 {
     match def.fields.get(place) {
         Some(field) => match field_at(vals, place) {
-            Some(val) => add_entry(alloc, acc, text_of_field(field), field.slot, val, false, out),
+            Some(val) => add_entry(
+                alloc,
+                acc,
+                text_of_field(field),
+                field.slot,
+                val,
+                false,
+                out,
+            ),
             None => Ok(()),
         },
         None => add_tag(tag, out),

@@ -1,4 +1,4 @@
-use Rattle.std.proofs.Common.{◌≡◌, ◌++◌, List, ℕ, length}
+use Rattle.std.proofs.Common.{◌≡◌, ◌++◌, length}
 use Rattle.std.specs.Prelude.{option_map}
 use Rattle.ild_schema.specs.Hex.{bytes_of_hex}
 use Rattle.ild_write.proofs.hex.add_hex.Given as goal

@@ -1,4 +1,4 @@
-use Rattle.std.proofs.Common.{◌∙◌, ap, sym, subst}
+use Rattle.std.proofs.Common.{sym, subst}
 use Rattle.ild_data.specs.Key.{Rises}
 use Rattle.ild_write.specs.Places.{named}
 use Rattle.ild_write.proofs.Ordered.{risen_same}

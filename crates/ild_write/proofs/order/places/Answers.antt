@@ -1,9 +1,8 @@
-use Rattle.std.proofs.Common.{◌∙◌, ◌+◌, ◌++◌, ap, sym, arith, drop, true, false, append-nil}
+use Rattle.std.proofs.Common.{◌∙◌, ◌++◌, ap, sym, arith, true, false}
 use Rattle.ild_schema.specs.Value.{optionals_list}
 use Rattle.ild_schema.specs.ValueSeen.{value_of}
 use Rattle.ild_build.proofs.Turns.{got}
-use Rattle.ild_write.specs.Places.{places_from}
-use Rattle.ild_write.proofs.Turns.{places_some, places_none, places_end, found_more}
+use Rattle.ild_write.proofs.Turns.{places_some, places_none, found_more}
 use Rattle.ild_write.proofs.order.places.Goals as goal
 
 pub loop-i-preserved : goal.loop-i-preserved

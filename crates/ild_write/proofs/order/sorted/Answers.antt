@@ -1,6 +1,6 @@
-use Rattle.std.proofs.Common.{◌≡◌, ◌∙◌, ℕ, List, [], ◌∷◌, ap, sym, map, arith}
+use Rattle.std.proofs.Common.{◌∙◌, ℕ, List, [], ◌∷◌, ap, sym, map}
 use Rattle.std.proofs.lemmas.List.{map-append}
-use Rattle.ild_write.specs.Places.{in_order, name_at, named}
+use Rattle.ild_write.specs.Places.{name_at, named}
 use Rattle.ild_write.proofs.Ordered.{put_before, put_none, put_behind}
 use Rattle.ild_write.proofs.order.sorted.Goals as goal
 

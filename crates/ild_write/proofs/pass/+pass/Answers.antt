@@ -1,7 +1,6 @@
-use Rattle.std.proofs.Common.{rules, ◌≡◌, ◌<◌, ◌≤◌, ◌+◌, ◌∙◌, ◌++◌, [], length, drop, Some, None, option_map, true, false, refl, sym, ap, subst, arith}
-use Rattle.ild_data.specs.Spell.{head, spell, spell_text, spell_bytes}
+use Rattle.std.proofs.Common.{rules, ◌≡◌, ◌+◌, ◌∙◌, ◌++◌, [], length, drop, Some, option_map, true, false, sym, ap, subst, arith}
+use Rattle.ild_data.specs.Spell.{head, spell_text, spell_bytes}
 use Rattle.ild_schema.specs.Hex.{bytes_of_hex}
-use Rattle.ild_schema.specs.Slots.{form_of, plainly}
 use Rattle.ild_schema.specs.Table.{IsWithin}
 use Rattle.ild_schema.specs.Value as V
 use Rattle.ild_schema.specs.Value.{height, values_height, optionals_list, pairs_list, values_list}
@@ -10,9 +9,8 @@ use Rattle.ild_schema.specs.declared.def.UnionForm.TheVariants as UF
 use Rattle.ild_build.proofs.Low.{field_low, member_low}
 use Rattle.ild_build.proofs.PartTests.{pair_height, field_height}
 use Rattle.ild_build.proofs.Turns.{got, value_got, fitting}
-use Rattle.ild_write.specs.Made.{both, counted, entries_made, entry_made, entries_major, before_key, fields_made, items_made, made, marked_made, tuple_made}
-use Rattle.ild_write.specs.Places.{count_present, count_written, in_order, map_made, name_at, named, place_made, places_from, places_made}
-use Rattle.ild_write.specs.Wrote.{Wrote}
+use Rattle.ild_write.specs.Made.{both, entries_made, entry_made, entries_major, before_key, fields_made, items_made, made, marked_made}
+use Rattle.ild_write.specs.Places.{in_order, named}
 use Rattle.ild_write.proofs.Forms.{no_list, list_made, no_map, no_root, map_is_made, pairs_are_made}
 use Rattle.ild_write.proofs.Heights.{value_height}
 use Rattle.ild_write.proofs.Loops.{item_turn, items_end, entry_turn, entries_end, tuple_turn, tuple_skip, tuple_end, fields_turn, fields_skip, fields_end, place_turn, places_end, tag_made}

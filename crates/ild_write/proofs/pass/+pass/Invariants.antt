@@ -1,4 +1,4 @@
-use Rattle.std.proofs.Common.{◌+◌, ◌*◌, length, drop, map, true, false}
+use Rattle.std.proofs.Common.{◌+◌, ◌*◌, length, drop, true}
 use Rattle.ild_schema.specs.Value.{height, values_height, pairs_height, optionals_height, optionals_list, pairs_list, values_list}
 use Rattle.ild_schema.specs.ValueSeen.{value_of}
 use Rattle.ild_write.specs.Made.{counted, entries_made, entries_major, fields_made, items_made, tuple_made}
