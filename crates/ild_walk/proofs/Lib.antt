@@ -10,3 +10,6 @@ pub mod Texting
 pub mod Stepping
 pub mod Structing
 pub mod Walking
+pub mod Flatness
+pub mod Spreading
+pub mod Stacking

@@ -40,7 +40,7 @@ use Rattle.ild_walk.specs.Parts.{HasLeft, SplitsOff}
 
 -- ---- the refusal of a piece by itself
 
-why_refused : (rows : List Row) (room : ℕ) (s : Slot) (t : Data) (d : TypeDef) (w : W.Why) → is_null_there s t ≡ false → form_of rows s ≡ Some d → IsWhy room d t w
+pub why_refused : (rows : List Row) (room : ℕ) (s : Slot) (t : Data) (d : TypeDef) (w : W.Why) → is_null_there s t ≡ false → form_of rows s ≡ Some d → IsWhy room d t w
     → Refused rows room s t (record { ty = s.ty; why = w; at = [] })
 unfolding RefusedPast
 why_refused rows zero s t d w there is why = (there, d, is, inl (w, why, refl))
@@ -64,7 +64,7 @@ first_behind : (rows : List Row) (fits : Slot → Value → Type 0) (refused : S
 first_behind rows fits refused [] p others q all h = inl (q, h, refl)
 first_behind rows fits refused (d ∷ done) p others q all h = inr (all.0, first_behind rows fits refused done p others q all.1 h)
 
-part_refused : (rows : List Row) (room left : ℕ) (s : Slot) (t : Data) (d : TypeDef) → is_null_there s t ≡ false → form_of rows s ≡ Some d → why_at room d t ≡ None
+pub part_refused : (rows : List Row) (room left : ℕ) (s : Slot) (t : Data) (d : TypeDef) → is_null_there s t ≡ false → form_of rows s ≡ Some d → why_at room d t ≡ None
     → (done : List Spot) (p : Spot) (others : List Spot) → AreParts d t (done ++ p ∷ others) → left + needs d t ≡ room → left < room
     → AllByRecursion (λ x. Shows (Fits rows left) rows x.slot x.tree) done → (q : Refusal) → Refused rows left p.slot p.tree q → Refused rows room s t (part_refusal p q)
 unfolding RefusedPast
@@ -149,7 +149,7 @@ pub walk_begins : (rows : List Row) (room : ℕ) (s : Slot) (t : Data) (d : Type
 walk_begins rows room s t d x is h =
     record { type = d; form = is; none = h.none; done = []; rest = h.spots; are = h.parts; room_is = h.room_is; shown = tt; has = h.left }
 
-all_join : {A : Type 0} (P : A → Type 0) (xs ys : List A) → AllByRecursion P xs → AllByRecursion P ys → AllByRecursion P (xs ++ ys)
+pub all_join : {A : Type 0} (P : A → Type 0) (xs ys : List A) → AllByRecursion P xs → AllByRecursion P ys → AllByRecursion P (xs ++ ys)
 all_join P [] ys a b = b
 all_join P (x ∷ xs) ys a b = (a.0, all_join P xs ys a.1 b)
 

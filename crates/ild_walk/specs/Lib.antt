@@ -13,3 +13,4 @@ pub mod Parts
 pub mod Ready
 pub mod Opens
 pub mod Scalars
+pub mod Stacked

@@ -28,14 +28,14 @@ use ild_piece::is_null;
 use ild_schema::{Accepted, MapForm, Slot, TypeDef};
 use std::alloc::Global;
 
-fn is_null_there(slot: Slot, piece: &Piece<'_>) -> bool
+pub(crate) fn is_null_there(slot: Slot, piece: &Piece<'_>) -> bool
     ensures { (rows : List Row) (t : Data) → StandsFor rows piece.now t → result ≡ is_null_there slot t }
 {
     slot.nullable && is_null(piece)
 }
 
 // What is found of a piece by itself.
-fn open_piece<'b>(
+pub(crate) fn open_piece<'b>(
     alloc: Global,
     acc: &'b Accepted,
     slot: Slot,
