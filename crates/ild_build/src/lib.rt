@@ -7,12 +7,10 @@ mod hole;
 mod joined;
 mod joints;
 mod judgement;
-mod key_rooms;
 mod left_out;
 mod parts;
 mod room;
 mod text;
 
 pub use joined::text_of;
-pub use judgement::{Judged, judge_by};
-pub use key_rooms::KeyRooms;
+pub use judgement::{Judged, judge};

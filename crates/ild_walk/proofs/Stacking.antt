@@ -1,12 +1,15 @@
 -- Lists of parts that are still to be opened, and the spots for which they stand.
 use Rattle.std.proofs.Common.{◌≡◌, ℕ, ◌+◌, ◌<◌, ◌≤◌, List, [], ◌∷◌, ◌++◌, append_assoc, append-nil, length, Err, Bool, true, false, Option, Some, None, refl, sym, ◌∙◌, ap, subst, arith, inl, inr}
-use Rattle.std.specs.Prelude.{◌⊎◌, ◌↔◌}
+use Rattle.std.specs.Prelude.{◌⊎◌, ◌↔◌, IfOk, Result, Ok}
+use Rattle.std.specs.declared.alloc.AllocError.{AllocError}
+use Rattle.std.specs.Borrow.{Bor}
 use Rattle.std.specs.List.{AllByRecursion}
+use Rattle.ild_data.specs.Data as T
 use Rattle.ild_data.specs.Data.{Data}
 use Rattle.ild_data.specs.Tree.{IsTree}
 use Rattle.ild_schema.specs.Kinds.{meant}
 use Rattle.ild_schema.specs.Legible.{IsLegible}
-use Rattle.ild_schema.specs.Slots.{form_of}
+use Rattle.ild_schema.specs.Slots.{form_of, plainly}
 use Rattle.ild_schema.specs.declared.def.TypeDef.{TypeDef}
 use Rattle.ild_schema.specs.declared.number.Slot.{Slot}
 use Rattle.ild_schema.specs.declared.row.Row.{Row}
@@ -14,10 +17,13 @@ use Rattle.ild_schema.specs.Copies.{base}
 use Rattle.ild_typed.specs.Pieces.{is_null_there, needs, why_at}
 use Rattle.ild_typed.specs.Refused.{AreParts}
 use Rattle.ild_typed.specs.Schema.{IsSchema}
-use Rattle.ild_typed.specs.Spots.{Spot}
+use Rattle.ild_typed.specs.Spots.{Spot, value_spot}
 use Rattle.ild_typed.proofs.WalkForms.{table_parts}
 use Rattle.ild_cbor.specs.declared.why.Why.{Why}
 use Rattle.ild_piece.specs.Answers.{told}
+use Rattle.ild_piece.specs.Pieces.{IsNumbered, StandsFor}
+use Rattle.ild_cbor.specs.declared.piece.Piece.TheVariants as P
+use Rattle.ild_schema.specs.declared.number.TypeNo.{TypeNo}
 use Rattle.ild_walk.specs.declared.opening.Opening.{Opening}
 use Rattle.ild_walk.specs.declared.opening.Stop.TheVariants as S
 use Rattle.ild_walk.specs.declared.part.Part.{Part}
@@ -25,7 +31,7 @@ use Rattle.ild_walk.specs.declared.parts.Parts.{Parts}
 use Rattle.ild_walk.specs.Opens.{HasOpened, Opens}
 use Rattle.ild_walk.specs.Part.{FitsAnywhere, IsSpotted}
 use Rattle.ild_walk.specs.Parts.{HasLeft, SplitsOff}
-use Rattle.ild_walk.specs.Ready.{AreReady, AreReadyBoth, IsIn, IsReady}
+use Rattle.ild_walk.specs.Ready.{AreReady, AreReadyBoth, IsIn, IsInlined, IsReady}
 use Rattle.ild_walk.specs.Stacked.{Adds, AreHeld, AreSifted, IsHeld, IsPlain, IsShown, Replaces}
 use Rattle.ild_walk.proofs.Flatness.{IsFine, few_levels, parts_fine}
 use Rattle.ild_walk.proofs.Spreading.{never_shown, shown_back, shown_onward}
@@ -239,3 +245,20 @@ ready_more rows xs x new is own all = subst (AllByRecursion (IsReady rows)) (sym
 
 pub ready_last : (rows : List Row) (left front : List Part) (x : Part) → left ≡ front ++ x ∷ [] → AllByRecursion (IsReady rows) left → AllByRecursion (IsReady rows) front × IsReady rows x
 ready_last rows left front x is all = let r = all_split (IsReady rows) front (x ∷ []) (subst (AllByRecursion (IsReady rows)) is all) in (r.0, r.1.0)
+
+-- ---- one text
+
+pub text_held : (rows : List Row) (ty : TypeNo) (s : Bor (List ℕ)) (x : Part) → x.slot ≡ plainly ty → x.is_key ≡ false → x.piece ≡ P.Text s → IsIn rows (plainly ty) → IsHeld rows x (value_spot (plainly ty) (T.text s.now) [])
+text_held rows ty s x slot key piece low = record {
+  spotted = record { slot = slot; key = key; stands = subst (λ q. StandsFor rows q (T.text s.now)) (sym piece) refl };
+  ready = record { within = subst (IsIn rows) (sym slot) low; numbered = subst (IsNumbered rows) (sym piece) tt; inlined = subst (IsInlined rows x.slot) (sym piece) (λ e. never e) };
+}
+  where
+    never : {A : Type 0} → false ≡ true → A
+    never e = absurd cc
+
+pub one_held : (rows : List Row) (x : Part) (p : Spot) (items : List Part) → items ≡ x ∷ [] → IsHeld rows x p → IsPlain rows p → (r : Result Bool AllocError)
+    → IfOk r (λ b. (ps : List Spot) → AreHeld rows items ps → AllByRecursion (IsPlain rows) ps → (b ≡ true) ↔ AllByRecursion (IsShown rows) ps) → IfOk r (λ b. (b ≡ true) ↔ IsShown rows p)
+one_held rows x p items is held plain (Ok b) h =
+    let both = h (p ∷ []) (subst (λ xs. AreHeld rows xs (p ∷ [])) (sym is) (held, tt)) (plain, tt) in ((λ e. (both.0 e).0), (λ shown. both.1 (shown, tt)))
+one_held rows x p items is held plain (Err e) h = tt
