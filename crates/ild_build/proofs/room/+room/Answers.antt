@@ -48,7 +48,7 @@ layer_fits-returns-then-room-levels t c = λ plain typed. (
 pub layer_fits-fits-requires : goal.layer_fits-fits-requires
 layer_fits-fits-requires t c =
     let lower = part_lower (Some c.form_of-def.result.now) (value_of c.args.val.now) c.loop-i.i c.in-Some.slot (value_of c.in-Some.part.now) (sym c.in-Some.ensures.same) in
-    λ κs lives. (omega arith, (lives, c.in-Some.ensures.within (length c.args.acc.now) c.form_of-def.ensures.within))
+    (omega arith, c.in-Some.ensures.within (length c.args.acc.now) c.form_of-def.ensures.within)
 
 pub layer_fits-returns-then-not-fit : goal.layer_fits-returns-then-not-fit
 layer_fits-returns-then-not-fit t c = λ plain typed.

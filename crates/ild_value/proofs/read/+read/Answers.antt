@@ -30,10 +30,10 @@ tree_value-returns-in-Null-clause-err t c = rw c.in-Null.is (c.null_value.ensure
 -- ---- lists
 
 pub elements-tree_value-requires : goal.elements-tree_value-requires
-elements-tree_value-requires t c = λ κs le.
+elements-tree_value-requires t c =
     let below : depth (data_of c.tree-item.result) ≤ items_depth c.args.trees.now =
     item_depth-in c.as_slice-tree-items.result.now c.args.trees.now c.loop-tree.tree-index c.tree-item.result c.as_slice-tree-items.ensures c.loop-tree-test.true c.tree-item.is in
-    (omega arith, (le, c.requires.there))
+    (omega arith, c.requires.there)
 
 pub elements-loop-tree-preserved : goal.elements-loop-tree-preserved
 elements-loop-tree-preserved t c = λ is_key tests.
@@ -54,10 +54,10 @@ elements-returns-clause-ok t c =
 -- ---- maps
 
 pub pairs-tree_value-requires : goal.pairs-tree_value-requires
-pairs-tree_value-requires t c = λ κs le.
+pairs-tree_value-requires t c =
     let below : depth (data_of c.pair-item.result.1) ≤ members_depth c.args.entries.now =
     member_depth-in c.as_slice-pair-items.result.now c.args.entries.now c.loop-pair.pair-index c.pair-item.result c.as_slice-pair-items.ensures c.loop-pair-test.true c.pair-item.is in
-    (omega arith, (le, c.requires.there))
+    (omega arith, c.requires.there)
 
 pub pairs-returns-then-not-is_key-clause-err : goal.pairs-returns-then-not-is_key-clause-err
 pairs-returns-then-not-is_key-clause-err t c =
@@ -78,7 +78,7 @@ pairs-loop-pair-preserved t c = λ is_key tests.
 
 pub pairs-returns-in_err-val-clause-err : goal.pairs-returns-in_err-val-clause-err
 pairs-returns-in_err-val-clause-err t c =
-    let p = err_from_is_err_and c.from_residual.result c.from_residual.ensures.1 in
+    let p = err_from_is_err_and c.from_residual-in_err-val.result c.from_residual-in_err-val.ensures.1 in
     rw (p.1, p.2) (map_refused c.args.acc.now c.args.slot c.args.key c.args.elem c.as_slice-pair-items.result.now c.args.entries.now c.loop-pair.pair-index c.pair-item.result c.in_err-val.field-0.0 c.requires.form c.as_slice-pair-items.ensures
     c.loop-pair-test.true c.pair-item.is c.in_err-val.ensures.err)
 
@@ -90,9 +90,9 @@ pairs-returns-clause-ok t c =
 -- ---- structs
 
 pub field_value-tree_value-requires : goal.field_value-tree_value-requires
-field_value-tree_value-requires t c = λ κs le.
+field_value-tree_value-requires t c =
     let below : depth (data_of c.in-Some.tree.now) ≤ members_depth c.args.entries.now = value_depth c.as_str.result.now c.args.entries.now (data_of c.in-Some.tree.now) (sym c.in-Some.ensures) in
-    (omega arith, (le, c.requires))
+    (omega arith, c.requires)
 
 pub field_value-returns-in_ok-val-in-Some-clause-ok : goal.field_value-returns-in_ok-val-in-Some-clause-ok
 field_value-returns-in_ok-val-in-Some-clause-ok t c =
@@ -109,10 +109,10 @@ pub fields-returns-then-not-are_named-clause-err : goal.fields-returns-then-not-
 fields-returns-then-not-are_named-clause-err t c = name_refused c.args.acc.now c.args.slot c.args.def.now c.args.entries.now c.requires.form (sym c.are_named.ensures ∙ c.if-not-are_named.true)
 
 pub fields-field_value-requires : goal.fields-field_value-requires
-fields-field_value-requires t c = λ κs le.
+fields-field_value-requires t c =
     let fs = c.as_slice-field-items.result.now in
     let there = ap (λ xs. slice_get xs c.loop-field.field-index) (sym c.as_slice-field-items.ensures) ∙ slice_get_read fs (length fs) c.loop-field.field-index c.field-item.result refl c.loop-field-test.true c.field-item.is in
-    (omega arith, (le, number_low (λ (f : Field). f.slot.ty.0) (length c.args.acc.now) c.args.def.now.fields c.requires.within.1 c.loop-field.field-index c.field-item.result there))
+    (omega arith, number_low (λ (f : Field). f.slot.ty.0) (length c.args.acc.now) c.args.def.now.fields c.requires.within.1 c.loop-field.field-index c.field-item.result there)
 
 pub fields-loop-field-preserved : goal.fields-loop-field-preserved
 fields-loop-field-preserved t c = λ is_key tests.
@@ -165,12 +165,12 @@ union_value-bounds-as_slice-n-in-Some-member_named t c =
     omega arith
 
 pub union_value-tree_value-requires : goal.union_value-tree_value-requires
-union_value-tree_value-requires t c = λ κs le.
+union_value-tree_value-requires t c =
     let m = c.in-Some-member_named.ensures in
     let is = picked c.args.def.now.members c.as_slice.result.now c.in-Some-member_named.n m.member c.index-as_slice-n.result c.as_slice.ensures m.there in
     let low = number_low (λ (m : Member). m.ty.0) (length c.args.acc.now) c.args.def.now.members c.requires.within.1 c.in-Some-member_named.n m.member m.there in
     let below : depth (data_of c.in-Some.pair.now.1) ≤ members_depth c.args.entries.now = only_depth c.in-Some.pair.now.0 c.args.entries.now (data_of c.in-Some.pair.now.1) c.in-Some.ensures in
-    (omega arith, (le, subst (λ (x : Member). x.ty.0 < length c.args.acc.now) (sym is) low))
+    (omega arith, subst (λ (x : Member). x.ty.0 < length c.args.acc.now) (sym is) low)
 
 pub union_value-returns-in_err-val-clause-err : goal.union_value-returns-in_err-val-clause-err
 union_value-returns-in_err-val-clause-err t c =
