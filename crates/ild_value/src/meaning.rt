@@ -5,20 +5,15 @@ ghost use Rattle.ild_meant.specs.MeantLaws.{IsMeantTyped};
 ghost use Rattle.ild_schema.specs.ValueSeen.{value_of};
 ghost use Rattle.ild_value.specs.Readings.{IsRefused, Means, MeansNone};
 
-use crate::read::tree_value;
 use crate::ShownErr;
+use crate::read::tree_value;
 use ild_data::Tree;
 use ild_schema::{Accepted, Slot, Val};
 use std::alloc::Global;
 
 /// The value that a tree means in a slot: the one whose shown form it is, but that it may leave out implicit fields. Else the
 /// tree means none, and a rule that a part of it breaks is told, with the type at which it does.
-pub fn of_shown(
-    alloc: Global,
-    acc: &Accepted,
-    slot: Slot,
-    tree: &Tree,
-) -> Result<Val, ShownErr>
+pub fn of_shown(alloc: Global, acc: &Accepted, slot: Slot, tree: &Tree) -> Result<Val, ShownErr>
     requires { slot.ty.0 < length acc.now }
     ensures ok { IfOk result (λ v. Means acc.now slot (data_of tree.now) (value_of v)) }
     ensures typed { IfOk result (λ v. IsMeantTyped acc.now slot (value_of v)) }

@@ -50,20 +50,13 @@ pub(crate) fn tree_value(
 
 // A list.
 #[cycle(read)]
-fn list_value(
-    alloc: Global,
-    acc: &Accepted,
-    slot: Slot,
-    trees: &Trees,
-) -> Result<Val, ShownErr>
+fn list_value(alloc: Global, acc: &Accepted, slot: Slot, trees: &Trees) -> Result<Val, ShownErr>
     requires { slot.ty.0 < length acc.now }
     ensures ok { IfOk result (λ v. Means acc.now slot (D.list trees.now) (value_of v)) }
     ensures err { IfErr result (IsRefused acc.now slot (D.list trees.now)) }
 {
     match form(acc, slot) {
-        TypeDef::List { elem, .. } => Ok(Val::List(elements(
-            alloc, acc, slot, *elem, trees,
-        )?)),
+        TypeDef::List { elem, .. } => Ok(Val::List(elements(alloc, acc, slot, *elem, trees)?)),
         TypeDef::Any => Ok(Val::Any(Tree::List(trees.copy()?))),
         _ => Err(wrong_kind(slot)),
     }
@@ -93,12 +86,7 @@ fn elements(
 
 // A map.
 #[cycle(read)]
-fn map_value(
-    alloc: Global,
-    acc: &Accepted,
-    slot: Slot,
-    entries: &Entries,
-) -> Result<Val, ShownErr>
+fn map_value(alloc: Global, acc: &Accepted, slot: Slot, entries: &Entries) -> Result<Val, ShownErr>
     requires { slot.ty.0 < length acc.now }
     ensures ok { IfOk result (λ v. Means acc.now slot (D.map entries.now) (value_of v)) }
     ensures err { IfErr result (IsRefused acc.now slot (D.map entries.now)) }

@@ -27,7 +27,12 @@ fn lists(alloc: Global, count: usize) -> Result<String, AllocError> {
 fn nested_keys(alloc: Global, last: u32) -> Result<String, AllocError> {
     let mut source = format!(in alloc; "type B0 string")?;
     for n in 0..last {
-        let more = format!(in alloc; " type B{} struct {{ a B{n} }} representation stringjoin {{ join \":\" }} type M{} {{B{}:Int}}", n.wrapping_add(1), n.wrapping_add(1), n.wrapping_add(1))?;
+        let more = format!(in alloc;
+            " type B{} struct {{ a B{n} }} representation stringjoin {{ join \":\" }} type M{} {{B{}:Int}}",
+            n.wrapping_add(1),
+            n.wrapping_add(1),
+            n.wrapping_add(1)
+        )?;
         source.push_str(more.as_str())?;
     }
     Ok(source)
@@ -54,12 +59,22 @@ fn judged(
 #[test]
 fn of_lists(rt: HostRuntime) -> Result<(), Fail> {
     let source = "type L [L] type A any";
-    let acc = compile(rt.alloc(), source.as_bytes()).ok().ok_or("a schema")?;
+    let acc = compile(rt.alloc(), source.as_bytes())
+        .ok()
+        .ok_or("a schema")?;
     let deepest = lists(rt.alloc(), 96)?;
     let deeper = lists(rt.alloc(), 97)?;
     for name in ["L", "A"] {
-        assert_eq!(rt; judged(rt.alloc(), &acc, name, deepest.as_str())?, None, "{name}");
-        assert_eq!(rt; judged(rt.alloc(), &acc, name, deeper.as_str())?, Some(Judged::Depth), "{name}");
+        assert_eq!(rt;
+            judged(rt.alloc(), &acc, name, deepest.as_str())?,
+            None,
+            "{name}"
+        );
+        assert_eq!(rt;
+            judged(rt.alloc(), &acc, name, deeper.as_str())?,
+            Some(Judged::Depth),
+            "{name}"
+        );
     }
     Ok(())
 }
@@ -67,9 +82,19 @@ fn of_lists(rt: HostRuntime) -> Result<(), Fail> {
 #[test]
 fn of_keys(rt: HostRuntime) -> Result<(), Fail> {
     let source = nested_keys(rt.alloc(), 100)?;
-    let acc = compile(rt.alloc(), source.as_bytes()).ok().ok_or("a schema")?;
-    for (name, want) in [("M95", None), ("M96", Some(Judged::Depth)), ("M100", Some(Judged::Depth))] {
-        assert_eq!(rt; judged(rt.alloc(), &acc, name, "{\"x\":1}")?, want, "{name}");
+    let acc = compile(rt.alloc(), source.as_bytes())
+        .ok()
+        .ok_or("a schema")?;
+    for (name, want) in [
+        ("M95", None),
+        ("M96", Some(Judged::Depth)),
+        ("M100", Some(Judged::Depth)),
+    ] {
+        assert_eq!(rt;
+            judged(rt.alloc(), &acc, name, "{\"x\":1}")?,
+            want,
+            "{name}"
+        );
     }
     Ok(())
 }

@@ -17,8 +17,18 @@ const SRC: &str =
 const TABLE: [Row; 30] = [
     ("J", "{\"a\":\"x\",\"b\":\"y\"}", 96, None),
     ("J", "{\"a\":\"\",\"b\":\"y\"}", 96, None),
-    ("J", "{\"a\":\"p:q\",\"b\":\"y\"}", 96, Some(Judged::Delimiter)),
-    ("JJ", "{\"a\":\"a\",\"b\":\"b\"}", 96, Some(Judged::Delimiter)),
+    (
+        "J",
+        "{\"a\":\"p:q\",\"b\":\"y\"}",
+        96,
+        Some(Judged::Delimiter),
+    ),
+    (
+        "JJ",
+        "{\"a\":\"a\",\"b\":\"b\"}",
+        96,
+        Some(Judged::Delimiter),
+    ),
     ("JJ", "{\"a\":\"b\",\"b\":\"b\"}", 96, None),
     ("JJ", "{\"a\":\"\",\"b\":\"\"}", 96, None),
     ("Q", "{\"a\":\"1\",\"b\":\"\"}", 96, None),
@@ -30,10 +40,30 @@ const TABLE: [Row; 30] = [
     ("T", "{\"a\":1,\"b\":2}", 96, None),
     ("T", "{\"a\":1,\"c\":3}", 96, Some(Judged::Hole)),
     ("T", "{\"a\":1,\"b\":2,\"c\":3}", 96, None),
-    ("TJ", "{\"a\":{\"a\":\":\",\"b\":\"\"},\"b\":{\"a\":1,\"c\":3}}", 0, Some(Judged::Hole)),
-    ("TJ", "{\"a\":{\"a\":\":\",\"b\":\"\"},\"b\":{\"a\":1}}", 0, Some(Judged::Delimiter)),
-    ("TJ", "{\"a\":{\"a\":\"\",\"b\":\"\"},\"b\":{\"a\":1}}", 1, Some(Judged::Depth)),
-    ("TJ", "{\"a\":{\"a\":\"\",\"b\":\"\"},\"b\":{\"a\":1}}", 2, None),
+    (
+        "TJ",
+        "{\"a\":{\"a\":\":\",\"b\":\"\"},\"b\":{\"a\":1,\"c\":3}}",
+        0,
+        Some(Judged::Hole),
+    ),
+    (
+        "TJ",
+        "{\"a\":{\"a\":\":\",\"b\":\"\"},\"b\":{\"a\":1}}",
+        0,
+        Some(Judged::Delimiter),
+    ),
+    (
+        "TJ",
+        "{\"a\":{\"a\":\"\",\"b\":\"\"},\"b\":{\"a\":1}}",
+        1,
+        Some(Judged::Depth),
+    ),
+    (
+        "TJ",
+        "{\"a\":{\"a\":\"\",\"b\":\"\"},\"b\":{\"a\":1}}",
+        2,
+        None,
+    ),
     ("M", "{}", 0, Some(Judged::Depth)),
     ("M", "{}", 1, None),
     ("M", "{\"x:y\":1}", 1, Some(Judged::Depth)),
@@ -64,7 +94,13 @@ fn is_so(alloc: Global, acc: &Accepted, row: &Row) -> Result<bool, &'static str>
 fn judgements(rt: HostRuntime) -> Result<(), Fail> {
     let acc = compile(rt.alloc(), SRC.as_bytes()).ok().ok_or("a schema")?;
     for row in &TABLE {
-        assert!(rt; is_so(rt.alloc(), &acc, row)?, "{} {} {}", row.0, row.1, row.2);
+        assert!(rt;
+            is_so(rt.alloc(), &acc, row)?,
+            "{} {} {}",
+            row.0,
+            row.1,
+            row.2
+        );
     }
     Ok(())
 }

@@ -31,7 +31,11 @@ const GOOD: [Row; 18] = [
     ("I", "{}", Ok("{\"n\":0}")),
     ("I", "{\"n\":0}", Ok("{\"n\":0}")),
     ("I", "{\"n\":7}", Ok("{\"n\":7}")),
-    ("U", "{\"Box\":{\"w\":2,\"h\":3}}", Ok("{\"Box\":{\"h\":3,\"w\":2}}")),
+    (
+        "U",
+        "{\"Box\":{\"w\":2,\"h\":3}}",
+        Ok("{\"Box\":{\"h\":3,\"w\":2}}"),
+    ),
     ("V", "{\"Dot\":{\"x\":1}}", Ok("{\"Dot\":{\"x\":1}}")),
     ("E", "\"Yes\"", Ok("\"Yes\"")),
     ("O", "{}", Ok("{}")),
@@ -52,7 +56,11 @@ const BROKEN: [Row; 19] = [
     ("U", "{\"Dit\":{\"x\":1}}", Err(("U", Member))),
     ("U", "{\"dot\":{\"x\":1}}", Err(("U", Member))),
     ("U", "{}", Err(("U", Member))),
-    ("U", "{\"Dot\":{\"x\":1},\"Box\":{\"w\":2,\"h\":3}}", Err(("U", Member))),
+    (
+        "U",
+        "{\"Dot\":{\"x\":1},\"Box\":{\"w\":2,\"h\":3}}",
+        Err(("U", Member)),
+    ),
     ("U", "{\"Dot\":{\"y\":1}}", Err(("Dot", Name))),
     ("E", "\"1\"", Err(("E", Member))),
     ("E", "1", Err(("E", Kind))),
@@ -101,7 +109,9 @@ fn is_shown(
     if slot.ty.0 >= acc.types() {
         return Err("a type of the table");
     }
-    let tree = shown(alloc, acc, slot, val).ok().ok_or("memory for a tree")?;
+    let tree = shown(alloc, acc, slot, val)
+        .ok()
+        .ok_or("memory for a tree")?;
     let text = print(alloc, &tree).ok().ok_or("memory for a text")?;
     Ok(text.as_str() == json)
 }

@@ -43,12 +43,7 @@ pub fn fits_text(
 
 /// Whether a text represents a value of a type, however deep it nests. No more levels of calls are taken for it than a few: the
 /// types of a schema can nest a text in others as often as there are types.
-pub fn is_text(
-    alloc: Global,
-    acc: &Accepted,
-    ty: TypeNo,
-    text: &str,
-) -> Result<bool, AllocError>
+pub fn is_text(alloc: Global, acc: &Accepted, ty: TypeNo, text: &str) -> Result<bool, AllocError>
     requires { ty.0 < length acc.now }
     ensures { IfOk result (λ b. (b ≡ true) ↔ IsTextOf acc.now ty text.now) }
 {

@@ -71,9 +71,9 @@ layer_fits-returns t c =
     let is = c.form_of-def.ensures.same in
     on_ok (λ b. KeysIn (OfType rows) rows d v → (b ≡ true) ↔ KeysIn (Fits rows (c.args.room - n)) rows d v) (λ b. IsPlainLayer v → OfType rows c.args.slot v → (b ≡ true) ↔ Fits rows c.args.room c.args.slot v)
     (λ b h plain typed.
-        let both = h (keys_typed rows c.args.room (c.args.room - n) n c.args.slot v d is plain c.levels_of-levels.ensures typed) in (
-          (λ e. fits_by rows c.args.room (c.args.room - n) n c.args.slot v d is plain c.levels_of-levels.ensures typed (omega arith) refl c.loop-i.i (omega arith)
-              (λ j u w less at. c.loop-i.invariant j u w less at (part_typed rows c.args.slot v d is typed j u w at)) (both.0 e)),
-          (λ k. both.1 (its_keys rows c.args.room (c.args.room - n) n c.args.slot v d is plain c.levels_of-levels.ensures refl k)),
-        ))
+    let both = h (keys_typed rows c.args.room (c.args.room - n) n c.args.slot v d is plain c.levels_of-levels.ensures typed) in (
+      (λ e. fits_by rows c.args.room (c.args.room - n) n c.args.slot v d is plain c.levels_of-levels.ensures typed (omega arith) refl c.loop-i.i (omega arith)
+          (λ j u w less at. c.loop-i.invariant j u w less at (part_typed rows c.args.slot v d is typed j u w at)) (both.0 e)),
+      (λ k. both.1 (its_keys rows c.args.room (c.args.room - n) n c.args.slot v d is plain c.levels_of-levels.ensures refl k)),
+    ))
     c.keys_fit.result c.keys_fit.ensures
