@@ -4,7 +4,6 @@ ghost use Rattle.ild_schema.specs.ValueSeen.{value_of};
 ghost use Rattle.ild_typed.specs.Typed.{Typed};
 ghost use Rattle.ild_build.specs.IsJudged.{IsJudged};
 
-use crate::KeyRooms;
 use crate::hole::has_hole;
 use crate::joined::breaks_delimiter;
 use crate::room::fits;
@@ -24,9 +23,8 @@ pub enum Judged {
 
 /// The first cause that a typed value has anywhere, or `None` where it has none and nests at most so many levels, its keys
 /// counted as values of their type.
-pub fn judge_by<K: KeyRooms>(
+pub fn judge(
     alloc: Global,
-    keys: &K,
     acc: &Accepted,
     slot: Slot,
     val: &Val,
@@ -43,7 +41,8 @@ pub fn judge_by<K: KeyRooms>(
     if breaks_delimiter(acc, slot, val, &mut buffer)? {
         return Ok(Some(Judged::Delimiter));
     }
-    if !fits(keys, acc, slot, val, room) {
+    let fit = fits(alloc, acc, slot, val, room)?;
+    if !fit {
         return Ok(Some(Judged::Depth));
     }
     Ok(None)

@@ -7,7 +7,6 @@ mod hole;
 mod joined;
 mod joints;
 mod judgement;
-mod key_rooms;
 mod left_out;
 mod parts;
 mod room;
@@ -15,8 +14,7 @@ mod text;
 
 pub use form::form_of;
 pub use joined::text_of;
-pub use judgement::{Judged, judge_by};
-pub use key_rooms::KeyRooms;
+pub use judgement::{Judged, judge};
 pub use left_out::{is_left_out, text_of_field};
 pub use parts::field_at;
 pub use text::add_text;

@@ -1,5 +1,5 @@
 //! Whether a value nests at most so many levels, its keys too.
-ghost use Rattle.std.specs.Prelude.{◌≡◌, ◌<◌, ◌≤◌, ◌↔◌, Some, length, true};
+ghost use Rattle.std.specs.Prelude.{◌≡◌, ◌<◌, ◌≤◌, ◌↔◌, IfOk, Some, length, true};
 ghost use Rattle.ild_data.specs.Data.{depth, items_depth, members_depth};
 ghost use Rattle.ild_data.specs.Seen.{data_of};
 ghost use Rattle.ild_schema.specs.Table.{IsWithin};
@@ -10,11 +10,12 @@ ghost use Rattle.ild_typed.specs.Levels.{levels_of, map_levels, struct_levels};
 ghost use Rattle.ild_typed.specs.OfType.{OfType};
 ghost use Rattle.ild_build.specs.KeysIn.{IsPlainLayer, KeysIn};
 
-use crate::KeyRooms;
 use crate::form::form_of;
 use crate::parts::{part_at, places};
 use ild_data::{Entries, Tree, Trees};
 use ild_schema::{Accepted, MapForm, Slot, StructForm, TypeDef, Val};
+use ild_walk::fits_text;
+use std::alloc::{AllocError, Global};
 
 fn map_levels(form: &MapForm) -> u32
     ensures { result ≡ map_levels form.now }
@@ -86,56 +87,76 @@ fn entries_fit(entries: &Entries, room: u32) -> bool
 }
 
 // Whether the keys of a layer nest at most so many levels.
-fn keys_fit<K: KeyRooms>(keys: &K, acc: &Accepted, def: &TypeDef, val: &Val, room: u32) -> bool
+fn keys_fit(
+    alloc: Global,
+    acc: &Accepted,
+    def: &TypeDef,
+    val: &Val,
+    room: u32,
+) -> Result<bool, AllocError>
     requires { IsWithin (length acc.now) def.now }
-    ensures { KeysIn (OfType acc.now) acc.now def.now (value_of val.now) → (result ≡ true) ↔ KeysIn (Fits acc.now room) acc.now def.now (value_of val.now) }
+    ensures { IfOk result (λ b. KeysIn (OfType acc.now) acc.now def.now (value_of val.now) → (b ≡ true) ↔ KeysIn (Fits acc.now room) acc.now def.now (value_of val.now)) }
 {
     match (def, val) {
         (TypeDef::Map { key, .. }, Val::Map(pairs)) => {
             for i in 0..pairs.len() {
                 if let Some(pair) = pairs.get(i) {
-                    if !keys.fits(acc, *key, pair.0.as_str(), room) {
-                        return false;
+                    let fit = fits_text(alloc, acc, *key, pair.0.as_str(), room)?;
+                    if !fit {
+                        return Ok(false);
                     }
                 }
             }
-            true
+            Ok(true)
         }
-        _ => true,
+        _ => Ok(true),
     }
 }
 
 /// Whether a value of a type nests at most so many levels.
 #[cycle(room)]
-pub(crate) fn fits<K: KeyRooms>(keys: &K, acc: &Accepted, slot: Slot, val: &Val, room: u32) -> bool
+pub(crate) fn fits(
+    alloc: Global,
+    acc: &Accepted,
+    slot: Slot,
+    val: &Val,
+    room: u32,
+) -> Result<bool, AllocError>
     requires { slot.ty.0 < length acc.now }
-    ensures { OfType acc.now slot (value_of val.now) → (result ≡ true) ↔ Fits acc.now room slot (value_of val.now) }
+    ensures { IfOk result (λ b. OfType acc.now slot (value_of val.now) → (b ≡ true) ↔ Fits acc.now room slot (value_of val.now)) }
 {
     match val {
-        Val::Null => true,
-        Val::Any(tree) => tree_fits(tree, room),
-        _ => layer_fits(keys, acc, slot, val, room),
+        Val::Null => Ok(true),
+        Val::Any(tree) => Ok(tree_fits(tree, room)),
+        _ => layer_fits(alloc, acc, slot, val, room),
     }
 }
 
 // The same, where it is neither null nor of Any.
 #[cycle(room)]
-fn layer_fits<K: KeyRooms>(keys: &K, acc: &Accepted, slot: Slot, val: &Val, room: u32) -> bool
+fn layer_fits(
+    alloc: Global,
+    acc: &Accepted,
+    slot: Slot,
+    val: &Val,
+    room: u32,
+) -> Result<bool, AllocError>
     requires { slot.ty.0 < length acc.now }
-    ensures { IsPlainLayer (value_of val.now) → OfType acc.now slot (value_of val.now) → (result ≡ true) ↔ Fits acc.now room slot (value_of val.now) }
+    ensures { IfOk result (λ b. IsPlainLayer (value_of val.now) → OfType acc.now slot (value_of val.now) → (b ≡ true) ↔ Fits acc.now room slot (value_of val.now)) }
 {
     let def = form_of(acc, slot);
     let levels = levels_of(def);
     if room < levels {
-        return false;
+        return Ok(false);
     }
     let left = room - levels;
     for i in 0..places(val) {
         if let Some((slot, part)) = part_at(def, val, i) {
-            if !fits(keys, acc, slot, part, left) {
-                return false;
+            let fit = fits(alloc, acc, slot, part, left)?;
+            if !fit {
+                return Ok(false);
             }
         }
     }
-    keys_fit(keys, acc, def, val, left)
+    keys_fit(alloc, acc, def, val, left)
 }

@@ -5,7 +5,6 @@
 mod copying;
 mod entry;
 mod fault;
-mod key_test;
 mod meaning;
 mod order;
 mod part;
@@ -15,6 +14,5 @@ mod show;
 
 pub use copying::copy;
 pub use fault::{ShownErr, ShownRule};
-pub use key_test::KeyTest;
 pub use meaning::of_shown;
 pub use show::shown;

@@ -5,21 +5,15 @@ ghost use Rattle.ild_meant.specs.MeantLaws.{IsMeantTyped};
 ghost use Rattle.ild_schema.specs.ValueSeen.{value_of};
 ghost use Rattle.ild_value.specs.Readings.{IsRefused, Means, MeansNone};
 
+use crate::ShownErr;
 use crate::read::tree_value;
-use crate::{KeyTest, ShownErr};
 use ild_data::Tree;
 use ild_schema::{Accepted, Slot, Val};
 use std::alloc::Global;
 
 /// The value that a tree means in a slot: the one whose shown form it is, but that it may leave out implicit fields. Else the
-/// tree means none, and a rule that a part of it breaks is told, with the type at which it does. Tests of keys are handed in.
-pub fn of_shown<K: KeyTest>(
-    alloc: Global,
-    keys: &K,
-    acc: &Accepted,
-    slot: Slot,
-    tree: &Tree,
-) -> Result<Val, ShownErr>
+/// tree means none, and a rule that a part of it breaks is told, with the type at which it does.
+pub fn of_shown(alloc: Global, acc: &Accepted, slot: Slot, tree: &Tree) -> Result<Val, ShownErr>
     requires { slot.ty.0 < length acc.now }
     ensures ok { IfOk result (λ v. Means acc.now slot (data_of tree.now) (value_of v)) }
     ensures typed { IfOk result (λ v. IsMeantTyped acc.now slot (value_of v)) }
@@ -29,5 +23,5 @@ pub fn of_shown<K: KeyTest>(
     // These two do no work: their clauses say what acceptance says of the types, and that the data are a tree.
     acc.types();
     tree.well_formed();
-    tree_value(alloc, keys, acc, slot, tree)
+    tree_value(alloc, acc, slot, tree)
 }

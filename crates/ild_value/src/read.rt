@@ -15,19 +15,19 @@ use crate::part::{are_named, left_out, member_named};
 use crate::scalar::{
     boolean_value, bytes_value, form, integer_value, link_value, null_value, text_value, wrong_kind,
 };
-use crate::{KeyTest, ShownErr, ShownRule};
+use crate::{ShownErr, ShownRule};
 use ild_data::{Entries, Tree, Trees};
 use ild_schema::{
     Accepted, Field, Slot, StructDef, TypeDef, TypeNo, UnionDef, Val, ValFields, ValPairs, ValPart,
     Vals,
 };
+use ild_walk::is_text;
 use std::alloc::Global;
 
 /// A tree. It is entered once a level of the tree, of which there are at most 127 in one that was read from JSON.
 #[cycle(read)]
-pub(crate) fn tree_value<K: KeyTest>(
+pub(crate) fn tree_value(
     alloc: Global,
-    keys: &K,
     acc: &Accepted,
     slot: Slot,
     tree: &Tree,
@@ -42,29 +42,21 @@ pub(crate) fn tree_value<K: KeyTest>(
         Tree::Int(n) => integer_value(acc, slot, *n),
         Tree::Text(text) => text_value(acc, slot, text),
         Tree::Bytes(bytes) => bytes_value(acc, slot, bytes),
-        Tree::List(trees) => list_value(alloc, keys, acc, slot, trees),
-        Tree::Map(entries) => map_value(alloc, keys, acc, slot, entries),
+        Tree::List(trees) => list_value(alloc, acc, slot, trees),
+        Tree::Map(entries) => map_value(alloc, acc, slot, entries),
         Tree::Link(cid) => link_value(acc, slot, cid),
     }
 }
 
 // A list.
 #[cycle(read)]
-fn list_value<K: KeyTest>(
-    alloc: Global,
-    keys: &K,
-    acc: &Accepted,
-    slot: Slot,
-    trees: &Trees,
-) -> Result<Val, ShownErr>
+fn list_value(alloc: Global, acc: &Accepted, slot: Slot, trees: &Trees) -> Result<Val, ShownErr>
     requires { slot.ty.0 < length acc.now }
     ensures ok { IfOk result (λ v. Means acc.now slot (D.list trees.now) (value_of v)) }
     ensures err { IfErr result (IsRefused acc.now slot (D.list trees.now)) }
 {
     match form(acc, slot) {
-        TypeDef::List { elem, .. } => Ok(Val::List(elements(
-            alloc, keys, acc, slot, *elem, trees,
-        )?)),
+        TypeDef::List { elem, .. } => Ok(Val::List(elements(alloc, acc, slot, *elem, trees)?)),
         TypeDef::Any => Ok(Val::Any(Tree::List(trees.copy()?))),
         _ => Err(wrong_kind(slot)),
     }
@@ -72,9 +64,8 @@ fn list_value<K: KeyTest>(
 
 // The elements of a list.
 #[cycle(read)]
-fn elements<K: KeyTest>(
+fn elements(
     alloc: Global,
-    keys: &K,
     acc: &Accepted,
     slot: Slot,
     elem: Slot,
@@ -87,7 +78,7 @@ fn elements<K: KeyTest>(
 {
     let mut vals = Vals::new(alloc);
     for tree in trees.as_slice() {
-        let val = tree_value(alloc, keys, acc, elem, tree)?;
+        let val = tree_value(alloc, acc, elem, tree)?;
         vals.push(val)?;
     }
     Ok(vals)
@@ -95,23 +86,17 @@ fn elements<K: KeyTest>(
 
 // A map.
 #[cycle(read)]
-fn map_value<K: KeyTest>(
-    alloc: Global,
-    keys: &K,
-    acc: &Accepted,
-    slot: Slot,
-    entries: &Entries,
-) -> Result<Val, ShownErr>
+fn map_value(alloc: Global, acc: &Accepted, slot: Slot, entries: &Entries) -> Result<Val, ShownErr>
     requires { slot.ty.0 < length acc.now }
     ensures ok { IfOk result (λ v. Means acc.now slot (D.map entries.now) (value_of v)) }
     ensures err { IfErr result (IsRefused acc.now slot (D.map entries.now)) }
 {
     match form(acc, slot) {
         TypeDef::Map { key, value, .. } => Ok(Val::Map(pairs(
-            alloc, keys, acc, slot, *key, *value, entries,
+            alloc, acc, slot, *key, *value, entries,
         )?)),
-        TypeDef::Struct(def) => Ok(Val::Struct(fields(alloc, keys, acc, slot, def, entries)?)),
-        TypeDef::Union(def) => union_value(alloc, keys, acc, slot, def, entries),
+        TypeDef::Struct(def) => Ok(Val::Struct(fields(alloc, acc, slot, def, entries)?)),
+        TypeDef::Union(def) => union_value(alloc, acc, slot, def, entries),
         TypeDef::Unit(_) => unit_value(acc, slot, entries),
         TypeDef::Any => Ok(Val::Any(Tree::Map(entries.copy()?))),
         _ => Err(wrong_kind(slot)),
@@ -136,9 +121,8 @@ fn unit_value(acc: &Accepted, slot: Slot, entries: &Entries) -> Result<Val, Show
 
 // The entries of a map.
 #[cycle(read)]
-fn pairs<K: KeyTest>(
+fn pairs(
     alloc: Global,
-    keys: &K,
     acc: &Accepted,
     slot: Slot,
     key: TypeNo,
@@ -153,13 +137,14 @@ fn pairs<K: KeyTest>(
 {
     let mut vals = ValPairs::new(alloc);
     for pair in entries.as_slice() {
-        if !keys.is_key(acc, key, pair.0.as_str()) {
+        let is_key = is_text(alloc, acc, key, pair.0.as_str())?;
+        if !is_key {
             return Err(ShownErr::Mismatch {
                 ty: slot.ty,
                 rule: ShownRule::Key,
             });
         }
-        let val = tree_value(alloc, keys, acc, elem, &pair.1)?;
+        let val = tree_value(alloc, acc, elem, &pair.1)?;
         let name = pair.0.copy()?;
         vals.push((name, val))?;
     }
@@ -168,9 +153,8 @@ fn pairs<K: KeyTest>(
 
 // The fields of a struct.
 #[cycle(read)]
-fn fields<K: KeyTest>(
+fn fields(
     alloc: Global,
-    keys: &K,
     acc: &Accepted,
     slot: Slot,
     def: &StructDef,
@@ -192,7 +176,7 @@ fn fields<K: KeyTest>(
     }
     let mut vals = ValFields::new(alloc);
     for field in def.fields.as_slice() {
-        let val = field_value(alloc, keys, acc, slot.ty, field, entries)?;
+        let val = field_value(alloc, acc, slot.ty, field, entries)?;
         vals.push(val)?;
     }
     Ok(vals)
@@ -200,9 +184,8 @@ fn fields<K: KeyTest>(
 
 // A field of a struct.
 #[cycle(read)]
-fn field_value<K: KeyTest>(
+fn field_value(
     alloc: Global,
-    keys: &K,
     acc: &Accepted,
     ty: TypeNo,
     field: &Field,
@@ -214,7 +197,7 @@ fn field_value<K: KeyTest>(
 {
     match value_at(entries, field.name.as_str()) {
         Some(tree) => {
-            let val = tree_value(alloc, keys, acc, field.slot, tree)?;
+            let val = tree_value(alloc, acc, field.slot, tree)?;
             Ok(Some(val))
         }
         None => left_out(ty, field),
@@ -223,9 +206,8 @@ fn field_value<K: KeyTest>(
 
 // A union.
 #[cycle(read)]
-fn union_value<K: KeyTest>(
+fn union_value(
     alloc: Global,
-    keys: &K,
     acc: &Accepted,
     slot: Slot,
     def: &UnionDef,
@@ -247,7 +229,7 @@ fn union_value<K: KeyTest>(
         ty: def.members.as_slice()[n].ty,
         nullable: false,
     };
-    let val = tree_value(alloc, keys, acc, part, &pair.1)?;
+    let val = tree_value(alloc, acc, part, &pair.1)?;
     Ok(Val::Union(n as u32, ValPart::new(alloc, val)?))
 }
 

@@ -1,17 +1,2 @@
-pub mod Checks
-pub mod Part
-pub mod Elements
-pub mod Entries
-pub mod Fields
-pub mod Root
-pub mod Shape
-pub mod PairEntries
-pub mod Judged
-pub mod Keys
-pub mod Texts
-pub mod Parts
-pub mod Ready
-pub mod Opens
-pub mod Scalars
 pub mod Front
 pub mod View

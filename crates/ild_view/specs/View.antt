@@ -9,9 +9,9 @@ use Rattle.ild_schema.specs.Value.{Value}
 use Rattle.ild_schema.specs.declared.number.Slot.{Slot}
 use Rattle.ild_schema.specs.declared.row.Row.{Row}
 use Rattle.ild_typed.specs.Fits.{Front}
-use Rattle.ild_view.specs.declared.fault.ViewErr.{ViewErr}
+use Rattle.ild_walk.specs.declared.fault.ViewErr.{ViewErr}
 use Rattle.ild_view.specs.declared.view.View.{View}
-use Rattle.ild_view.specs.Checks.{Faults}
+use Rattle.ild_walk.specs.Checks.{Faults}
 
 abbrev pub table_of : View → List Row
 table_of v = v.acc.now

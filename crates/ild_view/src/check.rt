@@ -1,31 +1,13 @@
 //! The check of an item against a slot.
-ghost use Rattle.std.specs.Prelude.{◌<◌, ℕ, List, length};
+ghost use Rattle.std.specs.Prelude.{◌<◌, length};
 ghost use Rattle.ild_cbor.specs.Nodes.{Stands};
 ghost use Rattle.ild_data.specs.Data.{Data};
-ghost use Rattle.ild_schema.specs.declared.number.Slot.{Slot as Place};
-ghost use Rattle.ild_schema.specs.declared.row.Row.{Row};
-ghost use Rattle.ild_view.specs.Checks.{Faults};
 
-use crate::fault::ViewErr;
 use crate::view::View;
-use crate::walk::check_piece;
 use ild_cbor::{Node, Piece};
 use ild_schema::{Accepted, Slot};
+use ild_walk::{ViewErr, check_item};
 use std::alloc::Global;
-
-// A refusal with its place in the block, where it is told from the item's first byte on.
-fn in_block(node: &Node<'_>, fault: ViewErr) -> ViewErr
-    ensures { (rows : List Row) (room : ℕ) (s : Place) (t : Data) → Faults rows room s t fault → Faults rows room s t result }
-{
-    match fault {
-        ViewErr::Shape { ty, why, at } => ViewErr::Shape {
-            ty,
-            why,
-            at: node.span().0.saturating_add(at),
-        },
-        ViewErr::Memory => ViewErr::Memory,
-    }
-}
 
 impl<'b> View<'b> {
     ghost use Rattle.ild_view.specs.View.{Views};
@@ -44,10 +26,11 @@ impl<'b> View<'b> {
         requires { slot.ty.0 < length acc.now }
         ensures { (t : Data) → Stands node.entry t → Views acc.now room slot node.entry t result }
     {
-        let piece = Piece::Node(node);
-        match check_piece(alloc, acc, slot, &piece, room) {
-            Ok(()) => Ok(View { acc, slot, piece }),
-            Err(fault) => Err(in_block(&node, fault)),
-        }
+        check_item(alloc, acc, slot, node, room)?;
+        Ok(View {
+            acc,
+            slot,
+            piece: Piece::Node(node),
+        })
     }
 }

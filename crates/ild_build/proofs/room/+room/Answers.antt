@@ -1,25 +1,31 @@
-use Rattle.std.proofs.Common.{◌≡◌, true, false, Some, length, ap, refl, sym, subst, ◌∙◌, ◌-◌, arith}
+use Rattle.std.proofs.Common.{◌≡◌, Result, Ok, Err, true, false, Some, length, ap, refl, sym, subst, ◌∙◌, ◌-◌, arith}
+use Rattle.std.specs.Prelude.{◌↔◌, IfOk}
 use Rattle.ild_data.specs.Seen.{data_of}
 use Rattle.ild_schema.specs.ValueSeen.{value_of}
 use Rattle.ild_typed.specs.Fits.{Fits}
 use Rattle.ild_typed.specs.OfType.{OfType}
 use Rattle.ild_typed.proofs.OneLayer.{null_in}
+use Rattle.ild_build.specs.KeysIn.{IsPlainLayer, KeysIn}
 use Rattle.ild_build.proofs.PartTests.{part_lower}
 use Rattle.ild_build.proofs.PartFits.{part_typed}
 use Rattle.ild_build.proofs.EachKey.{any_room, plain_val}
 use Rattle.ild_build.proofs.RoomParts.{null_room, too_deep, a_part, its_keys, keys_typed, fits_by}
 use Rattle.ild_build.proofs.room.+room.Goals as goal
 
+on_ok : {A E : Type 0} (P Q : A → Type 0) → ((a : A) → P a → Q a) → (r : Result A E) → IfOk r P → IfOk r Q
+on_ok P Q more (Ok a) h = more a h
+on_ok P Q more (Err e) h = h
+
 false_true : {A : Type 0} → false ≡ true → A
 false_true e = absurd cc
 
 pub fits-returns-in-Null : goal.fits-returns-in-Null
-fits-returns-in-Null g t c = λ typed.
+fits-returns-in-Null t c = λ typed.
     let is = ap value_of c.in-Null.is in
     ((λ e. subst (Fits c.args.acc.now c.args.room c.args.slot) (sym is) (null_room c.args.acc.now c.args.room c.args.slot (null_in c.args.acc.now c.args.slot (subst (OfType c.args.acc.now c.args.slot) is typed)))), (λ h. refl))
 
 pub fits-returns-in-Any : goal.fits-returns-in-Any
-fits-returns-in-Any g t c = λ typed.
+fits-returns-in-Any t c = λ typed.
     let is = ap value_of c.in-Any.is in
     let both = any_room c.args.acc.now c.args.room c.args.slot (data_of c.in-Any.tree) (subst (OfType c.args.acc.now c.args.slot) is typed) in (
       (λ e. subst (Fits c.args.acc.now c.args.room c.args.slot) (sym is) (both.0 (c.tree_fits.ensures.0 e))),
@@ -27,40 +33,47 @@ fits-returns-in-Any g t c = λ typed.
     )
 
 pub fits-returns-in_default : goal.fits-returns-in_default
-fits-returns-in_default g t c = λ typed. c.layer_fits.ensures (plain_val c.args.val.now c.in_default.not-Null c.in_default.not-Any) typed
+fits-returns-in_default t c =
+    let rows = c.args.acc.now in
+    let v = value_of c.args.val.now in
+    on_ok (λ b. IsPlainLayer v → OfType rows c.args.slot v → (b ≡ true) ↔ Fits rows c.args.room c.args.slot v) (λ b. OfType rows c.args.slot v → (b ≡ true) ↔ Fits rows c.args.room c.args.slot v)
+    (λ b h typed. h (plain_val c.args.val.now c.in_default.not-Null c.in_default.not-Any) typed) c.layer_fits.result c.layer_fits.ensures
 
 pub layer_fits-returns-then-room-levels : goal.layer_fits-returns-then-room-levels
-layer_fits-returns-then-room-levels g t c = λ plain typed. (
+layer_fits-returns-then-room-levels t c = λ plain typed. (
   (λ e. false_true e),
   (λ h. absurd (too_deep c.args.acc.now c.args.room 0 c.levels_of-levels.result c.args.slot (value_of c.args.val.now) c.form_of-def.result.now c.form_of-def.ensures.same plain c.levels_of-levels.ensures c.if-room-levels.true h)),
 )
 
 pub layer_fits-fits-requires : goal.layer_fits-fits-requires
-layer_fits-fits-requires g t c =
+layer_fits-fits-requires t c =
     let lower = part_lower (Some c.form_of-def.result.now) (value_of c.args.val.now) c.loop-i.i c.in-Some.slot (value_of c.in-Some.part.now) (sym c.in-Some.ensures.same) in
-    λ κs lives. (omega arith, (lives, c.in-Some.ensures.within (length c.args.acc.now) c.form_of-def.ensures.within))
+    (omega arith, c.in-Some.ensures.within (length c.args.acc.now) c.form_of-def.ensures.within)
 
-pub layer_fits-returns-then-not-fits : goal.layer_fits-returns-then-not-fits
-layer_fits-returns-then-not-fits g t c = λ plain typed.
+pub layer_fits-returns-then-not-fit : goal.layer_fits-returns-then-not-fit
+layer_fits-returns-then-not-fit t c = λ plain typed.
     let rows = c.args.acc.now in
     let v = value_of c.args.val.now in
     let w = value_of c.in-Some.part.now in
     let at = sym c.in-Some.ensures.same in
     let part = part_typed rows c.args.slot v c.form_of-def.result.now c.form_of-def.ensures.same typed c.loop-i.i c.in-Some.slot w at in (
       (λ e. false_true e),
-      (λ h. sym c.if-not-fits.true
-          ∙ (c.fits.ensures part).1 (a_part rows c.args.room (c.args.room - c.levels_of-levels.result) c.levels_of-levels.result c.args.slot v c.form_of-def.result.now c.form_of-def.ensures.same plain c.levels_of-levels.ensures refl h c.loop-i.i c.in-Some.slot w at)),
+      (λ h. sym c.if-not-fit.true
+          ∙ (c.in_ok-fit.ensures part).1 (a_part rows c.args.room (c.args.room - c.levels_of-levels.result) c.levels_of-levels.result c.args.slot v c.form_of-def.result.now c.form_of-def.ensures.same plain c.levels_of-levels.ensures refl h c.loop-i.i c.in-Some.slot w at)),
     )
 
 pub layer_fits-returns : goal.layer_fits-returns
-layer_fits-returns g t c = λ plain typed.
+layer_fits-returns t c =
     let rows = c.args.acc.now in
     let v = value_of c.args.val.now in
     let d = c.form_of-def.result.now in
     let n = c.levels_of-levels.result in
     let is = c.form_of-def.ensures.same in
-    let both = c.keys_fit.ensures (keys_typed rows c.args.room (c.args.room - n) n c.args.slot v d is plain c.levels_of-levels.ensures typed) in (
+    on_ok (λ b. KeysIn (OfType rows) rows d v → (b ≡ true) ↔ KeysIn (Fits rows (c.args.room - n)) rows d v) (λ b. IsPlainLayer v → OfType rows c.args.slot v → (b ≡ true) ↔ Fits rows c.args.room c.args.slot v)
+    (λ b h plain typed.
+    let both = h (keys_typed rows c.args.room (c.args.room - n) n c.args.slot v d is plain c.levels_of-levels.ensures typed) in (
       (λ e. fits_by rows c.args.room (c.args.room - n) n c.args.slot v d is plain c.levels_of-levels.ensures typed (omega arith) refl c.loop-i.i (omega arith)
           (λ j u w less at. c.loop-i.invariant j u w less at (part_typed rows c.args.slot v d is typed j u w at)) (both.0 e)),
-      (λ h. both.1 (its_keys rows c.args.room (c.args.room - n) n c.args.slot v d is plain c.levels_of-levels.ensures refl h)),
-    )
+      (λ k. both.1 (its_keys rows c.args.room (c.args.room - n) n c.args.slot v d is plain c.levels_of-levels.ensures refl k)),
+    ))
+    c.keys_fit.result c.keys_fit.ensures

@@ -7,10 +7,10 @@ use Rattle.ild_build.proofs.PartTests.{PartsBefore}
 use Rattle.ild_build.proofs.room.+room.Given as goal
 
 abbrev pub decreases-fits : goal.decreases-fits
-decreases-fits g l = 2 * height (value_of l.val.now) + 1
+decreases-fits l = 2 * height (value_of l.val.now) + 1
 
 abbrev pub decreases-layer_fits : goal.decreases-layer_fits
-decreases-layer_fits g l = 2 * height (value_of l.val.now)
+decreases-layer_fits l = 2 * height (value_of l.val.now)
 
 abbrev pub invariant-layer_fits-loop-i : goal.invariant-layer_fits-loop-i
-invariant-layer_fits-loop-i g l = PartsBefore (λ u w. OfType l.acc u w → Fits l.acc l.left u w) l.def (value_of l.val) l.i
+invariant-layer_fits-loop-i l = PartsBefore (λ u w. OfType l.acc u w → Fits l.acc l.left u w) l.def (value_of l.val) l.i

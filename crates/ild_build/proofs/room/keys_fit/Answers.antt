@@ -6,7 +6,7 @@ use Rattle.ild_build.proofs.EachKey.{keys_all}
 use Rattle.ild_build.proofs.room.keys_fit.Goals as goal
 
 pub returns-after-loop-i : goal.returns-after-loop-i
-returns-after-loop-i g c = λ typed.
+returns-after-loop-i c = λ typed.
     let h = c.in-Map-Map in
     let rows = c.args.acc.now in
     ((λ e. keys_all (Fits rows c.args.room) (OfType rows) rows c.args.def.now (value_of c.args.val.now) h.key h.key_at-0 h.value-0 h.at-0 h.form-0 h.pairs c.loop-i.i h.is-0 (ap value_of h.is-1) (omega arith) c.loop-i.invariant typed), (λ k. refl))

@@ -8,4 +8,4 @@ use Rattle.ild_build.proofs.EachKey.{AllBefore}
 use Rattle.ild_build.proofs.room.keys_fit.Given as goal
 
 abbrev pub invariant-loop-i : goal.invariant-loop-i
-invariant-loop-i g l = AllBefore (λ p. Shows (OfType l.acc) l.acc (plainly l.key) (T.text p.0) → Shows (Fits l.acc l.room) l.acc (plainly l.key) (T.text p.0)) (pairs_list l.pairs) l.i
+invariant-loop-i l = AllBefore (λ p. Shows (OfType l.acc) l.acc (plainly l.key) (T.text p.0) → Shows (Fits l.acc l.room) l.acc (plainly l.key) (T.text p.0)) (pairs_list l.pairs) l.i

@@ -9,34 +9,34 @@ use Rattle.ild_value.proofs.Shows.{read_item, read_pair, read_field}
 use Rattle.ild_value.proofs.read.+read.Given as goal
 
 abbrev pub decreases-tree_value : goal.decreases-tree_value
-decreases-tree_value g l = 4 * depth (data_of l.tree.now)
+decreases-tree_value l = 4 * depth (data_of l.tree.now)
 
 abbrev pub decreases-list_value : goal.decreases-list_value
-decreases-list_value g l = 4 * items_depth l.trees.now + 3
+decreases-list_value l = 4 * items_depth l.trees.now + 3
 
 abbrev pub decreases-elements : goal.decreases-elements
-decreases-elements g l = 4 * items_depth l.trees.now + 2
+decreases-elements l = 4 * items_depth l.trees.now + 2
 
 abbrev pub decreases-map_value : goal.decreases-map_value
-decreases-map_value g l = 4 * members_depth l.entries.now + 3
+decreases-map_value l = 4 * members_depth l.entries.now + 3
 
 abbrev pub decreases-pairs : goal.decreases-pairs
-decreases-pairs g l = 4 * members_depth l.entries.now + 2
+decreases-pairs l = 4 * members_depth l.entries.now + 2
 
 abbrev pub decreases-fields : goal.decreases-fields
-decreases-fields g l = 4 * members_depth l.entries.now + 2
+decreases-fields l = 4 * members_depth l.entries.now + 2
 
 abbrev pub decreases-union_value : goal.decreases-union_value
-decreases-union_value g l = 4 * members_depth l.entries.now + 2
+decreases-union_value l = 4 * members_depth l.entries.now + 2
 
 abbrev pub decreases-field_value : goal.decreases-field_value
-decreases-field_value g l = 4 * members_depth l.entries.now + 1
+decreases-field_value l = 4 * members_depth l.entries.now + 1
 
 abbrev pub invariant-elements-loop-tree : goal.invariant-elements-loop-tree
-invariant-elements-loop-tree g l = (is_key : ℕ → List ℕ → Bool) → TestsKeys l.acc is_key → all_of (read_item l.acc is_key l.elem) (take l.tree-index l.tree-items) ≡ Some (values_list l.vals)
+invariant-elements-loop-tree l = (is_key : ℕ → List ℕ → Bool) → TestsKeys l.acc is_key → all_of (read_item l.acc is_key l.elem) (take l.tree-index l.tree-items) ≡ Some (values_list l.vals)
 
 abbrev pub invariant-pairs-loop-pair : goal.invariant-pairs-loop-pair
-invariant-pairs-loop-pair g l = (is_key : ℕ → List ℕ → Bool) → TestsKeys l.acc is_key → all_of (read_pair l.acc is_key l.key l.elem) (take l.pair-index l.pair-items) ≡ Some (pairs_list l.vals)
+invariant-pairs-loop-pair l = (is_key : ℕ → List ℕ → Bool) → TestsKeys l.acc is_key → all_of (read_pair l.acc is_key l.key l.elem) (take l.pair-index l.pair-items) ≡ Some (pairs_list l.vals)
 
 abbrev pub invariant-fields-loop-field : goal.invariant-fields-loop-field
-invariant-fields-loop-field g l = (is_key : ℕ → List ℕ → Bool) → TestsKeys l.acc is_key → all_of (read_field l.acc is_key l.entries) (take l.field-index l.field-items) ≡ Some (optionals_list l.vals)
+invariant-fields-loop-field l = (is_key : ℕ → List ℕ → Bool) → TestsKeys l.acc is_key → all_of (read_field l.acc is_key l.entries) (take l.field-index l.field-items) ≡ Some (optionals_list l.vals)

@@ -1,0 +1,15 @@
+pub mod Asking
+pub mod Finding
+pub mod Nesting
+pub mod Rooting
+pub mod Rooted
+pub mod Meeting
+pub mod Paired
+pub mod Keyed
+pub mod Texting
+pub mod Stepping
+pub mod Structing
+pub mod Walking
+pub mod Flatness
+pub mod Spreading
+pub mod Stacking

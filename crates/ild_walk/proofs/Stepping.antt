@@ -1,0 +1,47 @@
+-- The first of the parts that are left, form by form.
+use Rattle.std.proofs.Common.{◌≡◌, ℕ, ◌+◌, List, [], ◌∷◌, Some, None, true, refl, sym, ◌∙◌, ap, subst}
+use Rattle.std.specs.Borrow.{Bor}
+use Rattle.ild_cbor.specs.declared.node.Node.{Node}
+use Rattle.ild_cbor.specs.declared.piece.Piece.TheVariants as P
+use Rattle.ild_piece.specs.Entries.{EntriesGive}
+use Rattle.ild_piece.specs.declared.walk.MapEntries.{MapEntries}
+use Rattle.ild_piece.proofs.Walking.{none_left, first_left}
+use Rattle.ild_schema.specs.Slots.{plainly}
+use Rattle.ild_schema.specs.declared.def.MapForm.TheVariants as MF
+use Rattle.ild_schema.specs.declared.row.Row.{Row}
+use Rattle.ild_typed.specs.Spots.{Spot, entry_spots, key_spot, value_spot, key, under}
+use Rattle.ild_walk.specs.declared.entries.Entries.{Entries}
+use Rattle.ild_walk.specs.declared.part.Part.{Part}
+use Rattle.ild_walk.specs.declared.parts.Parts.{Parts}
+use Rattle.ild_walk.specs.declared.way.Way.{Way}
+use Rattle.ild_walk.specs.Entries.{HasEntries, IsHeld}
+use Rattle.ild_walk.specs.Part.{IsSpotted, Takes}
+use Rattle.ild_walk.specs.Parts.{HasLeft, SplitsOff}
+
+module _ (s : Entries) (ps : List Spot) (h : HasEntries s ps) (free : s.held ≡ None) where
+  all_left : ps ≡ entry_spots MF.Map s.key s.value h.at h.entries
+  all_left = subst (λ o. IsHeld s o (entry_spots MF.Map s.key s.value h.at h.entries) ps) free h.is
+
+  pub entry_end : (t : MapEntries) → EntriesGive s.left None t → ps ≡ []
+  entry_end t gives = all_left ∙ ap (entry_spots MF.Map s.key s.value h.at) (none_left s.left t h.entries gives h.left)
+
+  pub key_step : (rows : List Row) (x : Bor (List ℕ) × Node) (t : MapEntries) (r : Part) (way : Way) → r ≡ record { slot = plainly s.key; piece = P.Text x.0; is_key = true; way = way }
+      → EntriesGive s.left (Some x) t → (rest : List Spot) × Takes rows ps rest r × HasEntries (record { key = s.key; value = s.value; left = t; held = Some x }) rest
+  key_step rows x t r way is gives =
+      let f = first_left s.left t x h.entries gives h.left in
+      let k : Spot = key_spot s.key x.0.now (key x.0.now ∷ []) in (
+        value_spot s.value f.value (under x.0.now ∷ []) ∷ entry_spots MF.Map s.key s.value (h.at + 1) f.rest,
+        record {
+          first = k;
+          is = all_left ∙ ap (entry_spots MF.Map s.key s.value h.at) f.is;
+          spotted = subst (λ y. IsSpotted rows y k) (sym is) (record { slot = refl; key = refl; stands = refl });
+        },
+        record { entries = f.rest; left = f.left; at = h.at + 1; is = (f.value, f.stands, refl) },
+      )
+
+-- a part is handed out
+pub takes_off : (rows : List Row) (ps rest : List Spot) (x : Part) (behind : Parts) → Takes rows ps rest x → HasLeft rows behind rest → SplitsOff rows ps (Some x) behind
+takes_off rows ps rest x behind k left = record { taken = k.first ∷ []; others = rest; is = k.is; first = (k.first, refl, k.spotted); left = left }
+
+pub left_as : (rows : List Row) (p q : Parts) (ps : List Spot) → p ≡ q → HasLeft rows p ps → HasLeft rows q ps
+left_as rows p q ps is h = subst (λ r. HasLeft rows r ps) is h

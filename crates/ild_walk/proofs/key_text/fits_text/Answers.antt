@@ -1,0 +1,21 @@
+use Rattle.std.proofs.Common.{◌≡◌, List, true, false, refl, subst}
+use Rattle.ild_data.specs.Data as T
+use Rattle.ild_schema.specs.Slots.{plainly}
+use Rattle.ild_schema.specs.declared.row.Row.{Row}
+use Rattle.ild_typed.proofs.OneValue.{plain_safe}
+use Rattle.ild_typed.proofs.WalkSound.{refused_sound}
+use Rattle.ild_walk.specs.Checks.{Faults, IsRefusal}
+use Rattle.ild_walk.proofs.key_text.fits_text.Goals as goal
+
+pub returns-in-Err-Shape : goal.returns-in-Err-Shape
+returns-in-Err-Shape c =
+    let rows : List Row = c.args.acc.now in
+    let legible = c.types-types.ensures.legible in
+    let h : IsRefusal rows c.args.room (plainly c.args.ty) (T.text c.args.text.now) c.in-Err-Shape.field-0-0 c.in-Err-Shape.field-0-1 =
+    subst (Faults rows c.args.room (plainly c.args.ty) (T.text c.args.text.now)) c.in-Err-Shape.field-0-is (c.in-Err-Shape.ensures (T.text c.args.text.now) refl c.utf8.text) in (
+      (λ e. absurd (never e)),
+      (λ shows. absurd (refused_sound rows legible.clear legible.delims c.args.room 0 (plainly c.args.ty) (plain_safe rows (plainly c.args.ty) refl) (T.text c.args.text.now) h.refusal h.refused shows)),
+    )
+  where
+    never : false ≡ true → ⊥
+    never e = absurd cc

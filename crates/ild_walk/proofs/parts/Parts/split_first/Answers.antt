@@ -1,0 +1,82 @@
+use Rattle.std.proofs.Common.{refl, subst}
+use Rattle.ild_walk.specs.declared.parts.Parts.TheVariants as P
+use Rattle.ild_walk.specs.Ready.{AreReady}
+use Rattle.ild_walk.proofs.Stepping.{takes_off, left_as}
+use Rattle.ild_walk.proofs.parts.Parts.split_first.Goals as goal
+
+pub returns-in-Some-clause-step : goal.returns-in-Some-clause-step
+returns-in-Some-clause-step c = λ rows ps h.
+    let x = c.in-Some.ensures.step rows ps (left_as rows c.args.self.now (P.List c.in-List.elements) ps c.in-List.is h) in
+    takes_off rows ps x.0 c.in-Some.part (P.List c.in-Some.behind) x.1 x.2
+
+pub returns-in-None-clause-step : goal.returns-in-None-clause-step
+returns-in-None-clause-step c = λ rows ps h. c.in-None.ensures.step rows ps (left_as rows c.args.self.now (P.List c.in-List.elements) ps c.in-List.is h)
+
+pub returns-in-Some-split_first-clause-step : goal.returns-in-Some-split_first-clause-step
+returns-in-Some-split_first-clause-step c = λ rows ps h.
+    let x = c.in-Some-split_first.ensures.step rows ps (left_as rows c.args.self.now (P.Map c.in-Map.entries) ps c.in-Map.is h) in
+    takes_off rows ps x.0 c.in-Some-split_first.part (P.Map c.in-Some-split_first.behind) x.1 x.2
+
+pub returns-in-None-split_first-clause-step : goal.returns-in-None-split_first-clause-step
+returns-in-None-split_first-clause-step c = λ rows ps h. c.in-None-split_first.ensures.step rows ps (left_as rows c.args.self.now (P.Map c.in-Map.entries) ps c.in-Map.is h)
+
+pub returns-in-Member-clause-step : goal.returns-in-Member-clause-step
+returns-in-Member-clause-step c = λ rows ps h. takes_off rows ps _ c.in-Member.part P.Nothing (left_as rows c.args.self.now (P.Member c.in-Member.part) ps c.in-Member.is h) refl
+
+pub returns-in-Some-split_first-2-clause-step : goal.returns-in-Some-split_first-2-clause-step
+returns-in-Some-split_first-2-clause-step c = λ rows ps h.
+    let x = c.in-Some-split_first-2.ensures.step rows ps (left_as rows c.args.self.now (P.Root c.in-Root.entries) ps c.in-Root.is h) in
+    record { taken = x.taken; others = x.others; is = x.is; first = x.first; left = x.left }
+
+pub returns-in-Some-split_first-2-clause-ready : goal.returns-in-Some-split_first-2-clause-ready
+returns-in-Some-split_first-2-clause-ready c = λ rows all.
+    let own = subst (AreReady rows) c.in-Root.is all in
+    let x = c.in-Some-split_first-2.ensures.ready rows own.0 own.1 in
+    (x.0, (x.1, x.2))
+
+pub returns-in-None-split_first-2-clause-step : goal.returns-in-None-split_first-2-clause-step
+returns-in-None-split_first-2-clause-step c = λ rows ps h.
+    c.in-None-split_first-2.ensures.step rows ps (left_as rows c.args.self.now (P.Root c.in-Root.entries) ps c.in-Root.is h)
+
+pub returns-in-Some-split_first-3-clause-step : goal.returns-in-Some-split_first-3-clause-step
+returns-in-Some-split_first-3-clause-step c = λ rows ps h.
+    let x = c.in-Some-split_first-3.ensures.step rows ps (left_as rows c.args.self.now (P.Struct c.in-Struct.fields) ps c.in-Struct.is h) in
+    record { taken = x.taken; others = x.others; is = x.is; first = x.first; left = x.left }
+
+pub returns-in-Some-split_first-3-clause-ready : goal.returns-in-Some-split_first-3-clause-ready
+returns-in-Some-split_first-3-clause-ready c = λ rows all.
+    c.in-Some-split_first-3.ensures.ready rows (subst (AreReady rows) c.in-Struct.is all)
+
+pub returns-in-Some-split_first-4-clause-step : goal.returns-in-Some-split_first-4-clause-step
+returns-in-Some-split_first-4-clause-step c = λ rows ps h.
+    let x = c.in-Some-split_first-4.ensures.step rows ps (left_as rows c.args.self.now (P.Texts c.in-Texts.entries) ps c.in-Texts.is h) in
+    takes_off rows ps x.0 c.in-Some-split_first-4.part (P.Texts c.in-Some-split_first-4.behind) x.1 x.2
+
+pub returns-in-Some-split_first-4-clause-ready : goal.returns-in-Some-split_first-4-clause-ready
+returns-in-Some-split_first-4-clause-ready c = λ rows all.
+    let own = subst (AreReady rows) c.in-Texts.is all in
+    let x = c.in-Some-split_first-4.ensures.ready rows own.0 own.1 in
+    (x.0, (x.1, x.2))
+
+pub returns-in-None-split_first-3-clause-step : goal.returns-in-None-split_first-3-clause-step
+returns-in-None-split_first-3-clause-step c = λ rows ps h.
+    c.in-None-split_first-3.ensures.step rows ps (left_as rows c.args.self.now (P.Struct c.in-Struct.fields) ps c.in-Struct.is h)
+
+pub returns-in-None-split_first-4-clause-step : goal.returns-in-None-split_first-4-clause-step
+returns-in-None-split_first-4-clause-step c = λ rows ps h.
+    c.in-None-split_first-4.ensures.step rows ps (left_as rows c.args.self.now (P.Texts c.in-Texts.entries) ps c.in-Texts.is h)
+
+pub returns-in-Some-split_first-5-clause-step : goal.returns-in-Some-split_first-5-clause-step
+returns-in-Some-split_first-5-clause-step c = λ rows ps h.
+    let x = c.in-Some-split_first-5.ensures.step rows ps (left_as rows c.args.self.now (P.Pairs c.in-Pairs.entries) ps c.in-Pairs.is h) in
+    takes_off rows ps x.0 c.in-Some-split_first-5.part (P.Pairs c.in-Some-split_first-5.behind) x.1 x.2
+
+pub returns-in-Some-split_first-5-clause-ready : goal.returns-in-Some-split_first-5-clause-ready
+returns-in-Some-split_first-5-clause-ready c = λ rows all.
+    let own = subst (AreReady rows) c.in-Pairs.is all in
+    let x = c.in-Some-split_first-5.ensures.ready rows own.0 own.1 in
+    (x.0, (x.1, x.2))
+
+pub returns-in-None-split_first-5-clause-step : goal.returns-in-None-split_first-5-clause-step
+returns-in-None-split_first-5-clause-step c = λ rows ps h.
+    c.in-None-split_first-5.ensures.step rows ps (left_as rows c.args.self.now (P.Pairs c.in-Pairs.entries) ps c.in-Pairs.is h)

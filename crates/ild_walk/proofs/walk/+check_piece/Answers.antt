@@ -1,0 +1,84 @@
+use Rattle.std.proofs.Common.{List, Some, Ok, sym, ◌∙◌, subst, arith}
+use Rattle.ild_schema.specs.declared.row.Row.{Row}
+use Rattle.ild_typed.specs.Schema.{IsSchema}
+use Rattle.ild_walk.specs.Opens.{IsOpening, Opens}
+use Rattle.ild_walk.specs.Parts.{SplitsOff}
+use Rattle.ild_walk.specs.Ready.{IsPartReady}
+use Rattle.ild_walk.proofs.Walking.{null_checks, opened_begins, past_nothing, past_part, plain_shows, refused_by_itself, at_refused, walk_ends}
+use Rattle.ild_walk.proofs.walk.+check_piece.Goals as goal
+
+pub returns-then-is_null_there : goal.returns-then-is_null_there
+returns-then-is_null_there m c = λ t stands tree.
+    null_checks c.args.acc.now c.args.room c.args.slot t tree (sym (c.is_null_there.ensures c.args.acc.now t stands) ∙ c.if-is_null_there.true)
+
+pub returns-in-Err : goal.returns-in-Err
+returns-in-Err m c = λ t stands tree.
+    let rows : List Row = c.args.acc.now in
+    let schema : IsSchema rows = record { table = c.types-types.ensures.table; accepted = c.types-types.ensures.accepted } in
+    c.own_refusal.ensures rows c.args.room t
+    (refused_by_itself rows schema c.args.room c.args.slot c.requires.within t c.in-Err.stop (sym (c.is_null_there.ensures rows t stands) ∙ c.if-is_null_there.false) (λ d is. c.in-Err.ensures.opens d t stands is))
+
+pub returns-in_default : goal.returns-in_default
+returns-in_default m c = λ t stands tree.
+    let rows : List Row = c.args.acc.now in
+    let schema : IsSchema rows = record { table = c.types-types.ensures.table; accepted = c.types-types.ensures.accepted } in
+    plain_shows rows schema c.types-types.ensures.legible c.args.room c.args.slot c.requires.within t tree
+    (λ d is. subst (λ o. Opens rows c.args.room d t (Ok o)) c.in_default.is (c.in-Ok.ensures.opens d t stands is))
+
+pub loop-part-init : goal.loop-part-init
+loop-part-init m c =
+    let rows : List Row = c.args.acc.now in
+    let schema : IsSchema rows = record { table = c.types-types.ensures.table; accepted = c.types-types.ensures.accepted } in
+    let ready : IsOpening rows c.args.room (Ok (Some c.in-Some.opening)) = subst (λ o. IsOpening rows c.args.room (Ok o)) c.in-Some.is c.in-Ok.ensures.ready in (
+      ready.0,
+      ready.1,
+      λ t stands tree. opened_begins rows schema c.args.room c.args.slot c.requires.within t c.in-Some.opening
+          (λ d is. subst (λ o. Opens rows c.args.room d t (Ok o)) c.in-Some.is (c.in-Ok.ensures.opens d t stands is)),
+    )
+
+pub check_piece-requires : goal.check_piece-requires
+check_piece-requires m c =
+    let rows : List Row = c.args.acc.now in
+    let both = c.in-Some-split_first.ensures.ready rows c.loop-part.invariant.0 in
+    let ready = subst (IsPartReady rows) c.in-Some-part.is both.0 in
+    (omega (arith, c.loop-part.invariant.1), (ready.within, (ready.numbered, ready.inlined)))
+
+pub returns-in-Err-check_piece : goal.returns-in-Err-check_piece
+returns-in-Err-check_piece m c = λ t stands tree.
+    let rows : List Row = c.args.acc.now in
+    let schema : IsSchema rows = record { table = c.types-types.ensures.table; accepted = c.types-types.ensures.accepted } in
+    let left = c.in-Some.opening.room in
+    at_refused rows c.args.room c.args.slot t left c.loop-part.parts (c.loop-part.invariant.2 t stands tree) schema tree c.in-Some-part.part c.in-Some-split_first.behind
+    (λ ps h. subst (λ o. SplitsOff rows ps o c.in-Some-split_first.behind) c.in-Some-part.is (c.in-Some-split_first.ensures.step rows ps h))
+    (sym (c.is_null_there.ensures rows t stands) ∙ c.if-is_null_there.false) c.loop-part.invariant.1 c.in-Err-check_piece.fault c.part_refusal.result
+    (λ u a b. c.in-Err-check_piece.ensures u a b) (λ p sp f. c.part_refusal.ensures rows left p sp f)
+
+pub loop-part-preserved-in_default-check_piece : goal.loop-part-preserved-in_default-check_piece
+loop-part-preserved-in_default-check_piece m c =
+    let rows : List Row = c.args.acc.now in
+    let schema : IsSchema rows = record { table = c.types-types.ensures.table; accepted = c.types-types.ensures.accepted } in
+    let both = c.in-Some-split_first.ensures.ready rows c.loop-part.invariant.0 in (
+      both.1,
+      c.loop-part.invariant.1,
+      λ t stands tree. past_part rows c.args.room c.args.slot t c.in-Some.opening.room c.loop-part.parts (c.loop-part.invariant.2 t stands tree) schema tree c.in-Some-part.part c.in-Some-split_first.behind
+          (λ ps h. subst (λ o. SplitsOff rows ps o c.in-Some-split_first.behind) c.in-Some-part.is (c.in-Some-split_first.ensures.step rows ps h))
+          (λ u a b. c.in_default-check_piece.ensures u a b),
+    )
+
+pub loop-part-preserved : goal.loop-part-preserved
+loop-part-preserved m c =
+    let rows : List Row = c.args.acc.now in
+    let schema : IsSchema rows = record { table = c.types-types.ensures.table; accepted = c.types-types.ensures.accepted } in
+    let both = c.in-Some-split_first.ensures.ready rows c.loop-part.invariant.0 in (
+      both.1,
+      c.loop-part.invariant.1,
+      λ t stands tree. past_nothing rows c.args.room c.args.slot t c.in-Some.opening.room c.loop-part.parts (c.loop-part.invariant.2 t stands tree) schema tree c.in-Some-split_first.behind
+          (λ ps h. subst (λ o. SplitsOff rows ps o c.in-Some-split_first.behind) c.in_default-part.is (c.in-Some-split_first.ensures.step rows ps h)),
+    )
+
+pub returns : goal.returns
+returns m c = λ t stands tree.
+    let rows : List Row = c.args.acc.now in
+    let schema : IsSchema rows = record { table = c.types-types.ensures.table; accepted = c.types-types.ensures.accepted } in
+    walk_ends rows c.args.room c.args.slot t c.in-Some.opening.room c.loop-part.parts (c.loop-part.invariant.2 t stands tree) schema c.types-types.ensures.legible tree c.loop-part.invariant.1
+    (λ ps h. c.in_default-split_first.ensures.step rows ps h)

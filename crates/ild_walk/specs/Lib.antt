@@ -1,0 +1,16 @@
+pub mod Checks
+pub mod Part
+pub mod Elements
+pub mod Entries
+pub mod Fields
+pub mod Root
+pub mod Shape
+pub mod PairEntries
+pub mod Judged
+pub mod Keys
+pub mod Texts
+pub mod Parts
+pub mod Ready
+pub mod Opens
+pub mod Scalars
+pub mod Stacked

@@ -1,0 +1,45 @@
+-- The parts of a piece that are left, as spots of the walk, and the first of them.
+use Rattle.std.specs.Prelude.{◌≡◌, ℕ, List, [], ◌++◌, Option, Some, None}
+use Rattle.ild_schema.specs.declared.row.Row.{Row}
+use Rattle.ild_typed.specs.Spots.{Spot}
+use Rattle.ild_walk.specs.declared.part.Part.{Part}
+use Rattle.ild_walk.specs.declared.parts.Parts.{Parts}
+use Rattle.ild_walk.specs.declared.parts.Parts.TheVariants as P
+use Rattle.ild_walk.specs.Elements.{HasElements, elements_left}
+use Rattle.ild_walk.specs.Entries.{HasEntries, entries_left}
+use Rattle.ild_walk.specs.Fields.{HasFields, fields_left}
+use Rattle.ild_walk.specs.Texts.{HasTexts, texts_left}
+use Rattle.ild_walk.specs.PairEntries.{HasPairs, pairs_left}
+use Rattle.ild_walk.specs.Root.{HasRoot, root_left}
+use Rattle.ild_walk.specs.Part.{IsFirst, Takes}
+
+abbrev pub parts_left : Parts → ℕ
+parts_left P.Nothing = 0
+parts_left (P.List s) = elements_left s
+parts_left (P.Map s) = entries_left s
+parts_left (P.Root s) = root_left s
+parts_left (P.Struct s) = fields_left s
+parts_left (P.Member x) = 1
+parts_left (P.Texts s) = texts_left s
+parts_left (P.Pairs s) = pairs_left s
+
+abbrev pub HasLeft : List Row → Parts → List Spot → Type 0
+HasLeft rows P.Nothing ps = ps ≡ []
+HasLeft rows (P.List s) ps = HasElements s ps
+HasLeft rows (P.Map s) ps = HasEntries s ps
+HasLeft rows (P.Root s) ps = HasRoot s ps
+HasLeft rows (P.Struct s) ps = HasFields rows s ps
+HasLeft rows (P.Member x) ps = Takes rows ps [] x
+HasLeft rows (P.Texts s) ps = HasTexts s ps
+HasLeft rows (P.Pairs s) ps = HasPairs s ps
+
+pub record SplitsOff (rows : List Row) (ps : List Spot) (o : Option Part) (rest : Parts) : Type 0 where
+  pub taken : List Spot
+  pub others : List Spot
+  pub is : ps ≡ taken ++ others
+  pub first : IsFirst rows o taken
+  pub left : HasLeft rows rest others
+
+abbrev pub Splits : List Row → List Spot → Option (Option Part × Parts) → Type 0
+Splits rows ps None = ps ≡ []
+Splits rows ps (Some r) = SplitsOff rows ps r.0 r.1

@@ -1,0 +1,38 @@
+//! The elements of a list as parts.
+ghost use Rattle.std.specs.Prelude.{◌≡◌, ◌<◌, List, IfSome, length};
+ghost use Rattle.ild_schema.specs.declared.row.Row.{Row};
+ghost use Rattle.ild_typed.specs.Spots.{Spot};
+ghost use Rattle.ild_walk.specs.Elements.{HasElements, SplitsElements, elements_left};
+ghost use Rattle.ild_walk.specs.Ready.{IsReady, IsIn};
+
+use crate::part::{Part, value_part};
+use crate::way::Way;
+use ild_cbor::{Items, Piece};
+use ild_schema::Slot;
+
+/// The elements of a list that are left, of which so many went before.
+#[derive(Clone, Copy)]
+pub(crate) struct Elements<'b> {
+    pub(crate) slot: Slot,
+    pub(crate) items: Items<'b>,
+    pub(crate) place: u64,
+}
+
+impl<'b> Elements<'b> {
+    /// The first element, and those behind it.
+    pub(crate) fn split_first(&self) -> Option<(Part<'b>, Elements<'b>)>
+        ensures step { (rows : List Row) (ps : List Spot) → HasElements self.now ps → SplitsElements rows ps result }
+        ensures fewer { IfSome result (λ r. elements_left r.1 < elements_left self.now) }
+        ensures ready { (rows : List Row) → IsIn rows self.now.slot → IfSome result (λ r. IsReady rows r.0 × IsIn rows r.1.slot) }
+    {
+        let mut items = self.items;
+        let item = items.next()?;
+        let part = value_part(self.slot, Piece::Node(item), Way::Item(self.place));
+        let behind = Elements {
+            slot: self.slot,
+            items,
+            place: self.place.saturating_add(1),
+        };
+        Some((part, behind))
+    }
+}

@@ -1,0 +1,56 @@
+//! The entries of a map as parts: a key, and then its value.
+ghost use Rattle.std.specs.Prelude.{◌≡◌, ◌<◌, List, IfSome};
+ghost use Rattle.ild_schema.specs.declared.row.Row.{Row};
+ghost use Rattle.ild_typed.specs.Spots.{Spot};
+ghost use Rattle.ild_walk.specs.Entries.{HasEntries, SplitsEntries, entries_left};
+ghost use Rattle.ild_walk.specs.Ready.{IsIn, IsReady};
+ghost use Rattle.ild_schema.specs.Slots.{plainly};
+
+use crate::part::{Part, key_part, value_part};
+use crate::way::Way;
+use ild_cbor::{Node, Piece};
+use ild_piece::MapEntries;
+use ild_schema::{Slot, TypeNo};
+
+/// The entries of a map that are left. Of one the key may have been handed out, and not its value.
+#[derive(Clone, Copy)]
+pub(crate) struct Entries<'b> {
+    pub(crate) key: TypeNo,
+    pub(crate) value: Slot,
+    pub(crate) left: MapEntries<'b>,
+    pub(crate) held: Option<(&'b str, Node<'b>)>,
+}
+
+impl<'b> Entries<'b> {
+    /// The first key or value, and what is behind it.
+    pub(crate) fn split_first(&self) -> Option<(Part<'b>, Entries<'b>)>
+        ensures step { (rows : List Row) (ps : List Spot) → HasEntries self.now ps → SplitsEntries rows ps result }
+        ensures fewer { IfSome result (λ r. entries_left r.1 < entries_left self.now) }
+        ensures ready { (rows : List Row) → IsIn rows (plainly self.now.key) → IsIn rows self.now.value → IfSome result (λ r. IsReady rows r.0 × IsIn rows (plainly r.1.key) × IsIn rows r.1.value) }
+    {
+        let mut left = self.left;
+        match self.held {
+            Some((key, node)) => Some((
+                value_part(self.value, Piece::Node(node), Way::Under(key)),
+                Entries {
+                    key: self.key,
+                    value: self.value,
+                    left,
+                    held: None,
+                },
+            )),
+            None => match left.next() {
+                Some((key, node)) => Some((
+                    key_part(self.key, key, Way::Key(key)),
+                    Entries {
+                        key: self.key,
+                        value: self.value,
+                        left,
+                        held: Some((key, node)),
+                    },
+                )),
+                None => None,
+            },
+        }
+    }
+}

@@ -1,0 +1,62 @@
+//! What is told of a piece that is refused.
+ghost use Rattle.std.specs.Prelude.{◌≡◌, ℕ, List};
+ghost use Rattle.ild_data.specs.Data.{Data};
+ghost use Rattle.ild_schema.specs.declared.row.Row.{Row};
+ghost use Rattle.ild_typed.specs.Spots.{Spot};
+ghost use Rattle.ild_walk.specs.Checks.{Faults, PartFaults, is_depth};
+ghost use Rattle.ild_walk.specs.Opens.{IsStopped};
+ghost use Rattle.ild_walk.specs.Part.{IsSpotted};
+
+use crate::fault::ViewErr;
+use crate::opening::Stop;
+use crate::part::Part;
+use ild_cbor::Why;
+use ild_schema::Slot;
+
+fn is_depth(why: Why) -> bool
+    ensures { result ≡ is_depth why }
+{
+    match why {
+        Why::Depth => true,
+        _ => false,
+    }
+}
+
+/// The refusal of a piece by itself.
+pub(crate) fn own_refusal(slot: Slot, stop: Stop) -> ViewErr
+    ensures { (rows : List Row) (room : ℕ) (t : Data) → IsStopped rows room slot t stop → Faults rows room slot t result }
+{
+    match stop {
+        Stop::Why(why) => ViewErr::Shape {
+            ty: slot.ty,
+            why,
+            at: 0,
+        },
+        Stop::Memory => ViewErr::Memory,
+    }
+}
+
+/// The refusal of a part, as that of the whole, where the part begins at a place. A key that is no text of its type is
+/// refused as such; only too little room is told of it as of any piece.
+pub(crate) fn part_refusal(part: &Part<'_>, place: usize, fault: ViewErr) -> ViewErr
+    ensures { (rows : List Row) (room : ℕ) (p : Spot) → IsSpotted rows part.now p → Faults rows room p.slot p.tree fault → PartFaults rows room p result }
+{
+    match fault {
+        ViewErr::Shape { ty, why, at } => {
+            if part.is_key && !is_depth(why) {
+                ViewErr::Shape {
+                    ty: part.slot.ty,
+                    why: Why::Member,
+                    at: place,
+                }
+            } else {
+                ViewErr::Shape {
+                    ty,
+                    why,
+                    at: place.saturating_add(at),
+                }
+            }
+        }
+        ViewErr::Memory => ViewErr::Memory,
+    }
+}

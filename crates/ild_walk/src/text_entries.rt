@@ -1,0 +1,56 @@
+//! The pairs of a text as parts: a key, and then its value.
+ghost use Rattle.std.specs.Prelude.{◌≡◌, ◌<◌, List, IfSome};
+ghost use Rattle.ild_schema.specs.Slots.{plainly};
+ghost use Rattle.ild_schema.specs.declared.row.Row.{Row};
+ghost use Rattle.ild_typed.specs.Spots.{Spot};
+ghost use Rattle.ild_walk.specs.Ready.{IsIn, IsReady};
+ghost use Rattle.ild_walk.specs.Texts.{HasTexts, SplitsTexts, texts_left};
+
+use crate::part::{Part, key_part, value_part};
+use crate::way::Way;
+use ild_cbor::Piece;
+use ild_schema::{Slot, TypeNo};
+use ild_text::PairParts;
+
+/// The pairs of a text that are left. Of one the key may have been handed out, and not its value.
+#[derive(Clone, Copy)]
+pub(crate) struct TextEntries<'b> {
+    pub(crate) key: TypeNo,
+    pub(crate) value: Slot,
+    pub(crate) split: PairParts<'b>,
+    pub(crate) held: Option<&'b str>,
+}
+
+impl<'b> TextEntries<'b> {
+    fn on(&self, split: PairParts<'b>, held: Option<&'b str>) -> TextEntries<'b>
+        ensures { result ≡ record { key = self.now.key; value = self.now.value; split = split.entry; held = held.entry } }
+    {
+        TextEntries {
+            key: self.key,
+            value: self.value,
+            split,
+            held,
+        }
+    }
+
+    /// The first key or value, and what is behind it.
+    pub(crate) fn split_first(&self) -> Option<(Part<'b>, TextEntries<'b>)>
+        ensures step { (rows : List Row) (ps : List Spot) → HasTexts self.now ps → SplitsTexts rows ps result }
+        ensures fewer { IfSome result (λ r. texts_left r.1 < texts_left self.now) }
+        ensures ready { (rows : List Row) → IsIn rows (plainly self.now.key) → IsIn rows self.now.value → IfSome result (λ r. IsReady rows r.0 × IsIn rows (plainly r.1.key) × IsIn rows r.1.value) }
+    {
+        if let Some(value) = self.held {
+            return Some((
+                value_part(self.value, Piece::Text(value), Way::Here),
+                self.on(self.split, None),
+            ));
+        }
+        match self.split.split_first() {
+            Some(((key, value), behind)) => Some((
+                key_part(self.key, key, Way::Here),
+                self.on(behind, Some(value)),
+            )),
+            None => None,
+        }
+    }
+}
