@@ -16,12 +16,7 @@ use std::alloc::Global;
 
 /// The block of a typed value: the spelling of its one representation. The value has no hole and breaks no delimiter, and no HAMT can
 /// stand in a value of its type, so this is its only block. `Size` comes exactly where the spelling has more than 4,194,304 bytes.
-pub fn build(
-    alloc: Global,
-    acc: &Accepted,
-    slot: Slot,
-    val: &Val,
-) -> Result<Octets, BuildFault>
+pub fn build(alloc: Global, acc: &Accepted, slot: Slot, val: &Val) -> Result<Octets, BuildFault>
     requires within { slot.ty.0 < length acc.now }
     requires typed { Typed acc.now slot (value_of val.now) }
     requires hole { has_hole acc.now slot (value_of val.now) ≡ false }

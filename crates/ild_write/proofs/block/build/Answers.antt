@@ -16,7 +16,7 @@ returns-then-as_slice-gt-LONGEST_BLOCK c =
     record {
       tree = t.0;
       represented = t.1;
-      sized = rw (sym (c.finish-block.ensures ∙ out ∙ ap (λ (o : List ℕ). o ++ spell t.0) c.new-out.ensures), sym c.as_slice.ensures.same) (omega (arith, c.if-as_slice-gt-LONGEST_BLOCK.true))
+      sized = rw (sym (c.finish-block.ensures ∙ out ∙ ap (λ (o : List ℕ). o ++ spell t.0) c.new-out.ensures), sym c.as_slice.ensures.same) (omega (arith, c.if-as_slice-gt-LONGEST_BLOCK.true));
     }
 
 pub returns : goal.returns
@@ -30,5 +30,5 @@ returns c =
       tree = t.0;
       represented = t.1;
       spelled = c.finish-block.ensures ∙ out ∙ ap (λ (o : List ℕ). o ++ spell t.0) c.new-out.ensures;
-      sized = rw (sym c.as_slice.ensures.same) (omega (arith, c.if-as_slice-gt-LONGEST_BLOCK.false))
+      sized = rw (sym c.as_slice.ensures.same) (omega (arith, c.if-as_slice-gt-LONGEST_BLOCK.false));
     }
