@@ -1,0 +1,4 @@
+mod Opening
+mod Parting
+mod Finding
+mod Handing
