@@ -101,13 +101,13 @@ none_named name (f ∷ fs) i e (o ∷ os) = by (named name f) (named_same name f
 
 module _ (rows : List Row) (name : List ℕ) where
   -- a field that is passed over
-  later : {q : Option InSlot} (f g : Field) (o : Option Value) (held : Option Data) → same_text name f.name ≡ false → Beside rows g.slot held q
+  later : (q : Option InSlot) (f g : Field) (o : Option Value) (held : Option Data) → same_text name f.name ≡ false → Beside rows g.slot held q
       → Beside rows g.slot held (cond (same_text name f.name) (option_map (λ v. (f.slot, v)) o) q)
-  later {q = q} f g o held other h = subst (λ c. Beside rows g.slot held (cond c (option_map (λ v. (f.slot, v)) o) q)) (sym other) h
+  later q f g o held other h = subst (λ c. Beside rows g.slot held (cond c (option_map (λ v. (f.slot, v)) o) q)) (sym other) h
 
-  own : {q : Option InSlot} (f : Field) (o : Option Value) (held : Option Data) → same_text name f.name ≡ true → Beside rows f.slot held (option_map (λ v. (f.slot, v)) o)
+  own : (q : Option InSlot) (f : Field) (o : Option Value) (held : Option Data) → same_text name f.name ≡ true → Beside rows f.slot held (option_map (λ v. (f.slot, v)) o)
       → Beside rows f.slot held (cond (same_text name f.name) (option_map (λ v. (f.slot, v)) o) q)
-  own {q = q} f o held same h = subst (λ c. Beside rows f.slot held (cond c (option_map (λ v. (f.slot, v)) o) q)) (sym same) h
+  own q f o held same h = subst (λ c. Beside rows f.slot held (cond c (option_map (λ v. (f.slot, v)) o) q)) (sym same) h
 
   pub field_beside : (fs : List Field) (os : Optionals) (ds : List (Option Data)) → represented_fields alone rows fs os ≡ Some ds → FieldsFit (OfType rows) fs (optionals_list os)
       → (i : ℕ) (g : Field) (held : Option Data) → slice_get fs i ≡ Some g → slice_get ds i ≡ Some held → FirstNamed name i fs → Beside rows g.slot held (field_at name fs (optionals_list os))
@@ -116,21 +116,21 @@ module _ (rows : List Row) (name : List ℕ) where
   field_beside (f ∷ fs) (V.absent os) ds e fit zero g held there at first =
       let b = map_from (λ xs. None ∷ xs) (represented_fields alone rows fs os) ds e in
       let is : None ≡ held = same_Some None held (ap (λ (xs : List (Option Data)). slice_get xs zero) (same_Some (None ∷ b.item) ds b.made) ∙ at) in
-      subst (λ (k : Field). Beside rows k.slot held (field_at name (f ∷ fs) (None ∷ optionals_list os))) (same_Some f g there) (own f None held first (subst (λ (o : Option Data). Beside rows f.slot o None) is tt))
+      subst (λ (k : Field). Beside rows k.slot held (field_at name (f ∷ fs) (None ∷ optionals_list os))) (same_Some f g there) (own (field_at name fs (optionals_list os)) f None held first (subst (λ (o : Option Data). Beside rows f.slot o None) is tt))
   field_beside (f ∷ fs) (V.absent os) ds e fit (suc i) g held there at first =
       let b = map_from (λ xs. None ∷ xs) (represented_fields alone rows fs os) ds e in
       let is : slice_get b.item i ≡ Some held = ap (λ (xs : List (Option Data)). slice_get xs (suc i)) (same_Some (None ∷ b.item) ds b.made) ∙ at in
-      later f g None held first.0 (field_beside fs os b.item b.there fit.1 i g held there is first.1)
+      later (field_at name fs (optionals_list os)) f g None held first.0 (field_beside fs os b.item b.there fit.1 i g held there is first.1)
   field_beside (f ∷ fs) (V.present v os) ds e fit zero g held there at first =
       let b = both_from (option_map Some (represented alone rows f.slot v)) (represented_fields alone rows fs os) ds e in
       let x = map_from Some (represented alone rows f.slot v) b.item b.first in
       let is : Some x.item ≡ held = same_Some (Some x.item) held (ap Some (same_Some (Some x.item) b.item x.made) ∙ ap (λ (xs : List (Option Data)). slice_get xs zero) b.all ∙ at) in
       subst (λ (k : Field). Beside rows k.slot held (field_at name (f ∷ fs) (Some v ∷ optionals_list os))) (same_Some f g there)
-      (own f (Some v) held first (subst (λ (o : Option Data). Beside rows f.slot o (Some (f.slot, v))) is (refl, record { typed = fit.0; tree = x.there })))
+      (own (field_at name fs (optionals_list os)) f (Some v) held first (subst (λ (o : Option Data). Beside rows f.slot o (Some (f.slot, v))) is (refl, record { typed = fit.0; tree = x.there })))
   field_beside (f ∷ fs) (V.present v os) ds e fit (suc i) g held there at first =
       let b = both_from (option_map Some (represented alone rows f.slot v)) (represented_fields alone rows fs os) ds e in
       let is : slice_get b.items i ≡ Some held = ap (λ (xs : List (Option Data)). slice_get xs (suc i)) b.all ∙ at in
-      later f g (Some v) held first.0 (field_beside fs os b.items b.rest fit.1 i g held there is first.1)
+      later (field_at name fs (optionals_list os)) f g (Some v) held first.0 (field_beside fs os b.items b.rest fit.1 i g held there is first.1)
 
 -- ---- the parts of a front
 

@@ -2,3 +2,8 @@ mod Opening
 mod Parting
 mod Finding
 mod Handing
+mod Mapped
+mod Placing
+mod Reading
+mod Fielding
+mod Reaching

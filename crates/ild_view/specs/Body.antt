@@ -32,3 +32,8 @@ is_struct d = false
 abbrev pub is_placed : List Row → Slot → Body → Bool
 is_placed rows s (B.Held p) = not (passes_over p) || option_map_or is_struct (form_of rows s) false
 is_placed rows s (B.Implicit scalar) = is_of scalar.now (form_of rows s)
+
+-- a piece in which no entry is passed over
+abbrev pub is_free : Body → Bool
+is_free (B.Held p) = not (passes_over p)
+is_free (B.Implicit s) = false
