@@ -7,3 +7,4 @@ mod Placing
 mod Reading
 mod Fielding
 mod Reaching
+mod Indexing

@@ -18,11 +18,14 @@ use Rattle.ild_schema.specs.Slots.{form_of, plainly}
 use Rattle.ild_schema.specs.Value as V
 use Rattle.ild_schema.specs.Value.{Value}
 use Rattle.ild_schema.specs.declared.def.Member.{Member}
+use Rattle.ild_schema.specs.declared.def.Scalar.{Scalar}
+use Rattle.ild_schema.specs.declared.def.Scalar.TheVariants as C
 use Rattle.ild_schema.specs.declared.def.TypeDef.{TypeDef}
 use Rattle.ild_schema.specs.declared.def.TypeDef.TheVariants as D
 use Rattle.ild_schema.specs.declared.number.Slot.{Slot}
 use Rattle.ild_schema.specs.declared.row.Row.{Row}
 use Rattle.ild_typed.specs.At.{InSlot, Reach, enter, here, no_path, or_enter, reached, seen}
+use Rattle.ild_typed.specs.Fields.{is_scalar}
 use Rattle.ild_typed.specs.Fits.{Front}
 use Rattle.ild_typed.specs.Hamt.{alone}
 use Rattle.ild_typed.specs.Holder.{Holder, any_elements, any_entries, elements, entries, fields, member, nothing, of_any}
@@ -60,12 +63,17 @@ sized_none : (t : Data) (i : ℕ) → length (spell t) ≤ 4194304 → 2 ^ 64 �
 sized_none (T.list ds) i h far = let few = list_short ds h in past_end (items_list ds) i (omega (arith, few, far))
 sized_none t i h far = refl
 
+no_scalar : (c : Scalar) (ds : Items) → is_scalar c (T.list ds) ≡ true → ⊥
+no_scalar (C.Bool b) ds e = absurd cc
+no_scalar (C.Int n) ds e = absurd cc
+no_scalar (C.Text s) ds e = absurd cc
+
 far_none : (rows : List Row) (b : Body) (t : Data) → BodyStands rows b t → (i : ℕ) → 2 ^ 64 ≤ i → item_of t i ≡ None
 far_none rows (B.Held (Q.Node n)) t h i far = sized_none t i h.within.sized far
 far_none rows (B.Held (Q.Text s)) t h i far = ap (λ d. item_of d i) h
 far_none rows (B.Held (Q.Bytes s)) t h i far = ap (λ d. item_of d i) h
 far_none rows (B.Held (Q.Inline n u)) t h i far = ap (λ d. item_of d i) h.rest
-far_none rows (B.Implicit c) (T.list ds) h i far = absurd cc
+far_none rows (B.Implicit c) (T.list ds) h i far = absurd (no_scalar c.now ds h)
 far_none rows (B.Implicit c) t h i far = refl
 
 beside_none : (rows : List Row) (u : Slot) (o : Option Data) (q : Option InSlot) → o ≡ None → Beside rows u o q → q ≡ None

@@ -1,7 +1,10 @@
 //! The fields of structs.
-ghost use Rattle.std.specs.Prelude.{◌≡◌, IfSome, List, Option, [], true};
+ghost use Rattle.std.specs.Prelude.{◌≡◌, ◌<◌, IfSome, List, Option, [], length, true};
+ghost use Rattle.std.specs.Option.{option_and_then};
 ghost use Rattle.ild_data.specs.Data.{Data};
 ghost use Rattle.ild_schema.specs.Fitting.{ImplicitFits};
+ghost use Rattle.ild_schema.specs.Parts.{IsPartOf, part_named};
+ghost use Rattle.ild_schema.specs.Table.{def_at};
 ghost use Rattle.ild_schema.specs.Value.{Value};
 ghost use Rattle.ild_schema.specs.declared.row.Row.{Row};
 ghost use Rattle.ild_struct.specs.Parts.{HasNumber, IsPart};
@@ -14,7 +17,7 @@ use crate::form::struct_in;
 use crate::null::null_item;
 use crate::view::View;
 use ild_cbor::Piece;
-use ild_schema::Field;
+use ild_schema::{Accepted, Field, TypeNo};
 use ild_struct::{Part, layer};
 
 // What stands for a field, where it is present.
@@ -34,6 +37,15 @@ fn body_of<'b>(field: &'b Field, part: Part<'b>) -> Option<Body<'b>>
     }
 }
 
+// The number of the field that has a name, of a struct that is no copy.
+fn number_of(acc: &Accepted, base: TypeNo, name: &str) -> Option<usize>
+    requires { base.0 < length acc.now }
+    ensures same { result ≡ option_and_then (part_named name.now) (def_at acc.now base.0) }
+    ensures within { IfSome result (IsPartOf acc.now base.0) }
+{
+    acc.part_named(base, name)
+}
+
 impl<'b> View<'b> {
     ghost use Rattle.ild_view.specs.Parts.{HandsOut, field_named};
     ghost use Rattle.ild_view.specs.View.{IsView, slot_of, table_of};
@@ -50,7 +62,7 @@ impl<'b> View<'b> {
         }
         match struct_in(self.def()) {
             Some(def) => match self.body {
-                Body::Held(piece) => match self.acc.part_named(self.acc.base(self.slot.ty), name) {
+                Body::Held(piece) => match number_of(self.acc, self.acc.base(self.slot.ty), name) {
                     Some(number) => match layer(self.acc, self.slot.ty, piece) {
                         Ok(parts) => {
                             let field = &def.fields.as_slice()[number];
