@@ -187,7 +187,6 @@ drop_past [] (suc i) h = refl
 drop_past (x ∷ xs) zero h = absurd (omega (arith, h))
 drop_past (x ∷ xs) (suc i) h = drop_past xs i (omega (arith, h))
 
-
 pub moved : (rows : List Row) (to : InSlot) (v : View) (k : List ℕ) (r : Option View) → IsPartView rows to v
     → ((f : Value) → IsView v f → HandsOut (table_of v) (part (seen (table_of v) (slot_of v, f)) k) r) → HandsOut rows (part (seen rows to) k) r
 moved rows to v k r h all =

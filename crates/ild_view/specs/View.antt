@@ -12,6 +12,8 @@ use Rattle.ild_view.specs.Body.{BodyStands}
 use Rattle.ild_view.specs.declared.body.Body.{Body}
 use Rattle.ild_view.specs.declared.body.Body.TheVariants as B
 use Rattle.ild_view.specs.declared.view.View.{View}
+use Rattle.ild_walk.specs.declared.fault.ViewErr.{ViewErr}
+use Rattle.ild_walk.specs.Checks.{Faults}
 
 abbrev pub table_of : View → List Row
 table_of v = v.acc.now
@@ -42,3 +44,7 @@ pub record IsView (v : View) (f : Value) : Type 0 where
   pub tree : Data
   pub stands : BodyStands (table_of v) (body_of v) tree
   pub front : Front (table_of v) room (slot_of v) f tree
+
+abbrev pub Views : List Row → ℕ → Slot → Node → Data → Result View ViewErr → Type 0
+Views rows room s n t (Ok v) = IsViewAt rows s (P.Node n) v × ((f : Value) × Front rows room s f t)
+Views rows room s n t (Err e) = Faults rows room s t e

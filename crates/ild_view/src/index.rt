@@ -37,7 +37,13 @@ pub(crate) fn index(segment: &str) -> Option<u64>
     ensures { MatchOption result ((i : ℕ) → index_of segment.now ≡ Some i → 2 ^ 64 ≤ i) (λ i. index_of segment.now ≡ Some i) }
 {
     match number(segment.as_bytes()) {
-        Some(n) => { if is_decimal(segment, n) { Some(n) } else { None } }
+        Some(n) => {
+            if is_decimal(segment, n) {
+                Some(n)
+            } else {
+                None
+            }
+        }
         None => None,
     }
 }

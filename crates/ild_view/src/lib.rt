@@ -3,6 +3,7 @@
 
 mod at;
 mod body;
+mod check;
 mod element;
 mod entry;
 mod field;
@@ -19,5 +20,6 @@ mod scalars;
 mod step;
 mod view;
 
+pub use ild_walk::ViewErr;
 pub use step::{NoPath, Step};
 pub use view::View;
