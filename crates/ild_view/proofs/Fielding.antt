@@ -1,8 +1,8 @@
 -- A field of a struct, and the member of a union, as their readers hand them out.
-use Rattle.std.proofs.Common.{◌≡◌, ◌<◌, ℕ, List, length, get_or, true, false, Option, Some, None, refl, sym, ◌∙◌, ap, subst}
+use Rattle.std.proofs.Common.{◌≡◌, ◌<◌, ℕ, List, length, get_or, true, false, Option, Some, refl, sym, ◌∙◌, ap, subst}
 use Rattle.std.specs.Prelude.{option_and_then, slice_get}
 use Rattle.std.specs.Borrow.{Bor}
-use Rattle.std.proofs.lemmas.Option.{same_Some, none-some}
+use Rattle.std.proofs.lemmas.Option.{same_Some}
 use Rattle.ild_cbor.specs.declared.piece.Piece.{Piece}
 use Rattle.ild_data.specs.Data.{Data}
 use Rattle.ild_piece.specs.Answers.{Layered}
@@ -23,18 +23,17 @@ use Rattle.ild_schema.specs.declared.row.Row.{Row}
 use Rattle.ild_struct.specs.Parts.{HasParts, IsFieldOf, IsPart, fields_of}
 use Rattle.ild_struct.specs.declared.part.Part.{Part}
 use Rattle.ild_struct.specs.declared.parts.StructParts.{StructParts}
-use Rattle.ild_typed.specs.At.{InSlot, seen}
+use Rattle.ild_typed.specs.At.{seen}
 use Rattle.ild_typed.specs.Fits.{Front}
 use Rattle.ild_typed.specs.Layer as L
 use Rattle.ild_typed.specs.Pieces.{is_null_there}
 use Rattle.ild_view.proofs.Handing.{part_view}
-use Rattle.ild_view.proofs.Parting.{Beside, Fronts}
+use Rattle.ild_view.proofs.Parting.{Beside}
 use Rattle.ild_view.proofs.Reading.{got_at, part_low, struct_field, union_member}
 use Rattle.ild_view.specs.Front.{HasFront}
 use Rattle.ild_view.specs.Parts.{HandsOutMember, field_named, member_held}
 use Rattle.ild_view.specs.Safe.{is_safe}
-use Rattle.ild_view.specs.View.{IsView, body_of, slot_of, table_of}
-use Rattle.ild_view.specs.declared.body.Body.{Body}
+use Rattle.ild_view.specs.View.{body_of, slot_of, table_of}
 use Rattle.ild_view.specs.declared.body.Body.TheVariants as B
 use Rattle.ild_view.specs.declared.view.View.{View}
 

@@ -1,11 +1,10 @@
 -- The part of a front beside the data that a block shows for it: elements, entries, fields and members.
-use Rattle.std.proofs.Common.{◌≡◌, ◌<◌, ◌+◌, ℕ, zero, suc, List, [], ◌∷◌, Bool, true, false, cond, length, map, Option, Some, None, option_map, refl, sym, ◌∙◌, ap, subst, arith}
-use Rattle.std.specs.Prelude.{IsSomeAnd, IsUtf8, bytes_eq, option_and_then, slice_get, take}
-use Rattle.std.specs.List.{AllByRecursion, position_from}
+use Rattle.std.proofs.Common.{◌≡◌, ◌+◌, ℕ, zero, suc, List, [], ◌∷◌, Bool, true, false, cond, Option, Some, None, option_map, refl, sym, ◌∙◌, ap, subst, arith}
+use Rattle.std.specs.Prelude.{IsUtf8, bytes_eq, option_and_then, slice_get}
+use Rattle.std.specs.List.{position_from}
 use Rattle.std.proofs.lemmas.Option.{same_Some, none-some}
 use Rattle.ild_cbor.specs.Span.{item_of}
-use Rattle.ild_data.specs.Data as T
-use Rattle.ild_data.specs.Data.{Data, items_list}
+use Rattle.ild_data.specs.Data.{Data}
 use Rattle.ild_data.specs.Key.{same_text, value_at}
 use Rattle.ild_data.specs.Tree.{IsTree}
 use Rattle.ild_data.proofs.Lists.{items_list-items_of}
@@ -17,19 +16,16 @@ use Rattle.ild_schema.specs.Value as V
 use Rattle.ild_schema.specs.Value.{Value, Optionals, optionals_list, pairs_list, values_list}
 use Rattle.ild_schema.specs.declared.def.Field.{Field}
 use Rattle.ild_schema.specs.declared.def.MapForm.{MapForm}
-use Rattle.ild_schema.specs.declared.def.Member.{Member}
 use Rattle.ild_schema.specs.declared.def.StructDef.{StructDef}
 use Rattle.ild_schema.specs.declared.def.TypeDef.{TypeDef}
 use Rattle.ild_schema.specs.declared.def.TypeDef.TheVariants as D
-use Rattle.ild_schema.specs.declared.def.UnionDef.{UnionDef}
 use Rattle.ild_schema.specs.declared.number.Slot.{Slot}
 use Rattle.ild_schema.specs.declared.number.TypeNo.{TypeNo}
 use Rattle.ild_schema.specs.declared.row.Row.{Row}
 use Rattle.ild_typed.specs.At.{InSlot, seen}
-use Rattle.ild_typed.specs.Composed.{composed, map_form}
 use Rattle.ild_typed.specs.Fits.{Front}
 use Rattle.ild_typed.specs.Hamt.{alone}
-use Rattle.ild_typed.specs.Holder.{any_holder, elements, entries, fields, member}
+use Rattle.ild_typed.specs.Holder.{elements}
 use Rattle.ild_typed.specs.Layer as L
 use Rattle.ild_typed.specs.Layers.{FieldsFit, Shows}
 use Rattle.ild_data.specs.Data.{text}
@@ -40,10 +36,10 @@ use Rattle.ild_typed.specs.Segment.{field_at}
 use Rattle.ild_typed.specs.Strings.{members_in}
 use Rattle.ild_typed.proofs.Basics.{map_from}
 use Rattle.ild_typed.proofs.Entries.{both_from}
-use Rattle.ild_view.proofs.Opening.{front_any, front_fits, front_list, front_map, front_struct, front_union, is_hamt}
-use Rattle.ild_view.proofs.Parting.{Beside, Fronts, any_element, any_entry, element_beside, entry_beside, seen_by, seen_list, seen_map, seen_struct, seen_union}
+use Rattle.ild_view.proofs.Opening.{front_any, front_fits, front_list, front_map, front_struct, is_hamt}
+use Rattle.ild_view.proofs.Parting.{Beside, any_element, any_entry, element_beside, entry_beside, seen_by, seen_list, seen_map, seen_struct}
 use Rattle.ild_view.specs.Forms.{element_slot}
-use Rattle.ild_view.specs.Parts.{element_at, entry_at, field_named, member_held}
+use Rattle.ild_view.specs.Parts.{element_at, entry_at, field_named}
 use Rattle.ild_view.specs.Safe.{is_safe}
 use Rattle.std.specs.Cmp.Lexicographic.{same_text as text_same}
 use Rattle.ild_typed.proofs.Entries.{same_text_self}

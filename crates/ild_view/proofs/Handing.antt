@@ -1,18 +1,16 @@
 -- From data that were found for a part to a view that stands for it.
-use Rattle.std.proofs.Common.{◌≡◌, List, Bool, true, false, Option, Some, None, sym, ◌∙◌, ap, subst}
+use Rattle.std.proofs.Common.{◌≡◌, List, Option, Some, None, sym, ◌∙◌, subst}
 use Rattle.ild_data.specs.Data.{Data}
 use Rattle.ild_schema.specs.Value.{Value}
 use Rattle.ild_schema.specs.declared.number.Slot.{Slot}
 use Rattle.ild_schema.specs.declared.row.Row.{Row}
 use Rattle.ild_typed.specs.At.{InSlot}
-use Rattle.ild_typed.specs.Fits.{Fits, Front}
-use Rattle.ild_typed.specs.Hamt.{alone}
-use Rattle.ild_typed.specs.Represented.{represented}
+use Rattle.ild_typed.specs.Fits.{Front}
 use Rattle.ild_view.specs.Body.{BodyStands}
 use Rattle.ild_view.specs.Front.{HasFront}
 use Rattle.ild_view.specs.Itself.{Embodies}
 use Rattle.ild_view.specs.Parts.{HandsOut, IsPartView}
-use Rattle.ild_view.specs.View.{IsView, body_of, slot_of, table_of}
+use Rattle.ild_view.specs.View.{body_of, slot_of, table_of}
 use Rattle.ild_view.specs.declared.body.Body.{Body}
 use Rattle.ild_view.specs.declared.view.View.{View}
 use Rattle.ild_view.proofs.Parting.{Beside, Fronts}

@@ -1,5 +1,5 @@
 -- Indices, as they are read digit by digit.
-use Rattle.std.proofs.Common.{◌≡◌, ◌≤◌, ◌<◌, ◌+◌, ◌*◌, ◌-◌, ◌^◌, ℕ, zero, suc, List, [], ◌∷◌, Bool, true, false, cond, length, get_or, Option, Some, None, refl, sym, ◌∙◌, ap, subst, arith}
+use Rattle.std.proofs.Common.{◌≡◌, ◌≤◌, ◌+◌, ◌*◌, ◌-◌, ◌^◌, ℕ, List, [], ◌∷◌, Bool, true, false, cond, length, get_or, Some, None, sym, ◌∙◌, ap, arith}
 use Rattle.std.specs.Prelude.{decimal}
 use Rattle.std.proofs.lemmas.Option.{same_Some, none-some}
 use Rattle.ild_data.specs.Key.{same_text}

@@ -1,11 +1,10 @@
 -- What a front is, by the form of its type: its own data, or its parts beside theirs.
-use Rattle.std.proofs.Common.{◌≡◌, ℕ, List, [], ◌∷◌, Bool, true, false, not, Option, Some, None, option_map, refl, sym, ◌∙◌, ap, subst}
+use Rattle.std.proofs.Common.{◌≡◌, ℕ, List, Bool, true, false, not, Option, Some, None, refl, sym, ◌∙◌, ap, subst}
 use Rattle.std.specs.Prelude.{IsSomeAnd, ℤ, ◌&&◌, option_and_then, slice_get}
 use Rattle.std.specs.List.{AllByRecursion}
 use Rattle.std.proofs.lemmas.Option.{same_Some, none-some}
 use Rattle.ild_data.specs.Data as T
 use Rattle.ild_data.specs.Data.{Data}
-use Rattle.ild_data.specs.Tree.{IsTree}
 use Rattle.ild_schema.specs.Clear.{IsClear, IsSafe}
 use Rattle.ild_schema.specs.Copies.{base}
 use Rattle.ild_schema.specs.DataKinds.{slot_has}
@@ -24,16 +23,16 @@ use Rattle.ild_schema.specs.declared.def.UnitForm.{UnitForm}
 use Rattle.ild_schema.specs.declared.number.Slot.{Slot}
 use Rattle.ild_schema.specs.declared.number.TypeNo.{TypeNo}
 use Rattle.ild_schema.specs.declared.row.Row.{Row}
-use Rattle.ild_typed.specs.Composed.{any_data, composed, enum_form, map_form, struct_form, union_form, unit_data, usual}
+use Rattle.ild_typed.specs.Composed.{any_data, composed, enum_form, map_form, struct_form, union_form, unit_data}
 use Rattle.ild_typed.specs.Fits.{Front}
 use Rattle.ild_typed.specs.Hamt.{a_map, alone}
 use Rattle.ild_typed.specs.Layer as L
 use Rattle.ild_typed.specs.Layer.{Layer, as_any, as_boolean, as_bytes, as_enum, as_hamt, as_integer, as_link, as_list, as_map, as_struct, as_text, as_union, as_unit}
-use Rattle.ild_typed.specs.Layers.{EntriesFit, FieldsFit, IsNotNull, LayerFits, MapFits, RootFits, layer_of}
+use Rattle.ild_typed.specs.Layers.{EntriesFit, FieldsFit, LayerFits, RootFits, layer_of}
 use Rattle.ild_typed.specs.OfType.{OfType}
 use Rattle.ild_typed.specs.Pieces.{is_null_there}
 use Rattle.ild_typed.specs.Represented.{represented, represented_fields, represented_pairs, represented_values}
-use Rattle.ild_typed.specs.Slots.{element_of, fields_of, member_of}
+use Rattle.ild_typed.specs.Slots.{member_of}
 use Rattle.ild_typed.specs.Strings.{listpairs, map_data, stringpairs}
 use Rattle.ild_typed.proofs.Basics.{map_from, then_from}
 use Rattle.ild_typed.proofs.Composing.{alone_tells, composed_tells}
@@ -41,7 +40,7 @@ use Rattle.ild_typed.proofs.FormOf.{entries_there, hamt_there}
 use Rattle.ild_typed.proofs.OfKinds.{alone_kind, composed_kind}
 use Rattle.ild_typed.proofs.OneLayer.{in_layer}
 use Rattle.ild_typed.proofs.OneValue.{Way, as_layer, as_null, layer_data, list_in, list_value, map_in, map_value, scalar_of, scalar_value, struct_in, struct_value, union_in, union_value, unsafe, way_of}
-use Rattle.ild_typed.proofs.Onlies.{only_any, only_boolean, only_bytes, only_enum, only_hamt, only_integer, only_link, only_list, only_map, only_struct, only_text, only_union, only_unit}
+use Rattle.ild_typed.proofs.Onlies.{only_any, only_boolean, only_bytes, only_enum, only_hamt, only_integer, only_link, only_map, only_text, only_unit}
 use Rattle.ild_typed.proofs.PartData.{member_data}
 use Rattle.ild_view.specs.Itself.{is_plain, itself}
 use Rattle.ild_view.specs.Safe.{is_safe}

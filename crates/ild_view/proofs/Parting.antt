@@ -1,6 +1,6 @@
 -- The parts of a front beside those of its data.
 use Rattle.std.proofs.Common.{◌≡◌, ◌<◌, ℕ, zero, suc, List, [], ◌∷◌, Bool, true, false, cond, length, Option, Some, None, option_map, refl, sym, ◌∙◌, ap, subst, arith}
-use Rattle.std.specs.Prelude.{IsSomeAnd, IsTrue, IsUtf8, option_and_then, slice_get, take}
+use Rattle.std.specs.Prelude.{option_and_then, slice_get, take}
 use Rattle.std.specs.List.{AllByRecursion}
 use Rattle.std.proofs.lemmas.Option.{same_Some, none-some}
 use Rattle.ild_cbor.specs.Span.{item_of}
@@ -8,16 +8,14 @@ use Rattle.ild_data.specs.Data as T
 use Rattle.ild_data.specs.Data.{Data, Items, Members, items_list, members_list}
 use Rattle.ild_data.specs.Key.{same_text, value_at}
 use Rattle.ild_data.specs.Tree.{AreEntries, AreTrees, IsTree}
-use Rattle.ild_data.proofs.Lists.{items_list-items_of}
 use Rattle.ild_schema.specs.Clear.{IsClear, IsSafe}
 use Rattle.ild_schema.specs.Copies.{followed}
 use Rattle.ild_schema.specs.DataKinds.{kind_in}
 use Rattle.ild_schema.specs.Prelude.{anything, prelude}
 use Rattle.ild_schema.specs.Rows.{def_at}
-use Rattle.ild_schema.specs.Slots.{form_of, plainly}
+use Rattle.ild_schema.specs.Slots.{form_of}
 use Rattle.ild_schema.specs.Value as V
 use Rattle.ild_schema.specs.Value.{Value, Values, Pairs, Optionals, values_list, pairs_list, optionals_list}
-use Rattle.ild_schema.specs.declared.def.Field.{Field}
 use Rattle.ild_schema.specs.declared.def.KindWord.TheVariants as K
 use Rattle.ild_schema.specs.declared.def.MapForm.{MapForm}
 use Rattle.ild_schema.specs.declared.def.MapForm.TheVariants as MF
@@ -29,12 +27,11 @@ use Rattle.ild_schema.specs.declared.number.Slot.{Slot}
 use Rattle.ild_schema.specs.declared.number.TypeNo.{TypeNo}
 use Rattle.ild_schema.specs.declared.row.Row.{Row}
 use Rattle.ild_typed.specs.At.{InSlot, seen}
-use Rattle.ild_typed.specs.Composed.{composed}
 use Rattle.ild_typed.specs.Fits.{Front}
 use Rattle.ild_typed.specs.Hamt.{alone}
-use Rattle.ild_typed.specs.Holder.{Holder, any_elements, any_entries, any_holder, elements, entries, fields, holder_of, is_paired, list_holder, map_holder, member, nothing, of_any, struct_holder, union_holder}
+use Rattle.ild_typed.specs.Holder.{any_holder, elements, entries, fields, holder_of, is_paired, list_holder, map_holder, member, nothing, of_any, struct_holder, union_holder}
 use Rattle.ild_typed.specs.Layer as L
-use Rattle.ild_typed.specs.Layers.{EntriesFit, IsNotNull}
+use Rattle.ild_typed.specs.Layers.{IsNotNull}
 use Rattle.ild_typed.specs.OfType.{OfType}
 use Rattle.ild_typed.specs.Pieces.{is_null_there}
 use Rattle.ild_typed.specs.Represented.{layered, represented, represented_pairs, represented_values}
@@ -42,9 +39,9 @@ use Rattle.ild_typed.specs.Strings.{members_in}
 use Rattle.ild_typed.proofs.Basics.{map_from}
 use Rattle.ild_typed.proofs.Entries.{both_from}
 use Rattle.ild_typed.proofs.OneLayer.{of_layer, of_null}
-use Rattle.ild_view.proofs.Opening.{front_any, front_bytes, front_boolean, front_enum, front_fits, front_hamt, front_integer, front_layer, front_link, front_list, front_map, front_null, front_struct, front_text, front_union, front_unit, is_hamt}
+use Rattle.ild_view.proofs.Opening.{front_any, front_bytes, front_boolean, front_enum, front_hamt, front_integer, front_layer, front_link, front_list, front_map, front_null, front_struct, front_text, front_union, front_unit, is_hamt}
 use Rattle.ild_view.specs.Forms.{element_slot, entry_slot}
-use Rattle.ild_view.specs.Parts.{element_at, entry_at, field_named, member_held}
+use Rattle.ild_view.specs.Parts.{element_at, entry_at}
 use Rattle.ild_view.specs.Safe.{is_safe}
 
 -- ---- the type of data inside an Any

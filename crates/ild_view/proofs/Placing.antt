@@ -1,17 +1,15 @@
 -- What a view of a part needs: its type is in the table, null stands for null alone, and what is passed over is known.
-use Rattle.std.proofs.Common.{◌≡◌, ◌<◌, ◌≤◌, ◌||◌, ℕ, zero, suc, List, [], ◌∷◌, Bool, true, false, not, length, map, Option, Some, None, refl, sym, ◌∙◌, ap, subst, arith}
+use Rattle.std.proofs.Common.{◌≡◌, ◌<◌, ◌≤◌, ◌||◌, ℕ, zero, suc, List, [], ◌∷◌, Bool, true, false, not, length, map, Some, refl, sym, ◌∙◌, ap, subst, arith}
 use Rattle.std.specs.Prelude.{is_some, option_and_then, slice_get}
 use Rattle.std.specs.Option.{option_map_or}
 use Rattle.std.specs.List.{All, AllByRecursion}
 use Rattle.std.proofs.lemmas.Option.{same_Some, none-some}
 use Rattle.ild_cbor.specs.declared.piece.Piece.{Piece}
 use Rattle.ild_cbor.specs.declared.piece.Piece.TheVariants as Q
-use Rattle.ild_data.specs.Data.{Data}
 use Rattle.ild_piece.specs.Pieces.{IsNumbered, form_key, inline_key, passed_key}
 use Rattle.ild_schema.specs.Clear.{IsSafe}
 use Rattle.ild_schema.specs.Copies.{base}
 use Rattle.ild_schema.specs.Fitting.{ImplicitFits}
-use Rattle.ild_schema.specs.Kinds.{meant}
 use Rattle.ild_schema.specs.Legible.{IsLegible}
 use Rattle.ild_schema.specs.Made.{MadeMember}
 use Rattle.ild_schema.specs.Prelude.{anything}
@@ -30,8 +28,8 @@ use Rattle.ild_schema.specs.declared.number.Slot.{Slot}
 use Rattle.ild_schema.specs.declared.number.TypeNo.{TypeNo}
 use Rattle.ild_schema.specs.declared.row.Row.{Row}
 use Rattle.ild_struct.specs.Source.{types_of}
-use Rattle.ild_typed.proofs.OneValue.{element_safe, fields_safe, plain_safe}
-use Rattle.ild_union.specs.Forms.{IsPassedBy, IsPassedOnce, passes_over}
+use Rattle.ild_typed.proofs.OneValue.{element_safe, plain_safe}
+use Rattle.ild_union.specs.Forms.{IsPassedBy, passes_over}
 use Rattle.ild_view.proofs.Opening.{is_safe_where}
 use Rattle.ild_view.proofs.Parting.{any_low, any_safe, any_there}
 use Rattle.ild_view.specs.Body.{body_types, is_free, is_placed, is_struct}

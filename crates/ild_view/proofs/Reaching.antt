@@ -3,12 +3,12 @@ use Rattle.std.proofs.Common.{◌≡◌, ◌<◌, ◌≤◌, ◌+◌, ◌^◌, �
 use Rattle.std.specs.Prelude.{option_and_then, slice_get, Ok, Err}
 use Rattle.std.specs.Option.{option_map_or}
 use Rattle.std.specs.Borrow.{Bor}
-use Rattle.std.proofs.lemmas.Option.{same_Some, none-some}
+use Rattle.std.proofs.lemmas.Option.{none-some}
 use Rattle.ild_cbor.specs.Span.{item_of}
 use Rattle.ild_cbor.specs.declared.piece.Piece.TheVariants as Q
 use Rattle.ild_data.specs.Data as T
 use Rattle.ild_data.specs.Data.{Data, Items, items_list}
-use Rattle.ild_data.specs.Key.{same_text, value_at}
+use Rattle.ild_data.specs.Key.{same_text}
 use Rattle.ild_data.specs.Spell.{head, spell, spell_items}
 use Rattle.ild_data.proofs.Sizes.{items_count}
 use Rattle.ild_node.specs.declared.view.NodeView.{NodeView}
@@ -24,7 +24,7 @@ use Rattle.ild_schema.specs.declared.def.TypeDef.{TypeDef}
 use Rattle.ild_schema.specs.declared.def.TypeDef.TheVariants as D
 use Rattle.ild_schema.specs.declared.number.Slot.{Slot}
 use Rattle.ild_schema.specs.declared.row.Row.{Row}
-use Rattle.ild_typed.specs.At.{InSlot, Reach, enter, here, no_path, or_enter, reached, seen}
+use Rattle.ild_typed.specs.At.{InSlot, Reach, enter, no_path, or_enter, reached, seen}
 use Rattle.ild_typed.specs.Fields.{is_scalar}
 use Rattle.ild_typed.specs.Fits.{Front}
 use Rattle.ild_typed.specs.Hamt.{alone}

@@ -4,7 +4,6 @@ use Rattle.std.specs.Prelude.{IfSome, IsSomeAnd, option_and_then, slice_get}
 use Rattle.std.specs.Option.{option_map_or}
 use Rattle.std.proofs.lemmas.Option.{same_Some, none-some}
 use Rattle.ild_cbor.specs.declared.piece.Piece.{Piece}
-use Rattle.ild_cbor.specs.declared.piece.Piece.TheVariants as Q
 use Rattle.ild_cbor.specs.declared.why.Why.{Why}
 use Rattle.ild_data.specs.Data.{Data}
 use Rattle.ild_data.specs.Trie.{TrieSlot}
@@ -23,7 +22,6 @@ use Rattle.ild_schema.specs.Value.{Value}
 use Rattle.ild_schema.specs.declared.def.EnumDef.{EnumDef}
 use Rattle.ild_schema.specs.declared.def.EnumMember.{EnumMember}
 use Rattle.ild_schema.specs.declared.def.Field.{Field}
-use Rattle.ild_schema.specs.declared.def.MapForm.{MapForm}
 use Rattle.ild_schema.specs.declared.def.MapForm.TheVariants as MF
 use Rattle.ild_schema.specs.declared.def.Member.{Member}
 use Rattle.ild_schema.specs.declared.def.Scalar.{Scalar}
@@ -34,7 +32,7 @@ use Rattle.ild_schema.specs.declared.def.TypeDef.TheVariants as D
 use Rattle.ild_schema.specs.declared.def.UnionDef.{UnionDef}
 use Rattle.ild_schema.specs.declared.number.Slot.{Slot}
 use Rattle.ild_schema.specs.declared.row.Row.{Row}
-use Rattle.ild_typed.specs.At.{InSlot, seen}
+use Rattle.ild_typed.specs.At.{seen}
 use Rattle.ild_typed.specs.Causes.{why_of}
 use Rattle.ild_typed.specs.Composed.{composed, usual}
 use Rattle.ild_typed.specs.Fits.{Front}
@@ -44,7 +42,7 @@ use Rattle.ild_typed.specs.Layer.{Layer, as_struct, as_union}
 use Rattle.ild_typed.specs.Node.{IsRoot}
 use Rattle.ild_typed.specs.OfType.{OfType}
 use Rattle.ild_typed.specs.Pieces.{is_null_there}
-use Rattle.ild_typed.specs.Slots.{enum_member_at, slot_of}
+use Rattle.ild_typed.specs.Slots.{slot_of}
 use Rattle.ild_typed.proofs.CleanTypes.{layer_or_why}
 use Rattle.ild_typed.proofs.Composing.{alone_tells, composed_tells}
 use Rattle.ild_typed.proofs.OneValue.{scalar_of, scalar_value}

@@ -1,5 +1,5 @@
 -- Values that are data by themselves: null, scalars, and what an Any is.
-use Rattle.std.specs.Prelude.{◌≡◌, Bool, true, false, List, Option, Some, None}
+use Rattle.std.specs.Prelude.{Bool, true, false, List, Option, Some, None}
 use Rattle.ild_data.specs.Data as T
 use Rattle.ild_data.specs.Data.{Data}
 use Rattle.ild_schema.specs.Value as V

@@ -1,5 +1,5 @@
 -- The name of the member that an enum is.
-use Rattle.std.specs.Prelude.{ℕ, List, Option, Some, None, option_map}
+use Rattle.std.specs.Prelude.{ℕ, List, Option, None, option_map}
 use Rattle.ild_schema.specs.Value as V
 use Rattle.ild_schema.specs.Value.{Value}
 use Rattle.ild_schema.specs.declared.def.TypeDef.{TypeDef}

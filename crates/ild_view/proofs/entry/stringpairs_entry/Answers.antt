@@ -1,4 +1,4 @@
-use Rattle.std.proofs.Common.{◌≡◌, Some, None, refl, sym, ◌∙◌, ap, subst}
+use Rattle.std.proofs.Common.{Some, None, refl, sym, ◌∙◌, ap, subst}
 use Rattle.std.proofs.Common.{option_map}
 use Rattle.ild_data.specs.Data as T
 use Rattle.ild_struct.proofs.Splitting.{only_text}

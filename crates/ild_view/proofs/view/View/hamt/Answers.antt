@@ -1,4 +1,4 @@
-use Rattle.std.proofs.Common.{◌≡◌, sym, ◌∙◌, ap, subst}
+use Rattle.std.proofs.Common.{sym, ◌∙◌, subst}
 use Rattle.ild_view.proofs.Reading.{root_front}
 use Rattle.ild_view.specs.Roots.{RootIs}
 use Rattle.ild_view.proofs.view.View.hamt.Goals as goal

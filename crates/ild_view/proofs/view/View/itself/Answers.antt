@@ -1,4 +1,4 @@
-use Rattle.std.proofs.Common.{◌≡◌, true, Some, sym, ◌∙◌, subst}
+use Rattle.std.proofs.Common.{Some, sym, ◌∙◌, subst}
 use Rattle.ild_view.proofs.Opening.{itself_null, itself_plain}
 use Rattle.ild_view.specs.Itself.{Embodies}
 use Rattle.ild_view.proofs.view.View.itself.Goals as goal

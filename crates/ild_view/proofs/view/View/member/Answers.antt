@@ -1,13 +1,10 @@
-use Rattle.std.proofs.Common.{◌≡◌, List, length, true, Some, None, sym, ◌∙◌, ap, subst}
+use Rattle.std.proofs.Common.{◌≡◌, length, true, Some, None, sym, ◌∙◌, ap, subst}
 use Rattle.std.specs.Prelude.{slice_get}
 use Rattle.std.proofs.Math.Logic.{∥∥₁_map}
-use Rattle.ild_schema.specs.Copies.{base}
 use Rattle.ild_schema.specs.Slots.{form_of}
 use Rattle.ild_schema.specs.Table.{IsWithin}
-use Rattle.ild_schema.specs.declared.def.Member.{Member}
 use Rattle.ild_schema.specs.declared.def.TypeDef.{TypeDef}
 use Rattle.ild_schema.specs.declared.def.TypeDef.TheVariants as D
-use Rattle.ild_typed.specs.At.{seen}
 use Rattle.ild_view.proofs.Fielding.{member_front, member_indexed, member_out}
 use Rattle.ild_view.proofs.Parting.{seen_null}
 use Rattle.ild_view.proofs.Placing.{member_in, member_placed}
