@@ -1,0 +1,10 @@
+mod Opening
+mod Parting
+mod Finding
+mod Handing
+mod Mapped
+mod Placing
+mod Reading
+mod Fielding
+mod Reaching
+mod Indexing

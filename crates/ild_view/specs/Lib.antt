@@ -1,2 +1,10 @@
+pub mod Body
+pub mod Forms
 pub mod Front
+pub mod Itself
+pub mod Names
+pub mod Parts
+pub mod Reaches
+pub mod Roots
+pub mod Safe
 pub mod View

@@ -1,8 +1,10 @@
 //! The check of an item against a slot.
-ghost use Rattle.std.specs.Prelude.{◌<◌, length};
+ghost use Rattle.std.specs.Prelude.{◌≡◌, ◌<◌, length, true};
 ghost use Rattle.ild_cbor.specs.Nodes.{Stands};
 ghost use Rattle.ild_data.specs.Data.{Data};
+ghost use Rattle.ild_view.specs.Safe.{is_safe};
 
+use crate::body::Body;
 use crate::view::View;
 use ild_cbor::{Node, Piece};
 use ild_schema::{Accepted, Slot};
@@ -15,7 +17,7 @@ impl<'b> View<'b> {
     /// The view of an item at a slot, in a room: how many levels its value may nest. The answer is `Shape` exactly where
     /// the item has no front of the slot that fits in the room, with the first piece that is refused on a walk of the data:
     /// a piece before its parts, and parts in order. Of a HAMT the root is checked, and the keys and values of the buckets
-    /// in this block.
+    /// in this block. Where null may stand in the slot, it is no value of the slot's type.
     pub fn check(
         alloc: Global,
         acc: &'b Accepted,
@@ -23,14 +25,17 @@ impl<'b> View<'b> {
         node: Node<'b>,
         room: u32,
     ) -> Result<View<'b>, ViewErr>
-        requires { slot.ty.0 < length acc.now }
+        requires within { slot.ty.0 < length acc.now }
+        requires safe { is_safe acc.now slot ≡ true }
         ensures { (t : Data) → Stands node.entry t → Views acc.now room slot node.entry t result }
     {
-        check_item(alloc, acc, slot, node, room)?;
-        Ok(View {
-            acc,
-            slot,
-            piece: Piece::Node(node),
-        })
+        match check_item(alloc, acc, slot, node, room) {
+            Ok(()) => Ok(View {
+                acc,
+                slot,
+                body: Body::Held(Piece::Node(node)),
+            }),
+            Err(fault) => Err(fault),
+        }
     }
 }

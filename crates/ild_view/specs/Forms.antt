@@ -1,0 +1,63 @@
+-- What a type's form says of its parts.
+use Rattle.std.specs.Prelude.{◌≡◌, ◌<◌, ℕ, Bool, true, false, List, [], Option, Some, None, length}
+use Rattle.ild_data.specs.Data.{Data}
+use Rattle.ild_schema.specs.Prelude.{anything}
+use Rattle.ild_schema.specs.declared.def.EnumDef.{EnumDef}
+use Rattle.ild_schema.specs.declared.def.MapForm.{MapForm}
+use Rattle.ild_schema.specs.declared.def.MapForm.TheVariants as MF
+use Rattle.ild_schema.specs.declared.def.StructDef.{StructDef}
+use Rattle.ild_schema.specs.declared.def.TypeDef.{TypeDef}
+use Rattle.ild_schema.specs.declared.def.TypeDef.TheVariants as D
+use Rattle.ild_schema.specs.declared.def.UnionDef.{UnionDef}
+use Rattle.ild_schema.specs.declared.number.Slot.{Slot}
+use Rattle.ild_typed.specs.Strings.{listpairs, members_in, stringpairs}
+
+-- of the elements of a list
+abbrev pub element_slot : TypeDef → Option Slot
+element_slot (D.List elem at) = Some elem
+element_slot D.Any = Some anything
+element_slot d = None
+
+-- of the entries of a map, which a block shows
+abbrev pub shown_slot : Slot → MapForm → Option Slot
+shown_slot value MF.Map = Some value
+shown_slot value MF.ListPairs = Some value
+shown_slot value (MF.StringPairs inner entry) = Some value
+shown_slot value MF.Hamt = None
+
+abbrev pub entry_slot : TypeDef → Option Slot
+entry_slot (D.Map key key_at value at form) = shown_slot value form
+entry_slot D.Any = Some anything
+entry_slot d = None
+
+abbrev pub struct_in : TypeDef → Option StructDef
+struct_in (D.Struct s) = Some s
+struct_in d = None
+
+abbrev pub union_in : TypeDef → Option UnionDef
+union_in (D.Union u) = Some u
+union_in d = None
+
+abbrev pub enum_in : TypeDef → Option EnumDef
+enum_in (D.Enum e) = Some e
+enum_in d = None
+
+abbrev pub is_hamt_form : MapForm → Bool
+is_hamt_form MF.Hamt = true
+is_hamt_form form = false
+
+abbrev pub is_hamt : TypeDef → Bool
+is_hamt (D.Map key key_at value at form) = is_hamt_form form
+is_hamt d = false
+
+-- the delimiters of pairs are given
+abbrev pub MapDelims : MapForm → Type 0
+MapDelims (MF.StringPairs inner entry) = (0 < length inner) × (0 < length entry)
+MapDelims form = Unit {0}
+
+-- the entries that data show, in each form of a map: of a HAMT none are looked for
+abbrev pub ShowsMap : MapForm → List (List ℕ × Data) → Data → Type 0
+ShowsMap MF.Map es t = members_in t ≡ Some es
+ShowsMap MF.ListPairs es t = t ≡ listpairs es
+ShowsMap (MF.StringPairs inner entry) es t = stringpairs inner entry es ≡ Some t
+ShowsMap MF.Hamt es t = es ≡ []

@@ -1,0 +1,52 @@
+//! Roots of HAMTs.
+ghost use Rattle.std.specs.Prelude.{◌≡◌, List, true};
+ghost use Rattle.ild_data.specs.Data.{Data};
+ghost use Rattle.ild_data.specs.Trie.{TrieSlot};
+ghost use Rattle.ild_schema.specs.Value.{Value};
+ghost use Rattle.ild_schema.specs.declared.row.Row.{Row};
+ghost use Rattle.ild_typed.specs.Composed.{usual};
+ghost use Rattle.ild_typed.specs.Node.{IsRoot};
+ghost use Rattle.ild_view.specs.Body.{BodyStands, is_free};
+ghost use Rattle.ild_view.specs.Roots.{RootIs, root_in};
+
+use crate::body::Body;
+use crate::form::is_hamt;
+use crate::view::View;
+use ild_cbor::Piece;
+use ild_node::{NodeView, root_of};
+
+// The node of a root.
+fn node_of<'b>(body: &Body<'b>) -> Option<NodeView<'b>>
+    ensures { (rows : List Row) (slots : List TrieSlot) (t : Data) → is_free body.now ≡ true → BodyStands rows body.now t → IsRoot usual slots t → RootIs (Some t) result }
+{
+    match body {
+        Body::Held(piece) => match piece {
+            Piece::Node(node) => match root_of(*node) {
+                Ok(view) => Some(view),
+                Err(_) => None,
+            },
+            Piece::Text(_) | Piece::Bytes(_) | Piece::Inline(_, _) => None,
+        },
+        Body::Implicit(_) => None,
+    }
+}
+
+impl<'b> View<'b> {
+    ghost use Rattle.ild_view.specs.View.{IsView};
+
+    /// The root node of a map that is a HAMT, or `None` where the value is none.
+    pub fn hamt(&self) -> Option<NodeView<'b>>
+        ensures { (f : Value) → IsView self.now f → RootIs (root_in f) result }
+    {
+        // It does no work: its clauses say what acceptance says of the table.
+        let _types = self.acc.types();
+        if self.is_null_there() {
+            return None;
+        }
+        if is_hamt(self.def()) {
+            node_of(&self.body)
+        } else {
+            None
+        }
+    }
+}
