@@ -1,5 +1,7 @@
 pub mod Opening
 pub mod Stepping
+pub mod OneNode
+pub mod Spending
 pub mod Placed
 pub mod Keeping
 pub mod Walking

@@ -24,6 +24,7 @@ use Rattle.ild_walker.proofs.Opening.{root-on, root-off}
 use Rattle.ild_walker.proofs.Walking.{unchanged-same}
 use Rattle.ild_walker.specs.Standing.{IsOn, IsBroken, KeepsOn, RowStands}
 use Rattle.ild_walker.proofs.Keeping.{StaysOn, FaultOn, keeps-more, few-keeps, stray-keeps, taken-keeps, taken-row, memory-keeps, broken-since}
+use Rattle.ild_walker.proofs.Spending.{Passes, passes-itself, spends-none, spends-more, taken-passes}
 use Rattle.ild_walker.specs.declared.row.Row.{Row}
 use Rattle.ild_walker.specs.declared.step.Child.{Child}
 use Rattle.ild_walker.specs.declared.walker.Walker.{Walker}
@@ -67,6 +68,7 @@ enters-more a b c m n o u v w r small le x y = record {
   short = y.short;
   only = only-more a b c m n o x.only y.only le;
   on = λ h. keeps-more h m.blocks m.lacks n.lacks o.lacks u v w r x.only.later.lacks (λ root at on. (x.on h root at on).0) (subst (λ told. KeepsOn h told n.lacks o.lacks v r w) x.only.blocks (y.on h));
+  reads = λ held told. spends-more held m.gets n.gets o.gets u v w r (x.reads held told) (y.reads held (x.only.blocks ∙ told));
 }
   where
     failed : (e : HamtFault) → IsCause n e o × NothingTold n v → IsCause m e o × NothingTold m u
@@ -83,7 +85,7 @@ enters-more a b c m n o u v w r small le x y = record {
     by (Err F.NoKey) p = failed F.NoKey p
 
 pub enters-most : (a c : ℕ) (m n : Moment) (u w : Walker) (r : Result (Unit {0}) HamtFault) → a ≤ c → Enters a m u r w n → Enters c m u r w n
-enters-most a c m n u w r le x = record { answer = x.answer; same = x.same; given = x.given; short = x.short; only = only-most a c m n x.only le; on = x.on }
+enters-most a c m n u w r le x = record { answer = x.answer; same = x.same; given = x.given; short = x.short; only = only-most a c m n x.only le; on = x.on; reads = x.reads }
 
 -- ---- giving
 
@@ -106,6 +108,7 @@ taken h v w g (Ok (Some row)) fit t = record {
   path = t.path;
   on = λ told lacks. taken-keeps h told lacks v w row t;
   row = λ told. taken-row told v w row t;
+  reads = λ held gets. taken-passes held gets v w row t;
 }
   where
     heads : give g.key g.value g.index ∷ g.rest ≡ give row.key t.value t.index ∷ t.rest
@@ -122,7 +125,7 @@ taken h v w g (Ok (Some row)) fit t = record {
     back held rest s = subst (λ ts. StillGives h usual held ts (walker_path v) (v.given + 1) rest) t.todo
         (subst (λ q. StillGives h usual held (walker_todo w) q (v.given + 1) rest) t.path (subst (λ n. StillGives h usual held (walker_todo w) (walker_path w) n rest) t.given s))
 taken h v w g (Ok None) fit t = absurd t
-taken h v w g (Err F.Memory) fit t = record { answer = t; counts = tt; path = t.path; on = λ told lacks. memory-keeps h told lacks lacks v w t; row = λ told. tt }
+taken h v w g (Err F.Memory) fit t = record { answer = t; counts = tt; path = t.path; on = λ told lacks. memory-keeps h told lacks lacks v w t; row = λ told. tt; reads = λ held gets. spends-none held gets v }
 taken h v w g (Err F.Exhausted) fit t = absurd t
 taken h v w g (Err (F.Block id why)) fit t = absurd t
 taken h v w g (Err F.Store) fit t = absurd t
@@ -143,11 +146,12 @@ gives-end h v none = record {
   path = refl;
   on = λ told lacks root at on. (on, tt);
   row = λ told. tt;
+  reads = λ held gets. passes-itself held gets v;
 }
 
 pub gives-misfit : (h : List ℕ → List ℕ) (v : Walker) (k : List ℕ) (d : Data) (i : ℕ) (rest : List Todo) (e : HamtFault) → walker_todo v ≡ give k d i ∷ rest → fits h usual (walker_path v) i k ≡ false → IsTrieFault e → IsFaultAt (walker_here v) e → Gives h v (Err e) v
 gives-misfit h v k d i rest e is misfit fault here =
-    record { answer = by e fault; counts = tt; path = refl; on = λ told lacks. stray-keeps h told lacks v k d i rest e is misfit fault here; row = λ told. tt }
+    record { answer = by e fault; counts = tt; path = refl; on = λ told lacks. stray-keeps h told lacks v k d i rest e is misfit fault here; row = λ told. tt; reads = λ held gets. spends-none held gets v }
   where
     none : (held : List (List ℕ)) (es : List (List ℕ × Data)) → StillAhead h held v es → ⊥
     none held es a = let s = subst (λ ts. StillGives h usual held ts (walker_path v) v.given es) is a.gives in false≢true (sym misfit ∙ s.2)
@@ -164,7 +168,7 @@ gives-misfit h v k d i rest e is misfit fault here =
 -- a node of which nothing was given
 pub gives-leave : (h : List ℕ → List ℕ) (v : Walker) (before : ℕ) (rest : List Todo) (e : HamtFault) → walker_todo v ≡ leave before ∷ rest → IsReady v.given (walker_todo v) → IsTrieFault e → IsFaultAt (walker_here v) e → Gives h v (Err e) v
 gives-leave h v before rest e is ready fault here =
-    record { answer = by e fault; counts = tt; path = refl; on = λ told lacks. few-keeps h told lacks v before rest e is few fault here; row = λ told. tt }
+    record { answer = by e fault; counts = tt; path = refl; on = λ told lacks. few-keeps h told lacks v before rest e is few fault here; row = λ told. tt; reads = λ held gets. spends-none held gets v }
   where
     none : (held : List (List ℕ)) (es : List (List ℕ × Data)) → StillAhead h held v es → ⊥
     none held es a =
@@ -231,6 +235,7 @@ next-deep h m v e deep fault = record {
   only = no-gets m;
   on = λ root at on. absurd (let short = on.short in let seen = length-map v.path.items (λ (d : Child). d.index) in omega arith);
   row = tt;
+  reads = λ held told. spends-none held m.gets v;
 }
 
 pub next-left : (h : List ℕ → List ℕ) (m : Moment) (u v : Walker) (e : HamtFault) → length (walker_path u) < trie_levels usual → Leaves u (Err e) v → Nexts h m u (Err e) v m
@@ -241,13 +246,14 @@ next-left h m u v e short l = record {
   only = no-gets m;
   on = λ root at on. l.on h m.blocks m.lacks root at on;
   row = tt;
+  reads = λ held told. spends-none held m.gets u;
 }
 
 told-of : (u v : Walker) (m : Moment) → Leaves u (Ok tt) v → SameTold m u v
 told-of u v m l = λ h held es told. l.same h held es
 
 pub next-entered : (h : List ℕ → List ℕ) (m n : Moment) (u v w : Walker) (e : HamtFault) → length (walker_path u) < trie_levels usual → Leaves u (Ok tt) v → Enters (trie_levels usual) m v (Err e) w n → Nexts h m u (Err e) w n
-next-entered h m n u v w e short l x = record { answer = by e x.answer; counts = tt; only = x.only; on = keeps; row = tt }
+next-entered h m n u v w e short l x = record { answer = by e x.answer; counts = tt; only = x.only; on = keeps; row = tt; reads = λ held told many nodes. let p = l.reads held m.gets many nodes in let q = x.reads held told p.left p.nodes in let one = p.gets in omega arith }
   where
     keeps : FaultOn h m.blocks m.lacks n.lacks u e w
     keeps = λ root at on. let p = x.on h root at (l.on h m.blocks m.lacks root at on).0 in (p.0, p.1)
@@ -268,10 +274,13 @@ next-entered h m n u v w e short l x = record { answer = by e x.answer; counts =
     by F.NoKey p = failed F.NoKey p
 
 pub next-given : (h : List ℕ → List ℕ) (m n : Moment) (u v w x : Walker) (r : Result (Option Row) HamtFault) → length (walker_path u) < trie_levels usual → Leaves u (Ok tt) v → Enters (trie_levels usual) m v (Ok tt) w n → Gives h w r x → Nexts h m u r x n
-next-given h m n u v w x r short l e g = record { answer = by r g.answer; counts = counted r g.counts; only = e.only; on = keeps-more h m.blocks m.lacks n.lacks n.lacks u w x r e.only.later.lacks begins (g.on m.blocks n.lacks); row = stands r (g.row m.blocks) }
+next-given h m n u v w x r short l e g = record { answer = by r g.answer; counts = counted r g.counts; only = e.only; on = keeps-more h m.blocks m.lacks n.lacks n.lacks u w x r e.only.later.lacks begins (g.on m.blocks n.lacks); row = stands r (g.row m.blocks); reads = λ held told. spends-more held m.gets n.gets n.gets u w x r (λ many nodes. both held told many nodes) (g.reads held n.gets) }
   where
     begins : StaysOn m.blocks u w
     begins = λ root at on. (e.on h root at (l.on h m.blocks m.lacks root at on).0).0
+
+    both : (held : List (List ℕ)) → m.blocks ≡ Some held → Passes held m.gets n.gets u w
+    both held told = spends-more held m.gets m.gets n.gets u v w (Ok (tt {0})) (l.reads held m.gets) (e.reads held told)
 
     stands : (r : Result (Option Row) HamtFault) → RowStands m.blocks w r → RowStands m.blocks u r
     stands (Ok (Some row)) s = λ root at on. s root at (begins root at on)

@@ -5,7 +5,7 @@ use Rattle.std.specs.Global.{Vec}
 use Rattle.std.proofs.lemmas.List.{map-append, reverse-append, length-append, length-map}
 use Rattle.std.proofs.lemmas.Bool.{false≢true}
 use Rattle.std.proofs.lemmas.Option.{same_Some}
-use Rattle.ild_cbor.proofs.Blocks.{one_spelling_within, block_again}
+use Rattle.ild_cbor.proofs.Blocks.{block_again}
 use Rattle.ild_cbor.specs.Reading.{fault_of}
 use Rattle.ild_cbor.specs.declared.why.BlockWhy.{BlockWhy}
 use Rattle.ild_cbor.specs.declared.why.BlockWhy.TheVariants.{Missing, Cbor, Shape as NoNode}
@@ -16,8 +16,6 @@ use Rattle.ild_data.specs.Trie.{TrieSlot, node_data, empty, bucket, child}
 use Rattle.ild_data.specs.TrieShape.{trie_levels}
 use Rattle.ild_edges.specs.Store.{Moment, block_at}
 use Rattle.ild_typed.specs.Composed.{usual}
-use Rattle.ild_trie.proofs.Bits.{same_node}
-use Rattle.ild_node.proofs.Fits.{whole_map}
 use Rattle.ild_node.specs.declared.fault.HamtFault.{HamtFault}
 use Rattle.ild_node.specs.declared.fault.HamtFault.TheVariants as F
 use Rattle.ild_walker.specs.Gives.{IsNodeOf, TreeGives, SlotsGive}
@@ -31,6 +29,8 @@ use Rattle.ild_walker.specs.declared.step.Step.TheVariants as S
 use Rattle.ild_walker.specs.declared.walker.Walker.{Walker}
 use Rattle.ild_edges.proofs.Later.{Later-refl}
 use Rattle.ild_walker.proofs.Keeping.{left-keeps, few-keeps, none-keeps, deep-keeps, fetch-keeps, entered-keeps, memory-keeps, keeps-more, FaultOn}
+use Rattle.ild_walker.proofs.OneNode.{same-slots}
+use Rattle.ild_walker.proofs.Spending.{left-passes, passes-itself, spends-none, spends-more, enter-spends, entered-passes}
 use Rattle.ild_walker.proofs.Opening.{slots-on, slots-off, beneath}
 
 -- ---- steps and paths
@@ -88,6 +88,7 @@ left-one v w before s c next steps path many given here =
       given = given;
       path = let long = ap (λ (q : List ℕ). length q) way in let more = length-append (walker_path w) (c.index ∷ []) in omega arith;
       on = λ h told lacks root at on. (left-keeps told v w before c is path given here root at on, tt);
+      reads = λ held gets. left-passes held gets v w before c is path;
     }
 
 pub left-few : (v : Walker) (before : ℕ) → NextIs (leave before) v → v.given - before ≤ usual.bucket → NothingAhead v
@@ -120,7 +121,7 @@ not-empty zero is = absurd (false≢true (sym is))
 not-empty (suc n) is = omega arith
 
 fault-is : (v : Walker) (e : HamtFault) → IsTrieFault e → NothingAhead v → ((h : List ℕ → List ℕ) (told : Option (List (List ℕ))) (lacks : ℕ) → FaultOn h told lacks lacks v e v) → Leaves v (Err e) v
-fault-is v e trie nothing keeps = record { answer = (trie, nothing); same = λ h held es. (λ a. a, λ a. a); given = refl; path = omega arith; on = keeps }
+fault-is v e trie nothing keeps = record { answer = (trie, nothing); same = λ h held es. (λ a. a, λ a. a); given = refl; path = omega arith; on = keeps; reads = λ held gets. spends-none held gets v }
 
 -- a node is left too early
 pub left-early : (v : Walker) (before : ℕ) (e : HamtFault) → NextIs (leave before) v → v.given - before ≤ usual.bucket → IsTrieFault e → IsFaultAt (walker_here v) e → Leaves v (Err e) v
@@ -131,25 +132,20 @@ pub left-root : (v : Walker) (before : ℕ) (e : HamtFault) → NextIs (leave be
 left-root v before e next none trie = fault-is v e trie (left-none v before next none) (λ h told lacks. none-keeps h told lacks v before next.rest e next.is none)
 
 pub same-itself : (v : Walker) → Leaves v (Ok tt) v
-same-itself v = record { answer = tt; same = λ h held es. (λ a. a, λ a. a); given = refl; path = omega arith; on = λ h told lacks root at on. (on, tt) }
+same-itself v = record { answer = tt; same = λ h held es. (λ a. a, λ a. a); given = refl; path = omega arith; on = λ h told lacks root at on. (on, tt); reads = λ held gets. passes-itself held gets v }
 
 pub left-more : (u v w : Walker) (r : Result (Unit {0}) HamtFault) → Leaves u (Ok tt) v → Leaves v r w → Leaves u r w
-left-more u v w (Ok x) a b = record { answer = tt; same = λ h held es. (λ s. (b.same h held es).0 ((a.same h held es).0 s), λ s. (a.same h held es).1 ((b.same h held es).1 s)); given = b.given ∙ a.given; path = let p = a.path in let q = b.path in omega arith; on = λ h told lacks. keeps-more h told lacks lacks lacks u v w (Ok x) (omega arith) (λ root at on. (a.on h told lacks root at on).0) (b.on h told lacks) }
+left-more u v w (Ok x) a b = record { answer = tt; same = λ h held es. (λ s. (b.same h held es).0 ((a.same h held es).0 s), λ s. (a.same h held es).1 ((b.same h held es).1 s)); given = b.given ∙ a.given; path = let p = a.path in let q = b.path in omega arith; on = λ h told lacks. keeps-more h told lacks lacks lacks u v w (Ok x) (omega arith) (λ root at on. (a.on h told lacks root at on).0) (b.on h told lacks); reads = λ held gets. spends-more held gets gets gets u v w (Ok x) (a.reads held gets) (b.reads held gets) }
 left-more u v w (Err e) a b = record {
   answer = (b.answer.0, λ h held es s. b.answer.1 h held es ((a.same h held es).0 s));
   same = λ h held es. (λ s. (b.same h held es).0 ((a.same h held es).0 s), λ s. (a.same h held es).1 ((b.same h held es).1 s));
   given = b.given ∙ a.given;
   path = let p = a.path in let q = b.path in omega arith;
   on = λ h told lacks root at on. let p = b.on h told lacks root at (a.on h told lacks root at on).0 in (p.0, p.1);
+  reads = λ held gets n l. let p = a.reads held gets n l in let q = b.reads held gets p.left p.nodes in let one = p.gets in omega arith;
 }
 
 -- ---- entering
-
-same-slots : (ss ts : List TrieSlot) (b : List ℕ) → IsNodeOf usual b ss → IsNodeOf usual b ts → ss ≡ ts
-same-slots ss ts b one two =
-    let same : node_data ss ≡ node_data ts = (one_spelling_within (node_data ss) (node_data ts) [] [] one.is.within two.is.within
-    (append-nil (spell (node_data ss)) ∙ sym one.is.spelled ∙ two.is.spelled ∙ sym (append-nil (spell (node_data ts))))).0 in
-    same_node ss ts (whole_map usual.width (length ss) (omega arith) one.form.many) (two.form.many ∙ sym one.form.many) same
 
 slot-past : (given i : ℕ) (s : TrieSlot) (todo : List Todo) → IsPast given todo → IsPast given (slot_todo i s ++ todo)
 slot-past given i empty todo past = past
@@ -333,7 +329,7 @@ opened v w c steps at next is place path given same-at =
 -- ---- how entering ends
 
 pub enter-stopped : (m n : Moment) (v : Walker) (c : Child) (e : HamtFault) → NextIs (enter c.id.0 c.index) v → suc (length (walker_path v)) < trie_levels usual → Fetches m c.id.0 (Err e) n → Enters 1 m v (Err e) v n
-enter-stopped m n v c e next short f = record { answer = by e f.answer; same = λ h held es told. (λ a. a, λ a. a); given = refl; short = omega arith; only = f.only; on = λ h. keeps h e f.answer }
+enter-stopped m n v c e next short f = record { answer = by e f.answer; same = λ h held es told. (λ a. a, λ a. a); given = refl; short = omega arith; only = f.only; on = λ h. keeps h e f.answer; reads = λ held told. enter-spends held m.gets n.gets v c next (let seen = length-map v.path.items (λ (d : Child). d.index) in omega arith) f.only.gets }
   where
     keeps : (h : List ℕ → List ℕ) (e : HamtFault) → FetchAnswer m c.id.0 (Err e) n → FaultOn h m.blocks m.lacks n.lacks v e v
     keeps h (F.Block i why) r = fetch-keeps h m n v c i why next r.0 r.1
@@ -356,29 +352,31 @@ enter-stopped m n v c e next short f = record { answer = by e f.answer; same = �
 path-longer : (v w : Walker) (c : Child) → walker_path w ≡ walker_path v ++ c.index ∷ [] → length (walker_path w) ≡ length (walker_path v) + 1
 path-longer v w c is = ap (λ (q : List ℕ). length q) is ∙ length-append (walker_path v) (c.index ∷ [])
 
-pub enter-done : (m n : Moment) (v w : Walker) (c : Child) (steps : Vec Step) (r : Result (Unit {0}) HamtFault) → suc (length (walker_path v)) < trie_levels usual → Fetches m c.id.0 (Ok steps) n → Opens v c steps.items r w → Enters 1 m v r w n
-enter-done m n v w c steps (Ok u) short f o = record {
+pub enter-done : (m n : Moment) (v w : Walker) (c : Child) (steps : Vec Step) (r : Result (Unit {0}) HamtFault) → NextIs (enter c.id.0 c.index) v → suc (length (walker_path v)) < trie_levels usual → Fetches m c.id.0 (Ok steps) n → Opens v c steps.items r w → Enters 1 m v r w n
+enter-done m n v w c steps (Ok u) next short f o = record {
   answer = entered-past m v w c steps.items f.answer o;
   same = entered-same m v w c steps.items short f.answer o;
   given = o.given;
   short = let long = path-longer v w c o.path in omega arith;
   only = f.only;
   on = λ h root at on. (entered-keeps m v w c steps.items (let seen = length-map v.path.items (λ (d : Child). d.index) in omega arith) f.answer o root at on, tt);
+  reads = λ held told. entered-passes m held m.gets n.gets v w c steps.items told (let seen = length-map v.path.items (λ (d : Child). d.index) in omega arith) f.only.gets f.answer o;
 }
-enter-done m n v w c steps (Err F.Memory) short f o = record {
+enter-done m n v w c steps (Err F.Memory) next short f o = record {
   answer = tt;
   same = unchanged-same m v w o;
   given = o.given;
   short = let long = ap (λ (q : List ℕ). length q) o.path in omega arith;
   only = f.only;
   on = λ h. memory-keeps h m.blocks m.lacks n.lacks v w o;
+  reads = λ held told. enter-spends held m.gets n.gets v c next (let seen = length-map v.path.items (λ (d : Child). d.index) in omega arith) f.only.gets;
 }
-enter-done m n v w c steps (Err F.Exhausted) short f o = absurd o
-enter-done m n v w c steps (Err (F.Block i why)) short f o = absurd o
-enter-done m n v w c steps (Err F.Store) short f o = absurd o
-enter-done m n v w c steps (Err (F.Clash i kept new)) short f o = absurd o
-enter-done m n v w c steps (Err F.Size) short f o = absurd o
-enter-done m n v w c steps (Err F.NoKey) short f o = absurd o
+enter-done m n v w c steps (Err F.Exhausted) next short f o = absurd o
+enter-done m n v w c steps (Err (F.Block i why)) next short f o = absurd o
+enter-done m n v w c steps (Err F.Store) next short f o = absurd o
+enter-done m n v w c steps (Err (F.Clash i kept new)) next short f o = absurd o
+enter-done m n v w c steps (Err F.Size) next short f o = absurd o
+enter-done m n v w c steps (Err F.NoKey) next short f o = absurd o
 
 -- no level is left
 pub enter-deep : (m : Moment) (v : Walker) (c : Child) (e : HamtFault) → NextIs (enter c.id.0 c.index) v → length (walker_path v) < trie_levels usual → trie_levels usual ≤ suc (length v.path.items) → IsTrieFault e → IsFaultAt (walker_here v) e → Enters 1 m v (Err e) v m
@@ -389,6 +387,7 @@ enter-deep m v c e next short deep trie here = record {
   short = short;
   only = record { later = Later-refl m; blocks = refl; given = refl; puts = refl; gets = omega arith };
   on = λ h. deep-keeps h m.blocks m.lacks v c e next deep trie here;
+  reads = λ held told. spends-none held m.gets v;
 }
   where
     nothing : NothingTold m v

@@ -15,6 +15,7 @@ use Rattle.ild_walker.specs.Fetching.{IsRefused, OnlyGets}
 use Rattle.ild_walker.specs.Gives.{RootGives}
 use Rattle.ild_walker.specs.Standing.{IsOn, KeepsOn, RowStands, way_of, last_of}
 use Rattle.ild_walker.specs.Steps.{steps_todo, path_of}
+use Rattle.ild_walker.specs.Reads.{NodesBeneath, LeftNodes, Spends}
 use Rattle.ild_walker.specs.Todo.{Todo, give, enter, leave, StillGives}
 use Rattle.ild_walker.specs.declared.step.Child.{Child}
 use Rattle.ild_walker.specs.declared.step.Step.{Step}
@@ -45,6 +46,10 @@ IsNew slots w = (h : List ℕ → List ℕ) (held : List (List ℕ)) (es : List 
 -- the walker stands before all steps of the root, which is in the block `at`
 abbrev pub IsNewOn : List TrieSlot → List ℕ → Walker → Type 0
 IsNewOn slots at w = (told : Option (List (List ℕ))) → IsOn told slots at w
+
+-- of a told store, all blocks beneath the root are to be read
+abbrev pub IsNewLeft : List TrieSlot → Walker → Type 0
+IsNewLeft slots w = (held : List (List ℕ)) (n : ℕ) → NodesBeneath held slots n → LeftNodes held w n
 
 -- ---- the next step
 
@@ -106,6 +111,7 @@ pub record Leaves (v : Walker) (result : Result (Unit {0}) HamtFault) (w : Walke
   pub given : w.given ≡ v.given
   pub path : length (walker_path w) ≤ length (walker_path v)
   pub on : (h : List ℕ → List ℕ) (told : Option (List (List ℕ))) (lacks : ℕ) → KeepsOn h told lacks lacks v result w
+  pub reads : (held : List (List ℕ)) (gets : ℕ) → Spends held gets gets v result w
 
 -- a child is entered: its steps stand before the leaving of its node, and the others behind
 pub record IsEntered (v : Walker) (c : Child) (steps : List Step) (w : Walker) : Type 0 where
@@ -155,6 +161,7 @@ pub record Enters (most : ℕ) (m : Moment) (v : Walker) (result : Result (Unit 
   pub short : length (walker_path w) < trie_levels usual
   pub only : OnlyGets most m n
   pub on : (h : List ℕ → List ℕ) → KeepsOn h m.blocks m.lacks n.lacks v result w
+  pub reads : (held : List (List ℕ)) → m.blocks ≡ Some held → Spends held m.gets n.gets v result w
 
 -- an entry is to be given, or nothing, or a node is to be left of which nothing is given
 abbrev pub IsReady : ℕ → List Todo → Type 0
@@ -215,6 +222,7 @@ pub record Gives (h : List ℕ → List ℕ) (v : Walker) (result : Result (Opti
   pub path : walker_path w ≡ walker_path v
   pub on : (told : Option (List (List ℕ))) (lacks : ℕ) → KeepsOn h told lacks lacks v result w
   pub row : (told : Option (List (List ℕ))) → RowStands told v result
+  pub reads : (held : List (List ℕ)) (gets : ℕ) → Spends held gets gets v result w
 
 -- ---- one call of next
 
@@ -248,3 +256,4 @@ pub record Nexts (h : List ℕ → List ℕ) (m : Moment) (v : Walker) (result :
   pub only : OnlyGets (trie_levels usual) m n
   pub on : KeepsOn h m.blocks m.lacks n.lacks v result w
   pub row : RowStands m.blocks v result
+  pub reads : (held : List (List ℕ)) → m.blocks ≡ Some held → Spends held m.gets n.gets v result w

@@ -1,6 +1,7 @@
 pub mod Gives
 pub mod Todo
 pub mod OnTree
+pub mod Reads
 pub mod Standing
 pub mod Steps
 pub mod Shown

@@ -46,13 +46,14 @@ impl Walker {
     ghost use Rattle.ild_typed.specs.Composed.{usual};
     ghost use Rattle.ild_node.specs.Views.{HasSlots};
     ghost use Rattle.ild_walker.specs.Todo.{enter, fits, leave};
-    ghost use Rattle.ild_walker.specs.Ahead.{Enters, Gives, GivesNext, IsDue, IsFaultAt, IsNew, IsNewOn, IsPast, IsReady, IsTrieFault, Leaves, NextIs, Nexts, Opens, Takes, walker_here, walker_path, walker_todo};
+    ghost use Rattle.ild_walker.specs.Ahead.{Enters, Gives, GivesNext, IsDue, IsFaultAt, IsNew, IsNewLeft, IsNewOn, IsPast, IsReady, IsTrieFault, Leaves, NextIs, Nexts, Opens, Takes, walker_here, walker_path, walker_todo};
 
     /// A walk beneath a root, which stands in the block of this id.
     pub fn new(alloc: Global, root: NodeView<'_>, at: BlockId) -> Result<Walker, AllocError>
         ensures ahead { (slots : List TrieSlot) → HasSlots usual root.entry slots → IfOk result (IsNew slots) }
         ensures given { IfOk result (λ w. w.given ≡ 0) }
         ensures on { (slots : List TrieSlot) → HasSlots usual root.entry slots → IfOk result (IsNewOn slots at.0) }
+        ensures reads { (slots : List TrieSlot) → HasSlots usual root.entry slots → IfOk result (IsNewLeft slots) }
     {
         let steps = steps_in(alloc, root)?;
         Ok(Walker {

@@ -17,7 +17,7 @@ returns-in_err-steps-clause-enters g c =
 pub returns-clause-enters : goal.returns-clause-enters
 returns-clause-enters g c =
     let short : suc (length (walker_path c.args.self.now)) < trie_levels usual = omega (arith, length-map c.args.self.now.path.items (λ (d : Child). d.index)) in
-    enter-done (g.K.Store.moment c.args.store.now) (g.K.Store.moment c.fetch.new.store) c.args.self.now c.open.new.self c.args.child c.in_ok-steps.steps c.open.result short c.in_ok-steps.ensures c.open.ensures
+    enter-done (g.K.Store.moment c.args.store.now) (g.K.Store.moment c.fetch.new.store) c.args.self.now c.open.new.self c.args.child c.in_ok-steps.steps c.open.result c.requires.next short c.in_ok-steps.ensures c.open.ensures
 
 pub returns-clause-longer : goal.returns-clause-longer
 returns-clause-longer g c = enter-longer c.args.self.now c.open.new.self c.args.child c.in_ok-steps.steps c.open.result c.open.ensures
