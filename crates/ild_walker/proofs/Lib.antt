@@ -6,5 +6,6 @@ pub mod Placed
 pub mod Keeping
 pub mod Walking
 pub mod Nexting
+pub mod Ending
 pub mod Tried
 pub mod Regiven

@@ -31,7 +31,7 @@ use Rattle.ild_walker.specs.declared.walker.Walker.{Walker}
 
 -- ---- entering again
 
-rose-later : (a b c : ℕ) → a ≤ b → Rose b c → Rose a c
+pub rose-later : (a b c : ℕ) → a ≤ b → Rose b c → Rose a c
 rose-later a b c le rose = omega arith
 
 refused-before : (m n o : Moment) (id : List ℕ) (why : BlockWhy) → Later m n → n.blocks ≡ m.blocks → IsRefused n id why o → IsRefused m id why o
@@ -39,7 +39,7 @@ refused-before m n o id Missing later blocks r = (subst (λ b. IfTold b (λ bs. 
 refused-before m n o id (Cbor fault) later blocks r = record { block = r.block; at = record { named = r.at.named; held = subst (λ b. IfTold b (λ bs. block_at bs id ≡ Some r.block)) blocks r.at.held }; wrong = r.wrong }
 refused-before m n o id (NoNode why) later blocks r = record { block = r.block; at = record { named = r.at.named; held = subst (λ b. IfTold b (λ bs. block_at bs id ≡ Some r.block)) blocks r.at.held }; wrong = r.wrong }
 
-cause-later : (m n o : Moment) (e : HamtFault) → Later m n → n.blocks ≡ m.blocks → IsCause n e o → IsCause m e o
+pub cause-later : (m n o : Moment) (e : HamtFault) → Later m n → n.blocks ≡ m.blocks → IsCause n e o → IsCause m e o
 cause-later m n o (F.Block id why) later blocks c = ⊎_elim (λ r. inl (refused-before m n o id.0 why later blocks r)) (λ s. inr s) c
 cause-later m n o F.Exhausted later blocks c = absurd c
 cause-later m n o F.Store later blocks c = absurd c
@@ -339,77 +339,3 @@ new-ahead slots w todo path = λ h held es. (
     };
   },
 )
-
--- ---- walking to the end
-
-pub begun : (h : List ℕ → List ℕ) (slots : List TrieSlot) (m : Moment) (w : Walker) → IsNew slots w → w.given ≡ 0 → HasWalked h slots m w m
-begun h slots m w new none = record {
-  walked = λ held told. record { done = []; many = sym none; ahead = λ es. (λ r. record { rest = es; is = refl; ahead = (new h held es).1 r }, λ b. subst (λ xs. RootGives h usual held (trie_levels usual - 1) slots xs) (sym b.is) ((new h held b.rest).0 b.ahead)) };
-  later = Later-refl m;
-  blocks = refl;
-}
-
-pub walked-more : (h : List ℕ → List ℕ) (slots : List TrieSlot) (m n o : Moment) (v w : Walker) (row : Row) → HasWalked h slots m v n → Nexts h n v (Ok (Some row)) w o → HasWalked h slots m w o
-walked-more h slots m n o v w row was next = record {
-  walked = λ held told.
-      let b = was.walked held told in
-      let g = next.answer in
-      let x : List ℕ × Data = (row.key, g.value) in
-      record {
-        done = b.done ++ x ∷ [];
-        many = length-append b.done (x ∷ []) ∙ ap (λ k. k + 1) b.many ∙ sym next.counts.0;
-        ahead = λ es. (
-          λ r.
-              let u = (b.ahead es).0 r in
-              let f = (g.ahead held u.rest (was.blocks ∙ told)).0 u.ahead in
-              record { rest = f.rest; is = u.is ∙ ap (λ xs. b.done ++ xs) f.is ∙ sym (append_assoc b.done (x ∷ []) f.rest); ahead = f.ahead },
-          λ s.
-              (b.ahead es).1 (record {
-                rest = x ∷ s.rest;
-                is = s.is ∙ append_assoc b.done (x ∷ []) s.rest;
-                ahead = (g.ahead held (x ∷ s.rest) (was.blocks ∙ told)).1 (record { rest = s.rest; is = refl; ahead = s.ahead });
-              }),
-        );
-      };
-  later = Later-trans m n o was.later next.only.later;
-  blocks = next.only.blocks ∙ was.blocks;
-}
-
-pub walked-end : (h : List ℕ → List ℕ) (slots : List TrieSlot) (m n o : Moment) (v w : Walker) (count : ℕ) → HasWalked h slots m v n → Nexts h n v (Ok None) w o → w.given ≡ count → Checks h slots m (Ok count) o
-walked-end h slots m n o v w count was next is = record {
-  answer = λ held told.
-      let b = was.walked held told in
-      record {
-        entries = b.done;
-        many = b.many ∙ sym next.counts ∙ is;
-        gives = (b.ahead b.done).1 (record { rest = []; is = sym (append-nil b.done); ahead = (next.answer held [] (was.blocks ∙ told)).1 refl });
-      };
-  later = Later-trans m n o was.later next.only.later;
-  blocks = next.only.blocks ∙ was.blocks;
-}
-
-pub walked-stop : (h : List ℕ → List ℕ) (slots : List TrieSlot) (m n o : Moment) (v w : Walker) (e : HamtFault) → HasWalked h slots m v n → Nexts h n v (Err e) w o → Checks h slots m (Err e) o
-walked-stop h slots m n o v w e was next = record {
-  answer = by e next.answer;
-  later = Later-trans m n o was.later next.only.later;
-  blocks = next.only.blocks ∙ was.blocks;
-}
-  where
-    none : ((held : List (List ℕ)) (es : List (List ℕ × Data)) → n.blocks ≡ Some held → Ahead h held v es → ⊥) → (held : List (List ℕ)) (es : List (List ℕ × Data)) → m.blocks ≡ Some held → RootGives h usual held (trie_levels usual - 1) slots es → ⊥
-    none no_more held es told r = let u = ((was.walked held told).ahead es).0 r in no_more held u.rest (was.blocks ∙ told) u.ahead
-
-    by : (e : HamtFault) → NextAnswer h n v (Err e) w o → CheckAnswer h slots m (Err e) o
-    by F.Store p = rose-later m.faults n.faults o.faults was.later.faults p.0
-    by F.Memory p = tt
-    by (F.Block id why) p = (cause-later m n o (F.Block id why) was.later was.blocks p.0, none p.1)
-    by F.Exhausted p = absurd p.0
-    by (F.Clash id kept new) p = absurd p.0
-    by F.Size p = absurd p.0
-    by F.NoKey p = absurd p.0
-
-pub check-memory : (h : List ℕ → List ℕ) (slots : List TrieSlot) (m : Moment) → Checks h slots m (Err F.Memory) m
-check-memory h slots m = record { answer = tt; later = Later-refl m; blocks = refl }
-
-pub none-of : (o : Option Row) → ((row : Row) → o ≡ Some row → ⊥) → o ≡ None
-none-of None other = refl
-none-of (Some row) other = absurd (other row refl)

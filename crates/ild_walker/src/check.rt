@@ -19,7 +19,7 @@ pub fn check_tree<K: Store, H: KeyHash>(
     keys: &H,
     store: &mut K,
 ) -> Result<u64, HamtFault>
-    ensures { (slots : List TrieSlot) → HasSlots usual root.entry slots → Checks H.hash_of slots (K.moment store.old) result (K.moment store.new) }
+    ensures { (slots : List TrieSlot) → HasSlots usual root.entry slots → Checks H.hash_of slots at.0 (K.moment store.old) result (K.moment store.new) }
 {
     let mut walker = Walker::new(alloc, root, at)?;
     while let Some(_row) = walker.next(keys, store)? {}

@@ -5,11 +5,13 @@ mod check;
 mod due;
 mod fetch;
 mod laws;
+mod list;
 mod row;
 mod step;
 mod walker;
 
 pub use check::check_tree;
 pub use laws::given_is_trie;
+pub use list::walk;
 pub use row::Row;
 pub use walker::Walker;

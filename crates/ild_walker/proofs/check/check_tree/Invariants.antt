@@ -9,4 +9,4 @@ abbrev pub decreases-loop-walker : goal.decreases-loop-walker
 decreases-loop-walker g l = 2 ^ 64 - l.walker.given
 
 abbrev pub invariant-loop-walker : goal.invariant-loop-walker
-invariant-loop-walker g l = (slots : List TrieSlot) → HasSlots usual l.fn.root slots → HasWalked g.H.KeyHash.hash_of slots (g.K.Store.moment l.initial.store) l.walker (g.K.Store.moment l.store)
+invariant-loop-walker g l = (slots : List TrieSlot) → HasSlots usual l.fn.root slots → HasWalked g.H.KeyHash.hash_of slots l.fn.at.0 (λ done. Unit {0}) (g.K.Store.moment l.initial.store) l.walker (g.K.Store.moment l.store)
