@@ -165,8 +165,8 @@ deep-keeps h told a v c e next deep trie here = λ root at on.
     let long = indices-long v.path.items in (
       on,
       broken h told root at a a (indices_of (way_of v.path.items)) (last_of at (way_of v.path.items)) e (on-tree told root at (way_of v.path.items) (enter c.id.0 c.index ∷ next.rest) v.given s)
-      (record { slots = n.slots; node = n.node; wrong = inr (inl (record { index = c.index; id = c.id.0; stands = enter-there n.slots n.done n.rest c.id.0 c.index n.steps; last = omega arith })) }) trie
-      (fault-here v at e on.here here),
+          (record { slots = n.slots; node = n.node; wrong = inr (inl (record { index = c.index; id = c.id.0; stands = enter-there n.slots n.done n.rest c.id.0 c.index n.steps; last = omega arith })) }) trie
+          (fault-here v at e on.here here),
     )
 
 pub stray-keeps : (h : List ℕ → List ℕ) (told : Option (List (List ℕ))) (a : ℕ) (v : Walker) (k : List ℕ) (d : Data) (i : ℕ) (rest : List Todo) (e : HamtFault) → walker_todo v ≡ give k d i ∷ rest → fits h usual (walker_path v) i k ≡ false → IsTrieFault e → IsFaultAt (walker_here v) e
@@ -177,11 +177,11 @@ stray-keeps h told a v k d i rest e is misfit trie here = λ root at on.
     let g = give-there n.slots n.done n.rest k d i n.steps in (
       on,
       broken h told root at a a (indices_of (way_of v.path.items)) (last_of at (way_of v.path.items)) e (on-tree told root at (way_of v.path.items) (give k d i ∷ rest) v.given s)
-      (record {
-        slots = n.slots;
-        node = n.node;
-        wrong = inl (record { index = i; entries = g.entries; stands = g.stands; place = g.among.place; key = k; value = d; is = g.among.is; stray = ap (λ q. fits h usual q i k) (indices-path v.path.items) ∙ misfit });
-      }) trie (fault-here v at e on.here here),
+          (record {
+            slots = n.slots;
+            node = n.node;
+            wrong = inl (record { index = i; entries = g.entries; stands = g.stands; place = g.among.place; key = k; value = d; is = g.among.is; stray = ap (λ q. fits h usual q i k) (indices-path v.path.items) ∙ misfit });
+          }) trie (fault-here v at e on.here here),
     )
 
 refused-wrong : (h : List ℕ → List ℕ) (m n : Moment) (root : List TrieSlot) (up id : List ℕ) (why : BlockWhy) → IsRefused m id why n → IsWrong h m.blocks root m.lacks n.lacks up id why
@@ -214,8 +214,8 @@ entered-keeps m v w c steps short got e = λ root at on.
     let more = length-append v.path.items (c ∷ []) in
     let todo : walker_todo w ≡ node_todo 0 got.has.slots ++ leave v.given ∷ e.rest = e.todo ∙ ap (λ ts. ts ++ leave v.given ∷ e.rest) got.has.todo in
     is-on m.blocks root at w ((c.id.0, c.index) ∷ way_of v.path.items) (node_todo 0 got.has.slots ++ leave v.given ∷ e.rest) v.given (e.at ∙ on.here) (omega arith) (way-snoc w.path.items v.path.items c e.children) todo e.given
-      (enter-stands m.blocks root (way_of v.path.items) c.id.0 c.index got.has.slots e.rest v.given (record { block = got.block; at = record { named = got.at.named; held = got.at.held }; node = got.has.node })
-      (stands-at m.blocks root at v (enter c.id.0 c.index ∷ e.rest) e.was on))
+    (enter-stands m.blocks root (way_of v.path.items) c.id.0 c.index got.has.slots e.rest v.given (record { block = got.block; at = record { named = got.at.named; held = got.at.held }; node = got.has.node })
+    (stands-at m.blocks root at v (enter c.id.0 c.index ∷ e.rest) e.was on))
 
 pub memory-keeps : (h : List ℕ → List ℕ) (told : Option (List (List ℕ))) (a b : ℕ) (v w : Walker) → IsUnchanged v w → FaultOn h told a b v F.Memory w
 memory-keeps h told a b v w u = λ root at on. (unchanged-on told root at v w u on, tt)
@@ -223,7 +223,7 @@ memory-keeps h told a b v w u = λ root at on. (unchanged-on told root at v w u 
 pub taken-keeps : (h : List ℕ → List ℕ) (told : Option (List (List ℕ))) (a : ℕ) (v w : Walker) (row : Row) → IsTaken v row w → KeepsOn h told a a v (Ok (Some row)) w
 taken-keeps h told a v w row t = λ root at on. (
   is-on told root at w (way_of v.path.items) t.rest (v.given + 1) (t.at ∙ on.here) (subst (λ (path : List Child). length path < trie_levels usual) (sym t.children) on.short) (ap way_of t.children) t.todo t.given
-  (pass told root (way_of v.path.items) (give row.key t.value t.index) t.rest v.given 1 tt (0, refl, refl) (stands-at told root at v (give row.key t.value t.index ∷ t.rest) t.was on)),
+      (pass told root (way_of v.path.items) (give row.key t.value t.index) t.rest v.given 1 tt (0, refl, refl) (stands-at told root at v (give row.key t.value t.index ∷ t.rest) t.was on)),
   tt,
 )
 

@@ -117,9 +117,9 @@ entered-passes m held a b v w c steps told short one got e = λ n l.
     let here = told-block m held c.id.0 got.block got.at.held told in
     let many : SlotsNodes (TreeNodes held (trie_levels usual - suc (suc level))) got.has.slots f.beneath = ⊎_elim
     (λ d.
-        let same : d.node.block ≡ got.block = same_Some d.node.block got.block (sym d.node.at.held ∙ here) in
-        let alike : d.slots ≡ got.has.slots = same-slots d.slots got.has.slots got.block (subst (λ x. IsNodeOf usual x d.slots) same d.node.node) got.has.node in
-        subst (λ ss. SlotsNodes (TreeNodes held (trie_levels usual - suc (suc level))) ss f.beneath) alike d.many)
+    let same : d.node.block ≡ got.block = same_Some d.node.block got.block (sym d.node.at.held ∙ here) in
+    let alike : d.slots ≡ got.has.slots = same-slots d.slots got.has.slots got.block (subst (λ x. IsNodeOf usual x d.slots) same d.node.node) got.has.node in
+    subst (λ ss. SlotsNodes (TreeNodes held (trie_levels usual - suc (suc level))) ss f.beneath) alike d.many)
     (λ none. absurd (none.none got.has.slots (record { block = got.block; at = record { named = got.at.named; held = here }; node = got.has.node }))) f.within in
     let todo : walker_todo w ≡ node_todo 0 got.has.slots ++ leave v.given ∷ e.rest = e.todo ∙ ap (λ ts. ts ++ leave v.given ∷ e.rest) got.has.todo in
     let long : length w.path.items ≡ suc level = ap (λ (xs : List Child). length xs) e.children ∙ length-append v.path.items (c ∷ []) ∙ next-level level in
