@@ -1,5 +1,5 @@
 -- What the blocks of a HAMT give is the trie of it.
-use Rattle.std.proofs.Common.{◌≡◌, ◌≢◌, ℕ, zero, suc, ◌+◌, ◌-◌, ◌<◌, ◌≤◌, ◌^◌, nat_le, not, ◌&&◌, true, cond, List, [], ◌∷◌, ◌++◌, length, map, get_or, Option, Some, None, option_map, refl, sym, ap, ◌∙◌, subst, arith, ⊎_elim, flat_map}
+use Rattle.std.proofs.Common.{◌≡◌, ◌≢◌, ℕ, zero, suc, ◌+◌, ◌-◌, ◌<◌, ◌≤◌, ◌^◌, nat_le, not, ◌&&◌, true, cond, List, [], ◌∷◌, ◌++◌, length, map, get_or, Option, Some, None, option_map, refl, sym, ap, ◌∙◌, subst, arith, inl, ⊎_elim, flat_map}
 use Rattle.std.specs.Prelude.{is_some}
 use Rattle.std.specs.Ordering.{is_lt, is_eq}
 use Rattle.std.specs.List.{AllByRecursion, range_with_len}
@@ -7,13 +7,14 @@ use Rattle.std.specs.Ordering.{eq_by_cmp}
 use Rattle.std.specs.FinMap.{find, put, is_sorted}
 use Rattle.std.specs.FinMap.Entries.{below_all, length-put}
 use Rattle.std.proofs.lemmas.Bool.{and_parts, and_from, cases_lt, cases_Bool, lt-leb, le-leb, ne_eqb}
-use Rattle.std.proofs.lemmas.List.{same_lists, length-map, get_or-map}
+use Rattle.std.proofs.lemmas.List.{same_lists, length-append, length-map, get_or-map}
 use Rattle.std.proofs.lemmas.List.Folds.{flat_map-map}
 use Rattle.std.proofs.lemmas.List.FromFn.{get_or-map-range_with_len, length-map-range_with_len}
 use Rattle.ild_data.specs.ByteOrder.{bytewise, in_byte_order, no_key_twice, IsInOrder}
 use Rattle.ild_data.specs.Data.{Data}
 use Rattle.ild_data.specs.Spell.{spell, id_of}
 use Rattle.ild_data.specs.Trie.{TrieSlot, empty, bucket, child, bucket_or, link_to, part, slot_of, all_some, at_depth, node_data, node_of, slots_at}
+use Rattle.ild_data.specs.TrieBlocks.{block_of, none_or, node_and_beneath, nodes_beneath}
 use Rattle.ild_data.specs.TrieShape.{TrieShape, trie_levels}
 use Rattle.ild_edges.specs.Store.{block_at}
 use Rattle.ild_edges.proofs.Held.{block_at_id}
@@ -28,6 +29,7 @@ use Rattle.ild_trie.proofs.Node.{node-slots, trie-sorted}
 use Rattle.ild_trie.proofs.Parts.{total, same_key, in_order-sorted, find-sorted, sorted_alike, sorted_in_order}
 use Rattle.ild_node.specs.Form.{IsNode, AreSlots}
 use Rattle.ild_walker.specs.Gives.{IsNodeOf, SlotGives, AtIndex, SlotsGive, NodeGives, TreeGives, RootGives}
+use Rattle.ild_walker.specs.Reads.{SlotNodes, SlotsNodes, TreeNodes, NodesBeneath}
 use Rattle.ild_walker.specs.Trees.{IsHeldNode, HoldsBelow, IsTrieOf}
 
 -- ---- lists of entries
@@ -80,18 +82,44 @@ length-sorted (e ∷ es) once =
     let parts = and_parts (not (is_some (find bytewise e.0 es))) (no_key_twice es) once in
     length-new e.0 e.1 (in_byte_order es) (in_order-sorted es) (find-sorted e.0 es ∙ none-found (find bytewise e.0 es) parts.0) ∙ ap suc (length-sorted es parts.1)
 
+-- ---- how many nodes
+
+-- as many blocks as are beneath a link to a child, each of which is held
+record CountsNode (p : TrieShape) (held : List (List ℕ)) (below : List ℕ → ℕ → Type 0) (id : List ℕ) (n : ℕ) : Type 0 where
+  pub block : List ℕ
+  pub slots : List TrieSlot
+  pub here : block_at held id ≡ Some block
+  pub node : IsNodeOf p block slots
+  pub more : ℕ
+  pub is : n ≡ 1 + more
+  pub many : SlotsNodes below slots more
+
+abbrev Counts : TrieShape → List (List ℕ) → ℕ → List ℕ → ℕ → Type 0
+Counts p held zero id n = ⊥
+Counts p held (suc left) id n = CountsNode p held (Counts p held left) id n
+
+-- the blocks of a part: its own, and those beneath
+abbrev blocks : (List ℕ → List ℕ) → TrieShape → ℕ → ℕ → List (List ℕ × Data) → List (List ℕ)
+blocks h p left depth fs = node_and_beneath p.bucket (node_of h p left (depth + 1)) (nodes_beneath h p left (depth + 1)) fs
+
+beneath_step : (h : List ℕ → List ℕ) (p : TrieShape) (left depth : ℕ) (es : List (List ℕ × Data)) → nodes_beneath h p (suc left) depth es ≡ flat_map (λ i. blocks h p left depth (part (at_depth h p depth) es i)) (range_with_len 0 (2 ^ p.width))
+unfolding nodes_beneath
+beneath_step h p left depth es = refl
+
 -- ---- one part
 
 record PartIs (h : List ℕ → List ℕ) (p : TrieShape) (held : List (List ℕ)) (left depth : ℕ) (s : TrieSlot) (es : List (List ℕ × Data)) : Type 0 where
   pub distinct : no_key_twice es ≡ true
   pub slot : slot_of p.bucket (node_of h p left (depth + 1)) (in_byte_order es) ≡ Some s
   pub order : es ≡ part_or (nat_le (length (in_byte_order es)) p.bucket) (in_trie_order h p left (depth + 1)) (in_byte_order es)
+  pub nodes : SlotNodes (Counts p held left) s (length (blocks h p left depth (in_byte_order es)))
   pub holds : (node : Data) → p.bucket < length (in_byte_order es) → node_of h p left (depth + 1) (in_byte_order es) ≡ Some node → IsHeldNode p held node × HoldsBelow h p held left (depth + 1) (in_byte_order es)
 
 record Tells (h : List ℕ → List ℕ) (p : TrieShape) (held : List (List ℕ)) (left depth : ℕ) (slots : List TrieSlot) (es : List (List ℕ × Data)) : Type 0 where
   pub distinct : no_key_twice es ≡ true
   pub order : es ≡ in_trie_order h p (suc left) depth (in_byte_order es)
   pub node : slots_at h p left depth (in_byte_order es) ≡ Some slots
+  pub nodes : SlotsNodes (Counts p held left) slots (length (nodes_beneath h p (suc left) depth (in_byte_order es)))
   pub holds : HoldsBelow h p held (suc left) depth (in_byte_order es)
 
 part-few : (h : List ℕ → List ℕ) (p : TrieShape) (held : List (List ℕ)) (left depth : ℕ) (es : List (List ℕ × Data)) → IsInOrder es → 1 ≤ length es → length es ≤ p.bucket → PartIs h p held left depth (bucket es) es
@@ -103,6 +131,7 @@ part-few h p held left depth (e ∷ es) order some few =
       distinct = once (e ∷ es) (true_of _ order);
       slot = ap (slot_of p.bucket (node_of h p left (depth + 1))) same ∙ ap (λ b. bucket_or b (node_of h p left (depth + 1)) (e ∷ es)) le;
       order = sym (ap (λ (fs : List (List ℕ × Data)). part_or (nat_le (length fs) p.bucket) (in_trie_order h p left (depth + 1)) fs) same ∙ ap (λ b. part_or b (in_trie_order h p left (depth + 1)) (e ∷ es)) le);
+      nodes = ap (λ (fs : List (List ℕ × Data)). length (blocks h p left depth fs)) same ∙ ap (λ b. length (none_or b (λ fs. block_of (node_of h p left (depth + 1) fs) ++ nodes_beneath h p left (depth + 1) fs) (e ∷ es))) le;
       holds = λ node many is. absurd (let long = ap (λ (fs : List (List ℕ × Data)). length fs) same in omega arith);
     }
 
@@ -111,11 +140,15 @@ part-none h p held left depth = record {
   distinct = refl;
   slot = refl;
   order = sym (ap (λ b. part_or b (in_trie_order h p left (depth + 1)) []) (le-leb 0 p.bucket (omega arith)));
+  nodes = ap (λ b. length (none_or b (λ fs. block_of (node_of h p left (depth + 1) fs) ++ nodes_beneath h p left (depth + 1) fs) [])) (le-leb 0 p.bucket (omega arith));
   holds = λ node many is. absurd (omega arith);
 }
 
 same-node : (a b : Data) → Some a ≡ Some b → a ≡ b
 same-node a b is = cc
+
+one-added : (n : ℕ) → suc n ≡ 1 + n
+one-added n = omega arith
 
 part-child : (h : List ℕ → List ℕ) (p : TrieShape) (held : List (List ℕ)) (left depth : ℕ) (id : List ℕ) (es : List (List ℕ × Data)) (t : NodeGives h p held (depth + 1) (TreeGives h p held left (depth + 1 + 1)) id es) → Tells h p held left (depth + 1) t.slots es
     → PartIs h p held (suc left) depth (child id) es
@@ -129,6 +162,16 @@ part-child h p held left depth id es t tells =
       distinct = tells.distinct;
       slot = slot-many p.bucket (node_of h p (suc left) (depth + 1)) fs (omega arith) ∙ ap (option_map link_to) there ∙ ap (λ i. Some (child i)) named;
       order = tells.order ∙ sym (ap (λ b. part_or b (in_trie_order h p (suc left) (depth + 1)) fs) (lt-leb (length fs) p.bucket (omega arith)));
+      nodes = record {
+        block = t.block;
+        slots = t.slots;
+        here = t.here;
+        node = t.node;
+        more = length (nodes_beneath h p (suc left) (depth + 1) fs);
+        is = ap (λ b. length (none_or b (λ gs. block_of (node_of h p (suc left) (depth + 1) gs) ++ nodes_beneath h p (suc left) (depth + 1) gs) fs)) (lt-leb (length fs) p.bucket (omega arith))
+            ∙ ap (λ o. length (block_of o ++ nodes_beneath h p (suc left) (depth + 1) fs)) there ∙ one-added (length (nodes_beneath h p (suc left) (depth + 1) fs));
+        many = tells.nodes;
+      };
       holds = λ node more is.
           let same : node ≡ node_data t.slots = same-node node (node_data t.slots) (sym is ∙ there) in (
             subst (IsHeldNode p held) (sym same) (record {
@@ -200,6 +243,19 @@ each-order h p held left depth i [] (es ∷ ess) each = absurd each
 each-order h p held left depth i (s ∷ slots) [] each = absurd each
 each-order h p held left depth i (s ∷ slots) (es ∷ ess) each = (λ k. each.1.order k ++ each-order h p held left depth (i + 1) slots ess each.2 k)
 
+each-nodes : (h : List ℕ → List ℕ) (p : TrieShape) (held : List (List ℕ)) (left depth i : ℕ) (slots : List TrieSlot) (ess : List (List (List ℕ × Data))) → Each h p held left depth i slots ess
+    → SlotsNodes (Counts p held left) slots (length (flat_map (blocks h p left depth) (map in_byte_order ess)))
+each-nodes h p held left depth i [] [] each = refl
+each-nodes h p held left depth i [] (es ∷ ess) each = absurd each
+each-nodes h p held left depth i (s ∷ slots) [] each = absurd each
+each-nodes h p held left depth i (s ∷ slots) (es ∷ ess) each = (
+  length (blocks h p left depth (in_byte_order es)),
+  length (flat_map (blocks h p left depth) (map in_byte_order ess)),
+  length-append (blocks h p left depth (in_byte_order es)) (flat_map (blocks h p left depth) (map in_byte_order ess)),
+  each.1.nodes,
+  each-nodes h p held left depth (i + 1) slots ess each.2,
+)
+
 each-holds : (h : List ℕ → List ℕ) (p : TrieShape) (held : List (List ℕ)) (left depth i : ℕ) (slots : List TrieSlot) (ess : List (List (List ℕ × Data))) → Each h p held left depth i slots ess → (j : ℕ) (node : Data)
     → p.bucket < length (get_or (map in_byte_order ess) j []) → node_of h p left (depth + 1) (get_or (map in_byte_order ess) j []) ≡ Some node → IsHeldNode p held node × HoldsBelow h p held left (depth + 1) (get_or (map in_byte_order ess) j [])
 each-holds h p held left depth i [] [] each j node many is = absurd (omega arith)
@@ -258,7 +314,19 @@ from-parts h p held left depth slots es beneath form gives =
     get_or-map-range_with_len (λ i. ordered h p left depth (part at all i)) 0 (2 ^ p.width) k k d inside (omega arith)
     ∙ ap (ordered h p left depth) (part-gathered at k fss apart among)
     ∙ sym (get_or-map (ordered h p left depth) fss k [] d among))) in
+    let sets : map (blocks h p left depth) fss ≡ map (λ i. blocks h p left depth (part at all i)) (range_with_len 0 (2 ^ p.width)) =
+    sym (same_lists (map (λ i. blocks h p left depth (part at all i)) (range_with_len 0 (2 ^ p.width))) (map (blocks h p left depth) fss)
+    (length-map-range_with_len (λ i. blocks h p left depth (part at all i)) 0 (2 ^ p.width) ∙ sym long ∙ sym (length-map fss (blocks h p left depth)))
+    (λ k d lt.
+    let inside : k < 2 ^ p.width = omega (arith, length-map-range_with_len (λ i. blocks h p left depth (part at all i)) 0 (2 ^ p.width)) in
+    let among : k < length fss = omega (arith, long) in
+    get_or-map-range_with_len (λ i. blocks h p left depth (part at all i)) 0 (2 ^ p.width) k k d inside (omega arith)
+    ∙ ap (blocks h p left depth) (part-gathered at k fss apart among)
+    ∙ sym (get_or-map (blocks h p left depth) fss k [] d among))) in
+    let beneath_all : flat_map (blocks h p left depth) fss ≡ nodes_beneath h p (suc left) depth (in_byte_order es) = sym (flat_map-map (λ xs. xs) (blocks h p left depth) fss) ∙ ap (flat_map (λ xs. xs)) sets
+    ∙ flat_map-map (λ xs. xs) (λ i. blocks h p left depth (part at all i)) (range_with_len 0 (2 ^ p.width)) ∙ sym (beneath_step h p left depth all) ∙ ap (nodes_beneath h p (suc left) depth) (sym same) in
     record {
+      nodes = subst (λ (bs : List (List ℕ)). SlotsNodes (Counts p held left) slots (length bs)) beneath_all (each-nodes h p held left depth 0 slots s.parts s.each);
       distinct = ap no_key_twice s.is ∙ each-distinct h p held left depth 0 slots s.parts s.each;
       order = s.is ∙ each-order h p held left depth 0 slots s.parts s.each ∙ sym (flat_map-map (λ xs. xs) (ordered h p left depth) fss) ∙ ap (flat_map (λ xs. xs)) lists
           ∙ flat_map-map (λ xs. xs) (λ i. ordered h p left depth (part at all i)) (range_with_len 0 (2 ^ p.width)) ∙ sym (walk_step h p left depth all) ∙ ap (in_trie_order h p (suc left) depth) (sym same);
@@ -289,3 +357,27 @@ given-is-trie h held slots es form gives =
       tree = trie-sorted h usual es 0 t.distinct ∙ node-slots h usual 31 0 (in_byte_order es) ∙ ap (option_map node_data) t.node;
       holds = t.holds;
     }
+
+-- ---- the nodes that a walk reads
+
+slots-counted : (held : List (List ℕ)) (left : ℕ) (slots : List TrieSlot) (n : ℕ) → ((id : List ℕ) (k : ℕ) → Counts usual held left id k → TreeNodes held left id k) → SlotsNodes (Counts usual held left) slots n → SlotsNodes (TreeNodes held left) slots n
+slots-counted held left [] n beneath many = many
+slots-counted held left (empty ∷ slots) n beneath many = (many.0, many.1, many.2, many.3, slots-counted held left slots many.1 beneath many.4)
+slots-counted held left (bucket es ∷ slots) n beneath many = (many.0, many.1, many.2, many.3, slots-counted held left slots many.1 beneath many.4)
+slots-counted held left (child id ∷ slots) n beneath many = (many.0, many.1, many.2, beneath id many.0 many.3, slots-counted held left slots many.1 beneath many.4)
+
+tree-counted : (held : List (List ℕ)) (left : ℕ) (id : List ℕ) (n : ℕ) → Counts usual held left id n → TreeNodes held left id n
+tree-counted held zero id n c = absurd c
+tree-counted held (suc left) id n c = (
+  c.more,
+  c.is,
+  inl (record {
+    slots = c.slots;
+    node = record { block = c.block; at = record { named = block_at_id held id c.block c.here; held = c.here }; node = c.node };
+    many = slots-counted held left c.slots c.more (tree-counted held left) c.many;
+  }),
+)
+
+pub given-counted : (h : List ℕ → List ℕ) (held : List (List ℕ)) (slots : List TrieSlot) (es : List (List ℕ × Data)) → IsNode usual slots → RootGives h usual held (trie_levels usual - 1) slots es → NodesBeneath held slots (length (nodes_beneath h usual (trie_levels usual) 0 (in_byte_order es)))
+given-counted h held slots es form gives =
+    slots-counted held 31 slots (length (nodes_beneath h usual 32 0 (in_byte_order es))) (tree-counted held 31) (tells h usual held 31 0 slots es form gives).nodes

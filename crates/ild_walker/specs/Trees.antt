@@ -4,12 +4,14 @@ use Rattle.ild_data.specs.ByteOrder.{in_byte_order, no_key_twice}
 use Rattle.ild_data.specs.Data.{Data}
 use Rattle.ild_data.specs.Spell.{spell, id_of}
 use Rattle.ild_data.specs.Trie.{TrieSlot, part, at_depth, node_data, node_of, trie}
+use Rattle.ild_data.specs.TrieBlocks.{nodes_beneath}
 use Rattle.ild_data.specs.TrieShape.{TrieShape, trie_levels}
 use Rattle.ild_edges.specs.Store.{block_at}
 use Rattle.ild_typed.specs.Composed.{usual}
 use Rattle.ild_trie.specs.Walk.{in_trie_order}
 use Rattle.ild_node.specs.Form.{IsNode}
 use Rattle.ild_walker.specs.Gives.{IsNodeOf, RootGives}
+use Rattle.ild_walker.specs.Reads.{NodesBeneath}
 
 -- a node is held as a block, within the limits of blocks
 pub record IsHeldNode (p : TrieShape) (held : List (List ℕ)) (node : Data) : Type 0 where
@@ -35,3 +37,8 @@ pub record IsTrieOf (h : List ℕ → List ℕ) (held : List (List ℕ)) (slots 
 -- the blocks beneath a root give exactly the entries of which they are the trie
 abbrev pub GivenIsTrie : Type 0
 GivenIsTrie = (h : List ℕ → List ℕ) (held : List (List ℕ)) (slots : List TrieSlot) (es : List (List ℕ × Data)) → IsNode usual slots → RootGives h usual held (trie_levels usual - 1) slots es ↔ IsTrieOf h held slots es
+
+-- beneath a root that gives entries there are as many blocks of nodes as beneath the node of their trie
+abbrev pub NodesAreTheTries : Type 0
+NodesAreTheTries = (h : List ℕ → List ℕ) (held : List (List ℕ)) (slots : List TrieSlot) (es : List (List ℕ × Data)) → IsNode usual slots → RootGives h usual held (trie_levels usual - 1) slots es
+    → NodesBeneath held slots (length (nodes_beneath h usual (trie_levels usual) 0 (in_byte_order es)))
