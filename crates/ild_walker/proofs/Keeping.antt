@@ -1,11 +1,10 @@
 -- A walker stays on its tree, and a block that it refuses is one of it.
-use Rattle.std.proofs.Common.{◌≡◌, inl, inr, ℕ, suc, ◌+◌, ◌-◌, ◌<◌, ◌≤◌, false, List, [], ◌∷◌, ◌++◌, length, map, Option, Some, None, refl, sym, ap, ◌∙◌, subst, arith}
+use Rattle.std.proofs.Common.{◌≡◌, inl, inr, ℕ, suc, ◌+◌, ◌-◌, ◌<◌, ◌≤◌, false, List, [], ◌∷◌, ◌++◌, length, map, Option, Some, refl, sym, ap, ◌∙◌, subst, arith}
 use Rattle.std.specs.Prelude.{reverse, Result, Ok, Err, IfErr}
 use Rattle.std.proofs.lemmas.List.{map-append, reverse-append, length-append, length-map, length-reverse, reverse-reverse}
 use Rattle.std.proofs.lemmas.Simd.{map-map}
 use Rattle.ild_cbor.specs.declared.why.BlockWhy.{BlockWhy}
 use Rattle.ild_cbor.specs.declared.why.BlockWhy.TheVariants.{Missing, Cbor, Shape as NoNode}
-use Rattle.ild_cbor.specs.declared.why.Why.TheVariants.{Trie}
 use Rattle.ild_data.specs.Data.{Data}
 use Rattle.ild_data.specs.Trie.{TrieSlot}
 use Rattle.ild_data.specs.TrieShape.{trie_levels}
@@ -17,8 +16,8 @@ use Rattle.ild_node.specs.declared.fault.HamtFault.{HamtFault}
 use Rattle.ild_node.specs.declared.fault.HamtFault.TheVariants as F
 use Rattle.ild_walker.specs.Ahead.{NextIs, walker_todo, walker_path, walker_here, IsTrieFault, IsFaultAt, IsEntered, IsUnchanged, IsTaken}
 use Rattle.ild_walker.specs.Fetching.{IsRefused, GotSteps}
-use Rattle.ild_walker.specs.OnTree.{HasNode, IsNodeAt, IsOnTree, IsWrong, IsWrongNode, IsUncollapsed, SlotsMany, TreeMany}
-use Rattle.ild_walker.specs.Standing.{way_of, indices_of, last_of, Stands, IsOn, IsBroken, KeepsOn, RowStands, StandsThere}
+use Rattle.ild_walker.specs.OnTree.{HasNode, IsOnTree, IsWrong, IsWrongNode, SlotsMany, TreeMany}
+use Rattle.ild_walker.specs.Standing.{way_of, indices_of, last_of, Stands, IsOn, IsBroken, KeepsOn, RowStands}
 use Rattle.ild_walker.specs.Steps.{path_of}
 use Rattle.ild_walker.specs.Todo.{Todo, give, enter, leave, node_todo, fits}
 use Rattle.ild_walker.specs.declared.row.Row.{Row}

@@ -1,5 +1,5 @@
 -- One call of a walker's next, put together.
-use Rattle.std.proofs.Common.{◌≡◌, inl, inr, ⊎_elim, ◌↔◌, ℕ, ◌+◌, ◌-◌, ◌<◌, ◌≤◌, true, false, List, [], ◌∷◌, ◌++◌, length, Option, Some, None, refl, sym, ap, ◌∙◌, subst, arith, append_assoc, append-nil}
+use Rattle.std.proofs.Common.{◌≡◌, inl, inr, ⊎_elim, ◌↔◌, ℕ, ◌+◌, ◌-◌, ◌<◌, ◌≤◌, true, false, List, [], ◌∷◌, length, Option, Some, None, refl, sym, ap, ◌∙◌, subst, arith}
 use Rattle.std.specs.Prelude.{Result, Ok, Err}
 use Rattle.std.proofs.lemmas.Bool.{false≢true}
 use Rattle.ild_cbor.specs.declared.why.BlockWhy.{BlockWhy}
@@ -14,16 +14,14 @@ use Rattle.ild_edges.proofs.Later.{Later-refl, Later-trans}
 use Rattle.ild_typed.specs.Composed.{usual}
 use Rattle.ild_node.specs.declared.fault.HamtFault.{HamtFault}
 use Rattle.ild_node.specs.declared.fault.HamtFault.TheVariants as F
-use Rattle.std.proofs.lemmas.List.{length-append, length-map}
-use Rattle.ild_walker.specs.Gives.{RootGives}
-use Rattle.ild_walker.specs.Checked.{HasWalked, Checks, CheckAnswer}
+use Rattle.std.proofs.lemmas.List.{length-map}
 use Rattle.ild_walker.specs.Fetching.{IsRefused, OnlyGets}
 use Rattle.ild_walker.specs.Todo.{Todo, give, enter, leave, node_todo, fits, StillGives}
 use Rattle.ild_walker.specs.Ahead.{Ahead, StillAhead, walker_todo, walker_path, walker_here, IsFaultAt, IsTrieFault, SameTold, NothingTold, KeepsAhead, Leaves, Enters, EnterAnswer, IsCause, IsUnchanged, Takes, Gives, GiveAnswer, GivesNext, IsNew, IsReady, NextAnswer, Nexts, Counts}
 use Rattle.ild_walker.proofs.Opening.{root-on, root-off}
 use Rattle.ild_walker.proofs.Walking.{unchanged-same}
-use Rattle.ild_walker.specs.Standing.{IsOn, IsBroken, KeepsOn, RowStands}
-use Rattle.ild_walker.proofs.Keeping.{StaysOn, FaultOn, keeps-more, few-keeps, stray-keeps, taken-keeps, taken-row, memory-keeps, broken-since}
+use Rattle.ild_walker.specs.Standing.{KeepsOn, RowStands}
+use Rattle.ild_walker.proofs.Keeping.{StaysOn, FaultOn, keeps-more, few-keeps, stray-keeps, taken-keeps, taken-row, memory-keeps}
 use Rattle.ild_walker.proofs.Spending.{Passes, passes-itself, spends-none, spends-more, taken-passes}
 use Rattle.ild_walker.specs.declared.row.Row.{Row}
 use Rattle.ild_walker.specs.declared.step.Child.{Child}

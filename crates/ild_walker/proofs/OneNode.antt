@@ -1,5 +1,5 @@
 -- A block is the node of one list of slots.
-use Rattle.std.proofs.Common.{◌≡◌, List, [], ◌++◌, length, sym, ◌∙◌, arith, append-nil, ℕ}
+use Rattle.std.proofs.Common.{◌≡◌, List, [], length, sym, ◌∙◌, arith, append-nil, ℕ}
 use Rattle.ild_cbor.proofs.Blocks.{one_spelling_within}
 use Rattle.ild_data.specs.Spell.{spell}
 use Rattle.ild_data.specs.Trie.{TrieSlot, node_data}

@@ -1,5 +1,5 @@
 -- A walk reads each block beneath its root at most once.
-use Rattle.std.proofs.Common.{◌≡◌, ◌⊎◌, inl, inr, ⊎_elim, ℕ, zero, suc, ◌+◌, ◌-◌, ◌<◌, ◌≤◌, List, [], ◌∷◌, ◌++◌, length, map, Some, refl, sym, ap, ◌∙◌, subst, arith, append_assoc, append-nil}
+use Rattle.std.proofs.Common.{◌≡◌, ◌⊎◌, ⊎_elim, ℕ, suc, ◌+◌, ◌-◌, ◌<◌, ◌≤◌, List, [], ◌∷◌, ◌++◌, length, map, Some, refl, sym, ap, ◌∙◌, subst, arith, append_assoc, append-nil}
 use Rattle.std.specs.Prelude.{Result, Ok, Err}
 use Rattle.std.proofs.lemmas.List.{length-append}
 use Rattle.std.proofs.lemmas.Option.{same_Some}
@@ -10,10 +10,9 @@ use Rattle.ild_edges.specs.Told.{IfTold}
 use Rattle.ild_edges.specs.Store.{Moment, block_at}
 use Rattle.ild_typed.specs.Composed.{usual}
 use Rattle.ild_node.specs.declared.fault.HamtFault.{HamtFault}
-use Rattle.ild_walker.specs.Ahead.{NextIs, walker_todo, IsEntered, IsTaken, IsUnchanged}
+use Rattle.ild_walker.specs.Ahead.{NextIs, walker_todo, IsEntered, IsTaken}
 use Rattle.ild_walker.specs.Fetching.{GotSteps}
 use Rattle.ild_walker.specs.Gives.{IsNodeOf}
-use Rattle.ild_walker.specs.OnTree.{IsNodeAt}
 use Rattle.ild_walker.specs.Reads.{SlotNodes, SlotsNodes, NodesIn, NoNodes, TreeNodes, NodesBeneath, TodoNodes, LeftNodes, Spent, Spends}
 use Rattle.ild_walker.specs.Todo.{Todo, give, enter, leave, slot_todo, node_todo}
 use Rattle.ild_walker.specs.declared.row.Row.{Row}

@@ -1,5 +1,5 @@
 -- What a walk over a whole HAMT answers: its entries, how many they are, or why its blocks give none.
-use Rattle.std.specs.Prelude.{◌≡◌, ◌↔◌, ℕ, ◌+◌, ◌-◌, ◌≤◌, List, [], ◌++◌, length, map, Some, Result, Ok, Err, IfOk, IfErr}
+use Rattle.std.specs.Prelude.{◌≡◌, ◌↔◌, ℕ, ◌+◌, ◌-◌, ◌≤◌, List, ◌++◌, length, map, Some, Result, Ok, Err, IfOk, IfErr}
 use Rattle.std.specs.Global.{Vec}
 use Rattle.std.specs.List.{All}
 use Rattle.std.specs.List.Sorted.{IsPermutation, IsSortedBy}

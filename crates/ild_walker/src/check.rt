@@ -12,6 +12,7 @@ use ild_node::{HamtFault, NodeView};
 use std::alloc::Global;
 
 /// Walks over all entries beneath a root, which stands in the block of this id, and counts them.
+/// Each block beneath it is got once; one that is refused is as `Walker::next` has it.
 pub fn check_tree<K: Store, H: KeyHash>(
     alloc: Global,
     root: NodeView<'_>,

@@ -22,6 +22,7 @@ fn sort_rows(rows: &mut Vec<Row>)
 }
 
 /// All entries beneath a root, which stands in the block of this id, in the order of their keys: the shorter first, then bytewise.
+/// Each block beneath it is got once; one that is refused is as `Walker::next` has it.
 pub fn walk<K: Store, H: KeyHash>(
     alloc: Global,
     root: NodeView<'_>,

@@ -228,7 +228,8 @@ impl Walker {
         }
     }
 
-    /// The next entry, or `None` where all are given. After an error the same entries are still ahead.
+    /// The next entry, or `None` where all are given. A block that is refused is on the tree: the store lacks it, it is no block
+    /// of DAG-CBOR, or it isn't the node that a HAMT has at its place. After an error the same entries are still ahead.
     pub fn next<K: Store, H: KeyHash>(
         &mut self,
         keys: &H,
