@@ -46,19 +46,14 @@ fn refused<H: KeyHash>(
     let view = node_of(check(root).ok().ok_or("a block")?)
         .ok()
         .ok_or("a node")?;
-    Ok(
-        match check_tree(alloc, view, block_id(root), keys, store) {
-            Err(HamtFault::Block { id, why }) => Some((id, why)),
-            _ => None,
-        },
-    )
+    Ok(match check_tree(alloc, view, block_id(root), keys, store) {
+        Err(HamtFault::Block { id, why }) => Some((id, why)),
+        _ => None,
+    })
 }
 
 /// How a walk ends beneath a root over this child at index 0.
-fn over_child(
-    alloc: Global,
-    child: &[u8],
-) -> Result<Option<(BlockId, BlockWhy)>, Fail> {
+fn over_child(alloc: Global, child: &[u8]) -> Result<Option<(BlockId, BlockWhy)>, Fail> {
     let mut store = MemStore::new(alloc, &[], &[])?;
     store.add(child)?;
     let root = over(alloc, 0, 1, block_id(child))?;
@@ -102,11 +97,7 @@ fn a_child_that_is_no_block(rt: HostRuntime) -> Result<(), Fail> {
 }
 
 /// A chain of so many nodes over a child, each at index 0 of the one above, all of them added; and the blocks of the last two.
-fn chain(
-    alloc: Global,
-    count: u32,
-    store: &mut MemStore,
-) -> Result<(Vec<u8>, BlockId), Fail> {
+fn chain(alloc: Global, count: u32, store: &mut MemStore) -> Result<(Vec<u8>, BlockId), Fail> {
     store.add(CHILD_OF_FOUR)?;
     let mut last = over(alloc, 0, 1, block_id(CHILD_OF_FOUR))?;
     let lowest = block_id(last.as_slice());

@@ -10,11 +10,7 @@ use std::alloc::Global;
 use std::test::Fail;
 
 /// How many entries a walk gives, and how often the store failed on the way.
-fn given_and_faults(
-    alloc: Global,
-    root: &[u8],
-    store: &mut MemStore,
-) -> Result<(u32, u32), Fail> {
+fn given_and_faults(alloc: Global, root: &[u8], store: &mut MemStore) -> Result<(u32, u32), Fail> {
     let view = node_of(check(root).ok().ok_or("a block")?)
         .ok()
         .ok_or("a node")?;
@@ -69,15 +65,24 @@ fn listed(alloc: Global, root: &[u8], store: &mut MemStore) -> Result<Vec<Row>, 
     let view = node_of(check(root).ok().ok_or("a block")?)
         .ok()
         .ok_or("a node")?;
-    Ok(walk(alloc, view, block_id(root), &Sha256Keys, store)
-        .ok()
-        .ok_or("rows")?)
+    Ok(
+        walk(alloc, view, block_id(root), &Sha256Keys, store)
+            .ok()
+            .ok_or("rows")?,
+    )
 }
 
 #[test]
 fn in_the_order_of_keys(rt: HostRuntime) -> Result<(), Fail> {
     let mut store = MemStore::new(rt.alloc(), &[], &[])?;
-    let pairs = [("", 1), ("aa", 2), ("aaa", 3), ("b", 4), ("ba", 5), ("c", 6)];
+    let pairs = [
+        ("", 1),
+        ("aa", 2),
+        ("aaa", 3),
+        ("b", 4),
+        ("ba", 5),
+        ("c", 6),
+    ];
     let root = built(rt.alloc(), &pairs, &Sha256Keys, &mut store)?;
     let rows = listed(rt.alloc(), root.as_slice(), &mut store)?;
     assert_eq!(rt; rows.len(), 6);
