@@ -6,9 +6,3 @@ pub mod Puts
 pub mod Tries
 pub mod Plans
 pub mod Nests
-pub mod Opening
-pub mod Stepping
-pub mod Walking
-pub mod Nexting
-pub mod Tried
-pub mod Regiven

@@ -4,12 +4,3 @@ pub mod Putting
 pub mod Children
 pub mod Build
 pub mod Laws
-pub mod Gives
-pub mod Todo
-pub mod Steps
-pub mod Shown
-pub mod Gathered
-pub mod Fetching
-pub mod Ahead
-pub mod Checked
-pub mod Trees

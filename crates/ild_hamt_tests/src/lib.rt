@@ -4,9 +4,13 @@
 #[cfg(test)]
 mod built;
 #[cfg(test)]
+mod damaged;
+#[cfg(test)]
 mod edited;
 #[cfg(test)]
 mod nodes;
+#[cfg(test)]
+mod resumed;
 #[cfg(test)]
 mod rows;
 #[cfg(test)]

@@ -1,10 +1,11 @@
 //! Walks over whole HAMTs, those that stand and those that don't.
 use crate::built::{CHILD_OF_FOUR, FOUR, ROOT_OF_FOUR, TWO_CHILDREN, built, pseudo_random};
-use ild_bulk::{Walker, check_tree, from_entries};
+use ild_bulk::from_entries;
 use ild_cbor::{BlockWhy, Why, check};
 use ild_data::{KeyHash, PadKeys, Sha256Keys, block_id};
 use ild_edges::MemStore;
 use ild_node::{HamtFault, node_of};
+use ild_walker::{Walker, check_tree};
 use std::alloc::Global;
 use std::test::Fail;
 

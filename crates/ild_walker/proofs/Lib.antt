@@ -1,0 +1,11 @@
+pub mod Opening
+pub mod Stepping
+pub mod OneNode
+pub mod Spending
+pub mod Placed
+pub mod Keeping
+pub mod Walking
+pub mod Nexting
+pub mod Ending
+pub mod Tried
+pub mod Regiven

@@ -1,0 +1,20 @@
+use Rattle.std.proofs.Common.{refl, subst}
+use Rattle.std.proofs.lemmas.Bool.{false≢true}
+use Rattle.ild_data.specs.Data.{Data}
+use Rattle.ild_data.specs.Trie.{node_data}
+use Rattle.ild_cbor.specs.Block.{IsBlockOf}
+use Rattle.ild_walker.proofs.fetch.steps_of.Goals as goal
+
+pub returns-in_ok-steps_in-in-Ok-node_of : goal.returns-in_ok-steps_in-in-Ok-node_of
+returns-in_ok-steps_in-in-Ok-node_of c =
+    let d = c.in-Ok.ensures.found in
+    let s = c.in-Ok-node_of.ensures.found d.0 d.2.stands in
+    record {
+      slots = s.0;
+      node = record { is = subst (λ (t : Data). IsBlockOf c.args.block.now t) s.1 d.1; form = s.2.form };
+      todo = c.in_ok-steps_in-in-Ok-node_of.ensures s.0 s.2;
+    }
+
+pub returns-in-Err-node_of : goal.returns-in-Err-node_of
+returns-in-Err-node_of c =
+    (refl, (c.in-Err-node_of.ensures.err, λ slots n. absurd (false≢true (c.in-Err-node_of.ensures.only slots (c.in-Ok.ensures.only (node_data slots) n.is).1.stands n.form).0)))

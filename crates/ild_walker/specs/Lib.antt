@@ -1,0 +1,12 @@
+pub mod Gives
+pub mod Todo
+pub mod OnTree
+pub mod Reads
+pub mod Standing
+pub mod Steps
+pub mod Shown
+pub mod Gathered
+pub mod Fetching
+pub mod Ahead
+pub mod Checked
+pub mod Trees

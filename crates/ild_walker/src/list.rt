@@ -1,0 +1,42 @@
+//! Listing the entries of a whole HAMT.
+ghost use Rattle.std.specs.Prelude.{◌≡◌, ◌+◌, List, IfOk};
+ghost use Rattle.std.specs.List.Sorted.{IsPermutation};
+ghost use Rattle.ild_data.specs.Trie.{TrieSlot};
+ghost use Rattle.ild_typed.specs.Composed.{usual};
+ghost use Rattle.ild_node.specs.Views.{HasSlots};
+ghost use Rattle.ild_walker.specs.Checked.{InKeyOrder, Walks};
+
+use crate::row::Row;
+use crate::walker::Walker;
+use ild_data::{BlockId, KeyHash, key_order};
+use ild_edges::Store;
+use ild_node::{HamtFault, NodeView};
+use std::alloc::Global;
+
+// Brings rows into the order of keys.
+fn sort_rows(rows: &mut Vec<Row>)
+    ensures same { IsPermutation rows.old.items rows.new.items }
+    ensures order { InKeyOrder rows.new.items }
+{
+    rows.sort_unstable_by(|a, b| key_order(a.key.as_str(), b.key.as_str()));
+}
+
+/// All entries beneath a root, which stands in the block of this id, in the order of their keys: the shorter first, then bytewise.
+/// Each block beneath it is got once; one that is refused is as `Walker::next` has it.
+pub fn walk<K: Store, H: KeyHash>(
+    alloc: Global,
+    root: NodeView<'_>,
+    at: BlockId,
+    keys: &H,
+    store: &mut K,
+) -> Result<Vec<Row>, HamtFault>
+    ensures { (slots : List TrieSlot) → HasSlots usual root.entry slots → Walks H.hash_of slots at.0 (K.moment store.old) result (K.moment store.new) }
+{
+    let mut walker = Walker::new(alloc, root, at)?;
+    let mut rows = Vec::new(alloc);
+    while let Some(row) = walker.next(keys, store)? {
+        rows.push(row)?;
+    }
+    sort_rows(&mut rows);
+    Ok(rows)
+}
