@@ -1,0 +1,3 @@
+pub mod Outcomes
+pub mod Blocks
+pub mod Putting
