@@ -23,11 +23,8 @@ fn json_fault(err: JsonErr) -> CreateFault
     ensures { result ≡ json_fault err }
 {
     match err {
-        JsonErr::Syntax
-        | JsonErr::Number
-        | JsonErr::Reserved
-        | JsonErr::Bytes
-        | JsonErr::Cid => CreateFault::Refused(Refusal::Json),
+        JsonErr::Syntax | JsonErr::Number | JsonErr::Reserved | JsonErr::Bytes | JsonErr::Cid =>
+            CreateFault::Refused(Refusal::Json),
         JsonErr::Memory => CreateFault::Memory,
     }
 }
