@@ -8,6 +8,13 @@ use Rattle.ild_edges.specs.declared.inputs.Taken.TheVariants as Taken
 use Rattle.ild_plain.specs.Plain.{plain_map}
 use Rattle.ild_plain.specs.Value.{Value, blocks_of}
 use Rattle.ild_plain.proofs.Edits.{carries_plain}
+use Rattle.ild_create.specs.Creates.{CreateAnswer}
+use Rattle.ild_create.specs.declared.fault.CreateFault.{CreateFault}
+use Rattle.ild_create.specs.declared.fault.CreateFault.TheVariants as V
+use Rattle.ild_data.specs.declared.id.BlockId.{BlockId}
+use Rattle.ild_schema.specs.Table.{IsTable}
+use Rattle.ild_schema.specs.declared.number.TypeNo.{TypeNo}
+use Rattle.ild_schema.specs.declared.row.Row.{Row}
 use Rattle.ild_script.specs.declared.reply.Reply.{Reply}
 use Rattle.ild_script.specs.Line.{lines_of}
 use Rattle.ild_session.specs.Lines.{LinesDone, LinesCut}
@@ -18,11 +25,12 @@ use Rattle.ild_session.proofs.Steps.{run_gets, run_puts}
 use Rattle.ild_run.specs.First.{Tries}
 use Rattle.ild_run.specs.Opening.{PutsFirst, FirstAnswer, InputsFault}
 use Rattle.ild_run.specs.Fault.{fault_text, status_of, cut_status}
-use Rattle.ild_run.specs.Work.{Work, Taking, in_roles, lists, answers, work_of, job_work, IsTaking, AreTaken, Takes, Reaches}
+use Rattle.ild_run.specs.Work.{Work, Taking, in_roles, lists, answers, makes, work_of, job_work, IsTaking, AreTaken, Takes, Reaches}
 use Rattle.ild_run.specs.Words.{Job}
 use Rattle.ild_run.specs.Cut.{CutAs, ToldAs}
 use Rattle.ild_run.specs.Listed.{Lists, ListsFront, ListedAs}
-use Rattle.ild_run.specs.Ended.{Call, IsDue, HasScript, Leaves, Answers, AnswersAll, AnswersSome, ListsNames, ListsSome, Tells, TellsFront, Says, Ended}
+use Rattle.ild_run.specs.Made.{made_fault, MadeTold, MadeAs}
+use Rattle.ild_run.specs.Ended.{Call, IsDue, HasScript, Leaves, Answers, AnswersAll, AnswersSome, ListsNames, ListsSome, CreatesSome, Tells, TellsFront, Says, Ended}
 use Rattle.ild_run.specs.declared.fault.Fault.{Fault}
 use Rattle.ild_run.specs.declared.fault.Fault.TheVariants as F
 use Rattle.ild_run.specs.declared.fault.Role.{Role}
@@ -41,6 +49,7 @@ says_told c t (F.Input role trouble) tells = (role, trouble, tells)
 says_told c t F.Store tells = inl tells
 says_told c t (F.Clash id) tells = inr (id, tells)
 says_told c t F.Memory tells = inl tells
+says_told c t (F.Value r) tells = (r, tells)
 
 -- a fault whose line was cut off
 says_front : (c : Call) (t : Taking) (status : Status) → TellsFront c t → CutAs c.before.output status c.after.output → Says c t status
@@ -66,7 +75,7 @@ ended_told c t f status taken due leaves told = record { taking = t; taken = tak
 
 -- a call whose words have no form
 no_taking : Taking
-no_taking = record { input = in_roles Taken.Absent Taken.Absent; verdict = None }
+no_taking = record { input = in_roles Taken.Absent Taken.Absent; verdict = None; hamt = None }
 
 pub ended_words : (c : Call) (status : Status) → c.job ≡ None → c.after.moment ≡ c.before.moment → ToldAs F.Words c.before.output status c.after.output → Ended c status
 ended_words c status none same told =
@@ -83,18 +92,20 @@ are_taken : (c : Call) (job : Job) (t : Taking) → c.job ≡ Some job → IsTak
 are_taken c job t named taken = subst (λ (j : Option Job). AreTaken j c.before.supply t) (sym named) taken
 
 due_first : (c : Call) (t : Taking) (f : Fault) → HasScript (work_of c.job t) → FirstAnswer c.before.moment [] (Err f) c.after.moment → IsDue c t f
-due_first c t F.Store has answer = (answer, has)
-due_first c t (F.Clash id) has answer = (answer.0, answer.1, has)
+due_first c t F.Store has answer = (answer, inl has)
+due_first c t (F.Clash id) has answer = inl (answer.0, answer.1, has)
 due_first c t F.Memory has answer = tt
 due_first c t F.Words has answer = absurd answer
 due_first c t F.NotBuilt has answer = absurd answer
 due_first c t (F.Schema f) has answer = absurd answer
 due_first c t (F.Input role trouble) has answer = absurd answer
+due_first c t (F.Value r) has answer = absurd answer
 
 leaves_first : (c : Call) (t : Taking) (f : Fault) → HasScript (work_of c.job t) → FirstAnswer c.before.moment [] (Err f) c.after.moment → Tries (blocks_of []) c.before.moment c.after.moment → Leaves c t f
-leaves_first c t F.Store has answer tries = tries
-leaves_first c t (F.Clash id) has answer tries = tries
-leaves_first c t F.Memory has answer tries = inr (has, tries)
+leaves_first c t F.Store has answer tries = inl tries
+leaves_first c t (F.Clash id) has answer tries = inl tries
+leaves_first c t F.Memory has answer tries = inr (inl (has, tries))
+leaves_first c t (F.Value r) has answer tries = absurd answer
 leaves_first c t F.Words has answer tries = absurd answer
 leaves_first c t F.NotBuilt has answer tries = absurd answer
 leaves_first c t (F.Schema f) has answer tries = absurd answer
@@ -187,7 +198,8 @@ due_inputs c job t (F.Input role T.Long) named fault = (is_work c job t _ named 
 due_inputs c job t F.NotBuilt named fault = is_work c job t _ named fault
 due_inputs c job t (F.Schema f) named fault = is_work c job t _ named fault
 due_inputs c job t F.Memory named fault = tt
-due_inputs c job t F.Words named fault = absurd fault
+due_inputs c job t F.Words named fault = is_work c job t _ named fault
+due_inputs c job t (F.Value r) named fault = absurd fault
 due_inputs c job t F.Store named fault = absurd fault
 due_inputs c job t (F.Clash id) named fault = absurd fault
 
@@ -196,7 +208,8 @@ leaves_inputs c job t (F.Input role trouble) fault same = same
 leaves_inputs c job t F.NotBuilt fault same = same
 leaves_inputs c job t (F.Schema f) fault same = same
 leaves_inputs c job t F.Memory fault same = inl same
-leaves_inputs c job t F.Words fault same = absurd fault
+leaves_inputs c job t F.Words fault same = same
+leaves_inputs c job t (F.Value r) fault same = absurd fault
 leaves_inputs c job t F.Store fault same = absurd fault
 leaves_inputs c job t (F.Clash id) fault same = absurd fault
 
@@ -207,8 +220,8 @@ ended_inputs c job t f status named a fault same told = ended_told c t f status 
 
 -- a front of the line of names
 says_some : (c : Call) (t : Taking) (status : Status) → ListsSome c t → CutAs c.before.output status c.after.output → Says c t status
-says_some c t S.SinkFault some rose = (rose, inr (inr some))
-says_some c t S.Memory some rose = inr (inr (inr some))
+says_some c t S.SinkFault some rose = (rose, inr (inr (inl some)))
+says_some c t S.Memory some rose = inr (inr (inr (inl some)))
 says_some c t S.Done some rose = absurd rose
 says_some c t S.Refused some rose = absurd rose
 says_some c t S.Words some rose = absurd rose
@@ -221,7 +234,7 @@ says_some c t S.Value some rose = absurd rose
 says_listed : (c : Call) (t : Taking) (names : List (List ℕ)) (status : Status) → work_of c.job t ≡ lists names → c.after.moment ≡ c.before.moment
     → ((status ≡ S.Done) × Lists names c.before.output c.after.output) ⊎ ((CutAs c.before.output status c.after.output × ListsFront names c.before.output c.after.output) ⊎ ToldAs F.Memory c.before.output status c.after.output)
     → Says c t status
-says_listed c t names status work same (inl done) = subst (λ (s : Status). Says c t s) (sym done.0) (inr (record { names = names; work = work; same = same; written = done.1 }))
+says_listed c t names status work same (inl done) = subst (λ (s : Status). Says c t s) (sym done.0) (inr (inl (record { names = names; work = work; same = same; written = done.1 })))
 says_listed c t names status work same (inr (inl cut)) = says_some c t status (record { names = names; work = work; same = same; written = cut.1 }) cut.0
 says_listed c t names status work same (inr (inr told)) = says_by c t F.Memory status tt (inl same) told.told
 
@@ -230,3 +243,50 @@ pub ended_listed : (c : Call) (job : Job) (t : Taking) (names : List (List ℕ))
     → c.after.moment ≡ c.before.moment → ListedAs names c.before.output status c.after.output → Ended c status
 ended_listed c job t names status named a work same listed =
     record { taking = t; taken = are_taken c job t named a; says = says_listed c t names status (is_work c job t (lists names) named work) same listed.answer }
+
+-- ---- a value that is created
+
+-- a front of the line of its root
+says_root : (c : Call) (t : Taking) (status : Status) → CreatesSome c t → CutAs c.before.output status c.after.output → Says c t status
+says_root c t S.SinkFault some rose = (rose, inr (inr (inr some)))
+says_root c t S.Memory some rose = inr (inr (inr (inr some)))
+says_root c t S.Done some rose = absurd rose
+says_root c t S.Refused some rose = absurd rose
+says_root c t S.Words some rose = absurd rose
+says_root c t S.Schema some rose = absurd rose
+says_root c t S.Root some rose = absurd rose
+says_root c t S.Input some rose = absurd rose
+says_root c t S.StoreFault some rose = absurd rose
+says_root c t S.Value some rose = absurd rose
+
+due_made : (c : Call) (t : Taking) (rows : List Row) (n : TypeNo) (b : List ℕ) (f : CreateFault) → work_of c.job t ≡ makes rows n b → IsTable rows → CreateAnswer rows n b c.before.moment (Err f) c.after.moment → IsDue c t (made_fault f)
+due_made c t rows n b (V.Refused r) work table answer = record { rows = rows; table = table; type = n; bytes = b; work = work; refused = answer.0 }
+due_made c t rows n b V.Store work table answer = (answer.0, inr (record { rows = rows; type = n; bytes = b; work = work; tried = answer.1 }))
+due_made c t rows n b (V.Clash id) work table answer = inr (record { rows = rows; table = table; type = n; bytes = b; work = work; clash = answer })
+due_made c t rows n b V.Memory work table answer = tt
+
+leaves_made : (c : Call) (t : Taking) (rows : List Row) (n : TypeNo) (b : List ℕ) (f : CreateFault) → work_of c.job t ≡ makes rows n b → CreateAnswer rows n b c.before.moment (Err f) c.after.moment → Leaves c t (made_fault f)
+leaves_made c t rows n b (V.Refused r) work answer = answer.1
+leaves_made c t rows n b V.Store work answer = inr (record { rows = rows; type = n; bytes = b; work = work; tried = answer.1 })
+leaves_made c t rows n b (V.Clash id) work answer = inr (record { rows = rows; type = n; bytes = b; work = work; tried = answer.tried })
+leaves_made c t rows n b V.Memory work answer = by answer where
+  by : CreateAnswer rows n b c.before.moment (Err V.Memory) c.after.moment → Leaves c t F.Memory
+  by (inl same) = inl same
+  by (inr tried) = inr (inr (record { rows = rows; type = n; bytes = b; work = work; tried = tried }))
+
+says_made : (c : Call) (t : Taking) (rows : List Row) (n : TypeNo) (b : List ℕ) (result : Result BlockId CreateFault) (status : Status) → work_of c.job t ≡ makes rows n b → IsTable rows
+    → CreateAnswer rows n b c.before.moment result c.after.moment → MadeTold result c.before.output status c.after.output → Says c t status
+says_made c t rows n b (Ok id) status work table answer (inl done) =
+    subst (λ (s : Status). Says c t s) (sym done.0) (inr (inr (record { rows = rows; table = table; type = n; bytes = b; work = work; root = id; created = answer; written = done.1 })))
+says_made c t rows n b (Ok id) status work table answer (inr cut) =
+    says_root c t status (record { rows = rows; type = n; bytes = b; work = work; root = id; created = answer; written = cut.1 }) cut.0
+says_made c t rows n b (Err f) status work table answer told =
+    says_by c t (made_fault f) status (due_made c t rows n b f work table answer) (leaves_made c t rows n b f work answer) told.told
+
+pub ended_made : (c : Call) (job : Job) (t : Taking) (rows : List Row) (n : TypeNo) (b : List ℕ) (status : Status) → c.job ≡ Some job → IsTaking job c.before.supply t → job_work job t ≡ makes rows n b
+    → MadeAs rows n b c.before.moment c.before.output status c.after.moment c.after.output → Ended c status
+ended_made c job t rows n b status named a work made = record {
+  taking = t;
+  taken = are_taken c job t named a;
+  says = says_made c t rows n b made.result status (is_work c job t (makes rows n b) named work) made.table made.creates.answer made.told;
+}

@@ -1,20 +1,25 @@
 -- Taking the inputs in order.
-use Rattle.std.proofs.Common.{◌≡◌, ℕ, ◌≤◌, List, true, false, Option, Some, None, Result, Ok, Err, refl, sym, ap, subst, arith}
+use Rattle.std.specs.List.{position_from}
+use Rattle.std.specs.Prelude.{length, ◌<◌, ◌+◌, ◌∷◌, [], Bool, IfSome, option_map, cond}
+use Rattle.std.proofs.Common.{◌≡◌, ℕ, ◌≤◌, List, true, false, IfOk, Option, Some, None, Result, Ok, Err, refl, sym, ap, subst, arith}
 use Rattle.ild_compile.specs.Compile.{Verdict, table, faulty, Compiles}
 use Rattle.ild_edges.specs.Inputs.{Supply, After, MayBe, taken_of, file_at}
 use Rattle.ild_edges.proofs.After.{After-trans}
 use Rattle.ild_edges.specs.declared.inputs.Taken.{Taken}
+use Rattle.ild_reach.specs.Reach.{HamtFree, ReachesHamt}
+use Rattle.ild_schema.specs.Names.{number_named, is_named}
+use Rattle.ild_schema.specs.declared.number.TypeNo.{TypeNo}
 use Rattle.ild_schema.specs.declared.row.Row.{Row}
 use Rattle.ild_run.specs.declared.fault.Fault.{Fault}
 use Rattle.ild_run.specs.declared.fault.Fault.TheVariants as F
 use Rattle.ild_run.specs.declared.fault.Role.{Role}
 use Rattle.ild_run.specs.declared.fault.Trouble.TheVariants as T
 use Rattle.ild_run.specs.Built.{is_built}
-use Rattle.ild_run.specs.Words.{Job, checks, runs, name_of}
-use Rattle.ild_run.specs.Work.{Taking, in_roles, built_work, IsVerdict, IsUnder, IsOpen}
+use Rattle.ild_run.specs.Words.{Job, checks, runs, creates, name_of}
+use Rattle.ild_run.specs.Work.{Taking, in_roles, built_work, type_work, IsVerdict, IsReachOf, IsReach, IsUnder, IsOpen}
 use Rattle.ild_run.specs.declared.open.Task.{Task}
 use Rattle.ild_run.specs.declared.open.Task.TheVariants as P
-use Rattle.ild_run.specs.Opening.{InputAnswer, TakesInput, CompileAnswer, OpensAnswer, Opens}
+use Rattle.ild_run.specs.Opening.{InputAnswer, TakesInput, CompileAnswer, InputsFault, OpensAnswer, IsReady, Opens, OpensBehind}
 
 -- something may be taken under each name
 some_taken : (files : Option (List (List ℕ × List ℕ))) (name : List ℕ) → (t : Taken) × MayBe files name t
@@ -25,73 +30,109 @@ some_under : (m : Supply) (name : Option (List ℕ)) → (t : Taken) × IsUnder 
 some_under m None = (Taken.Absent, tt)
 some_under m (Some name) = some_taken m.files name
 
--- the schema's role and the script's are all
-both_roles : (job : Job) (m : Supply) (schema script : Taken) → IsUnder m schema (name_of Role.Schema job) → IsUnder m script (name_of Role.Script job) → (role : Role) → IsUnder m (in_roles schema script role) (name_of role job)
-both_roles job m schema script one two Role.Schema = one
-both_roles job m schema script one two Role.Script = two
+-- the name of the input that a job takes beside its schema
+abbrev other_name : Job → Option (List ℕ)
+other_name (checks schema) = None
+other_name (runs schema script) = Some script
+other_name (creates schema ty value) = Some value
+
+-- it is the script's or the value's
+other_role_is : (job : Job) (m : Supply) (other : Taken) → IsUnder m other (other_name job) → IsUnder m other (name_of Role.Script job) × IsUnder m other (name_of Role.Value job)
+other_role_is (checks schema) m other is = (tt, tt)
+other_role_is (runs schema script) m other is = (is, tt)
+other_role_is (creates schema ty value) m other is = (tt, is)
+
+all_roles : (job : Job) (m : Supply) (schema other : Taken) → IsUnder m schema (name_of Role.Schema job) → IsUnder m other (other_name job) → (role : Role) → IsUnder m (in_roles schema other role) (name_of role job)
+all_roles job m schema other one two Role.Schema = one
+all_roles job m schema other one two Role.Script = (other_role_is job m other two).0
+all_roles job m schema other one two Role.Value = (other_role_is job m other two).1
+
+-- what memory is wanting for is left open
+none_reached : (rows : List Row) (found : Option ℕ) → IsReachOf rows found None
+none_reached rows None = tt
+none_reached rows (Some n) = tt
+
+no_reach : (job : Job) (verdict : Option Verdict) → IsReach job verdict None
+no_reach (checks schema) verdict = tt
+no_reach (runs schema script) verdict = tt
+no_reach (creates schema ty value) None = tt
+no_reach (creates schema ty value) (Some (faulty f)) = tt
+no_reach (creates schema ty value) (Some (table rows)) = none_reached rows (number_named ty rows)
 
 no_verdict : (t : Taken) → IsVerdict t None
 no_verdict Taken.Absent = tt
 no_verdict Taken.Long = tt
 no_verdict (Taken.Bytes b) = tt
 
--- a call that ends before the script's input
+-- a call that ends before its second input
 opens_before : (m n : Supply) (job : Job) (schema : Taken) (verdict : Option Verdict) (result : Result Task Fault) → IsUnder m schema (name_of Role.Schema job) → IsVerdict schema verdict
-    → ((script : Taken) → OpensAnswer m job (record { input = in_roles schema script; verdict = verdict }) result n) → After m n → Opens m job result n
-opens_before m n job schema verdict result is says answer after =
-    let other = some_under m (name_of Role.Script job) in
+    → ((script : Taken) → OpensAnswer m job (record { input = in_roles schema script; verdict = verdict; hamt = None }) result n) → IfOk result IsReady → After m n → Opens m job result n
+opens_before m n job schema verdict result is says answer ready after =
+    let other = some_under m (other_name job) in
     record {
-      taking = record { input = in_roles schema other.0; verdict = verdict };
-      taken = record { input = both_roles job m schema other.0 is other.1; verdict = says };
+      taking = record { input = in_roles schema other.0; verdict = verdict; hamt = None };
+      taken = record { input = all_roles job m schema other.0 is other.1; verdict = says; hamt = no_reach job verdict };
       answer = answer other.0;
+      ready = ready;
       after = after;
     }
 
 other_role : Role.Script ≡ Role.Schema → ⊥
 other_role e = cc
 
+value_role : Role.Value ≡ Role.Schema → ⊥
+value_role e = cc
+
+value_script : Role.Value ≡ Role.Script → ⊥
+value_script e = cc
+
 under : (m : Supply) (t : Taken) (name : List ℕ) (found : Option (List ℕ)) → found ≡ Some name → MayBe m.files name t → IsUnder m t found
 under m t name found named is = subst (λ (x : Option (List ℕ)). IsUnder m t x) (sym named) is
 
 -- a call that ends at the schema's input
 pub opens_schema : (m n : Supply) (job : Job) (name : List ℕ) (f : Fault) → name_of Role.Schema job ≡ Some name → InputAnswer m Role.Schema name (Err f) n → After m n → Opens m job (Err f) n
-opens_schema m n job name (F.Input Role.Schema T.Absent) named answer after = opens_before m n job Taken.Absent None _ (under m Taken.Absent name (name_of Role.Schema job) named answer.1) tt (λ script. (refl, answer.2)) after
-opens_schema m n job name (F.Input Role.Schema T.Long) named answer after = opens_before m n job Taken.Long None _ (under m Taken.Long name (name_of Role.Schema job) named answer.1) tt (λ script. (refl, answer.2)) after
+opens_schema m n job name (F.Input Role.Schema T.Absent) named answer after = opens_before m n job Taken.Absent None _ (under m Taken.Absent name (name_of Role.Schema job) named answer.1) tt (λ script. (refl, answer.2)) tt after
+opens_schema m n job name (F.Input Role.Schema T.Long) named answer after = opens_before m n job Taken.Long None _ (under m Taken.Long name (name_of Role.Schema job) named answer.1) tt (λ script. (refl, answer.2)) tt after
 opens_schema m n job name (F.Input Role.Schema T.Failed) named answer after =
-    let some = some_under m (name_of Role.Schema job) in opens_before m n job some.0 None _ some.1 (no_verdict some.0) (λ script. (answer.1, tt)) after
+    let some = some_under m (name_of Role.Schema job) in opens_before m n job some.0 None _ some.1 (no_verdict some.0) (λ script. (answer.1, tt)) tt after
 opens_schema m n job name (F.Input Role.Script T.Absent) named answer after = absurd (other_role answer.0)
 opens_schema m n job name (F.Input Role.Script T.Long) named answer after = absurd (other_role answer.0)
 opens_schema m n job name (F.Input Role.Script T.Failed) named answer after = absurd (other_role answer.0)
+opens_schema m n job name (F.Input Role.Value T.Absent) named answer after = absurd (value_role answer.0)
+opens_schema m n job name (F.Input Role.Value T.Long) named answer after = absurd (value_role answer.0)
+opens_schema m n job name (F.Input Role.Value T.Failed) named answer after = absurd (value_role answer.0)
 opens_schema m n job name F.Memory named answer after =
-    let some = some_under m (name_of Role.Schema job) in opens_before m n job some.0 None _ some.1 (no_verdict some.0) (λ script. tt) after
+    let some = some_under m (name_of Role.Schema job) in opens_before m n job some.0 None _ some.1 (no_verdict some.0) (λ script. tt) tt after
 opens_schema m n job name F.Words named answer after = absurd answer
 opens_schema m n job name F.NotBuilt named answer after = absurd answer
 opens_schema m n job name (F.Schema f) named answer after = absurd answer
 opens_schema m n job name F.Store named answer after = absurd answer
 opens_schema m n job name (F.Clash id) named answer after = absurd answer
+opens_schema m n job name (F.Value r) named answer after = absurd answer
 
 -- a call that ends at the schema's compilation
 pub opens_faulty : (m n : Supply) (job : Job) (name b : List ℕ) (f : Fault) → name_of Role.Schema job ≡ Some name → MayBe m.files name (Taken.Bytes b) → CompileAnswer b (Err f) → After m n → Opens m job (Err f) n
-opens_faulty m n job name b (F.Schema f) named is answer after = opens_before m n job (Taken.Bytes b) (Some (faulty f)) _ (under m (Taken.Bytes b) name (name_of Role.Schema job) named is) answer (λ script. refl) after
-opens_faulty m n job name b F.Memory named is answer after = opens_before m n job (Taken.Bytes b) None _ (under m (Taken.Bytes b) name (name_of Role.Schema job) named is) tt (λ script. tt) after
+opens_faulty m n job name b (F.Schema f) named is answer after = opens_before m n job (Taken.Bytes b) (Some (faulty f)) _ (under m (Taken.Bytes b) name (name_of Role.Schema job) named is) answer (λ script. refl) tt after
+opens_faulty m n job name b F.Memory named is answer after = opens_before m n job (Taken.Bytes b) None _ (under m (Taken.Bytes b) name (name_of Role.Schema job) named is) tt (λ script. tt) tt after
 opens_faulty m n job name b (F.Input role trouble) named is answer after = absurd answer
 opens_faulty m n job name b F.Words named is answer after = absurd answer
 opens_faulty m n job name b F.NotBuilt named is answer after = absurd answer
 opens_faulty m n job name b F.Store named is answer after = absurd answer
 opens_faulty m n job name b (F.Clash id) named is answer after = absurd answer
+opens_faulty m n job name b (F.Value r) named is answer after = absurd answer
 
 -- a call whose schema is checked
 pub opens_checked : (m n : Supply) (name : List ℕ) (b : List ℕ) (rows : List Row) → MayBe m.files name (Taken.Bytes b) → Compiles b (table rows) → After m n → Opens m (checks name) (Ok (P.List rows)) n
-opens_checked m n name b rows is compiles after = opens_before m n (checks name) (Taken.Bytes b) (Some (table rows)) _ is compiles (λ script. refl) after
+opens_checked m n name b rows is compiles after = opens_before m n (checks name) (Taken.Bytes b) (Some (table rows)) _ is compiles (λ script. refl) tt after
 
 -- a call that ends at a schema which nothing is built for
 pub opens_not_built : (m n : Supply) (name other : List ℕ) (b : List ℕ) (rows : List Row) → MayBe m.files name (Taken.Bytes b) → Compiles b (table rows) → is_built rows ≡ false → After m n → Opens m (runs name other) (Err F.NotBuilt) n
 opens_not_built m n name other b rows is compiles refused after =
-    opens_before m n (runs name other) (Taken.Bytes b) (Some (table rows)) _ is compiles (λ script. ap (λ t. built_work t script) refused) after
+    opens_before m n (runs name other) (Taken.Bytes b) (Some (table rows)) _ is compiles (λ script. ap (λ t. built_work t script) refused) tt after
 
 -- a call that comes to the script's input
 abbrev taking : List ℕ → List Row → Taken → Taking
-taking b rows script = record { input = in_roles (Taken.Bytes b) script; verdict = Some (table rows) }
+taking b rows script = record { input = in_roles (Taken.Bytes b) script; verdict = Some (table rows); hamt = None }
 
 is_open : (b : List ℕ) (rows : List Row) (script : Taken) → is_built rows ≡ true → IsOpen (taking b rows script)
 is_open b rows script built = record { bytes = b; rows = rows; schema = refl; verdict = refl; built = built }
@@ -114,6 +155,10 @@ script_answer m k n name other b rows (Err (F.Input Role.Script T.Failed)) built
 script_answer m k n name other b rows (Err (F.Input Role.Schema T.Absent)) built same lacks faults answer = absurd (other_role (sym answer.0))
 script_answer m k n name other b rows (Err (F.Input Role.Schema T.Long)) built same lacks faults answer = absurd (other_role (sym answer.0))
 script_answer m k n name other b rows (Err (F.Input Role.Schema T.Failed)) built same lacks faults answer = absurd (other_role (sym answer.0))
+script_answer m k n name other b rows (Err (F.Input Role.Value T.Absent)) built same lacks faults answer = absurd (value_script answer.0)
+script_answer m k n name other b rows (Err (F.Input Role.Value T.Long)) built same lacks faults answer = absurd (value_script answer.0)
+script_answer m k n name other b rows (Err (F.Input Role.Value T.Failed)) built same lacks faults answer = absurd (value_script answer.0)
+script_answer m k n name other b rows (Err (F.Value r)) built same lacks faults answer = absurd answer
 script_answer m k n name other b rows (Err F.Memory) built same lacks faults answer = let some = some_taken m.files other in (some.0, some.1, tt)
 script_answer m k n name other b rows (Err F.Words) built same lacks faults answer = absurd answer
 script_answer m k n name other b rows (Err F.NotBuilt) built same lacks faults answer = absurd answer
@@ -121,13 +166,120 @@ script_answer m k n name other b rows (Err (F.Schema f)) built same lacks faults
 script_answer m k n name other b rows (Err F.Store) built same lacks faults answer = absurd answer
 script_answer m k n name other b rows (Err (F.Clash id)) built same lacks faults answer = absurd answer
 
+script_ready : (result : Result (List ℕ) Fault) → IfOk (task_of result) IsReady
+script_ready (Ok b) = tt
+script_ready (Err f) = tt
+
 pub opens_script : (m k n : Supply) (name other : List ℕ) (b : List ℕ) (rows : List Row) (result : Result (List ℕ) Fault) → MayBe m.files name (Taken.Bytes b) → Compiles b (table rows) → is_built rows ≡ true → After m k → TakesInput k Role.Script other result n
     → Opens m (runs name other) (task_of result) n
 opens_script m k n name other b rows result is compiles built after takes =
     let t = script_answer m k n name other b rows result built after.files after.lacks after.faults takes.answer in
     record {
       taking = taking b rows t.0;
-      taken = record { input = both_roles (runs name other) m (Taken.Bytes b) t.0 is t.1; verdict = compiles };
+      taken = record { input = all_roles (runs name other) m (Taken.Bytes b) t.0 is t.1; verdict = compiles; hamt = tt };
       answer = t.2;
+      ready = script_ready result;
       after = After-trans m k n after takes.after;
     }
+
+-- ---- a value that is to be created
+
+abbrev value_taking : List ℕ → List Row → Option Bool → Taken → Taking
+value_taking b rows hamt value = record { input = in_roles (Taken.Bytes b) value; verdict = Some (table rows); hamt = hamt }
+
+-- a call that ends before the value's input
+opens_type : (m n : Supply) (name ty value b : List ℕ) (rows : List Row) (hamt : Option Bool) (f : Fault) → MayBe m.files name (Taken.Bytes b) → Compiles b (table rows) → IsReachOf rows (number_named ty rows) hamt
+    → ((t : Taken) → InputsFault m (creates name ty value) (value_taking b rows hamt t) f n) → After m n → Opens m (creates name ty value) (Err f) n
+opens_type m n name ty value b rows hamt f is compiles reach fault after =
+    let other = some_taken m.files value in
+    record {
+      taking = value_taking b rows hamt other.0;
+      taken = record { input = all_roles (creates name ty value) m (Taken.Bytes b) other.0 is other.1; verdict = compiles; hamt = reach };
+      answer = fault other.0;
+      ready = tt;
+      after = after;
+    }
+
+-- the table has no type of this name
+pub opens_unnamed : (k : Supply) (rows : List Row) (ty value : List ℕ) → number_named ty rows ≡ None → OpensBehind k rows ty value (Err F.Words) k
+opens_unnamed k rows ty value none m name b is compiles after =
+    opens_type m k name ty value b rows None F.Words is compiles (none_reached rows (number_named ty rows)) (λ t. ap (λ found. type_work rows found None t) none) after
+
+reach_of : (rows : List Row) (found : Option ℕ) (n : TypeNo) (hamt : Option Bool) → found ≡ Some n.0 → IsReachOf rows (Some n.0) hamt → IsReachOf rows found hamt
+reach_of rows found n hamt named is = subst (λ (x : Option ℕ). IsReachOf rows x hamt) (sym named) is
+
+-- a HAMT is reached from it
+pub opens_reached : (k : Supply) (rows : List Row) (ty value : List ℕ) (n : TypeNo) → number_named ty rows ≡ Some n.0 → ReachesHamt rows n → OpensBehind k rows ty value (Err F.NotBuilt) k
+opens_reached k rows ty value n named reaches m name b is compiles after =
+    opens_type m k name ty value b rows (Some true) F.NotBuilt is compiles (reach_of rows (number_named ty rows) n (Some true) named reaches) (λ t. ap (λ found. type_work rows found (Some true) t) named) after
+
+-- memory is wanting to tell
+pub opens_unknown : (k : Supply) (rows : List Row) (ty value : List ℕ) → OpensBehind k rows ty value (Err F.Memory) k
+opens_unknown k rows ty value m name b is compiles after =
+    opens_type m k name ty value b rows None F.Memory is compiles (none_reached rows (number_named ty rows)) (λ t. tt) after
+
+-- the task that the value's input is
+abbrev pub value_task : List Row → TypeNo → Result (List ℕ) Fault → Result Task Fault
+value_task rows n (Ok b) = Ok (P.Create rows n b)
+value_task rows n (Err f) = Err f
+
+value_answer : (m k n : Supply) (name ty value b : List ℕ) (rows : List Row) (t : TypeNo) (result : Result (List ℕ) Fault) → number_named ty rows ≡ Some t.0 → k.files ≡ m.files → m.lacks ≤ k.lacks → m.faults ≤ k.faults
+    → InputAnswer k Role.Value value result n → (x : Taken) × MayBe m.files value x × OpensAnswer m (creates name ty value) (value_taking b rows (Some false) x) (value_task rows t result) n
+value_answer m k n name ty value b rows t (Ok c) named same lacks faults answer =
+    (Taken.Bytes c, subst (λ (x : Option (List (List ℕ × List ℕ))). MayBe x value (Taken.Bytes c)) same answer, ap (λ found. type_work rows found (Some false) (Taken.Bytes c)) named)
+value_answer m k n name ty value b rows t (Err (F.Input Role.Value T.Absent)) named same lacks faults answer =
+    (Taken.Absent, subst (λ (x : Option (List (List ℕ × List ℕ))). MayBe x value Taken.Absent) same answer.1, (ap (λ found. type_work rows found (Some false) Taken.Absent) named, let rose = answer.2 in omega arith))
+value_answer m k n name ty value b rows t (Err (F.Input Role.Value T.Long)) named same lacks faults answer =
+    (Taken.Long, subst (λ (x : Option (List (List ℕ × List ℕ))). MayBe x value Taken.Long) same answer.1, (ap (λ found. type_work rows found (Some false) Taken.Long) named, let rose = answer.2 in omega arith))
+value_answer m k n name ty value b rows t (Err (F.Input Role.Value T.Failed)) named same lacks faults answer =
+    let some = some_taken m.files value in
+    (some.0, some.1, (let rose = answer.1 in omega arith, record { bytes = b; rows = rows; schema = refl; verdict = refl; number = t.0; named = named; free = refl }))
+value_answer m k n name ty value b rows t (Err (F.Input Role.Schema T.Absent)) named same lacks faults answer = absurd (value_role (sym answer.0))
+value_answer m k n name ty value b rows t (Err (F.Input Role.Schema T.Long)) named same lacks faults answer = absurd (value_role (sym answer.0))
+value_answer m k n name ty value b rows t (Err (F.Input Role.Schema T.Failed)) named same lacks faults answer = absurd (value_role (sym answer.0))
+value_answer m k n name ty value b rows t (Err (F.Input Role.Script T.Absent)) named same lacks faults answer = absurd (value_script (sym answer.0))
+value_answer m k n name ty value b rows t (Err (F.Input Role.Script T.Long)) named same lacks faults answer = absurd (value_script (sym answer.0))
+value_answer m k n name ty value b rows t (Err (F.Input Role.Script T.Failed)) named same lacks faults answer = absurd (value_script (sym answer.0))
+value_answer m k n name ty value b rows t (Err F.Memory) named same lacks faults answer = let some = some_taken m.files value in (some.0, some.1, tt)
+value_answer m k n name ty value b rows t (Err F.Words) named same lacks faults answer = absurd answer
+value_answer m k n name ty value b rows t (Err F.NotBuilt) named same lacks faults answer = absurd answer
+value_answer m k n name ty value b rows t (Err (F.Schema f)) named same lacks faults answer = absurd answer
+value_answer m k n name ty value b rows t (Err F.Store) named same lacks faults answer = absurd answer
+value_answer m k n name ty value b rows t (Err (F.Clash id)) named same lacks faults answer = absurd answer
+value_answer m k n name ty value b rows t (Err (F.Value r)) named same lacks faults answer = absurd answer
+
+value_ready : (rows : List Row) (t : TypeNo) (result : Result (List ℕ) Fault) → t.0 < length rows → HamtFree rows t → IfOk (value_task rows t result) IsReady
+value_ready rows t (Ok b) within free = (within, free)
+value_ready rows t (Err f) within free = tt
+
+pub opens_value : (k n : Supply) (rows : List Row) (ty value : List ℕ) (t : TypeNo) (result : Result (List ℕ) Fault) → number_named ty rows ≡ Some t.0 → t.0 < length rows → HamtFree rows t
+    → TakesInput k Role.Value value result n → OpensBehind k rows ty value (value_task rows t result) n
+opens_value k n rows ty value t result named within free takes m name b is compiles after =
+    let x = value_answer m k n name ty value b rows t result named after.files after.lacks after.faults takes.answer in
+    record {
+      taking = value_taking b rows (Some false) x.0;
+      taken = record { input = all_roles (creates name ty value) m (Taken.Bytes b) x.0 is x.1; verdict = compiles; hamt = reach_of rows (number_named ty rows) t (Some false) named free };
+      answer = x.2;
+      ready = value_ready rows t result within free;
+      after = After-trans m k n after takes.after;
+    }
+
+-- the type that has a name is in the table
+found_within : {A : Type 0} (p : A → Bool) (xs : List A) (k : ℕ) → IfSome (position_from p k xs) (λ i. i < k + length xs)
+found_within p [] k = tt
+found_within p (x ∷ xs) k = by (p x) (found_within p xs (k + 1))
+  where
+    by : (b : Bool) → IfSome (position_from p (k + 1) xs) (λ i. i < k + 1 + length xs) → IfSome (cond b (Some k) (position_from p (k + 1) xs)) (λ i. i < k + length (x ∷ xs))
+    by true found = omega arith
+    by false found = grow (position_from p (k + 1) xs) found
+      where
+        grow : (o : Option ℕ) → IfSome o (λ i. i < k + 1 + length xs) → IfSome o (λ i. i < k + length (x ∷ xs))
+        grow None found = tt
+        grow (Some i) found = omega (arith, found)
+
+pub named_within : (rows : List Row) (ty : List ℕ) (found : Option TypeNo) → option_map (λ (n : TypeNo). n.0) found ≡ number_named ty rows → IfSome found (λ n. n.0 < length rows)
+named_within rows ty None is = tt
+named_within rows ty (Some n) is =
+    let same : 0 + length rows ≡ length rows = omega arith in
+    let found = subst (λ (k : ℕ). IfSome (position_from (is_named ty) 0 rows) (λ i. i < k)) same (found_within (is_named ty) rows 0) in
+    subst (λ (o : Option ℕ). IfSome o (λ i. i < length rows)) (sym is) found

@@ -5,9 +5,16 @@ use Rattle.ild_edges.specs.Count.{Rose}
 use Rattle.ild_edges.specs.Inputs.{Supply}
 use Rattle.ild_edges.specs.Sink.{Output, Appends, AppendsFront}
 use Rattle.ild_edges.specs.Store.{Moment, Later}
+use Rattle.ild_create.specs.Creates.{Tries as TriesToCreate, Created, Clashes}
+use Rattle.ild_create.specs.Refuses.{IsFirst}
+use Rattle.ild_create.specs.declared.fault.Refusal.{Refusal}
+use Rattle.ild_schema.specs.Table.{IsTable}
+use Rattle.ild_schema.specs.declared.number.TypeNo.{TypeNo}
+use Rattle.ild_schema.specs.declared.row.Row.{Row}
 use Rattle.ild_script.specs.declared.reply.Reply.{Reply}
+use Rattle.ild_script.specs.declared.reply.Reply.TheVariants as R
 use Rattle.ild_script.specs.Line.{lines_of}
-use Rattle.ild_script.specs.Reply.{is_no}
+use Rattle.ild_script.specs.Reply.{is_no, reply_text}
 use Rattle.ild_plain.specs.Value.{Value, root_of, blocks_of}
 use Rattle.ild_plain.specs.Plain.{plain_map}
 use Rattle.ild_session.specs.Session.{Stage, resting, left}
@@ -17,7 +24,7 @@ use Rattle.ild_compile.specs.declared.error.SchemaFault.{SchemaFault}
 use Rattle.ild_run.specs.Words.{Job}
 use Rattle.ild_data.specs.declared.id.BlockId.{BlockId}
 use Rattle.ild_run.specs.First.{Tries}
-use Rattle.ild_run.specs.Work.{Work, Taking, ends, lists, answers, work_of, AreTaken, Reaches}
+use Rattle.ild_run.specs.Work.{Work, Taking, ends, lists, answers, makes, work_of, AreTaken, Reaches}
 use Rattle.ild_run.specs.Fault.{fault_text}
 use Rattle.ild_run.specs.Listed.{Lists, ListsFront}
 use Rattle.ild_run.specs.declared.fault.Fault.{Fault}
@@ -50,22 +57,50 @@ abbrev pub HasScript : Work → Type 0
 HasScript (ends f) = ⊥
 HasScript (lists names) = ⊥
 HasScript (answers b) = Unit {0}
+HasScript (makes rows n b) = ⊥
+
+-- the input makes a value of the type, and the store was asked for nothing but to keep its block
+pub record TriesValue (c : Call) (t : Taking) : Type 0 where
+  pub rows : List Row
+  pub type : TypeNo
+  pub bytes : List ℕ
+  pub work : work_of c.job t ≡ makes rows type bytes
+  pub tried : TriesToCreate rows type bytes c.before.moment c.after.moment
+
+-- the block of the value, with this id, collides with one that is held
+pub record ClashesValue (c : Call) (t : Taking) (id : List ℕ) : Type 0 where
+  pub rows : List Row
+  pub table : IsTable rows
+  pub type : TypeNo
+  pub bytes : List ℕ
+  pub work : work_of c.job t ≡ makes rows type bytes
+  pub clash : Clashes rows type bytes c.before.moment c.after.moment id
+
+-- the input makes no value of the type that a store can hold, and this is the first cause
+pub record RefusesValue (c : Call) (t : Taking) (r : Refusal) : Type 0 where
+  pub rows : List Row
+  pub table : IsTable rows
+  pub type : TypeNo
+  pub bytes : List ℕ
+  pub work : work_of c.job t ≡ makes rows type bytes
+  pub refused : IsFirst rows type bytes r
 
 -- the cause of a fault
 abbrev pub IsDue : Call → Taking → Fault → Type 0
 IsDue c t (F.Input role T.Failed) = Rose c.before.supply.faults c.after.supply.faults × Reaches role c.job t
 IsDue c t (F.Input role trouble) = (work_of c.job t ≡ ends (F.Input role trouble)) × Rose c.before.supply.lacks c.after.supply.lacks
-IsDue c t F.Store = Rose c.before.moment.faults c.after.moment.faults × HasScript (work_of c.job t)
-IsDue c t (F.Clash id) = (id.0 ≡ root_of []) × Collides c.after.moment (blocks_of []) × HasScript (work_of c.job t)
+IsDue c t F.Store = Rose c.before.moment.faults c.after.moment.faults × (HasScript (work_of c.job t) ⊎ TriesValue c t)
+IsDue c t (F.Clash id) = ((id.0 ≡ root_of []) × Collides c.after.moment (blocks_of []) × HasScript (work_of c.job t)) ⊎ ClashesValue c t id.0
+IsDue c t (F.Value r) = RefusesValue c t r
 IsDue c t F.Memory = Unit {0}
 IsDue c t f = work_of c.job t ≡ ends f
 
--- What a fault leaves of the store: it is as it was, unless the call came to its first value; then nothing was asked of the
--- store but to keep this value's block.
+-- What a fault leaves of the store: it is as it was, unless the call came to its first value, or to a new one; then nothing was
+-- asked of the store but to keep this value's block.
 abbrev pub Leaves : Call → Taking → Fault → Type 0
-Leaves c t F.Store = Tries (blocks_of []) c.before.moment c.after.moment
-Leaves c t (F.Clash id) = Tries (blocks_of []) c.before.moment c.after.moment
-Leaves c t F.Memory = (c.after.moment ≡ c.before.moment) ⊎ (HasScript (work_of c.job t) × Tries (blocks_of []) c.before.moment c.after.moment)
+Leaves c t F.Store = Tries (blocks_of []) c.before.moment c.after.moment ⊎ TriesValue c t
+Leaves c t (F.Clash id) = Tries (blocks_of []) c.before.moment c.after.moment ⊎ TriesValue c t
+Leaves c t F.Memory = (c.after.moment ≡ c.before.moment) ⊎ ((HasScript (work_of c.job t) × Tries (blocks_of []) c.before.moment c.after.moment) ⊎ TriesValue c t)
 Leaves c t f = c.after.moment ≡ c.before.moment
 
 -- The empty map's block was put, and these lines were answered from it. All in all there were no more gets and puts than the
@@ -129,13 +164,34 @@ pub record ListsSome (c : Call) (t : Taking) : Type 0 where
   pub same : c.after.moment ≡ c.before.moment
   pub written : ListsFront names c.before.output c.after.output
 
+-- the value that the input makes stands in the store under this root, and the line of the root was written
+pub record CreatesValue (c : Call) (t : Taking) : Type 0 where
+  pub rows : List Row
+  pub table : IsTable rows
+  pub type : TypeNo
+  pub bytes : List ℕ
+  pub work : work_of c.job t ≡ makes rows type bytes
+  pub root : BlockId
+  pub created : Created rows type bytes c.before.moment c.after.moment root.0
+  pub written : Appends c.before.output.written c.after.output.written (reply_text (R.Root root))
+
+-- a front of that line was written
+pub record CreatesSome (c : Call) (t : Taking) : Type 0 where
+  pub rows : List Row
+  pub type : TypeNo
+  pub bytes : List ℕ
+  pub work : work_of c.job t ≡ makes rows type bytes
+  pub root : BlockId
+  pub created : Created rows type bytes c.before.moment c.after.moment root.0
+  pub written : AppendsFront c.before.output.written c.after.output.written (reply_text (R.Root root))
+
 -- the text that was due was cut off
 abbrev pub IsCut : Call → Taking → Type 0
-IsCut c t = TellsFront c t ⊎ (AnswersSome c t ⊎ ListsSome c t)
+IsCut c t = TellsFront c t ⊎ (AnswersSome c t ⊎ (ListsSome c t ⊎ CreatesSome c t))
 
 -- what a status says
 abbrev pub Says : Call → Taking → Status → Type 0
-Says c t S.Done = AnswersAll c t false ⊎ ListsNames c t
+Says c t S.Done = AnswersAll c t false ⊎ (ListsNames c t ⊎ CreatesValue c t)
 Says c t S.Refused = AnswersAll c t true
 Says c t S.Words = Tells c t F.Words
 Says c t S.Schema = Tells c t F.NotBuilt ⊎ ((f : SchemaFault) × Tells c t (F.Schema f))
@@ -144,7 +200,7 @@ Says c t S.Input = (role : Role) × (trouble : Trouble) × Tells c t (F.Input ro
 Says c t S.StoreFault = Tells c t F.Store ⊎ ((id : BlockId) × Tells c t (F.Clash id))
 Says c t S.SinkFault = Rose c.before.output.faults c.after.output.faults × IsCut c t
 Says c t S.Memory = Tells c t F.Memory ⊎ IsCut c t
-Says c t S.Value = ⊥
+Says c t S.Value = (r : Refusal) × Tells c t (F.Value r)
 
 -- a call ended with this status: what is taken of its inputs and what the schema is compiled to, and what the status says of them
 pub record Ended (c : Call) (status : Status) : Type 0 where

@@ -1,8 +1,10 @@
--- The faults that end a run before its lines, each with its status and its line.
+-- The faults that end a call before its lines, each with its status and its line.
 use Rattle.std.specs.Prelude.{ℕ, List, [], ◌∷◌, ◌++◌, codes}
 use Rattle.std.specs.Fmt.{decimal}
 use Rattle.ild_compile.specs.Line.{flaw_text}
 use Rattle.ild_compile.specs.declared.error.SchemaFault.{SchemaFault}
+use Rattle.ild_create.specs.declared.fault.Refusal.{Refusal}
+use Rattle.ild_create.specs.declared.fault.Refusal.TheVariants as R
 use Rattle.ild_data.specs.Spell.{cid_of}
 use Rattle.ild_data.specs.CidText.{cid_text_of}
 use Rattle.ild_run.specs.declared.fault.Fault.{Fault}
@@ -23,6 +25,7 @@ status_of (F.Input role trouble) = S.Input
 status_of F.Store = S.StoreFault
 status_of (F.Clash id) = S.StoreFault
 status_of F.Memory = S.Memory
+status_of (F.Value r) = S.Value
 
 abbrev pub input_text : Role → Trouble → List ℕ
 input_text Role.Schema T.Failed = codes "fault 5 input schema failed\n"
@@ -31,6 +34,18 @@ input_text Role.Schema T.Long = codes "fault 5 input schema long\n"
 input_text Role.Script T.Failed = codes "fault 5 input script failed\n"
 input_text Role.Script T.Absent = codes "fault 5 input script absent\n"
 input_text Role.Script T.Long = codes "fault 5 input script long\n"
+input_text Role.Value T.Failed = codes "fault 5 input value failed\n"
+input_text Role.Value T.Absent = codes "fault 5 input value absent\n"
+input_text Role.Value T.Long = codes "fault 5 input value long\n"
+
+-- the number and the name of the reply to an edit
+abbrev pub value_text : Refusal → List ℕ
+value_text R.Json = codes "fault 9 value 3 json\n"
+value_text R.Mismatch = codes "fault 9 value 4 mismatch\n"
+value_text R.Delimiter = codes "fault 9 value 5 delimiter\n"
+value_text R.Hole = codes "fault 9 value 6 hole\n"
+value_text R.Depth = codes "fault 9 value 7 depth\n"
+value_text R.Size = codes "fault 9 value 9 size\n"
 
 -- `fault 3 schema STAGE N NAME at OFFSET`
 abbrev pub schema_text : SchemaFault → List ℕ
@@ -45,6 +60,7 @@ fault_text (F.Input role trouble) = input_text role trouble
 fault_text F.Store = codes "fault 6 store\n"
 fault_text (F.Clash id) = codes "fault 6 clash " ++ (cid_text_of (cid_of id.0) ++ 10 ∷ [])
 fault_text F.Memory = codes "fault 8 memory\n"
+fault_text (F.Value r) = value_text r
 
 abbrev pub cut_status : Cut → Status
 cut_status C.Sink = S.SinkFault

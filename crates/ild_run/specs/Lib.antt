@@ -6,5 +6,6 @@ pub mod Fault
 pub mod Cut
 pub mod Listed
 pub mod Opening
+pub mod Made
 pub mod Ended
 pub mod Complete

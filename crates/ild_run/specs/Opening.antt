@@ -1,5 +1,5 @@
 -- What each step before the lines answers.
-use Rattle.std.specs.Prelude.{◌≡◌, ℕ, List, Result, Ok, Err}
+use Rattle.std.specs.Prelude.{◌≡◌, ◌<◌, ℕ, List, length, Result, Ok, Err, IfOk}
 use Rattle.ild_compile.specs.Compile.{table, faulty, Compiles}
 use Rattle.ild_data.specs.Spell.{id_of}
 use Rattle.ild_edges.specs.Count.{Rose}
@@ -7,6 +7,7 @@ use Rattle.ild_edges.specs.Inputs.{Supply, After, MayBe}
 use Rattle.ild_edges.specs.Store.{Moment, Later}
 use Rattle.ild_edges.specs.declared.inputs.Taken.{Taken}
 use Rattle.ild_plain.specs.Value.{Value, block_of, blocks_of}
+use Rattle.ild_reach.specs.Reach.{HamtFree}
 use Rattle.ild_schema.specs.Names.{declared_names}
 use Rattle.ild_schema.specs.declared.row.Row.{Row}
 use Rattle.ild_run.specs.declared.fault.Fault.{Fault}
@@ -18,14 +19,15 @@ use Rattle.ild_run.specs.declared.open.Job.TheVariants as J
 use Rattle.ild_run.specs.declared.open.Task.{Task}
 use Rattle.ild_run.specs.declared.open.Task.TheVariants as P
 use Rattle.ild_session.specs.Step.{Holds, Collides}
-use Rattle.ild_run.specs.Words.{Job, checks, runs}
+use Rattle.ild_run.specs.Words.{Job, checks, runs, creates}
 use Rattle.ild_run.specs.First.{Tries}
-use Rattle.ild_run.specs.Work.{Work, Taking, ends, lists, answers, job_work, IsTaking, Takes}
+use Rattle.ild_run.specs.Work.{Work, Taking, ends, lists, answers, makes, job_work, IsTaking, Takes}
 
 -- the job that the program holds
 abbrev pub job_seen : Held → Job
 job_seen (J.Check schema) = checks schema.now
 job_seen (J.Run schema script) = runs schema.now script.now
+job_seen (J.New schema ty value) = creates schema.now ty.now value.now
 
 abbrev pub InputAnswer : Supply → Role → List ℕ → Result (List ℕ) Fault → Supply → Type 0
 InputAnswer m role name (Ok b) n = MayBe m.files name (Taken.Bytes b)
@@ -51,6 +53,7 @@ CompileAnswer b (Err f) = ⊥
 abbrev pub InputsFault : Supply → Job → Taking → Fault → Supply → Type 0
 InputsFault m job t (F.Input role T.Failed) n = Rose m.faults n.faults × Takes role job t
 InputsFault m job t (F.Input role trouble) n = (job_work job t ≡ ends (F.Input role trouble)) × Rose m.lacks n.lacks
+InputsFault m job t F.Words n = job_work job t ≡ ends F.Words
 InputsFault m job t F.NotBuilt n = job_work job t ≡ ends F.NotBuilt
 InputsFault m job t (F.Schema f) n = job_work job t ≡ ends (F.Schema f)
 InputsFault m job t F.Memory n = Unit {0}
@@ -60,6 +63,13 @@ InputsFault m job t f n = ⊥
 abbrev pub work_seen : Task → Work
 work_seen (P.List rows) = lists (declared_names rows)
 work_seen (P.Answer b) = answers b
+work_seen (P.Create rows n b) = makes rows n b
+
+-- a value that is to be created has a type of its table, from which no HAMT is reached
+abbrev pub IsReady : Task → Type 0
+IsReady (P.List rows) = Unit {0}
+IsReady (P.Answer b) = Unit {0}
+IsReady (P.Create rows n b) = (n.0 < length rows) × HamtFree rows n
 
 abbrev pub OpensAnswer : Supply → Job → Taking → Result Task Fault → Supply → Type 0
 OpensAnswer m job t (Ok task) n = job_work job t ≡ work_seen task
@@ -70,7 +80,13 @@ pub record Opens (m : Supply) (job : Job) (result : Result Task Fault) (n : Supp
   pub taking : Taking
   pub taken : IsTaking job m taking
   pub answer : OpensAnswer m job taking result n
+  pub ready : IfOk result IsReady
   pub after : After m n
+
+-- the same from where the schema is compiled, in a call that came so far
+abbrev pub OpensBehind : Supply → List Row → List ℕ → List ℕ → Result Task Fault → Supply → Type 0
+OpensBehind k rows ty value result n =
+    (m : Supply) (name bytes : List ℕ) → MayBe m.files name (Taken.Bytes bytes) → Compiles bytes (table rows) → After m k → Opens m (creates name ty value) result n
 
 abbrev pub FirstAnswer : Moment → Value → Result (Unit {0}) Fault → Moment → Type 0
 FirstAnswer m v (Ok _) n = Holds n (blocks_of v)

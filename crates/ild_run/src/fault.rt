@@ -5,10 +5,11 @@ ghost use Rattle.ild_data.specs.CidText.{cid_text_of};
 ghost use Rattle.ild_edges.specs.Count.{Rose};
 ghost use Rattle.ild_edges.specs.Sink.{Appends, AppendsFront};
 ghost use Rattle.ild_session.specs.declared.cut.Cut.TheVariants as cut;
-ghost use Rattle.ild_run.specs.Fault.{status_of, input_text, schema_text, fault_text};
+ghost use Rattle.ild_run.specs.Fault.{status_of, input_text, schema_text, value_text, fault_text};
 
 use crate::Status;
 use ild_compile::SchemaFault;
+use ild_create::Refusal;
 use ild_data::{BlockId, Octets};
 use ild_edges::Sink;
 use ild_session::{Cut, write};
@@ -19,6 +20,7 @@ use std::alloc::{AllocError, Global};
 pub enum Role {
     Schema,
     Script,
+    Value,
 }
 
 /// What is wrong with an input.
@@ -39,6 +41,7 @@ pub enum Fault {
     Store,
     Clash(BlockId),
     Memory,
+    Value(Refusal),
 }
 
 fn input_text(role: Role, trouble: Trouble) -> &'static [u8]
@@ -51,6 +54,23 @@ fn input_text(role: Role, trouble: Trouble) -> &'static [u8]
         (Role::Script, Trouble::Failed) => b"fault 5 input script failed\n",
         (Role::Script, Trouble::Absent) => b"fault 5 input script absent\n",
         (Role::Script, Trouble::Long) => b"fault 5 input script long\n",
+        (Role::Value, Trouble::Failed) => b"fault 5 input value failed\n",
+        (Role::Value, Trouble::Absent) => b"fault 5 input value absent\n",
+        (Role::Value, Trouble::Long) => b"fault 5 input value long\n",
+    }
+}
+
+/// The line of a value that is refused. Its number and its name are those of the reply to an edit.
+fn value_text(refusal: Refusal) -> &'static [u8]
+    ensures { result.now ≡ value_text refusal }
+{
+    match refusal {
+        Refusal::Json => b"fault 9 value 3 json\n",
+        Refusal::Mismatch => b"fault 9 value 4 mismatch\n",
+        Refusal::Delimiter => b"fault 9 value 5 delimiter\n",
+        Refusal::Hole => b"fault 9 value 6 hole\n",
+        Refusal::Depth => b"fault 9 value 7 depth\n",
+        Refusal::Size => b"fault 9 value 9 size\n",
     }
 }
 
@@ -88,6 +108,7 @@ impl Fault {
             Fault::Input(_, _) => Status::Input,
             Fault::Store | Fault::Clash(_) => Status::StoreFault,
             Fault::Memory => Status::Memory,
+            Fault::Value(_) => Status::Value,
         }
     }
 }
@@ -113,5 +134,6 @@ pub fn write_fault<W: Sink>(alloc: Global, fault: Fault, out: &mut W) -> Result<
             Err(_) => Err(Cut::Memory),
         },
         Fault::Memory => write(out, b"fault 8 memory\n"),
+        Fault::Value(refusal) => write(out, value_text(refusal)),
     }
 }

@@ -1,7 +1,8 @@
 //! What comes before the lines: the words, the inputs, the schema, and the empty map's block.
-ghost use Rattle.std.specs.Prelude.{◌≡◌, Some, option_map};
+ghost use Rattle.std.specs.Prelude.{◌≡◌, ◌<◌, IfSome, Some, length, option_map};
+ghost use Rattle.ild_schema.specs.Names.{number_named};
 ghost use Rattle.ild_run.specs.Words.{job_of, name_of};
-ghost use Rattle.ild_run.specs.Opening.{job_seen, CompileAnswer, TakesInput, Opens, PutsFirst};
+ghost use Rattle.ild_run.specs.Opening.{job_seen, CompileAnswer, TakesInput, Opens, OpensBehind, PutsFirst};
 
 use crate::built::is_built;
 use crate::fault::{Fault, Role, Trouble};
@@ -9,15 +10,18 @@ use ild_compile::{CompileErr, compile};
 use ild_data::Octets;
 use ild_edges::{EdgeErr, Inputs, Store, Taken};
 use ild_plain::PlainMap;
-use ild_schema::Accepted;
+use ild_reach::reaches_hamt;
+use ild_schema::{Accepted, TypeNo};
 use ild_session::{PutFault, publish};
 use std::alloc::Global;
 
-/// What the words ask for, with the names of its inputs: the schema's, and for a run the script's.
+/// What the words ask for, with the names of its inputs: the schema's, and for a run the script's; for a new value
+/// its type and its input.
 #[derive(Clone, Copy)]
 pub enum Job<'w> {
     Check(&'w str),
     Run(&'w str, &'w str),
+    New(&'w str, &'w str, &'w str),
 }
 
 impl Job<'_> {
@@ -28,6 +32,7 @@ impl Job<'_> {
         match self {
             Job::Check(schema) => schema,
             Job::Run(schema, _) => schema,
+            Job::New(schema, _, _) => schema,
         }
     }
 }
@@ -38,6 +43,9 @@ pub fn job_of(words: &[String]) -> Option<Job<'_>>
 {
     match words {
         [verb, schema] if verb.as_str() == "check" => Some(Job::Check(schema.as_str())),
+        [verb, schema, ty, value] if verb.as_str() == "new" => {
+            Some(Job::New(schema.as_str(), ty.as_str(), value.as_str()))
+        }
         [verb, schema, ty, root, script] => {
             if verb.as_str() == "run" && ty.as_str() == "N" && root.as_str() == "-" {
                 Some(Job::Run(schema.as_str(), script.as_str()))
@@ -73,11 +81,45 @@ fn table_of(alloc: Global, bytes: &[u8]) -> Result<Accepted, Fault>
     }
 }
 
-/// What is to be done, once the inputs are taken: the names that a schema declares are listed, or a script is answered.
+/// What is to be done, once the inputs are taken: the names that a schema declares are listed, a script is answered, or a value of
+/// a type is created.
 #[derive(Drop)]
 pub enum Task {
     List(Accepted),
     Answer(Octets),
+    Create(Accepted, TypeNo, Octets),
+}
+
+/// The type that has a name, which is in the table.
+fn type_named(schema: &Accepted, name: &str) -> Option<TypeNo>
+    ensures named { option_map (λ ty. ty.0) result ≡ number_named name.now schema.now }
+    ensures within { IfSome result (λ ty. ty.0 < length schema.now) }
+{
+    schema.type_named(name)
+}
+
+/// Takes the input of a value, if its type is there and no HAMT is reached from it.
+fn plan_value<I: Inputs>(
+    alloc: Global,
+    inputs: &mut I,
+    schema: Accepted,
+    ty: &str,
+    value: &str,
+) -> Result<Task, Fault>
+    ensures { OpensBehind (I.supply inputs.old) schema ty.now value.now result (I.supply inputs.new) }
+{
+    let Some(number) = type_named(&schema, ty) else {
+        return Err(Fault::Words);
+    };
+    match reaches_hamt(alloc, &schema, number) {
+        Ok(false) => {}
+        Ok(true) => return Err(Fault::NotBuilt),
+        Err(_) => return Err(Fault::Memory),
+    }
+    match take_input(inputs, Role::Value, value) {
+        Ok(bytes) => Ok(Task::Create(schema, number, bytes)),
+        Err(fault) => Err(fault),
+    }
 }
 
 /// Takes the inputs in order, as far as the job leads, and says what is to be done.
@@ -89,6 +131,7 @@ pub fn plan<I: Inputs>(alloc: Global, inputs: &mut I, job: &Job<'_>) -> Result<T
     let script = match job {
         Job::Check(_) => return Ok(Task::List(schema)),
         Job::Run(_, script) => script,
+        Job::New(_, ty, value) => return plan_value(alloc, inputs, schema, ty, value),
     };
     if !is_built(&schema) {
         return Err(Fault::NotBuilt);

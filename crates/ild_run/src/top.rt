@@ -1,11 +1,13 @@
 //! The top call.
-ghost use Rattle.std.specs.Prelude.{◌≡◌, ◌≤◌};
+ghost use Rattle.std.specs.Prelude.{◌≡◌, ◌≤◌, ◌<◌, length};
+ghost use Rattle.ild_reach.specs.Reach.{HamtFree};
 ghost use Rattle.ild_edges.specs.Inputs.{After};
 ghost use Rattle.ild_edges.specs.Store.{Later};
 ghost use Rattle.ild_run.specs.Words.{job_of};
 ghost use Rattle.ild_run.specs.Fault.{cut_status};
 ghost use Rattle.ild_run.specs.Cut.{ToldAs};
 ghost use Rattle.ild_run.specs.Listed.{ListedAs};
+ghost use Rattle.ild_run.specs.Made.{MadeAs, made_fault};
 ghost use Rattle.ild_run.specs.Ended.{Ended, call_of};
 ghost use Rattle.ild_run.specs.Complete.{IsComplete};
 
@@ -13,9 +15,11 @@ use crate::fault::{Fault, write_fault};
 use crate::listed::names_json;
 use crate::open::{Task, job_of, plan, put_first};
 use crate::status::Status;
+use ild_create::{CreateFault, create};
 use ild_data::Txt;
 use ild_edges::{Inputs, Sink, Store};
 use ild_plain::PlainMap;
+use ild_schema::{Accepted, TypeNo};
 use ild_script::Reply;
 use ild_session::{Cut, answer_all, write_reply};
 use std::alloc::Global;
@@ -53,6 +57,42 @@ fn list<W: Sink>(alloc: Global, names: &[Txt], out: &mut W) -> Status
     }
 }
 
+/// The fault of a value that is not created.
+fn made_fault(fault: CreateFault) -> Fault
+    ensures { result ≡ made_fault fault }
+{
+    match fault {
+        CreateFault::Refused(refusal) => Fault::Value(refusal),
+        CreateFault::Store => Fault::Store,
+        CreateFault::Clash(id) => Fault::Clash(id),
+        CreateFault::Memory => Fault::Memory,
+    }
+}
+
+/// Creates a value of a type, writes the line of its root, and answers how it ended.
+fn make<K: Store, W: Sink>(
+    alloc: Global,
+    schema: &Accepted,
+    ty: TypeNo,
+    bytes: &[u8],
+    store: &mut K,
+    out: &mut W,
+) -> Status
+    requires within { ty.0 < length schema.now }
+    requires free { HamtFree schema.now ty }
+    ensures { MadeAs schema.now ty bytes.now (K.moment store.old) (W.output out.old) result (K.moment store.new) (W.output out.new) }
+{
+    // It does no work: its clauses say that the types are a table.
+    schema.types();
+    match create(alloc, schema, ty, bytes, store) {
+        Ok(id) => match write_reply(alloc, &Reply::Root(id), out) {
+            Ok(()) => Status::Done,
+            Err(cut) => cut_status(cut),
+        },
+        Err(fault) => tell(alloc, made_fault(fault), out),
+    }
+}
+
 /// Does what the words say, and answers how it ended.
 fn carry_out<I: Inputs, K: Store, W: Sink>(
     alloc: Global,
@@ -76,6 +116,9 @@ fn carry_out<I: Inputs, K: Store, W: Sink>(
     let script = match &task {
         Task::List(schema) => return list(alloc, schema.names(), out),
         Task::Answer(script) => script,
+        Task::Create(schema, ty, bytes) => {
+            return make(alloc, schema, *ty, bytes.as_slice(), store, out);
+        }
     };
     let mut value = PlainMap::new(alloc);
     if let Err(fault) = put_first(alloc, &value, store) {
@@ -93,7 +136,8 @@ fn carry_out<I: Inputs, K: Store, W: Sink>(
 /// Under `check` a schema is compiled, and the names that it declares are listed, or its first fault is told. Under `run` each
 /// line of the script is answered as the same command is on the plain value of the map, from the empty map on. A root that is
 /// printed is the id of the block built from scratch from the value at that line. A line that is refused changes nothing, and
-/// its cause is there.
+/// its cause is there. Under `new` the value of a type that an input means as DAG-JSON is built and put, and its root is printed;
+/// or the first cause is told for which no store holds such a value.
 pub fn run<I: Inputs, K: Store, W: Sink>(
     alloc: Global,
     words: &[String],

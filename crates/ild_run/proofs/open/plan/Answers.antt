@@ -50,3 +50,10 @@ returns-in_err-script g c =
     let compiled = rw c.as_slice.ensures.same at c.in_ok-schema.ensures in
     let p = err_from_is_err_and c.from_residual-in_err-script.result c.from_residual-in_err-script.ensures.1 in
     rw (p.1, p.2, c.in-Run.is) (opens_script m (g.I.Inputs.supply c.take_input.new.inputs) (g.I.Inputs.supply c.take_input-2.new.inputs) c.in-Run.field-0.now c.in-Run.script.now c.in_ok-bytes.bytes c.in_ok-schema.schema (Err c.in_err-script.field-0.0) taken compiled (sym c.if-not-is_built.ensures) c.in_ok-bytes.ensures.after c.in_err-script.ensures)
+
+pub returns-in-New : goal.returns-in-New
+returns-in-New g c =
+    let m = g.I.Inputs.supply c.args.inputs.now in
+    let taken = by_name m c.in-New.field-0.now c.schema.result.now c.in_ok-bytes.bytes (rw c.in-New.is at c.schema.ensures) c.in_ok-bytes.ensures.answer in
+    let compiled = rw c.as_slice.ensures.same at c.in_ok-schema.ensures in
+    rw c.in-New.is (c.plan_value.ensures m c.in-New.field-0.now c.in_ok-bytes.bytes taken compiled c.in_ok-bytes.ensures.after)

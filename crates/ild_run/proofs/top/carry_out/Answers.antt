@@ -5,7 +5,7 @@ use Rattle.ild_schema.specs.Names.{declared_names}
 use Rattle.ild_run.specs.Words.{job_of}
 use Rattle.ild_run.specs.Opening.{job_seen}
 use Rattle.ild_run.specs.Ended.{Call, call_of}
-use Rattle.ild_run.proofs.Endings.{ended_words, ended_inputs, ended_listed, ended_first, ended_done, ended_refused, ended_cut, answered_all, answered_some, cut_cause}
+use Rattle.ild_run.proofs.Endings.{ended_words, ended_inputs, ended_listed, ended_made, ended_first, ended_done, ended_refused, ended_cut, answered_all, answered_some, cut_cause}
 use Rattle.ild_run.proofs.top.carry_out.Goals as goal
 
 pub returns-in-Err-clause-ended : goal.returns-in-Err-clause-ended
@@ -27,7 +27,7 @@ returns-in-Ok-true-clause-ended g c =
     let call : Call = call_of (job_of c.args.words.now) (g.I.Inputs.supply c.args.inputs.now) (g.K.Store.moment c.args.store.now) (g.W.Sink.output c.args.out.now) (g.I.Inputs.supply c.plan.new.inputs) (g.K.Store.moment c.answer_all.new.store) (g.W.Sink.output c.answer_all.new.out) in
     let opens = c.in-Ok.ensures in
     let work = rw c.in-Answer.is at opens.answer in
-    let done = rw (c.as_slice.ensures.same, c.in-Ok-true.field-0-test) at c.in-Ok-true.ensures.done in
+    let done = rw (c.as_slice-2.ensures.same, c.in-Ok-true.field-0-test) at c.in-Ok-true.ensures.done in
     ended_refused call (job_seen c.in-Some.job) opens.taking (sym c.in-Some.ensures) opens.taken
     (answered_all call (job_seen c.in-Some.job) opens.taking _ c.new-value.result c.put_first.result c.in_default-put_first.field-0 (g.K.Store.moment c.put_first.new.store) (resting c.answer_all.new.session) true
     (sym c.in-Some.ensures) work c.new-value.ensures c.in_default-put_first.is c.put_first.ensures done)
@@ -37,7 +37,7 @@ returns-in-Ok-false-clause-ended g c =
     let call : Call = call_of (job_of c.args.words.now) (g.I.Inputs.supply c.args.inputs.now) (g.K.Store.moment c.args.store.now) (g.W.Sink.output c.args.out.now) (g.I.Inputs.supply c.plan.new.inputs) (g.K.Store.moment c.answer_all.new.store) (g.W.Sink.output c.answer_all.new.out) in
     let opens = c.in-Ok.ensures in
     let work = rw c.in-Answer.is at opens.answer in
-    let done = rw (c.as_slice.ensures.same, c.in-Ok-false.field-0-test) at c.in-Ok-false.ensures.done in
+    let done = rw (c.as_slice-2.ensures.same, c.in-Ok-false.field-0-test) at c.in-Ok-false.ensures.done in
     ended_done call (job_seen c.in-Some.job) opens.taking (sym c.in-Some.ensures) opens.taken
     (answered_all call (job_seen c.in-Some.job) opens.taking _ c.new-value.result c.put_first.result c.in_default-put_first.field-0 (g.K.Store.moment c.put_first.new.store) (resting c.answer_all.new.session) false
     (sym c.in-Some.ensures) work c.new-value.ensures c.in_default-put_first.is c.put_first.ensures done)
@@ -47,7 +47,7 @@ returns-clause-ended g c =
     let call : Call = call_of (job_of c.args.words.now) (g.I.Inputs.supply c.args.inputs.now) (g.K.Store.moment c.args.store.now) (g.W.Sink.output c.args.out.now) (g.I.Inputs.supply c.plan.new.inputs) (g.K.Store.moment c.answer_all.new.store) (g.W.Sink.output c.answer_all.new.out) in
     let opens = c.in-Ok.ensures in
     let work = rw c.in-Answer.is at opens.answer in
-    let cut = rw c.as_slice.ensures.same at c.in-Err-answer_all.ensures.part in
+    let cut = rw c.as_slice-2.ensures.same at c.in-Err-answer_all.ensures.part in
     let some = answered_some call (job_seen c.in-Some.job) opens.taking _ c.new-value.result c.put_first.result c.in_default-put_first.field-0 (g.K.Store.moment c.put_first.new.store) (resting c.answer_all.new.session)
     (sym c.in-Some.ensures) work c.new-value.ensures c.in_default-put_first.is c.put_first.ensures cut in
     rw c.cut_status.ensures (ended_cut call (job_seen c.in-Some.job) opens.taking c.in-Err-answer_all.cut (sym c.in-Some.ensures) opens.taken some
@@ -74,3 +74,11 @@ returns-in-List-clause-ended g c =
     let work = rw c.in-List.is at opens.answer in
     let listed = rw c.names.ensures at c.list.ensures in
     ended_listed call (job_seen c.in-Some.job) opens.taking _ c.list.result (sym c.in-Some.ensures) opens.taken work refl listed
+
+pub returns-in-Create-clause-ended : goal.returns-in-Create-clause-ended
+returns-in-Create-clause-ended g c =
+    let call : Call = call_of (job_of c.args.words.now) (g.I.Inputs.supply c.args.inputs.now) (g.K.Store.moment c.args.store.now) (g.W.Sink.output c.args.out.now) (g.I.Inputs.supply c.plan.new.inputs) (g.K.Store.moment c.make.new.store) (g.W.Sink.output c.make.new.out) in
+    let opens = c.in-Ok.ensures in
+    let work = rw c.in-Create.is at opens.answer in
+    let made = rw c.as_slice.ensures.same at c.make.ensures in
+    ended_made call (job_seen c.in-Some.job) opens.taking _ _ _ c.make.result (sym c.in-Some.ensures) opens.taken work made
