@@ -14,7 +14,7 @@ use Rattle.ild_json.specs.declared.error.JsonErr.TheVariants as JE
 use Rattle.ild_meant.specs.Meant.{Meant}
 use Rattle.ild_meant.proofs.Reading.{read_is_meant}
 use Rattle.ild_reach.specs.Reach.{HamtFree}
-use Rattle.ild_reach.proofs.Free.{has_no_nodes}
+use Rattle.ild_reach.proofs.FreeBlocks.{free_blocks}
 use Rattle.ild_schema.specs.declared.number.TypeNo.{TypeNo}
 use Rattle.ild_schema.specs.declared.row.Row.{Row}
 use Rattle.ild_schema.specs.Slots.{plainly}
@@ -126,10 +126,10 @@ first_long rows n v filled parted fits long = record {
 
 -- ---- the block
 
-one_block : (rows : List Row) (n : TypeNo) (v : Value) (d : Data) → HamtFree rows n → (h : List ℕ → List ℕ) → blocks_of bare h rows n v d ≡ spell d ∷ []
-one_block rows n v d free h = ap (λ (bs : List (List ℕ)). spell d ∷ (bs ++ [])) (has_no_nodes h rows (plainly n) v free).nodes
+one_block : (rows : List Row) (n : TypeNo) (v : Value) (d : Data) → HamtFree rows n.0 → (h : List ℕ → List ℕ) → blocks_of bare h rows n v d ≡ spell d ∷ []
+one_block rows n v d free h = free_blocks bare h rows n free v d
 
-pub block_is : (rows : List Row) (n : TypeNo) (v : Value) (b : List ℕ) → HamtFree rows n → Fits rows deepest (plainly n) v → IsBuilt rows (plainly n) v b → IsBlockOf rows n v b
+pub block_is : (rows : List Row) (n : TypeNo) (v : Value) (b : List ℕ) → HamtFree rows n.0 → Fits rows deepest (plainly n) v → IsBuilt rows (plainly n) v b → IsBlockOf rows n v b
 block_is rows n v b free fits built =
     let short : length (spell built.tree) ≤ longest_block = subst (λ (x : List ℕ). length x ≤ longest_block) built.spelled built.sized in
     record {

@@ -77,7 +77,7 @@ fn block_of_value(
     val: &Val,
 ) -> Result<Octets, CreateFault>
     requires within { ty.0 < length acc.now }
-    requires free { HamtFree acc.now ty }
+    requires free { HamtFree acc.now ty.0 }
     requires typed { Typed acc.now (plainly ty) (value_of val.now) }
     ensures ok { IfOk result (IsBlockOf acc.now ty (value_of val.now)) }
     ensures err { IfErr result (StopsValue acc.now ty (value_of val.now)) }
@@ -106,7 +106,7 @@ pub fn block_of(
     bytes: &[u8],
 ) -> Result<Octets, CreateFault>
     requires within { ty.0 < length acc.now }
-    requires free { HamtFree acc.now ty }
+    requires free { HamtFree acc.now ty.0 }
     ensures ok { IfOk result (MakesBlock acc.now ty bytes.now) }
     ensures err { IfErr result (Stops acc.now ty bytes.now) }
 {

@@ -22,7 +22,7 @@ pub fn create<K: Store>(
 ) -> Result<BlockId, CreateFault>
     requires within { ty.0 < length acc.now }
     // No HAMT is reached from the type.
-    requires free { HamtFree acc.now ty }
+    requires free { HamtFree acc.now ty.0 }
     ensures { Creates acc.now ty bytes.now (K.moment store.old) result (K.moment store.new) }
 {
     let block = match block_of(alloc, acc, ty, bytes) {

@@ -36,15 +36,15 @@ abbrev Creating : Work → List Row → TypeNo → List ℕ → Type 0
 Creating w rows n b = (w ≡ makes rows n b) ⊎ (w ≡ ends F.Memory)
 
 -- no HAMT is reached from a type, or one is
-not_reached : (rows : List Row) (n : TypeNo) → HamtFree rows n → ReachesHamt rows n → ⊥
-not_reached rows n free reaches = reaches free
+not_reached : (rows : List Row) (n : TypeNo) → HamtFree rows n.0 → ReachesHamt rows n.0 → ⊥
+not_reached rows n free reaches = free reaches
 
-type_makes : (rows : List Row) (n : TypeNo) (b : List ℕ) (hamt : Option Bool) → HamtFree rows n → IsReachOf rows (Some n.0) hamt → Creating (type_work rows (Some n.0) hamt (Taken.Bytes b)) rows n b
+type_makes : (rows : List Row) (n : TypeNo) (b : List ℕ) (hamt : Option Bool) → HamtFree rows n.0 → IsReachOf rows (Some n.0) hamt → Creating (type_work rows (Some n.0) hamt (Taken.Bytes b)) rows n b
 type_makes rows n b None free reach = inr refl
 type_makes rows n b (Some true) free reach = absurd (not_reached rows n free reach)
 type_makes rows n b (Some false) free reach = inl refl
 
-named_makes : (rows : List Row) (n : TypeNo) (b : List ℕ) (found : Option ℕ) (taken : Taken) (hamt : Option Bool) → found ≡ Some n.0 → taken ≡ Taken.Bytes b → HamtFree rows n → IsReachOf rows found hamt
+named_makes : (rows : List Row) (n : TypeNo) (b : List ℕ) (found : Option ℕ) (taken : Taken) (hamt : Option Bool) → found ≡ Some n.0 → taken ≡ Taken.Bytes b → HamtFree rows n.0 → IsReachOf rows found hamt
     → Creating (type_work rows found hamt taken) rows n b
 named_makes rows n b found taken hamt named held free reach =
     let same : type_work rows found hamt taken ≡ type_work rows (Some n.0) hamt (Taken.Bytes b) = ap (λ x. type_work rows x hamt taken) named ∙ ap (λ x. type_work rows (Some n.0) hamt x) held in

@@ -209,7 +209,7 @@ reach_of : (rows : List Row) (found : Option ℕ) (n : TypeNo) (hamt : Option Bo
 reach_of rows found n hamt named is = subst (λ (x : Option ℕ). IsReachOf rows x hamt) (sym named) is
 
 -- a HAMT is reached from it
-pub opens_reached : (k : Supply) (rows : List Row) (ty value : List ℕ) (n : TypeNo) → number_named ty rows ≡ Some n.0 → ReachesHamt rows n → OpensBehind k rows ty value (Err F.NotBuilt) k
+pub opens_reached : (k : Supply) (rows : List Row) (ty value : List ℕ) (n : TypeNo) → number_named ty rows ≡ Some n.0 → ReachesHamt rows n.0 → OpensBehind k rows ty value (Err F.NotBuilt) k
 opens_reached k rows ty value n named reaches m name b is compiles after =
     opens_type m k name ty value b rows (Some true) F.NotBuilt is compiles (reach_of rows (number_named ty rows) n (Some true) named reaches) (λ t. ap (λ found. type_work rows found (Some true) t) named) after
 
@@ -248,11 +248,11 @@ value_answer m k n name ty value b rows t (Err F.Store) named same lacks faults 
 value_answer m k n name ty value b rows t (Err (F.Clash id)) named same lacks faults answer = absurd answer
 value_answer m k n name ty value b rows t (Err (F.Value r)) named same lacks faults answer = absurd answer
 
-value_ready : (rows : List Row) (t : TypeNo) (result : Result (List ℕ) Fault) → t.0 < length rows → HamtFree rows t → IfOk (value_task rows t result) IsReady
+value_ready : (rows : List Row) (t : TypeNo) (result : Result (List ℕ) Fault) → t.0 < length rows → HamtFree rows t.0 → IfOk (value_task rows t result) IsReady
 value_ready rows t (Ok b) within free = (within, free)
 value_ready rows t (Err f) within free = tt
 
-pub opens_value : (k n : Supply) (rows : List Row) (ty value : List ℕ) (t : TypeNo) (result : Result (List ℕ) Fault) → number_named ty rows ≡ Some t.0 → t.0 < length rows → HamtFree rows t
+pub opens_value : (k n : Supply) (rows : List Row) (ty value : List ℕ) (t : TypeNo) (result : Result (List ℕ) Fault) → number_named ty rows ≡ Some t.0 → t.0 < length rows → HamtFree rows t.0
     → TakesInput k Role.Value value result n → OpensBehind k rows ty value (value_task rows t result) n
 opens_value k n rows ty value t result named within free takes m name b is compiles after =
     let x = value_answer m k n name ty value b rows t result named after.files after.lacks after.faults takes.answer in

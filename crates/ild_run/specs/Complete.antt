@@ -98,7 +98,7 @@ pub record IsGivenValue (c : Call) (v : Typed) (d : Data) : Type 0 where
   pub compiles : Compiles schema (table rows)
   pub type : TypeNo
   pub named : number_named type_name rows ≡ Some type.0
-  pub free : HamtFree rows type
+  pub free : HamtFree rows type.0
   pub bytes : List ℕ
   pub value_held : taken_of (file_at files value_name) ≡ Taken.Bytes bytes
   pub makes : Makes rows type bytes v d

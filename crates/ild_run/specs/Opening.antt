@@ -69,7 +69,7 @@ work_seen (P.Create rows n b) = makes rows n b
 abbrev pub IsReady : Task → Type 0
 IsReady (P.List rows) = Unit {0}
 IsReady (P.Answer b) = Unit {0}
-IsReady (P.Create rows n b) = (n.0 < length rows) × HamtFree rows n
+IsReady (P.Create rows n b) = (n.0 < length rows) × HamtFree rows n.0
 
 abbrev pub OpensAnswer : Supply → Job → Taking → Result Task Fault → Supply → Type 0
 OpensAnswer m job t (Ok task) n = job_work job t ≡ work_seen task

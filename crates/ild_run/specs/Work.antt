@@ -95,8 +95,8 @@ IsVerdict taken verdict = Unit {0}
 abbrev pub IsReachOf : List Row → Option ℕ → Option Bool → Type 0
 IsReachOf rows None hamt = Unit {0}
 IsReachOf rows (Some n) None = Unit {0}
-IsReachOf rows (Some n) (Some true) = ReachesHamt rows (record { 0 = n })
-IsReachOf rows (Some n) (Some false) = HamtFree rows (record { 0 = n })
+IsReachOf rows (Some n) (Some true) = ReachesHamt rows n
+IsReachOf rows (Some n) (Some false) = HamtFree rows n
 
 abbrev pub IsReach : Job → Option Verdict → Option Bool → Type 0
 IsReach (creates schema ty value) (Some (table rows)) hamt = IsReachOf rows (number_named ty rows) hamt

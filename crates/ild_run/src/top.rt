@@ -79,7 +79,7 @@ fn make<K: Store, W: Sink>(
     out: &mut W,
 ) -> Status
     requires within { ty.0 < length schema.now }
-    requires free { HamtFree schema.now ty }
+    requires free { HamtFree schema.now ty.0 }
     ensures { MadeAs schema.now ty bytes.now (K.moment store.old) (W.output out.old) result (K.moment store.new) (W.output out.new) }
 {
     // It does no work: its clauses say that the types are a table.
