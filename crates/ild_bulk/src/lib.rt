@@ -16,7 +16,7 @@ mod walker;
 pub use build::{any_long, from_entries, is_long};
 pub use check::check_tree;
 pub use laws::{children_first, given_is_trie, plan_is_of_nodes};
-pub use plan::plan_slot;
+pub use plan::plan_keyed;
 pub use planned::PlannedBlock;
 pub use put::put_all;
 pub use row::Row;
