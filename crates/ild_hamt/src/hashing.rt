@@ -15,11 +15,7 @@ use ild_data::KeyHash;
 use ild_node::{Bucket, Keyed, NodeSlot, Row};
 use std::alloc::{AllocError, Global};
 
-fn push_hash<H: KeyHash>(
-    key: &str,
-    keys: &H,
-    hashes: &mut Vec<[u8; 32]>,
-) -> Result<(), AllocError>
+fn push_hash<H: KeyHash>(key: &str, keys: &H, hashes: &mut Vec<[u8; 32]>) -> Result<(), AllocError>
     ensures { OnOk result (hashes.new.items ≡ hashes.old.items ++ H.hash_of key.now ∷ []) }
 {
     let hash = keys.hash(key.as_bytes());

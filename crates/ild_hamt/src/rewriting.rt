@@ -74,7 +74,13 @@ pub(crate) fn slot_of(
     if rows.len() <= BUCKET_SIZE {
         return Ok(few_slot(rows));
     }
-    let keyed = keyed(alloc, rows.as_slice(), trail.key.as_str(), &trail.hash, &trail.others)?;
+    let keyed = keyed(
+        alloc,
+        rows.as_slice(),
+        trail.key.as_str(),
+        &trail.hash,
+        &trail.others,
+    )?;
     plan_keyed(alloc, &keyed, depth, plan)
 }
 
