@@ -4,7 +4,7 @@ use std::cmp::Ordering;
 
 type Fault = &'static str;
 
-fn head(b: &[u8], p: &mut usize) -> Result<(u8, u64), Fault> {
+pub fn head(b: &[u8], p: &mut usize) -> Result<(u8, u64), Fault> {
     let first = *b.get(*p).ok_or("short")?;
     *p += 1;
     let low = first & 31;
@@ -28,7 +28,7 @@ fn head(b: &[u8], p: &mut usize) -> Result<(u8, u64), Fault> {
     if shortest { Ok((first >> 5, n)) } else { Err("head") }
 }
 
-fn string<'b>(b: &'b [u8], p: &mut usize, n: u64) -> Result<&'b [u8], Fault> {
+pub fn string<'b>(b: &'b [u8], p: &mut usize, n: u64) -> Result<&'b [u8], Fault> {
     if n > (b.len() - *p) as u64 {
         return Err("short");
     }
@@ -97,7 +97,7 @@ pub fn check(b: &[u8]) -> Result<usize, Fault> {
 }
 
 /// Passes over one item of a block that was checked.
-fn skip(b: &[u8], p: &mut usize) {
+pub fn skip(b: &[u8], p: &mut usize) {
     let mut left = 1u64;
     while left > 0 {
         left -= 1;

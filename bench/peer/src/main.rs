@@ -1,5 +1,6 @@
 //! The same work as the engine's, as a good Rust programmer writes it without proofs. Words: WORK FILE TIMES.
 mod cbor;
+mod hamt;
 mod json;
 mod map;
 mod schema;
@@ -70,6 +71,11 @@ fn main() {
         "compile" => {
             for _ in 0..times {
                 sum += schema::compile(black_box(&bytes)).expect("a schema") as u64;
+            }
+        }
+        "hamt" => {
+            for _ in 0..times {
+                sum += hamt::edit_all(black_box(&bytes));
             }
         }
         "script" => {

@@ -9,6 +9,6 @@ mod put;
 
 pub use build::{any_long, from_entries, is_long};
 pub use laws::{children_first, plan_is_of_nodes};
-pub use plan::plan_slot;
+pub use plan::plan_keyed;
 pub use planned::PlannedBlock;
 pub use put::put_all;

@@ -158,8 +158,9 @@ fn plan_child<'r>(
     Ok(())
 }
 
-// The slot of rows, on its own.
-fn held_slot(
+/// The slot that rows have in a node above them, which stands one level higher than this depth, by the hashes that come with
+/// them. The blocks of their own node and of those beneath it, where there are any, are appended, each behind those beneath it.
+pub fn plan_keyed(
     alloc: Global,
     rows: &[Keyed<'_>],
     depth: u32,
@@ -180,20 +181,4 @@ fn held_slot(
     let id = block.id();
     blocks.push(block)?;
     Ok(Some(NewHold::Child(id)))
-}
-
-/// The slot that rows have in a node above them, which stands one level higher than this depth. The blocks of their own node
-/// and of those beneath it, where there are any, are appended, each behind those beneath it.
-pub fn plan_slot<H: KeyHash>(
-    alloc: Global,
-    rows: &Rows,
-    depth: u32,
-    keys: &H,
-    blocks: &mut Vec<PlannedBlock>,
-) -> Result<Option<NewHold>, HamtFault>
-    ensures plans { PlansSlot H.hash_of usual (trie_levels usual - depth) depth rows.now result blocks.old.items blocks.new.items }
-    ensures filled { IfOk result (IsFilledSlot usual) }
-{
-    let keyed = keyed(alloc, rows.as_slice(), keys)?;
-    held_slot(alloc, &keyed, depth, blocks)
 }

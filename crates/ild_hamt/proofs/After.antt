@@ -28,7 +28,8 @@ use Rattle.ild_bulk.specs.Putting.{AddsOnly, AreHeld, PutsAll, StopsAfter}
 use Rattle.ild_data.specs.TrieBlocks.{nodes_beneath}
 use Rattle.ild_hamt.proofs.Beneath.{way-beneath, among-turned, among-take}
 use Rattle.ild_bulk.proofs.Puts.{told-map, told-same}
-use Rattle.ild_hamt.specs.Way.{HoldsBelow, IsRootOf}
+use Rattle.ild_walker.specs.Trees.{HoldsBelow}
+use Rattle.ild_hamt.specs.Way.{IsRootOf}
 use Rattle.ild_hamt.specs.Removing.{Removes}
 use Rattle.ild_hamt.proofs.Differing.{differs-without}
 use Rattle.ild_hamt.specs.Rewriting.{DiffersAt, HasRoot, HoldsAfter, Rewrites, way_up}

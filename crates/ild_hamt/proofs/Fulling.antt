@@ -31,8 +31,9 @@ use Rattle.ild_hamt.proofs.Shown.{value-found}
 use Rattle.ild_hamt.specs.declared.trail.Trail.{Trail}
 use Rattle.ild_typed.specs.Composed.{usual}
 use Rattle.ild_hamt.specs.Seen.{Shows, ValueIs}
-use Rattle.ild_hamt.specs.Ends.{EndsAt, agree, agreeing, agrees_some}
-use Rattle.ild_hamt.specs.Way.{IsNodeOf, slot_for}
+use Rattle.ild_hamt.specs.Ends.{EndsAt, agree, agreeing}
+use Rattle.ild_walker.specs.Gives.{IsNodeOf}
+use Rattle.ild_hamt.specs.Way.{slot_for}
 use Rattle.ild_hamt.specs.Descending.{IsTrailOf, trail_blocks}
 
 all_pass : {X : Type 0} (xs : List X) → filter (λ x. true) xs ≡ xs
@@ -95,28 +96,6 @@ full-is h p k slots es v t trail =
     ∙ sym (ap not (ap (λ m. is_some (node_of h p m 0 (put bytewise k v es))) trail.root.all
     ∙ set-exhausts h p trail.root.left 0 es k v trail.root.order (node_there h p trail.root.left es slots trail.root.node)
     ∙ ap (λ m. nat_le (length (put bytewise k v (along h p k m 0 es))) p.bucket) (sym trail.root.all)))
-
--- ---- counting
-
-got : (es : List (List ℕ × Data)) (i : ℕ) → i < length es → (e : List ℕ × Data) × (slice_get es i ≡ Some e) × (get_or es i e ≡ e)
-got [] i lt = absurd (omega arith)
-got (e ∷ es) zero lt = (e, refl, refl)
-got (e ∷ es) (suc i) lt = got es i (omega arith)
-
-add_one : (b : Bool) (e : List ℕ × Data) (n count : ℕ) → count ≡ n → cond b (count + 1) count ≡ n + length (cond b (e ∷ []) [])
-add_one true e n count is = omega (arith, is)
-add_one false e n count is = omega (arith, is)
-
-pub count-more : (h : List ℕ → List ℕ) (p : TrieShape) (hash : List ℕ) (depth : ℕ) (es : List (List ℕ × Data)) (i count : ℕ) (b : Bool)
-    → i < length es → b ≡ agrees_some h p hash depth (slice_get es i) → count ≡ length (agreeing h p hash depth (take i es))
-    → cond b (count + 1) count ≡ length (agreeing h p hash depth (take (i + 1) es))
-count-more h p hash depth es i count b lt is was =
-    let g = got es i lt in
-    let f : List ℕ × Data → Bool = λ e. agree p (h e.0) hash (trie_levels p - depth) depth in
-    let here : b ≡ f g.0 = is ∙ ap (agrees_some h p hash depth) g.1 in
-    ap (λ c. cond c (count + 1) count) here ∙ add_one (f g.0) g.0 (length (agreeing h p hash depth (take i es))) count was
-    ∙ sym (ap (λ xs. length (filter f xs)) (take_more es i g.0 lt ∙ ap (λ e. take i es ++ e ∷ []) g.2)
-    ∙ ap length (filter-append f (take i es) (g.0 ∷ [])) ∙ length-append (filter f (take i es)) (filter f (g.0 ∷ [])))
 
 -- ---- where a way ends
 

@@ -2,6 +2,7 @@
 use Rattle.std.proofs.Common.{◌≡◌, ◌⊎◌, inl, inr, ⊎_elim, ℕ, suc, ◌+◌, ◌≤◌, ◌<◌, nat_le, Bool, true, false, ◌&&◌, is_some, cond, List, [], ◌∷◌, ◌++◌, length, get_or, Option, Some, None, option_map, Result, Ok, Err, refl, sym, ap, ◌∙◌, subst, arith}
 use Rattle.std.proofs.lemmas.List.{append-nil, length-append}
 use Rattle.std.proofs.lemmas.Bool.{le-leb, leb-true, cases_lt, false≢true}
+use Rattle.ild_data.specs.ByteOrder.{without}
 use Rattle.ild_data.specs.Data.{Data}
 use Rattle.ild_data.specs.Spell.{spell, id_of}
 use Rattle.ild_cbor.specs.Reading.{fault_of}
@@ -21,7 +22,7 @@ use Rattle.ild_node.specs.declared.view.NodeView.{NodeView}
 use Rattle.ild_node.specs.declared.view.NodeSlot.{NodeSlot}
 use Rattle.ild_typed.specs.Composed.{usual}
 use Rattle.ild_hamt.specs.Seen.{Shows}
-use Rattle.ild_hamt.specs.Ends.{EndsAt, is_full}
+use Rattle.ild_hamt.specs.Ends.{EndsAt, hashes_of, is_full}
 use Rattle.ild_cbor.specs.declared.why.BlockWhy.{BlockWhy}
 use Rattle.ild_cbor.specs.declared.why.BlockWhy.TheVariants.{Missing, Cbor, Shape as NoNode}
 use Rattle.ild_node.specs.declared.fault.HamtFault.{HamtFault}
@@ -29,7 +30,9 @@ use Rattle.ild_node.specs.declared.fault.HamtFault.TheVariants.{Exhausted, Block
 use Rattle.ild_hamt.specs.declared.trail.Trail.{Trail}
 use Rattle.ild_hamt.specs.Fetching.{Fetches, BlockCause, IsBlockAt}
 use Rattle.ild_bulk.specs.Putting.{AreHeld}
-use Rattle.ild_hamt.specs.Way.{IsNodeOf, slot_for, child_id, Leads, IsRootOf, HoldsBelow}
+use Rattle.ild_walker.specs.Gives.{IsNodeOf}
+use Rattle.ild_walker.specs.Trees.{HoldsBelow}
+use Rattle.ild_hamt.specs.Way.{slot_for, child_id, Leads, IsRootOf}
 use Rattle.ild_hamt.specs.Descending.{Reads, DescendAnswer, TrailIs, NodeAt, Descends, IsBadChild, LinksBeyond, trail_blocks}
 use Rattle.ild_hamt.proofs.Leading.{leads-more, leads-end, leads-node, held-more, leads-way, child-node, Child, held-node}
 
@@ -147,6 +150,7 @@ trail-is h p k held_blocks slots es m bs last (Ok t) n wide tells root short nod
       ends = subst (λ (d : ℕ). length (along h p k (d + 1) 0 es) ≤ p.bucket) e ended.1;
       full = answer.full ∙ ap (is_full h p k (h k) (length bs + 1)) (sym ended.0)
           ∙ ap (λ d. is_full h p k (h k) (d + 1) (along h p k (d + 1) 0 es)) e;
+      others = answer.others ∙ ap (λ gs. hashes_of h (without k gs)) (sym ended.0) ∙ ap (λ d. hashes_of h (without k (along h p k (d + 1) 0 es))) e;
     }
 trail-is h p k held_blocks slots es m bs last (Err (Block id why)) n wide tells root short nodes on answer =
     ⊎_elim (λ bad. refused h p k held_blocks es m bs last id.0 why n wide tells on bad) (λ beyond. none-beyond h p k held_blocks es bs last id.0 on beyond.1) answer
@@ -396,8 +400,9 @@ pub going-done : (h : List ℕ → List ℕ) (p : TrieShape) (key hash : List �
     → 3 ≤ p.width → hash ≡ h key → Going p hash slots m (trail_blocks t) depth None n → t.key ≡ key → t.hash ≡ hash → t.depth ≡ depth
     → ((last : List TrieSlot) → EndsAt p slots (trail_blocks t) last → depth ≡ length (trail_blocks t) → depth < trie_levels p → Shows x (slot_for p hash depth last))
     → ((y : TrieSlot) → Shows x y → t.exhausted ≡ is_full h p key hash (depth + 1) (bucket_entries y))
+    → ((y : TrieSlot) → Shows x y → t.others.items ≡ hashes_of h (without key (bucket_entries y)))
     → Descends h p key slots m (Ok t) n
-going-done h p key hash slots m depth t n x wide same going named hashed deep stands full =
+going-done h p key hash slots m depth t n x wide same going named hashed deep stands full others =
     let g = subst (λ (x : List ℕ). Going p x slots m (trail_blocks t) depth None n) same going in
     let at = stands g.last (leads-end p (h key) 0 slots (trail_blocks t) g.last g.reads.leads) g.depth_is (let lt = g.reads.short in omega (arith, g.depth_is)) in
     descends h p key slots m (trail_blocks t) g.last (Ok t) n wide g.reads
@@ -409,6 +414,7 @@ going-done h p key hash slots m depth t n x wide same going named hashed deep st
       ends = no-child (slot_for p (h key) (length (trail_blocks t)) g.last) g.next_is;
       full = full (slot_for p hash depth g.last) at
           ∙ (λ i. is_full h p key (same i) (g.depth_is i + 1) (bucket_entries (slot_for p (same i) (g.depth_is i) g.last)));
+      others = others (slot_for p hash depth g.last) at ∙ (λ i. hashes_of h (without key (bucket_entries (slot_for p (same i) (g.depth_is i) g.last))));
     })
 
 pub stands-at : (root : NodeView) (x : NodeSlot) (hash : List ℕ) (depth : ℕ) (slots : List TrieSlot) (cs bs : List (List ℕ))

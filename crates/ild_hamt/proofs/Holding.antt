@@ -10,7 +10,8 @@ use Rattle.ild_trie.proofs.Node.{slots-node, no_node}
 use Rattle.ild_trie.proofs.Slots.{slot_at}
 use Rattle.ild_data.specs.Spell.{spell, id_of}
 use Rattle.ild_edges.specs.Store.{Keeps}
-use Rattle.ild_hamt.specs.Way.{IsHeldNode, HoldsBelow, IsRootOf}
+use Rattle.ild_walker.specs.Trees.{IsHeldNode, HoldsBelow}
+use Rattle.ild_hamt.specs.Way.{IsRootOf}
 use Rattle.ild_hamt.specs.Holding.{HoldsWay}
 use Rattle.ild_hamt.specs.Rewriting.{DiffersAt}
 use Rattle.ild_hamt.proofs.Differing.{part-differs, part-others}

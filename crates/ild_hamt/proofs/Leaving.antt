@@ -28,6 +28,8 @@ use Rattle.ild_node.specs.declared.view.NodeSlot.TheVariants as S
 use Rattle.ild_node.specs.declared.fault.HamtFault.{HamtFault}
 use Rattle.ild_node.specs.declared.fault.HamtFault.TheVariants as F
 use Rattle.ild_hamt.specs.Descending.{IsTrailOf, trail_blocks}
+use Rattle.ild_hamt.specs.Ends.{hashes_of}
+use Rattle.ild_hamt.proofs.Hashed.{others-put}
 use Rattle.ild_hamt.specs.Removing.{Removes}
 use Rattle.ild_hamt.specs.Rewriting.{StopsAt, Rewrites, ClimbState, way_up}
 use Rattle.ild_hamt.specs.Seen.{Shows}
@@ -82,6 +84,13 @@ pub rows-put : (h : List ℕ → List ℕ) (k key : List ℕ) (v : Data) (slots 
     → others ≡ without k (along h usual k (length (trail_blocks t) + 1) 0 es) → key ≡ k → rows ≡ put bytewise key v others → rows ≡ put bytewise k v (along h usual k (length (trail_blocks t) + 1) 0 es)
 rows-put h k key v slots es others rows t trail is named puts =
     puts ∙ (λ i. put bytewise (named i) v (is i)) ∙ put-without k v (along h usual k (length (trail_blocks t) + 1) 0 es) (in_order-along h usual k (length (trail_blocks t) + 1) 0 es trail.root.order)
+
+-- the hashes that the trail keeps are those of the other rows
+pub others-end : (h : List ℕ → List ℕ) (k : List ℕ) (v : Data) (slots : List TrieSlot) (es : List (List ℕ × Data)) (t : Trail) (rows : List (List ℕ × Data)) → IsTrailOf h usual k slots es t
+    → rows ≡ put bytewise k v (along h usual k (length (trail_blocks t) + 1) 0 es) → t.others.items ≡ hashes_of h (without t.key rows)
+others-end h k v slots es t rows trail puts =
+    let gs : List (List ℕ × Data) = along h usual k (length (trail_blocks t) + 1) 0 es in
+    others-put h k t.key v gs rows t.others.items (in_order-along h usual k (length (trail_blocks t) + 1) 0 es trail.root.order) trail.others trail.key puts
 
 -- what a plan of the end's slot gives
 pub end-state : (h : List ℕ → List ℕ) (k : List ℕ) (v : Data) (slots : List TrieSlot) (es rows : List (List ℕ × Data)) (t : Trail) (o : Option NewHold) (depth : ℕ) (old plan : List (List ℕ)) → IsTrailOf h usual k slots es t

@@ -16,3 +16,4 @@ pub mod Sounded
 pub mod Whole
 pub mod Beneath
 pub mod After
+pub mod Hashed

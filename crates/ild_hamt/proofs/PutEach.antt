@@ -70,7 +70,7 @@ put_each-append (x ∷ xs) ys rows = put_each-append xs ys (put bytewise x.0 x.1
 
 -- ---- the entries of a bucket, one after another
 
-got : (es : List (List ℕ × Data)) (i : ℕ) → i < length es → take (i + 1) es ≡ take i es ++ some_entry (slice_get es i)
+pub got : (es : List (List ℕ × Data)) (i : ℕ) → i < length es → take (i + 1) es ≡ take i es ++ some_entry (slice_get es i)
 got es i lt = by es i lt
   where
     next : (i : ℕ) → i + 1 ≡ suc i
@@ -85,7 +85,7 @@ pub entry-more : (es rows now new : List (List ℕ × Data)) (i : ℕ) → i < l
 entry-more es rows now new i lt was puts =
     puts ∙ ap (put_each (some_entry (slice_get es i))) was ∙ sym (ap (λ xs. put_each xs rows) (got es i lt) ∙ put_each-append (take i es) (some_entry (slice_get es i)) rows)
 
-without-append : (k : List ℕ) (xs ys : List (List ℕ × Data)) → without k (xs ++ ys) ≡ without k xs ++ without k ys
+pub without-append : (k : List ℕ) (xs ys : List (List ℕ × Data)) → without k (xs ++ ys) ≡ without k xs ++ without k ys
 without-append k xs ys = filter-append (λ e. not (eq_by_cmp bytewise k e.0)) xs ys
 
 pub other-more : (k : List ℕ) (es now new : List (List ℕ × Data)) (i : ℕ) → i < length es → now ≡ put_each (without k (take i es)) [] → new ≡ put_each (without k (some_entry (slice_get es i))) now

@@ -1,5 +1,6 @@
 -- What reading the nodes on a key's way gives.
 use Rattle.std.specs.Prelude.{◌≡◌, ◌⊎◌, ℕ, ◌+◌, ◌≤◌, ◌<◌, suc, true, false, cond, List, [], length, slice_index_or, Some, Result, Ok, Err}
+use Rattle.ild_data.specs.ByteOrder.{without}
 use Rattle.ild_data.specs.Data.{Data}
 use Rattle.ild_data.specs.Spell.{id_of}
 use Rattle.ild_edges.specs.Count.{Rose}
@@ -15,9 +16,11 @@ use Rattle.ild_node.specs.declared.fault.HamtFault.{HamtFault}
 use Rattle.ild_node.specs.declared.fault.HamtFault.TheVariants.{Block, Store, Memory}
 use Rattle.ild_hamt.specs.declared.trail.Trail.{Trail}
 use Rattle.ild_hamt.specs.Fetching.{BlockCause}
-use Rattle.ild_hamt.specs.Ends.{is_full}
+use Rattle.ild_hamt.specs.Ends.{hashes_of, is_full}
 use Rattle.ild_bulk.specs.Putting.{AreHeld}
-use Rattle.ild_hamt.specs.Way.{IsNodeOf, Leads, slot_for, IsRootOf, HoldsBelow}
+use Rattle.ild_walker.specs.Gives.{IsNodeOf}
+use Rattle.ild_walker.specs.Trees.{HoldsBelow}
+use Rattle.ild_hamt.specs.Way.{Leads, slot_for, IsRootOf}
 
 abbrev pub trail_blocks : Trail → List (List ℕ)
 trail_blocks t = t.blocks.items
@@ -44,6 +47,7 @@ pub record IsTrail (h : List ℕ → List ℕ) (p : TrieShape) (k : List ℕ) (b
   pub depth : t.depth ≡ length bs
   pub ends : is_child (slot_for p (h k) (length bs) last) ≡ false
   pub full : t.exhausted ≡ is_full h p k (h k) (length bs + 1) (bucket_entries (slot_for p (h k) (length bs) last))
+  pub others : t.others.items ≡ hashes_of h (without k (bucket_entries (slot_for p (h k) (length bs) last)))
 
 -- the node at a place of a way, whose block this is
 pub record NodeAt (h : List ℕ → List ℕ) (p : TrieShape) (k : List ℕ) (left : ℕ) (es : List (List ℕ × Data)) (j : ℕ) (b : List ℕ) : Type 0 where
@@ -65,6 +69,7 @@ pub record IsTrailOf (h : List ℕ → List ℕ) (p : TrieShape) (k : List ℕ) 
   pub nodes : (j : ℕ) → j < length (trail_blocks t) → NodeAt h p k (trie_levels p) es j (slice_index_or (trail_blocks t) j [])
   pub ends : length (along h p k (length (trail_blocks t) + 1) 0 es) ≤ p.bucket
   pub full : t.exhausted ≡ is_full h p k (h k) (length (trail_blocks t) + 1) (along h p k (length (trail_blocks t) + 1) 0 es)
+  pub others : t.others.items ≡ hashes_of h (without k (along h p k (length (trail_blocks t) + 1) 0 es))
 
 abbrev pub DescendAnswer : (List ℕ → List ℕ) → TrieShape → List ℕ → Moment → List (List ℕ) → List TrieSlot → Result Trail HamtFault → Moment → Type 0
 DescendAnswer h p k m bs last (Ok t) n = IsTrail h p k bs last t

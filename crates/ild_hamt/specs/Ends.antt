@@ -1,12 +1,12 @@
 -- Where a key's way ends.
-use Rattle.std.specs.Prelude.{◌≡◌, ℕ, zero, suc, ◌+◌, ◌-◌, ◌==◌, nat_le, Bool, true, false, Option, Some, None, ◌&&◌, not, List, [], length, is_some, slice_index_or}
+use Rattle.std.specs.Prelude.{◌≡◌, ℕ, zero, suc, ◌+◌, ◌-◌, ◌==◌, nat_le, Bool, true, ◌&&◌, not, List, [], length, map, is_some, slice_index_or}
 use Rattle.std.specs.List.{filter}
 use Rattle.std.specs.FinMap.{find}
 use Rattle.ild_data.specs.Data.{Data}
 use Rattle.ild_data.specs.TrieShape.{TrieShape, index, trie_levels}
 use Rattle.ild_data.specs.Trie.{TrieSlot}
 use Rattle.ild_data.specs.ByteOrder.{bytewise}
-use Rattle.ild_hamt.specs.Way.{IsNodeOf}
+use Rattle.ild_walker.specs.Gives.{IsNodeOf}
 
 -- the last of these blocks is the node of the last slots; the root is, where there is none
 pub record EndsAt (p : TrieShape) (slots : List TrieSlot) (bs : List (List ℕ)) (last : List TrieSlot) : Type 0 where
@@ -18,14 +18,17 @@ abbrev pub agree : TrieShape → List ℕ → List ℕ → ℕ → ℕ → Bool
 agree p a b zero depth = true
 agree p a b (suc n) depth = (index p a depth == index p b depth) && agree p a b n (depth + 1)
 
--- whether an entry agrees with the hash
-abbrev pub agrees_some : (List ℕ → List ℕ) → TrieShape → List ℕ → ℕ → Option (List ℕ × Data) → Bool
-agrees_some h p hash depth None = false
-agrees_some h p hash depth (Some e) = agree p (h e.0) hash (trie_levels p - depth) depth
-
 -- of these entries, those that agree with the hash at all levels from a depth on
 abbrev pub agreeing : (List ℕ → List ℕ) → TrieShape → List ℕ → ℕ → List (List ℕ × Data) → List (List ℕ × Data)
 agreeing h p hash depth es = filter (λ e. agree p (h e.0) hash (trie_levels p - depth) depth) es
+
+-- the hashes of the keys of entries
+abbrev pub hashes_of : (List ℕ → List ℕ) → List (List ℕ × Data) → List (List ℕ)
+hashes_of h es = map (λ e. h e.0) es
+
+-- of these hashes, those that agree with one at all levels from a depth on
+abbrev pub agreeing_hashes : TrieShape → List ℕ → ℕ → List (List ℕ) → List (List ℕ)
+agreeing_hashes p hash depth hashes = filter (λ a. agree p a hash (trie_levels p - depth) depth) hashes
 
 -- the key is none of these, and as many as a bucket takes agree with it
 abbrev pub is_full : (List ℕ → List ℕ) → TrieShape → List ℕ → List ℕ → ℕ → List (List ℕ × Data) → Bool

@@ -11,7 +11,7 @@ use Rattle.ild_data.specs.TrieBlocks.{node_and_beneath, none_or, block_of, nodes
 use Rattle.ild_trie.specs.Way.{along, way}
 use Rattle.ild_typed.specs.Composed.{usual}
 use Rattle.ild_hamt.specs.Descending.{NodeAt, IsTrailOf}
-use Rattle.ild_hamt.specs.Way.{HoldsBelow}
+use Rattle.ild_walker.specs.Trees.{HoldsBelow}
 use Rattle.ild_hamt.specs.declared.trail.Trail.{Trail}
 use Rattle.ild_bulk.specs.Build.{any_long}
 use Rattle.ild_bulk.specs.Children.{AddsWhole}

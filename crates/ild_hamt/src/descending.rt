@@ -7,6 +7,7 @@ ghost use Rattle.ild_node.specs.Views.{HasSlots};
 ghost use Rattle.ild_hamt.specs.Descending.{Descends};
 
 use crate::ending::{end_slot, is_full};
+use crate::hashing::other_hashes;
 use crate::reaching::{child_at, reach};
 use crate::trail::Trail;
 use ild_cbor::{BlockWhy, Why};
@@ -51,13 +52,15 @@ pub fn descend<K: Store, H: KeyHash>(
         blocks.push(reached.block)?;
     }
     let slot = end_slot(root, &blocks, &hash, depth);
-    let exhausted = is_full(slot, key, &hash, depth + 1, keys);
+    let others = other_hashes(alloc, slot, key, keys)?;
+    let exhausted = is_full(slot, key, &others, &hash, depth + 1);
     let key = Txt::of(alloc, key)?;
     Ok(Trail {
         key,
         hash,
         depth,
         blocks,
+        others,
         exhausted,
     })
 }

@@ -1,17 +1,18 @@
 //! Where a key's way ends.
-ghost use Rattle.std.specs.Prelude.{◌≡◌, ◌<◌, ◌-◌, ◌==◌, ℕ, List, length, slice_get};
-ghost use Rattle.ild_data.specs.Data.{Data};
+ghost use Rattle.std.specs.Prelude.{◌≡◌, ◌≤◌, ◌<◌, ◌-◌, ◌==◌, ℕ, cond, not, is_some, List, length};
+ghost use Rattle.std.specs.FinMap.{find};
+ghost use Rattle.ild_data.specs.ByteOrder.{bytewise, without};
 ghost use Rattle.ild_data.specs.Trie.{TrieSlot, bucket_entries};
 ghost use Rattle.ild_data.specs.TrieShape.{trie_levels, index};
 ghost use Rattle.ild_typed.specs.Composed.{usual};
-ghost use Rattle.ild_node.specs.Views.{HasSlots, HasEntries};
+ghost use Rattle.ild_node.specs.Views.{HasSlots};
 ghost use Rattle.ild_hamt.specs.Seen.{Shows};
 ghost use Rattle.ild_hamt.specs.Way.{slot_for};
-ghost use Rattle.ild_hamt.specs.Ends.{EndsAt, agree, agreeing, is_full, agrees_some};
+ghost use Rattle.ild_hamt.specs.Ends.{EndsAt, agree, agreeing_hashes, hashes_of, is_full};
 
 use crate::reading::view_in;
-use ild_data::{KeyHash, Octets};
-use ild_node::{BUCKET_SIZE, Bucket, LEVELS, NodeSlot, NodeView, index_of};
+use ild_data::Octets;
+use ild_node::{BUCKET_SIZE, LEVELS, NodeSlot, NodeView, index_of};
 
 /// The slot of a hash in a node at a depth.
 pub(crate) fn slot_at<'b>(view: NodeView<'b>, hash: &[u8; 32], depth: u32) -> NodeSlot<'b>
@@ -62,49 +63,50 @@ fn agrees(a: &[u8; 32], b: &[u8; 32], depth: u32) -> bool
     same_index(a, b, depth) && agrees(a, b, depth + 1)
 }
 
-fn entry_agrees<H: KeyHash>(
-    bucket: Bucket<'_>,
-    i: usize,
-    hash: &[u8; 32],
-    depth: u32,
-    keys: &H,
-) -> bool
-    ensures { (es : List (List ℕ × Data)) → HasEntries bucket.entry es → result ≡ agrees_some H.hash_of usual hash.now depth (slice_get es i) }
+// 1 where a hash agrees with one from a depth on, and else 0.
+fn agreeing_one(other: &[u8; 32], hash: &[u8; 32], depth: u32) -> usize
+    ensures same { result ≡ cond (agree usual other.now hash.now (trie_levels usual - depth) depth) 1 0 }
+    ensures small { result ≤ 1 }
 {
-    match bucket.entry(i) {
-        Some((key, _)) => agrees(&keys.hash(key.as_bytes()), hash, depth),
-        None => false,
-    }
+    if agrees(other, hash, depth) { 1 } else { 0 }
 }
 
-// How many entries agree with a hash from a depth on.
-fn count<H: KeyHash>(bucket: Bucket<'_>, hash: &[u8; 32], depth: u32, keys: &H) -> usize
-    ensures { (es : List (List ℕ × Data)) → HasEntries bucket.entry es → result ≡ length (agreeing H.hash_of usual hash.now depth es) }
+// How many hashes agree with one from a depth on.
+fn count(hashes: &[[u8; 32]], hash: &[u8; 32], depth: u32) -> usize
+    ensures { result ≡ length (agreeing_hashes usual hash.now depth hashes.now) }
 {
-    let mut count = 0;
-    for i in 0..bucket.len() {
-        if entry_agrees(bucket, i, hash, depth, keys) {
-            count += 1;
-        }
+    let mut count: usize = 0;
+    for other in hashes {
+        count = count.saturating_add(agreeing_one(other, hash, depth));
     }
     count
 }
 
-/// Whether a key that isn't in a slot has no place there.
-pub(crate) fn is_full<H: KeyHash>(
-    slot: NodeSlot<'_>,
-    key: &str,
-    hash: &[u8; 32],
-    depth: u32,
-    keys: &H,
-) -> bool
-    ensures { (s : TrieSlot) → Shows slot.entry s → result ≡ is_full H.hash_of usual key.now hash.now depth (bucket_entries s) }
+// Whether a key is none of those in a slot.
+fn is_missing(slot: NodeSlot<'_>, key: &str) -> bool
+    ensures { (s : TrieSlot) → Shows slot.entry s → result ≡ not (is_some (find bytewise key.now (bucket_entries s))) }
 {
     match slot {
-        NodeSlot::Bucket(bucket) => {
-            let many = count(bucket, hash, depth, keys);
-            bucket.find(key).is_none() && many >= BUCKET_SIZE
-        }
-        _ => false,
+        NodeSlot::Bucket(bucket) => match bucket.find(key) {
+            Some(_) => false,
+            None => true,
+        },
+        NodeSlot::Empty => true,
+        NodeSlot::Child(_) => true,
     }
+}
+
+/// Whether a key that isn't in a slot has no place there, by the hashes of the keys of the other entries.
+pub(crate) fn is_full(
+    slot: NodeSlot<'_>,
+    key: &str,
+    others: &[[u8; 32]],
+    hash: &[u8; 32],
+    depth: u32,
+) -> bool
+    ensures { (h : List ℕ → List ℕ) (s : TrieSlot) → Shows slot.entry s → others.now ≡ hashes_of h (without key.now (bucket_entries s))
+        → result ≡ is_full h usual key.now hash.now depth (bucket_entries s) }
+{
+    let many = count(others, hash, depth);
+    is_missing(slot, key) & (many >= BUCKET_SIZE)
 }

@@ -4,6 +4,7 @@
 mod descending;
 mod ending;
 mod gathering;
+mod hashing;
 mod lifting;
 mod reaching;
 mod reading;

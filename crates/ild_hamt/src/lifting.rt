@@ -10,7 +10,8 @@ ghost use Rattle.ild_node.specs.NewSlots.{IsFilledSlot, slot_seen};
 ghost use Rattle.ild_node.specs.Views.{HasSlots};
 ghost use Rattle.ild_hamt.specs.Known.{SomeNode};
 ghost use Rattle.ild_hamt.specs.Rewriting.{ClimbState, DiffersAt, HasRoot, Lifts, way_up};
-ghost use Rattle.ild_hamt.specs.Way.{IsNodeOf, IsRootOf};
+ghost use Rattle.ild_walker.specs.Gives.{IsNodeOf};
+ghost use Rattle.ild_hamt.specs.Way.{IsRootOf};
 
 use crate::gathering::{put_next, rows_of};
 use crate::reading::view_in;

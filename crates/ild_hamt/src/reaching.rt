@@ -6,7 +6,8 @@ ghost use Rattle.ild_typed.specs.Composed.{usual};
 ghost use Rattle.ild_node.specs.Views.{HasSlots};
 ghost use Rattle.ild_hamt.specs.Fetching.{Fetches, Judges};
 ghost use Rattle.ild_hamt.specs.Reaching.{refusal_of, reached_block};
-ghost use Rattle.ild_hamt.specs.Way.{IsNodeOf, slot_for, child_id};
+ghost use Rattle.ild_walker.specs.Gives.{IsNodeOf};
+ghost use Rattle.ild_hamt.specs.Way.{slot_for, child_id};
 
 use crate::ending::slot_at;
 use ild_cbor::{BlockWhy, check};

@@ -4,7 +4,7 @@ ghost use Rattle.ild_data.specs.Trie.{TrieSlot};
 ghost use Rattle.ild_typed.specs.Composed.{usual};
 ghost use Rattle.ild_node.specs.Views.{HasSlots};
 ghost use Rattle.ild_hamt.specs.Known.{SomeNode};
-ghost use Rattle.ild_hamt.specs.Way.{IsNodeOf};
+ghost use Rattle.ild_walker.specs.Gives.{IsNodeOf};
 
 use ild_cbor::check;
 use ild_node::{NodeView, node_of};

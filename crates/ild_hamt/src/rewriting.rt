@@ -1,5 +1,6 @@
 //! The new way of a key, planned whole and then put.
 ghost use Rattle.std.specs.Prelude.{◌≡◌, ◌-◌, ◌<◌, ℕ, List, length, IfOk, IfSome, IsSome};
+ghost use Rattle.ild_data.specs.ByteOrder.{without};
 ghost use Rattle.ild_data.specs.Data.{Data};
 ghost use Rattle.ild_data.specs.Trie.{TrieSlot};
 ghost use Rattle.ild_data.specs.TrieShape.{trie_levels};
@@ -8,18 +9,19 @@ ghost use Rattle.ild_node.specs.NewSlots.{IsFilledSlot, slot_seen};
 ghost use Rattle.ild_node.specs.Views.{HasSlots};
 ghost use Rattle.ild_bulk.specs.Planned.{PlansSlot};
 ghost use Rattle.ild_hamt.specs.Descending.{trail_blocks};
-ghost use Rattle.ild_hamt.specs.Ends.{EndsAt};
+ghost use Rattle.ild_hamt.specs.Ends.{EndsAt, hashes_of};
 ghost use Rattle.ild_hamt.specs.Known.{SomeNode, SomeSlot};
 ghost use Rattle.ild_hamt.specs.Rewriting.{ClimbState, DiffersAt, Rewrites};
 ghost use Rattle.ild_hamt.specs.Seen.{Shows};
 ghost use Rattle.ild_hamt.specs.Way.{IsRootOf, slot_for};
 
 use crate::ending::slot_at;
+use crate::hashing::keyed;
 use crate::lifting::{climb, few_slot};
 use crate::reading::{view_again, view_in};
 use crate::trail::Trail;
-use ild_bulk::{PlannedBlock, any_long, is_long, plan_slot, put_all};
-use ild_data::{KeyHash, Octets};
+use ild_bulk::{PlannedBlock, any_long, is_long, plan_keyed, put_all};
+use ild_data::Octets;
 use ild_edges::Store;
 use ild_node::{BUCKET_SIZE, HamtFault, LEVELS, NewHold, NodeSlot, NodeView, Rows};
 use std::alloc::Global;
@@ -56,22 +58,30 @@ pub(crate) fn end_again<'b>(
     }
 }
 
-/// The slot of rows in the node above them. The blocks of their own node and of those beneath it, where a bucket doesn't take
+/// The slot of rows at the end of a trail, of which only the key's may be new, in the node above them. The blocks of their own node and of those beneath it, where a bucket doesn't take
 /// them, are appended, each behind those beneath it.
-pub(crate) fn slot_of<H: KeyHash>(
+pub(crate) fn slot_of(
     alloc: Global,
     rows: Rows,
+    trail: &Trail,
     depth: u32,
-    keys: &H,
     plan: &mut Vec<PlannedBlock>,
 ) -> Result<Option<NewHold>, HamtFault>
     ensures filled { IfOk result (IsFilledSlot usual) }
-    ensures plans { PlansSlot H.hash_of usual (trie_levels usual - depth) depth rows result plan.old.items plan.new.items }
+    ensures plans { (h : List ℕ → List ℕ) → trail.now.hash ≡ h trail.now.key → trail.now.others.items ≡ hashes_of h (without trail.now.key rows)
+        → PlansSlot h usual (trie_levels usual - depth) depth rows result plan.old.items plan.new.items }
 {
     if rows.len() <= BUCKET_SIZE {
         return Ok(few_slot(rows));
     }
-    plan_slot(alloc, &rows, depth, keys, plan)
+    let keyed = keyed(
+        alloc,
+        rows.as_slice(),
+        trail.key.as_str(),
+        &trail.hash,
+        &trail.others,
+    )?;
+    plan_keyed(alloc, &keyed, depth, plan)
 }
 
 /// The new root node, from the new slot at the end of a way. The other nodes on the way are put behind those that are planned,

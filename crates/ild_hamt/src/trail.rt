@@ -10,13 +10,15 @@ use ild_edges::Store;
 use ild_node::{HamtFault, NodeSlot, NodeView, Rows};
 use std::alloc::{AllocError, Global};
 
-/// The nodes on a key's way beneath a root, as they were read. It borrows nothing.
+/// The nodes on a key's way beneath a root, as they were read, with the hash of the key and those of the other keys in the bucket
+/// in which the way ends. It borrows nothing.
 #[derive(Drop)]
 pub struct Trail {
     pub(crate) key: Txt,
     pub(crate) hash: [u8; 32],
     pub(crate) depth: u32,
     pub(crate) blocks: Vec<Octets>,
+    pub(crate) others: Vec<[u8; 32]>,
     pub(crate) exhausted: bool,
 }
 
@@ -94,24 +96,23 @@ impl Trail {
     }
 
     // Sets the value at the key.
-    fn set_way<K: Store, H: KeyHash>(
+    fn set_way<K: Store>(
         self,
         alloc: Global,
         root: NodeView<'_>,
         val: &Node<'_>,
-        keys: &H,
         store: &mut K,
     ) -> Result<Octets, HamtFault>
         requires { NestsIn deepest_value val.now }
-        ensures sets { (k : List ℕ) (v : Data) (slots : List TrieSlot) (es : List (List ℕ × Data)) → IsTrailFrom root.entry self H.hash_of k slots es → Stands val.now v
-            → is_some (node_of H.hash_of usual (trie_levels usual) 0 (put bytewise k v es)) ≡ true → Sets H.hash_of usual k v es (K.moment store.old) result (K.moment store.new) }
+        ensures sets { (h : List ℕ → List ℕ) (k : List ℕ) (v : Data) (slots : List TrieSlot) (es : List (List ℕ × Data)) → IsTrailFrom root.entry self h k slots es → Stands val.now v
+            → is_some (node_of h usual (trie_levels usual) 0 (put bytewise k v es)) ≡ true → Sets h usual k v es (K.moment store.old) result (K.moment store.new) }
         ensures gets { (K.moment store.new).gets ≡ (K.moment store.old).gets }
     {
         let mut rows = self.others(alloc, root)?;
         rows.put(alloc, self.key.as_str(), val)?;
         let mut plan = Vec::new(alloc);
         let depth = self.depth.saturating_add(1);
-        let slot = slot_of(alloc, rows, depth, keys, &mut plan)?;
+        let slot = slot_of(alloc, rows, &self, depth, &mut plan)?;
         rewrite(alloc, root, self, slot, plan, store)
     }
 
@@ -135,13 +136,14 @@ impl Trail {
 
     /// Sets the value at the key: the answer is the new root node, and the other new nodes on the key's way are put, each
     /// behind the one beneath it. The trail is that of this root, the key isn't exhausted, and the value leaves room for the
-    /// node around it. Nothing is put where a new node is longer than a block may be.
+    /// node around it. Nothing is put where a new node is longer than a block may be. `_keys` names the hash of the keys; none is
+    /// computed, since the trail keeps those that a split needs.
     pub fn set<K: Store, H: KeyHash>(
         self,
         alloc: Global,
         root: NodeView<'_>,
         val: &Node<'_>,
-        keys: &H,
+        _keys: &H,
         store: &mut K,
     ) -> Result<Octets, HamtFault>
         requires { NestsIn deepest_value val.now }
@@ -154,7 +156,7 @@ impl Trail {
         ensures gets { (K.moment store.new).gets ≡ (K.moment store.old).gets }
     {
         let _text = self.key.as_str();
-        self.set_way(alloc, root, val, keys, store)
+        self.set_way(alloc, root, val, store)
     }
 
     /// Removes the key: the answer is the new root node, and the other new nodes on the key's way are put, each behind the one

@@ -42,12 +42,19 @@ returns-in_err-key g c = λ slots has.
     rw (p.1, p.2) (going-unnamed g.H.KeyHash.hash_of usual c.args.key.now c.hash-hash.result slots _ _ c.loop-next.depth _ (omega arith)
     (c.hash-hash.ensures ∙ ap g.H.KeyHash.hash_of c.as_bytes.ensures.value) (inv.2 slots has))
 
+pub returns-in_err-others : goal.returns-in_err-others
+returns-in_err-others g c = λ slots has.
+    let p = err_from_is_err_and c.from_residual-in_err-others.result c.from_residual-in_err-others.ensures.1 in
+    let inv = rw c.in_default.is at c.loop-next.invariant in
+    rw (p.1, p.2) (going-unnamed g.H.KeyHash.hash_of usual c.args.key.now c.hash-hash.result slots _ _ c.loop-next.depth _ (omega arith)
+    (c.hash-hash.ensures ∙ ap g.H.KeyHash.hash_of c.as_bytes.ensures.value) (inv.2 slots has))
+
 pub returns : goal.returns
 returns g c = λ slots has.
     let inv = rw c.in_default.is at c.loop-next.invariant in
     going-done g.H.KeyHash.hash_of usual c.args.key.now c.hash-hash.result slots _ c.loop-next.depth _ _ c.end_slot-slot.result (omega arith)
     (c.hash-hash.ensures ∙ ap g.H.KeyHash.hash_of c.as_bytes.ensures.value) (inv.2 slots has) c.in_ok-key.ensures refl refl
-    (stands-at c.args.root c.end_slot-slot.result c.hash-hash.result c.loop-next.depth slots c.deref.result.now _ c.deref.ensures.value has c.end_slot-slot.ensures) (λ y at. c.is_full-exhausted.ensures y at)
+    (stands-at c.args.root c.end_slot-slot.result c.hash-hash.result c.loop-next.depth slots c.deref.result.now _ c.deref.ensures.value has c.end_slot-slot.ensures) (λ y at. c.is_full-exhausted.ensures g.H.KeyHash.hash_of y at (c.deref-2.ensures.value ∙ c.in_ok-others.ensures y at)) (λ y at. c.in_ok-others.ensures y at)
 
 pub reach-requires : goal.reach-requires
 reach-requires g c = let inv = rw c.in-Some.is at c.loop-next.invariant in inv.1 refl

@@ -1,21 +1,17 @@
-use Rattle.std.proofs.Common.{true, false, sym, ◌∙◌, arith}
+use Rattle.std.proofs.Common.{ap, ◌∙◌, length, arith}
+use Rattle.std.proofs.lemmas.List.{take_all}
 use Rattle.ild_typed.specs.Composed.{usual}
-use Rattle.ild_hamt.proofs.Fulling.{count-more}
-use Rattle.ild_hamt.proofs.ending.count.Goals.{then-entry_agrees, else-entry_agrees}
+use Rattle.ild_hamt.specs.Ends.{agreeing_hashes}
+use Rattle.ild_hamt.proofs.Hashed.{count-hash}
 use Rattle.ild_hamt.proofs.ending.count.Goals as goal
 
-pub loop-i-preserved : goal.loop-i-preserved
-loop-i-preserved g c = elim c.if-entry_agrees.branch [
-  | then-entry_agrees w ↦ (
-    omega (arith, w.count-is, c.loop-i.invariant.0),
-    λ es has.
-        w.count-is ∙ count-more g.H.KeyHash.hash_of usual c.args.hash.now c.args.depth es c.loop-i.i c.loop-i.count true
-        (omega (arith, c.loop-i-test.true, c.len-i-end.ensures es has)) (sym w.if-entry_agrees.true ∙ c.entry_agrees.ensures es has) (c.loop-i.invariant.1 es has),
-  )
-  | else-entry_agrees w ↦ (
-    omega (arith, w.count-is, c.loop-i.invariant.0),
-    λ es has.
-        w.count-is ∙ count-more g.H.KeyHash.hash_of usual c.args.hash.now c.args.depth es c.loop-i.i c.loop-i.count false
-        (omega (arith, c.loop-i-test.true, c.len-i-end.ensures es has)) (sym w.if-entry_agrees.false ∙ c.entry_agrees.ensures es has) (c.loop-i.invariant.1 es has),
-  )
-]
+pub loop-other-preserved : goal.loop-other-preserved
+loop-other-preserved c =
+    let few = c.loop-other.invariant.few in
+    let one = c.agreeing_one.ensures.small in
+    let sum = c.saturating_add-count.ensures in
+    count-hash usual c.args.hash.now c.args.depth c.args.hashes.now c.loop-other.other-index c.loop-other.count c.agreeing_one.result c.saturating_add-count.result _
+    (omega (arith, c.loop-other-test.true)) one c.agreeing_one.ensures.same (omega (arith, sum, few, one, c.loop-other-test.true)) c.loop-other.invariant
+
+pub returns : goal.returns
+returns c = c.loop-other.invariant.is ∙ ap (λ xs. length (agreeing_hashes usual c.args.hash.now c.args.depth xs)) (take_all c.loop-other.other-index c.args.hashes.now (omega (arith, c.loop-other-test.false)))

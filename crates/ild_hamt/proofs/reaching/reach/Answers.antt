@@ -1,6 +1,6 @@
 use Rattle.std.proofs.Common.{sym, subst, List, ℕ, None}
 use Rattle.ild_hamt.specs.Fetching.{Judges}
-use Rattle.ild_hamt.specs.Way.{IsNodeOf}
+use Rattle.ild_walker.specs.Gives.{IsNodeOf}
 use Rattle.ild_typed.specs.Composed.{usual}
 use Rattle.ild_hamt.proofs.reaching.reach.Goals as goal
 

@@ -10,4 +10,7 @@ pub returns-clause-held : goal.returns-clause-held
 returns-clause-held g c = λ k v slots es from stands room.
     holds-after g.H.KeyHash.hash_of k c.args.root slots es (put bytewise k v es) _ _ c.set_way.result from.has from.trail.root (differs-put k v es from.trail.root.order)
     (sound-put k v es (subst (λ (x : List ℕ). IsUtf8 x) from.trail.key c.as_str-text.ensures.utf8) (record { tree = stands.within.tree; nested = c.requires v stands }))
-    (c.set_way.ensures.sets k v slots es from stands room)
+    (c.set_way.ensures.sets g.H.KeyHash.hash_of k v slots es from stands room)
+
+pub returns-clause-sets : goal.returns-clause-sets
+returns-clause-sets g c = λ k v slots es from stands room. c.set_way.ensures.sets g.H.KeyHash.hash_of k v slots es from stands room

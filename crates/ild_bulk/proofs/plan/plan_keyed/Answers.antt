@@ -5,7 +5,7 @@ use Rattle.ild_data.specs.TrieShape.{trie_levels}
 use Rattle.ild_typed.specs.Composed.{usual}
 use Rattle.ild_node.specs.Keyed.{keyed_rows, keyed_seen}
 use Rattle.ild_bulk.proofs.Building.{slot-stop}
-use Rattle.ild_bulk.proofs.plan.held_slot.Goals as goal
+use Rattle.ild_bulk.proofs.plan.plan_keyed.Goals as goal
 
 pub returns-in_err-plan_node-clause-plans : goal.returns-in_err-plan_node-clause-plans
 returns-in_err-plan_node-clause-plans c = λ h all.
