@@ -1,4 +1,6 @@
 //! HAMTs under edits, key by key. The blocks and the CIDs are those of tests/hamt/trie.py, a plain trie in Python.
+use crate::built::{ABC, CHILD_OF_FOUR, ROOT_OF_FOUR, ROOT_OF_THREE};
+use crate::nodes::EMPTY;
 use crate::rows::is_scalar;
 use ild_cbor::check;
 use ild_data::{KeyHash, Octets, PadKeys, Sha256Keys, block_id};
@@ -8,20 +10,11 @@ use ild_node::{HamtFault, node_of, write_node};
 use std::alloc::Global;
 use std::test::Fail;
 
-const ROOT_OF_FOUR: &[u8] =
-    b"\x82\x58\x20\x01\x00\x00\x00\x00\x00\x00\x00\x00\x00\x00\x00\x00\x00\x00\x00\x00\x00\x00\x00\x00\x00\x00\x00\x00\x00\x00\x00\x00\x00\x00\x00\x81\xd8\x2a\x58\x25\x00\x01\x71\x12\x20\x7d\x10\x5d\x38\xfa\x26\xfd\xeb\xff\x46\x24\x9f\x5c\x31\xf5\x98\x4d\x2c\xad\x8e\x59\xf6\x21\xc9\x4a\xf6\xcd\x77\x8d\x9a\x81\x0e";
-
-const CHILD_OF_FOUR: &[u8] =
-    b"\x82\x58\x20\x1e\x00\x00\x00\x00\x00\x00\x00\x00\x00\x00\x00\x00\x00\x00\x00\x00\x00\x00\x00\x00\x00\x00\x00\x00\x00\x00\x00\x00\x00\x00\x00\x84\x81\x82\x42\x00\x01\x01\x81\x82\x42\x00\x02\x02\x81\x82\x42\x00\x03\x03\x81\x82\x42\x00\x04\x04";
-
-const ROOT_OF_THREE: &[u8] =
-    b"\x82\x58\x20\x01\x00\x00\x00\x00\x00\x00\x00\x00\x00\x00\x00\x00\x00\x00\x00\x00\x00\x00\x00\x00\x00\x00\x00\x00\x00\x00\x00\x00\x00\x00\x00\x81\x83\x82\x42\x00\x01\x01\x82\x42\x00\x02\x02\x82\x42\x00\x03\x03";
-
 /// One edit: a key, and the byte that it is set to, or that it is removed.
-type Edit<'k> = (&'k str, Option<u8>);
+pub(crate) type Edit<'k> = (&'k str, Option<u8>);
 
 /// The root node after an edit, or a word for why not.
-fn edit<H: KeyHash>(
+pub(crate) fn edit<H: KeyHash>(
     alloc: Global,
     root: &Octets,
     edit: Edit<'_>,
@@ -51,6 +44,7 @@ fn edit<H: KeyHash>(
     match answer {
         Ok(root) => Ok(root),
         Err(HamtFault::NoKey) => Err("no key"),
+        Err(HamtFault::Store) => Err("store"),
         Err(_) => Err("a fault"),
     }
 }
@@ -92,6 +86,16 @@ fn four_and_three(rt: HostRuntime) -> Result<(), Fail> {
 }
 
 #[test]
+fn one_key_comes_and_goes(rt: HostRuntime) -> Result<(), Fail> {
+    let mut store = MemStore::new(rt.alloc(), &[], &[])?;
+    let root = edited(rt.alloc(), &[("abc", Some(1))], &Sha256Keys, &mut store)?;
+    assert_eq!(rt; root.as_slice(), ABC);
+    let root = edit(rt.alloc(), &root, ("abc", None), &Sha256Keys, &mut store)?;
+    assert_eq!(rt; root.as_slice(), EMPTY);
+    Ok(())
+}
+
+#[test]
 fn in_the_other_order(rt: HostRuntime) -> Result<(), Fail> {
     let mut store = MemStore::new(rt.alloc(), &[], &[])?;
     let down = [
@@ -114,7 +118,7 @@ const AGREE: [Edit<'static>; 4] = [
 ];
 
 /// A word for how an edit ends.
-fn ending(answer: Result<Octets, &'static str>) -> &'static str {
+pub(crate) fn ending(answer: Result<Octets, &'static str>) -> &'static str {
     match answer.err() {
         Some(word) => word,
         None => "root",

@@ -6,7 +6,7 @@ use ild_node::{NodeSlot, NodeView, node_of, root_of, write_node, write_root};
 use std::alloc::Global;
 use std::test::Fail;
 
-const EMPTY: &[u8] =
+pub(crate) const EMPTY: &[u8] =
     b"\x82\x58\x20\x00\x00\x00\x00\x00\x00\x00\x00\x00\x00\x00\x00\x00\x00\x00\x00\x00\x00\x00\x00\x00\x00\x00\x00\x00\x00\x00\x00\x00\x00\x00\x00\x80";
 
 const EMPTY_ROOT: &[u8] =
