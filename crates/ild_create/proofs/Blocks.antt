@@ -1,5 +1,5 @@
 -- The block of a value, by its steps.
-use Rattle.std.proofs.Common.{IfErr, Result, ◌≡◌, ◌⊎◌, ℕ, ◌<◌, ◌≤◌, List, [], ◌∷◌, ◌++◌, true, false, Ok, Err, Some, refl, sym, ap, ◌∙◌, subst, inl, inr, arith}
+use Rattle.std.proofs.Common.{IfErr, IfOk, Result, ◌≡◌, ◌⊎◌, ℕ, ◌<◌, ◌≤◌, List, [], ◌∷◌, ◌++◌, true, false, Ok, Err, Some, refl, sym, ap, ◌∙◌, subst, inl, inr, arith}
 use Rattle.std.specs.Prelude.{length}
 use Rattle.std.specs.List.{AllByRecursion}
 use Rattle.ild_build.specs.IsJudged.{IsJudged}
@@ -148,6 +148,10 @@ makes_block rows n b v block given is = record {
   makes = record { given = given; storable = is.storable; one_block = is.one_block };
   spelled = is.spelled;
 }
+
+pub makes_either : (rows : List Row) (n : TypeNo) (b : List ℕ) (v : Value) (result : Result (List ℕ) CreateFault) → IsGivenAs rows n b v → IfOk result (IsBlockOf rows n v) → IfOk result (MakesBlock rows n b)
+makes_either rows n b v (Ok block) given is = makes_block rows n b v block given is
+makes_either rows n b v (Err f) given is = tt
 
 pub stops_given : (rows : List Row) → IsSchema rows → (n : TypeNo) (b : List ℕ) (v : Value) (f : CreateFault) → IsGivenAs rows n b v → StopsValue rows n v f → Stops rows n b f
 stops_given rows schema n b v (F.Refused r) given stops = first_given rows schema n b v r given stops

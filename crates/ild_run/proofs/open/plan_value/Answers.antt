@@ -9,7 +9,7 @@ returns-in_default g c =
 
 pub returns-in-Ok-true : goal.returns-in-Ok-true
 returns-in-Ok-true g c =
-    opens_reached (g.I.Inputs.supply c.args.inputs.now) c.args.schema c.args.ty.now c.args.value.now c.in-Some.number (sym c.in-Some.ensures.named) (c.in-Ok-true.ensures.found c.in-Ok-true.field-0-test)
+    opens_reached (g.I.Inputs.supply c.args.inputs.now) c.args.schema c.args.ty.now c.args.value.now c.in-Some.number (sym c.in-Some.ensures.named) (c.in-Ok-true.ensures.reaches c.in-Ok-true.field-0-test)
 
 pub returns-in-Err : goal.returns-in-Err
 returns-in-Err g c = opens_unknown (g.I.Inputs.supply c.args.inputs.now) c.args.schema c.args.ty.now c.args.value.now

@@ -1,5 +1,4 @@
-use Rattle.std.proofs.Common.{ℕ, List, [], ◌++◌, ◌≡◌, Some, sym, ◌∙◌, ap, refl, arith, length}
-use Rattle.ild_data.specs.Data.{Data}
+use Rattle.std.proofs.Common.{ℕ, List, ◌++◌, sym, ◌∙◌, ap, arith}
 use Rattle.ild_data.specs.Spell.{spell}
 use Rattle.ild_schema.specs.ValueSeen.{value_of}
 use Rattle.ild_schema.specs.declared.row.Row.{Row}
