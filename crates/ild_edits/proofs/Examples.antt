@@ -193,6 +193,17 @@ pairs_del = refl
 hamt_set : set hamt_map one_entry (codes "a") ≡ Ok (map_of ((codes "a", n 3) ∷ (codes "b", n 2) ∷ []))
 hamt_set = refl
 
+hamt_of_abc : Value
+hamt_of_abc = map_of ((codes "abc", n 1) ∷ [])
+
+hamt_set_again : change (schema hamt_map) is_key (one_type, hamt_of_abc) (set_at (path (codes "abc")) (n 1)) ≡ Ok hamt_of_abc
+unfolding hamt_of_abc
+hamt_set_again = refl
+
+hamt_del_missing : del hamt_map hamt_of_abc (codes "x") ≡ Err N.Path
+unfolding hamt_of_abc
+hamt_del_missing = refl
+
 -- ---- a list: indices without leading zeros, and `-` for the end
 
 abbrev two : Value
