@@ -72,7 +72,14 @@ fn later_rules(
     requires kinds { HoldsKinds schema.now kinds.now }
     requires within { ty.0 < length schema.now }
     requires def { def_at schema.now ty.0 ≡ Some def.now }
-    ensures { IfOk result (λ fault. fault ≡ option_or (fails_at R.Delim (delim_fault at def.now)) (option_or (fails_at R.NotText (text_fault schema.now def.now)) (option_or (fails_at R.OptionalPlace (optional_fault def.now)) (option_or (fails_at R.Implicit (implicit_fault schema.now def.now)) (option_or (fails_at R.NameClash (name_fault schema.now at def.now)) (option_or (fails_at R.InlineMember (inline_fault schema.now def.now)) (option_or (fails_at R.MapKey (key_fault schema.now def.now)) (fails_at R.Strategy (strategy_fault at def.now))))))))) }
+    ensures { IfOk result (λ fault. fault ≡
+        option_or (fails_at R.Delim (delim_fault at def.now)) (
+        option_or (fails_at R.NotText (text_fault schema.now def.now)) (
+        option_or (fails_at R.OptionalPlace (optional_fault def.now)) (
+        option_or (fails_at R.Implicit (implicit_fault schema.now def.now)) (
+        option_or (fails_at R.NameClash (name_fault schema.now at def.now)) (
+        option_or (fails_at R.InlineMember (inline_fault schema.now def.now)) (
+        option_or (fails_at R.MapKey (key_fault schema.now def.now)) (fails_at R.Strategy (strategy_fault at def.now))))))))) }
 {
     let delim = fails_at(Rule::Delim, delim_fault(at, def));
     if delim.is_some() {

@@ -6,7 +6,12 @@ use std::process::Abort;
 use std::test::Fail;
 
 const SRC: &str =
-    "type S struct { a Int b Int (rename \"x\") long optional String (rename \"é\") } type U union { | Int \"i\" | String \"s\" } representation keyed type V union { | S \"one\" | T \"two\" } representation envelope { discriminantKey \"tag\" contentKey \"of\" } type W union { | T \"1\" | S \"\" } representation inline { discriminantKey \"tag\" } type T struct { y Int } type E enum { | Yes | No (\"n\") } type N enum { | One (\"1\") | Less (\"-1\") } representation int type K union { | Int int | String string | &S link } representation kinded type C = S type L [S]";
+    "type S struct { a Int b Int (rename \"x\") long optional String (rename \"é\") } type U union { | Int \
+     \"i\" | String \"s\" } representation keyed type V union { | S \"one\" | T \"two\" } representation \
+     envelope { discriminantKey \"tag\" contentKey \"of\" } type W union { | T \"1\" | S \"\" } representation \
+     inline { discriminantKey \"tag\" } type T struct { y Int } type E enum { | Yes | No (\"n\") } type N \
+     enum { | One (\"1\") | Less (\"-1\") } representation int type K union { | Int int | String string | \
+     &S link } representation kinded type C = S type L [S]";
 
 /// A type, a text, and the part that has it as its name and the one that stands under it in a block.
 const FOUND: [(&str, &str, Option<usize>, Option<usize>); 27] = [

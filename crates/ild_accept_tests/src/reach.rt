@@ -6,7 +6,10 @@ use std::alloc::{AllocError, Global};
 use std::test::Fail;
 
 const SRC: &str =
-    "type H {String:Int} representation advanced HAMT type C = D type D = H type M {String:Int} type P {String:H} representation listpairs type L [nullable [H]] type F struct { a Int b optional [D] } type U union { | Int \"i\" | F \"f\" } representation keyed type K &H type R struct { next nullable R link &H } type S struct { r R t nullable T } type T struct { s nullable S l [L] } type E enum { | A } type N {String:K}";
+    "type H {String:Int} representation advanced HAMT type C = D type D = H type M {String:Int} type P {String:H} \
+     representation listpairs type L [nullable [H]] type F struct { a Int b optional [D] } type U union { \
+     | Int \"i\" | F \"f\" } representation keyed type K &H type R struct { next nullable R link &H } type \
+     S struct { r R t nullable T } type T struct { s nullable S l [L] } type E enum { | A } type N {String:K}";
 
 /// A type, and whether a map as HAMT can stand in its values.
 const LEADS: [(&str, bool); 17] = [

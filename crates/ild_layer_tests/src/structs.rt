@@ -12,7 +12,11 @@ use std::process::Abort;
 use std::test::Fail;
 
 const SRC: &str =
-    "type M struct { a Int (rename \"x\") b optional Int n nullable Int m Int (implicit 0) } type I struct { n Int (implicit 0) } type T struct { a Int b optional Int c optional Int } representation tuple type L struct { a Int b optional Int m Int (implicit 0) } representation listpairs type P struct { a String b optional String m String (implicit \"i\") } representation stringpairs { innerDelim \"=\" entryDelim \"&\" } type J struct { a String b String } representation stringjoin { join \":\" }";
+    "type M struct { a Int (rename \"x\") b optional Int n nullable Int m Int (implicit 0) } type I struct \
+     { n Int (implicit 0) } type T struct { a Int b optional Int c optional Int } representation tuple type \
+     L struct { a Int b optional Int m Int (implicit 0) } representation listpairs type P struct { a String \
+     b optional String m String (implicit \"i\") } representation stringpairs { innerDelim \"=\" entryDelim \
+     \"&\" } type J struct { a String b String } representation stringjoin { join \":\" }";
 
 /// A type, a block, and what is said: a letter a field (held, absent, null, implicit), or the cause of the refusal.
 type Row = (&'static str, &'static [u8], Result<&'static str, Why>);

@@ -11,7 +11,12 @@ use std::process::Abort;
 use std::test::Fail;
 
 const SRC: &str =
-    "type S struct { a Int b optional String } type L [S] type K enum { | x | y } type M {K:Int} type P {String:Int} representation listpairs type Q {String:String} representation stringpairs { innerDelim \"=\" entryDelim \"&\" } type U union { | S \"s\" | Int \"i\" } representation keyed type H {String:Int} representation advanced HAMT type I struct { n Int (implicit 0) } type T struct { a Int b optional Int c optional Int } representation tuple type R struct { a Int b Int } representation listpairs type J struct { a K b K } representation stringjoin { join \":\" } type A any";
+    "type S struct { a Int b optional String } type L [S] type K enum { | x | y } type M {K:Int} type P {String:Int} \
+     representation listpairs type Q {String:String} representation stringpairs { innerDelim \"=\" entryDelim \
+     \"&\" } type U union { | S \"s\" | Int \"i\" } representation keyed type H {String:Int} representation \
+     advanced HAMT type I struct { n Int (implicit 0) } type T struct { a Int b optional Int c optional Int \
+     } representation tuple type R struct { a Int b Int } representation listpairs type J struct { a K b \
+     K } representation stringjoin { join \":\" } type A any";
 
 /// A type, a block, the room, and the refusal: the name of the type, the cause, and the offset.
 type Row = (

@@ -281,7 +281,12 @@ const PRELUDE: [&str; 8] = [
 ];
 
 const CLUB: &str =
-    "# members of a club\ntype Club struct {\n  name String\n  users Users\n  motto optional String\n}\ntype Users {String:User} representation advanced HAMT\ntype User struct {\n  mail String\n  role Role\n  age nullable Int\n  nick optional String\n  avatar optional Bytes\n  contact Contact\n}\ntype Role enum {\n  | Admin (\"a\")\n  | Guest (\"g\")\n}\ntype Contact union {\n  | Phone \"phone\"\n  | Room \"room\"\n} representation keyed\ntype Phone string\ntype Room struct {\n  floor Int\n  door Int\n} representation tuple\n";
+    "# members of a club\ntype Club struct {\n  name String\n  users Users\n  motto optional String\n}\ntype \
+     Users {String:User} representation advanced HAMT\ntype User struct {\n  mail String\n  role Role\n  \
+     age nullable Int\n  nick optional String\n  avatar optional Bytes\n  contact Contact\n}\ntype Role enum \
+     {\n  | Admin (\"a\")\n  | Guest (\"g\")\n}\ntype Contact union {\n  | Phone \"phone\"\n  | Room \"room\"\n\
+     } representation keyed\ntype Phone string\ntype Room struct {\n  floor Int\n  door Int\n} representation \
+     tuple\n";
 
 const TABLES: [Table<'static>; 11] = [
     Table { src: "", rows: &[] },
@@ -355,7 +360,11 @@ const TABLES: [Table<'static>; 11] = [
         ],
     },
     Table {
-        src: "type S bool type U1 union { | S \"s\" } representation envelope { contentKey \"body\" discriminantKey \"tag\" } type U2 union { | S \"s\" } representation inline { discriminantKey \"tag\" } type U3 union { | S \"p:\" } representation stringprefix type U4 union { | S \"00\" } representation bytesprefix type U5 union { | S null | S bool | S int | S string | S bytes | S list | S map | &S link | S } representation kinded",
+        src: "type S bool type U1 union { | S \"s\" } representation envelope { contentKey \"body\" discriminantKey \
+         \"tag\" } type U2 union { | S \"s\" } representation inline { discriminantKey \"tag\" } type U3 union \
+         { | S \"p:\" } representation stringprefix type U4 union { | S \"00\" } representation bytesprefix type \
+         U5 union { | S null | S bool | S int | S string | S bytes | S list | S map | &S link | S } representation \
+         kinded",
         rows: &[
             "8 S@5 bool",
             "9 U1@17 union S@30 8 \"s\", envelope \"tag\" \"body\"",

@@ -18,12 +18,41 @@ fn fault(alloc: Global, src: &str) -> Result<Option<usize>, &'static str> {
     }
 }
 
-const CLUB: &str =
-    "# members of a club\ntype Club struct {\n  name String\n  users Users\n  motto optional String\n}\ntype Users {String:User} representation advanced HAMT\ntype User struct {\n  mail String\n  role Role\n  age nullable Int\n  nick optional String\n  avatar optional Bytes\n  contact Contact\n}\ntype Role enum {\n  | Admin (\"a\")\n  | Guest (\"g\")\n}\ntype Contact union {\n  | Phone \"phone\"\n  | Room \"room\"\n} representation keyed\ntype Phone string\ntype Room struct {\n  floor Int\n  door Int\n} representation tuple\n";
+const CLUB: &str = "# members of a club\n\
+     type Club struct {\n  name String\n  users Users\n  motto optional String\n\
+     }\n\
+     type Users {String:User} representation advanced HAMT\n\
+     type User struct {\n  mail String\n  role Role\n  age nullable Int\n  nick optional String\n  avatar \
+     optional Bytes\n  contact Contact\n\
+     }\n\
+     type Role enum {\n  | Admin (\"a\")\n  | Guest (\"g\")\n\
+     }\n\
+     type Contact union {\n  | Phone \"phone\"\n  | Room \"room\"\n\
+     } representation keyed\n\
+     type Phone string\n\
+     type Room struct {\n  floor Int\n  door Int\n\
+     } representation tuple\n";
 
 /// An example of each form, as the documents give it.
 const FORMS: &str =
-    "type Copy = Int                    type Any1 any                       type Link &Any\ntype List [nullable Int]           type Deep [[{String:&Any}]]         advanced HAMT\ntype M1 {String:Int}               type M2 {String:Int} representation listpairs\ntype M3 {String:Int} representation stringpairs { innerDelim \"=\" entryDelim \"&\" }\ntype M4 {String:Int} representation advanced HAMT\ntype S1 struct { a Int  b optional nullable String  c Int (implicit 0 rename \"z\") }\ntype S2 struct { a Int } representation tuple\ntype S3 struct { a String } representation stringjoin { join \":\" }\ntype U1 union { | Phone \"phone\" | &Room \"room\" } representation keyed\ntype U2 union { | Int int | String string } representation kinded\ntype U3 union { | Phone \"p:\" } representation stringprefix\ntype U4 union { | Phone \"01\" } representation bytesprefix\ntype U5 union { | Phone \"p\" } representation envelope { discriminantKey \"tag\" contentKey \"body\" }\ntype U6 union { | S1 \"s\" } representation inline { discriminantKey \"tag\" }\ntype E1 enum { | Admin (\"a\") | Guest }\ntype E2 enum { | One (\"1\") } representation int\ntype N1 unit representation emptymap\n";
+    "type Copy = Int                    type Any1 any                       type Link &Any\n\
+     type List [nullable Int]           type Deep [[{String:&Any}]]         advanced HAMT\n\
+     type M1 {String:Int}               type M2 {String:Int} representation listpairs\n\
+     type M3 {String:Int} representation stringpairs { innerDelim \"=\" entryDelim \"&\" }\n\
+     type M4 {String:Int} representation advanced HAMT\n\
+     type S1 struct { a Int  b optional nullable String  c Int (implicit 0 rename \"z\") }\n\
+     type S2 struct { a Int } representation tuple\n\
+     type S3 struct { a String } representation stringjoin { join \":\" }\n\
+     type U1 union { | Phone \"phone\" | &Room \"room\" } representation keyed\n\
+     type U2 union { | Int int | String string } representation kinded\n\
+     type U3 union { | Phone \"p:\" } representation stringprefix\n\
+     type U4 union { | Phone \"01\" } representation bytesprefix\n\
+     type U5 union { | Phone \"p\" } representation envelope { discriminantKey \"tag\" contentKey \"body\" \
+     }\n\
+     type U6 union { | S1 \"s\" } representation inline { discriminantKey \"tag\" }\n\
+     type E1 enum { | Admin (\"a\") | Guest }\n\
+     type E2 enum { | One (\"1\") } representation int\n\
+     type N1 unit representation emptymap\n";
 
 const READ: [&str; 46] = [
     "",

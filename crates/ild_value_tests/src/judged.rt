@@ -12,7 +12,11 @@ use std::test::Fail;
 type Row = (&'static str, &'static str, u32, Option<Judged>);
 
 const SRC: &str =
-    "type J struct { a String b String } representation stringjoin { join \":\" } type JJ struct { a String b String } representation stringjoin { join \"aa\" } type Q {String:String} representation stringpairs { innerDelim \"=\" entryDelim \"&\" } type T struct { a Int b optional Int c optional Int } representation tuple type TJ struct { a J b T } type M {J:Int} type MP {J:Int} representation listpairs type H {String:Int} representation advanced HAMT type L [L] type A any";
+    "type J struct { a String b String } representation stringjoin { join \":\" } type JJ struct { a String \
+     b String } representation stringjoin { join \"aa\" } type Q {String:String} representation stringpairs \
+     { innerDelim \"=\" entryDelim \"&\" } type T struct { a Int b optional Int c optional Int } representation \
+     tuple type TJ struct { a J b T } type M {J:Int} type MP {J:Int} representation listpairs type H {String:Int} \
+     representation advanced HAMT type L [L] type A any";
 
 const TABLE: [Row; 30] = [
     ("J", "{\"a\":\"x\",\"b\":\"y\"}", 96, None),

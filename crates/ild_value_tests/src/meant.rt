@@ -17,7 +17,13 @@ type Row = (
 );
 
 const VALUES: &str =
-    "type S struct { a Int b optional String } type R struct { a Int (rename \"b\") b Int (rename \"a\") } type P {String:Int} representation listpairs type H {String:Int} representation advanced HAMT type T struct { a Int b optional Int c optional Int } representation tuple type I struct { n Int (implicit 0) } type Dot struct { x Int } type Box struct { w Int h Int } type U union { | Dot \"dot\" | Box \"box\" } representation keyed type V union { | Dot \"dot\" | Box \"box\" } representation inline { discriminantKey \"k\" } type E enum { | No (\"0\") | Yes (\"1\") } representation int type O unit representation emptymap type L [nullable Int] type A any";
+    "type S struct { a Int b optional String } type R struct { a Int (rename \"b\") b Int (rename \"a\") \
+     } type P {String:Int} representation listpairs type H {String:Int} representation advanced HAMT type \
+     T struct { a Int b optional Int c optional Int } representation tuple type I struct { n Int (implicit \
+     0) } type Dot struct { x Int } type Box struct { w Int h Int } type U union { | Dot \"dot\" | Box \"box\" \
+     } representation keyed type V union { | Dot \"dot\" | Box \"box\" } representation inline { discriminantKey \
+     \"k\" } type E enum { | No (\"0\") | Yes (\"1\") } representation int type O unit representation emptymap \
+     type L [nullable Int] type A any";
 
 const GOOD: [Row; 18] = [
     ("S", "{\"a\":1}", Ok("{\"a\":1}")),
@@ -71,7 +77,12 @@ const BROKEN: [Row; 19] = [
 ];
 
 const KEYED: &str =
-    "type W string type K enum { | x | y } type C = K type J struct { a K b W } representation stringjoin { join \":\" } type Q {K:W} representation stringpairs { innerDelim \"=\" entryDelim \"&\" } type F struct { a W b optional W } representation stringpairs { innerDelim \"=\" entryDelim \"&\" } type N union { | W \"w\" | K \"k\" } representation stringprefix type D union { | K string } representation kinded type MK {K:Int} type MC {C:Int} type MJ {J:Int} type MQ {Q:Int} type MF {F:Int} type MN {N:Int} type MD {D:Int} type MW {W:Int} representation listpairs type MH {J:Int} representation advanced HAMT";
+    "type W string type K enum { | x | y } type C = K type J struct { a K b W } representation stringjoin \
+     { join \":\" } type Q {K:W} representation stringpairs { innerDelim \"=\" entryDelim \"&\" } type F \
+     struct { a W b optional W } representation stringpairs { innerDelim \"=\" entryDelim \"&\" } type N \
+     union { | W \"w\" | K \"k\" } representation stringprefix type D union { | K string } representation \
+     kinded type MK {K:Int} type MC {C:Int} type MJ {J:Int} type MQ {Q:Int} type MF {F:Int} type MN {N:Int} \
+     type MD {D:Int} type MW {W:Int} representation listpairs type MH {J:Int} representation advanced HAMT";
 
 const KEYS: [Row; 22] = [
     ("MW", "{\"z\":1}", Ok("{\"z\":1}")),
