@@ -1,11 +1,10 @@
 //! HAMTs under edits, key by key. The blocks and the CIDs are those of tests/hamt/trie.py, a plain trie in Python.
-use crate::built::{ABC, CHILD_OF_FOUR, ROOT_OF_FOUR, ROOT_OF_THREE};
 use crate::nodes::EMPTY;
-use crate::rows::is_scalar;
 use ild_cbor::check;
 use ild_data::{KeyHash, Octets, PadKeys, Sha256Keys, block_id};
 use ild_edges::{MemStore, Store};
 use ild_hamt::descend;
+use ild_hamt_samples::{ABC, CHILD_OF_FOUR, ROOT_OF_FOUR, ROOT_OF_THREE, is_scalar};
 use ild_node::{HamtFault, node_of, write_node};
 use std::alloc::Global;
 use std::test::Fail;

@@ -6,16 +6,8 @@ mod beside;
 #[cfg(test)]
 mod built;
 #[cfg(test)]
-mod damaged;
-#[cfg(test)]
 mod edited;
 #[cfg(test)]
 mod nodes;
-#[cfg(test)]
-mod resumed;
-#[cfg(test)]
-mod rows;
-#[cfg(test)]
-mod walked;
 #[cfg(test)]
 mod whys;

@@ -1,21 +1,10 @@
-//! The program: files as inputs, a folder of blocks, and standard output.
+//! The program: the call over files, a folder of blocks, and standard output.
 #![tactic(auto)]
 
-mod cause;
-mod files;
-mod folder;
-mod load;
-mod name;
-mod output;
-mod part;
-#[cfg(test)]
-mod tests;
 mod words;
 
-use files::FileInputs;
-use folder::FolderStore;
+use ild_files::{FileInputs, FolderStore, StdSink};
 use ild_run::{Status, run};
-use output::StdSink;
 use std::process::ExitCode;
 
 /// The folder in which blocks are kept, beside where the program runs.

@@ -1,9 +1,9 @@
 //! Walks that go on where they stood when a call was refused, and entries in the order of keys.
-use crate::built::{CHILD_OF_FOUR, ROOT_OF_FOUR, TWO_CHILDREN, built, pseudo_random};
 use ild_bulk::from_entries;
 use ild_cbor::check;
 use ild_data::{PadKeys, Sha256Keys, block_id};
 use ild_edges::MemStore;
+use ild_hamt_samples::{CHILD_OF_FOUR, ROOT_OF_FOUR, TWO_CHILDREN, built, pseudo_random};
 use ild_node::{HamtFault, node_of};
 use ild_walker::{Row, Walker, walk};
 use std::alloc::Global;

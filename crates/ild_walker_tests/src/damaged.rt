@@ -1,10 +1,9 @@
 //! Trees of HAMT nodes that are no tries: each with the block that is named, and why. And every bit of a tree turned over.
-use crate::built::CHILD_OF_FOUR;
-use crate::rows::push;
 use ild_bulk::from_entries;
 use ild_cbor::{BlockWhy, Why, check};
 use ild_data::{BlockId, KeyHash, PadKeys, Sha256Keys, block_id};
 use ild_edges::MemStore;
+use ild_hamt_samples::{CHILD_OF_FOUR, push};
 use ild_node::{HamtFault, Rows, node_of};
 use ild_walker::{Walker, check_tree};
 use std::alloc::Global;

@@ -1,9 +1,9 @@
 //! Walks over whole HAMTs, those that stand and those that don't.
-use crate::built::{CHILD_OF_FOUR, FOUR, ROOT_OF_FOUR, TWO_CHILDREN, built, pseudo_random};
 use ild_bulk::from_entries;
 use ild_cbor::{BlockWhy, Why, check};
 use ild_data::{KeyHash, PadKeys, Sha256Keys, block_id};
 use ild_edges::MemStore;
+use ild_hamt_samples::{CHILD_OF_FOUR, FOUR, ROOT_OF_FOUR, TWO_CHILDREN, built, pseudo_random};
 use ild_node::{HamtFault, node_of};
 use ild_walker::{Walker, check_tree};
 use std::alloc::Global;

@@ -1,9 +1,8 @@
 //! What files on a disk don't show: a block that is too long, a file that can't be moved, a terminal that takes nothing.
 //! The built program's own tests over files and folders stand in tests/conformance.
-use crate::folder::FolderStore;
-use crate::output::StdSink;
 use ild_data::block_id;
 use ild_edges::{EdgeErr, Sink, Store};
+use ild_files::{FolderStore, StdSink};
 use std::alloc::{Allocator, Global};
 use std::cell::Cell;
 use std::fmt::Display;

@@ -1,4 +1,4 @@
-//! Rows for the tests.
+//! Rows for tests.
 ghost use Rattle.std.specs.Prelude.{◌≡◌, IsTrue};
 ghost use Rattle.std.specs.Ordering.{is_lt};
 ghost use Rattle.ild_data.specs.ByteOrder.{bytewise};
@@ -28,14 +28,14 @@ fn is_above(rows: &Rows, key: &str) -> bool
 }
 
 /// Whether a value is a scalar.
-pub(crate) fn is_scalar(node: &Node<'_>) -> bool
+pub fn is_scalar(node: &Node<'_>) -> bool
     ensures { IsTrue result → NestsIn 92 node.now }
 {
     node.count().is_none()
 }
 
 /// Appends a row, whose value is a block of one scalar.
-pub(crate) fn push(alloc: Global, rows: &mut Rows, key: &str, value: &[u8]) -> Result<(), Fail> {
+pub fn push(alloc: Global, rows: &mut Rows, key: &str, value: &[u8]) -> Result<(), Fail> {
     let node = check(value).ok().ok_or("a block")?;
     if !is_above(rows, key) {
         return Err("the keys rise".into());
@@ -48,7 +48,7 @@ pub(crate) fn push(alloc: Global, rows: &mut Rows, key: &str, value: &[u8]) -> R
 }
 
 /// The rows of these keys and values.
-pub(crate) fn rows_of(alloc: Global, pairs: &[(&str, u8)]) -> Result<Rows, Fail> {
+pub fn rows_of(alloc: Global, pairs: &[(&str, u8)]) -> Result<Rows, Fail> {
     let mut rows = Rows::new(alloc);
     for (key, value) in pairs {
         push(alloc, &mut rows, key, &[*value])?;
