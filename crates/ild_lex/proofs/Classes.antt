@@ -1,18 +1,16 @@
 -- No byte is of two classes.
 use Rattle.std.proofs.Common.{◌≡◌, ℕ, true, false, refl, sym, subst, arith, ⊎_elim}
-use Rattle.std.specs.Prelude.{◌==◌, Bool, ◌||◌}
+use Rattle.std.specs.Prelude.{◌==◌}
 use Rattle.std.proofs.lemmas.Bool.{or_cases, eqb-true}
 use Rattle.std.proofs.lemmas.Bool.Decides.{nat_tests}
 use Rattle.ild_lex.specs.Bytes.{is_letter, is_digit, is_mark, is_blank, hash, quote, minus}
-
-either : {P : Type 0} {x y : Bool} → (x ≡ true → P) → (y ≡ true → P) → x || y ≡ true → P
-either {P} {x} {y} f g h = ⊎_elim f g (or_cases x y h)
 
 -- what is true of each mark is true of a byte that is one
 each_mark : (P : ℕ → Type 0) → P 123 → P 125 → P 91 → P 93 → P 40 → P 41 → P 58 → P 61 → P 124 → P 38 → (b : ℕ) → is_mark b ≡ true → P b
 each_mark P p0 p1 p2 p3 p4 p5 p6 p7 p8 p9 b h =
     let is : (n : ℕ) → P n → (b == n) ≡ true → P b = λ n p e. subst P (sym (eqb-true b n e)) p in
-    either (either (either (either (either (either (either (either (either (is 123 p0) (is 125 p1)) (is 91 p2)) (is 93 p3)) (is 40 p4)) (is 41 p5)) (is 58 p6)) (is 61 p7)) (is 124 p8)) (is 38 p9) h
+    ⊎_elim (λ h8. ⊎_elim (λ h7. ⊎_elim (λ h6. ⊎_elim (λ h5. ⊎_elim (λ h4. ⊎_elim (λ h3. ⊎_elim (λ h2. ⊎_elim (λ h1. ⊎_elim (is 123 p0) (is 125 p1) (or_cases _ _ h1))
+    (is 91 p2) (or_cases _ _ h2)) (is 93 p3) (or_cases _ _ h3)) (is 40 p4) (or_cases _ _ h4)) (is 41 p5) (or_cases _ _ h5)) (is 58 p6) (or_cases _ _ h6)) (is 61 p7) (or_cases _ _ h7)) (is 124 p8) (or_cases _ _ h8)) (is 38 p9) (or_cases _ _ h)
 
 pub record IsNeither (b : ℕ) : Type 0 where
   pub letter : is_letter b ≡ false
@@ -27,9 +25,8 @@ neither b l d m q h k = record { letter = l; digit = d; minus = m; quote = q; ha
 
 pub mark_is : (b : ℕ) → is_mark b ≡ true → IsNeither b
 mark_is b h =
-    each_mark IsNeither
-        (neither _ refl refl refl refl refl refl) (neither _ refl refl refl refl refl refl) (neither _ refl refl refl refl refl refl) (neither _ refl refl refl refl refl refl) (neither _ refl refl refl refl refl refl)
-        (neither _ refl refl refl refl refl refl) (neither _ refl refl refl refl refl refl) (neither _ refl refl refl refl refl refl) (neither _ refl refl refl refl refl refl) (neither _ refl refl refl refl refl refl) b h
+    each_mark IsNeither (neither _ refl refl refl refl refl refl) (neither _ refl refl refl refl refl refl) (neither _ refl refl refl refl refl refl) (neither _ refl refl refl refl refl refl) (neither _ refl refl refl refl refl refl)
+    (neither _ refl refl refl refl refl refl) (neither _ refl refl refl refl refl refl) (neither _ refl refl refl refl refl refl) (neither _ refl refl refl refl refl refl) (neither _ refl refl refl refl refl refl) b h
 
 pub letter_is : (b : ℕ) → is_letter b ≡ true → (is_digit b ≡ false) × ((b == minus) ≡ false) × ((b == quote) ≡ false) × (is_mark b ≡ false) × ((b == hash) ≡ false) × (is_blank b ≡ false)
 letter_is b h = (grind (arith, nat_tests), grind (arith, nat_tests), grind (arith, nat_tests), grind (arith, nat_tests), grind (arith, nat_tests), grind (arith, nat_tests))

@@ -1,10 +1,11 @@
--- The first part with a text, found as parts are put into a map one after the other.
-use Rattle.std.proofs.Common.{◌≡◌, ℕ, zero, suc, ◌<◌, ◌+◌, Bool, true, false, cond, List, [], ◌∷◌, ◌++◌, Option, Some, None, bytes_eq, length, take, get_or, refl, ap, sym, ◌∙◌, subst, arith}
-use Rattle.std.specs.Prelude.{String}
-use Rattle.std.specs.BTreeMap.{BTreeMap, get_by_text}
+-- The first part with a text, found as parts are put in the key order one after the other.
+use Rattle.std.proofs.Common.{◌≡◌, ℕ, zero, suc, ◌<◌, ◌≤◌, ◌+◌, Bool, true, false, cond, List, [], ◌∷◌, ◌++◌, Option, Some, None, option_map, Result, Ok, Err, bytes_eq, length, take, map, get_or, refl, ap, sym, ◌∙◌, subst, arith}
+use Rattle.std.specs.Prelude.{slice_get}
 use Rattle.std.specs.List.{position_from}
-use Rattle.std.specs.Option.{IfSome, option_or, option_and_then}
-use Rattle.std.proofs.lemmas.List.{take_more, length-take-le}
+use Rattle.std.specs.Option.{IfSome, option_or, option_and_then, unwrap_or}
+use Rattle.std.proofs.lemmas.List.{take_all, take_more, length-take-le, length-map}
+use Rattle.std.proofs.lemmas.Option.{slice_get-map}
+use Rattle.ild_data.specs.Key.{Rises, value_at}
 use Rattle.ild_schema.specs.declared.def.Field.{Field}
 use Rattle.ild_schema.specs.declared.def.Member.{Member}
 use Rattle.ild_schema.specs.declared.def.EnumMember.{EnumMember}
@@ -13,8 +14,8 @@ use Rattle.ild_schema.specs.declared.def.TypeDef.TheVariants as D
 use Rattle.ild_schema.specs.declared.by_text.PartIndex.{PartIndex}
 use Rattle.ild_schema.specs.declared.row.Row.{Row}
 use Rattle.ild_schema.specs.Marks.{text_of, field_text, member_text}
-use Rattle.ild_schema.specs.Indexed.{FindsParts, HasParts}
-use Rattle.ild_schema.specs.Parts.{is_text, part_named, part_spelled, IsPartOf}
+use Rattle.ild_schema.specs.Indexed.{FindsParts, HasParts, HasPut, InKeyOrder, IsSeat, text_at, under_texts}
+use Rattle.ild_schema.specs.Parts.{is_text, part_named, part_names, part_spelled, part_texts, IsPartOf}
 use Rattle.ild_schema.specs.Rows.{def_at}
 use Rattle.ild_schema.specs.Table.{parts_of}
 
@@ -28,39 +29,76 @@ position_last t i (y ∷ ys) x = by (t y) (position_last t (i + 1) ys x)
     by true h = refl
     by false h = let same : i + 1 + length ys ≡ i + suc (length ys) = omega arith in h ∙ ap (λ k. option_or (position_from t (i + 1) ys) (cond (t x) (Some k) None)) same
 
--- a map finds the first of the parts that have each text
-abbrev pub FindsFirst : {X Y : Type 0} → (List ℕ → X → Bool) → List X → BTreeMap (String Y) ℕ → Type 0
-FindsFirst is xs numbers = (q : List ℕ) → get_by_text numbers q ≡ position_from (is q) 0 xs
+-- the parts before a number, as they are found
+pub record Upto (ts : List (Option (List ℕ))) (i : ℕ) (ns : List ℕ) : Type 0 where
+  pub rising : Rises (under_texts ts ns)
+  pub found : (q : List ℕ) → value_at q (under_texts ts ns) ≡ position_from (is_text q) 0 (take i ts)
 
-pub record FieldsFound {Y : Type 0} (fs : List Field) (names texts : BTreeMap (String Y) ℕ) : Type 0 where
-  pub named : FindsFirst (λ q f. bytes_eq q f.name) fs names
-  pub spelled : FindsFirst (λ q f. bytes_eq q (field_text f)) fs texts
+pub upto_none : (ts : List (Option (List ℕ))) (ns : List ℕ) → ns ≡ [] → Upto ts 0 ns
+upto_none ts ns is = subst (Upto ts 0) (sym is) (record { rising = tt; found = λ q. refl })
 
-pub record MembersFound {Y : Type 0} (ms : List Member) (names texts : BTreeMap (String Y) ℕ) : Type 0 where
-  pub named : FindsFirst (λ q m. bytes_eq q m.name) ms names
-  pub spelled : FindsFirst (λ q m. is_text q (text_of m.mark)) ms texts
+text_got : (ts : List (Option (List ℕ))) (i : ℕ) → i < length ts → text_at ts i ≡ get_or ts i None
+text_got [] i lt = absurd (omega (arith, lt))
+text_got (t ∷ ts) zero lt = refl
+text_got (t ∷ ts) (suc i) lt = text_got ts i (omega (arith, lt))
 
-pub record ValuesFound {Y : Type 0} (ms : List EnumMember) (names texts : BTreeMap (String Y) ℕ) : Type 0 where
-  pub named : FindsFirst (λ q m. bytes_eq q m.name) ms names
-  pub spelled : FindsFirst (λ q m. bytes_eq q (member_text m)) ms texts
+pub upto_more : (ts : List (Option (List ℕ))) (i : ℕ) (old new : List ℕ) → i < length ts → Upto ts i old → HasPut ts i old new → Upto ts (i + 1) new
+upto_more ts i old new within h more =
+    let x = get_or ts i None in
+    let next : take (i + 1) ts ≡ take i ts ++ x ∷ [] = take_more ts i None within in
+    let count : 0 + length (take i ts) ≡ i = omega (arith, length-take-le i ts (omega (arith, within))) in
+    record {
+      rising = more.rising;
+      found = λ q. more.found q
+          ∙ ap (λ o. option_or o (cond (is_text q (text_at ts i)) (Some i) None)) (h.found q)
+          ∙ ap (λ t. option_or (position_from (is_text q) 0 (take i ts)) (cond (is_text q t) (Some i) None)) (text_got ts i within)
+          ∙ sym (ap (position_from (is_text q) 0) next ∙ position_last (is_text q) 0 (take i ts) x ∙ ap (λ k. option_or (position_from (is_text q) 0 (take i ts)) (cond (is_text q x) (Some k) None)) count);
+    }
 
--- a map after one part more
-pub finds_more : {X Y : Type 0} (is : List ℕ → X → Bool) (xs : List X) (i : ℕ) (x : X) (old new : BTreeMap (String Y) ℕ) → i < length xs → x ≡ get_or xs i x
-    → FindsFirst is (take i xs) old → ((q : List ℕ) → get_by_text new q ≡ option_or (get_by_text old q) (cond (is q x) (Some i) None)) → FindsFirst is (take (i + 1) xs) new
-finds_more is xs i x old new within read h more q =
-    let next : take (i + 1) xs ≡ take i xs ++ get_or xs i x ∷ [] = take_more xs i x within in
-    let here : take (i + 1) xs ≡ take i xs ++ x ∷ [] = next ∙ ap (λ y. take i xs ++ y ∷ []) (sym read) in
-    let count : 0 + length (take i xs) ≡ i = omega (arith, length-take-le i xs (omega (arith, within))) in
-    more q
-    ∙ ap (λ o. option_or o (cond (is q x) (Some i) None)) (h q)
-    ∙ sym (ap (λ ys. position_from (is q) 0 ys) here ∙ position_last (is q) 0 (take i xs) x ∙ ap (λ k. option_or (position_from (is q) 0 (take i xs)) (cond (is q x) (Some k) None)) count)
+pub upto_all : (ts : List (Option (List ℕ))) (i : ℕ) (ns : List ℕ) → length ts ≤ i → Upto ts i ns → InKeyOrder ts ns
+upto_all ts i ns all h = record { rising = h.rising; found = λ q. h.found q ∙ ap (position_from (is_text q) 0) (take_all i ts all) }
 
--- the same by a text of the part
-pub finds_text : {X Y : Type 0} (text_in : X → List ℕ) (xs : List X) (i : ℕ) (x : X) (text : List ℕ) (old new : BTreeMap (String Y) ℕ) → i < length xs → x ≡ get_or xs i x → text ≡ text_in x
-    → FindsFirst (λ q x. bytes_eq q (text_in x)) (take i xs) old → ((q : List ℕ) → get_by_text new q ≡ option_or (get_by_text old q) (cond (bytes_eq q text) (Some i) None))
-    → FindsFirst (λ q x. bytes_eq q (text_in x)) (take (i + 1) xs) new
-finds_text text_in xs i x text old new within read is h more =
-    finds_more (λ q x. bytes_eq q (text_in x)) xs i x old new within read h (λ q. more q ∙ ap (λ t. option_or (get_by_text old q) (cond (bytes_eq q t) (Some i) None)) is)
+-- ---- a part by its text
+
+got_at : (ns : List ℕ) (i : ℕ) → i < length ns → slice_get ns i ≡ Some (get_or ns i 0)
+got_at [] i lt = absurd (omega (arith, lt))
+got_at (n ∷ ns) zero lt = refl
+got_at (n ∷ ns) (suc i) lt = got_at ns i (omega (arith, lt))
+
+pub seat_within : (ts : List (Option (List ℕ))) (ns : List ℕ) (k : List ℕ) (r : Result ℕ ℕ) (i : ℕ) → IsSeat k (under_texts ts ns) r → r ≡ Ok i → i < length ns
+seat_within ts ns k r i found is =
+    let seat : IsSeat k (under_texts ts ns) (Ok i) = subst (IsSeat k (under_texts ts ns)) is found in
+    omega (arith, seat.found.0, length-map {B = List ℕ × ℕ} ns (λ n. (unwrap_or (text_at ts n) [], n)))
+
+pub seat_found : (ts : List (Option (List ℕ))) (ns : List ℕ) (k : List ℕ) (r : Result ℕ ℕ) (i : ℕ) → InKeyOrder ts ns → IsSeat k (under_texts ts ns) r → r ≡ Ok i → Some (get_or ns i 0) ≡ position_from (is_text k) 0 ts
+seat_found ts ns k r i h found is =
+    let seat : IsSeat k (under_texts ts ns) (Ok i) = subst (IsSeat k (under_texts ts ns)) is found in
+    let f : ℕ → List ℕ × ℕ = λ n. (unwrap_or (text_at ts n) [], n) in
+    let at : slice_get (map f ns) i ≡ Some (f (get_or ns i 0)) = slice_get-map f ns i ∙ ap (option_map f) (got_at ns i (seat_within ts ns k r i found is)) in
+    sym (ap (option_map (λ (p : List ℕ × ℕ). p.1)) at) ∙ sym seat.found.1 ∙ h.found k
+
+pub seat_absent : (ts : List (Option (List ℕ))) (ns : List ℕ) (k : List ℕ) (r : Result ℕ ℕ) (i : ℕ) → InKeyOrder ts ns → IsSeat k (under_texts ts ns) r → r ≡ Err i → None ≡ position_from (is_text k) 0 ts
+seat_absent ts ns k r i h found is =
+    let seat : IsSeat k (under_texts ts ns) (Err i) = subst (IsSeat k (under_texts ts ns)) is found in
+    sym seat.absent.1 ∙ h.found k
+
+-- ---- the texts of parts
+
+position_map : {X Y : Type 0} (t : Y → Bool) (h : X → Y) (i : ℕ) (xs : List X) → position_from t i (map h xs) ≡ position_from (λ x. t (h x)) i xs
+position_map t h i [] = refl
+position_map t h i (x ∷ xs) = ap (cond (t (h x)) (Some i)) (position_map t h (i + 1) xs)
+
+named_is : (q : List ℕ) (d : TypeDef) → position_from (is_text q) 0 (part_names d) ≡ part_named q d
+named_is q (D.Struct s) = position_map (is_text q) (λ (f : Field). Some f.name) 0 s.fields
+named_is q (D.Union u) = position_map (is_text q) (λ (m : Member). Some m.name) 0 u.members
+named_is q (D.Enum e) = position_map (is_text q) (λ (m : EnumMember). Some m.name) 0 e.members
+named_is q d = refl
+
+spelled_is : (q : List ℕ) (d : TypeDef) → position_from (is_text q) 0 (part_texts d) ≡ part_spelled q d
+spelled_is q (D.Struct s) = position_map (is_text q) (λ (f : Field). Some (field_text f)) 0 s.fields
+spelled_is q (D.Union u) = position_map (is_text q) (λ (m : Member). text_of m.mark) 0 u.members
+spelled_is q (D.Enum e) = position_map (is_text q) (λ (m : EnumMember). Some (member_text m)) 0 e.members
+spelled_is q d = refl
 
 -- ---- for each row what finds its parts
 
@@ -81,11 +119,24 @@ parts_count [] (p ∷ ps) h = absurd h
 parts_count (r ∷ rs) [] h = absurd h
 parts_count (r ∷ rs) (p ∷ ps) h = ap suc (parts_count rs ps h.1)
 
-parts_at : (rows : List Row) (parts : List PartIndex) (n : ℕ) (index : PartIndex) → HasParts rows parts → n < length rows → index ≡ get_or parts n index → (d : TypeDef) × (def_at rows n ≡ Some d) × FindsParts d index
-parts_at [] ps n index h within is = absurd (omega arith)
-parts_at (r ∷ rs) [] n index h within is = absurd h
-parts_at (r ∷ rs) (p ∷ ps) zero index h within is = (r.def, refl, subst (λ x. FindsParts r.def x) (sym is) h.0)
-parts_at (r ∷ rs) (p ∷ ps) (suc n) index h within is = parts_at rs ps n index h.1 (omega arith) is
+pub record PartsAt (rows : List Row) (n : ℕ) (d : TypeDef) (index : PartIndex) : Type 0 where
+  pub def : def_at rows n ≡ Some d
+  pub finds : FindsParts d index
+
+pub parts_at : (rows : List Row) (parts : List PartIndex) (n : ℕ) (r : Row) (index : PartIndex) → HasParts rows parts → n < length rows → r ≡ get_or rows n r → index ≡ get_or parts n index → PartsAt rows n r.def index
+parts_at [] ps n r index h within at is = absurd (omega (arith, within))
+parts_at (q ∷ rs) [] n r index h within at is = absurd h
+parts_at (q ∷ rs) (p ∷ ps) zero r index h within at is = record {
+  def = ap (λ (x : Row). Some x.def) (sym at);
+  finds = subst (λ x. FindsParts r.def x) (sym is) (subst (λ (x : Row). FindsParts x.def p) (sym at) h.0);
+}
+parts_at (q ∷ rs) (p ∷ ps) (suc n) r index h within at is = let rest = parts_at rs ps n r index h.1 (omega (arith, within)) at is in record { def = rest.def; finds = rest.finds }
+
+pub order_at : (rows : List Row) (parts : List PartIndex) (n : ℕ) (index : PartIndex) → HasParts rows parts → n < length rows → index ≡ get_or parts n index → IfSome (def_at rows n) (λ d. InKeyOrder (part_texts d) index.texts.items)
+order_at [] ps n index h within is = absurd (omega (arith, within))
+order_at (r ∷ rs) [] n index h within is = absurd h
+order_at (r ∷ rs) (p ∷ ps) zero index h within is = subst (λ (x : PartIndex). InKeyOrder (part_texts r.def) x.texts.items) (sym is) h.0.spelled
+order_at (r ∷ rs) (p ∷ ps) (suc n) index h within is = order_at rs ps n index h.1 (omega (arith, within)) is
 
 -- ---- what is found is one of the parts
 
@@ -129,12 +180,8 @@ found_in rows n part_of found d is same within = record {
     by None h = tt
     by (Some i) h = subst (λ o. IfSome o (λ d. i < parts_of d)) (sym is) h
 
-pub found_named : (rows : List Row) (parts : List PartIndex) (n : ℕ) (index : PartIndex) (name : List ℕ) (found : Option ℕ) → HasParts rows parts → n < length rows → index ≡ get_or parts n index → found ≡ get_by_text index.names name → FoundIn rows n (part_named name) found
-found_named rows parts n index name found h within is same =
-    let here = parts_at rows parts n index h within is in
-    found_in rows n (part_named name) found here.0 here.1 (same ∙ here.2.named name) (named_within name here.0)
+pub found_named : (rows : List Row) (n : ℕ) (d : TypeDef) (name : List ℕ) (found : Option ℕ) → def_at rows n ≡ Some d → found ≡ position_from (is_text name) 0 (part_names d) → FoundIn rows n (part_named name) found
+found_named rows n d name found at same = found_in rows n (part_named name) found d at (same ∙ named_is name d) (named_within name d)
 
-pub found_spelled : (rows : List Row) (parts : List PartIndex) (n : ℕ) (index : PartIndex) (text : List ℕ) (found : Option ℕ) → HasParts rows parts → n < length rows → index ≡ get_or parts n index → found ≡ get_by_text index.texts text → FoundIn rows n (part_spelled text) found
-found_spelled rows parts n index text found h within is same =
-    let here = parts_at rows parts n index h within is in
-    found_in rows n (part_spelled text) found here.0 here.1 (same ∙ here.2.spelled text) (spelled_within text here.0)
+pub found_spelled : (rows : List Row) (n : ℕ) (d : TypeDef) (text : List ℕ) (found : Option ℕ) → def_at rows n ≡ Some d → found ≡ position_from (is_text text) 0 (part_texts d) → FoundIn rows n (part_spelled text) found
+found_spelled rows n d text found at same = found_in rows n (part_spelled text) found d at (same ∙ spelled_is text d) (spelled_within text d)

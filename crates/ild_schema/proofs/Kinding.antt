@@ -168,11 +168,21 @@ none_there : (ks : Kinds) → has_none ks ≡ true → (l : KindWord) → has_ki
 none_there ks h l = by l (none_of ks.null ks.boolean ks.int ks.text ks.bytes ks.list ks.map ks.link h)
   where
     by : (l : KindWord) → ks.null || ks.boolean || ks.int || ks.text || ks.bytes || ks.list || ks.map || ks.link ≡ false → has_kind l ks ≡ false
-    by W.Null e = left (ks.null) ks.boolean (left (ks.null || ks.boolean) ks.int (left (ks.null || ks.boolean || ks.int) ks.text (left (ks.null || ks.boolean || ks.int || ks.text) ks.bytes (left (ks.null || ks.boolean || ks.int || ks.text || ks.bytes) ks.list (left (ks.null || ks.boolean || ks.int || ks.text || ks.bytes || ks.list) ks.map (left (ks.null || ks.boolean || ks.int || ks.text || ks.bytes || ks.list || ks.map) ks.link e))))))
-    by W.Bool e = right (ks.null) ks.boolean (left (ks.null || ks.boolean) ks.int (left (ks.null || ks.boolean || ks.int) ks.text (left (ks.null || ks.boolean || ks.int || ks.text) ks.bytes (left (ks.null || ks.boolean || ks.int || ks.text || ks.bytes) ks.list (left (ks.null || ks.boolean || ks.int || ks.text || ks.bytes || ks.list) ks.map (left (ks.null || ks.boolean || ks.int || ks.text || ks.bytes || ks.list || ks.map) ks.link e))))))
-    by W.Int e = right (ks.null || ks.boolean) ks.int (left (ks.null || ks.boolean || ks.int) ks.text (left (ks.null || ks.boolean || ks.int || ks.text) ks.bytes (left (ks.null || ks.boolean || ks.int || ks.text || ks.bytes) ks.list (left (ks.null || ks.boolean || ks.int || ks.text || ks.bytes || ks.list) ks.map (left (ks.null || ks.boolean || ks.int || ks.text || ks.bytes || ks.list || ks.map) ks.link e)))))
-    by W.Text e = right (ks.null || ks.boolean || ks.int) ks.text (left (ks.null || ks.boolean || ks.int || ks.text) ks.bytes (left (ks.null || ks.boolean || ks.int || ks.text || ks.bytes) ks.list (left (ks.null || ks.boolean || ks.int || ks.text || ks.bytes || ks.list) ks.map (left (ks.null || ks.boolean || ks.int || ks.text || ks.bytes || ks.list || ks.map) ks.link e))))
-    by W.Bytes e = right (ks.null || ks.boolean || ks.int || ks.text) ks.bytes (left (ks.null || ks.boolean || ks.int || ks.text || ks.bytes) ks.list (left (ks.null || ks.boolean || ks.int || ks.text || ks.bytes || ks.list) ks.map (left (ks.null || ks.boolean || ks.int || ks.text || ks.bytes || ks.list || ks.map) ks.link e)))
+    by W.Null e =
+        left (ks.null) ks.boolean (left (ks.null || ks.boolean) ks.int (left (ks.null || ks.boolean || ks.int) ks.text (left (ks.null || ks.boolean || ks.int || ks.text) ks.bytes
+        (left (ks.null || ks.boolean || ks.int || ks.text || ks.bytes) ks.list (left (ks.null || ks.boolean || ks.int || ks.text || ks.bytes || ks.list) ks.map (left (ks.null || ks.boolean || ks.int || ks.text || ks.bytes || ks.list || ks.map) ks.link e))))))
+    by W.Bool e =
+        right (ks.null) ks.boolean (left (ks.null || ks.boolean) ks.int (left (ks.null || ks.boolean || ks.int) ks.text (left (ks.null || ks.boolean || ks.int || ks.text) ks.bytes
+        (left (ks.null || ks.boolean || ks.int || ks.text || ks.bytes) ks.list (left (ks.null || ks.boolean || ks.int || ks.text || ks.bytes || ks.list) ks.map (left (ks.null || ks.boolean || ks.int || ks.text || ks.bytes || ks.list || ks.map) ks.link e))))))
+    by W.Int e =
+        right (ks.null || ks.boolean) ks.int (left (ks.null || ks.boolean || ks.int) ks.text (left (ks.null || ks.boolean || ks.int || ks.text) ks.bytes (left (ks.null || ks.boolean || ks.int || ks.text || ks.bytes) ks.list
+        (left (ks.null || ks.boolean || ks.int || ks.text || ks.bytes || ks.list) ks.map (left (ks.null || ks.boolean || ks.int || ks.text || ks.bytes || ks.list || ks.map) ks.link e)))))
+    by W.Text e =
+        right (ks.null || ks.boolean || ks.int) ks.text (left (ks.null || ks.boolean || ks.int || ks.text) ks.bytes (left (ks.null || ks.boolean || ks.int || ks.text || ks.bytes) ks.list
+        (left (ks.null || ks.boolean || ks.int || ks.text || ks.bytes || ks.list) ks.map (left (ks.null || ks.boolean || ks.int || ks.text || ks.bytes || ks.list || ks.map) ks.link e))))
+    by W.Bytes e =
+        right (ks.null || ks.boolean || ks.int || ks.text) ks.bytes (left (ks.null || ks.boolean || ks.int || ks.text || ks.bytes) ks.list
+        (left (ks.null || ks.boolean || ks.int || ks.text || ks.bytes || ks.list) ks.map (left (ks.null || ks.boolean || ks.int || ks.text || ks.bytes || ks.list || ks.map) ks.link e)))
     by W.List e = right (ks.null || ks.boolean || ks.int || ks.text || ks.bytes) ks.list (left (ks.null || ks.boolean || ks.int || ks.text || ks.bytes || ks.list) ks.map (left (ks.null || ks.boolean || ks.int || ks.text || ks.bytes || ks.list || ks.map) ks.link e))
     by W.Map e = right (ks.null || ks.boolean || ks.int || ks.text || ks.bytes || ks.list) ks.map (left (ks.null || ks.boolean || ks.int || ks.text || ks.bytes || ks.list || ks.map) ks.link e)
     by W.Link e = right (ks.null || ks.boolean || ks.int || ks.text || ks.bytes || ks.list || ks.map) ks.link e

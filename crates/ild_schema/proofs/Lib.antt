@@ -4,6 +4,8 @@ pub mod Circles
 mod Ending
 mod Keeping
 mod Finding
+pub mod Puts
+mod Seats
 mod Parts
 mod Writing
 pub mod Kinding

@@ -1,6 +1,6 @@
 -- The fields and members of a type by their texts: the number of the first that has a name, and of the first that stands in
 -- a block under a text (IPLD Schemas, "Representations").
-use Rattle.std.specs.Prelude.{ℕ, ◌<◌, List, Bool, false, Option, Some, None, IfSome, bytes_eq}
+use Rattle.std.specs.Prelude.{ℕ, ◌<◌, List, [], Bool, false, Option, Some, None, IfSome, bytes_eq, map}
 use Rattle.std.specs.List.{position_from}
 use Rattle.ild_schema.specs.declared.def.TypeDef.{TypeDef}
 use Rattle.ild_schema.specs.declared.def.TypeDef.TheVariants as D
@@ -24,6 +24,20 @@ part_spelled text (D.Struct s) = position_from (λ f. bytes_eq text (field_text 
 part_spelled text (D.Union u) = position_from (λ m. is_text text (text_of m.mark)) 0 u.members
 part_spelled text (D.Enum e) = position_from (λ m. bytes_eq text (member_text m)) 0 e.members
 part_spelled text def = None
+
+-- the names of the parts, in the order of their numbers
+abbrev pub part_names : TypeDef → List (Option (List ℕ))
+part_names (D.Struct s) = map (λ f. Some f.name) s.fields
+part_names (D.Union u) = map (λ m. Some m.name) u.members
+part_names (D.Enum e) = map (λ m. Some m.name) e.members
+part_names def = []
+
+-- the texts under which they stand in a block, where there are any
+abbrev pub part_texts : TypeDef → List (Option (List ℕ))
+part_texts (D.Struct s) = map (λ f. Some (field_text f)) s.fields
+part_texts (D.Union u) = map (λ m. text_of m.mark) u.members
+part_texts (D.Enum e) = map (λ m. Some (member_text m)) e.members
+part_texts def = []
 
 -- the number of a part of the type with a number
 abbrev pub IsPartOf : List Row → ℕ → ℕ → Type 0

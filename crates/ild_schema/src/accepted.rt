@@ -3,9 +3,10 @@ ghost use Rattle.std.specs.Prelude.{◌≡◌, ◌<◌, length, None, Some, IfSo
 ghost use Rattle.std.specs.Option.{option_and_then};
 ghost use Rattle.ild_schema.specs.Accept.{IsAccepted};
 ghost use Rattle.ild_schema.specs.Copies.{base, target_in};
+ghost use Rattle.ild_schema.specs.Indexed.{InKeyOrder};
 ghost use Rattle.ild_schema.specs.Legible.{IsLegible};
 ghost use Rattle.ild_schema.specs.Names.{declared_names, number_named};
-ghost use Rattle.ild_schema.specs.Parts.{IsPartOf, part_named, part_spelled};
+ghost use Rattle.ild_schema.specs.Parts.{IsPartOf, part_named, part_spelled, part_texts};
 ghost use Rattle.ild_schema.specs.Table.{IsTable, IsWithin, def_at, name_at};
 
 use crate::laws::accepted_are_legible;
@@ -102,6 +103,15 @@ impl Accepted {
         ensures within { IfSome result (IsPartOf self.now ty.0) }
     {
         self.schema.part_spelled(ty, text)
+    }
+
+    /// The numbers of a type's fields or members in the key order of the texts under which they stand in a block (DAG-CBOR,
+    /// "Map Keys").
+    pub fn in_key_order(&self, ty: TypeNo) -> &[usize]
+        requires { ty.0 < length self.now }
+        ensures { IfSome (def_at self.now ty.0) (λ def. InKeyOrder (part_texts def) result.now) }
+    {
+        self.schema.in_key_order(ty)
     }
 
     /// The declared names, in the order of the text.

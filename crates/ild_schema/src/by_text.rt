@@ -1,140 +1,99 @@
-//! The fields and members of a type by their texts, in maps that are made once.
-ghost use Rattle.std.specs.Prelude.{◌≡◌, ℕ, List, None, Some, bytes_eq, cond, IfOk, OnOk};
-ghost use Rattle.std.specs.BTreeMap.{get_by_text};
-ghost use Rattle.std.specs.Option.{option_or};
-ghost use Rattle.ild_schema.specs.Marks.{field_text, member_text, text_of};
+//! The fields and members of a type by their texts: numbers in the key order of the texts, which are compared in the table.
+ghost use Rattle.std.specs.Prelude.{◌≡◌, IfOk, OnOk};
+ghost use Rattle.std.specs.List.{position_from};
+ghost use Rattle.ild_data.specs.Key.{Rises};
 ghost use Rattle.ild_schema.specs.Parts.{is_text};
-ghost use Rattle.ild_schema.specs.Indexed.{FindsParts, HasParts};
-ghost use Rattle.ild_schema.specs.declared.def.TypeDef.TheVariants as D;
+ghost use Rattle.ild_schema.specs.Indexed.{FindsParts, HasParts, HasPut, InKeyOrder, IsSeat, labels, under_texts};
 
-use crate::{EnumDef, EnumMember, Field, Mark, Row, StructDef, TypeDef, UnionDef};
+use crate::label::{Label, count_parts, label_at, text_or_empty};
+use crate::{Row, TypeDef};
+use ild_data::{key_less, key_order};
 use std::alloc::{AllocError, Global};
-use std::collections::BTreeMap;
 
-/// The parts of a type by name, and by the text under which they stand in a block. Each map has the first part that has a
-/// text.
+/// The numbers of a type's parts in the key order of their names, and in that of the texts under which they stand in a block.
+/// Of parts with one text the first is there.
 #[derive(Drop)]
 pub(crate) struct PartIndex {
-    pub(crate) names: BTreeMap<String, usize>,
-    pub(crate) texts: BTreeMap<String, usize>,
+    pub(crate) names: Vec<usize>,
+    pub(crate) texts: Vec<usize>,
 }
 
-/// Lets a text stand for a number.
-fn put(
-    numbers: &mut BTreeMap<String, usize>,
-    alloc: Global,
-    text: &str,
-    number: usize,
-) -> Result<(), AllocError>
-    ensures { OnOk result ((q : List ℕ) → get_by_text numbers.new q ≡ cond (bytes_eq q text.now) (Some number) (get_by_text numbers.old q)) }
+// Where a text stands among those of parts that rise.
+fn search(def: &TypeDef, label: Label, numbers: &[usize], text: &str) -> Result<usize, usize>
+    requires { Rises (under_texts (labels label def.now) numbers.now) }
+    ensures { IsSeat text.now (under_texts (labels label def.now) numbers.now) result }
 {
-    let key = String::from_str(alloc, text)?;
-    numbers.insert(key, number)?;
-    Ok(())
+    numbers.binary_search_by(|other| key_order(text_or_empty(def, label, *other), text))
 }
 
-/// Lets a text stand for a number, where it stands for none yet.
+// The same, where most texts come behind all that are there.
+fn seat(def: &TypeDef, label: Label, numbers: &[usize], text: &str) -> Result<usize, usize>
+    requires { Rises (under_texts (labels label def.now) numbers.now) }
+    ensures { IsSeat text.now (under_texts (labels label def.now) numbers.now) result }
+{
+    let count = numbers.len();
+    if count == 0 {
+        return Err(0);
+    }
+    if key_less(text_or_empty(def, label, numbers[count - 1]), text) {
+        return Err(count);
+    }
+    search(def, label, numbers, text)
+}
+
+// One part more, where none before it has its text.
 fn put_first(
-    numbers: &mut BTreeMap<String, usize>,
-    alloc: Global,
-    text: &str,
-    number: usize,
+    def: &TypeDef,
+    label: Label,
+    numbers: &mut Vec<usize>,
+    part: usize,
 ) -> Result<(), AllocError>
-    ensures { OnOk result ((q : List ℕ) → get_by_text numbers.new q ≡ option_or (get_by_text numbers.old q) (cond (bytes_eq q text.now) (Some number) None)) }
+    requires { Rises (under_texts (labels label def.now) numbers.old.items) }
+    ensures { OnOk result (HasPut (labels label def.now) part numbers.old.items numbers.new.items) }
 {
-    if !numbers.contains_key(text) {
-        put(numbers, alloc, text, number)?;
+    let Some(text) = label_at(def, label, part) else {
+        return Ok(());
+    };
+    match seat(def, label, numbers, text) {
+        Ok(_) => {}
+        Err(i) => {
+            numbers.insert(i, part)?;
+        }
     }
     Ok(())
 }
 
-/// Lets the text behind a member, if one is there, stand for a number, where it stands for none yet.
-fn put_mark(
-    numbers: &mut BTreeMap<String, usize>,
-    alloc: Global,
-    mark: &Mark,
-    number: usize,
-) -> Result<(), AllocError>
-    ensures { OnOk result ((q : List ℕ) → get_by_text numbers.new q ≡ option_or (get_by_text numbers.old q) (cond (is_text q (text_of mark.now)) (Some number) None)) }
+// The numbers of a type's parts in the key order of their texts. There are at most 1,024, so that moving those behind an
+// inserted one costs less than the comparisons.
+fn in_key_order(alloc: Global, def: &TypeDef, label: Label) -> Result<Vec<usize>, AllocError>
+    ensures { IfOk result (λ numbers. InKeyOrder (labels label def.now) numbers.items) }
 {
-    match mark {
-        Mark::Text(text) => put_first(numbers, alloc, text.as_str(), number),
-        Mark::Bare | Mark::Kind(_) => Ok(()),
+    let count = count_parts(def);
+    let mut numbers = Vec::with_capacity(alloc, count)?;
+    for part in 0..count {
+        put_first(def, label, &mut numbers, part)?;
+    }
+    Ok(numbers)
+}
+
+/// The number of the first part that has a text.
+pub(crate) fn part_with(def: &TypeDef, label: Label, numbers: &[usize], text: &str) -> Option<usize>
+    requires { InKeyOrder (labels label def.now) numbers.now }
+    ensures { result ≡ position_from (is_text text.now) 0 (labels label def.now) }
+{
+    match search(def, label, numbers, text) {
+        Ok(i) => Some(numbers[i]),
+        Err(_) => None,
     }
 }
 
-/// The name of a field in a block.
-fn text_of_field(field: &Field) -> &str
-    ensures { result.now ≡ field_text field.now }
-{
-    match &field.rename {
-        Some(rename) => rename.as_str(),
-        None => field.name.as_str(),
-    }
-}
-
-/// The text of an enum's member in a block.
-fn text_of_value(member: &EnumMember) -> &str
-    ensures { result.now ≡ member_text member.now }
-{
-    match &member.text {
-        Some(text) => text.as_str(),
-        None => member.name.as_str(),
-    }
-}
-
-/// The fields of a struct by their texts.
-fn fields_by_text(alloc: Global, def: &StructDef) -> Result<PartIndex, AllocError>
-    ensures { IfOk result (λ index. FindsParts (D.Struct def.now) index) }
-{
-    let mut names = BTreeMap::new(alloc);
-    let mut texts = BTreeMap::new(alloc);
-    for (i, field) in def.fields.as_slice().iter().enumerate() {
-        put_first(&mut names, alloc, field.name.as_str(), i)?;
-        put_first(&mut texts, alloc, text_of_field(field), i)?;
-    }
-    Ok(PartIndex { names, texts })
-}
-
-/// The members of a union by their texts.
-fn members_by_text(alloc: Global, def: &UnionDef) -> Result<PartIndex, AllocError>
-    ensures { IfOk result (λ index. FindsParts (D.Union def.now) index) }
-{
-    let mut names = BTreeMap::new(alloc);
-    let mut texts = BTreeMap::new(alloc);
-    for (i, member) in def.members.as_slice().iter().enumerate() {
-        put_first(&mut names, alloc, member.name.as_str(), i)?;
-        put_mark(&mut texts, alloc, &member.mark, i)?;
-    }
-    Ok(PartIndex { names, texts })
-}
-
-/// The members of an enum by their texts.
-fn values_by_text(alloc: Global, def: &EnumDef) -> Result<PartIndex, AllocError>
-    ensures { IfOk result (λ index. FindsParts (D.Enum def.now) index) }
-{
-    let mut names = BTreeMap::new(alloc);
-    let mut texts = BTreeMap::new(alloc);
-    for (i, member) in def.members.as_slice().iter().enumerate() {
-        put_first(&mut names, alloc, member.name.as_str(), i)?;
-        put_first(&mut texts, alloc, text_of_value(member), i)?;
-    }
-    Ok(PartIndex { names, texts })
-}
-
-/// The parts of a type by their texts.
+// The parts of a type by their texts.
 fn parts_by_text(alloc: Global, def: &TypeDef) -> Result<PartIndex, AllocError>
     ensures { IfOk result (λ index. FindsParts def.now index) }
 {
-    match def {
-        TypeDef::Struct(s) => fields_by_text(alloc, s),
-        TypeDef::Union(u) => members_by_text(alloc, u),
-        TypeDef::Enum(e) => values_by_text(alloc, e),
-        _ => Ok(PartIndex {
-            names: BTreeMap::new(alloc),
-            texts: BTreeMap::new(alloc),
-        }),
-    }
+    let names = in_key_order(alloc, def, Label::Name)?;
+    let texts = in_key_order(alloc, def, Label::Text)?;
+    Ok(PartIndex { names, texts })
 }
 
 /// The parts of each type of a table by their texts.

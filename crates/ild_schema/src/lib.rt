@@ -6,6 +6,7 @@ mod by_text;
 mod def;
 mod ends;
 mod kinds;
+mod label;
 mod laws;
 mod number;
 mod prelude;

@@ -2,13 +2,15 @@
 ghost use Rattle.std.specs.Prelude.{◌≡◌, ◌<◌, ℕ, length, None, Some, IfOk, IfSome, option_map};
 ghost use Rattle.std.specs.Option.{option_and_then};
 ghost use Rattle.ild_schema.specs.Names.{declared_names, number_named};
-ghost use Rattle.ild_schema.specs.Parts.{IsPartOf, part_named, part_spelled};
+ghost use Rattle.ild_schema.specs.Parts.{IsPartOf, part_named, part_spelled, part_texts};
 ghost use Rattle.ild_schema.specs.Table.{IsTable, IsWithin, def_at, name_at, place_at};
 ghost use Rattle.ild_schema.specs.Copies.{base, leads, target_in};
 ghost use Rattle.ild_schema.specs.Held.{IsIndex};
+ghost use Rattle.ild_schema.specs.Indexed.{InKeyOrder};
 
-use crate::by_text::{PartIndex, parts_of};
+use crate::by_text::{PartIndex, part_with, parts_of};
 use crate::ends::ends_of;
+use crate::label::Label;
 use crate::{Row, TypeDef, TypeNo};
 use ild_data::Txt;
 use std::alloc::{AllocError, Global};
@@ -137,7 +139,13 @@ impl Schema {
         ensures same { result ≡ option_and_then (part_named name.now) (def_at self.now ty.0) }
         ensures within { IfSome result (IsPartOf self.now ty.0) }
     {
-        self.parts[ty.0 as usize].names.get(name).copied()
+        let index = &self.parts[ty.0 as usize];
+        part_with(
+            &self.rows[ty.0 as usize].def,
+            Label::Name,
+            &index.names,
+            name,
+        )
     }
 
     /// The number of the field or member of a type that stands in a block under a text, of the first where several do: a
@@ -147,7 +155,22 @@ impl Schema {
         ensures same { result ≡ option_and_then (part_spelled text.now) (def_at self.now ty.0) }
         ensures within { IfSome result (IsPartOf self.now ty.0) }
     {
-        self.parts[ty.0 as usize].texts.get(text).copied()
+        let index = &self.parts[ty.0 as usize];
+        part_with(
+            &self.rows[ty.0 as usize].def,
+            Label::Text,
+            &index.texts,
+            text,
+        )
+    }
+
+    /// The numbers of a type's fields or members in the key order of the texts under which they stand in a block (DAG-CBOR,
+    /// "Map Keys"): of those with one text the first, and none of a part without a text.
+    pub fn in_key_order(&self, ty: TypeNo) -> &[usize]
+        requires { ty.0 < length self.now }
+        ensures { IfSome (def_at self.now ty.0) (λ def. InKeyOrder (part_texts def) result.now) }
+    {
+        &self.parts[ty.0 as usize].texts
     }
 
     /// The declared names, in the order of the text.
