@@ -71,7 +71,7 @@ part_inside n rest after h skips =
 
 -- ---- the item at a place of a list
 
-record ItemAt (ds : Items) (i : ℕ) : Type 0 where
+pub record ItemAt (ds : Items) (i : ℕ) : Type 0 where
   pub of : Data
   pub more : Items
   pub taken : Items
@@ -82,10 +82,11 @@ record ItemAt (ds : Items) (i : ℕ) : Type 0 where
   pub trees : AreTrees taken
   pub tree : IsTree of
   pub nested : depth of ≤ items_depth ds
+  pub all : length (items_list ds) ≡ i + 1 + length (items_list more)
 
-cut_items : (ds : Items) (i : ℕ) → AreTrees ds → i < length (items_list ds) → ItemAt ds i
+pub cut_items : (ds : Items) (i : ℕ) → AreTrees ds → i < length (items_list ds) → ItemAt ds i
 cut_items no_items i trees lt = absurd (omega arith)
-cut_items (item d ds) zero trees lt = record { of = d; more = ds; taken = no_items; is = refl; parts = refl; before = refl; count = refl; trees = tt; tree = trees.0; nested = omega arith }
+cut_items (item d ds) zero trees lt = record { of = d; more = ds; taken = no_items; is = refl; parts = refl; before = refl; count = refl; trees = tt; tree = trees.0; nested = omega arith; all = omega arith }
 cut_items (item d ds) (suc i) trees lt =
     let s = cut_items ds i trees.1 (omega arith) in
     record {
@@ -99,6 +100,7 @@ cut_items (item d ds) (suc i) trees lt =
       trees = (trees.0, s.trees);
       tree = s.tree;
       nested = omega (arith, s.nested);
+      all = let more = s.all in omega arith;
     }
 
 -- the part that was sought, and that it is the one
@@ -108,7 +110,7 @@ pub record HasSought (n : Node) (rest : List ℕ) (place : ℕ) (of : Option Dat
   pub at : length part.front ≡ place
 
 -- what stands in a tree within the limits is within them
-part_within : (t u : Data) (front after : List ℕ) → IsWithin t → spell t ≡ front ++ (spell u ++ after) → IsTree u → depth u ≤ depth t → IsWithin u
+pub part_within : (t u : Data) (front after : List ℕ) → IsWithin t → spell t ≡ front ++ (spell u ++ after) → IsTree u → depth u ≤ depth t → IsWithin u
 part_within t u front after w e tree nested =
     let sized = w.sized in
     let deep = w.nested in

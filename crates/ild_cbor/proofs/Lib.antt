@@ -9,5 +9,6 @@ pub mod Shapes
 pub mod Spans
 pub mod Passes
 pub mod Insides
+pub mod Around
 pub mod Searches
 pub mod Iterations

@@ -1,7 +1,7 @@
 -- What a node stands for, and its parts.
-use Rattle.std.specs.Prelude.{◌≡◌, ℕ, ◌+◌, Option, Some, None, List, ◌++◌}
-use Rattle.ild_data.specs.Data.{Data}
-use Rattle.ild_data.specs.Spell.{spell}
+use Rattle.std.specs.Prelude.{◌≡◌, ℕ, ◌+◌, Option, Some, None, List, [], ◌++◌}
+use Rattle.ild_data.specs.Data.{Data, items_of}
+use Rattle.ild_data.specs.Spell.{spell, spell_items}
 use Rattle.ild_data.specs.Limits.{IsWithin}
 use Rattle.ild_cbor.specs.declared.node.Node.{Node}
 use Rattle.ild_cbor.specs.Spelled.{Spells}
@@ -46,3 +46,13 @@ pub record HasPart (n : Node) (rest : List ℕ) : Type 0 where
   pub is : spell whole ≡ front ++ rest
   pub rest_is : rest ≡ spell of ++ after
   pub within : IsWithin of
+
+-- rest is the end of n's spelling, and is its last part
+pub record HasLast (n : Node) (rest : List ℕ) : Type 0 where
+  pub part : HasPart n rest
+  pub end : part.after ≡ []
+
+-- what stands in a list before some of its items, and what stands behind them
+pub record AreAround (front back : List ℕ) (xs zs : List Data) : Type 0 where
+  pub front_is : front ≡ spell_items (items_of xs)
+  pub back_is : back ≡ spell_items (items_of zs)

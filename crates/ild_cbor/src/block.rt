@@ -1,5 +1,5 @@
 //! Whole blocks.
-ghost use Rattle.std.specs.Prelude.{◌≡◌, IsOk, IfOk};
+ghost use Rattle.std.specs.Prelude.{◌≡◌, None, IsOk, IfOk};
 ghost use Rattle.std.specs.Result.{result_err};
 ghost use Rattle.ild_data.specs.Data.{Data};
 ghost use Rattle.ild_data.specs.Limits.{IsWithin};
@@ -65,5 +65,17 @@ pub fn check(bytes: &[u8]) -> Result<Node<'_>, CborFault>
             from: 0,
             to: bytes.len(),
         }),
+    }
+}
+
+/// The one item of a block that was checked before, without work.
+pub fn known_root(bytes: &[u8]) -> Node<'_>
+    requires { fault_of bytes.now ≡ None }
+    ensures { (d : Data) → IsBlockOf bytes.now d → IsRoot result bytes.now d }
+{
+    Node {
+        block: bytes,
+        from: 0,
+        to: bytes.len(),
     }
 }

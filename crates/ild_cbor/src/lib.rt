@@ -21,7 +21,7 @@ mod start;
 mod string;
 mod why;
 
-pub use block::check;
+pub use block::{check, known_root};
 pub use fault::{CborFault, CborKind};
 pub use items::Items;
 pub use kind::Kind;

@@ -1,7 +1,7 @@
 //! The parts of an item.
-ghost use Rattle.std.specs.Prelude.{◌≡◌, length};
-ghost use Rattle.ild_data.specs.Data.{Data};
-ghost use Rattle.ild_cbor.specs.Nodes.{Stands, IsPart, Finds, HasPart};
+ghost use Rattle.std.specs.Prelude.{◌≡◌, ◌++◌, List, length};
+ghost use Rattle.ild_data.specs.Data.{Data, items_of, list};
+ghost use Rattle.ild_cbor.specs.Nodes.{Stands, IsPart, Finds, HasPart, HasLast, AreAround};
 ghost use Rattle.ild_cbor.specs.Span.{place_of, item_of, entry_of, index_of};
 
 use crate::node::Node;
@@ -22,6 +22,18 @@ impl<'b> Node<'b> {
         }
     }
 
+    // The same where nothing of the item stands behind the part.
+    fn last(&self, rest: &'b [u8]) -> Node<'b>
+        requires { ∥ HasLast self.now rest.now ∥₁ }
+        ensures { (h : HasLast self.now rest.now) → IsPart self.now result (length h.part.front) h.part.of }
+    {
+        Node {
+            block: self.block,
+            from: self.to - rest.len(),
+            to: self.to,
+        }
+    }
+
     /// The item at a place of a list, or `None` past the last, and where this item is no list.
     pub fn item(&self, i: u64) -> Option<Node<'b>>
         ensures { (t : Data) → Stands self.now t → Finds self.now (place_of t i) (item_of t i) result }
@@ -30,7 +42,21 @@ impl<'b> Node<'b> {
         if start.major != 4 || i >= start.argument {
             return None;
         }
-        Some(self.part(skip(start.rest, i)))
+        let rest = skip(start.rest, i);
+        if i + 1 == start.argument {
+            return Some(self.last(rest));
+        }
+        Some(self.part(rest))
+    }
+
+    /// What stands in a list before `m` of its items from number `i` on, and what stands behind them, as it is spelled.
+    pub fn items_around(&self, i: u64, m: u64) -> (&'b [u8], &'b [u8])
+        ensures { (xs ys zs : List Data) → Stands self.now (list (items_of (xs ++ (ys ++ zs)))) → length xs ≡ i → length ys ≡ m → AreAround result.0.now result.1.now xs zs }
+    {
+        let items = self.start().rest;
+        let from = skip(items, i);
+        let front = items.len().saturating_sub(from.len());
+        (&items[..front], skip(from, m))
     }
 
     /// The value at a key of a map, or `None` where the key is absent, and where this item is no map.

@@ -76,7 +76,7 @@ len-none es is = absurd cc
 pub count-bucket : (es : List (List ℕ × Data)) → count_of (bucket_data es) ≡ Some (length es)
 count-bucket es = ap Some (length-items (map entry_data es) ∙ length-map es entry_data)
 
-long_of : (s : TrieSlot) → length (elements_of s) ≡ cond (is_used s) 1 0
+pub long_of : (s : TrieSlot) → length (elements_of s) ≡ cond (is_used s) 1 0
 long_of empty = refl
 long_of (bucket es) = refl
 long_of (child id) = refl
@@ -96,7 +96,7 @@ ones-read slots (suc i) whole le =
     one (bucket es) = refl
     one (child id) = refl
 
-parted_at : (slots : List TrieSlot) (i : ℕ) → i < length slots → slots ≡ take i slots ++ get_or slots i empty ∷ drop (suc i) slots
+pub parted_at : (slots : List TrieSlot) (i : ℕ) → i < length slots → slots ≡ take i slots ++ get_or slots i empty ∷ drop (suc i) slots
 parted_at [] i lt = absurd (omega arith)
 parted_at (s ∷ slots) zero lt = refl
 parted_at (s ∷ slots) (suc i) lt = ap (λ xs. s ∷ xs) (parted_at slots i (omega arith))
@@ -238,7 +238,7 @@ found_none : (n : Node) (place : ℕ) (o : Option Data) (d : Data) → o ≡ Som
 found_none n place None d is finds = absurd cc
 found_none n place (Some u) d is finds = finds
 
-ones_of : (p : TrieShape) (slots : List TrieSlot) (m : List ℕ) (i n : ℕ) → 3 ≤ p.width → length slots ≡ 2 ^ p.width → m ≡ map_of slots → i < length slots → n ≡ ones_below m i → n ≡ elements_before slots i
+pub ones_of : (p : TrieShape) (slots : List TrieSlot) (m : List ℕ) (i n : ℕ) → 3 ≤ p.width → length slots ≡ 2 ^ p.width → m ≡ map_of slots → i < length slots → n ≡ ones_below m i → n ≡ elements_before slots i
 ones_of p slots m i n wide many maps lt before = before ∙ ap (λ m. ones_below m i) maps ∙ ones-read slots i (whole_map p.width (length slots) wide many) (omega arith)
 
 item_is : (slots : List TrieSlot) (n : ℕ) → item_of (elements_data slots) n ≡ slice_get (flat_map elements_of slots) n

@@ -11,4 +11,5 @@ pub mod Drafting
 pub mod Nodes
 pub mod Counts
 pub mod Changing
+pub mod Around
 pub mod Placing

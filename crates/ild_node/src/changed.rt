@@ -1,21 +1,19 @@
-//! Writing a node of which one slot is exchanged: the elements of the others are copied as they are spelled.
-ghost use Rattle.std.specs.Prelude.{◌≡◌, ◌++◌, ◌<◌, ◌+◌, ℕ, Bool, List, length, map, slice_set, slice_index_or, IfOk, OnOk};
+//! Writing a node of which one slot is exchanged: the elements of the others are copied as they are spelled, in two pieces.
+ghost use Rattle.std.specs.Prelude.{◌≡◌, ◌<◌, suc, List, length, map, take, drop, slice_set, slice_index_or, IfOk};
+ghost use Rattle.std.specs.List.{flat_map};
 ghost use Rattle.ild_data.specs.Spell.{spell};
 ghost use Rattle.ild_data.specs.Trie.{TrieSlot, empty, is_used, elements_of, node_data};
 ghost use Rattle.ild_typed.specs.Composed.{usual};
 ghost use Rattle.ild_node.specs.NewSlots.{IsFilledSlot, slot_seen};
-ghost use Rattle.ild_node.specs.Steps.{IsAtSlot};
-ghost use Rattle.ild_node.specs.Views.{HasSlots, SlotHolds, SlotIs};
+ghost use Rattle.ild_node.specs.Views.{HasSlots};
 ghost use Rattle.ild_node.specs.Written.{spelled};
-ghost use Rattle.ild_node.specs.declared.view.NodeView.{NodeView};
 
 use crate::hold::NewHold;
-use crate::parts::map_bit;
-use crate::slots::{MOST_SLOTS, Slots};
-use crate::view::{NodeSlot, NodeView};
-use crate::write::{add_slot, begin, count_of};
+use crate::parts::{map_bit, ones_below};
+use crate::slots::MOST_SLOTS;
+use crate::view::NodeView;
+use crate::write::{add_slot, begin, bit, count_of};
 use ild_data::Octets;
-use ild_emit::Emit;
 use std::alloc::{AllocError, Global};
 
 // Whether a slot is used, where slot i is exchanged for one that is used or not.
@@ -39,55 +37,17 @@ fn used_after(alloc: Global, view: NodeView<'_>, i: u8, on: bool) -> Result<Vec<
     Ok(used)
 }
 
-// Appends the element of a slot that was read, where it has one.
-fn add_read(out: &mut Emit, slot: NodeSlot<'_>) -> Result<(), AllocError>
-    ensures { (v : NodeView) (slots : List TrieSlot) (j : ℕ) (s : TrieSlot) → SlotHolds v slots j slot.entry s → OnOk result (out.new ≡ out.old ++ spelled (elements_of s)) }
+// The elements before slot i and those behind its own, as they are spelled.
+fn around(view: NodeView<'_>, i: u8) -> (&[u8], &[u8])
+    ensures { (slots : List TrieSlot) → HasSlots usual view.entry slots → (result.0.now ≡ spelled (flat_map elements_of (take i slots))) × (result.1.now ≡ spelled (flat_map elements_of (drop (suc i) slots))) }
 {
-    match slot {
-        NodeSlot::Empty => Ok(()),
-        NodeSlot::Bucket(bucket) => out.node(&bucket.node),
-        NodeSlot::Child(id) => out.block_link(&id),
-    }
+    let own = bit(map_bit(view.map, i as usize));
+    view.data
+        .items_around(ones_below(view.map, i as usize), own as u64)
 }
 
-// Appends the element of slot j: that which was read, or that of the slot in place of slot i.
-fn add_at(
-    out: &mut Emit,
-    j: usize,
-    read: NodeSlot<'_>,
-    i: u8,
-    slot: &Option<NewHold>,
-) -> Result<(), AllocError>
-    requires { IsFilledSlot usual slot.now }
-    ensures { (v : NodeView) (slots : List TrieSlot) → j < length slots → SlotIs v slots j read.entry
-        → OnOk result (out.new ≡ out.old ++ spelled (elements_of (slice_index_or (slice_set slots i (slot_seen slot.now)) j empty))) }
-{
-    if j == i as usize {
-        return add_slot(out, slot);
-    }
-    add_read(out, read)
-}
-
-// The same of the next slot of a walk.
-fn add_next(
-    out: &mut Emit,
-    slots: &mut Slots<'_>,
-    j: usize,
-    i: u8,
-    slot: &Option<NewHold>,
-) -> Result<(), AllocError>
-    requires { IsFilledSlot usual slot.now }
-    ensures walks { (v : NodeView) (ss : List TrieSlot) → HasSlots usual v ss → IsAtSlot v ss j slots.old → j < length ss → IsAtSlot v ss (j + 1) slots.new }
-    ensures adds { (v : NodeView) (ss : List TrieSlot) → HasSlots usual v ss → IsAtSlot v ss j slots.old → j < length ss
-        → OnOk result (out.new ≡ out.old ++ spelled (elements_of (slice_index_or (slice_set ss i (slot_seen slot.now)) j empty))) }
-{
-    match slots.next() {
-        Some(read) => add_at(out, j, read, i, slot),
-        None => Ok(()),
-    }
-}
-
-/// The block of a node with another slot at an index. A bucket there has from 1 to 3 entries.
+/// The block of a node with another slot at an index. A bucket there has from 1 to 3 entries. The elements of the other slots are
+/// copied in two pieces.
 pub fn write_changed(
     alloc: Global,
     view: NodeView<'_>,
@@ -99,9 +59,9 @@ pub fn write_changed(
 {
     let used = used_after(alloc, view, i, slot.is_some())?;
     let mut out = begin(alloc, &used, count_of(&used))?;
-    let mut slots = view.slots();
-    for j in 0..MOST_SLOTS {
-        add_next(&mut out, &mut slots, j, i, slot)?;
-    }
+    let (front, back) = around(view, i);
+    out.spelled(front)?;
+    add_slot(&mut out, slot)?;
+    out.spelled(back)?;
     Ok(out.finish())
 }

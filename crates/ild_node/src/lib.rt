@@ -30,7 +30,7 @@ pub use hold::{NewHold, NewSlot};
 pub use keyed::Keyed;
 pub use laws::{one_node, written_are_read};
 pub use level::{BUCKET_SIZE, LEVELS, index, index_of};
-pub use node::node_of;
+pub use node::{known_node, node_of};
 pub use root::root_of;
 pub use row::Row;
 pub use rows::Rows;

@@ -1,5 +1,5 @@
 //! Reading a HAMT's nodes.
-ghost use Rattle.std.specs.Prelude.{◌≡◌, ℕ, List, IsOk, IfOk, IfErr, IfSome, MatchOption, false};
+ghost use Rattle.std.specs.Prelude.{◌≡◌, ℕ, List, IsOk, IfOk, IfErr, IsSome, IfSome, MatchOption, false};
 ghost use Rattle.ild_data.specs.Data.{Data};
 ghost use Rattle.ild_data.specs.Trie.{TrieSlot, node_data};
 ghost use Rattle.ild_cbor.specs.Nodes.{Stands};
@@ -13,6 +13,21 @@ use crate::parts::{pair_in, parts_fit};
 use crate::shape::HamtShape;
 use crate::view::NodeView;
 use ild_cbor::{Node, Why};
+
+/// The node of a HAMT that an item is, where it is one: its elements aren't gone over. Of another item the answer says nothing.
+pub fn known_node<'b>(node: Node<'b>) -> Option<NodeView<'b>>
+    ensures { (slots : List TrieSlot) → Stands node.entry (node_data slots) → IsNode usual slots → IsSome result × IfSome result (λ v. HasSlots usual v slots) }
+{
+    let (ones, data) = pair_in(&node)?;
+    let map = ones.bytes()?;
+    let elements = data.items()?;
+    Some(NodeView {
+        node,
+        map,
+        data,
+        elements,
+    })
+}
 
 // The view of a node of this shape, or `None` where the item is none.
 fn view_of<'b>(node: Node<'b>, shape: HamtShape) -> Option<NodeView<'b>>

@@ -24,7 +24,7 @@ use ild_data::Octets;
 use ild_emit::Emit;
 use std::alloc::{AllocError, Global};
 
-fn bit(on: bool) -> u8
+pub(crate) fn bit(on: bool) -> u8
     ensures small { result ≤ 1 }
     ensures one { result ≡ cond on 1 0 }
 {
