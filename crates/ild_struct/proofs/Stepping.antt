@@ -28,10 +28,10 @@ pub no_entry : (fs : List Field) (es : List (List ℕ × Data)) (s t : MapEntrie
 no_entry fs [] s t gives left = tt
 no_entry fs (e ∷ es) s t gives left = absurd (gives (e ∷ es) left)
 
-pub entry_first : (fs : List Field) (es : List (List ℕ × Data)) (s t : MapEntries) (k : Bor (List ℕ)) (n : Node) (place : ℕ) → EntriesGive s (Some (k, n)) t → HasLeft s es → AreNamesApart fs → place ≡ place_of fs k.now
-    → Takes fs (by_place fs es) (Some (place, C.Node n, L.Map t))
-entry_first fs [] s t k n place gives left apart is = absurd (gives [] left)
-entry_first fs (e ∷ es) s t k n place gives left apart is =
+pub entry_first : (fs : List Field) (es : List (List ℕ × Data)) (s t : MapEntries) (k : Bor (List ℕ)) (n : Node) (place guess : ℕ) → EntriesGive s (Some (k, n)) t → HasLeft s es → AreNamesApart fs → place ≡ place_of fs k.now
+    → Takes fs (by_place fs es) (Some (place, C.Node n, L.Map t guess))
+entry_first fs [] s t k n place guess gives left apart is = absurd (gives [] left)
+entry_first fs (e ∷ es) s t k n place guess gives left apart is =
     let x = gives (e ∷ es) left in
     record { number = is ∙ ap (place_of fs) x.key_is; stands = λ rows. x.stands; left = (apart, es, x.left, refl) }
 

@@ -111,7 +111,7 @@ module _ (rows : List Row) (ty : ℕ) (t : Data) (os : List (Option Data)) (part
       let here : names_in parts.fields.def.now.form t ≡ Some (names es) = ap (λ f. names_in f t) is ∙ shows in
       (sym (ap (where_some (has_stranger fs)) here) ∙ c.name, sym (ap (where_some has_twice) here) ∙ c.repeat)
 
-  pub map_starts : (p : Piece) (s : MapEntries) → parts.source ≡ O.Map p → ((u : Data) → StandsFor parts.fields.acc.now p u → Maps (members_in u) (Some s)) → Starts fs os (R.Map s)
+  pub map_starts : (p : Piece) (s : MapEntries) → parts.source ≡ O.Map p → ((u : Data) → StandsFor parts.fields.acc.now p u → Maps (members_in u) (Some s)) → Starts fs os (R.Map s 0)
   map_starts p s source found =
       let x = shown_map rows parts.fields.def.now.form p t (subst (λ o. Shows rows parts.fields.def.now.form o t) source h.shows) in
       let clear_map : AreClearFields fs = subst (λ form. ClearStruct form fs) x.form_is clear in

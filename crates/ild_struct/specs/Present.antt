@@ -36,7 +36,7 @@ numbered n (d ∷ ds) = (n, d) ∷ numbered (suc n) ds
 
 -- what is left of the source, in each form
 abbrev pub Leaves : List Field → Left → ℕ → List (ℕ × Data) → Type 0
-Leaves fs (L.Map s) n xs = AreNamesApart fs × (es : List (List ℕ × Data)) × HasLeft s es × (xs ≡ by_place fs es)
+Leaves fs (L.Map s guess) n xs = AreNamesApart fs × (es : List (List ℕ × Data)) × HasLeft s es × (xs ≡ by_place fs es)
 Leaves fs (L.Tuple s) n xs = (ds : Items) × HasItems s ds × (xs ≡ numbered n (items_list ds))
 Leaves fs (L.ListPairs s) n xs = AreNamesApart fs × (es : List (List ℕ × Data)) × HasItems s (items_of (map pair_data es)) × (xs ≡ by_place fs es)
 Leaves fs (L.StringPairs split) n xs = AreNamesApart fs × (xs ≡ by_place fs (text_entries (pairs_in split)))
@@ -44,7 +44,7 @@ Leaves fs (L.StringJoin split) n xs = xs ≡ numbered n (map T.text (parts_left 
 
 -- how many there are at most
 abbrev pub count_left : Left → ℕ
-count_left (L.Map s) = s.pairs.left
+count_left (L.Map s guess) = s.pairs.left
 count_left (L.Tuple s) = s.left
 count_left (L.ListPairs s) = s.left
 count_left (L.StringPairs split) = length (pairs_in split)

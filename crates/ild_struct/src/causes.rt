@@ -7,7 +7,7 @@ ghost use Rattle.ild_piece.specs.Pieces.{StandsFor};
 ghost use Rattle.ild_schema.specs.Clear.{AreNamesApart};
 ghost use Rattle.ild_schema.specs.declared.row.Row.{Row};
 ghost use Rattle.ild_typed.specs.Named.{has_twice};
-ghost use Rattle.ild_typed.specs.StructWhy.{has_stranger, is_out_of_order, lacks_field, must_stand, writes_implicit};
+ghost use Rattle.ild_typed.specs.StructWhy.{has_stranger, is_out_of_order, lacks_field, must_stand, place_of, writes_implicit};
 ghost use Rattle.ild_struct.specs.Causes.{Noted, first_cause};
 ghost use Rattle.ild_struct.specs.Notes.{IsNoted};
 
@@ -30,6 +30,14 @@ impl Notes {
         ensures { AreNamesApart fields.now.def.now.fields → (rows : List Row) (d : Data) → StandsFor rows value.now d → (ks : List (List ℕ)) (es : List (List ℕ × Data)) → Noted fields.now.def.now.fields ks es self.old → Noted fields.now.def.now.fields (ks ++ name.now ∷ []) (es ++ (name.now, d) ∷ []) self.new }
     {
         let place = fields.place_left(name, self);
+        self.note_placed(fields, place, value);
+    }
+
+    /// The same, at the place of the name's field.
+    pub(crate) fn note_placed(&mut self, fields: &Fields<'_>, place: usize, value: &Piece<'_>)
+        requires { place ≤ length fields.now.def.now.fields }
+        ensures { AreNamesApart fields.now.def.now.fields → (name : List ℕ) → place ≡ place_of fields.now.def.now.fields name → (rows : List Row) (d : Data) → StandsFor rows value.now d → (ks : List (List ℕ)) (es : List (List ℕ × Data)) → Noted fields.now.def.now.fields ks es self.old → Noted fields.now.def.now.fields (ks ++ name ∷ []) (es ++ (name, d) ∷ []) self.new }
+    {
         self.needless |= is_implicit_at(fields.def.fields.as_slice(), place, value);
         self.note(place, fields.def.fields.len());
     }

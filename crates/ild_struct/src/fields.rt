@@ -13,6 +13,7 @@ ghost use Rattle.ild_struct.specs.Notes.{implicit_at};
 
 use crate::notes::Notes;
 use ild_cbor::Piece;
+use ild_data::key_order;
 use ild_piece::{boolean, int, text};
 use ild_schema::{Accepted, Field, Scalar, StructDef, TypeNo};
 
@@ -52,6 +53,23 @@ impl Fields<'_> {
                 Some(place) => place,
                 None => self.look_up(name),
             },
+        }
+    }
+
+    /// The same of a name in a map, and where in the key order the name behind it is guessed. The keys of a block's map rise,
+    /// and so do the names of the fields in that order: the next few are asked first, and then a name is searched among all.
+    pub(crate) fn place_by_key(&self, name: &str, order: &[usize], guess: usize) -> (usize, usize)
+        ensures place { AreNamesApart self.now.def.now.fields → result.0 ≡ place_of self.now.def.now.fields name.now }
+        ensures within { result.0 ≤ length self.now.def.now.fields }
+    {
+        let fields = self.def.fields.as_slice();
+        if let Some(found) = ordered_near(fields, order, guess, name) {
+            return found;
+        }
+        let at = seat(fields, order, name);
+        match named_in_order(fields, order, at, name) {
+            Some(place) => (place, at.saturating_add(1)),
+            None => (self.look_up(name), at),
         }
     }
 
@@ -100,6 +118,53 @@ fn left_near(fields: &[Field], notes: &Notes, from: usize, name: &str) -> Option
         }
     }
     None
+}
+
+// The place of the field that stands at a number in the key order, where it has a name.
+fn named_in_order(fields: &[Field], order: &[usize], at: usize, name: &str) -> Option<usize>
+    ensures place { IfSome result (λ place. AreNamesApart fields.now → place ≡ place_of fields.now name.now) }
+    ensures within { IfSome result (λ place. place < length fields.now) }
+{
+    let place = *order.get(at)?;
+    if is_named(fields, place, name) {
+        return Some(place);
+    }
+    None
+}
+
+// The place of the field that has a name, where it is one of the next few in the key order, and the number behind its own.
+fn ordered_near(
+    fields: &[Field],
+    order: &[usize],
+    from: usize,
+    name: &str,
+) -> Option<(usize, usize)>
+    ensures place { IfSome result (λ r. AreNamesApart fields.now → r.0 ≡ place_of fields.now name.now) }
+    ensures within { IfSome result (λ r. r.0 < length fields.now) }
+{
+    for step in 0..NEAR {
+        let at = from.saturating_add(step);
+        if let Some(place) = named_in_order(fields, order, at, name) {
+            return Some((place, at.saturating_add(1)));
+        }
+    }
+    None
+}
+
+// Where a name would stand in the key order, for a guess: no contract depends on the answer.
+fn seat(fields: &[Field], order: &[usize], name: &str) -> usize {
+    match order.binary_search_by(|place| key_order(name_or_empty(fields, *place), name)) {
+        Ok(at) => at,
+        Err(at) => at,
+    }
+}
+
+// The name of the field at a place in a block, or an empty one.
+fn name_or_empty(fields: &[Field], place: usize) -> &str {
+    match fields.get(place) {
+        Some(field) => text_of_field(field),
+        None => "",
+    }
 }
 
 // Whether the field at a place has a name in a block.

@@ -6,8 +6,8 @@ use ild_text::{JoinParts, PairParts};
 /// The parts that are left, by the form of the struct.
 #[derive(Clone, Copy)]
 pub(crate) enum Left<'b> {
-    /// The entries of a map.
-    Map(MapEntries<'b>),
+    /// The entries of a map, and where in the key order the name of the next is guessed.
+    Map(MapEntries<'b>, usize),
     /// The items of a list.
     Tuple(Items<'b>),
     /// The pairs of a list.

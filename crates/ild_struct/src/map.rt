@@ -20,10 +20,14 @@ use ild_piece::{MapEntries, entries};
 fn survey(fields: &Fields<'_>, entries: MapEntries<'_>) -> Notes
     ensures { AreNamesApart fields.now.def.now.fields → (es : List (List ℕ × Data)) → HasLeft entries.entry es → Noted fields.now.def.now.fields (names es) es result }
 {
+    let order = fields.acc.in_key_order(fields.base);
     let mut notes = Notes::new();
     let mut left = entries;
+    let mut guess = 0;
     while let Some((name, value)) = left.next() {
-        notes.note_entry(fields, name, &Piece::Node(value));
+        let (place, next) = fields.place_by_key(name, order, guess);
+        notes.note_placed(fields, place, &Piece::Node(value));
+        guess = next;
     }
     notes
 }

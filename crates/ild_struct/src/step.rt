@@ -26,14 +26,15 @@ use ild_text::{JoinParts, PairParts};
 type Taken<'b> = (usize, Piece<'b>, Left<'b>);
 
 // The first entry of a map.
-fn take_entry<'b>(fields: &Fields<'b>, entries: MapEntries<'b>, next: usize) -> Option<Taken<'b>>
-    ensures fewer { IfSome result (λ r. count_left r.2 < count_left (L.Map entries.entry)) }
+fn take_entry<'b>(fields: &Fields<'b>, entries: MapEntries<'b>, guess: usize) -> Option<Taken<'b>>
+    ensures fewer { IfSome result (λ r. count_left r.2 < count_left (L.Map entries.entry guess)) }
     ensures takes { AreNamesApart fields.now.def.now.fields → (es : List (List ℕ × Data)) → HasLeft entries.entry es → Takes fields.now.def.now.fields (by_place fields.now.def.now.fields es) result }
 {
     let mut left = entries;
     let (name, value) = left.next()?;
-    let place = fields.place(name, next);
-    Some((place, Piece::Node(value), Left::Map(left)))
+    let order = fields.acc.in_key_order(fields.base);
+    let (place, behind) = fields.place_by_key(name, order, guess);
+    Some((place, Piece::Node(value), Left::Map(left, behind)))
 }
 
 // The first item of a list.
@@ -88,7 +89,7 @@ impl<'b> Present<'b> {
         ensures takes { (xs : List (ℕ × Data)) → HasPresent self.now xs → Takes self.now.fields.def.now.fields xs result }
     {
         match self.left {
-            Left::Map(entries) => take_entry(&self.fields, entries, self.next),
+            Left::Map(entries, guess) => take_entry(&self.fields, entries, guess),
             Left::Tuple(items) => take_item(items, self.next),
             Left::ListPairs(items) => take_pair(&self.fields, items, self.next),
             Left::StringPairs(split) => take_text_pair(&self.fields, split, self.next),

@@ -21,7 +21,7 @@ impl<'b> StructParts<'b> {
         self.fields.acc.types();
         match &self.source {
             Source::Map(piece) => match entries(self.fields.acc, piece) {
-                Some(entries) => Left::Map(entries),
+                Some(entries) => Left::Map(entries, 0),
                 None => Left::StringJoin(None),
             },
             Source::Tuple(node) => match node.items() {

@@ -9,8 +9,8 @@ loop-name-init c = λ apart es h.
 
 pub loop-name-preserved : goal.loop-name-preserved
 loop-name-preserved c = λ apart es h.
-    survey_on c.args.fields.now.def.now.fields es c.loop-name.left c.next.new.self c.loop-name.notes c.note_entry.new.self c.in-Some.name c.in-Some.value c.in-Some.ensures.steps
-    (c.note_entry.ensures apart c.args.fields.now.acc.now) (c.loop-name.invariant apart es h)
+    survey_on c.args.fields.now.def.now.fields es c.loop-name.left c.next.new.self c.loop-name.notes c.note_placed.new.self c.in-Some.name c.in-Some.value c.in-Some.ensures.steps
+    (c.note_placed.ensures apart c.in-Some.name.now (c.place_by_key-place.ensures.place apart) c.args.fields.now.acc.now) (c.loop-name.invariant apart es h)
 
 pub returns : goal.returns
 returns c = λ apart es h.

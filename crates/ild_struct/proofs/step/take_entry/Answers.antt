@@ -6,4 +6,4 @@ returns-in_err-name-clause-takes c = λ apart es h. rw c.from_residual.ensures (
 
 pub returns-clause-takes : goal.returns-clause-takes
 returns-clause-takes c = λ apart es h.
-    entry_first c.args.fields.now.def.now.fields es c.args.entries c.next.new.self c.in_ok-name.name c.in_ok-name.value c.place-place.result c.in_ok-name.ensures.steps h apart (c.place-place.ensures.place apart)
+    entry_first c.args.fields.now.def.now.fields es c.args.entries c.next.new.self c.in_ok-name.name c.in_ok-name.value c.place_by_key-place.result.0 c.place_by_key-place.result.1 c.in_ok-name.ensures.steps h apart (c.place_by_key-place.ensures.place apart)

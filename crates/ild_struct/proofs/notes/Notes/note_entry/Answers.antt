@@ -1,14 +1,4 @@
-use Rattle.std.proofs.Common.{ℕ, List, ◌++◌, ◌∷◌, [], ◌||◌, refl, subst, length, ◌∙◌, ap}
-use Rattle.ild_struct.specs.Notes.{IsNoted, implicit_at}
-use Rattle.ild_struct.specs.declared.notes.Notes.{Notes}
-use Rattle.ild_struct.proofs.Causing.{entry_more}
 use Rattle.ild_struct.proofs.notes.Notes.note_entry.Goals as goal
 
 pub returns : goal.returns
-returns c = λ apart rows d stands ks es h.
-    let fs = c.args.fields.now.def.now.fields in
-    let mid : Notes = record c.args.self.now { needless = c.args.self.now.needless || c.is_implicit_at.result } in
-    let step : (ns : List ℕ) → IsNoted (length fs) mid ns → IsNoted (length fs) c.note.new.self (ns ++ c.place_left-place.result ∷ [])
-    = subst (λ (n : ℕ). (ns : List ℕ) → IsNoted n mid ns → IsNoted n c.note.new.self (ns ++ c.place_left-place.result ∷ [])) c.len.ensures c.note.ensures.noted in
-    entry_more fs c.args.name.now c.place_left-place.result (c.place_left-place.ensures.place apart) c.args.self.now mid c.note.new.self c.is_implicit_at.result d apart
-    (c.is_implicit_at.ensures rows d stands ∙ ap (λ gs. implicit_at gs c.place_left-place.result d) c.as_slice.ensures) refl step c.note.ensures.same ks es h
+returns c = λ apart. c.note_placed.ensures apart c.args.name.now (c.place_left-place.ensures.place apart)
