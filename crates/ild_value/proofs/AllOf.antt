@@ -17,7 +17,11 @@ all_more {A} {B} f (z ∷ xs) ys x y h e =
     let b = both_from (f z) (all_of f xs) ys h in
     ap (λ o. cons_both o (all_of f (xs ++ x ∷ []))) b.first ∙ ap (option_map (λ zs. b.item ∷ zs)) (all_more f xs b.items x y b.rest e) ∙ ap (λ (zs : List B). Some (zs ++ y ∷ [])) b.all
 
--- one part more of a slice
+-- one part more
+pub all_next : {A B : Type 0} (f : A → Option B) (xs : List A) (x : A) (y : B) (ys zs : List B) → all_of f xs ≡ Some ys → f x ≡ Some y → zs ≡ ys ++ y ∷ [] → all_of f (xs ++ x ∷ []) ≡ Some zs
+all_next f xs x y ys zs h e more = all_more f xs ys x y h e ∙ ap Some (sym more)
+
+-- the same of a slice
 pub all_step : {A B : Type 0} (f : A → Option B) (xs : List A) (i : ℕ) (x : A) (y : B) (ys zs : List B) → i < length xs → x ≡ get_or xs i x → all_of f (take i xs) ≡ Some ys → f x ≡ Some y → zs ≡ ys ++ y ∷ []
     → all_of f (take (i + 1) xs) ≡ Some zs
 all_step f xs i x y ys zs low is h e more =

@@ -14,23 +14,17 @@ below_seen : (k : List ℕ) (ps : List (List ℕ × Tree)) → IsBelow k (map pa
 below_seen k [] h = tt
 below_seen k (p ∷ ps) h = h
 
-rises_seen : (ps : List (List ℕ × Tree)) → Rises (map pair_of ps) → Rises ps
+pub rises_seen : (ps : List (List ℕ × Tree)) → Rises (map pair_of ps) → Rises ps
 rises_seen [] h = tt
 rises_seen (p ∷ ps) h = (below_seen p.0 ps h.0, rises_seen ps h.1)
-
-pub rises_pairs : (ps : List (List ℕ × Tree)) (ms : Members) → map pair_of ps ≡ members_list ms → AreEntries ms → Rises ps
-rises_pairs ps ms seen all = rises_seen ps (subst (λ (xs : List (List ℕ × Data)). Rises xs) (sym seen) (entries_rise ms all))
 
 value_by : (b : Bool) (t : Tree) (o : Option Tree) (q : Option Data) → q ≡ option_map data_of o → cond b (Some (data_of t)) q ≡ option_map data_of (cond b (Some t) o)
 value_by true t o q h = refl
 value_by false t o q h = h
 
-value_seen : (k : List ℕ) (ps : List (List ℕ × Tree)) → value_at k (map pair_of ps) ≡ option_map data_of (value_at k ps)
+pub value_seen : (k : List ℕ) (ps : List (List ℕ × Tree)) → value_at k (map pair_of ps) ≡ option_map data_of (value_at k ps)
 value_seen k [] = refl
 value_seen k (p ∷ ps) = value_by (same_text k p.0) p.1 (value_at k ps) (value_at k (map pair_of ps)) (value_seen k ps)
-
-pub found_value : (k : List ℕ) (ps : List (List ℕ × Tree)) (ms : Members) (o : Option Tree) → map pair_of ps ≡ members_list ms → value_at k ps ≡ o → option_map data_of o ≡ value_at k (members_list ms)
-found_value k ps ms o seen at = ap (option_map data_of) (sym at) ∙ sym (value_seen k ps) ∙ ap (value_at k) seen
 
 pub value_depth : (k : List ℕ) (ms : Members) (d : Data) → value_at k (members_list ms) ≡ Some d → depth d ≤ members_depth ms
 value_depth k no_members d h = absurd (none-some d h)

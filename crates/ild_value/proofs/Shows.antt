@@ -160,10 +160,10 @@ key_refused rows slot key elem ps ms i p b l seen low is utf8 h wrong = record {
   };
 }
 
-pub key_read : (rows : List Row) (is_key : ℕ → List ℕ → Bool) → TestsKeys rows is_key → (key : TypeNo) (elem : Slot) (p : List ℕ × Tree) (v : Value) (n : List ℕ) (w : Value) (b : Bool) → IsUtf8 p.0 → (b ≡ true) ↔ IsTextOf rows key p.0 → b ≡ true
-    → Means rows elem (data_of p.1) v → n ≡ p.0 → w ≡ v → read_pair rows is_key key elem p ≡ Some (n, w)
-key_read rows is_key tests key elem p v n w b utf8 h right m name same =
-    ap (λ b. with_key b p.0 (meant rows is_key elem (data_of p.1))) (key_same rows is_key tests key p.0 b utf8 h ∙ right) ∙ ap (option_map (λ v. (p.0, v))) (m.read is_key tests) ∙ (λ i. Some (sym name i, sym same i))
+pub key_read : (rows : List Row) (is_key : ℕ → List ℕ → Bool) → TestsKeys rows is_key → (key : TypeNo) (elem : Slot) (p : List ℕ × Tree) (v : Value) (b : Bool) → IsUtf8 p.0 → (b ≡ true) ↔ IsTextOf rows key p.0 → b ≡ true → Means rows elem (data_of p.1) v
+    → read_pair rows is_key key elem p ≡ Some (p.0, v)
+key_read rows is_key tests key elem p v b utf8 h right m =
+    ap (λ b. with_key b p.0 (meant rows is_key elem (data_of p.1))) (key_same rows is_key tests key p.0 b utf8 h ∙ right) ∙ ap (option_map (λ v. (p.0, v))) (m.read is_key tests)
 
 -- ---- units
 

@@ -1,33 +1,29 @@
-//! Entries of a map.
-ghost use Rattle.std.specs.Prelude.{◌≡◌, option_map};
-ghost use Rattle.ild_data.specs.Data.{members_list};
-ghost use Rattle.ild_data.specs.Key.{value_at};
-ghost use Rattle.ild_data.specs.Seen.{data_of, pair_of};
+//! Entries of a map that is taken over.
+ghost use Rattle.std.specs.Prelude.{◌≡◌, ◌≢◌, ℕ, List, option_map};
+ghost use Rattle.ild_data.specs.Key.{Rises, value_at};
+ghost use Rattle.ild_data.specs.Seen.{pair_of};
 ghost use Rattle.ild_value.specs.Parts.{only_member};
 
 use ild_data::{Entries, Tree, Txt, key_place};
+use std::mem;
 
-/// The value at a key, by binary search.
-pub(crate) fn value_at<'t>(entries: &'t Entries, key: &str) -> Option<&'t Tree>
-    ensures { option_map (λ t. data_of t.now) result ≡ value_at key.now (members_list entries.now) }
+/// Takes the value at a key, by binary search, and leaves null in its place.
+pub(crate) fn take_value(pairs: &mut Vec<(Txt, Tree)>, key: &str) -> Option<Tree>
+    requires { Rises pairs.old.items }
+    ensures found { result ≡ value_at key.now pairs.old.items }
+    ensures rises { Rises pairs.new.items }
+    ensures others { (k : List ℕ) → key.now ≢ k → value_at k pairs.new.items ≡ value_at k pairs.old.items }
 {
-    // It does no work: its clause says that the keys rise.
-    entries.len();
-    let pairs = entries.as_slice();
     match key_place(pairs, key) {
-        Ok(i) => Some(&pairs[i].1),
+        Ok(i) => Some(mem::replace(&mut pairs[i].1, Tree::Null)),
         Err(_) => None,
     }
 }
 
 /// The entry of a map that has no other.
-pub(crate) fn only(entries: &Entries) -> Option<&(Txt, Tree)>
-    ensures { option_map (λ p. pair_of p.now) result ≡ only_member entries.now }
+pub(crate) fn only(entries: Entries) -> Option<(Txt, Tree)>
+    ensures { option_map pair_of result ≡ only_member entries }
 {
-    let pairs = entries.as_slice();
-    if pairs.len() == 1 {
-        Some(&pairs[0])
-    } else {
-        None
-    }
+    let mut pairs = entries.into_vec();
+    if pairs.len() == 1 { pairs.pop() } else { None }
 }

@@ -14,5 +14,5 @@ mod show;
 
 pub use copying::copy;
 pub use fault::{ShownErr, ShownRule};
-pub use meaning::of_shown;
+pub use meaning::{from_shown, of_shown};
 pub use show::shown;

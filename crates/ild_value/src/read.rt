@@ -1,6 +1,8 @@
-//! The values that trees mean. The walk goes down the tree, each part by the type of its place.
-ghost use Rattle.std.specs.Prelude.{◌≡◌, ◌<◌, IfErr, IfOk, Some, length};
+//! The values that trees mean. The walk goes down the tree, each part by the type of its place, and takes the parts over.
+ghost use Rattle.std.specs.Prelude.{◌≡◌, ◌<◌, IfErr, IfOk, Some, length, option_map};
 ghost use Rattle.ild_data.specs.Data as D;
+ghost use Rattle.ild_data.specs.Data.{Members, members_list};
+ghost use Rattle.ild_data.specs.Key.{value_at};
 ghost use Rattle.ild_data.specs.Seen.{data_of};
 ghost use Rattle.ild_schema.specs.Slots.{form_of};
 ghost use Rattle.ild_schema.specs.Table.{IsWithin};
@@ -10,7 +12,7 @@ ghost use Rattle.ild_schema.specs.declared.def.TypeDef.TheVariants as T;
 ghost use Rattle.ild_value.specs.Parts.{FieldMeans, IsFieldRefused};
 ghost use Rattle.ild_value.specs.Readings.{IsListOf, IsMapOf, IsRefused, IsUnit, Means};
 
-use crate::entry::{only, value_at};
+use crate::entry::{only, take_value};
 use crate::part::{are_named, left_out, member_named};
 use crate::scalar::{
     boolean_value, bytes_value, form, integer_value, link_value, null_value, text_value, wrong_kind,
@@ -30,16 +32,16 @@ pub(crate) fn tree_value(
     alloc: Global,
     acc: &Accepted,
     slot: Slot,
-    tree: &Tree,
+    tree: Tree,
 ) -> Result<Val, ShownErr>
     requires { slot.ty.0 < length acc.now }
-    ensures ok { IfOk result (λ v. Means acc.now slot (data_of tree.now) (value_of v)) }
-    ensures err { IfErr result (IsRefused acc.now slot (data_of tree.now)) }
+    ensures ok { IfOk result (λ v. Means acc.now slot (data_of tree) (value_of v)) }
+    ensures err { IfErr result (IsRefused acc.now slot (data_of tree)) }
 {
     match tree {
         Tree::Null => null_value(slot),
-        Tree::Bool(b) => boolean_value(acc, slot, *b),
-        Tree::Int(n) => integer_value(acc, slot, *n),
+        Tree::Bool(b) => boolean_value(acc, slot, b),
+        Tree::Int(n) => integer_value(acc, slot, n),
         Tree::Text(text) => text_value(acc, slot, text),
         Tree::Bytes(bytes) => bytes_value(acc, slot, bytes),
         Tree::List(trees) => list_value(alloc, acc, slot, trees),
@@ -50,14 +52,14 @@ pub(crate) fn tree_value(
 
 // A list.
 #[cycle(read)]
-fn list_value(alloc: Global, acc: &Accepted, slot: Slot, trees: &Trees) -> Result<Val, ShownErr>
+fn list_value(alloc: Global, acc: &Accepted, slot: Slot, trees: Trees) -> Result<Val, ShownErr>
     requires { slot.ty.0 < length acc.now }
-    ensures ok { IfOk result (λ v. Means acc.now slot (D.list trees.now) (value_of v)) }
-    ensures err { IfErr result (IsRefused acc.now slot (D.list trees.now)) }
+    ensures ok { IfOk result (λ v. Means acc.now slot (D.list trees) (value_of v)) }
+    ensures err { IfErr result (IsRefused acc.now slot (D.list trees)) }
 {
     match form(acc, slot) {
         TypeDef::List { elem, .. } => Ok(Val::List(elements(alloc, acc, slot, *elem, trees)?)),
-        TypeDef::Any => Ok(Val::Any(Tree::List(trees.copy()?))),
+        TypeDef::Any => Ok(Val::Any(Tree::List(trees))),
         _ => Err(wrong_kind(slot)),
     }
 }
@@ -69,15 +71,15 @@ fn elements(
     acc: &Accepted,
     slot: Slot,
     elem: Slot,
-    trees: &Trees,
+    trees: Trees,
 ) -> Result<Vals, ShownErr>
     requires there { elem.ty.0 < length acc.now }
     requires form { IsListOf acc.now slot elem }
-    ensures ok { IfOk result (λ vals. Means acc.now slot (D.list trees.now) (V.list vals)) }
-    ensures err { IfErr result (IsRefused acc.now slot (D.list trees.now)) }
+    ensures ok { IfOk result (λ vals. Means acc.now slot (D.list trees) (V.list vals)) }
+    ensures err { IfErr result (IsRefused acc.now slot (D.list trees)) }
 {
     let mut vals = Vals::new(alloc);
-    for tree in trees.as_slice() {
+    for tree in trees.into_vec() {
         let val = tree_value(alloc, acc, elem, tree)?;
         vals.push(val)?;
     }
@@ -86,10 +88,10 @@ fn elements(
 
 // A map.
 #[cycle(read)]
-fn map_value(alloc: Global, acc: &Accepted, slot: Slot, entries: &Entries) -> Result<Val, ShownErr>
+fn map_value(alloc: Global, acc: &Accepted, slot: Slot, entries: Entries) -> Result<Val, ShownErr>
     requires { slot.ty.0 < length acc.now }
-    ensures ok { IfOk result (λ v. Means acc.now slot (D.map entries.now) (value_of v)) }
-    ensures err { IfErr result (IsRefused acc.now slot (D.map entries.now)) }
+    ensures ok { IfOk result (λ v. Means acc.now slot (D.map entries) (value_of v)) }
+    ensures err { IfErr result (IsRefused acc.now slot (D.map entries)) }
 {
     match form(acc, slot) {
         TypeDef::Map { key, value, .. } => Ok(Val::Map(pairs(
@@ -97,8 +99,8 @@ fn map_value(alloc: Global, acc: &Accepted, slot: Slot, entries: &Entries) -> Re
         )?)),
         TypeDef::Struct(def) => Ok(Val::Struct(fields(alloc, acc, slot, def, entries)?)),
         TypeDef::Union(def) => union_value(alloc, acc, slot, def, entries),
-        TypeDef::Unit(_) => unit_value(acc, slot, entries),
-        TypeDef::Any => Ok(Val::Any(Tree::Map(entries.copy()?))),
+        TypeDef::Unit(_) => unit_value(acc, slot, &entries),
+        TypeDef::Any => Ok(Val::Any(Tree::Map(entries))),
         _ => Err(wrong_kind(slot)),
     }
 }
@@ -127,25 +129,24 @@ fn pairs(
     slot: Slot,
     key: TypeNo,
     elem: Slot,
-    entries: &Entries,
+    entries: Entries,
 ) -> Result<ValPairs, ShownErr>
     requires key_there { key.0 < length acc.now }
     requires there { elem.ty.0 < length acc.now }
     requires form { IsMapOf acc.now slot key elem }
-    ensures ok { IfOk result (λ pairs. Means acc.now slot (D.map entries.now) (V.map pairs)) }
-    ensures err { IfErr result (IsRefused acc.now slot (D.map entries.now)) }
+    ensures ok { IfOk result (λ pairs. Means acc.now slot (D.map entries) (V.map pairs)) }
+    ensures err { IfErr result (IsRefused acc.now slot (D.map entries)) }
 {
     let mut vals = ValPairs::new(alloc);
-    for pair in entries.as_slice() {
-        let is_key = is_text(alloc, acc, key, pair.0.as_str())?;
+    for (name, tree) in entries.into_vec() {
+        let is_key = is_text(alloc, acc, key, name.as_str())?;
         if !is_key {
             return Err(ShownErr::Mismatch {
                 ty: slot.ty,
                 rule: ShownRule::Key,
             });
         }
-        let val = tree_value(alloc, acc, elem, &pair.1)?;
-        let name = pair.0.copy()?;
+        let val = tree_value(alloc, acc, elem, tree)?;
         vals.push((name, val))?;
     }
     Ok(vals)
@@ -158,44 +159,46 @@ fn fields(
     acc: &Accepted,
     slot: Slot,
     def: &StructDef,
-    entries: &Entries,
+    entries: Entries,
 ) -> Result<ValFields, ShownErr>
     requires there { slot.ty.0 < length acc.now }
     requires form { form_of acc.now slot ≡ Some (T.Struct def.now) }
     requires within { IsWithin (length acc.now) (T.Struct def.now) }
-    ensures ok { IfOk result (λ fields. Means acc.now slot (D.map entries.now) (V.struct fields)) }
-    ensures err { IfErr result (IsRefused acc.now slot (D.map entries.now)) }
+    ensures ok { IfOk result (λ fields. Means acc.now slot (D.map entries) (V.struct fields)) }
+    ensures err { IfErr result (IsRefused acc.now slot (D.map entries)) }
 {
     // It does no work: its clauses say what acceptance says of the struct.
     acc.types();
-    if !are_named(acc, slot, def, entries) {
+    if !are_named(acc, slot, def, &entries) {
         return Err(ShownErr::Mismatch {
             ty: slot.ty,
             rule: ShownRule::Name,
         });
     }
+    let mut left = entries.into_vec();
     let mut vals = ValFields::new(alloc);
     for field in def.fields.as_slice() {
-        let val = field_value(alloc, acc, slot.ty, field, entries)?;
+        let tree = take_value(&mut left, field.name.as_str());
+        let val = field_value(alloc, acc, slot.ty, field, tree)?;
         vals.push(val)?;
     }
     Ok(vals)
 }
 
-// A field of a struct.
+// A field of a struct, by what stands under its name.
 #[cycle(read)]
 fn field_value(
     alloc: Global,
     acc: &Accepted,
     ty: TypeNo,
     field: &Field,
-    entries: &Entries,
+    tree: Option<Tree>,
 ) -> Result<Option<Val>, ShownErr>
     requires { field.now.slot.ty.0 < length acc.now }
-    ensures ok { IfOk result (λ val. FieldMeans acc.now field.now entries.now (optional_of val)) }
-    ensures err { IfErr result (IsFieldRefused acc.now ty field.now entries.now) }
+    ensures ok { (ms : Members) → option_map data_of tree ≡ value_at field.now.name (members_list ms) → IfOk result (λ val. FieldMeans acc.now field.now ms (optional_of val)) }
+    ensures err { (ms : Members) → option_map data_of tree ≡ value_at field.now.name (members_list ms) → IfErr result (IsFieldRefused acc.now ty field.now ms) }
 {
-    match value_at(entries, field.name.as_str()) {
+    match tree {
         Some(tree) => {
             let val = tree_value(alloc, acc, field.slot, tree)?;
             Ok(Some(val))
@@ -211,25 +214,25 @@ fn union_value(
     acc: &Accepted,
     slot: Slot,
     def: &UnionDef,
-    entries: &Entries,
+    entries: Entries,
 ) -> Result<Val, ShownErr>
     requires there { slot.ty.0 < length acc.now }
     requires form { form_of acc.now slot ≡ Some (T.Union def.now) }
     requires within { IsWithin (length acc.now) (T.Union def.now) }
-    ensures ok { IfOk result (λ v. Means acc.now slot (D.map entries.now) (value_of v)) }
-    ensures err { IfErr result (IsRefused acc.now slot (D.map entries.now)) }
+    ensures ok { IfOk result (λ v. Means acc.now slot (D.map entries) (value_of v)) }
+    ensures err { IfErr result (IsRefused acc.now slot (D.map entries)) }
 {
-    let Some(pair) = only(entries) else {
+    let Some((name, tree)) = only(entries) else {
         return Err(no_member(slot));
     };
-    let Some(n) = member_named(acc, slot, def, pair.0.as_str()) else {
+    let Some(n) = member_named(acc, slot, def, name.as_str()) else {
         return Err(no_member(slot));
     };
     let part = Slot {
         ty: def.members.as_slice()[n].ty,
         nullable: false,
     };
-    let val = tree_value(alloc, acc, part, &pair.1)?;
+    let val = tree_value(alloc, acc, part, tree)?;
     Ok(Val::Union(n as u32, ValPart::new(alloc, val)?))
 }
 

@@ -72,27 +72,27 @@ pub(crate) fn integer_value(acc: &Accepted, slot: Slot, n: Int) -> Result<Val, S
 }
 
 /// Bytes.
-pub(crate) fn bytes_value(acc: &Accepted, slot: Slot, bytes: &Octets) -> Result<Val, ShownErr>
+pub(crate) fn bytes_value(acc: &Accepted, slot: Slot, bytes: Octets) -> Result<Val, ShownErr>
     requires { slot.ty.0 < length acc.now }
-    ensures ok { IfOk result (λ v. Means acc.now slot (D.bytes bytes.now) (value_of v)) }
-    ensures err { IfErr result (IsRefused acc.now slot (D.bytes bytes.now)) }
+    ensures ok { IfOk result (λ v. Means acc.now slot (D.bytes bytes) (value_of v)) }
+    ensures err { IfErr result (IsRefused acc.now slot (D.bytes bytes)) }
 {
     match form(acc, slot) {
-        TypeDef::Bytes => Ok(Val::Bytes(bytes.copy()?)),
-        TypeDef::Any => Ok(Val::Any(Tree::Bytes(bytes.copy()?))),
+        TypeDef::Bytes => Ok(Val::Bytes(bytes)),
+        TypeDef::Any => Ok(Val::Any(Tree::Bytes(bytes))),
         _ => Err(wrong_kind(slot)),
     }
 }
 
 /// A link.
-pub(crate) fn link_value(acc: &Accepted, slot: Slot, cid: &Cid) -> Result<Val, ShownErr>
+pub(crate) fn link_value(acc: &Accepted, slot: Slot, cid: Cid) -> Result<Val, ShownErr>
     requires { slot.ty.0 < length acc.now }
-    ensures ok { IfOk result (λ v. Means acc.now slot (D.link cid.now) (value_of v)) }
-    ensures err { IfErr result (IsRefused acc.now slot (D.link cid.now)) }
+    ensures ok { IfOk result (λ v. Means acc.now slot (D.link cid) (value_of v)) }
+    ensures err { IfErr result (IsRefused acc.now slot (D.link cid)) }
 {
     match form(acc, slot) {
-        TypeDef::Link(_) => Ok(Val::Link(cid.copy()?)),
-        TypeDef::Any => Ok(Val::Any(Tree::Link(cid.copy()?))),
+        TypeDef::Link(_) => Ok(Val::Link(cid)),
+        TypeDef::Any => Ok(Val::Any(Tree::Link(cid))),
         _ => Err(wrong_kind(slot)),
     }
 }
@@ -115,15 +115,15 @@ fn member(acc: &Accepted, slot: Slot, def: &EnumDef, text: &Txt) -> Result<Val, 
 }
 
 /// A text.
-pub(crate) fn text_value(acc: &Accepted, slot: Slot, text: &Txt) -> Result<Val, ShownErr>
+pub(crate) fn text_value(acc: &Accepted, slot: Slot, text: Txt) -> Result<Val, ShownErr>
     requires { slot.ty.0 < length acc.now }
-    ensures ok { IfOk result (λ v. Means acc.now slot (D.text text.now) (value_of v)) }
-    ensures err { IfErr result (IsRefused acc.now slot (D.text text.now)) }
+    ensures ok { IfOk result (λ v. Means acc.now slot (D.text text) (value_of v)) }
+    ensures err { IfErr result (IsRefused acc.now slot (D.text text)) }
 {
     match form(acc, slot) {
-        TypeDef::Text => Ok(Val::Text(text.copy()?)),
-        TypeDef::Enum(def) => member(acc, slot, def, text),
-        TypeDef::Any => Ok(Val::Any(Tree::Text(text.copy()?))),
+        TypeDef::Text => Ok(Val::Text(text)),
+        TypeDef::Enum(def) => member(acc, slot, def, &text),
+        TypeDef::Any => Ok(Val::Any(Tree::Text(text))),
         _ => Err(wrong_kind(slot)),
     }
 }

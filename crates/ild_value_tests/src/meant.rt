@@ -4,7 +4,7 @@ use ild_compile::compile;
 use ild_json::print;
 use ild_schema::{Accepted, Slot, Val};
 use ild_value::ShownRule::{Key, Kind, Member, Missing, Name};
-use ild_value::{ShownErr, ShownRule, of_shown, shown};
+use ild_value::{ShownErr, ShownRule, from_shown, shown};
 use std::alloc::Global;
 use std::process::Abort;
 use std::test::Fail;
@@ -23,9 +23,10 @@ const VALUES: &str =
      0) } type Dot struct { x Int } type Box struct { w Int h Int } type U union { | Dot \"dot\" | Box \"box\" \
      } representation keyed type V union { | Dot \"dot\" | Box \"box\" } representation inline { discriminantKey \
      \"k\" } type E enum { | No (\"0\") | Yes (\"1\") } representation int type O unit representation emptymap \
-     type L [nullable Int] type A any";
+     type L [nullable Int] type A any type M struct { z String y optional Bytes w {String:String} v Link \
+     n A }";
 
-const GOOD: [Row; 18] = [
+const GOOD: [Row; 20] = [
     ("S", "{\"a\":1}", Ok("{\"a\":1}")),
     ("S", "{\"b\":\"x\",\"a\":1}", Ok("{\"a\":1,\"b\":\"x\"}")),
     ("R", "{\"a\":1,\"b\":2}", Ok("{\"a\":1,\"b\":2}")),
@@ -48,6 +49,20 @@ const GOOD: [Row; 18] = [
     ("L", "[1,null]", Ok("[1,null]")),
     ("A", "[null,{\"b\":1}]", Ok("[null,{\"b\":1}]")),
     ("Int", "18446744073709551615", Ok("18446744073709551615")),
+    (
+        "M",
+        "{\"n\":[1,{\"w\":\"z\"}],\"v\":{\"/\":\"bafyreibwgqhlf3cquwa66c25m4jc3cadrcvcjprzbhmrgmqvb3kt5xbcxu\"},\"w\":{\"k\":\"l\"},\"y\":{\"/\":{\"bytes\":\"AQI\"}},\"z\":\"x\"}",
+        Ok(
+            "{\"n\":[1,{\"w\":\"z\"}],\"v\":{\"/\":\"bafyreibwgqhlf3cquwa66c25m4jc3cadrcvcjprzbhmrgmqvb3kt5xbcxu\"},\"w\":{\"k\":\"l\"},\"y\":{\"/\":{\"bytes\":\"AQI\"}},\"z\":\"x\"}",
+        ),
+    ),
+    (
+        "M",
+        "{\"n\":\"m\",\"v\":{\"/\":\"bafyreibwgqhlf3cquwa66c25m4jc3cadrcvcjprzbhmrgmqvb3kt5xbcxu\"},\"w\":{},\"z\":\"\"}",
+        Ok(
+            "{\"n\":\"m\",\"v\":{\"/\":\"bafyreibwgqhlf3cquwa66c25m4jc3cadrcvcjprzbhmrgmqvb3kt5xbcxu\"},\"w\":{},\"z\":\"\"}",
+        ),
+    ),
 ];
 
 const BROKEN: [Row; 19] = [
@@ -143,7 +158,7 @@ fn is_refusal(
 fn is_so(alloc: Global, acc: &Accepted, row: &Row) -> Result<bool, &'static str> {
     let slot = slot_of(acc, row.0)?;
     let tree = tree_of(alloc, row.1)?;
-    match of_shown(alloc, acc, slot, &tree) {
+    match from_shown(alloc, acc, slot, tree) {
         Ok(val) => match row.2 {
             Ok(json) => is_shown(alloc, acc, slot, &val, json),
             Err(_) => Ok(false),

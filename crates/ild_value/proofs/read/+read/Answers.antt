@@ -1,5 +1,7 @@
-use Rattle.std.proofs.Common.{◌≡◌, ℕ, ◌<◌, ◌≤◌, List, true, length, slice_get, Some, refl, sym, ap, ◌∙◌, subst, arith}
-use Rattle.std.specs.Prelude.{◌↔◌}
+use Rattle.std.proofs.Common.{◌≡◌, ◌≢◌, ℕ, ◌<◌, ◌≤◌, List, true, length, slice_get, Some, refl, sym, ap, ◌∙◌, map-id, subst, arith, rules}
+use Rattle.std.specs.Prelude.{◌↔◌, option_map}
+use Rattle.std.proofs.lemmas.Iterator.Adapters.{YieldsList-from_vec}
+use Rattle.std.proofs.lemmas.Iterator.Consumers.{YieldsList-end, YieldsList-turn}
 use Rattle.std.proofs.lemmas.Option.{slice_get_within, slice_get_read}
 use Rattle.std.proofs.lemmas.Result.{err_from_is_err_and}
 use Rattle.ild_data.specs.Data.{depth, items_depth, members_depth, members_list}
@@ -18,8 +20,9 @@ use Rattle.ild_meant.proofs.Mismatched.{are_first}
 use Rattle.ild_meant.proofs.Told.{told}
 use Rattle.ild_value.specs.Parts.{FieldMeans}
 use Rattle.ild_value.specs.Readings.{Means, IsRefused}
-use Rattle.ild_value.proofs.AllOf.{all_of, all_step, all_whole}
-use Rattle.ild_value.proofs.Entries.{value_depth, only_depth}
+use Rattle.ild_value.proofs.AllOf.{all_of, all_next, all_step, all_whole}
+use Rattle.ild_value.proofs.Entries.{only_depth, rises_seen}
+use Rattle.ild_value.proofs.Taken.{found_depth, found_low, kept_first, kept_next}
 use Rattle.ild_value.proofs.Picked.{number_low, picked, if_ok}
 use Rattle.ild_value.proofs.Shows.{read_item, read_pair, read_field, list_means, list_refused, map_means, map_refused, key_refused, key_read, struct_means, name_refused, field_refused, field_there, field_gone, union_means, union_refused, many_refused, stranger_refused}
 use Rattle.ild_value.proofs.read.+read.Goals as goal
@@ -31,116 +34,146 @@ tree_value-returns-in-Null-clause-err t c = rw c.in-Null.is (c.null_value.ensure
 
 pub elements-tree_value-requires : goal.elements-tree_value-requires
 elements-tree_value-requires t c =
-    let below : depth (data_of c.tree-item.result) ≤ items_depth c.args.trees.now =
-    item_depth-in c.as_slice-tree-items.result.now c.args.trees.now c.loop-tree.tree-index c.tree-item.result c.as_slice-tree-items.ensures c.loop-tree-test.true c.tree-item.is in
+    let at = YieldsList-turn (YieldsList-from_vec {s = c.into_iter-tree-iterator.result} c.into_vec-tree-items.result.items (search rules) (search rules)) c.loop-tree.yielded c.loop-tree.tree-iterator c.loop-tree.yielded_by c.next.result c.next.new.self
+    c.in-Some.tree c.in-Some.is c.next.ensures.steps in
+    let below : depth (data_of c.in-Some.tree) ≤ items_depth c.args.trees = item_depth-in c.into_vec-tree-items.result.items c.args.trees (length c.loop-tree.yielded) c.in-Some.tree c.into_vec-tree-items.ensures at.0 at.1 in
     (omega arith, c.requires.there)
 
 pub elements-loop-tree-preserved : goal.elements-loop-tree-preserved
 elements-loop-tree-preserved t c = λ is_key tests.
-    all_step (read_item c.args.acc.now is_key c.args.elem) c.as_slice-tree-items.result.now c.loop-tree.tree-index c.tree-item.result (value_of c.in_ok-val.val) (values_list c.loop-tree.vals) (values_list c.push.new.self)
-    c.loop-tree-test.true c.tree-item.is (c.loop-tree.invariant is_key tests) (c.in_ok-val.ensures.ok.read is_key tests) c.in_ok-push.ensures.ok
+    all_next (read_item c.args.acc.now is_key c.args.elem) c.loop-tree.yielded c.in-Some.tree (value_of c.in_ok-val.val) (values_list c.loop-tree.vals) (values_list c.push.new.self)
+    (c.loop-tree.invariant is_key tests) (c.in_ok-val.ensures.ok.read is_key tests) c.in_ok-push.ensures.ok
 
 pub elements-returns-in_err-val-clause-err : goal.elements-returns-in_err-val-clause-err
 elements-returns-in_err-val-clause-err t c =
+    let at = YieldsList-turn (YieldsList-from_vec {s = c.into_iter-tree-iterator.result} c.into_vec-tree-items.result.items (search rules) (search rules)) c.loop-tree.yielded c.loop-tree.tree-iterator c.loop-tree.yielded_by c.next.result c.next.new.self
+    c.in-Some.tree c.in-Some.is c.next.ensures.steps in
     let p = err_from_is_err_and c.from_residual.result c.from_residual.ensures.1 in
-    rw (p.1, p.2) (list_refused c.args.acc.now c.args.slot c.args.elem c.as_slice-tree-items.result.now c.args.trees.now c.loop-tree.tree-index c.tree-item.result c.in_err-val.field-0.0 c.requires.form c.as_slice-tree-items.ensures
-    c.loop-tree-test.true c.tree-item.is c.in_err-val.ensures.err)
+    rw (p.1, p.2) (list_refused c.args.acc.now c.args.slot c.args.elem c.into_vec-tree-items.result.items c.args.trees (length c.loop-tree.yielded) c.in-Some.tree c.in_err-val.field-0.0 c.requires.form c.into_vec-tree-items.ensures at.0 at.1 c.in_err-val.ensures.err)
 
 pub elements-returns-clause-ok : goal.elements-returns-clause-ok
 elements-returns-clause-ok t c =
-    list_means c.args.acc.now c.args.slot c.args.elem c.as_slice-tree-items.result.now c.args.trees.now c.loop-tree.vals c.requires.form c.as_slice-tree-items.ensures
-    (λ is_key tests. all_whole (read_item c.args.acc.now is_key c.args.elem) c.as_slice-tree-items.result.now c.loop-tree.tree-index (values_list c.loop-tree.vals) c.loop-tree-test.false (c.loop-tree.invariant is_key tests))
+    let end = YieldsList-end (YieldsList-from_vec {s = c.into_iter-tree-iterator.result} c.into_vec-tree-items.result.items (search rules) (search rules)) c.loop-tree.yielded c.loop-tree.tree-iterator c.loop-tree.yielded_by c.next.result c.next.new.self
+    c.in-None.is c.next.ensures.steps in
+    let all = sym (map-id c.loop-tree.yielded) ∙ end.0 in
+    list_means c.args.acc.now c.args.slot c.args.elem c.into_vec-tree-items.result.items c.args.trees c.loop-tree.vals c.requires.form c.into_vec-tree-items.ensures
+    (λ is_key tests. ap (all_of (read_item c.args.acc.now is_key c.args.elem)) (sym all) ∙ c.loop-tree.invariant is_key tests)
 
 -- ---- maps
 
 pub pairs-tree_value-requires : goal.pairs-tree_value-requires
 pairs-tree_value-requires t c =
-    let below : depth (data_of c.pair-item.result.1) ≤ members_depth c.args.entries.now =
-    member_depth-in c.as_slice-pair-items.result.now c.args.entries.now c.loop-pair.pair-index c.pair-item.result c.as_slice-pair-items.ensures c.loop-pair-test.true c.pair-item.is in
+    let at = YieldsList-turn (YieldsList-from_vec {s = c.into_iter-name-iterator.result} c.into_vec-name-items.result.items (search rules) (search rules)) c.loop-name.yielded c.loop-name.name-iterator c.loop-name.yielded_by c.next.result c.next.new.self
+    (c.in-Some.name, c.in-Some.tree) c.in-Some.is c.next.ensures.steps in
+    let below : depth (data_of c.in-Some.tree) ≤ members_depth c.args.entries =
+    member_depth-in c.into_vec-name-items.result.items c.args.entries (length c.loop-name.yielded) (c.in-Some.name, c.in-Some.tree) c.into_vec-name-items.ensures.same at.0 at.1 in
     (omega arith, c.requires.there)
 
 pub pairs-returns-then-not-is_key-clause-err : goal.pairs-returns-then-not-is_key-clause-err
 pairs-returns-then-not-is_key-clause-err t c =
-    let told : (c.in_ok-is_key.is_key ≡ true) ↔ IsTextOf c.args.acc.now c.args.key c.pair-item.result.0 =
+    let at = YieldsList-turn (YieldsList-from_vec {s = c.into_iter-name-iterator.result} c.into_vec-name-items.result.items (search rules) (search rules)) c.loop-name.yielded c.loop-name.name-iterator c.loop-name.yielded_by c.next.result c.next.new.self
+    (c.in-Some.name, c.in-Some.tree) c.in-Some.is c.next.ensures.steps in
+    let told : (c.in_ok-is_key.is_key ≡ true) ↔ IsTextOf c.args.acc.now c.args.key c.in-Some.name =
     subst (λ (k : List ℕ). (c.in_ok-is_key.is_key ≡ true) ↔ IsTextOf c.args.acc.now c.args.key k) c.as_str.ensures.same c.in_ok-is_key.ensures in
-    key_refused c.args.acc.now c.args.slot c.args.key c.args.elem c.as_slice-pair-items.result.now c.args.entries.now c.loop-pair.pair-index c.pair-item.result c.in_ok-is_key.is_key c.requires.form c.as_slice-pair-items.ensures
-    c.loop-pair-test.true c.pair-item.is c.as_str.ensures.utf8 told c.if-not-is_key.true
+    key_refused c.args.acc.now c.args.slot c.args.key c.args.elem c.into_vec-name-items.result.items c.args.entries (length c.loop-name.yielded) (c.in-Some.name, c.in-Some.tree) c.in_ok-is_key.is_key c.requires.form c.into_vec-name-items.ensures.same
+    at.0 at.1 c.as_str.ensures.utf8 told c.if-not-is_key.true
 
-pub pairs-loop-pair-preserved : goal.pairs-loop-pair-preserved
-pairs-loop-pair-preserved t c = λ is_key tests.
-    let told : (c.in_ok-is_key.is_key ≡ true) ↔ IsTextOf c.args.acc.now c.args.key c.pair-item.result.0 =
+pub pairs-loop-name-preserved : goal.pairs-loop-name-preserved
+pairs-loop-name-preserved t c = λ is_key tests.
+    let told : (c.in_ok-is_key.is_key ≡ true) ↔ IsTextOf c.args.acc.now c.args.key c.in-Some.name =
     subst (λ (k : List ℕ). (c.in_ok-is_key.is_key ≡ true) ↔ IsTextOf c.args.acc.now c.args.key k) c.as_str.ensures.same c.in_ok-is_key.ensures in
-    all_step (read_pair c.args.acc.now is_key c.args.key c.args.elem) c.as_slice-pair-items.result.now c.loop-pair.pair-index c.pair-item.result (c.in_ok-name.name, value_of c.in_ok-val.val) (pairs_list c.loop-pair.vals) (pairs_list c.push.new.self)
-    c.loop-pair-test.true c.pair-item.is (c.loop-pair.invariant is_key tests)
-    (key_read c.args.acc.now is_key tests c.args.key c.args.elem c.pair-item.result (value_of c.in_ok-val.val) c.in_ok-name.name (value_of c.in_ok-val.val) c.in_ok-is_key.is_key c.as_str.ensures.utf8 told c.if-not-is_key.false
-    c.in_ok-val.ensures.ok c.in_ok-name.ensures refl)
+    all_next (read_pair c.args.acc.now is_key c.args.key c.args.elem) c.loop-name.yielded (c.in-Some.name, c.in-Some.tree) (c.in-Some.name, value_of c.in_ok-val.val) (pairs_list c.loop-name.vals) (pairs_list c.push.new.self)
+    (c.loop-name.invariant is_key tests)
+    (key_read c.args.acc.now is_key tests c.args.key c.args.elem (c.in-Some.name, c.in-Some.tree) (value_of c.in_ok-val.val) c.in_ok-is_key.is_key c.as_str.ensures.utf8 told c.if-not-is_key.false c.in_ok-val.ensures.ok)
     c.in_ok-push.ensures.ok
 
 pub pairs-returns-in_err-val-clause-err : goal.pairs-returns-in_err-val-clause-err
 pairs-returns-in_err-val-clause-err t c =
+    let at = YieldsList-turn (YieldsList-from_vec {s = c.into_iter-name-iterator.result} c.into_vec-name-items.result.items (search rules) (search rules)) c.loop-name.yielded c.loop-name.name-iterator c.loop-name.yielded_by c.next.result c.next.new.self
+    (c.in-Some.name, c.in-Some.tree) c.in-Some.is c.next.ensures.steps in
     let p = err_from_is_err_and c.from_residual-in_err-val.result c.from_residual-in_err-val.ensures.1 in
-    rw (p.1, p.2) (map_refused c.args.acc.now c.args.slot c.args.key c.args.elem c.as_slice-pair-items.result.now c.args.entries.now c.loop-pair.pair-index c.pair-item.result c.in_err-val.field-0.0 c.requires.form c.as_slice-pair-items.ensures
-    c.loop-pair-test.true c.pair-item.is c.in_err-val.ensures.err)
+    rw (p.1, p.2) (map_refused c.args.acc.now c.args.slot c.args.key c.args.elem c.into_vec-name-items.result.items c.args.entries (length c.loop-name.yielded) (c.in-Some.name, c.in-Some.tree) c.in_err-val.field-0.0 c.requires.form c.into_vec-name-items.ensures.same
+    at.0 at.1 c.in_err-val.ensures.err)
 
 pub pairs-returns-clause-ok : goal.pairs-returns-clause-ok
 pairs-returns-clause-ok t c =
-    map_means c.args.acc.now c.args.slot c.args.key c.args.elem c.as_slice-pair-items.result.now c.args.entries.now c.loop-pair.vals c.requires.form c.as_slice-pair-items.ensures
-    (λ is_key tests. all_whole (read_pair c.args.acc.now is_key c.args.key c.args.elem) c.as_slice-pair-items.result.now c.loop-pair.pair-index (pairs_list c.loop-pair.vals) c.loop-pair-test.false (c.loop-pair.invariant is_key tests))
+    let end = YieldsList-end (YieldsList-from_vec {s = c.into_iter-name-iterator.result} c.into_vec-name-items.result.items (search rules) (search rules)) c.loop-name.yielded c.loop-name.name-iterator c.loop-name.yielded_by c.next.result c.next.new.self
+    c.in-None.is c.next.ensures.steps in
+    let all = sym (map-id c.loop-name.yielded) ∙ end.0 in
+    map_means c.args.acc.now c.args.slot c.args.key c.args.elem c.into_vec-name-items.result.items c.args.entries c.loop-name.vals c.requires.form c.into_vec-name-items.ensures.same
+    (λ is_key tests. ap (all_of (read_pair c.args.acc.now is_key c.args.key c.args.elem)) (sym all) ∙ c.loop-name.invariant is_key tests)
 
 -- ---- structs
 
-pub field_value-tree_value-requires : goal.field_value-tree_value-requires
-field_value-tree_value-requires t c =
-    let below : depth (data_of c.in-Some.tree.now) ≤ members_depth c.args.entries.now = value_depth c.as_str.result.now c.args.entries.now (data_of c.in-Some.tree.now) (sym c.in-Some.ensures) in
-    (omega arith, c.requires)
-
 pub field_value-returns-in_ok-val-in-Some-clause-ok : goal.field_value-returns-in_ok-val-in-Some-clause-ok
-field_value-returns-in_ok-val-in-Some-clause-ok t c =
-    field_there c.args.acc.now c.args.field.now c.args.entries.now (data_of c.in-Some.tree.now) (value_of c.in_ok-val-in-Some.val)
-    (c.in-Some.ensures ∙ ap (λ k. value_at k (members_list c.args.entries.now)) c.as_str.ensures.same) c.in_ok-val-in-Some.ensures.ok
+field_value-returns-in_ok-val-in-Some-clause-ok t c = λ ms there.
+    field_there c.args.acc.now c.args.field.now ms (data_of c.in-Some.tree) (value_of c.in_ok-val-in-Some.val) (ap (option_map data_of) (sym c.in-Some.is) ∙ there) c.in_ok-val-in-Some.ensures.ok
 
 pub field_value-returns-in-None-clause-ok : goal.field_value-returns-in-None-clause-ok
-field_value-returns-in-None-clause-ok t c =
-    if_ok (λ o. or_implicit c.args.field.now.implicit c.args.field.now.optional ≡ Some (optional_of o)) (λ o. FieldMeans c.args.acc.now c.args.field.now c.args.entries.now (optional_of o))
-    (λ o left. field_gone c.args.acc.now c.args.field.now c.args.entries.now (optional_of o) (c.in-None.ensures ∙ ap (λ k. value_at k (members_list c.args.entries.now)) c.as_str.ensures.same) left)
-    c.left_out.result c.left_out.ensures.ok
+field_value-returns-in-None-clause-ok t c = λ ms there.
+    if_ok (λ o. or_implicit c.args.field.now.implicit c.args.field.now.optional ≡ Some (optional_of o)) (λ o. FieldMeans c.args.acc.now c.args.field.now ms (optional_of o))
+    (λ o left. field_gone c.args.acc.now c.args.field.now ms (optional_of o) (ap (option_map data_of) (sym c.in-None.is) ∙ there) left) c.left_out.result c.left_out.ensures.ok
 
 pub fields-returns-then-not-are_named-clause-err : goal.fields-returns-then-not-are_named-clause-err
-fields-returns-then-not-are_named-clause-err t c = name_refused c.args.acc.now c.args.slot c.args.def.now c.args.entries.now c.requires.form (sym c.are_named.ensures ∙ c.if-not-are_named.true)
+fields-returns-then-not-are_named-clause-err t c = name_refused c.args.acc.now c.args.slot c.args.def.now c.args.entries c.requires.form (sym c.are_named.ensures ∙ c.if-not-are_named.true)
+
+pub fields-loop-field-init : goal.fields-loop-field-init
+fields-loop-field-init t c = record {
+  read = λ is_key tests. ap (λ os. Some (optionals_list os)) (sym c.new-vals.ensures);
+  rises = rises_seen c.into_vec-left.result.items c.into_vec-left.ensures.rises;
+  kept = kept_first c.args.def.now.fields c.into_vec-left.result.items c.args.entries c.into_vec-left.ensures.same;
+}
 
 pub fields-field_value-requires : goal.fields-field_value-requires
 fields-field_value-requires t c =
     let fs = c.as_slice-field-items.result.now in
     let there = ap (λ xs. slice_get xs c.loop-field.field-index) (sym c.as_slice-field-items.ensures) ∙ slice_get_read fs (length fs) c.loop-field.field-index c.field-item.result refl c.loop-field-test.true c.field-item.is in
+    let found : option_map data_of c.take_value-tree.result ≡ value_at c.field-item.result.name (members_list c.args.entries) =
+    ap (option_map data_of) (c.take_value-tree.ensures.found ∙ ap (λ k. value_at k c.loop-field.left.items) c.as_str.ensures.same) ∙ c.loop-field.invariant.kept c.loop-field.field-index c.field-item.result (omega arith) there in
+    let below : found_depth c.take_value-tree.result ≤ members_depth c.args.entries = found_low c.field-item.result.name c.args.entries c.take_value-tree.result found in
     (omega arith, number_low (λ (f : Field). f.slot.ty.0) (length c.args.acc.now) c.args.def.now.fields c.requires.within.1 c.loop-field.field-index c.field-item.result there)
 
 pub fields-loop-field-preserved : goal.fields-loop-field-preserved
-fields-loop-field-preserved t c = λ is_key tests.
-    all_step (read_field c.args.acc.now is_key c.args.entries.now) c.as_slice-field-items.result.now c.loop-field.field-index c.field-item.result (optional_of c.in_ok-val.val) (optionals_list c.loop-field.vals) (optionals_list c.push.new.self)
-    c.loop-field-test.true c.field-item.is (c.loop-field.invariant is_key tests) (c.in_ok-val.ensures.ok.read is_key tests) c.in_ok-push.ensures.ok
+fields-loop-field-preserved t c =
+    let fs = c.as_slice-field-items.result.now in
+    let there = ap (λ xs. slice_get xs c.loop-field.field-index) (sym c.as_slice-field-items.ensures) ∙ slice_get_read fs (length fs) c.loop-field.field-index c.field-item.result refl c.loop-field-test.true c.field-item.is in
+    let found : option_map data_of c.take_value-tree.result ≡ value_at c.field-item.result.name (members_list c.args.entries) =
+    ap (option_map data_of) (c.take_value-tree.ensures.found ∙ ap (λ k. value_at k c.loop-field.left.items) c.as_str.ensures.same) ∙ c.loop-field.invariant.kept c.loop-field.field-index c.field-item.result (omega arith) there in
+    let proper = (told c.args.acc.now (record { table = c.types.ensures.table; accepted = c.types.ensures.accepted })).proper c.args.slot c.args.def.now c.requires.form in
+    let others = subst (λ (n : List ℕ). (k : List ℕ) → n ≢ k → value_at k c.take_value-tree.new.pairs.items ≡ value_at k c.loop-field.left.items) c.as_str.ensures.same c.take_value-tree.ensures.others in
+    record {
+      read = λ is_key tests.
+          all_step (read_field c.args.acc.now is_key c.args.entries) fs c.loop-field.field-index c.field-item.result (optional_of c.in_ok-val.val) (optionals_list c.loop-field.vals) (optionals_list c.push.new.self)
+          c.loop-field-test.true c.field-item.is (c.loop-field.invariant.read is_key tests) ((c.in_ok-val.ensures.ok c.args.entries found).read is_key tests) c.in_ok-push.ensures.ok;
+      rises = c.take_value-tree.ensures.rises;
+      kept = kept_next c.args.def.now.fields proper c.loop-field.field-index c.field-item.result c.loop-field.left.items c.take_value-tree.new.pairs.items c.args.entries there others c.loop-field.invariant.kept;
+    }
 
 pub fields-returns-in_err-val-clause-err : goal.fields-returns-in_err-val-clause-err
 fields-returns-in_err-val-clause-err t c =
     let fs = c.as_slice-field-items.result.now in
     let there = ap (λ xs. slice_get xs c.loop-field.field-index) (sym c.as_slice-field-items.ensures) ∙ slice_get_read fs (length fs) c.loop-field.field-index c.field-item.result refl c.loop-field-test.true c.field-item.is in
+    let found : option_map data_of c.take_value-tree.result ≡ value_at c.field-item.result.name (members_list c.args.entries) =
+    ap (option_map data_of) (c.take_value-tree.ensures.found ∙ ap (λ k. value_at k c.loop-field.left.items) c.as_str.ensures.same) ∙ c.loop-field.invariant.kept c.loop-field.field-index c.field-item.result (omega arith) there in
     let first = are_first c.args.def.now.fields ((told c.args.acc.now (record { table = c.types.ensures.table; accepted = c.types.ensures.accepted })).proper c.args.slot c.args.def.now c.requires.form) in
     let p = err_from_is_err_and c.from_residual.result c.from_residual.ensures.1 in
-    rw (p.1, p.2) (field_refused c.args.acc.now c.args.slot c.args.def.now c.args.entries.now c.loop-field.field-index c.field-item.result c.in_err-val.field-0.0 c.requires.form first there c.in_err-val.ensures.err)
+    rw (p.1, p.2)
+    (field_refused c.args.acc.now c.args.slot c.args.def.now c.args.entries c.loop-field.field-index c.field-item.result c.in_err-val.field-0.0 c.requires.form first there (c.in_err-val.ensures.err c.args.entries found))
 
 pub fields-returns-clause-ok : goal.fields-returns-clause-ok
 fields-returns-clause-ok t c =
-    struct_means c.args.acc.now c.args.slot c.args.def.now c.args.entries.now c.loop-field.vals c.requires.form (sym c.are_named.ensures ∙ c.if-not-are_named.false)
-    (λ is_key tests. ap (all_of (read_field c.args.acc.now is_key c.args.entries.now)) (sym c.as_slice-field-items.ensures)
-    ∙ all_whole (read_field c.args.acc.now is_key c.args.entries.now) c.as_slice-field-items.result.now c.loop-field.field-index (optionals_list c.loop-field.vals) c.loop-field-test.false (c.loop-field.invariant is_key tests))
+    struct_means c.args.acc.now c.args.slot c.args.def.now c.args.entries c.loop-field.vals c.requires.form (sym c.are_named.ensures ∙ c.if-not-are_named.false)
+    (λ is_key tests. ap (all_of (read_field c.args.acc.now is_key c.args.entries)) (sym c.as_slice-field-items.ensures)
+    ∙ all_whole (read_field c.args.acc.now is_key c.args.entries) c.as_slice-field-items.result.now c.loop-field.field-index (optionals_list c.loop-field.vals) c.loop-field-test.false (c.loop-field.invariant.read is_key tests))
 
 -- ---- unions
 
 pub union_value-returns-in_default-clause-err : goal.union_value-returns-in_default-clause-err
-union_value-returns-in_default-clause-err t c = rw c.no_member.ensures (many_refused c.args.acc.now c.args.slot c.args.def.now c.args.entries.now c.requires.form c.in_default.ensures)
+union_value-returns-in_default-clause-err t c = rw c.no_member.ensures (many_refused c.args.acc.now c.args.slot c.args.def.now c.args.entries c.requires.form c.in_default.ensures)
 
 pub union_value-returns-in_default-member_named-clause-err : goal.union_value-returns-in_default-member_named-clause-err
 union_value-returns-in_default-member_named-clause-err t c =
-    rw c.no_member-in_default-member_named.ensures (stranger_refused c.args.acc.now c.args.slot c.args.def.now c.args.entries.now c.in-Some.pair.now.0 (data_of c.in-Some.pair.now.1) c.requires.form c.in-Some.ensures
+    rw c.no_member-in_default-member_named.ensures (stranger_refused c.args.acc.now c.args.slot c.args.def.now c.args.entries c.in-Some.name (data_of c.in-Some.tree) c.requires.form c.in-Some.ensures
     (ap (λ k. member_named k c.args.def.now.members) (sym c.as_str.ensures.same) ∙ c.in_default-member_named.ensures))
 
 pub union_value-offset_bounds-as_slice-n : goal.union_value-offset_bounds-as_slice-n
@@ -169,7 +202,7 @@ union_value-tree_value-requires t c =
     let m = c.in-Some-member_named.ensures in
     let is = picked c.args.def.now.members c.as_slice.result.now c.in-Some-member_named.n m.member c.index-as_slice-n.result c.as_slice.ensures m.there in
     let low = number_low (λ (m : Member). m.ty.0) (length c.args.acc.now) c.args.def.now.members c.requires.within.1 c.in-Some-member_named.n m.member m.there in
-    let below : depth (data_of c.in-Some.pair.now.1) ≤ members_depth c.args.entries.now = only_depth c.in-Some.pair.now.0 c.args.entries.now (data_of c.in-Some.pair.now.1) c.in-Some.ensures in
+    let below : depth (data_of c.in-Some.tree) ≤ members_depth c.args.entries = only_depth c.in-Some.name c.args.entries (data_of c.in-Some.tree) c.in-Some.ensures in
     (omega arith, subst (λ (x : Member). x.ty.0 < length c.args.acc.now) (sym is) low)
 
 pub union_value-returns-in_err-val-clause-err : goal.union_value-returns-in_err-val-clause-err
@@ -177,9 +210,9 @@ union_value-returns-in_err-val-clause-err t c =
     let m = c.in-Some-member_named.ensures in
     let is = picked c.args.def.now.members c.as_slice.result.now c.in-Some-member_named.n m.member c.index-as_slice-n.result c.as_slice.ensures m.there in
     let named = ap (λ k. member_named k c.args.def.now.members) (sym c.as_str.ensures.same) ∙ m.named in
-    let refused = subst (λ (x : Member). IsRefused c.args.acc.now (plainly x.ty) (data_of c.in-Some.pair.now.1) c.in_err-val.field-0.0) is c.in_err-val.ensures.err in
+    let refused = subst (λ (x : Member). IsRefused c.args.acc.now (plainly x.ty) (data_of c.in-Some.tree) c.in_err-val.field-0.0) is c.in_err-val.ensures.err in
     let p = err_from_is_err_and c.from_residual.result c.from_residual.ensures.1 in
-    rw (p.1, p.2) (union_refused c.args.acc.now c.args.slot c.args.def.now c.args.entries.now c.in-Some.pair.now.0 (data_of c.in-Some.pair.now.1) c.in-Some-member_named.n m.member c.in_err-val.field-0.0 c.requires.form c.in-Some.ensures named refused)
+    rw (p.1, p.2) (union_refused c.args.acc.now c.args.slot c.args.def.now c.args.entries c.in-Some.name (data_of c.in-Some.tree) c.in-Some-member_named.n m.member c.in_err-val.field-0.0 c.requires.form c.in-Some.ensures named refused)
 
 pub union_value-overflow_cast-result : goal.union_value-overflow_cast-result
 union_value-overflow_cast-result t c =
@@ -193,6 +226,6 @@ union_value-returns-clause-ok t c =
     let m = c.in-Some-member_named.ensures in
     let is = picked c.args.def.now.members c.as_slice.result.now c.in-Some-member_named.n m.member c.index-as_slice-n.result c.as_slice.ensures m.there in
     let named = ap (λ k. member_named k c.args.def.now.members) (sym c.as_str.ensures.same) ∙ m.named in
-    let v = subst (λ (x : Member). Means c.args.acc.now (plainly x.ty) (data_of c.in-Some.pair.now.1) (value_of c.in_ok-val.val)) is c.in_ok-val.ensures.ok in
-    union_means c.args.acc.now c.args.slot c.args.def.now c.args.entries.now c.in-Some.pair.now.0 (data_of c.in-Some.pair.now.1) c.in-Some-member_named.n m.member c.in_ok-new.field-0 c.requires.form c.in-Some.ensures named
-    (subst (λ (w : Value). Means c.args.acc.now (plainly m.member.ty) (data_of c.in-Some.pair.now.1) w) (sym c.in_ok-new.ensures) v)
+    let v = subst (λ (x : Member). Means c.args.acc.now (plainly x.ty) (data_of c.in-Some.tree) (value_of c.in_ok-val.val)) is c.in_ok-val.ensures.ok in
+    union_means c.args.acc.now c.args.slot c.args.def.now c.args.entries c.in-Some.name (data_of c.in-Some.tree) c.in-Some-member_named.n m.member c.in_ok-new.field-0 c.requires.form c.in-Some.ensures named
+    (subst (λ (w : Value). Means c.args.acc.now (plainly m.member.ty) (data_of c.in-Some.tree) w) (sym c.in_ok-new.ensures) v)
