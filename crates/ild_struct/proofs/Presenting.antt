@@ -1,13 +1,13 @@
 -- Which parts are written: those whose names stand among entries, and those at the places of a list.
 use Rattle.std.proofs.Common.{◌≡◌, ℕ, zero, suc, ◌+◌, ◌<◌, ◌≤◌, List, [], ◌∷◌, length, Bool, true, false, cond, ◌||◌, not, Option, Some, None, refl, sym, ◌∙◌, ap, subst, arith}
-use Rattle.std.specs.Prelude.{slice_get}
+use Rattle.std.specs.Prelude.{nat_eq, slice_get}
 use Rattle.std.specs.List.{list_any, AllByRecursion}
 use Rattle.std.specs.Cmp.Lexicographic.{same_text as text_same}
 use Rattle.std.proofs.lemmas.Option.{same_Some, none-some}
 use Rattle.std.proofs.lemmas.Bool.{eqb-true}
 use Rattle.ild_data.specs.Data.{Data}
 use Rattle.ild_data.specs.Key.{same_text, value_at}
-use Rattle.ild_schema.specs.Clear.{AreNamesApart}
+use Rattle.ild_schema.specs.Clear.{AreNamesApart, IsRequired}
 use Rattle.ild_schema.specs.Marks.{field_text}
 use Rattle.ild_schema.specs.declared.def.Field.{Field}
 use Rattle.ild_typed.specs.Fields.{is_implicit, are_absent, tuple_items}
@@ -16,11 +16,11 @@ use Rattle.ild_typed.specs.StructWhy.{has_stranger, is_name_of, place_of}
 use Rattle.ild_typed.proofs.Basics.{map_from, true_from}
 use Rattle.ild_typed.proofs.Cleans.{or_false, never}
 use Rattle.ild_typed.proofs.Entries.{same_text_self}
-use Rattle.ild_struct.specs.Present.{by_place, numbered}
+use Rattle.ild_struct.specs.Present.{ComeOnce, by_place, numbered}
 use Rattle.ild_struct.specs.Stepping.{Written}
 use Rattle.ild_struct.specs.Reading.{shown}
 use Rattle.ild_struct.proofs.Looking.{Keyed, Placed}
-use Rattle.ild_struct.proofs.Placing.{name_at, text_turn}
+use Rattle.ild_struct.proofs.Placing.{all_at, name_at, text_turn}
 
 -- ---- by names
 
@@ -84,6 +84,31 @@ shown_some f (Some e) d is = by (is_implicit f.implicit e) is where
   by true h = absurd (none-some d h)
   by false h = h
 
+-- two names that are known stand at two places
+places_apart : (fs : List Field) (k l : List ℕ) → NameOf fs k → NameOf fs l → same_text k l ≡ false → nat_eq (place_of fs k) (place_of fs l) ≡ false
+places_apart fs k l x y other = by (nat_eq (place_of fs k) (place_of fs l)) refl where
+  by : (b : Bool) → nat_eq (place_of fs k) (place_of fs l) ≡ b → b ≡ false
+  by false e = refl
+  by true e =
+      let same : x.field ≡ y.field = same_Some x.field y.field (sym x.there ∙ ap (slice_get fs) (eqb-true (place_of fs k) (place_of fs l) e) ∙ y.there) in
+      let named : k ≡ l = sym x.name ∙ ap field_text same ∙ y.name in
+      sym (same_text_self k) ∙ ap (same_text k) named ∙ other
+
+place_once : (fs : List Field) (e : List ℕ × Data) (es : List (List ℕ × Data)) → NameOf fs e.0 → has_stranger fs (names es) ≡ false → is_among e.0 (names es) ≡ false
+    → AllByRecursion (λ (y : ℕ × Data). nat_eq (place_of fs e.0) y.0 ≡ false) (by_place fs es)
+place_once fs e [] x known other = tt
+place_once fs e (f ∷ es) x known other =
+    let o = or_false (not (list_any (is_name_of f.0) fs)) (has_stranger fs (names es)) known in
+    let a = or_false (same_text e.0 f.0) (is_among e.0 (names es)) other in
+    (places_apart fs e.0 f.0 x (name_of fs f.0 o.0) a.0, place_once fs e es x o.1 a.1)
+
+places_once : (fs : List Field) (es : List (List ℕ × Data)) → has_stranger fs (names es) ≡ false → has_twice (names es) ≡ false → ComeOnce (by_place fs es)
+places_once fs [] known once = tt
+places_once fs (e ∷ es) known once =
+    let o = or_false (not (list_any (is_name_of e.0) fs)) (has_stranger fs (names es)) known in
+    let a = or_false (is_among e.0 (names es)) (has_twice (names es)) once in
+    (place_once fs e es (name_of fs e.0 o.0) o.1 a.0, places_once fs es o.1 a.1)
+
 module _ (fs : List Field) (os : List (Option Data)) (es : List (List ℕ × Data)) (apart : AreNamesApart fs)
     (looked : (i : ℕ) (f : Field) → slice_get fs i ≡ Some f → Keyed f os i (value_at (field_text f) es))
   where
@@ -112,10 +137,13 @@ module _ (fs : List Field) (os : List (Option Data)) (es : List (List ℕ × Dat
         let place : i ≡ place_of fs (field_text f) = eqb-true i (place_of fs (field_text f)) (name_at fs i f (field_text f) apart at ∙ same_text_self (field_text f)) in
         (x.at, placed_at fs es x.at (field_text f) d x.there ∙ ap (λ (m : ℕ). Some (m, d)) (sym place))
 
-    pub keyed_written : has_stranger fs (names es) ≡ false → has_twice (names es) ≡ false → Written fs os (by_place fs es)
-    keyed_written known once =
+    optional_part : AllByRecursion IsRequired fs → (i : ℕ) (f : Field) (d : Data) → slice_get fs i ≡ Some f → slice_get os i ≡ Some (Some d) → f.optional ≡ true → (n : ℕ) × (slice_get (by_place fs es) n ≡ Some (i, d))
+    optional_part required i f d at held optional = whole_part i f d at held (ap (λ o. is_implicit o d) (all_at IsRequired fs i f required at optional))
+
+    pub keyed_written : AllByRecursion IsRequired fs → has_stranger fs (names es) ≡ false → has_twice (names es) ≡ false → Written fs os (by_place fs es)
+    keyed_written required known once =
         let s = sound_parts es known (each_found es once) in
-        record { present = record { sound = s.0; whole = whole_part }; within = s.1 }
+        record { present = record { sound = s.0; whole = whole_part; optional = optional_part required; once = places_once fs es known once }; within = s.1 }
 
 -- ---- by places
 
@@ -142,8 +170,19 @@ get_below [] i x at = absurd (none-some x at)
 get_below (y ∷ xs) zero x at = omega arith
 get_below (y ∷ xs) (suc i) x at = let less = get_below xs i x at in omega (arith, less)
 
+numbered_above : (n m : ℕ) (ds : List Data) → n < m → AllByRecursion (λ (y : ℕ × Data). nat_eq n y.0 ≡ false) (numbered m ds)
+numbered_above n m [] less = tt
+numbered_above n m (d ∷ ds) less = (by (nat_eq n m) refl, numbered_above n (suc m) ds (omega (arith, less))) where
+  by : (b : Bool) → nat_eq n m ≡ b → nat_eq n m ≡ false
+  by false e = e
+  by true e = absurd (omega (arith, less, eqb-true n m e))
+
+numbered_once : (n : ℕ) (ds : List Data) → ComeOnce (numbered n ds)
+numbered_once n [] = tt
+numbered_once n (d ∷ ds) = (numbered_above n (suc n) ds (omega arith), numbered_once (suc n) ds)
+
 pub placed_written : (fs : List Field) (os : List (Option Data)) (ds : List Data) → length ds ≤ length fs → ((i : ℕ) → i < length fs → Placed os i (slice_get ds i)) → Written fs os (numbered 0 ds)
-placed_written fs os ds most there = record { present = record { sound = numbered_all (λ x. slice_get os x.0 ≡ Some (Some x.1)) 0 ds sound; whole = whole }; within = numbered_all (λ x. x.0 < length fs) 0 ds below } where
+placed_written fs os ds most there = record { present = record { sound = numbered_all (λ x. slice_get os x.0 ≡ Some (Some x.1)) 0 ds sound; whole = λ i f d at held plain. whole i f d at held; optional = λ i f d at held optional. whole i f d at held; once = numbered_once 0 ds }; within = numbered_all (λ x. x.0 < length fs) 0 ds below } where
   below : (i : ℕ) (d : Data) → slice_get ds i ≡ Some d → 0 + i < length fs
   below i d at = let less = get_below ds i d at in omega (arith, most, less)
 
@@ -153,8 +192,8 @@ placed_written fs os ds most there = record { present = record { sound = numbere
       let same : 0 + i ≡ i = omega arith in
       p.at ∙ ap Some (sym p.same ∙ ap (slice_get ds) same ∙ at)
 
-  whole : (i : ℕ) (f : Field) (d : Data) → slice_get fs i ≡ Some f → slice_get os i ≡ Some (Some d) → is_implicit f.implicit d ≡ false → (n : ℕ) × (slice_get (numbered 0 ds) n ≡ Some (i, d))
-  whole i f d at held plain =
+  whole : (i : ℕ) (f : Field) (d : Data) → slice_get fs i ≡ Some f → slice_get os i ≡ Some (Some d) → (n : ℕ) × (slice_get (numbered 0 ds) n ≡ Some (i, d))
+  whole i f d at held =
       let p = there i (get_below fs i f at) in
       let same : 0 + i ≡ i = omega arith in
       (i, numbered_at 0 ds i d (p.same ∙ same_Some p.held (Some d) (sym p.at ∙ held)) ∙ ap (λ (m : ℕ). Some (m, d)) same)

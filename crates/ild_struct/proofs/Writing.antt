@@ -120,7 +120,7 @@ module _ (rows : List Row) (ty : ℕ) (t : Data) (os : List (Option Data)) (part
       let k = known S.Map e.0 x.form_is (piece_rises rows p t x.stands) (ap (option_map names) e.1) in
       record {
         parts = by_place fs e.0;
-        written = keyed_written fs os e.0 clear_map.apart (λ i f at. subst (λ o. Keyed f os i (option_and_then (value_at (field_text f)) o)) e.1 (map_keyed fs os t i f clear_map.apart made_map at)) k.0 k.1;
+        written = keyed_written fs os e.0 clear_map.apart (λ i f at. subst (λ o. Keyed f os i (option_and_then (value_at (field_text f)) o)) e.1 (map_keyed fs os t i f clear_map.apart made_map at)) clear_map.required k.0 k.1;
         leaves = (clear_map.apart, e.0, e.2, refl);
       }
 
@@ -163,7 +163,7 @@ module _ (rows : List Row) (ty : ℕ) (t : Data) (os : List (Option Data)) (part
       let same : x.items ≡ T.items_of (map pair_data y.item) = same_items x.items (T.items_of (map pair_data y.item)) (sym x.list ∙ is) in
       record {
         parts = by_place fs y.item;
-        written = keyed_written fs os y.item clear_pairs.apart (λ i f at. keyed fs os y.item i f clear_pairs.apart y.there at) k.0 k.1;
+        written = keyed_written fs os y.item clear_pairs.apart (λ i f at. keyed fs os y.item i f clear_pairs.apart y.there at) clear_pairs.required k.0 k.1;
         leaves = (clear_pairs.apart, y.item, subst (λ (ds : T.Items). HasItems s ds) same x.left, refl);
       }
 
@@ -180,7 +180,7 @@ module _ (rows : List Row) (ty : ℕ) (t : Data) (os : List (Option Data)) (part
       let k = known (S.StringPairs x.inner x.entry) y.item x.form_is (subst KeysRise (same_Some (T.text text.item) t text.made) tt) (ap (option_map names) split_is.entries) in
       record {
         parts = by_place fs y.item;
-        written = keyed_written fs os y.item both.0.apart (λ i f at. keyed fs os y.item i f both.0.apart y.there at) k.0 k.1;
+        written = keyed_written fs os y.item both.0.apart (λ i f at. keyed fs os y.item i f both.0.apart y.there at) both.0.required k.0 k.1;
         leaves = (both.0.apart, ap (by_place fs) same);
       }
 

@@ -1,5 +1,5 @@
 -- The parts of a struct that are written, in the order of the data, each with the number of its field.
-use Rattle.std.specs.Prelude.{◌≡◌, ◌<◌, ℕ, suc, length, false, List, [], ◌∷◌, Option, Some, None, map, slice_get}
+use Rattle.std.specs.Prelude.{◌≡◌, ◌<◌, ℕ, suc, length, true, false, nat_eq, List, [], ◌∷◌, Option, Some, None, map, slice_get}
 use Rattle.std.specs.List.{AllByRecursion}
 use Rattle.ild_data.specs.Data as T
 use Rattle.ild_data.specs.Data.{Data, Items, items_list, items_of}
@@ -19,11 +19,20 @@ use Rattle.ild_struct.specs.declared.left.Left.{Left}
 use Rattle.ild_struct.specs.declared.left.Left.TheVariants as L
 use Rattle.ild_struct.specs.declared.present.Present.{Present}
 
+-- no number comes twice
+abbrev pub ComeOnce : List (ℕ × Data) → Type 0
+ComeOnce [] = Unit {0}
+ComeOnce (x ∷ xs) = AllByRecursion (λ (y : ℕ × Data). nat_eq x.0 y.0 ≡ false) xs × ComeOnce xs
+
 -- these numbers and data are those of the fields whose parts are written
 pub record ArePresent (fs : List Field) (os : List (Option Data)) (xs : List (ℕ × Data)) : Type 0 where
   pub sound : AllByRecursion (λ x. slice_get os x.0 ≡ Some (Some x.1)) xs
   -- all but the implicit ones, which are left out
   pub whole : (i : ℕ) (f : Field) (d : Data) → slice_get fs i ≡ Some f → slice_get os i ≡ Some (Some d) → is_implicit f.implicit d ≡ false → (n : ℕ) × (slice_get xs n ≡ Some (i, d))
+  -- among them all of optional fields, which have no implicit value
+  pub optional : (i : ℕ) (f : Field) (d : Data) → slice_get fs i ≡ Some f → slice_get os i ≡ Some (Some d) → f.optional ≡ true → (n : ℕ) × (slice_get xs n ≡ Some (i, d))
+  -- each field comes once
+  pub once : ComeOnce xs
 
 -- names with values, by the places of their fields
 abbrev pub by_place : List Field → List (List ℕ × Data) → List (ℕ × Data)
