@@ -1,4 +1,5 @@
 pub mod Shown
+pub mod NodeTests
 pub mod Leading
 pub mod Going
 pub mod Fulling

@@ -1,5 +1,6 @@
 pub mod Seen
 pub mod Fetching
+pub mod NodeBytes
 pub mod Reaching
 pub mod Way
 pub mod Ends

@@ -10,8 +10,7 @@ ghost use Rattle.ild_hamt.specs.Seen.{Shows};
 ghost use Rattle.ild_hamt.specs.Way.{slot_for};
 ghost use Rattle.ild_hamt.specs.Ends.{EndsAt, agree, agreeing_hashes, hashes_of, is_full};
 
-use crate::reading::view_in;
-use ild_data::Octets;
+use crate::reading::{NodeBlock, view_in};
 use ild_node::{BUCKET_SIZE, LEVELS, NodeSlot, NodeView, index_of};
 
 /// The slot of a hash in a node at a depth.
@@ -25,7 +24,7 @@ pub(crate) fn slot_at<'b>(view: NodeView<'b>, hash: &[u8; 32], depth: u32) -> No
 /// The slot in which a way through these blocks ends.
 pub(crate) fn end_slot<'b>(
     root: NodeView<'b>,
-    blocks: &'b [Octets],
+    blocks: &'b [NodeBlock],
     hash: &[u8; 32],
     depth: u32,
 ) -> NodeSlot<'b>
@@ -39,7 +38,7 @@ pub(crate) fn end_slot<'b>(
     if count == 0 {
         return slot_at(root, hash, depth);
     }
-    match view_in(blocks[count - 1].as_slice()) {
+    match view_in(&blocks[count - 1]) {
         Some(view) => slot_at(view, hash, depth),
         None => NodeSlot::Empty,
     }

@@ -14,7 +14,7 @@ ghost use Rattle.ild_walker.specs.Gives.{IsNodeOf};
 ghost use Rattle.ild_hamt.specs.Way.{IsRootOf};
 
 use crate::gathering::{put_next, rows_of};
-use crate::reading::view_in;
+use crate::reading::{NodeBlock, view_in};
 use crate::weighing::{SLOTS, is_few};
 use ild_bulk::PlannedBlock;
 use ild_data::Octets;
@@ -90,7 +90,7 @@ fn index_at(hash: &[u8; 32], depth: u32) -> u8
 // The same of a node in its block, at the slot of a hash.
 fn lift_block(
     alloc: Global,
-    block: &[u8],
+    block: &NodeBlock,
     hash: &[u8; 32],
     depth: u32,
     slot: Option<NewHold>,
@@ -113,7 +113,7 @@ fn lift_block(
 pub(crate) fn climb(
     alloc: Global,
     root: NodeView<'_>,
-    blocks: Vec<Octets>,
+    blocks: Vec<NodeBlock>,
     hash: &[u8; 32],
     depth: u32,
     slot: Option<NewHold>,
@@ -127,7 +127,7 @@ pub(crate) fn climb(
     let mut depth = depth;
     let mut slot = slot;
     while let Some(block) = blocks.pop() {
-        slot = lift_block(alloc, block.as_slice(), hash, depth, slot, plan)?;
+        slot = lift_block(alloc, &block, hash, depth, slot, plan)?;
         depth = depth.saturating_sub(1);
     }
     write_changed(alloc, root, index_at(hash, 0), &slot)

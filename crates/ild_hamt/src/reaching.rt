@@ -4,21 +4,22 @@ ghost use Rattle.ild_data.specs.Trie.{TrieSlot};
 ghost use Rattle.ild_data.specs.TrieShape.{trie_levels};
 ghost use Rattle.ild_typed.specs.Composed.{usual};
 ghost use Rattle.ild_node.specs.Views.{HasSlots};
-ghost use Rattle.ild_hamt.specs.Fetching.{Fetches, Judges};
-ghost use Rattle.ild_hamt.specs.Reaching.{refusal_of, reached_block};
+ghost use Rattle.ild_hamt.specs.Fetching.{Fetches};
+ghost use Rattle.ild_hamt.specs.Reaching.{reached_block};
 ghost use Rattle.ild_walker.specs.Gives.{IsNodeOf};
 ghost use Rattle.ild_hamt.specs.Way.{slot_for, child_id};
 
 use crate::ending::slot_at;
-use ild_cbor::{BlockWhy, check};
-use ild_data::{BlockId, Octets};
+use crate::reading::{NodeBlock, view_in};
+use ild_cbor::BlockWhy;
+use ild_data::BlockId;
 use ild_edges::{EdgeErr, Store};
-use ild_node::{HamtFault, NodeSlot, NodeView, node_of};
+use ild_node::{HamtFault, NodeSlot, NodeView};
 
 /// The block of a node, and the id of its child on a key's way.
 #[derive(Drop)]
 pub(crate) struct Reached {
-    pub(crate) block: Octets,
+    pub(crate) block: NodeBlock,
     pub(crate) child: Option<BlockId>,
 }
 
@@ -34,18 +35,14 @@ pub(crate) fn child_at(view: NodeView<'_>, hash: &[u8; 32], depth: u32) -> Optio
     }
 }
 
-// The same of a block, or what is wrong with it.
-fn child_in(block: &[u8], hash: &[u8; 32], depth: u32) -> Result<Option<BlockId>, BlockWhy>
+// The same of the block of a node.
+fn child_in(block: &NodeBlock, hash: &[u8; 32], depth: u32) -> Option<BlockId>
     requires { depth < trie_levels usual }
-    ensures judged { Judges usual block.now (refusal_of result) }
-    ensures child { (slots : List TrieSlot) → IsNodeOf usual block.now slots → IfOk result (λ c. option_map (λ id. id.0) c ≡ child_id (slot_for usual hash.now depth slots)) }
+    ensures { (slots : List TrieSlot) → IsNodeOf usual block.now slots → option_map (λ id. id.0) result ≡ child_id (slot_for usual hash.now depth slots) }
 {
-    match check(block) {
-        Err(fault) => Err(BlockWhy::Cbor(fault)),
-        Ok(node) => match node_of(node) {
-            Ok(view) => Ok(child_at(view, hash, depth)),
-            Err(why) => Err(BlockWhy::Shape(why)),
-        },
+    match view_in(block) {
+        Some(view) => child_at(view, hash, depth),
+        None => None,
     }
 }
 
@@ -61,8 +58,11 @@ pub(crate) fn reach<K: Store>(
     ensures child { IfOk result (λ r. (slots : List TrieSlot) → IsNodeOf usual r.block slots → option_map (λ id. id.0) r.child ≡ child_id (slot_for usual hash.now depth slots)) }
 {
     match store.get(id) {
-        Ok(Some(block)) => match child_in(block.as_slice(), hash, depth) {
-            Ok(child) => Ok(Reached { block, child }),
+        Ok(Some(bytes)) => match NodeBlock::of(bytes) {
+            Ok(block) => {
+                let child = child_in(&block, hash, depth);
+                Ok(Reached { block, child })
+            }
             Err(why) => Err(HamtFault::Block { id: *id, why }),
         },
         Ok(None) => Err(HamtFault::Block {

@@ -18,7 +18,7 @@ ghost use Rattle.ild_hamt.specs.Way.{IsRootOf, slot_for};
 use crate::ending::slot_at;
 use crate::hashing::keyed;
 use crate::lifting::{climb, few_slot};
-use crate::reading::{view_again, view_in};
+use crate::reading::{NodeBlock, view_again, view_in};
 use crate::trail::Trail;
 use ild_bulk::{PlannedBlock, any_long, is_long, plan_keyed, put_all};
 use ild_data::Octets;
@@ -27,7 +27,7 @@ use ild_node::{BUCKET_SIZE, HamtFault, LEVELS, NewHold, NodeSlot, NodeView, Rows
 use std::alloc::Global;
 
 // The node in which a way through these blocks ends.
-fn end_view<'b>(root: NodeView<'b>, blocks: &'b [Octets]) -> Option<NodeView<'b>>
+fn end_view<'b>(root: NodeView<'b>, blocks: &'b [NodeBlock]) -> Option<NodeView<'b>>
     ensures known { IfSome result (λ v. ∥ SomeNode v ∥₁) }
     ensures only { (slots last : List TrieSlot) → HasSlots usual root.entry slots → EndsAt usual slots blocks.now last → IsSome result × IfSome result (λ v. HasSlots usual v last) }
 {
@@ -35,13 +35,13 @@ fn end_view<'b>(root: NodeView<'b>, blocks: &'b [Octets]) -> Option<NodeView<'b>
     if count == 0 {
         return view_again(root);
     }
-    view_in(blocks[count - 1].as_slice())
+    view_in(&blocks[count - 1])
 }
 
 /// The slot in which a way through these blocks ends, of which is known that it was read from a node.
 pub(crate) fn end_again<'b>(
     root: NodeView<'b>,
-    blocks: &'b [Octets],
+    blocks: &'b [NodeBlock],
     hash: &[u8; 32],
     depth: u32,
 ) -> NodeSlot<'b>

@@ -3,6 +3,7 @@
 use crate::ending::end_slot;
 use crate::gathering::rows_without;
 use crate::lifting::few_slot;
+use crate::reading::NodeBlock;
 use crate::rewriting::{end_again, rewrite, slot_of};
 use ild_cbor::Node;
 use ild_data::{KeyHash, Octets, Txt};
@@ -17,7 +18,7 @@ pub struct Trail {
     pub(crate) key: Txt,
     pub(crate) hash: [u8; 32],
     pub(crate) depth: u32,
-    pub(crate) blocks: Vec<Octets>,
+    pub(crate) blocks: Vec<NodeBlock>,
     pub(crate) others: Vec<[u8; 32]>,
     pub(crate) exhausted: bool,
 }
@@ -42,7 +43,7 @@ impl Trail {
     ghost use Rattle.ild_hamt.specs.Setting.{Sets};
 
     /// The blocks that were read, from the child of the root down.
-    pub fn blocks(&self) -> &[Octets]
+    pub fn blocks(&self) -> &[NodeBlock]
         ensures { result.now ≡ trail_blocks self.now }
     {
         &self.blocks

@@ -10,12 +10,12 @@ use Rattle.ild_hamt.proofs.ending.end_slot.Goals as goal
 pub returns-in-Some : goal.returns-in-Some
 returns-in-Some c = λ slots last has ends deep lt.
     c.slot_at-in-Some.ensures last (c.in-Some.ensures.only last
-    (node-last c.args.blocks.now c.index-blocks-count.result c.as_slice.result.now slots last _ c.as_slice.ensures.same c.index-blocks-count.is refl (omega (arith, c.if-count-eq0.false)) ends)).1
+    (node-last c.args.blocks.now c.index-blocks-count.result c.index-blocks-count.result slots last _ refl c.index-blocks-count.is refl (omega (arith, c.if-count-eq0.false)) ends)).1
 
 pub returns-in-None : goal.returns-in-None
 returns-in-None c = λ slots last has ends deep lt.
     absurd (false≢true (c.in-None.ensures.only last
-    (node-last c.args.blocks.now c.index-blocks-count.result c.as_slice.result.now slots last _ c.as_slice.ensures.same c.index-blocks-count.is refl (omega (arith, c.if-count-eq0.false)) ends)).0)
+    (node-last c.args.blocks.now c.index-blocks-count.result c.index-blocks-count.result slots last _ refl c.index-blocks-count.is refl (omega (arith, c.if-count-eq0.false)) ends)).0)
 
 pub returns-then-count-eq0 : goal.returns-then-count-eq0
 returns-then-count-eq0 c = λ slots last has ends deep lt.

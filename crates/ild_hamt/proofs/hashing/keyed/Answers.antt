@@ -1,4 +1,4 @@
-use Rattle.std.proofs.Common.{◌+◌, refl, ap, sym, ◌∙◌, take, arith, append-nil}
+use Rattle.std.proofs.Common.{refl, ap, ◌∙◌, arith}
 use Rattle.std.proofs.lemmas.List.{take_all}
 use Rattle.ild_data.specs.ByteOrder.{without}
 use Rattle.ild_node.specs.Rows.{rows_seen}

@@ -1,4 +1,4 @@
-use Rattle.std.proofs.Common.{◌≡◌, ◌+◌, [], length, set, rules, arith}
+use Rattle.std.proofs.Common.{◌≡◌, ◌+◌, [], length, set, refl, rules, arith}
 use Rattle.std.proofs.lemmas.Result.{err_from_is_err_and}
 use Rattle.ild_data.specs.Spell.{spell}
 use Rattle.ild_data.specs.Trie.{node_data}
@@ -16,9 +16,9 @@ loop-block-preserved c = (
   λ h k es fs d hashed start.
       let was = c.loop-block.invariant.1 h k es fs d hashed start in
       let rest = c.pop.new.self.items in
-      let last = state-last h usual k es fs c.loop-block.blocks.items rest c.in-Some.block c.as_slice.result.now c.loop-block.depth (slot_seen c.loop-block.slot) c.loop-block.plan.items was c.in-Some.ensures.items c.as_slice.ensures.same in
-      let slots = state-slots h usual k c.args.hash.now es fs c.loop-block.blocks.items rest c.as_slice.result.now c.loop-block.depth (slot_seen c.loop-block.slot) c.loop-block.plan.items d hashed was last in
-      state-more h usual k es fs c.loop-block.blocks.items rest c.in-Some.block c.as_slice.result.now c.loop-block.depth c.saturating_sub-depth.result (slot_seen c.loop-block.slot) (slot_seen c.in_ok-slot.slot)
+      let last = state-last h usual k es fs c.loop-block.blocks.items rest c.in-Some.block c.in-Some.block c.loop-block.depth (slot_seen c.loop-block.slot) c.loop-block.plan.items was c.in-Some.ensures.items refl in
+      let slots = state-slots h usual k c.args.hash.now es fs c.loop-block.blocks.items rest c.in-Some.block c.loop-block.depth (slot_seen c.loop-block.slot) c.loop-block.plan.items d hashed was last in
+      state-more h usual k es fs c.loop-block.blocks.items rest c.in-Some.block c.in-Some.block c.loop-block.depth c.saturating_sub-depth.result (slot_seen c.loop-block.slot) (slot_seen c.in_ok-slot.slot)
       c.loop-block.plan.items c.lift_block.new.plan.items was c.in-Some.ensures.items last c.saturating_sub-depth.ensures
       (c.in_ok-slot.ensures.lifts h last.at.less last.at.slots (along h usual k (length rest + 1) 0 fs) last.at.node (omega (arith, was.deep, last.long, last.at.left_is)) (in_order-along h usual k (length rest + 1) 0 fs d.now) slots),
 )

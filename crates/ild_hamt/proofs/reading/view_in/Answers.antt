@@ -1,18 +1,19 @@
-use Rattle.std.proofs.lemmas.Bool.{false≢true}
+use Rattle.std.proofs.Common.{sym, List, ℕ, ◌∙◌, subst, ap}
 use Rattle.ild_data.specs.Trie.{node_data}
+use Rattle.ild_cbor.specs.Block.{IsBlockOf}
+use Rattle.ild_cbor.specs.Reading.{fault_of}
+use Rattle.ild_hamt.proofs.NodeTests.{node-told, no-fault, some-known}
 use Rattle.ild_hamt.proofs.reading.view_in.Goals as goal
 
-pub returns-in-Ok-node_of-clause-known : goal.returns-in-Ok-node_of-clause-known
-returns-in-Ok-node_of-clause-known c =
-    let d = c.in-Ok.ensures.found in
-    let s = c.in-Ok-node_of.ensures.found d.0 d.2.stands in
-    ∣ record { slots = s.0; has = s.2 } ∣₁
+pub known_root-requires : goal.known_root-requires
+known_root-requires c = ap fault_of c.as_slice.ensures.same ∙ no-fault _ c.block.invariant
 
-pub returns-in-Ok-node_of-clause-only : goal.returns-in-Ok-node_of-clause-only
-returns-in-Ok-node_of-clause-only c = λ slots n. c.in-Ok-node_of.ensures.only slots (c.in-Ok.ensures.only (node_data slots) n.is).1.stands n.form
+pub returns-clause-known : goal.returns-clause-known
+returns-clause-known c =
+    let n = node-told _ c.as_slice.ensures.bytes c.block.invariant in
+    some-known c.known_node.result n.slots
+    (c.known_node.ensures n.slots (c.known_root.ensures (node_data n.slots) (subst (λ (b : List ℕ). IsBlockOf b (node_data n.slots)) (sym c.as_slice.ensures.same) n.is)).stands n.form).1
 
-pub returns-in-Err-node_of-clause-only : goal.returns-in-Err-node_of-clause-only
-returns-in-Err-node_of-clause-only c = λ slots n. c.in-Err-node_of.ensures.only slots (c.in-Ok.ensures.only (node_data slots) n.is).1.stands n.form
-
-pub returns-in-Err-clause-only : goal.returns-in-Err-clause-only
-returns-in-Err-clause-only c = λ slots n. absurd (false≢true (c.in-Err.ensures.only (node_data slots) n.is).0)
+pub returns-clause-only : goal.returns-clause-only
+returns-clause-only c = λ slots n.
+    c.known_node.ensures slots (c.known_root.ensures (node_data slots) (subst (λ (b : List ℕ). IsBlockOf b (node_data slots)) (sym (c.as_slice.ensures.same ∙ c.block.view_is)) n.is)).stands n.form

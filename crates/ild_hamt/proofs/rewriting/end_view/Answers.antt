@@ -12,4 +12,4 @@ returns-then-count-eq0-clause-only c = λ slots last has ends.
 
 pub returns-clause-only : goal.returns-clause-only
 returns-clause-only c = λ slots last has ends.
-    c.view_in.ensures.only last (node-last c.args.blocks.now c.index-blocks-count.result c.as_slice.result.now slots last _ c.as_slice.ensures.same c.index-blocks-count.is refl (omega (arith, c.if-count-eq0.false)) ends)
+    c.view_in.ensures.only last (node-last c.args.blocks.now c.index-blocks-count.result c.index-blocks-count.result slots last _ refl c.index-blocks-count.is refl (omega (arith, c.if-count-eq0.false)) ends)
