@@ -33,11 +33,12 @@ laws = eq_by_cmp_equiv total
 
 not_found : (k : List ℕ) (es : List (List ℕ × Data)) → not (is_some (find bytewise k es)) ≡ true → AllByRecursion (λ y. eq_by_cmp bytewise k y ≡ false) (map key_of (map spelled_pair es))
 not_found k [] none = tt
-not_found k (e ∷ es) none = by (eq_by_cmp bytewise k e.0) refl none
+not_found k (e ∷ es) none = by (eq_by_cmp bytewise k e.0) refl (not_found k es) none
   where
-    by : (b : Bool) → eq_by_cmp bytewise k e.0 ≡ b → not (is_some (cond b (Some e.1) (find bytewise k es))) ≡ true → AllByRecursion (λ y. eq_by_cmp bytewise k y ≡ false) (map key_of (map spelled_pair (e ∷ es)))
-    by true is rest = absurd cc
-    by false is rest = (is, not_found k es rest)
+    by : (b : Bool) → eq_by_cmp bytewise k e.0 ≡ b → (not (is_some (find bytewise k es)) ≡ true → AllByRecursion (λ y. eq_by_cmp bytewise k y ≡ false) (map key_of (map spelled_pair es)))
+        → not (is_some (cond b (Some e.1) (find bytewise k es))) ≡ true → AllByRecursion (λ y. eq_by_cmp bytewise k y ≡ false) (map key_of (map spelled_pair (e ∷ es)))
+    by true is more rest = absurd cc
+    by false is more rest = (is, more rest)
 
 distinct_keys : (es : List (List ℕ × Data)) → no_key_twice es ≡ true → IsDistinct (eq_by_cmp bytewise) (map key_of (map spelled_pair es))
 unfolding IsDistinct
