@@ -1,31 +1,33 @@
 -- The steps of a build.
-use Rattle.std.proofs.Common.{◌≡◌, ◌≤◌, ◌<◌, ◌+◌, ◌-◌, ◌^◌, ℕ, zero, suc, length, map, take, drop, get_or, List, [], ◌∷◌, ◌++◌, Option, Some, None, option_map, refl, sym, ap, ◌∙◌, subst, arith}
-use Rattle.std.specs.Global.{Vec}
+use Rattle.std.proofs.Common.{◌≡◌, ◌≤◌, ◌<◌, ◌+◌, ◌-◌, ◌^◌, ℕ, zero, suc, length, map, get_or, List, [], ◌∷◌, ◌++◌, Option, Some, None, option_map, refl, sym, ap, ◌∙◌, subst, arith}
 use Rattle.std.specs.List.{range_with_len, flat_map}
 use Rattle.std.specs.Prelude.{nat_le, Result, Ok, Err}
 use Rattle.std.proofs.lemmas.Bool.{le-leb, lt-leb}
 use Rattle.std.proofs.lemmas.Grind.{flat_map-append}
-use Rattle.std.proofs.lemmas.List.Folds.{flat_map-map}
-use Rattle.std.proofs.lemmas.List.{same_lists, length-map, get_or-map, map-append, append_assoc, append-nil, take_more, take_all}
+use Rattle.std.proofs.lemmas.List.{length-append, map-append, append_assoc, append-nil}
 use Rattle.std.proofs.lemmas.List.FromFn.{get_or-map-range_with_len, length-map-range_with_len}
 use Rattle.ild_data.specs.Data.{Data}
 use Rattle.ild_data.specs.declared.id.BlockId.{BlockId}
 use Rattle.ild_data.specs.Spell.{spell, id_of}
 use Rattle.ild_data.specs.TrieShape.{TrieShape, trie_levels}
-use Rattle.ild_data.specs.Trie.{TrieSlot, empty, bucket, child, bucket_or, link_to, node_data, part, slot_of, slots_of, all_some, node_of, at_depth}
+use Rattle.ild_data.specs.Trie.{TrieSlot, empty, bucket, child, bucket_or, link_to, node_data, part, slot_of, all_some, node_of, at_depth}
 use Rattle.ild_data.specs.TrieBlocks.{block_of, none_or}
 use Rattle.ild_trie.proofs.Fold.{slot-many as slot-many_lem}
 use Rattle.ild_trie.proofs.Slots.{some_cons}
 use Rattle.ild_trie.proofs.Node.{node-slots, no_node as none_left}
+use Rattle.ild_typed.specs.Composed.{usual}
 use Rattle.ild_node.specs.declared.hold.NewHold.TheVariants as N
 use Rattle.ild_node.specs.declared.fault.HamtFault.{HamtFault}
 use Rattle.ild_node.specs.declared.fault.HamtFault.TheVariants as F
-use Rattle.ild_node.specs.declared.keyed.Keyed.{Keyed}
-use Rattle.ild_node.specs.Keyed.{keyed_rows}
-use Rattle.ild_bulk.proofs.Keys.{PartsAre}
-use Rattle.ild_node.specs.Drafts.{HasWritten}
+use Rattle.ild_node.specs.declared.hashed.HashedEntry.{HashedEntry}
+use Rattle.ild_node.specs.Hashed.{AreHashed}
+use Rattle.ild_node.specs.Rows.{AreRows}
+use Rattle.ild_node.specs.Drafts.{HasWritten, FillBucket}
 use Rattle.ild_node.specs.declared.draft.Draft.{Draft}
+use Rattle.ild_node.proofs.Drafting.{hashed-many, written-skip}
+use Rattle.ild_bulk.specs.Keyed.{hashed_part}
 use Rattle.ild_bulk.specs.Planned.{PlansInto, PlansNode, PlansSlot, planned, slot_plan, slots_left}
+use Rattle.ild_bulk.proofs.Keys.{no-part}
 
 pub node-left : (h : List ℕ → List ℕ) (p : TrieShape) (left depth : ℕ) (es : List (List ℕ × Data)) → node_of h p left depth es ≡ option_map node_data (slots_left h p left depth es)
 node-left h p zero depth es = none_left h p depth es
@@ -38,59 +40,34 @@ all_some-push (Some y ∷ os) xs x is =
     let parts = some_cons y (all_some os) xs is in
     ap (option_map (λ ys. y ∷ ys)) (all_some-push os parts.0 x parts.1) ∙ ap (λ ys. Some (ys ++ x ∷ [])) (sym parts.2)
 
-pub all_some-none : {X : Type 0} (os ps : List (Option X)) → all_some (os ++ None ∷ ps) ≡ None
-all_some-none [] ps = refl
-all_some-none (None ∷ os) ps = refl
-all_some-none (Some y ∷ os) ps = ap (option_map (λ ys. y ∷ ys)) (all_some-none os ps)
-
-element : (parts : List (Vec Keyed)) (k : ℕ) → k < length parts → Vec Keyed
-element [] k lt = absurd (omega arith)
-element (v ∷ vs) k lt = v
-
--- the slots of the parts
-pub slots-parted : (p : TrieShape) (at : List ℕ → ℕ) (below : List (List ℕ × Data) → Option Data) (es : List (List ℕ × Data)) (parts : List (Vec Keyed)) → PartsAre at (2 ^ p.width) es parts
-    → slots_of p at below es ≡ all_some (map (λ v. slot_of p.bucket below (keyed_rows v.items)) parts)
-slots-parted p at below es parts parted =
-    ap all_some (same_lists (map (λ i. slot_of p.bucket below (part at es i)) (range_with_len 0 (2 ^ p.width))) (map (λ (v : Vec Keyed). slot_of p.bucket below (keyed_rows v.items)) parts)
-    (length-map-range_with_len (λ i. slot_of p.bucket below (part at es i)) 0 (2 ^ p.width) ∙ sym parted.many ∙ sym (length-map parts (λ (v : Vec Keyed). slot_of p.bucket below (keyed_rows v.items))))
-    (λ k d lt.
-    let inside : k < 2 ^ p.width = omega (arith, length-map-range_with_len (λ i. slot_of p.bucket below (part at es i)) 0 (2 ^ p.width)) in
-    let among : k < length parts = omega (arith, parted.many) in
-    let z = element parts k among in
-    get_or-map-range_with_len (λ i. slot_of p.bucket below (part at es i)) 0 (2 ^ p.width) k k d inside (omega arith)
-    ∙ ap (slot_of p.bucket below) (sym (parted.each k z inside))
-    ∙ sym (get_or-map (λ (v : Vec Keyed). slot_of p.bucket below (keyed_rows v.items)) parts k z d among)))
+-- where one is missing
+all_some-at : {X : Type 0} (os : List (Option X)) (n : ℕ) → n < length os → get_or os n None ≡ None → all_some os ≡ None
+all_some-at [] n lt is = absurd (omega arith)
+all_some-at (None ∷ os) n lt is = refl
+all_some-at (Some x ∷ os) zero lt is = absurd cc
+all_some-at (Some x ∷ os) (suc n) lt is = ap (option_map (λ ys. x ∷ ys)) (all_some-at os n (omega arith) is)
 
 one_more : (n d : ℕ) → d < n → n - d ≡ suc (n - (d + 1))
 one_more n d lt = omega arith
 
--- the loop's end: all parts have their slots
-pub build-done : (h : List ℕ → List ℕ) (p : TrieShape) (depth : ℕ) (es : List (List ℕ × Data)) (parts yielded : List (Vec Keyed)) (slots : List TrieSlot)
-    → depth < trie_levels p → PartsAre (at_depth h p depth) (2 ^ p.width) es parts → parts ≡ yielded
-    → all_some (map (λ v. slot_of p.bucket (node_of h p (trie_levels p - (depth + 1)) (depth + 1)) (keyed_rows v.items)) yielded) ≡ Some slots
-    → Some slots ≡ slots_left h p (trie_levels p - depth) depth es
-build-done h p depth es parts yielded slots lt parted same is =
-    sym (ap (λ n. slots_left h p n depth es) (one_more (trie_levels p) depth lt)
-    ∙ slots-parted p (at_depth h p depth) (node_of h p (trie_levels p - (depth + 1)) (depth + 1)) es parts parted
-    ∙ ap (λ ps. all_some (map (λ (v : Vec Keyed). slot_of p.bucket (node_of h p (trie_levels p - (depth + 1)) (depth + 1)) (keyed_rows v.items)) ps)) same ∙ is)
+range_more : (a n : ℕ) → range_with_len a (suc n) ≡ range_with_len a n ++ (a + n) ∷ []
+range_more a zero = ap (λ k. k ∷ []) (same a)
+  where
+    same : (k : ℕ) → k ≡ k + 0
+    same k = omega arith
+range_more a (suc n) = ap (λ ks. a ∷ ks) (range_more (a + 1) n ∙ ap (λ k. range_with_len (a + 1) n ++ k ∷ []) (same a n))
+  where
+    same : (k m : ℕ) → k + 1 + m ≡ k + suc m
+    same k m = omega arith
 
--- a part without a slot
-pub build-none : (h : List ℕ → List ℕ) (p : TrieShape) (depth : ℕ) (es : List (List ℕ × Data)) (parts yielded rest : List (Vec Keyed)) (v : Vec Keyed)
-    → depth < trie_levels p → PartsAre (at_depth h p depth) (2 ^ p.width) es parts → parts ≡ yielded ++ v ∷ rest
-    → None ≡ slot_of p.bucket (node_of h p (trie_levels p - (depth + 1)) (depth + 1)) (keyed_rows v.items)
-    → None ≡ slots_left h p (trie_levels p - depth) depth es
-build-none h p depth es parts yielded rest v lt parted same is =
-    let f : Vec Keyed → Option TrieSlot = λ w. slot_of p.bucket (node_of h p (trie_levels p - (depth + 1)) (depth + 1)) (keyed_rows w.items) in
-    sym (ap (λ n. slots_left h p n depth es) (one_more (trie_levels p) depth lt)
-    ∙ slots-parted p (at_depth h p depth) (node_of h p (trie_levels p - (depth + 1)) (depth + 1)) es parts parted
-    ∙ ap (λ ps. all_some (map f ps)) same ∙ ap all_some (map-append f yielded (v ∷ rest)) ∙ ap (λ o. all_some (map f yielded ++ o ∷ map f rest)) (sym is)
-    ∙ all_some-none (map f yielded) (map f rest))
+range_next : (n : ℕ) → range_with_len 0 (n + 1) ≡ range_with_len 0 n ++ n ∷ []
+range_next n = ap (range_with_len 0) (after n) ∙ range_more 0 n ∙ ap (λ k. range_with_len 0 n ++ k ∷ []) (none n)
+  where
+    after : (k : ℕ) → k + 1 ≡ suc k
+    after k = omega arith
 
--- one part more
-pub build-more : (f : Vec Keyed → Option TrieSlot) (yielded : List (Vec Keyed)) (v : Vec Keyed) (slots : List TrieSlot) (s : TrieSlot)
-    → all_some (map f yielded) ≡ Some slots → Some s ≡ f v → all_some (map f (yielded ++ v ∷ [])) ≡ Some (slots ++ s ∷ [])
-build-more f yielded v slots s was is =
-    ap all_some (map-append f yielded (v ∷ []) ∙ ap (λ o. map f yielded ++ o ∷ []) (sym is)) ∙ all_some-push (map f yielded) slots s was
+    none : (k : ℕ) → 0 + k ≡ k
+    none k = omega arith
 
 -- ---- the blocks
 
@@ -105,109 +82,79 @@ pub planned_is : (h : List ℕ → List ℕ) (p : TrieShape) (left depth : ℕ) 
 unfolding planned
 planned_is h p left depth es = refl
 
--- the blocks of the parts
-pub blocks-parted : (p : TrieShape) (at : List ℕ → ℕ) (plan : List (List ℕ × Data) → List (List ℕ)) (es : List (List ℕ × Data)) (parts : List (Vec Keyed)) → PartsAre at (2 ^ p.width) es parts
-    → flat_map (λ i. plan (part at es i)) (range_with_len 0 (2 ^ p.width)) ≡ flat_map (λ v. plan (keyed_rows v.items)) parts
-blocks-parted p at plan es parts parted =
-    sym (flat_map-map (λ bs. bs) (λ i. plan (part at es i)) (range_with_len 0 (2 ^ p.width)))
-    ∙ ap (flat_map (λ bs. bs)) (same_lists (map (λ i. plan (part at es i)) (range_with_len 0 (2 ^ p.width))) (map (λ (v : Vec Keyed). plan (keyed_rows v.items)) parts)
-    (length-map-range_with_len (λ i. plan (part at es i)) 0 (2 ^ p.width) ∙ sym parted.many ∙ sym (length-map parts (λ (v : Vec Keyed). plan (keyed_rows v.items))))
-    (λ k d lt.
-    let inside : k < 2 ^ p.width = omega (arith, length-map-range_with_len (λ i. plan (part at es i)) 0 (2 ^ p.width)) in
-    let among : k < length parts = omega (arith, parted.many) in
-    let z = element parts k among in
-    get_or-map-range_with_len (λ i. plan (part at es i)) 0 (2 ^ p.width) k k d inside (omega arith)
-    ∙ ap plan (sym (parted.each k z inside))
-    ∙ sym (get_or-map (λ (v : Vec Keyed). plan (keyed_rows v.items)) parts k z d among)))
-    ∙ flat_map-map (λ bs. bs) (λ (v : Vec Keyed). plan (keyed_rows v.items)) parts
+-- the slot of an index, and its blocks
+abbrev pub slot_in : (List ℕ → List ℕ) → TrieShape → ℕ → List (List ℕ × Data) → ℕ → Option TrieSlot
+slot_in h p depth es i = slot_of p.bucket (node_of h p (trie_levels p - (depth + 1)) (depth + 1)) (part (at_depth h p depth) es i)
 
--- one part's slot and blocks
-abbrev pub slot_in : (List ℕ → List ℕ) → TrieShape → ℕ → Vec Keyed → Option TrieSlot
-slot_in h p depth v = slot_of p.bucket (node_of h p (trie_levels p - (depth + 1)) (depth + 1)) (keyed_rows v.items)
+abbrev pub plan_in : (List ℕ → List ℕ) → TrieShape → ℕ → List (List ℕ × Data) → ℕ → List (List ℕ)
+plan_in h p depth es i = slot_plan p.bucket (node_of h p (trie_levels p - (depth + 1)) (depth + 1)) (planned h p (trie_levels p - (depth + 1)) (depth + 1)) (part (at_depth h p depth) es i)
 
-abbrev pub plan_in : (List ℕ → List ℕ) → TrieShape → ℕ → Vec Keyed → List (List ℕ)
-plan_in h p depth v = slot_plan p.bucket (node_of h p (trie_levels p - (depth + 1)) (depth + 1)) (planned h p (trie_levels p - (depth + 1)) (depth + 1)) (keyed_rows v.items)
-
--- the parts so far have their slots, which are written, and their blocks are appended
-pub record PlansParts (h : List ℕ → List ℕ) (p : TrieShape) (depth : ℕ) (yielded : List (Vec Keyed)) (d : Draft) (old now : List (List ℕ)) : Type 0 where
+-- the slots of so many indices are written, and their blocks are appended
+pub record PlansParts (h : List ℕ → List ℕ) (p : TrieShape) (depth : ℕ) (es : List (List ℕ × Data)) (n : ℕ) (d : Draft) (old now : List (List ℕ)) : Type 0 where
   pub slots : List TrieSlot
-  pub slots_are : all_some (map (slot_in h p depth) yielded) ≡ Some slots
-  pub blocks_are : now ≡ old ++ flat_map (plan_in h p depth) yielded
+  pub many : length slots ≡ n
+  pub slots_are : all_some (map (slot_in h p depth es) (range_with_len 0 n)) ≡ Some slots
+  pub blocks_are : now ≡ old ++ flat_map (plan_in h p depth es) (range_with_len 0 n)
   pub written : HasWritten d slots
 
-pub plans-more : (h : List ℕ → List ℕ) (p : TrieShape) (depth : ℕ) (yielded : List (Vec Keyed)) (d e : Draft) (old now new : List (List ℕ)) (v : Vec Keyed) (was : PlansParts h p depth yielded d old now)
-    → PlansInto h p (trie_levels p - (depth + 1)) (depth + 1) (keyed_rows v.items) (Ok tt) was.slots e now new
-    → PlansParts h p depth (yielded ++ v ∷ []) e old new
-plans-more h p depth yielded d e old now new v was plans = record {
-  slots = was.slots ++ plans.0 ∷ [];
-  slots_are = build-more (slot_in h p depth) yielded v was.slots plans.0 was.slots_are plans.1;
-  blocks_are = plans.2 ∙ ap (λ bs. bs ++ plan_in h p depth v) was.blocks_are ∙ append_assoc old (flat_map (plan_in h p depth) yielded) (plan_in h p depth v)
-      ∙ ap (λ bs. old ++ bs) (ap (λ bs. flat_map (plan_in h p depth) yielded ++ bs) (sym (append-nil (plan_in h p depth v))) ∙ sym (flat_map-append (plan_in h p depth) yielded (v ∷ [])));
-  written = plans.3;
-}
+pub plans-first : (h : List ℕ → List ℕ) (p : TrieShape) (depth : ℕ) (es : List (List ℕ × Data)) (d : Draft) (bs : List (List ℕ)) → HasWritten d [] → PlansParts h p depth es 0 d bs bs
+plans-first h p depth es d bs none = record { slots = []; many = refl; slots_are = refl; blocks_are = sym (append-nil bs); written = none }
 
-pub plans-first : (h : List ℕ → List ℕ) (p : TrieShape) (depth : ℕ) (d : Draft) (bs : List (List ℕ)) → HasWritten d [] → PlansParts h p depth [] d bs bs
-plans-first h p depth d bs none = record { slots = []; slots_are = refl; blocks_are = sym (append-nil bs); written = none }
+-- one index more
+pub plans-step : (h : List ℕ → List ℕ) (p : TrieShape) (depth : ℕ) (es : List (List ℕ × Data)) (n : ℕ) (d e : Draft) (old now new : List (List ℕ)) (was : PlansParts h p depth es n d old now)
+    → PlansInto h p (trie_levels p - (depth + 1)) (depth + 1) (part (at_depth h p depth) es n) (Ok tt) was.slots e now new → PlansParts h p depth es (n + 1) e old new
+plans-step h p depth es n d e old now new was plans =
+    let f : ℕ → Option TrieSlot = slot_in h p depth es in
+    let g : ℕ → List (List ℕ) = plan_in h p depth es in
+    let long = length-append was.slots (plans.0 ∷ []) in
+    let many = was.many in
+    record {
+      slots = was.slots ++ plans.0 ∷ [];
+      many = omega (arith, long, many);
+      slots_are = ap all_some (ap (map f) (range_next n) ∙ map-append f (range_with_len 0 n) (n ∷ []) ∙ ap (λ o. map f (range_with_len 0 n) ++ o ∷ []) (sym plans.1))
+          ∙ all_some-push (map f (range_with_len 0 n)) was.slots plans.0 was.slots_are;
+      blocks_are = plans.2 ∙ ap (λ bs. bs ++ g n) was.blocks_are ∙ append_assoc old (flat_map g (range_with_len 0 n)) (g n)
+          ∙ ap (λ bs. old ++ bs)
+          (sym (ap (flat_map g) (range_next n) ∙ flat_map-append g (range_with_len 0 n) (n ∷ []) ∙ ap (λ bs. flat_map g (range_with_len 0 n) ++ bs) (append-nil (g n))));
+      written = plans.3;
+    }
 
--- one part more, of those by number
-pub plans-step : (h : List ℕ → List ℕ) (p : TrieShape) (depth : ℕ) (parts : List (Vec Keyed)) (i : ℕ) (d e : Draft) (old now new : List (List ℕ)) (v : Vec Keyed) (was : PlansParts h p depth (take i parts) d old now)
-    → PlansInto h p (trie_levels p - (depth + 1)) (depth + 1) (keyed_rows v.items) (Ok tt) was.slots e now new
-    → i < length parts → v ≡ get_or parts i v → PlansParts h p depth (take (i + 1) parts) e old new
-plans-step h p depth parts i d e old now new v was plans lt is =
-    subst (λ (vs : List (Vec Keyed)). PlansParts h p depth vs e old new) (sym (take_more parts i v lt ∙ ap (λ w. take i parts ++ w ∷ []) (sym is)))
-    (plans-more h p depth (take i parts) d e old now new v was plans)
-
-all_some-long : {X : Type 0} (os : List (Option X)) (xs : List X) → all_some os ≡ Some xs → length xs ≡ length os
-all_some-long [] xs is = let e : xs ≡ [] = cc in ap length e
-all_some-long (None ∷ os) xs is = absurd cc
-all_some-long (Some y ∷ os) xs is = let parts = some_cons y (all_some os) xs is in ap length parts.2 ∙ ap suc (all_some-long os parts.0 parts.1)
-
--- as many slots as parts
-pub plans-many : (h : List ℕ → List ℕ) (p : TrieShape) (depth i : ℕ) (parts : List (Vec Keyed)) (d : Draft) (old now : List (List ℕ)) (was : PlansParts h p depth (take i parts) d old now) → length parts ≤ i
-    → length was.slots ≡ length parts
-plans-many h p depth i parts d old now was le =
-    all_some-long (map (slot_in h p depth) (take i parts)) was.slots was.slots_are ∙ length-map (take i parts) (slot_in h p depth) ∙ ap (λ (vs : List (Vec Keyed)). length vs) (take_all i parts le)
-
--- all parts have their slots: the node is written
-pub plans-done : (h : List ℕ → List ℕ) (p : TrieShape) (depth : ℕ) (es : List (List ℕ × Data)) (parts : List (Vec Keyed)) (i : ℕ) (d : Draft) (old new : List (List ℕ)) (block : List ℕ)
-    → depth < trie_levels p → PartsAre (at_depth h p depth) (2 ^ p.width) es parts → length parts ≤ i → (plans : PlansParts h p depth (take i parts) d old new) → block ≡ spell (node_data plans.slots)
+-- all of them
+pub plans-done : (h : List ℕ → List ℕ) (p : TrieShape) (depth : ℕ) (es : List (List ℕ × Data)) (n : ℕ) (d : Draft) (old new : List (List ℕ)) (block : List ℕ)
+    → depth < trie_levels p → n ≡ 2 ^ p.width → (plans : PlansParts h p depth es n d old new) → block ≡ spell (node_data plans.slots)
     → PlansNode h p (trie_levels p - depth) depth es (Ok block) old new
-plans-done h p depth es parts i d old new block lt parted le plans written =
+plans-done h p depth es n d old new block lt all plans written =
     let left : ℕ = trie_levels p - (depth + 1) in
     let one : trie_levels p - depth ≡ suc left = one_more (trie_levels p) depth lt in
-    let same : parts ≡ take i parts = sym (take_all i parts le) in (
-      ap Some written ∙ ap (option_map (λ s. spell (node_data s))) (build-done h p depth es parts (take i parts) plans.slots lt parted same plans.slots_are)
+    let slots : Some plans.slots ≡ slots_left h p (trie_levels p - depth) depth es =
+    sym (ap (λ m. slots_left h p m depth es) one ∙ ap (λ m. all_some (map (slot_in h p depth es) (range_with_len 0 m))) (sym all) ∙ plans.slots_are) in (
+      ap Some written ∙ ap (option_map (λ s. spell (node_data s))) slots
           ∙ spelled_node (slots_left h p (trie_levels p - depth) depth es) ∙ ap (option_map spell) (sym (node-left h p (trie_levels p - depth) depth es)),
-      plans.blocks_are
-          ∙ ap (λ bs. old ++ bs) (ap (flat_map (plan_in h p depth)) (sym same)
-          ∙ sym (ap (λ n. planned h p n depth es) one ∙ planned_is h p left depth es
-          ∙ blocks-parted p (at_depth h p depth) (slot_plan p.bucket (node_of h p left (depth + 1)) (planned h p left (depth + 1))) es parts parted)),
+      plans.blocks_are ∙ ap (λ bs. old ++ bs) (ap (λ m. flat_map (plan_in h p depth es) (range_with_len 0 m)) all ∙ sym (ap (λ m. planned h p m depth es) one ∙ planned_is h p left depth es)),
     )
   where
     spelled_node : (o : Option (List TrieSlot)) → option_map (λ s. spell (node_data s)) o ≡ option_map spell (option_map node_data o)
     spelled_node None = refl
     spelled_node (Some s) = refl
 
-parted_at : (parts : List (Vec Keyed)) (i : ℕ) (v : Vec Keyed) → i < length parts → v ≡ get_or parts i v → parts ≡ take i parts ++ v ∷ drop (suc i) parts
-parted_at [] i v lt is = absurd (omega arith)
-parted_at (w ∷ parts) zero v lt is = ap (λ x. x ∷ parts) (sym is)
-parted_at (w ∷ parts) (suc i) v lt is = ap (λ xs. w ∷ xs) (parted_at parts i v (omega arith) is)
-
-no_node : (h : List ℕ → List ℕ) (p : TrieShape) (depth : ℕ) (es : List (List ℕ × Data)) → None ≡ slots_left h p (trie_levels p - depth) depth es → node_of h p (trie_levels p - depth) depth es ≡ None
-no_node h p depth es is = node-left h p (trie_levels p - depth) depth es ∙ ap (option_map node_data) (sym is)
+no_node : (h : List ℕ → List ℕ) (p : TrieShape) (depth n : ℕ) (es : List (List ℕ × Data)) → depth < trie_levels p → n < 2 ^ p.width → slot_in h p depth es n ≡ None → node_of h p (trie_levels p - depth) depth es ≡ None
+no_node h p depth n es lt within is =
+    let f : ℕ → Option TrieSlot = slot_in h p depth es in
+    node-left h p (trie_levels p - depth) depth es
+    ∙ ap (option_map node_data)
+    (ap (λ m. slots_left h p m depth es) (one_more (trie_levels p) depth lt)
+    ∙ all_some-at (map f (range_with_len 0 (2 ^ p.width))) n (omega (arith, length-map-range_with_len f 0 (2 ^ p.width), within)) (get_or-map-range_with_len f 0 (2 ^ p.width) n n None within (omega arith) ∙ is))
 
 -- a part that has no slot, or want of memory
-pub plans-stop : (h : List ℕ → List ℕ) (p : TrieShape) (depth : ℕ) (es : List (List ℕ × Data)) (parts : List (Vec Keyed)) (i : ℕ) (v : Vec Keyed) (e : HamtFault) (old new now more : List (List ℕ))
-    → depth < trie_levels p → PartsAre (at_depth h p depth) (2 ^ p.width) es parts → i < length parts → v ≡ get_or parts i v
-    → (slots : List TrieSlot) (d : Draft) → PlansInto h p (trie_levels p - (depth + 1)) (depth + 1) (keyed_rows v.items) (Err e) slots d now more → PlansNode h p (trie_levels p - depth) depth es (Err e) old new
-plans-stop h p depth es parts i v F.Exhausted old new now more lt parted within is slots d plans =
-    no_node h p depth es (build-none h p depth es parts (take i parts) (drop (suc i) parts) v lt parted (parted_at parts i v within is) (sym plans))
-plans-stop h p depth es parts i v F.Memory old new now more lt parted within is slots d plans = tt
-plans-stop h p depth es parts i v (F.Block id why) old new now more lt parted within is slots d plans = absurd plans
-plans-stop h p depth es parts i v F.Store old new now more lt parted within is slots d plans = absurd plans
-plans-stop h p depth es parts i v (F.Clash id kept other) old new now more lt parted within is slots d plans = absurd plans
-plans-stop h p depth es parts i v F.Size old new now more lt parted within is slots d plans = absurd plans
-plans-stop h p depth es parts i v F.NoKey old new now more lt parted within is slots d plans = absurd plans
+pub plans-stop : (h : List ℕ → List ℕ) (p : TrieShape) (depth : ℕ) (es : List (List ℕ × Data)) (n : ℕ) (e : HamtFault) (old new now more : List (List ℕ)) → depth < trie_levels p → n < 2 ^ p.width
+    → (slots : List TrieSlot) (d : Draft) → PlansInto h p (trie_levels p - (depth + 1)) (depth + 1) (part (at_depth h p depth) es n) (Err e) slots d now more → PlansNode h p (trie_levels p - depth) depth es (Err e) old new
+plans-stop h p depth es n F.Exhausted old new now more lt within slots d plans = no_node h p depth n es lt within plans
+plans-stop h p depth es n F.Memory old new now more lt within slots d plans = tt
+plans-stop h p depth es n (F.Block id why) old new now more lt within slots d plans = absurd plans
+plans-stop h p depth es n F.Store old new now more lt within slots d plans = absurd plans
+plans-stop h p depth es n (F.Clash id kept other) old new now more lt within slots d plans = absurd plans
+plans-stop h p depth es n F.Size old new now more lt within slots d plans = absurd plans
+plans-stop h p depth es n F.NoKey old new now more lt within slots d plans = absurd plans
 
 pub plans-exhausted : (h : List ℕ → List ℕ) (p : TrieShape) (depth : ℕ) (es : List (List ℕ × Data)) → trie_levels p ≤ depth → node_of h p (trie_levels p - depth) depth es ≡ None
 plans-exhausted h p depth es le = let none : trie_levels p - depth ≡ 0 = omega arith in ap (λ n. node_of h p n depth es) none ∙ none_left h p depth es
@@ -274,7 +221,36 @@ into-stop h p left depth es (F.Clash id kept other) slots d old now new many pla
 into-stop h p left depth es F.Size slots d old now new many plans = absurd plans
 into-stop h p left depth es F.NoKey slots d old now new many plans = absurd plans
 
--- the same rows
-pub into-as : (h : List ℕ → List ℕ) (p : TrieShape) (left depth : ℕ) (ks js : List Keyed) (r : Result (Unit {0}) HamtFault) (slots : List TrieSlot) (d : Draft) (old new : List (List ℕ)) → ks ≡ js → PlansInto h p left depth (keyed_rows ks) r slots d old new
-    → PlansInto h p left depth (keyed_rows js) r slots d old new
-into-as h p left depth ks js r slots d old new same plans = subst (λ (xs : List Keyed). PlansInto h p left depth (keyed_rows xs) r slots d old new) same plans
+-- ---- indices that are passed over
+
+skip_one : (h : List ℕ → List ℕ) (p : TrieShape) (depth : ℕ) (es : List (List ℕ × Data)) (n : ℕ) (d : Draft) (old now : List (List ℕ)) → PlansParts h p depth es n d old now → n < 2 ^ usual.width → part (at_depth h p depth) es n ≡ []
+    → PlansParts h p depth es (n + 1) d old now
+skip_one h p depth es n d old now was lt none =
+    let many = was.many in
+    plans-step h p depth es n d d old now now was
+    (into-empty h p (trie_levels p - (depth + 1)) (depth + 1) (part (at_depth h p depth) es n) was.slots d now (ap (λ (fs : List (List ℕ × Data)). length fs) none) (written-skip d was.slots was.written (omega (arith, many, lt))))
+
+skip_many : (h : List ℕ → List ℕ) (p : TrieShape) (depth : ℕ) (es : List (List ℕ × Data)) (d : Draft) (old now : List (List ℕ)) (k n : ℕ) → PlansParts h p depth es n d old now → n + k ≤ 2 ^ usual.width
+    → ((i : ℕ) → n ≤ i → i < n + k → part (at_depth h p depth) es i ≡ []) → PlansParts h p depth es (n + k) d old now
+skip_many h p depth es d old now zero n was le none = subst (λ (m : ℕ). PlansParts h p depth es m d old now) (same n) was
+  where
+    same : (m : ℕ) → m ≡ m + 0
+    same m = omega arith
+skip_many h p depth es d old now (suc k) n was le none =
+    subst (λ (m : ℕ). PlansParts h p depth es m d old now) (same n k)
+    (skip_many h p depth es d old now k (n + 1) (skip_one h p depth es n d old now was (omega (arith, le)) (none n (omega arith) (omega arith))) (omega (arith, le))
+    (λ i from below. none i (omega (arith, from)) (omega (arith, below))))
+  where
+    same : (m j : ℕ) → m + 1 + j ≡ m + suc j
+    same m j = omega arith
+
+pub plans-skip : (h : List ℕ → List ℕ) (p : TrieShape) (depth : ℕ) (es : List (List ℕ × Data)) (ks : List HashedEntry) (n m : ℕ) (d : Draft) (old now : List (List ℕ)) → AreHashed h es ks → PlansParts h p depth es n d old now → n ≤ m
+    → m ≤ 2 ^ usual.width → ((i : ℕ) → n ≤ i → i < m → hashed_part p depth ks i ≡ []) → PlansParts h p depth es m d old now
+plans-skip h p depth es ks n m d old now are was le most none =
+    let sum : n + (m - n) ≡ m = omega (arith, le) in
+    subst (λ (k : ℕ). PlansParts h p depth es k d old now) sum
+    (skip_many h p depth es d old now (m - n) n was (omega (arith, sum, most)) (λ i from below. no-part h p depth es ks i are (none i from (omega (arith, sum, below)))))
+
+-- a bucket takes the entries
+pub fills : (h : List ℕ → List ℕ) (es : List (List ℕ × Data)) (ks : List HashedEntry) → AreHashed h es ks → AreRows es → 0 < length ks → length ks ≤ usual.bucket → FillBucket es
+fills h es ks are rows some few = let many = hashed-many h es ks are in record { rows_are = rows; some = omega (arith, many, some); few = omega (arith, many, few) }

@@ -1,5 +1,6 @@
 pub mod Parting
 pub mod Keys
+pub mod Marking
 pub mod Childs
 pub mod Building
 pub mod Puts

@@ -145,8 +145,3 @@ pub puts-plan : (h : List ℕ → List ℕ) (p : TrieShape) (es fs : List (List 
     → PlansNode h p (trie_levels p - 0) 0 fs (Ok root) old new → bs ≡ new → PutsAll m bs r n → PutsAll m (plan_of h p es) r n
 puts-plan h p es fs root old new bs m r n same none plans read puts =
     subst (λ (cs : List (List ℕ)). PutsAll m cs r n) (read ∙ plan-is h p es fs root old new same none plans) puts
-
--- the same rows
-pub node-as : (h : List ℕ → List ℕ) (p : TrieShape) (ks js : List Keyed) (r : Result (List ℕ) HamtFault) (old new : List (List ℕ)) → ks ≡ js → PlansNode h p (trie_levels p - 0) 0 (keyed_rows ks) r old new
-    → PlansNode h p (trie_levels p - 0) 0 (keyed_rows js) r old new
-node-as h p ks js r old new same plans = subst (λ (xs : List Keyed). PlansNode h p (trie_levels p - 0) 0 (keyed_rows xs) r old new) same plans

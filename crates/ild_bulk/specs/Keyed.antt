@@ -1,24 +1,61 @@
--- Rows with the hashes of their keys, and their parts by index.
-use Rattle.std.specs.Prelude.{◌≡◌, ◌<◌, ℕ, ◌==◌, List, [], length, slice_index_or}
-use Rattle.std.specs.List.{AllByRecursion, filter}
+-- Rows with the hashes of their keys, and their spellings in one buffer.
+use Rattle.std.specs.Prelude.{◌≡◌, ◌<◌, ℕ, ◌==◌, List, [], ◌∷◌, length, slice_index_or}
+use Rattle.std.specs.List.{AllByRecursion, filter, flat_map}
 use Rattle.std.specs.Global.{Vec}
+use Rattle.ild_data.specs.Data.{Data}
+use Rattle.ild_data.specs.Spell.{spell}
+use Rattle.ild_data.specs.Trie.{entry_data}
 use Rattle.ild_data.specs.TrieShape.{TrieShape, index}
 use Rattle.ild_node.specs.Keyed.{keyed_seen}
 use Rattle.ild_node.specs.declared.keyed.Keyed.{Keyed}
+use Rattle.ild_node.specs.declared.hashed.HashedEntry.{HashedEntry}
+use Rattle.ild_bulk.specs.declared.entries.Mark.{Mark}
+use Rattle.ild_bulk.specs.declared.entries.Entries.{Entries}
 
 -- each has the hash of its key
 abbrev pub AreKeyed : (List ℕ → List ℕ) → List Keyed → Type 0
 AreKeyed h ks = AllByRecursion (λ k. k.hash ≡ h (keyed_seen k).0) ks
 
-abbrev pub keyed_index : TrieShape → ℕ → Keyed → ℕ
-keyed_index p depth k = index p k.hash depth
+-- ---- entries in one buffer
 
--- the rows stand in their parts, in their order
-pub record Parted (at : Keyed → ℕ) (count : ℕ) (rows : List Keyed) (parts : List (Vec Keyed)) : Type 0 where
-  pub many : length parts ≡ count
-  pub each : (i : ℕ) (z : Vec Keyed) → i < count → (slice_index_or parts i z).items ≡ filter (λ k. at k == i) rows
+abbrev pub entry_spelled : List ℕ × Data → List ℕ
+entry_spelled e = spell (entry_data e)
 
--- vectors without rows
-pub record AreEmpty (count : ℕ) (parts : List (Vec Keyed)) : Type 0 where
+-- the spellings of entries, one behind the other
+abbrev pub entries_spelled : List (List ℕ × Data) → List ℕ
+entries_spelled es = flat_map entry_spelled es
+
+-- the hash of an entry's key, and the length of its spelling
+pub record IsMarked (h : List ℕ → List ℕ) (e : List ℕ × Data) (m : Mark) : Type 0 where
+  pub hash : m.hash ≡ h e.0
+  pub len : m.len ≡ length (entry_spelled e)
+
+abbrev pub AreMarked : (List ℕ → List ℕ) → List (List ℕ × Data) → List Mark → Type 0
+AreMarked h [] [] = Unit {0}
+AreMarked h [] (m ∷ ms) = ⊥
+AreMarked h (e ∷ es) [] = ⊥
+AreMarked h (e ∷ es) (m ∷ ms) = IsMarked h e m × AreMarked h es ms
+
+-- what is written of entries
+pub record HasEntries (h : List ℕ → List ℕ) (es : List (List ℕ × Data)) (w : Entries) : Type 0 where
+  pub out : w.out ≡ entries_spelled es
+  pub marks : AreMarked h es w.marks.items
+
+-- ---- their parts by index
+
+abbrev pub hashed_index : TrieShape → ℕ → HashedEntry → ℕ
+hashed_index p depth k = index p k.hash depth
+
+-- the entries of one index, in their order
+abbrev pub hashed_part : TrieShape → ℕ → List HashedEntry → ℕ → List HashedEntry
+hashed_part p depth ks i = filter (λ k. hashed_index p depth k == i) ks
+
+-- all stand in their parts
+pub record Parted (at : HashedEntry → ℕ) (count : ℕ) (ks : List HashedEntry) (parts : List (Vec HashedEntry)) : Type 0 where
   pub many : length parts ≡ count
-  pub each : (i : ℕ) (z : Vec Keyed) → i < count → (slice_index_or parts i z).items ≡ []
+  pub each : (i : ℕ) (z : Vec HashedEntry) → i < count → (slice_index_or parts i z).items ≡ filter (λ k. at k == i) ks
+
+-- vectors without entries
+pub record AreEmpty (count : ℕ) (parts : List (Vec HashedEntry)) : Type 0 where
+  pub many : length parts ≡ count
+  pub each : (i : ℕ) (z : Vec HashedEntry) → i < count → (slice_index_or parts i z).items ≡ []

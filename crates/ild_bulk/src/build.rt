@@ -1,13 +1,17 @@
 //! A HAMT from its entries.
-ghost use Rattle.std.specs.Prelude.{◌≡◌, ◌∷◌, IfOk};
+ghost use Rattle.std.specs.Prelude.{◌≡◌, ◌∷◌, ◌-◌, IfOk};
 ghost use Rattle.std.specs.List.{AllByRecursion};
+ghost use Rattle.ild_data.specs.TrieShape.{trie_levels};
 ghost use Rattle.ild_edges.specs.Told.{BothTold};
+ghost use Rattle.ild_node.specs.Rows.{AreRows};
 ghost use Rattle.ild_typed.specs.Composed.{usual};
 ghost use Rattle.ild_typed.specs.Nested.{IsBlock};
 ghost use Rattle.ild_bulk.specs.Build.{Builds, is_long, any_long, plan_of};
 ghost use Rattle.ild_bulk.specs.Children.{AddsWhole};
+ghost use Rattle.ild_bulk.specs.Planned.{PlansNode};
 
-use crate::plan::{keyed, plan_node};
+use crate::entries::{entries_of, pieces};
+use crate::plan::plan_node;
 use crate::planned::PlannedBlock;
 use crate::put::put_all;
 use ild_data::{KeyHash, LONGEST_BLOCK, Octets};
@@ -33,6 +37,23 @@ pub fn any_long(blocks: &[PlannedBlock]) -> bool
     long
 }
 
+// The root node of the HAMT of these entries. The blocks beneath it are appended, each behind those beneath it.
+fn plan_all<H: KeyHash>(
+    alloc: Global,
+    entries: &Rows,
+    keys: &H,
+    blocks: &mut Vec<PlannedBlock>,
+) -> Result<Octets, HamtFault>
+    ensures rows { AreRows entries.now }
+    ensures plans { PlansNode H.hash_of usual (trie_levels usual - 0) 0 entries.now result blocks.old.items blocks.new.items }
+{
+    let spelled = entries_of(alloc, entries.as_slice(), keys)?;
+    let bytes = spelled.out.finish();
+    let pieces = pieces(alloc, bytes.as_slice(), &spelled.marks)?;
+    let mut spare = Vec::new(alloc);
+    plan_node(alloc, &pieces, 0, &mut spare, blocks)
+}
+
 /// The root node of the HAMT of these entries. The blocks beneath it are put, each behind those beneath it; the root isn't
 /// put. Nothing is put where there is no such HAMT, or where one of its nodes is too long.
 pub fn from_entries<K: Store, H: KeyHash>(
@@ -47,10 +68,8 @@ pub fn from_entries<K: Store, H: KeyHash>(
     // However it ends, each block that it added has all its children held.
     ensures children { BothTold (K.moment store.old).blocks (K.moment store.new).blocks AddsWhole }
 {
-    let keyed = keyed(alloc, entries.as_slice(), keys)?;
     let mut blocks = Vec::new(alloc);
-    let mut spare = Vec::new(alloc);
-    let root = plan_node(alloc, &keyed, 0, &mut spare, &mut blocks)?;
+    let root = plan_all(alloc, entries, keys, &mut blocks)?;
     let long = is_long(&root) | any_long(&blocks);
     if long {
         return Err(HamtFault::Size);

@@ -2,6 +2,7 @@
 #![tactic(auto)]
 
 mod build;
+mod entries;
 mod laws;
 mod plan;
 mod planned;

@@ -1,42 +1,34 @@
 //! The nodes of a HAMT, before any is put.
-ghost use Rattle.std.specs.Prelude.{◌≡◌, ◌^◌, ◌-◌, ◌<◌, List, ℕ, IfOk, length};
+ghost use Rattle.std.specs.Prelude.{◌≡◌, ◌^◌, ◌-◌, ◌<◌, ◌≤◌, ◌==◌, [], List, ℕ, IfOk, length};
+ghost use Rattle.std.specs.List.{filter};
+ghost use Rattle.ild_data.specs.Data.{Data};
+ghost use Rattle.ild_data.specs.Trie.{TrieSlot};
 ghost use Rattle.ild_data.specs.TrieShape.{trie_levels, index};
 ghost use Rattle.ild_typed.specs.Composed.{usual};
-ghost use Rattle.ild_node.specs.NewSlots.{IsFilledSlot};
-ghost use Rattle.ild_node.specs.Rows.{rows_seen, AreRows};
-ghost use Rattle.ild_bulk.specs.Keyed.{AreEmpty, AreKeyed, Parted, keyed_index};
-ghost use Rattle.ild_node.specs.Keyed.{keyed_rows};
-ghost use Rattle.ild_bulk.specs.Planned.{PlansInto, PlansNode, PlansSlot};
-ghost use Rattle.ild_data.specs.Trie.{TrieSlot};
 ghost use Rattle.ild_node.specs.Drafts.{HasWritten};
+ghost use Rattle.ild_node.specs.Hashed.{AreHashed};
+ghost use Rattle.ild_node.specs.Keyed.{keyed_rows};
+ghost use Rattle.ild_node.specs.NewSlots.{IsFilledSlot};
+ghost use Rattle.ild_node.specs.Rows.{AreRows};
+ghost use Rattle.ild_bulk.specs.Keyed.{AreEmpty, AreKeyed, Parted, hashed_index, hashed_part};
+ghost use Rattle.ild_bulk.specs.Planned.{PlansInto, PlansNode, PlansSlot};
 
+use crate::entries::{entries_with, pieces};
 use crate::planned::PlannedBlock;
-use ild_data::{KeyHash, Octets};
-use ild_node::{BUCKET_SIZE, Draft, HamtFault, Keyed, LEVELS, NewHold, Row, Rows, index_of};
+use ild_data::Octets;
+use ild_node::{
+    BUCKET_SIZE, Draft, HamtFault, HashedEntry, Keyed, LEVELS, NewHold, Rows, index_of,
+};
 use std::alloc::{AllocError, Global};
 
 /// How many slots a node has.
 const SLOTS: usize = 256;
 
-/// The rows of a node by the index of their keys.
-type Parts<'r> = Vec<Vec<Keyed<'r>>>;
+/// So many entries at most are looked through for each index that they have.
+const FEW: usize = 24;
 
-/// Rows with the hashes of their keys, each of which is hashed once.
-pub(crate) fn keyed<'r, H: KeyHash>(
-    alloc: Global,
-    rows: &'r [Row],
-    keys: &H,
-) -> Result<Vec<Keyed<'r>>, AllocError>
-    ensures rows { IfOk result (λ ks. keyed_rows ks.items ≡ rows_seen rows.now) }
-    ensures hashes { IfOk result (λ ks. AreKeyed H.hash_of ks.items) }
-{
-    let mut keyed = Vec::new(alloc);
-    for row in rows {
-        let hash = keys.hash(row.key.as_str().as_bytes());
-        keyed.push(Keyed { row, hash })?;
-    }
-    Ok(keyed)
-}
+/// The entries of a node by the index of their keys.
+type Parts<'r> = Vec<Vec<HashedEntry<'r>>>;
 
 // As many empty vectors as a node has slots. Those of a node that is done are taken again.
 fn emptied<'r>(alloc: Global, spare: Option<Parts<'r>>) -> Result<Parts<'r>, AllocError>
@@ -57,22 +49,68 @@ fn emptied<'r>(alloc: Global, spare: Option<Parts<'r>>) -> Result<Parts<'r>, All
     Ok(parts)
 }
 
-// The rows by the index of their keys at a depth.
+// The entries by the index of their keys at a depth.
 fn parted<'r>(
     alloc: Global,
-    rows: &[Keyed<'r>],
+    entries: &[HashedEntry<'r>],
     depth: u32,
     spare: Option<Parts<'r>>,
 ) -> Result<Parts<'r>, AllocError>
     requires { depth < trie_levels usual }
-    ensures { IfOk result (λ parts. Parted (keyed_index usual depth) (2 ^ usual.width) rows.now parts.items) }
+    ensures { IfOk result (λ parts. Parted (hashed_index usual depth) (2 ^ usual.width) entries.now parts.items) }
 {
     let mut parts = emptied(alloc, spare)?;
-    for row in rows {
-        let index = index_of(&row.hash, depth);
-        parts[index as usize].push(*row)?;
+    for entry in entries {
+        let index = index_of(&entry.hash, depth);
+        parts[index as usize].push(*entry)?;
     }
     Ok(parts)
+}
+
+// The entries of one index at a depth.
+fn part_of<'r>(
+    alloc: Global,
+    entries: &[HashedEntry<'r>],
+    depth: u32,
+    i: usize,
+) -> Result<Vec<HashedEntry<'r>>, AllocError>
+    requires { depth < trie_levels usual }
+    ensures { IfOk result (λ part. part.items ≡ hashed_part usual depth entries.now i) }
+{
+    let mut part = Vec::new(alloc);
+    for entry in entries {
+        if index_of(&entry.hash, depth) as usize == i {
+            part.push(*entry)?;
+        }
+    }
+    Ok(part)
+}
+
+// The lesser of two indices, where the first isn't below a bound.
+fn nearer(index: usize, from: usize, least: usize) -> usize
+    ensures least { result ≤ least }
+    ensures near { from ≤ index → result ≤ index }
+    ensures from { from ≤ least → from ≤ result }
+{
+    if index >= from && index < least {
+        index
+    } else {
+        least
+    }
+}
+
+// The least index from one on that an entry has at a depth, or else the number of slots.
+fn next_index(entries: &[HashedEntry<'_>], depth: u32, from: usize) -> usize
+    requires { depth < trie_levels usual }
+    ensures most { result ≤ 256 }
+    ensures from { from ≤ 256 → from ≤ result }
+    ensures none { (i : ℕ) → from ≤ i → i < result → hashed_part usual depth entries.now i ≡ [] }
+{
+    let mut least = SLOTS;
+    for entry in entries {
+        least = nearer(index_of(&entry.hash, depth) as usize, from, least);
+    }
+    least
 }
 
 // The rows of a bucket, made anew.
@@ -87,75 +125,141 @@ fn bucket_of(alloc: Global, rows: &[Keyed<'_>]) -> Result<Rows, AllocError>
     Ok(Rows::known(copies))
 }
 
-/// The block of the node of rows at a depth. The blocks beneath it are appended, each behind those beneath it. The vectors of
+/// The block of the node of entries at a depth. The blocks beneath it are appended, each behind those beneath it. The vectors of
 /// nodes that are done are kept as spare ones.
 #[cycle(plan)]
 pub(crate) fn plan_node<'r>(
     alloc: Global,
-    rows: &[Keyed<'r>],
+    entries: &[HashedEntry<'r>],
     depth: u32,
     spare: &mut Vec<Parts<'r>>,
     blocks: &mut Vec<PlannedBlock>,
 ) -> Result<Octets, HamtFault>
-    requires { AreRows (keyed_rows rows.now) }
-    ensures { (h : List ℕ → List ℕ) → AreKeyed h rows.now → PlansNode h usual (trie_levels usual - depth) depth (keyed_rows rows.now) result blocks.old.items blocks.new.items }
+    ensures { (h : List ℕ → List ℕ) (es : List (List ℕ × Data)) → AreHashed h es entries.now → AreRows es
+        → PlansNode h usual (trie_levels usual - depth) depth es result blocks.old.items blocks.new.items }
 {
     if depth >= LEVELS {
         return Err(HamtFault::Exhausted);
     }
-    let parts = parted(alloc, rows, depth, spare.pop())?;
+    if entries.len() <= FEW {
+        return plan_few(alloc, entries, depth, spare, blocks);
+    }
+    plan_many(alloc, entries, depth, spare, blocks)
+}
+
+// The same of many entries: all slots are gone over.
+#[cycle(plan)]
+fn plan_many<'r>(
+    alloc: Global,
+    entries: &[HashedEntry<'r>],
+    depth: u32,
+    spare: &mut Vec<Parts<'r>>,
+    blocks: &mut Vec<PlannedBlock>,
+) -> Result<Octets, HamtFault>
+    requires { depth < trie_levels usual }
+    ensures { (h : List ℕ → List ℕ) (es : List (List ℕ × Data)) → AreHashed h es entries.now → AreRows es
+        → PlansNode h usual (trie_levels usual - depth) depth es result blocks.old.items blocks.new.items }
+{
+    let parts = parted(alloc, entries, depth, spare.pop())?;
     let mut draft = Draft::new(alloc);
-    for part in &parts {
-        plan_part(alloc, part, depth + 1, spare, &mut draft, blocks)?;
+    for i in 0..SLOTS {
+        plan_part(
+            alloc,
+            &parts[i],
+            depth + 1,
+            i as u8,
+            spare,
+            &mut draft,
+            blocks,
+        )?;
     }
     spare.push(parts)?;
     Ok(draft.finish(alloc)?)
 }
 
-// Appends the slot of rows to the node above.
+// The same of few: only the indices that they have are gone over.
+#[cycle(plan)]
+fn plan_few<'r>(
+    alloc: Global,
+    entries: &[HashedEntry<'r>],
+    depth: u32,
+    spare: &mut Vec<Parts<'r>>,
+    blocks: &mut Vec<PlannedBlock>,
+) -> Result<Octets, HamtFault>
+    requires { depth < trie_levels usual }
+    ensures { (h : List ℕ → List ℕ) (es : List (List ℕ × Data)) → AreHashed h es entries.now → AreRows es
+        → PlansNode h usual (trie_levels usual - depth) depth es result blocks.old.items blocks.new.items }
+{
+    let mut draft = Draft::new(alloc);
+    let mut i = next_index(entries, depth, 0);
+    while i < SLOTS {
+        let part = part_of(alloc, entries, depth, i)?;
+        plan_part(alloc, &part, depth + 1, i as u8, spare, &mut draft, blocks)?;
+        i = next_index(entries, depth, i + 1);
+    }
+    Ok(draft.finish(alloc)?)
+}
+
+// Appends the slot of entries to the node above, at this index.
 #[cycle(plan)]
 fn plan_part<'r>(
     alloc: Global,
-    rows: &[Keyed<'r>],
+    entries: &[HashedEntry<'r>],
     depth: u32,
+    i: u8,
     spare: &mut Vec<Parts<'r>>,
     draft: &mut Draft,
     blocks: &mut Vec<PlannedBlock>,
 ) -> Result<(), HamtFault>
-    requires { AreRows (keyed_rows rows.now) }
-    ensures { (h : List ℕ → List ℕ) → AreKeyed h rows.now → (slots : List TrieSlot) → HasWritten draft.old slots
-        → PlansInto h usual (trie_levels usual - depth) depth (keyed_rows rows.now) result slots draft.new blocks.old.items blocks.new.items }
+    ensures { (h : List ℕ → List ℕ) (es : List (List ℕ × Data)) → AreHashed h es entries.now → AreRows es → (slots : List TrieSlot) → HasWritten draft.old slots → length slots ≡ i
+        → PlansInto h usual (trie_levels usual - depth) depth es result slots draft.new blocks.old.items blocks.new.items }
 {
-    if rows.is_empty() {
-        draft.skip()?;
+    if entries.is_empty() {
         return Ok(());
     }
-    if rows.len() <= BUCKET_SIZE {
-        draft.bucket(rows)?;
+    if entries.len() <= BUCKET_SIZE {
+        draft.bucket(i, entries)?;
         return Ok(());
     }
-    plan_child(alloc, rows, depth, spare, draft, blocks)
+    plan_child(alloc, entries, depth, i, spare, draft, blocks)
 }
 
-// The same of rows that a bucket doesn't take.
+// The same of entries that a bucket doesn't take.
 #[cycle(plan)]
 fn plan_child<'r>(
     alloc: Global,
-    rows: &[Keyed<'r>],
+    entries: &[HashedEntry<'r>],
     depth: u32,
+    i: u8,
     spare: &mut Vec<Parts<'r>>,
     draft: &mut Draft,
     blocks: &mut Vec<PlannedBlock>,
 ) -> Result<(), HamtFault>
-    requires rows { AreRows (keyed_rows rows.now) }
-    requires many { usual.bucket < length rows.now }
-    ensures { (h : List ℕ → List ℕ) → AreKeyed h rows.now → (slots : List TrieSlot) → HasWritten draft.old slots
-        → PlansInto h usual (trie_levels usual - depth) depth (keyed_rows rows.now) result slots draft.new blocks.old.items blocks.new.items }
+    requires { usual.bucket < length entries.now }
+    ensures { (h : List ℕ → List ℕ) (es : List (List ℕ × Data)) → AreHashed h es entries.now → AreRows es → (slots : List TrieSlot) → HasWritten draft.old slots → length slots ≡ i
+        → PlansInto h usual (trie_levels usual - depth) depth es result slots draft.new blocks.old.items blocks.new.items }
 {
-    let child = PlannedBlock::of(plan_node(alloc, rows, depth, spare, blocks)?);
-    draft.child(&child.id())?;
+    let child = PlannedBlock::of(plan_node(alloc, entries, depth, spare, blocks)?);
+    draft.child(i, &child.id())?;
     blocks.push(child)?;
     Ok(())
+}
+
+// The block of the node of rows at a depth, which are spelled first.
+fn plan_rows(
+    alloc: Global,
+    rows: &[Keyed<'_>],
+    depth: u32,
+    blocks: &mut Vec<PlannedBlock>,
+) -> Result<Octets, HamtFault>
+    requires { AreRows (keyed_rows rows.now) }
+    ensures { (h : List ℕ → List ℕ) → AreKeyed h rows.now → PlansNode h usual (trie_levels usual - depth) depth (keyed_rows rows.now) result blocks.old.items blocks.new.items }
+{
+    let entries = entries_with(alloc, rows)?;
+    let bytes = entries.out.finish();
+    let pieces = pieces(alloc, bytes.as_slice(), &entries.marks)?;
+    let mut spare = Vec::new(alloc);
+    plan_node(alloc, &pieces, depth, &mut spare, blocks)
 }
 
 /// The slot that rows have in a node above them, which stands one level higher than this depth, by the hashes that come with
@@ -176,8 +280,7 @@ pub fn plan_keyed(
     if rows.len() <= BUCKET_SIZE {
         return Ok(Some(NewHold::Bucket(bucket_of(alloc, rows)?)));
     }
-    let mut spare = Vec::new(alloc);
-    let block = PlannedBlock::of(plan_node(alloc, rows, depth, &mut spare, blocks)?);
+    let block = PlannedBlock::of(plan_rows(alloc, rows, depth, blocks)?);
     let id = block.id();
     blocks.push(block)?;
     Ok(Some(NewHold::Child(id)))

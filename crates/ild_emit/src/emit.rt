@@ -1,5 +1,5 @@
 //! A buffer of spellings.
-ghost use Rattle.std.specs.Prelude.{◌≡◌, ◌++◌, ◌<◌, [], OnOk, OnErr};
+ghost use Rattle.std.specs.Prelude.{◌≡◌, ◌++◌, ◌<◌, [], length, OnOk, OnErr};
 ghost use Rattle.ild_cbor.specs.Nodes.{Stands};
 ghost use Rattle.ild_data.specs.Data.{Data};
 ghost use Rattle.ild_data.specs.Spell.{head, spell, spell_int, spell_text, spell_bytes, spell_link, cid_of};
@@ -37,6 +37,13 @@ impl Emit {
         Emit {
             out: Vec::new(alloc),
         }
+    }
+
+    /// How many bytes were written.
+    pub fn len(&self) -> usize
+        ensures { result ≡ length self.now }
+    {
+        self.out.len()
     }
 
     /// Appends the shortest head of a major type (RFC 8949, section 3), or leaves the buffer unchanged.

@@ -11,5 +11,6 @@ pub mod Keyed
 pub mod NewSlots
 pub mod Roots
 pub mod Written
+pub mod Hashed
 pub mod Drafts
 pub mod Laws

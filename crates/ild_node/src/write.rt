@@ -119,8 +119,8 @@ pub(crate) fn begin(alloc: Global, used: &[bool], elements: u64) -> Result<Emit,
     Ok(out)
 }
 
-// Appends an entry of a bucket. An error may leave the front of it.
-pub(crate) fn add_entry(out: &mut Emit, row: &Row) -> Result<(), AllocError>
+/// Appends an entry of a bucket. An error may leave the front of it.
+pub fn add_entry(out: &mut Emit, row: &Row) -> Result<(), AllocError>
     ensures { OnOk result (out.new ≡ out.old ++ spell (entry_data (row_seen row.now))) }
 {
     out.head(4, 2)?;

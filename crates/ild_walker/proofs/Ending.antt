@@ -22,7 +22,9 @@ use Rattle.ild_walker.specs.Reads.{LeftNodes, Spends}
 use Rattle.ild_walker.specs.Standing.{IsOn, IsBroken, StandsThere}
 use Rattle.ild_walker.specs.declared.row.Row.{Row}
 use Rattle.ild_walker.specs.declared.walker.Walker.{Walker}
+use Rattle.ild_node.specs.Form.{IsNode}
 use Rattle.ild_walker.proofs.Keeping.{broken-since}
+use Rattle.ild_walker.proofs.Listing.{rows-rise}
 use Rattle.ild_walker.proofs.Nexting.{rose-later, cause-later}
 
 from-root : (h : List ℕ → List ℕ) (slots : List TrieSlot) (m : Moment) (w : Walker) (held : List (List ℕ)) → IsNew slots w → (es : List (List ℕ × Data)) → RootGives h usual held (trie_levels usual - 1) slots es ↔ Behind h held [] w es
@@ -168,15 +170,13 @@ listed-more h slots at rows more m n o v w row is was next = record {
     pairs done value spelled same =
         map-append spelled_pair done ((row.key, value) ∷ []) ∙ ap (λ xs. xs ++ (row.key, spell value) ∷ []) same ∙ ap (λ x. map row_pair rows ++ (row.key, x) ∷ []) (sym spelled) ∙ sym (map-append row_pair rows (row ∷ [])) ∙ ap (map row_pair) (sym is)
 
-pub listed-end : (h : List ℕ → List ℕ) (slots : List TrieSlot) (at : List ℕ) (rows : List Row) (m n o : Moment) (v w : Walker) (sorted : Vec Row) → HasListed h slots at rows m v n → Nexts h n v (Ok None) w o → IsPermutation rows sorted.items → InKeyOrder sorted.items → Walks h slots at m (Ok sorted) o
-listed-end h slots at rows m n o v w sorted was next same order = record {
+pub listed-end : (h : List ℕ → List ℕ) (slots : List TrieSlot) (at : List ℕ) (rows : List Row) (m n o : Moment) (v w : Walker) (sorted : Vec Row) → IsNode usual slots → HasListed h slots at rows m v n → Nexts h n v (Ok None) w o → IsPermutation rows sorted.items → InKeyOrder sorted.items → Walks h slots at m (Ok sorted) o
+listed-end h slots at rows m n o v w sorted form was next same order = record {
   answer = λ held told.
       let b = was.walk.walked held told in
-      record {
-        entries = b.done;
-        gives = all-given h slots at (λ done. map spelled_pair done ≡ map row_pair rows) m n o v w held was.walk next told b;
-        same = subst (λ xs. IsPermutation xs (map row_pair sorted.items)) (sym b.are) (IsPermutation-map row_pair rows sorted.items same);
-      };
+      let gives = all-given h slots at (λ done. map spelled_pair done ≡ map row_pair rows) m n o v w held was.walk next told b in
+      let moved : IsPermutation (map spelled_pair b.done) (map row_pair sorted.items) = subst (λ xs. IsPermutation xs (map row_pair sorted.items)) (sym b.are) (IsPermutation-map row_pair rows sorted.items same) in
+      record { entries = b.done; gives = gives; same = moved; rise = rows-rise h held slots b.done sorted.items form gives moved order };
   order = order;
   stand = All-permutation (StandsThere m.blocks slots at) rows sorted.items same was.stand;
   broken = tt;

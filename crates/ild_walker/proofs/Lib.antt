@@ -6,6 +6,7 @@ pub mod Placed
 pub mod Keeping
 pub mod Walking
 pub mod Nexting
+pub mod Listing
 pub mod Ending
 pub mod Tried
 pub mod Regiven

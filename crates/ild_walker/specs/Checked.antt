@@ -4,7 +4,7 @@ use Rattle.std.specs.Global.{Vec}
 use Rattle.std.specs.List.{All}
 use Rattle.std.specs.List.Sorted.{IsPermutation, IsSortedBy}
 use Rattle.ild_data.specs.Data.{Data}
-use Rattle.ild_data.specs.Key.{key_less}
+use Rattle.ild_data.specs.Key.{key_less, Rises}
 use Rattle.ild_data.specs.Spell.{spell}
 use Rattle.ild_data.specs.Trie.{TrieSlot}
 use Rattle.ild_data.specs.TrieShape.{trie_levels}
@@ -64,11 +64,12 @@ row_pair row = (row.key, row.value)
 abbrev pub spelled_pair : List ℕ × Data → List ℕ × List ℕ
 spelled_pair e = (e.0, spell e.1)
 
--- the rows are the entries that the tree gives, with their values spelled, in another order
+-- the rows are the entries that the tree gives, with their values spelled, in another order: their keys rise, so that none stands twice
 pub record GivesRows (h : List ℕ → List ℕ) (held : List (List ℕ)) (slots : List TrieSlot) (rows : List Row) : Type 0 where
   pub entries : List (List ℕ × Data)
   pub gives : RootGives h usual held (trie_levels usual - 1) slots entries
   pub same : IsPermutation (map spelled_pair entries) (map row_pair rows)
+  pub rise : Rises (map row_pair rows)
 
 -- no row stands before one with a lesser key
 abbrev pub InKeyOrder : List Row → Type 0

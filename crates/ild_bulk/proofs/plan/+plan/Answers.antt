@@ -1,70 +1,105 @@
-use Rattle.std.proofs.Common.{rules, List, ◌≡◌, ◌<◌, ◌-◌, ◌+◌, ◌^◌, get_or, arith, ap, sym, ◌∙◌, length, subst, Ok, Err}
-use Rattle.std.specs.Global.{Vec}
-use Rattle.std.proofs.lemmas.List.{length-map}
+use Rattle.std.proofs.Common.{rules, List, ◌≡◌, ◌<◌, ◌-◌, ◌+◌, ◌^◌, ◌∙◌, length, arith, sym, subst, Ok, Err}
 use Rattle.std.proofs.lemmas.Result.{err_from_is_err_and}
-use Rattle.ild_data.specs.Trie.{at_depth}
+use Rattle.ild_data.specs.Trie.{at_depth, part}
 use Rattle.ild_data.specs.TrieShape.{trie_levels}
 use Rattle.ild_typed.specs.Composed.{usual}
-use Rattle.ild_node.specs.Keyed.{keyed_rows, keyed_seen}
-use Rattle.ild_node.specs.Rows.{AreRows}
-use Rattle.ild_node.specs.declared.keyed.Keyed.{Keyed}
-use Rattle.ild_bulk.specs.Keyed.{AreKeyed, keyed_index}
-use Rattle.ild_bulk.proofs.Building.{plans-exhausted, plans-step, plans-stop, plans-done, plans-many, into-stop, into-as}
-use Rattle.ild_bulk.proofs.Keys.{PartsAre, parts-are, rows-part, keyed-part}
+use Rattle.ild_node.specs.Hashed.{AreHashed}
+use Rattle.ild_node.specs.declared.hashed.HashedEntry.{HashedEntry}
+use Rattle.ild_node.proofs.Drafting.{hashed-many, written-skip}
+use Rattle.ild_bulk.proofs.Building.{plans-exhausted, plans-first, plans-step, plans-skip, plans-stop, plans-done, into-empty, into-few, into-many, into-stop, fills}
+use Rattle.ild_bulk.proofs.Keys.{hashed-part, hashed-in, rows-part}
 use Rattle.ild_bulk.proofs.plan.+plan.Goals as goal
 
 pub plan_node-returns-then-depth-ge-LEVELS : goal.plan_node-returns-then-depth-ge-LEVELS
-plan_node-returns-then-depth-ge-LEVELS t c = λ h all. plans-exhausted h usual c.args.depth (keyed_rows c.args.rows.now) (omega arith)
+plan_node-returns-then-depth-ge-LEVELS t c = λ h es are rows. plans-exhausted h usual c.args.depth es (omega arith)
 
-pub plan_node-plan_part-requires : goal.plan_node-plan_part-requires
-plan_node-plan_part-requires t c = (
-  search rules,
-  subst (λ (ks : List Keyed). AreRows (keyed_rows ks)) (sym c.deref.ensures.value)
-      (rows-part (keyed_index usual c.args.depth) (2 ^ usual.width) c.args.rows.now c.in_ok-parts.parts.items c.loop-part.part-index c.part-item.result c.in_ok-parts.ensures
-      (omega (arith, c.in_ok-parts.ensures.many, ap (λ (ps : List (Vec Keyed)). length ps) c.deref-part-items.ensures.value))
-      (c.part-item.is ∙ ap (λ ps. get_or ps c.loop-part.part-index c.part-item.result) c.deref-part-items.ensures.value) c.requires),
-)
+pub plan_many-loop-i-init : goal.plan_many-loop-i-init
+plan_many-loop-i-init t c = λ h es are rows. plans-first h usual c.args.depth es _ _ c.new-draft.ensures
 
-pub plan_node-returns-in_err-plan_part : goal.plan_node-returns-in_err-plan_part
-plan_node-returns-in_err-plan_part t c = λ h all.
+pub plan_many-loop-i-preserved : goal.plan_many-loop-i-preserved
+plan_many-loop-i-preserved t c = λ h es are rows.
+    let was = c.loop-i.invariant h es are rows in
+    let here = hashed-in h usual c.args.depth (2 ^ usual.width) es c.args.entries.now c.in_ok-parts.parts.items c.loop-i.i c.index.result.now are c.in_ok-parts.ensures (omega arith) c.index.ensures in
+    plans-step h usual c.args.depth es c.loop-i.i c.loop-i.draft c.plan_part.new.draft c.args.blocks.now.items c.loop-i.blocks.items c.plan_part.new.blocks.items was
+    (c.in_ok-plan_part.ensures h (part (at_depth h usual c.args.depth) es c.loop-i.i) (subst (λ (ks : List HashedEntry). AreHashed h (part (at_depth h usual c.args.depth) es c.loop-i.i) ks) (sym c.deref.ensures.value) here)
+    (rows-part (at_depth h usual c.args.depth) es c.loop-i.i rows) was.slots was.written was.many)
+
+pub plan_many-returns-in_err-plan_part : goal.plan_many-returns-in_err-plan_part
+plan_many-returns-in_err-plan_part t c = λ h es are rows.
     let p = err_from_is_err_and c.from_residual-in_err-plan_part.result c.from_residual-in_err-plan_part.ensures.1 in
-    let within : c.loop-part.part-index < length c.in_ok-parts.parts.items = omega (arith, ap (λ (ps : List (Vec Keyed)). length ps) c.deref-part-items.ensures.value) in
-    let here : c.part-item.result ≡ get_or c.in_ok-parts.parts.items c.loop-part.part-index c.part-item.result =
-    c.part-item.is ∙ ap (λ ps. get_or ps c.loop-part.part-index c.part-item.result) c.deref-part-items.ensures.value in
-    let keyed = keyed-part h (keyed_index usual c.args.depth) (2 ^ usual.width) c.args.rows.now c.in_ok-parts.parts.items c.loop-part.part-index c.part-item.result c.in_ok-parts.ensures
-    (omega (arith, c.in_ok-parts.ensures.many, within)) here all in
-    let was = c.loop-part.invariant h all in
-    rw (p.1, p.2) (plans-stop h usual c.args.depth (keyed_rows c.args.rows.now) c.in_ok-parts.parts.items c.loop-part.part-index c.part-item.result c.in_err-plan_part.field-0.0 c.args.blocks.now.items
-    c.plan_part.new.blocks.items c.loop-part.blocks.items c.plan_part.new.blocks.items (omega arith)
-    (parts-are h usual c.args.depth (2 ^ usual.width) c.args.rows.now c.in_ok-parts.parts.items all c.in_ok-parts.ensures) within here was.slots c.plan_part.new.draft
-    (into-as h usual (trie_levels usual - (c.args.depth + 1)) (c.args.depth + 1) c.deref.result.now c.part-item.result.items (Err c.in_err-plan_part.field-0.0) was.slots c.plan_part.new.draft c.loop-part.blocks.items c.plan_part.new.blocks.items
-    c.deref.ensures.value (c.in_err-plan_part.ensures h (subst (λ (ks : List Keyed). AreKeyed h ks) (sym c.deref.ensures.value) keyed) was.slots was.written)))
+    let was = c.loop-i.invariant h es are rows in
+    let here = hashed-in h usual c.args.depth (2 ^ usual.width) es c.args.entries.now c.in_ok-parts.parts.items c.loop-i.i c.index.result.now are c.in_ok-parts.ensures (omega arith) c.index.ensures in
+    rw (p.1, p.2) (plans-stop h usual c.args.depth es c.loop-i.i c.in_err-plan_part.field-0.0 c.args.blocks.now.items c.plan_part.new.blocks.items c.loop-i.blocks.items c.plan_part.new.blocks.items (omega arith) (omega arith) was.slots c.plan_part.new.draft
+    (c.in_err-plan_part.ensures h (part (at_depth h usual c.args.depth) es c.loop-i.i) (subst (λ (ks : List HashedEntry). AreHashed h (part (at_depth h usual c.args.depth) es c.loop-i.i) ks) (sym c.deref.ensures.value) here)
+    (rows-part (at_depth h usual c.args.depth) es c.loop-i.i rows) was.slots was.written was.many))
 
-pub plan_node-loop-part-preserved : goal.plan_node-loop-part-preserved
-plan_node-loop-part-preserved t c = λ h all.
-    let within : c.loop-part.part-index < length c.in_ok-parts.parts.items = omega (arith, ap (λ (ps : List (Vec Keyed)). length ps) c.deref-part-items.ensures.value) in
-    let here : c.part-item.result ≡ get_or c.in_ok-parts.parts.items c.loop-part.part-index c.part-item.result =
-    c.part-item.is ∙ ap (λ ps. get_or ps c.loop-part.part-index c.part-item.result) c.deref-part-items.ensures.value in
-    let keyed = keyed-part h (keyed_index usual c.args.depth) (2 ^ usual.width) c.args.rows.now c.in_ok-parts.parts.items c.loop-part.part-index c.part-item.result c.in_ok-parts.ensures
-    (omega (arith, c.in_ok-parts.ensures.many, within)) here all in
-    let was = c.loop-part.invariant h all in
-    plans-step h usual c.args.depth c.deref-part-items.result.now c.loop-part.part-index c.loop-part.draft c.plan_part.new.draft c.args.blocks.now.items c.loop-part.blocks.items c.plan_part.new.blocks.items c.part-item.result was
-    (into-as h usual (trie_levels usual - (c.args.depth + 1)) (c.args.depth + 1) c.deref.result.now c.part-item.result.items (Ok tt) was.slots c.plan_part.new.draft c.loop-part.blocks.items c.plan_part.new.blocks.items
-    c.deref.ensures.value (c.in_ok-plan_part.ensures h (subst (λ (ks : List Keyed). AreKeyed h ks) (sym c.deref.ensures.value) keyed) was.slots was.written))
-    (omega arith) c.part-item.is
+pub plan_many-returns : goal.plan_many-returns
+plan_many-returns t c = λ h es are rows.
+    let was = c.loop-i.invariant h es are rows in
+    let many = was.many in
+    let written = c.in_ok-finish.ensures was.slots was.written (omega (arith, many)) in
+    plans-done h usual c.args.depth es c.loop-i.i c.loop-i.draft _ _ c.in_ok-finish.field-0 (omega arith) (omega arith) was written.spelled
 
-pub plan_node-returns : goal.plan_node-returns
-plan_node-returns t c = λ h all.
-    let was = c.loop-part.invariant h all in
-    let written = c.in_ok-finish.ensures was.slots was.written
-    (plans-many h usual c.args.depth c.loop-part.part-index c.deref-part-items.result.now c.loop-part.draft _ _ was (omega arith)
-    ∙ ap (λ (ps : List (Vec Keyed)). length ps) c.deref-part-items.ensures.value ∙ c.in_ok-parts.ensures.many) in
-    plans-done h usual c.args.depth (keyed_rows c.args.rows.now) c.deref-part-items.result.now c.loop-part.part-index c.loop-part.draft _ _ c.in_ok-finish.field-0 (omega arith)
-    (subst (λ (ps : List (Vec Keyed)). PartsAre (at_depth h usual c.args.depth) (2 ^ usual.width) (keyed_rows c.args.rows.now) ps) (sym c.deref-part-items.ensures.value)
-    (parts-are h usual c.args.depth (2 ^ usual.width) c.args.rows.now c.in_ok-parts.parts.items all c.in_ok-parts.ensures)) (omega arith) was written.spelled
+pub plan_few-loop-i-init : goal.plan_few-loop-i-init
+plan_few-loop-i-init t c = record {
+  most = c.next_index-i.ensures.most;
+  plans = λ h es are rows.
+      plans-skip h usual c.args.depth es c.args.entries.now 0 c.next_index-i.result c.new-draft.result c.args.blocks.now.items c.args.blocks.now.items are (plans-first h usual c.args.depth es _ _ c.new-draft.ensures) (omega arith)
+      c.next_index-i.ensures.most c.next_index-i.ensures.none;
+}
+
+pub plan_few-loop-i-preserved : goal.plan_few-loop-i-preserved
+plan_few-loop-i-preserved t c = record {
+  most = c.next_index-i-in-loop-i.ensures.most;
+  plans = λ h es are rows.
+      let was = c.loop-i.invariant.plans h es are rows in
+      let here = hashed-part h usual c.args.depth es c.args.entries.now c.loop-i.i are in
+      let step = plans-step h usual c.args.depth es c.loop-i.i c.loop-i.draft c.plan_part.new.draft c.args.blocks.now.items c.loop-i.blocks.items c.plan_part.new.blocks.items was
+      (c.in_ok-plan_part.ensures h (part (at_depth h usual c.args.depth) es c.loop-i.i)
+      (subst (λ (ks : List HashedEntry). AreHashed h (part (at_depth h usual c.args.depth) es c.loop-i.i) ks) (sym (c.deref.ensures.value ∙ c.in_ok-part.ensures)) here)
+      (rows-part (at_depth h usual c.args.depth) es c.loop-i.i rows) was.slots was.written was.many) in
+      plans-skip h usual c.args.depth es c.args.entries.now (c.loop-i.i + 1) c.next_index-i-in-loop-i.result c.plan_part.new.draft c.args.blocks.now.items c.plan_part.new.blocks.items are step
+      (c.next_index-i-in-loop-i.ensures.from (omega arith)) c.next_index-i-in-loop-i.ensures.most c.next_index-i-in-loop-i.ensures.none;
+}
+
+pub plan_few-returns-in_err-plan_part : goal.plan_few-returns-in_err-plan_part
+plan_few-returns-in_err-plan_part t c = λ h es are rows.
+    let p = err_from_is_err_and c.from_residual-in_err-plan_part.result c.from_residual-in_err-plan_part.ensures.1 in
+    let was = c.loop-i.invariant.plans h es are rows in
+    let here = hashed-part h usual c.args.depth es c.args.entries.now c.loop-i.i are in
+    rw (p.1, p.2) (plans-stop h usual c.args.depth es c.loop-i.i c.in_err-plan_part.field-0.0 c.args.blocks.now.items c.plan_part.new.blocks.items c.loop-i.blocks.items c.plan_part.new.blocks.items (omega arith) (omega arith) was.slots c.plan_part.new.draft
+    (c.in_err-plan_part.ensures h (part (at_depth h usual c.args.depth) es c.loop-i.i)
+    (subst (λ (ks : List HashedEntry). AreHashed h (part (at_depth h usual c.args.depth) es c.loop-i.i) ks) (sym (c.deref.ensures.value ∙ c.in_ok-part.ensures)) here)
+    (rows-part (at_depth h usual c.args.depth) es c.loop-i.i rows) was.slots was.written was.many))
+
+pub plan_few-returns : goal.plan_few-returns
+plan_few-returns t c = λ h es are rows.
+    let was = c.loop-i.invariant.plans h es are rows in
+    let most = c.loop-i.invariant.most in
+    let many = was.many in
+    let written = c.in_ok-finish.ensures was.slots was.written (omega (arith, many, most)) in
+    plans-done h usual c.args.depth es c.loop-i.i c.loop-i.draft _ _ c.in_ok-finish.field-0 (omega arith) (omega (arith, most)) was written.spelled
+
+pub plan_part-returns-then-is_empty : goal.plan_part-returns-then-is_empty
+plan_part-returns-then-is_empty t c = λ h es are rows slots was at.
+    let many = hashed-many h es c.args.entries.now are in
+    into-empty h usual (trie_levels usual - c.args.depth) c.args.depth es slots _ _ (grind (arith, many)) (written-skip _ slots was (omega (arith, at, c.ranges.i)))
+
+pub plan_part-returns-then-entries-le-BUCKET_SIZE : goal.plan_part-returns-then-entries-le-BUCKET_SIZE
+plan_part-returns-then-entries-le-BUCKET_SIZE t c = λ h es are rows slots was at.
+    let many = hashed-many h es c.args.entries.now are in
+    into-few h usual (trie_levels usual - c.args.depth) c.args.depth es slots _ _ (grind (arith, many)) (omega (arith, many))
+    (c.in_ok-bucket.ensures h es are (fills h es c.args.entries.now are rows (grind arith) (omega arith)) slots was at)
 
 pub plan_child-returns-in_err-plan_node : goal.plan_child-returns-in_err-plan_node
-plan_child-returns-in_err-plan_node t c = λ h all slots written.
+plan_child-returns-in_err-plan_node t c = λ h es are rows slots was at.
     let p = err_from_is_err_and c.from_residual.result c.from_residual.ensures.1 in
-    rw (p.1, p.2) (into-stop h usual (trie_levels usual - c.args.depth) c.args.depth (keyed_rows c.args.rows.now) c.in_err-plan_node.field-0.0 slots _ c.args.blocks.now.items c.plan_node.new.blocks.items c.plan_node.new.blocks.items
-    (omega (arith, c.requires.many, length-map c.args.rows.now keyed_seen)) (c.in_err-plan_node.ensures h all))
+    let many = hashed-many h es c.args.entries.now are in
+    rw (p.1, p.2) (into-stop h usual (trie_levels usual - c.args.depth) c.args.depth es c.in_err-plan_node.field-0.0 slots _ c.args.blocks.now.items c.plan_node.new.blocks.items c.plan_node.new.blocks.items
+    (omega (arith, c.requires, many)) (c.in_err-plan_node.ensures h es are rows))
+
+pub plan_child-returns : goal.plan_child-returns
+plan_child-returns t c = λ h es are rows slots was at.
+    let many = hashed-many h es c.args.entries.now are in
+    into-many h usual (trie_levels usual - c.args.depth) c.args.depth es slots _ c.args.blocks.now.items c.plan_node.new.blocks.items _ c.in_ok-plan_node.field-0 c.id.result
+    (omega (arith, c.requires, many)) (c.in_ok-plan_node.ensures h es are rows) (search rules) (search rules) (search rules)

@@ -1,18 +1,35 @@
-use Rattle.std.proofs.Common.{◌+◌, ◌-◌, ◌*◌, ℕ, List, take}
+use Rattle.std.proofs.Common.{◌+◌, ◌-◌, ◌*◌, ◌≤◌, ℕ, List}
+use Rattle.ild_data.specs.Data.{Data}
 use Rattle.ild_data.specs.TrieShape.{trie_levels}
 use Rattle.ild_typed.specs.Composed.{usual}
-use Rattle.ild_bulk.specs.Keyed.{AreKeyed}
+use Rattle.ild_node.specs.Hashed.{AreHashed}
+use Rattle.ild_node.specs.Rows.{AreRows}
 use Rattle.ild_bulk.proofs.Building.{PlansParts}
 use Rattle.ild_bulk.proofs.plan.+plan.Given as goal
 
 abbrev pub decreases-plan_node : goal.decreases-plan_node
-decreases-plan_node l = 3 * (trie_levels usual - l.depth)
+decreases-plan_node l = 4 * (trie_levels usual - l.depth)
+
+abbrev pub decreases-plan_many : goal.decreases-plan_many
+decreases-plan_many l = 4 * (trie_levels usual - (l.depth + 1)) + 3
+
+abbrev pub decreases-plan_few : goal.decreases-plan_few
+decreases-plan_few l = 4 * (trie_levels usual - (l.depth + 1)) + 3
 
 abbrev pub decreases-plan_part : goal.decreases-plan_part
-decreases-plan_part l = 3 * (trie_levels usual - l.depth) + 2
+decreases-plan_part l = 4 * (trie_levels usual - l.depth) + 2
 
 abbrev pub decreases-plan_child : goal.decreases-plan_child
-decreases-plan_child l = 3 * (trie_levels usual - l.depth) + 1
+decreases-plan_child l = 4 * (trie_levels usual - l.depth) + 1
 
-abbrev pub invariant-plan_node-loop-part : goal.invariant-plan_node-loop-part
-invariant-plan_node-loop-part l = (h : List ℕ → List ℕ) → AreKeyed h l.rows → PlansParts h usual l.depth (take l.part-index l.part-items) l.draft l.initial.blocks.items l.blocks.items
+abbrev pub invariant-plan_many-loop-i : goal.invariant-plan_many-loop-i
+invariant-plan_many-loop-i l = (h : List ℕ → List ℕ) (es : List (List ℕ × Data)) → AreHashed h es l.entries → AreRows es → PlansParts h usual l.depth es l.i l.draft l.initial.blocks.items l.blocks.items
+
+abbrev pub invariant-plan_few-loop-i : goal.invariant-plan_few-loop-i
+invariant-plan_few-loop-i l = record {
+  most : l.i ≤ 256;
+  plans : (h : List ℕ → List ℕ) (es : List (List ℕ × Data)) → AreHashed h es l.entries → AreRows es → PlansParts h usual l.depth es l.i l.draft l.initial.blocks.items l.blocks.items;
+}
+
+abbrev pub decreases-plan_few-loop-i : goal.decreases-plan_few-loop-i
+decreases-plan_few-loop-i l = 256 - l.i

@@ -1,7 +1,7 @@
 use Rattle.std.proofs.Common.{◌^◌, take}
 use Rattle.ild_typed.specs.Composed.{usual}
-use Rattle.ild_bulk.specs.Keyed.{Parted, keyed_index}
+use Rattle.ild_bulk.specs.Keyed.{Parted, hashed_index}
 use Rattle.ild_bulk.proofs.plan.parted.Given as goal
 
-abbrev pub invariant-loop-row : goal.invariant-loop-row
-invariant-loop-row l = Parted (keyed_index usual l.depth) (2 ^ usual.width) (take l.row-index l.rows) l.parts.items
+abbrev pub invariant-loop-entry : goal.invariant-loop-entry
+invariant-loop-entry l = Parted (hashed_index usual l.depth) (2 ^ usual.width) (take l.entry-index l.entries) l.parts.items

@@ -32,4 +32,4 @@ loop-rows-smaller g c = let next = rw c.in-Some.is at c.in_ok-row.ensures in let
 pub returns : goal.returns
 returns g c = λ slots has.
     let none = none-of c.in_ok-row.field-0 c.in_default.not-Some in
-    listed-end g.H.KeyHash.hash_of slots c.args.at.0 c.loop-rows.rows.items _ _ _ c.loop-rows.walker c.next.new.self c.sort_rows.new.rows (c.loop-rows.invariant slots has) (rw none at c.in_ok-row.ensures) c.sort_rows.ensures.same c.sort_rows.ensures.order
+    listed-end g.H.KeyHash.hash_of slots c.args.at.0 c.loop-rows.rows.items _ _ _ c.loop-rows.walker c.next.new.self c.sort_rows.new.rows has.form (c.loop-rows.invariant slots has) (rw none at c.in_ok-row.ensures) c.sort_rows.ensures.same c.sort_rows.ensures.order

@@ -1,4 +1,4 @@
-use Rattle.std.proofs.Common.{true, ◌++◌, refl, sym, ap, ◌∙◌, append-nil, rules}
+use Rattle.std.proofs.Common.{◌++◌, refl, sym, ap, ◌∙◌, append-nil, arith, rules}
 use Rattle.ild_data.specs.Spell.{spell, cid_of}
 use Rattle.ild_data.specs.Data.{link}
 use Rattle.ild_data.specs.Trie.{child}
@@ -7,7 +7,7 @@ use Rattle.ild_node.proofs.Nodes.{child-sound}
 use Rattle.ild_node.proofs.draft.Draft.child.Goals as goal
 
 pub returns : goal.returns
-returns c = λ slots was.
-    written-more c.args.self.now _ slots (child c.args.id.now.0) true was c.in_ok-push.ensures.items refl
+returns c = λ slots was at.
+    written-more c.args.self.now _ slots (child c.args.id.now.0) c.args.i was at (omega (arith, c.ranges.i)) refl refl
     (c.in_ok-block_link.ensures.ok ∙ ap (λ s. c.args.self.now.elements ++ s) (sym (append-nil (spell (link (cid_of c.args.id.now.0))))))
     (child-sound c.args.id.now.0 (search rules) c.are_bytes.ensures)

@@ -1,0 +1,7 @@
+use Rattle.std.proofs.Common.{arith}
+use Rattle.ild_node.specs.Rows.{row_seen}
+use Rattle.ild_bulk.proofs.Marking.{entries-more}
+use Rattle.ild_bulk.proofs.entries.add.Goals as goal
+
+pub returns : goal.returns
+returns c = λ h es has same. entries-more h es c.args.entries.now _ (row_seen c.args.row.now) _ has c.in_ok-add_entry.ensures c.in_ok-push.ensures.items same (omega arith)

@@ -1,0 +1,93 @@
+//! Entries in one buffer: each is spelled once, while its key is hashed, so that a bucket takes it in one piece.
+ghost use Rattle.std.specs.Prelude.{◌≡◌, ◌++◌, ◌∷◌, [], ℕ, List, IfOk, OnOk};
+ghost use Rattle.ild_data.specs.Data.{Data};
+ghost use Rattle.ild_node.specs.Hashed.{AreHashed};
+ghost use Rattle.ild_node.specs.Keyed.{keyed_rows};
+ghost use Rattle.ild_node.specs.Rows.{row_seen, rows_seen};
+ghost use Rattle.ild_bulk.specs.Keyed.{AreKeyed, AreMarked, HasEntries, entries_spelled};
+
+use ild_data::KeyHash;
+use ild_emit::Emit;
+use ild_node::{HashedEntry, Keyed, Row, add_entry};
+use std::alloc::{AllocError, Global};
+
+/// The hash of an entry's key, and how many bytes the entry takes.
+#[derive(Clone, Copy)]
+pub(crate) struct Mark {
+    pub(crate) hash: [u8; 32],
+    pub(crate) len: usize,
+}
+
+/// Entries that are spelled one behind the other, with a mark for each.
+#[derive(Drop)]
+pub(crate) struct Entries {
+    pub(crate) out: Emit,
+    pub(crate) marks: Vec<Mark>,
+}
+
+// Appends an entry.
+fn add(entries: &mut Entries, row: &Row, hash: [u8; 32]) -> Result<(), AllocError>
+    ensures { (h : List ℕ → List ℕ) (es : List (List ℕ × Data)) → HasEntries h es entries.old → hash ≡ h (row_seen row.now).0
+        → OnOk result (HasEntries h (es ++ row_seen row.now ∷ []) entries.new) }
+{
+    let from = entries.out.len();
+    add_entry(&mut entries.out, row)?;
+    let len = entries.out.len().saturating_sub(from);
+    entries.marks.push(Mark { hash, len })?;
+    Ok(())
+}
+
+/// The entries of rows, each of whose keys is hashed once.
+pub(crate) fn entries_of<H: KeyHash>(
+    alloc: Global,
+    rows: &[Row],
+    keys: &H,
+) -> Result<Entries, AllocError>
+    ensures { IfOk result (HasEntries H.hash_of (rows_seen rows.now)) }
+{
+    let mut entries = Entries {
+        out: Emit::new(alloc),
+        marks: Vec::new(alloc),
+    };
+    for row in rows {
+        let hash = keys.hash(row.key.as_str().as_bytes());
+        add(&mut entries, row, hash)?;
+    }
+    Ok(entries)
+}
+
+/// The same of rows that come with their hashes.
+pub(crate) fn entries_with(alloc: Global, rows: &[Keyed<'_>]) -> Result<Entries, AllocError>
+    ensures { (h : List ℕ → List ℕ) → AreKeyed h rows.now → IfOk result (HasEntries h (keyed_rows rows.now)) }
+{
+    let mut entries = Entries {
+        out: Emit::new(alloc),
+        marks: Vec::new(alloc),
+    };
+    for keyed in rows {
+        add(&mut entries, keyed.row, keyed.hash)?;
+    }
+    Ok(entries)
+}
+
+/// The entries as pieces of the buffer in which they are spelled.
+pub(crate) fn pieces<'b>(
+    alloc: Global,
+    bytes: &'b [u8],
+    marks: &[Mark],
+) -> Result<Vec<HashedEntry<'b>>, AllocError>
+    ensures { (h : List ℕ → List ℕ) (es : List (List ℕ × Data)) → AreMarked h es marks.now → bytes.now ≡ entries_spelled es → IfOk result (λ ks. AreHashed h es ks.items) }
+{
+    let mut pieces = Vec::new(alloc);
+    pieces.reserve(marks.len())?;
+    let mut rest = bytes;
+    for mark in marks {
+        let (entry, more) = rest.split_at(mark.len.min(rest.len()));
+        pieces.push(HashedEntry {
+            hash: mark.hash,
+            entry,
+        })?;
+        rest = more;
+    }
+    Ok(pieces)
+}
