@@ -3,14 +3,14 @@ use Rattle.std.proofs.Common.{◌≡◌, ℕ, zero, suc, ◌+◌, ◌<◌, ◌�
 use Rattle.std.specs.Prelude.{nat_eq, slice_get}
 use Rattle.std.specs.Cmp.{nat_eq_equiv}
 use Rattle.std.specs.List.{AllByRecursion, IsDistinct, list_any}
-use Rattle.std.specs.Option.{option_map_or}
 use Rattle.std.proofs.lemmas.Bool.{eq-eqb, eqb-true}
 use Rattle.std.proofs.lemmas.Map.Made.{length-from_same_keys}
 use Rattle.std.proofs.lemmas.Option.{same_Some, none-some}
 use Rattle.ild_data.specs.Data.{Data}
 use Rattle.ild_schema.specs.declared.def.Field.{Field}
 use Rattle.ild_struct.specs.Present.{ArePresent, ComeOnce}
-use Rattle.ild_view.specs.Counted.{MayLack, is_optional_at, optional_of, present_of, required_of}
+use Rattle.ild_typed.proofs.Basics.{both_true}
+use Rattle.ild_view.specs.Counted.{MayLack, is_optional_at, is_optional_in, optional_of, present_of, required_of}
 
 nat_apart : (m n : ℕ) → (m ≡ n → ⊥) → nat_eq m n ≡ false
 nat_apart m n h = by (nat_eq m n) refl where
@@ -87,12 +87,12 @@ kept_distinct n (f ∷ fs) (Some d ∷ os) = distinct_cond f.optional n (kept (s
 
 -- ---- both have the same members
 
-is_held : Option (Option Data) → Bool
+abbrev is_held : Option (Option Data) → Bool
 is_held None = false
 is_held (Some None) = false
 is_held (Some (Some d)) = true
 
-is_kept : List Field → List (Option Data) → ℕ → Bool
+abbrev is_kept : List Field → List (Option Data) → ℕ → Bool
 is_kept fs os q = is_optional_at fs q && is_held (slice_get os q)
 
 none_among : (q : ℕ) (ns : List ℕ) → AllByRecursion (λ k. nat_eq q k ≡ false) ns → list_any (nat_eq q) ns ≡ false
@@ -171,22 +171,23 @@ record KeptAt (fs : List Field) (os : List (Option Data)) (q : ℕ) : Type 0 whe
   data_there : Data
   held : slice_get os q ≡ Some (Some data_there)
 
+optional_at : (fs : List Field) (q : ℕ) → is_optional_at fs q ≡ true → (f : Field) × (slice_get fs q ≡ Some f) × (f.optional ≡ true)
+optional_at [] q h = absurd cc
+optional_at (f ∷ fs) zero h = (f, refl, h)
+optional_at (f ∷ fs) (suc q) h = optional_at fs q h
+
+held_at : (os : List (Option Data)) (q : ℕ) → is_held (slice_get os q) ≡ true → (d : Data) × (slice_get os q ≡ Some (Some d))
+held_at [] q h = absurd cc
+held_at (None ∷ os) zero h = absurd cc
+held_at (Some d ∷ os) zero h = (d, refl)
+held_at (o ∷ os) (suc q) h = held_at os q h
+
 kept_at : (fs : List Field) (os : List (Option Data)) (q : ℕ) → is_kept fs os q ≡ true → KeptAt fs os q
-kept_at fs os q h = by (slice_get fs q) refl (slice_get os q) refl h where
-  by : (o : Option Field) → slice_get fs q ≡ o → (p : Option (Option Data)) → slice_get os q ≡ p → (option_map_or {U = Bool} (λ f. f.optional) o false && is_held p) ≡ true → KeptAt fs os q
-  by None e p k is = absurd cc
-  by (Some f) e None k is = absurd (no f.optional is) where
-    no : (b : Bool) → (b && false) ≡ true → ⊥
-    no true x = cc
-    no false x = cc
-  by (Some f) e (Some None) k is = absurd (no f.optional is) where
-    no : (b : Bool) → (b && false) ≡ true → ⊥
-    no true x = cc
-    no false x = cc
-  by (Some f) e (Some (Some d)) k is = record { field = f; there = e; optional = yes f.optional is; data_there = d; held = k } where
-    yes : (b : Bool) → (b && true) ≡ true → b ≡ true
-    yes true x = refl
-    yes false x = x
+kept_at fs os q h =
+    let both = both_true (is_optional_at fs q) (is_held (slice_get os q)) h in
+    let x = optional_at fs q both.0 in
+    let y = held_at os q both.1 in
+    record { field = x.0; there = x.1; optional = x.2; data_there = y.0; held = y.1 }
 
 module _ (fs : List Field) (os : List (Option Data)) (xs : List (ℕ × Data)) (h : ArePresent fs os xs) where
   same_members : (q : ℕ) → list_any (nat_eq q) (written fs xs) ≡ list_any (nat_eq q) (kept 0 fs os)
@@ -198,7 +199,7 @@ module _ (fs : List Field) (os : List (Option Data)) (xs : List (ℕ × Data)) (
     back k =
         let x = kept_at fs os q k in
         let y = h.optional q x.field x.data_there x.there x.held x.optional in
-        written_at fs xs q y.0 x.data_there (ap (λ o. option_map_or {U = Bool} (λ f. f.optional) o false) x.there ∙ x.optional) y.1
+        written_at fs xs q y.0 x.data_there (ap is_optional_in x.there ∙ x.optional) y.1
 
     by : (a : Bool) → list_any (nat_eq q) (written fs xs) ≡ a → (b : Bool) → is_kept fs os q ≡ b → list_any (nat_eq q) (written fs xs) ≡ is_kept fs os q
     by true e b k = e ∙ sym (written_kept fs os xs h.sound q e)

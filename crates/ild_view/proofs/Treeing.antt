@@ -2,7 +2,7 @@
 use Rattle.std.proofs.Common.{◌≡◌, ℕ, zero, suc, ◌+◌, ◌-◌, ◌<◌, ◌≤◌, List, [], ◌∷◌, ◌++◌, append_assoc, append-nil, Bool, true, false, Option, Some, None, Less, Greater, refl, sym, ◌∙◌, ap, subst, arith}
 use Rattle.std.specs.Borrow.{Bor}
 use Rattle.std.specs.Ordering.{ordering_reverse}
-use Rattle.std.specs.Prelude.{max}
+use Rattle.std.specs.Prelude.{IfOk, Result, Ok, Err, max}
 use Rattle.std.proofs.lemmas.Option.{same_Some, none-some}
 use Rattle.ild_cbor.specs.Nodes.{Stands}
 use Rattle.ild_cbor.specs.Scalar.{boolean_of, bytes_of, int_of, link_of, text_of}
@@ -16,7 +16,11 @@ use Rattle.ild_data.specs.Key.{IsBelow, Rises, key_cmp, put}
 use Rattle.ild_data.specs.Tree.{AreEntries}
 use Rattle.ild_data.proofs.Lists.{items_of-items_list, members_of-members_list}
 use Rattle.ild_data.proofs.Rising.{key_cmp_total}
-use Rattle.ild_piece.specs.Entries.{EntriesGive as PieceGives, HasLeft}
+use Rattle.ild_piece.specs.Entries.{EntriesGive as PieceGives, HasLeft, Maps}
+use Rattle.ild_data.specs.Seen.{data_of}
+use Rattle.ild_data.specs.declared.tree.Tree.{Tree}
+use Rattle.ild_typed.specs.Strings.{map_data, members_in}
+use Rattle.ild_typed.specs.WhyLaws.{KeysRise}
 use Rattle.ild_piece.specs.declared.walk.MapEntries.{MapEntries}
 
 -- ---- scalars
@@ -208,3 +212,18 @@ module _ (es : List (List ℕ × Data)) (rises : Rises es) (old : Members) (s af
     by : (rest : List (List ℕ × Data)) → HasLeft s rest → es ≡ members_list old ++ rest → members_list old ≡ es
     by [] has whole = sym (append-nil (members_list old)) ∙ sym whole
     by (e ∷ rest) has whole = absurd (gives (e ∷ rest) has)
+
+pub entries_made : (es : List (List ℕ × Data)) (found : Members) → members_list found ≡ es → T.map found ≡ map_data es
+entries_made es found e = ap T.map (sym (members_of-members_list found) ∙ ap T.members_of e)
+
+inline_made : (s : MapEntries) (d : Data) (t : Data) → KeysRise t → Maps (members_in t) (Some s) → ((es : List (List ℕ × Data)) → HasLeft s es → Rises es → d ≡ map_data es) → d ≡ t
+inline_made s d (T.map ms) rises has read = read (members_list ms) has rises ∙ ap T.map (members_of-members_list ms)
+inline_made s d t rises has read = absurd has
+
+pub inline_tree : {E : Type 0} (s : MapEntries) (r : Result Tree E) (t : Data) → KeysRise t → Maps (members_in t) (Some s) → IfOk r (λ d. (es : List (List ℕ × Data)) → HasLeft s es → Rises es → data_of d ≡ map_data es) → IfOk r (λ d. data_of d ≡ t)
+inline_tree s (Ok d) t rises has read = inline_made s (data_of d) t rises has read
+inline_tree s (Err e) t rises has read = tt
+
+pub if_made : {E : Type 0} (P : Data → Type 0) (r : Result Tree E) → ((t : Data) → P t → IfOk r (λ d. data_of d ≡ t)) → IfOk r (λ d. (t : Data) → P t → data_of d ≡ t)
+if_made P (Ok d) h = λ t p. h t p
+if_made P (Err e) h = tt

@@ -1,6 +1,5 @@
 -- How many parts a value has: the fields that are present, the entries or the elements.
 use Rattle.std.specs.Prelude.{◌≡◌, ℕ, suc, Bool, true, false, cond, List, [], ◌∷◌, Option, Some, None, length, slice_get}
-use Rattle.std.specs.Option.{option_map_or}
 use Rattle.ild_data.specs.Data.{Data}
 use Rattle.ild_schema.specs.declared.def.Field.{Field}
 use Rattle.ild_schema.specs.declared.def.MapForm.{MapForm}
@@ -27,8 +26,12 @@ abbrev pub required_of : List Field → ℕ
 required_of [] = 0
 required_of (f ∷ fs) = cond f.optional (required_of fs) (suc (required_of fs))
 
+abbrev pub is_optional_in : Option Field → Bool
+is_optional_in None = false
+is_optional_in (Some f) = f.optional
+
 abbrev pub is_optional_at : List Field → ℕ → Bool
-is_optional_at fs i = option_map_or {U = Bool} (λ f. f.optional) (slice_get fs i) false
+is_optional_at fs i = is_optional_in (slice_get fs i)
 
 abbrev pub optional_of : List Field → List (ℕ × Data) → ℕ
 optional_of fs [] = 0

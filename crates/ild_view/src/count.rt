@@ -1,5 +1,5 @@
 //! How many parts a value has.
-ghost use Rattle.std.specs.Prelude.{◌≡◌, ◌<◌, ◌^◌, List, Option, length, true, ℕ};
+ghost use Rattle.std.specs.Prelude.{◌≡◌, ◌<◌, ◌≤◌, ◌^◌, List, Option, length, true, ℕ};
 ghost use Rattle.ild_cbor.specs.Scalar.{count_of};
 ghost use Rattle.ild_data.specs.Data.{Data};
 ghost use Rattle.ild_piece.specs.Pieces.{StandsFor};
@@ -53,6 +53,7 @@ fn text_count<'b>(piece: &Piece<'b>, inner: &'b str, entry: &'b str) -> Option<u
 
 // How many fields have to be there.
 fn required(fields: &[Field]) -> u64
+    requires { length fields.now ≤ 1024 }
     ensures { result ≡ required_of fields.now }
 {
     let mut count: u64 = 0;
@@ -94,7 +95,8 @@ fn optional_written(fields: &[Field], present: Present<'_>) -> u64
 
 // How many fields of a struct are present.
 fn present_count(fields: &[Field], parts: &StructParts<'_>) -> u64
-    ensures { (rows : List Row) (ty : ℕ) (t : Data) (os : List (Option Data)) → ArePartsOf rows ty t os parts.now → fields_of parts.now ≡ fields.now → MayLack fields.now os → result ≡ present_of os }
+    requires { fields_of parts.now ≡ fields.now }
+    ensures { (rows : List Row) (ty : ℕ) (t : Data) (os : List (Option Data)) → ArePartsOf rows ty t os parts.now → MayLack fields.now os → result ≡ present_of os }
 {
     required(fields).saturating_add(optional_written(fields, parts.present()))
 }

@@ -1,6 +1,6 @@
 //! The representation at a view.
 ghost use Rattle.std.specs.Prelude.{◌≡◌, IfOk, List, Some, true, ℕ};
-ghost use Rattle.ild_data.specs.Data.{Data, members_list};
+ghost use Rattle.ild_data.specs.Data.{Data};
 ghost use Rattle.ild_data.specs.Key.{Rises};
 ghost use Rattle.ild_data.specs.Seen.{data_of};
 ghost use Rattle.ild_piece.specs.Entries.{HasLeft};
@@ -9,6 +9,7 @@ ghost use Rattle.ild_schema.specs.Value.{Value};
 ghost use Rattle.ild_typed.specs.Fields.{is_scalar};
 ghost use Rattle.ild_typed.specs.Hamt.{alone};
 ghost use Rattle.ild_typed.specs.Represented.{represented};
+ghost use Rattle.ild_typed.specs.Strings.{map_data};
 
 use crate::body::Body;
 use crate::tree::tree_of;
@@ -20,8 +21,8 @@ use ild_schema::{Accepted, Scalar};
 use std::alloc::{AllocError, Global};
 
 // The map of these entries.
-fn entries_tree(alloc: Global, entries: MapEntries<'_>) -> Result<Entries, AllocError>
-    ensures { IfOk result (λ found. (es : List (List ℕ × Data)) → HasLeft entries.entry es → Rises es → members_list found ≡ es) }
+fn entries_tree(alloc: Global, entries: MapEntries<'_>) -> Result<Tree, AllocError>
+    ensures { IfOk result (λ tree. (es : List (List ℕ × Data)) → HasLeft entries.entry es → Rises es → data_of tree ≡ map_data es) }
 {
     let mut members = Entries::new(alloc);
     let mut left = entries;
@@ -30,7 +31,7 @@ fn entries_tree(alloc: Global, entries: MapEntries<'_>) -> Result<Entries, Alloc
         let tree = tree_of(alloc, &value)?;
         members.put(name, tree)?;
     }
-    Ok(members)
+    Ok(Tree::Map(members))
 }
 
 // The tree of a scalar.
@@ -58,7 +59,7 @@ fn piece_tree<'b>(
         Piece::Text(text) => Ok(Tree::Text(Txt::of(alloc, text)?)),
         Piece::Bytes(bytes) => Ok(Tree::Bytes(Octets::of(alloc, bytes)?)),
         Piece::Inline(_, _) => match entries(acc, piece) {
-            Some(left) => Ok(Tree::Map(entries_tree(alloc, left)?)),
+            Some(left) => entries_tree(alloc, left),
             None => Ok(Tree::Null),
         },
     }

@@ -45,7 +45,8 @@ fn tree_within(alloc: Global, node: &Node<'_>, room: u32) -> Result<Tree, AllocE
         let mut trees = Trees::new(alloc);
         let mut left = items;
         while let Some(item) = left.next() {
-            trees.push(tree_within(alloc, &item, room - 1)?)?;
+            let tree = tree_within(alloc, &item, room - 1)?;
+            trees.push(tree)?;
         }
         return Ok(Tree::List(trees));
     }
@@ -57,8 +58,8 @@ fn tree_within(alloc: Global, node: &Node<'_>, room: u32) -> Result<Tree, AllocE
         let mut rest = entries;
         while let Some((key, value)) = rest.next() {
             let name = Txt::of(alloc, key)?;
-            let tree = tree_within(alloc, &value, room - 1)?;
-            members.put(name, tree)?;
+            let part = tree_within(alloc, &value, room - 1)?;
+            members.put(name, part)?;
         }
         return Ok(Tree::Map(members));
     }

@@ -5,5 +5,5 @@ use Rattle.ild_piece.specs.Entries.{HasLeft}
 use Rattle.ild_view.proofs.Treeing.{EntriesRead}
 use Rattle.ild_view.proofs.rep.entries_tree.Given as goal
 
-abbrev pub invariant-loop-value : goal.invariant-loop-value
-invariant-loop-value l = (es : List (List ℕ × Data)) → HasLeft l.entries es → Rises es → EntriesRead es l.members l.left
+abbrev pub invariant-loop-key : goal.invariant-loop-key
+invariant-loop-key l = (es : List (List ℕ × Data)) → HasLeft l.entries es → Rises es → EntriesRead es l.members l.left

@@ -10,5 +10,5 @@ decreases-tree_within l = l.room
 abbrev pub invariant-loop-item : goal.invariant-loop-item
 invariant-loop-item l = (t : Data) → Stands l.node t → depth t ≤ l.room → ItemsRead t (l.room - 1) l.trees l.left
 
-abbrev pub invariant-loop-value : goal.invariant-loop-value
-invariant-loop-value l = (t : Data) → Stands l.node t → depth t ≤ l.room → MembersRead t (l.room - 1) l.members l.rest
+abbrev pub invariant-loop-key : goal.invariant-loop-key
+invariant-loop-key l = (t : Data) → Stands l.node t → depth t ≤ l.room → MembersRead t (l.room - 1) l.members l.rest
