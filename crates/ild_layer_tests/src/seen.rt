@@ -90,7 +90,9 @@ pub(crate) fn view_of<'b>(
         return Err("a type of the table");
     }
     let root: Node<'b> = check(block).ok().ok_or("a block")?;
-    View::check(alloc, acc, slot, root, 96).ok().ok_or("a value of the type")
+    View::check(alloc, acc, slot, root, 96)
+        .ok()
+        .ok_or("a value of the type")
 }
 
 /// A path of these segments.

@@ -17,25 +17,28 @@ type Row = (
     &'static [(&'static [&'static str], Seen<'static>)],
 );
 
-const SCALARS: [Row; 1] = [
-    (
-        "S",
-        b"\xa6ai$al\xd8*X%\x00\x01q\x12 \x00\x00\x00\x00\x00\x00\x00\x00\x00\x00\x00\x00\x00\x00\x00\x00\x00\x00\x00\x00\x00\x00\x00\x00\x00\x00\x00\x00\x00\x00\x00\x00an\xf6asbhiat\xf5ayB\x01\x02",
-        &[
-            (&[], Seen::Parts(7)),
-            (&["i"], Seen::Int(-5)),
-            (&["s"], Seen::Text("hi")),
-            (&["t"], Seen::Bool(true)),
-            (&["y"], Seen::Bytes(b"\x01\x02")),
-            (&["l"], Seen::Link(b"\x01q\x12 \x00\x00\x00\x00\x00\x00\x00\x00\x00\x00\x00\x00\x00\x00\x00\x00\x00\x00\x00\x00\x00\x00\x00\x00\x00\x00\x00\x00\x00\x00\x00\x00")),
-            (&["n"], Seen::Null),
-            (&["o"], Seen::Nowhere(0)),
-            (&["d"], Seen::Int(4)),
-            (&["x"], Seen::Nowhere(0)),
-            (&["i", "i"], Seen::Nowhere(1)),
-        ],
-    ),
-];
+const SCALARS: [Row; 1] = [(
+    "S",
+    b"\xa6ai$al\xd8*X%\x00\x01q\x12 \x00\x00\x00\x00\x00\x00\x00\x00\x00\x00\x00\x00\x00\x00\x00\x00\x00\x00\x00\x00\x00\x00\x00\x00\x00\x00\x00\x00\x00\x00\x00\x00an\xf6asbhiat\xf5ayB\x01\x02",
+    &[
+        (&[], Seen::Parts(7)),
+        (&["i"], Seen::Int(-5)),
+        (&["s"], Seen::Text("hi")),
+        (&["t"], Seen::Bool(true)),
+        (&["y"], Seen::Bytes(b"\x01\x02")),
+        (
+            &["l"],
+            Seen::Link(
+                b"\x01q\x12 \x00\x00\x00\x00\x00\x00\x00\x00\x00\x00\x00\x00\x00\x00\x00\x00\x00\x00\x00\x00\x00\x00\x00\x00\x00\x00\x00\x00\x00\x00\x00\x00",
+            ),
+        ),
+        (&["n"], Seen::Null),
+        (&["o"], Seen::Nowhere(0)),
+        (&["d"], Seen::Int(4)),
+        (&["x"], Seen::Nowhere(0)),
+        (&["i", "i"], Seen::Nowhere(1)),
+    ],
+)];
 
 const FULL: [Row; 3] = [
     (
@@ -50,10 +53,7 @@ const FULL: [Row; 3] = [
     (
         "T",
         b"\x81\x01",
-        &[
-            (&[], Seen::Parts(1)),
-            (&["b"], Seen::Nowhere(0)),
-        ],
+        &[(&[], Seen::Parts(1)), (&["b"], Seen::Nowhere(0))],
     ),
     (
         "T",
@@ -70,13 +70,7 @@ const FULL: [Row; 3] = [
 ];
 
 const MAPS: [Row; 6] = [
-    (
-        "M",
-        b"\xa0",
-        &[
-            (&[], Seen::Parts(0)),
-        ],
-    ),
+    ("M", b"\xa0", &[(&[], Seen::Parts(0))]),
     (
         "M",
         b"\xa2ab\x80baa\x81\x01",
@@ -90,33 +84,18 @@ const MAPS: [Row; 6] = [
     (
         "P",
         b"\x82\x82ab\x01\x82aa\x02",
-        &[
-            (&[], Seen::Parts(2)),
-            (&["a"], Seen::Int(2)),
-        ],
+        &[(&[], Seen::Parts(2)), (&["a"], Seen::Int(2))],
     ),
     (
         "Q",
         b"fb=1&a=",
-        &[
-            (&[], Seen::Parts(2)),
-            (&["a"], Seen::Text("")),
-        ],
+        &[(&[], Seen::Parts(2)), (&["a"], Seen::Text(""))],
     ),
-    (
-        "Q",
-        b"`",
-        &[
-            (&[], Seen::Parts(0)),
-        ],
-    ),
+    ("Q", b"`", &[(&[], Seen::Parts(0))]),
     (
         "H",
         b"\xa3dhamt\x82X \x00\x00\x00\x00\x00\x00\x00\x00\x00\x00\x00\x00\x00\x00\x00\x00\x00\x00\x00\x00\x00\x00\x00\x00\x00\x00\x00\x00\x00\x00\x00\x00\x80ghashAlg\x12jbucketSize\x03",
-        &[
-            (&[], Seen::Hamt),
-            (&["a"], Seen::Enter(0)),
-        ],
+        &[(&[], Seen::Hamt), (&["a"], Seen::Enter(0))],
     ),
 ];
 
@@ -133,34 +112,19 @@ const TEXTS: [Row; 5] = [
     (
         "K",
         b"ca=1",
-        &[
-            (&[], Seen::Parts(2)),
-            (&["d"], Seen::Text("x")),
-        ],
+        &[(&[], Seen::Parts(2)), (&["d"], Seen::Text("x"))],
     ),
     (
         "K",
         b"ka=1&b=2&d=3",
-        &[
-            (&[], Seen::Parts(3)),
-            (&["d"], Seen::Text("3")),
-        ],
+        &[(&[], Seen::Parts(3)), (&["d"], Seen::Text("3"))],
     ),
     (
         "R",
         b"\x81\x82aa\x01",
-        &[
-            (&[], Seen::Parts(2)),
-            (&["b"], Seen::Int(1)),
-        ],
+        &[(&[], Seen::Parts(2)), (&["b"], Seen::Int(1))],
     ),
-    (
-        "R",
-        b"\x82\x82aa\x01\x82ab\x02",
-        &[
-            (&["b"], Seen::Int(2)),
-        ],
-    ),
+    ("R", b"\x82\x82aa\x01\x82ab\x02", &[(&["b"], Seen::Int(2))]),
 ];
 
 const UNIONS: [Row; 4] = [
@@ -183,31 +147,16 @@ const UNIONS: [Row; 4] = [
             (&["I", "k"], Seen::Nowhere(1)),
         ],
     ),
-    (
-        "E",
-        b"cwhy",
-        &[
-            (&[], Seen::Enum("y")),
-        ],
-    ),
+    ("E", b"cwhy", &[(&[], Seen::Enum("y"))]),
     (
         "U",
         b"\xf6",
-        &[
-            (&[], Seen::Unit),
-            (&["a"], Seen::Nowhere(0)),
-        ],
+        &[(&[], Seen::Unit), (&["a"], Seen::Nowhere(0))],
     ),
 ];
 
 const ANYS: [Row; 4] = [
-    (
-        "A",
-        b"\x03",
-        &[
-            (&[], Seen::Int(3)),
-        ],
-    ),
+    ("A", b"\x03", &[(&[], Seen::Int(3))]),
     (
         "A",
         b"\x82\xf6\xa1aa\xd8*X%\x00\x01q\x12 \x00\x00\x00\x00\x00\x00\x00\x00\x00\x00\x00\x00\x00\x00\x00\x00\x00\x00\x00\x00\x00\x00\x00\x00\x00\x00\x00\x00\x00\x00\x00\x00",
@@ -215,17 +164,16 @@ const ANYS: [Row; 4] = [
             (&[], Seen::Parts(2)),
             (&["0"], Seen::Null),
             (&["1"], Seen::Parts(1)),
-            (&["1", "a"], Seen::Link(b"\x01q\x12 \x00\x00\x00\x00\x00\x00\x00\x00\x00\x00\x00\x00\x00\x00\x00\x00\x00\x00\x00\x00\x00\x00\x00\x00\x00\x00\x00\x00\x00\x00\x00\x00")),
+            (
+                &["1", "a"],
+                Seen::Link(
+                    b"\x01q\x12 \x00\x00\x00\x00\x00\x00\x00\x00\x00\x00\x00\x00\x00\x00\x00\x00\x00\x00\x00\x00\x00\x00\x00\x00\x00\x00\x00\x00\x00\x00\x00\x00",
+                ),
+            ),
             (&["1", "a", "b"], Seen::Nowhere(2)),
         ],
     ),
-    (
-        "A",
-        b"\xa1a0Ax",
-        &[
-            (&["0"], Seen::Bytes(b"x")),
-        ],
-    ),
+    ("A", b"\xa1a0Ax", &[(&["0"], Seen::Bytes(b"x"))]),
     (
         "W",
         b"\xa2aeaxah\xa3dhamt\x82X \x00\x00\x00\x00\x00\x00\x00\x00\x00\x00\x00\x00\x00\x00\x00\x00\x00\x00\x00\x00\x00\x00\x00\x00\x00\x00\x00\x00\x00\x00\x00\x00\x80ghashAlg\x12jbucketSize\x03",
@@ -236,16 +184,18 @@ const ANYS: [Row; 4] = [
     ),
 ];
 
-fn is_so(
-    rt: &impl Abort,
-    alloc: Global,
-    acc: &Accepted,
-    row: &Row,
-) -> Result<(), Fail> {
+fn is_so(rt: &impl Abort, alloc: Global, acc: &Accepted, row: &Row) -> Result<(), Fail> {
     let view = view_of(alloc, acc, row.0, row.1)?;
     for (segments, want) in row.2 {
         let path = path_of(alloc, segments)?;
-        assert_eq!(rt; seen_at(&view, &path), *want, "{} {:?} {:?}", row.0, row.1, segments);
+        assert_eq!(rt;
+            seen_at(&view, &path),
+            *want,
+            "{} {:?} {:?}",
+            row.0,
+            row.1,
+            segments
+        );
     }
     Ok(())
 }

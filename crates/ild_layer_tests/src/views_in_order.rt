@@ -30,16 +30,32 @@ type Data = (
 );
 
 const LISTS: [List; 3] = [
-    ("L", b"\x83\x01\xf6\x18\x20", &[Seen::Int(1), Seen::Null, Seen::Int(32)]),
+    (
+        "L",
+        b"\x83\x01\xf6\x18\x20",
+        &[Seen::Int(1), Seen::Null, Seen::Int(32)],
+    ),
     ("L", b"\x80", &[]),
     ("A", b"\x82\xf6\x81ax", &[Seen::Null, Seen::Parts(1)]),
 ];
 
 const MAPS: [Map; 6] = [
-    ("M", b"\xa2ab\x80baa\x81\x01", &[("b", Seen::Parts(0)), ("aa", Seen::Parts(1))]),
+    (
+        "M",
+        b"\xa2ab\x80baa\x81\x01",
+        &[("b", Seen::Parts(0)), ("aa", Seen::Parts(1))],
+    ),
     ("M", b"\xa0", &[]),
-    ("P", b"\x82\x82ab\x01\x82aa\x02", &[("b", Seen::Int(1)), ("a", Seen::Int(2))]),
-    ("Q", b"fb=1&a=", &[("b", Seen::Text("1")), ("a", Seen::Text(""))]),
+    (
+        "P",
+        b"\x82\x82ab\x01\x82aa\x02",
+        &[("b", Seen::Int(1)), ("a", Seen::Int(2))],
+    ),
+    (
+        "Q",
+        b"fb=1&a=",
+        &[("b", Seen::Text("1")), ("a", Seen::Text(""))],
+    ),
     ("Q", b"\x60", &[]),
     ("A", b"\xa1ax\xf6", &[("x", Seen::Null)]),
 ];
@@ -52,7 +68,12 @@ const DATA: [Data; 9] = [
     ("K", b"ca=1", &["d"], "\"x\""),
     ("V", b"\xa2akaian\x02", &["I"], "{\"n\":2}"),
     ("J", b"ewhy:z", &["a"], "\"why\""),
-    ("A", b"\x83\xf5CabcaA", &[], "[true,{\"/\":{\"bytes\":\"YWJj\"}},\"A\"]"),
+    (
+        "A",
+        b"\x83\xf5CabcaA",
+        &[],
+        "[true,{\"/\":{\"bytes\":\"YWJj\"}},\"A\"]",
+    ),
     (
         "H",
         b"\xa3dhamt\x82X \0\0\0\0\0\0\0\0\0\0\0\0\0\0\0\0\0\0\0\0\0\0\0\0\0\0\0\0\0\0\0\0\x80ghashAlg\x12jbucketSize\x03",
@@ -77,11 +98,7 @@ fn are_items(rt: &impl Abort, view: &View<'_>, wants: &[Seen<'_>]) -> Result<(),
 }
 
 /// The entries are these, one after another, and each is the one at its key.
-fn are_entries(
-    rt: &impl Abort,
-    view: &View<'_>,
-    wants: &[(&str, Seen<'_>)],
-) -> Result<(), Fail> {
+fn are_entries(rt: &impl Abort, view: &View<'_>, wants: &[(&str, Seen<'_>)]) -> Result<(), Fail> {
     let mut left = view.entries().ok_or("a map")?;
     for (name, want) in wants {
         let (key, part) = left.next().ok_or("an entry")?;

@@ -177,9 +177,10 @@ module _ (rows : List Row) (legible : IsLegible rows) (s : Slot) (safe : is_safe
   struct_count def known os layered =
       let x = front_struct rows legible.clear s safe room f t front some def known in
       let k = kept_of rows def.fields x.items x.parts x.there x.fit in
-      let same : x.parts ≡ os = struct_same rows legible s safe room f t front some def known os layered in
-      (subst (MayLack def.fields) same k.lack,
-       ap (λ xs. Some (present_of xs)) (sym same) ∙ ap Some k.same ∙ ap count_in (sym (seen_struct rows legible.clear s safe room f t front some def known)))
+      let same : x.parts ≡ os = struct_same rows legible s safe room f t front some def known os layered in (
+        subst (MayLack def.fields) same k.lack,
+        ap (λ xs. Some (present_of xs)) (sym same) ∙ ap Some k.same ∙ ap count_in (sym (seen_struct rows legible.clear s safe room f t front some def known)),
+      )
 
   pub map_counted : (form : MapForm) (es : List (List ℕ × Data)) (u : Slot) (r : Option ℕ) → FormKeyed rows u form es (seen rows (s, f)) → FormCount form es r → r ≡ count_in (seen rows (s, f))
   map_counted MF.Map es u r keyed found = found ∙ sym keyed.1

@@ -46,15 +46,15 @@ beside_front rows u q d b stands h = record { value = q.1; room = h.room; tree =
 
 beside_view : (rows : List Row) (u : Slot) (q : InSlot) (d : Data) (b : Body) (v : View) → BodyStands rows b d → IsBeside rows u q d → table_of v ≡ rows → slot_of v ≡ u → body_of v ≡ b → IsPartView rows q v
 beside_view rows u q d b v stands h table slot body = record {
-    table = table;
-    slot = slot ∙ sym h.slot;
-    view = record {
-      room = h.room;
-      tree = d;
-      stands = subst (λ (c : Body). BodyStands (table_of v) c d) (sym body) (subst (λ (rs : List Row). BodyStands rs b d) (sym table) stands);
-      front = subst (λ (s : Slot). Front (table_of v) h.room s q.1 d) (sym slot) (subst (λ (rs : List Row). Front rs h.room u q.1 d) (sym table) h.front);
-    };
-  }
+  table = table;
+  slot = slot ∙ sym h.slot;
+  view = record {
+    room = h.room;
+    tree = d;
+    stands = subst (λ (c : Body). BodyStands (table_of v) c d) (sym body) (subst (λ (rs : List Row). BodyStands rs b d) (sym table) stands);
+    front = subst (λ (s : Slot). Front (table_of v) h.room s q.1 d) (sym slot) (subst (λ (rs : List Row). Front rs h.room u q.1 d) (sym table) h.front);
+  };
+}
 
 -- ---- elements
 
@@ -254,13 +254,14 @@ pub items_step : (rows : List Row) (s : ViewItems) (v : View) (left : ItemsLeft)
 items_step rows s v left t table slot items qs h step = by qs (step qs (items_turn rows s qs h)) where
   by : (ps : List InSlot) → ItemFirst s.acc.now s.slot ps (Some (v, left)) → ItemsStep rows ps (Some v) t
   by [] x = absurd x
-  by (p ∷ ps) x =
-      (subst (λ (rs : List Row). IsPartView rs p v) h.table x.0,
-       record {
-         table = table ∙ h.table;
-         left = subst (λ (rs : List Row). HasElements rs t.slot t.items ps) h.table
-             (subst (λ (k : Slot). HasElements s.acc.now k t.items ps) (sym slot) (subst (λ (i : ItemsLeft). HasElements s.acc.now s.slot i ps) (sym items) x.1));
-       })
+  by (p ∷ ps) x = (
+    subst (λ (rs : List Row). IsPartView rs p v) h.table x.0,
+    record {
+      table = table ∙ h.table;
+      left = subst (λ (rs : List Row). HasElements rs t.slot t.items ps) h.table
+          (subst (λ (k : Slot). HasElements s.acc.now k t.items ps) (sym slot) (subst (λ (i : ItemsLeft). HasElements s.acc.now s.slot i ps) (sym items) x.1));
+    },
+  )
 
 pub items_stop : (rows : List Row) (s : ViewItems) (qs : List InSlot) → HasItemsLeft rows s qs → ((ps : List InSlot) → HasElements s.acc.now s.slot s.items ps → ItemFirst s.acc.now s.slot ps None) → ItemsStep rows qs None s
 items_stop rows s qs h step = by qs h (step qs (items_turn rows s qs h)) where
@@ -276,13 +277,15 @@ pub entries_step : (rows : List Row) (s : ViewEntries) (k : Bor (List ℕ)) (v :
 entries_step rows s k v left t table slot rest qs h step = by qs (step qs (entries_turn rows s qs h)) where
   by : (ps : List (List ℕ × InSlot)) → EntryFirst s.acc.now s.slot ps (Some (k, v, left)) → EntriesStep rows ps (Some (k, v)) t
   by [] x = absurd x
-  by (p ∷ ps) x =
-      (x.0, subst (λ (rs : List Row). IsPartView rs p.1 v) h.table x.1,
-       record {
-         table = table ∙ h.table;
-         left = subst (λ (rs : List Row). HasEntries rs t.slot t.rest ps) h.table
-             (subst (λ (u : Slot). HasEntries s.acc.now u t.rest ps) (sym slot) (subst (λ (r : Rest). HasEntries s.acc.now s.slot r ps) (sym rest) x.2));
-       })
+  by (p ∷ ps) x = (
+    x.0,
+    subst (λ (rs : List Row). IsPartView rs p.1 v) h.table x.1,
+    record {
+      table = table ∙ h.table;
+      left = subst (λ (rs : List Row). HasEntries rs t.slot t.rest ps) h.table
+          (subst (λ (u : Slot). HasEntries s.acc.now u t.rest ps) (sym slot) (subst (λ (r : Rest). HasEntries s.acc.now s.slot r ps) (sym rest) x.2));
+    },
+  )
 
 pub entries_stop : (rows : List Row) (s : ViewEntries) (qs : List (List ℕ × InSlot)) → HasEntriesLeft rows s qs → ((ps : List (List ℕ × InSlot)) → HasEntries s.acc.now s.slot s.rest ps → EntryFirst s.acc.now s.slot ps None)
     → EntriesStep rows qs None s

@@ -148,8 +148,8 @@ pub record MembersRead (t : Data) (room : ℕ) (done : Members) (left : Pairs) :
 pub members_begin : (n : Node) (t : Data) (room : ℕ) (s : Pairs) → FindsEntries n (members_of t) (Some s) → depth t ≤ room → MembersRead t (room - 1) T.no_members s
 members_begin n (T.map ms) room s h deep =
     record { all = ms; is = refl; rises = entries_rise ms h.left.entries; rest = ms; has = h.left; deep = less (members_depth ms) room deep; whole = refl } where
-  less : (a b : ℕ) → a + 1 ≤ b → a ≤ b - 1
-  less a b k = omega (arith, k)
+      less : (a b : ℕ) → a + 1 ≤ b → a ≤ b - 1
+      less a b k = omega (arith, k)
 members_begin n t room s h deep = absurd h
 
 module _ (t : Data) (room : ℕ) (old : Members) (s after : Pairs) (h : MembersRead t room old s) where

@@ -46,11 +46,7 @@ fn scalar_tree(scalar: &Scalar) -> Result<Tree, AllocError>
 }
 
 // The tree of a piece.
-fn piece_tree<'b>(
-    alloc: Global,
-    acc: &'b Accepted,
-    piece: &Piece<'b>,
-) -> Result<Tree, AllocError>
+fn piece_tree<'b>(alloc: Global, acc: &'b Accepted, piece: &Piece<'b>) -> Result<Tree, AllocError>
     requires { IsNumbered acc.now piece.now }
     ensures { IfOk result (λ tree. (t : Data) → StandsFor acc.now piece.now t → data_of tree ≡ t) }
 {
