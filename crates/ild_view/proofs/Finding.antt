@@ -131,7 +131,7 @@ module _ (rows : List Row) (name : List ℕ) where
 -- ---- the parts of a front
 
 module _ (rows : List Row) (clear : IsClear rows) (s : Slot) (safe : is_safe rows s ≡ true) (room : ℕ) (f : Value) (t : Data) (front : Front rows room s f t) (some : is_null_there s t ≡ false) where
-  any_tree : form_of rows s ≡ Some D.Any → IsTree t
+  pub any_tree : form_of rows s ≡ Some D.Any → IsTree t
   any_tree known = (front_fits rows clear s safe room f t front some D.Any known (V.any t) (L.any t) (front_any rows clear s safe room f t front some known) refl).0
 
   list_beside : (elem : Slot) (at : ℕ) → form_of rows s ≡ Some (D.List elem at) → (i : ℕ) → Beside rows elem (item_of t i) (element_at (seen rows (s, f)) i)

@@ -8,3 +8,8 @@ mod Reading
 mod Fielding
 mod Reaching
 mod Indexing
+mod Ordering
+mod Tallying
+mod Treeing
+mod Iterating
+mod Counting

@@ -48,7 +48,7 @@ finds_found n place None None h = tt
 finds_found n place (Some d) None h = h
 finds_found n place None (Some m) h = h
 
-shows_map : (form : MapForm) (es : List (List ℕ × Data)) (t : Data) → ClearMap form → Given form → is_hamt form ≡ false → map_form alone form (L.map es) ≡ Some t → ShowsMap form es t
+pub shows_map : (form : MapForm) (es : List (List ℕ × Data)) (t : Data) → ClearMap form → Given form → is_hamt form ≡ false → map_form alone form (L.map es) ≡ Some t → ShowsMap form es t
 shows_map MF.Map es t clear given plain e = ap members_in (sym (same_Some (map_data es) t e)) ∙ ap Some (members_list-members_of es)
 shows_map MF.ListPairs es t clear given plain e = sym (same_Some (listpairs es) t e)
 shows_map (MF.StringPairs inner entry) es t clear given plain e = e

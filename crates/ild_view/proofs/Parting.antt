@@ -198,7 +198,7 @@ module _ (rows : List Row) (clear : IsClear rows) (s : Slot) (safe : is_safe row
         let x = front_union rows clear s safe room f t front some def known in
         ap (holder_of rows s) x.is ∙ ap (λ o. union_holder o x.number x.item) known
 
-    seen_in_map : (key : TypeNo) (key_at : ℕ) (value : Slot) (at : ℕ) (form : MapForm) → form_of rows s ≡ Some (D.Map key key_at value at form) → SeenMap key value form
+    pub seen_in_map : (key : TypeNo) (key_at : ℕ) (value : Slot) (at : ℕ) (form : MapForm) → form_of rows s ≡ Some (D.Map key key_at value at form) → SeenMap key value form
     seen_in_map key key_at value at MF.Map known = (_, seen_map key key_at value at MF.Map refl known)
     seen_in_map key key_at value at MF.ListPairs known = (_, seen_map key key_at value at MF.ListPairs refl known)
     seen_in_map key key_at value at (MF.StringPairs inner entry) known = (_, seen_map key key_at value at (MF.StringPairs inner entry) refl known)

@@ -1,10 +1,16 @@
+pub mod Beside
 pub mod Body
+pub mod Counted
 pub mod Forms
 pub mod Front
+pub mod Iterates
 pub mod Itself
+pub mod Left
 pub mod Names
+pub mod Ordered
 pub mod Parts
 pub mod Reaches
+pub mod Rest
 pub mod Roots
 pub mod Safe
 pub mod View
