@@ -1,13 +1,11 @@
 -- Entries under rising keys, as a slice of pairs and as members.
-use Rattle.std.proofs.Common.{cond, ◌≡◌, ℕ, ◌≤◌, List, [], ◌∷◌, Bool, true, false, map, max, Option, Some, refl, ap, sym, ◌∙◌, subst, arith}
+use Rattle.std.proofs.Common.{cond, ◌≡◌, ℕ, ◌≤◌, List, [], ◌∷◌, Bool, true, false, map, max, Option, Some, refl, ap, sym, arith}
 use Rattle.std.specs.Prelude.{option_map}
 use Rattle.std.proofs.lemmas.Option.{same_Some, none-some}
 use Rattle.ild_data.specs.Data.{Data, depth, Members, no_members, member, members_list, members_depth}
 use Rattle.ild_data.specs.Key.{same_text, value_at, Rises, IsBelow}
 use Rattle.ild_data.specs.Seen.{data_of, pair_of}
-use Rattle.ild_data.specs.Tree.{AreEntries}
 use Rattle.ild_data.specs.declared.tree.Tree.{Tree}
-use Rattle.ild_meant.proofs.Broken.{entries_rise}
 use Rattle.ild_value.specs.Parts.{only_member}
 
 below_seen : (k : List ℕ) (ps : List (List ℕ × Tree)) → IsBelow k (map pair_of ps) → IsBelow k ps

@@ -2,7 +2,7 @@
 use Rattle.std.proofs.Common.{◌≡◌, ◌≢◌, ℕ, zero, suc, ◌+◌, ◌<◌, ◌≤◌, List, [], ◌∷◌, cond, Bool, true, false, length, get_or, map, slice_get, slice_set, Option, Some, None, refl, ap, sym, ◌∙◌, subst, arith}
 use Rattle.std.specs.Prelude.{option_map}
 use Rattle.std.proofs.lemmas.Option.{same_Some, none-some, slice_get_read}
-use Rattle.ild_data.specs.Data.{Data, depth, Members, members_list, members_depth}
+use Rattle.ild_data.specs.Data.{depth, Members, members_list, members_depth}
 use Rattle.ild_data.specs.Key.{put, same_text, value_at}
 use Rattle.ild_data.specs.Seen.{data_of, pair_of}
 use Rattle.ild_data.specs.declared.tree.Tree.{Tree}

@@ -27,7 +27,7 @@ pub fn from_shown(alloc: Global, acc: &Accepted, slot: Slot, tree: Tree) -> Resu
     tree_value(alloc, acc, slot, tree)
 }
 
-/// The same of a tree that is kept: of a copy of it.
+/// The same of a tree that is kept: its texts, keys and bytes are copied.
 pub fn of_shown(alloc: Global, acc: &Accepted, slot: Slot, tree: &Tree) -> Result<Val, ShownErr>
     requires { slot.ty.0 < length acc.now }
     ensures ok { IfOk result (λ v. Means acc.now slot (data_of tree.now) (value_of v)) }
