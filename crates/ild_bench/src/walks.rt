@@ -10,7 +10,10 @@ use std::alloc::Global;
 /// Lists of structs of ten fields, which stand in a block in the order of their declaration, and in another order; a list, a map
 /// and pairs.
 const SCHEMA: &str =
-    "type Straight struct { a Int bb Int ccc Int dddd Int eeeee String ffffff String ggggggg Int hhhhhhhh Int iiiiiiiii Int jjjjjjjjjj Int } type Crossed struct { ggggggg Int a Int jjjjjjjjjj Int ccc Int hhhhhhhh Int eeeee String bb Int iiiiiiiii Int dddd Int ffffff String } type Straights [Straight] type Crosseds [Crossed] type Ints [Int] type Entries {String:Int} type Pairs {String:Int} representation listpairs";
+    "type Straight struct { a Int bb Int ccc Int dddd Int eeeee String ffffff String ggggggg Int hhhhhhhh \
+     Int iiiiiiiii Int jjjjjjjjjj Int } type Crossed struct { ggggggg Int a Int jjjjjjjjjj Int ccc Int hhhhhhhh \
+     Int eeeee String bb Int iiiiiiiii Int dddd Int ffffff String } type Straights [Straight] type Crosseds \
+     [Crossed] type Ints [Int] type Entries {String:Int} type Pairs {String:Int} representation listpairs";
 
 /// The block is checked against the type.
 pub(crate) fn walk_all(alloc: Global, bytes: &[u8], times: u32, name: &str) -> Option<u64> {

@@ -8,7 +8,16 @@ use std::process::Abort;
 use std::test::Fail;
 
 pub(crate) const SRC: &str =
-    "type S struct { i Int s String t Bool y Bytes l Link n nullable Int o optional String d Int (implicit 4) } type L [nullable Int] type T struct { a Int b optional Int c optional L } representation tuple type M {String:L} type P {String:Int} representation listpairs type Q {String:String} representation stringpairs { innerDelim \"=\" entryDelim \"&\" } type H {String:Int} representation advanced HAMT type E enum { | x | y (\"why\") } type J struct { a E b String } representation stringjoin { join \":\" } type K struct { a String b optional String d String (implicit \"x\") } representation stringpairs { innerDelim \"=\" entryDelim \"&\" } type R struct { a Int b Int (implicit 1) } representation listpairs type N union { | S \"s\" | Int \"int\" } representation keyed type I struct { n Int } type V union { | I \"i\" } representation inline { discriminantKey \"k\" } type U unit representation null type A any type W struct { h H e E }";
+    "type S struct { i Int s String t Bool y Bytes l Link n nullable Int o optional String d Int (implicit \
+     4) } type L [nullable Int] type T struct { a Int b optional Int c optional L } representation tuple \
+     type M {String:L} type P {String:Int} representation listpairs type Q {String:String} representation \
+     stringpairs { innerDelim \"=\" entryDelim \"&\" } type H {String:Int} representation advanced HAMT type \
+     E enum { | x | y (\"why\") } type J struct { a E b String } representation stringjoin { join \":\" } \
+     type K struct { a String b optional String d String (implicit \"x\") } representation stringpairs { \
+     innerDelim \"=\" entryDelim \"&\" } type R struct { a Int b Int (implicit 1) } representation listpairs \
+     type N union { | S \"s\" | Int \"int\" } representation keyed type I struct { n Int } type V union { \
+     | I \"i\" } representation inline { discriminantKey \"k\" } type U unit representation null type A any \
+     type W struct { h H e E }";
 
 /// A type, a block, and what each path shows in it.
 type Row = (

@@ -134,7 +134,13 @@ pub same-itself : (v : Walker) → Leaves v (Ok tt) v
 same-itself v = record { answer = tt; same = λ h held es. (λ a. a, λ a. a); given = refl; path = omega arith; on = λ h told lacks root at on. (on, tt); reads = λ held gets. passes-itself held gets v }
 
 pub left-more : (u v w : Walker) (r : Result (Unit {0}) HamtFault) → Leaves u (Ok tt) v → Leaves v r w → Leaves u r w
-left-more u v w (Ok x) a b = record { answer = tt; same = λ h held es. (λ s. (b.same h held es).0 ((a.same h held es).0 s), λ s. (a.same h held es).1 ((b.same h held es).1 s)); given = b.given ∙ a.given; path = let p = a.path in let q = b.path in omega arith; on = λ h told lacks. keeps-more h told lacks lacks lacks u v w (Ok x) (omega arith) (λ root at on. (a.on h told lacks root at on).0) (b.on h told lacks); reads = λ held gets. spends-more held gets gets gets u v w (Ok x) (a.reads held gets) (b.reads held gets) }
+left-more u v w (Ok x) a b = record {
+  answer = tt;
+  same = λ h held es. (λ s. (b.same h held es).0 ((a.same h held es).0 s), λ s. (a.same h held es).1 ((b.same h held es).1 s));
+  given = b.given ∙ a.given;
+  path = let p = a.path in let q = b.path in omega arith;
+  on = λ h told lacks. keeps-more h told lacks lacks lacks u v w (Ok x) (omega arith) (λ root at on. (a.on h told lacks root at on).0) (b.on h told lacks);
+  reads = λ held gets. spends-more held gets gets gets u v w (Ok x) (a.reads held gets) (b.reads held gets) }
 left-more u v w (Err e) a b = record {
   answer = (b.answer.0, λ h held es s. b.answer.1 h held es ((a.same h held es).0 s));
   same = λ h held es. (λ s. (b.same h held es).0 ((a.same h held es).0 s), λ s. (a.same h held es).1 ((b.same h held es).1 s));
