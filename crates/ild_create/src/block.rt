@@ -12,7 +12,7 @@ use ild_build::{Judged, judge};
 use ild_data::Octets;
 use ild_json::{JsonErr, read};
 use ild_schema::{Accepted, Slot, TypeNo, Val};
-use ild_value::{ShownErr, of_shown};
+use ild_value::{ShownErr, from_shown};
 use ild_write::{BuildFault, build};
 use std::alloc::Global;
 
@@ -63,7 +63,7 @@ fn given(alloc: Global, acc: &Accepted, ty: TypeNo, bytes: &[u8]) -> Result<Val,
         ty,
         nullable: false,
     };
-    match of_shown(alloc, acc, slot, &tree) {
+    match from_shown(alloc, acc, slot, tree) {
         Ok(val) => Ok(val),
         Err(err) => Err(shown_fault(err)),
     }
