@@ -16,7 +16,7 @@ use Rattle.ild_typed.specs.StructWhy.{has_stranger, is_name_of, place_of}
 use Rattle.ild_typed.proofs.Basics.{map_from, true_from}
 use Rattle.ild_typed.proofs.Cleans.{or_false, never}
 use Rattle.ild_typed.proofs.Entries.{same_text_self}
-use Rattle.ild_struct.specs.Present.{ComeOnce, by_place, numbered}
+use Rattle.ild_struct.specs.Present.{ArePresent, ComeOnce, by_place, numbered}
 use Rattle.ild_struct.specs.Stepping.{Written}
 use Rattle.ild_struct.specs.Reading.{shown}
 use Rattle.ild_struct.proofs.Looking.{Keyed, Placed}
@@ -182,7 +182,7 @@ numbered_once n [] = tt
 numbered_once n (d ∷ ds) = (numbered_above n (suc n) ds (omega arith), numbered_once (suc n) ds)
 
 pub placed_written : (fs : List Field) (os : List (Option Data)) (ds : List Data) → length ds ≤ length fs → ((i : ℕ) → i < length fs → Placed os i (slice_get ds i)) → Written fs os (numbered 0 ds)
-placed_written fs os ds most there = record { present = record { sound = numbered_all (λ x. slice_get os x.0 ≡ Some (Some x.1)) 0 ds sound; whole = λ i f d at held plain. whole i f d at held; optional = λ i f d at held optional. whole i f d at held; once = numbered_once 0 ds }; within = numbered_all (λ x. x.0 < length fs) 0 ds below } where
+placed_written fs os ds most there = record { present = present; within = numbered_all (λ x. x.0 < length fs) 0 ds below } where
   below : (i : ℕ) (d : Data) → slice_get ds i ≡ Some d → 0 + i < length fs
   below i d at = let less = get_below ds i d at in omega (arith, most, less)
 
@@ -197,6 +197,14 @@ placed_written fs os ds most there = record { present = record { sound = numbere
       let p = there i (get_below fs i f at) in
       let same : 0 + i ≡ i = omega arith in
       (i, numbered_at 0 ds i d (p.same ∙ same_Some p.held (Some d) (sym p.at ∙ held)) ∙ ap (λ (m : ℕ). Some (m, d)) same)
+
+  present : ArePresent fs os (numbered 0 ds)
+  present = record {
+    sound = numbered_all (λ x. slice_get os x.0 ≡ Some (Some x.1)) 0 ds sound;
+    whole = λ i f d at held plain. whole i f d at held;
+    optional = λ i f d at held optional. whole i f d at held;
+    once = numbered_once 0 ds;
+  }
 
 pub tuple_most : (fs : List Field) (os : List (Option Data)) (ds : List Data) → tuple_items fs os ≡ Some ds → length ds ≤ length fs
 tuple_most [] [] ds made = let none = ap length (sym (same_Some [] ds made)) in omega (arith, none)

@@ -1,13 +1,11 @@
 -- How many parts a front has, beside those of its data.
 use Rattle.std.proofs.Common.{◌≡◌, ℕ, suc, ◌+◌, ◌<◌, ◌≤◌, ◌^◌, List, [], ◌∷◌, length, map, Bool, true, false, cond, Option, Some, None, option_map, refl, sym, ◌∙◌, ap, subst, arith}
-use Rattle.std.specs.Borrow.{Bor}
-use Rattle.std.specs.Prelude.{◌⊎◌}
 use Rattle.std.proofs.lemmas.Option.{same_Some, none-some}
 use Rattle.ild_cbor.specs.Scalar.{count_of}
 use Rattle.ild_cbor.specs.declared.piece.Piece.{Piece}
 use Rattle.ild_data.specs.Data as T
 use Rattle.ild_data.specs.Data.{Data, items_list, members_list}
-use Rattle.ild_data.proofs.Lists.{items_list-items_of, length-items}
+use Rattle.ild_data.proofs.Lists.{length-items}
 use Rattle.ild_piece.specs.Answers.{Layered}
 use Rattle.ild_schema.specs.Legible.{IsLegible}
 use Rattle.ild_schema.specs.Joins.{IsPairs}
@@ -18,11 +16,10 @@ use Rattle.ild_schema.specs.declared.def.Field.{Field}
 use Rattle.ild_schema.specs.declared.def.MapForm.{MapForm}
 use Rattle.ild_schema.specs.declared.def.MapForm.TheVariants as MF
 use Rattle.ild_schema.specs.declared.def.StructDef.{StructDef}
-use Rattle.ild_schema.specs.declared.def.TypeDef.{TypeDef}
 use Rattle.ild_schema.specs.declared.def.TypeDef.TheVariants as D
 use Rattle.ild_schema.specs.declared.number.Slot.{Slot}
 use Rattle.ild_schema.specs.declared.row.Row.{Row}
-use Rattle.ild_struct.specs.Parts.{ArePartsOf, HasParts, fields_of}
+use Rattle.ild_struct.specs.Parts.{fields_of}
 use Rattle.ild_struct.specs.Present.{HasPresent, IsWritten, PresentGives}
 use Rattle.ild_struct.specs.Source.{text_entries}
 use Rattle.ild_struct.specs.declared.parts.StructParts.{StructParts}
@@ -30,7 +27,7 @@ use Rattle.ild_struct.specs.declared.present.Present.{Present}
 use Rattle.ild_typed.specs.At.{seen}
 use Rattle.ild_typed.specs.Fits.{Front}
 use Rattle.ild_typed.specs.Hamt.{alone}
-use Rattle.ild_typed.specs.Holder.{any_holder, fields}
+use Rattle.ild_typed.specs.Holder.{any_holder}
 use Rattle.ild_typed.specs.Layer as L
 use Rattle.ild_typed.specs.Layers.{FieldsFit}
 use Rattle.ild_typed.specs.OfType.{OfType}
@@ -41,12 +38,11 @@ use Rattle.ild_typed.proofs.Basics.{map_from}
 use Rattle.ild_typed.proofs.Entries.{both_from}
 use Rattle.ild_view.proofs.Mapped.{text_there}
 use Rattle.ild_view.proofs.Opening.{front_list, front_struct}
-use Rattle.ild_view.proofs.Ordering.{FormKeyed, MapAt, elements_beside, beside_count, map_at}
-use Rattle.ild_view.proofs.Parting.{Seen, seen_by, seen_list, seen_struct}
+use Rattle.ild_view.proofs.Ordering.{FormKeyed, elements_beside, beside_count}
+use Rattle.ild_view.proofs.Parting.{seen_by, seen_list, seen_struct}
 use Rattle.ild_view.proofs.Reading.{struct_same}
 use Rattle.ild_view.proofs.Tallying.{all_present, lack_length, present_most}
 use Rattle.ild_view.specs.Counted.{FormCount, MayLack, count_in, is_optional_at, optional_of, present_of, required_of}
-use Rattle.ild_view.specs.Forms.{ShowsMap}
 use Rattle.ild_view.specs.Safe.{is_safe}
 
 -- ---- data

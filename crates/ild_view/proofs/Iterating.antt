@@ -1,5 +1,5 @@
 -- Iterators over the parts of a view: the first part that is left, and those behind it.
-use Rattle.std.proofs.Common.{◌≡◌, ℕ, List, [], ◌∷◌, map, Bool, true, false, Option, Some, None, refl, sym, ◌∙◌, ap, subst}
+use Rattle.std.proofs.Common.{◌≡◌, ℕ, List, [], ◌∷◌, map, Option, Some, None, refl, sym, ◌∙◌, subst}
 use Rattle.std.specs.Borrow.{Bor}
 use Rattle.ild_data.specs.Data as T
 use Rattle.ild_data.specs.Data.{Data, Items, items_list}
@@ -10,7 +10,7 @@ use Rattle.ild_cbor.specs.declared.items.Items.{Items as ItemsLeft}
 use Rattle.ild_cbor.specs.declared.node.Node.{Node}
 use Rattle.ild_cbor.specs.declared.piece.Piece.{Piece}
 use Rattle.ild_cbor.specs.declared.piece.Piece.TheVariants as Q
-use Rattle.ild_piece.specs.Entries.{EntriesGive, HasLeft, Lists, Maps}
+use Rattle.ild_piece.specs.Entries.{EntriesGive, HasLeft, Lists}
 use Rattle.ild_piece.specs.Pieces.{StandsFor}
 use Rattle.ild_piece.specs.declared.walk.MapEntries.{MapEntries}
 use Rattle.ild_schema.specs.declared.def.MapForm.{MapForm}
@@ -20,7 +20,7 @@ use Rattle.ild_schema.specs.declared.row.Row.{Row}
 use Rattle.ild_typed.specs.At.{InSlot}
 use Rattle.ild_typed.specs.Fits.{Front}
 use Rattle.ild_typed.specs.Holder.{Holder}
-use Rattle.ild_typed.specs.Strings.{listpairs, members_in, pair_data}
+use Rattle.ild_typed.specs.Strings.{pair_data}
 use Rattle.ild_view.proofs.Ordering.{FormKeyed, ListsBeside, MapsBeside}
 use Rattle.ild_view.specs.Beside.{AreBeside, AreKeyed, IsBeside}
 use Rattle.ild_view.specs.Body.{BodyStands}

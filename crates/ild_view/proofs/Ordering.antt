@@ -1,5 +1,5 @@
 -- The parts of a front in order beside those of its data: elements and entries.
-use Rattle.std.proofs.Common.{◌≡◌, ℕ, zero, suc, List, [], ◌∷◌, length, map, Bool, true, false, Option, Some, None, option_map, refl, sym, ◌∙◌, ap, subst}
+use Rattle.std.proofs.Common.{◌≡◌, ℕ, suc, List, [], ◌∷◌, length, true, false, Option, Some, None, option_map, refl, sym, ◌∙◌, ap, subst}
 use Rattle.std.specs.List.{AllByRecursion}
 use Rattle.std.specs.Prelude.{IsUtf8}
 use Rattle.std.proofs.lemmas.Option.{same_Some, none-some}
@@ -25,7 +25,7 @@ use Rattle.ild_schema.specs.declared.row.Row.{Row}
 use Rattle.ild_typed.specs.At.{InSlot, seen}
 use Rattle.ild_typed.specs.Fits.{Front}
 use Rattle.ild_typed.specs.Hamt.{alone}
-use Rattle.ild_typed.specs.Holder.{Holder, any_holder, elements, entries, is_paired, nothing}
+use Rattle.ild_typed.specs.Holder.{Holder, any_holder, nothing}
 use Rattle.ild_typed.specs.Layers.{Shows}
 use Rattle.ild_typed.specs.Named.{items_in}
 use Rattle.ild_typed.specs.OfType.{OfType}

@@ -1,4 +1,4 @@
-use Rattle.std.proofs.Common.{◌<◌, ◌≤◌, ◌^◌, List, length, arith, sym, subst}
+use Rattle.std.proofs.Common.{◌<◌, ◌≤◌, ◌^◌, List, length, arith, subst}
 use Rattle.ild_schema.specs.declared.def.Field.{Field}
 use Rattle.ild_view.proofs.Counting.{counted_few, fields_counted}
 use Rattle.ild_view.proofs.count.present_count.Goals as goal

@@ -1,4 +1,4 @@
-use Rattle.std.proofs.Common.{◌≡◌, ◌+◌, ℕ, length}
+use Rattle.std.proofs.Common.{◌≡◌, ◌+◌, length}
 use Rattle.ild_view.specs.Counted.{required_of}
 use Rattle.ild_view.proofs.count.required.Given as goal
 

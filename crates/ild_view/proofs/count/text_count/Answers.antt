@@ -1,4 +1,4 @@
-use Rattle.std.proofs.Common.{Some, ◌∙◌, ap, sym}
+use Rattle.std.proofs.Common.{Some, ◌∙◌, ap}
 use Rattle.ild_struct.proofs.Splitting.{only_text}
 use Rattle.ild_text.specs.Parts.{pairs_in}
 use Rattle.ild_view.proofs.Counting.{text_counted}

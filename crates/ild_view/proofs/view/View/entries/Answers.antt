@@ -3,7 +3,7 @@ use Rattle.std.proofs.Math.Logic.{∥∥₁_map}
 use Rattle.ild_schema.specs.Prelude.{anything}
 use Rattle.ild_typed.specs.At.{seen}
 use Rattle.ild_typed.specs.Strings.{members_in}
-use Rattle.ild_view.proofs.Iterating.{entries_found, entries_none, entries_some, form_found, form_none, form_some}
+use Rattle.ild_view.proofs.Iterating.{entries_found, entries_some, form_found, form_none, form_some}
 use Rattle.ild_view.proofs.Mapped.{map_delims}
 use Rattle.ild_view.proofs.Ordering.{any_map_beside, map_at}
 use Rattle.ild_view.proofs.Parting.{any_there}
