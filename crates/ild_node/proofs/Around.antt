@@ -7,7 +7,6 @@ use Rattle.ild_data.specs.TrieShape.{TrieShape}
 use Rattle.ild_cbor.specs.Nodes.{Stands, AreAround}
 use Rattle.ild_typed.specs.NodeReading.{map_bit}
 use Rattle.ild_typed.proofs.NodeMaps.{bit-read}
-use Rattle.ild_node.specs.Places.{elements_data}
 use Rattle.ild_node.specs.Reading.{ones_below}
 use Rattle.ild_node.specs.Views.{HasSlots}
 use Rattle.ild_node.specs.Written.{spelled}

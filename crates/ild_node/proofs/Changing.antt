@@ -1,27 +1,16 @@
 -- The steps of writing a node with another slot.
-use Rattle.std.proofs.Common.{◌≡◌, ◌≢◌, ℕ, ◌+◌, ◌%◌, ◌<◌, ◌≤◌, Bool, List, [], ◌∷◌, ◌++◌, length, map, take, set, get_or, refl, sym, ap, ◌∙◌, subst, arith, flat_map, append-nil, append_assoc, zero, suc}
-use Rattle.std.specs.Prelude.{OnOk, Result, Ok, Err, Option, Some, None, is_some}
+use Rattle.std.proofs.Common.{◌≡◌, ◌≢◌, ℕ, ◌+◌, ◌%◌, ◌<◌, ◌≤◌, Bool, List, [], ◌∷◌, ◌++◌, length, map, take, set, get_or, sym, ap, ◌∙◌, arith}
+use Rattle.std.specs.Prelude.{Option, Some, None, is_some}
 use Rattle.std.proofs.lemmas.List.{take_more, take_all, length-map, length-set, get_or-map, get_or-set_same, get_or-set_other}
-use Rattle.ild_data.specs.Data.{Data}
-use Rattle.ild_data.specs.Spell.{spell}
-use Rattle.ild_data.specs.declared.id.BlockId.{BlockId}
-use Rattle.ild_data.specs.Trie.{TrieSlot, empty, bucket, child, is_used, elements_of}
+use Rattle.ild_data.specs.Trie.{TrieSlot, empty, is_used}
 use Rattle.ild_typed.specs.Composed.{usual}
 use Rattle.ild_typed.specs.NodeReading.{map_bit}
 use Rattle.ild_typed.proofs.NodeMaps.{bit-read}
-use Rattle.ild_cbor.specs.Nodes.{Stands}
-use Rattle.ild_node.specs.Form.{bucket_data}
 use Rattle.ild_node.specs.NewSlots.{slot_seen}
-use Rattle.ild_node.specs.Steps.{IsAtSlot}
 use Rattle.ild_node.specs.declared.hold.NewHold.{NewHold}
 use Rattle.ild_node.specs.declared.hold.NewHold.TheVariants as N
-use Rattle.ild_node.specs.Views.{HasSlots, SlotHolds, bucket_node}
-use Rattle.ild_node.specs.Written.{spelled}
-use Rattle.ild_node.specs.declared.bucket.Bucket.{Bucket}
-use Rattle.ild_node.specs.declared.slots.Slots.{Slots}
+use Rattle.ild_node.specs.Views.{HasSlots}
 use Rattle.ild_node.specs.declared.view.NodeView.{NodeView}
-use Rattle.ild_node.specs.declared.view.NodeSlot.TheVariants as S
-use Rattle.ild_node.proofs.Writing.{spelled-more}
 
 pub on-here : (slots : List TrieSlot) (i j : ℕ) (s : TrieSlot) (on : Bool) → j ≡ i → j < length slots → on ≡ is_used s → on ≡ is_used (get_or (set slots i s) j empty)
 on-here slots i j s on same lt is =

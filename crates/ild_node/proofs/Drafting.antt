@@ -16,7 +16,7 @@ use Rattle.ild_node.specs.Written.{IsNodeBlock, IsSound, bytes_of_bits, spelled}
 use Rattle.ild_node.specs.declared.draft.Draft.{Draft}
 use Rattle.ild_node.specs.declared.hashed.HashedEntry.{HashedEntry}
 use Rattle.ild_node.proofs.Nodes.{node-block, empty-sound}
-use Rattle.ild_node.proofs.Writing.{spelled-append, count-used, node-done, grown-more}
+use Rattle.ild_node.proofs.Writing.{spelled-append, count-used, node-done}
 
 abbrev pub entry_bytes : HashedEntry → List ℕ
 entry_bytes k = k.entry.now

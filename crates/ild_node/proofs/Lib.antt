@@ -9,6 +9,7 @@ pub mod Rooting
 pub mod Writing
 pub mod Drafting
 pub mod Nodes
+pub mod Linking
 pub mod Counts
 pub mod Changing
 pub mod Around

@@ -7,7 +7,7 @@ ghost use Rattle.ild_cbor.specs.Scalar.{bytes_of};
 ghost use Rattle.ild_cbor.specs.Steps.{HasItems};
 ghost use Rattle.ild_data.specs.ByteOrder.{bytewise};
 ghost use Rattle.ild_data.specs.Trie.{entry_data};
-ghost use Rattle.ild_typed.specs.NodeReading.{text_in, pair_in, entry_in, rises, are_entries, bucket_fits, child_in, element_fits, map_bit, map_bits, elements_fit, parts_fit};
+ghost use Rattle.ild_typed.specs.NodeReading.{text_in, pair_in, entry_in, rises, are_entries, bucket_fits, child_in, links_block, element_fits, map_bit, map_bits, elements_fit, parts_fit};
 ghost use Rattle.ild_node.specs.Reading.{byte_ones, ones_below};
 ghost use Rattle.ild_node.specs.Items.{IsAtItem};
 ghost use Rattle.ild_node.specs.Parts.{PairIs, EntryIn, shape_of};
@@ -16,6 +16,9 @@ ghost use Rattle.ild_node.specs.Views.{ValueIn};
 use crate::shape::HamtShape;
 use ild_cbor::{Items, Node};
 use ild_data::BlockId;
+
+/// How long the CID of a block is.
+const BLOCK_CID: usize = 36;
 
 /// The two items of a list of two.
 pub(crate) fn pair_in<'b>(node: &Node<'b>) -> Option<(Node<'b>, Node<'b>)>
@@ -121,10 +124,23 @@ pub(crate) fn child_in(node: &Node<'_>) -> Option<BlockId>
     }
 }
 
+// Whether a CID is that of a block: version 1, dag-cbor, and sha2-256 of 32 bytes.
+fn links_block(cid: &[u8]) -> bool
+    ensures { result ≡ links_block cid.now }
+{
+    if cid.len() != BLOCK_CID {
+        return false;
+    }
+    (cid[0] == 0x01) & (cid[1] == 0x71) & (cid[2] == 0x12) & (cid[3] == 0x20)
+}
+
 fn element_fits(node: &Node<'_>, most: u32) -> bool
     ensures { (t : Data) → Stands node.now t → result ≡ element_fits most t }
 {
-    child_in(node).is_some() || bucket_fits(node, most)
+    match node.link() {
+        Some(cid) => links_block(cid.whole()),
+        None => bucket_fits(node, most),
+    }
 }
 
 /// Whether the bit of a slot is set.
