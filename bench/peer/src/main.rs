@@ -4,6 +4,7 @@ mod hamt;
 mod json;
 mod map;
 mod schema;
+mod typed;
 
 use sha2::{Digest, Sha256};
 use std::hint::black_box;
@@ -65,6 +66,14 @@ fn main() {
             for _ in 0..times {
                 let mut out = Vec::new();
                 cbor::spell(&mut out, black_box(&tree));
+                sum += out.len() as u64;
+            }
+        }
+        "write" => {
+            let people = typed::people(json::read(&bytes).expect("JSON of a value")).expect("people");
+            for _ in 0..times {
+                let mut out = Vec::new();
+                typed::write(&mut out, black_box(&people));
                 sum += out.len() as u64;
             }
         }

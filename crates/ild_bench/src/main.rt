@@ -3,14 +3,18 @@
 
 mod blocks;
 mod given;
+mod hamt;
 mod layers;
 mod trees;
+mod values;
+mod walks;
 mod whole;
 
 use given::given;
 use layers::{Work, all_structs};
 use std::io;
 use std::process::ExitCode;
+use walks::walk_all;
 
 fn main(rt: HostRuntime) -> io::Result<ExitCode> {
     let Some((work, bytes, times)) = given(&rt)? else {
@@ -27,11 +31,18 @@ fn main(rt: HostRuntime) -> io::Result<ExitCode> {
         "layers-crossed" => all_structs(alloc, &bytes, times, "Crossed", Work::Layer),
         "parts-straight" => all_structs(alloc, &bytes, times, "Straight", Work::Parts),
         "parts-crossed" => all_structs(alloc, &bytes, times, "Crossed", Work::Parts),
+        "walk-straight" => walk_all(alloc, &bytes, times, "Straights"),
+        "walk-crossed" => walk_all(alloc, &bytes, times, "Crosseds"),
+        "walk-list" => walk_all(alloc, &bytes, times, "Ints"),
+        "walk-map" => walk_all(alloc, &bytes, times, "Entries"),
+        "walk-pairs" => walk_all(alloc, &bytes, times, "Pairs"),
         "id" => blocks::all_ids(&bytes, times),
         "read" => trees::read_all(alloc, &bytes, times),
         "print" => trees::print_all(alloc, &bytes, times),
         "spell" => trees::spell_all(alloc, &bytes, times),
+        "write" => values::write_all(alloc, &bytes, times),
         "compile" => whole::compile_all(alloc, &bytes, times),
+        "hamt" => hamt::edit_all(alloc, &bytes, times),
         "script" => whole::answer_all_of(alloc, &bytes, times),
         _ => None,
     };

@@ -1,0 +1,35 @@
+//! Values of a type, whose schema stands here, written. The answer is a sum of lengths, or `None` where the bytes are no JSON of a
+//! value or memory is wanting.
+use ild_compile::compile;
+use ild_emit::Emit;
+use ild_json::read;
+use ild_schema::Slot;
+use ild_value::from_shown;
+use ild_write::write_value;
+use std::alloc::Global;
+
+/// A list of structs, whose names don't rise in the key order.
+const SCHEMA: &str =
+    "type People [Person] type Person struct { age Int mail String name String tags [String] ok Bool }";
+
+/// The JSON is read as a value once, which is written so many times.
+pub(crate) fn write_all(alloc: Global, bytes: &[u8], times: u32) -> Option<u64> {
+    let acc = compile(alloc, SCHEMA.as_bytes()).ok()?;
+    let ty = acc.type_named("People")?;
+    if ty.0 >= acc.types() {
+        return None;
+    }
+    let slot = Slot {
+        ty,
+        nullable: false,
+    };
+    let tree = read(alloc, bytes).ok()?;
+    let val = from_shown(alloc, &acc, slot, tree).ok()?;
+    let mut sum: u64 = 0;
+    for _ in 0..times {
+        let mut out = Emit::new(alloc);
+        write_value(alloc, &acc, slot, &val, &mut out).ok()?;
+        sum = sum.wrapping_add(out.finish().as_slice().len() as u64);
+    }
+    Some(sum)
+}
