@@ -6,8 +6,14 @@ mod enums;
 #[cfg(test)]
 mod said;
 #[cfg(test)]
+mod seen;
+#[cfg(test)]
 mod structs;
 #[cfg(test)]
 mod unions;
 #[cfg(test)]
 mod views;
+#[cfg(test)]
+mod views_at;
+#[cfg(test)]
+mod views_in_order;
