@@ -55,7 +55,7 @@ fn scalar<'b>(view: &View<'b>) -> Option<Seen<'b>> {
 }
 
 /// What a view shows.
-pub(crate) fn seen<'b>(view: &View<'b>) -> Seen<'b> {
+pub(crate) fn shown<'b>(view: &View<'b>) -> Seen<'b> {
     if let Some(seen) = scalar(view) {
         return seen;
     }
@@ -106,9 +106,9 @@ pub(crate) fn path_of(alloc: Global, segments: &[&str]) -> Result<Path, &'static
 }
 
 /// What stands where a path leads.
-pub(crate) fn seen_at<'b>(view: &View<'b>, path: &Path) -> Seen<'b> {
+pub(crate) fn shown_at<'b>(view: &View<'b>, path: &Path) -> Seen<'b> {
     match view.at(path, 0) {
-        Ok(Step::Here(part)) => seen(&part),
+        Ok(Step::Here(part)) => shown(&part),
         Ok(Step::Enter(_, k)) => Seen::Enter(k),
         Err(none) => Seen::Nowhere(none.k),
     }

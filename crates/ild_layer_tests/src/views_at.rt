@@ -1,6 +1,6 @@
 //! What views show of a value, and where paths lead in it. The blocks and what stands in them come from a plain encoder that knows
 //! nothing of schemas (tests/views/rows.py).
-use crate::seen::{Seen, path_of, seen_at, view_of};
+use crate::seen::{Seen, path_of, shown_at, view_of};
 use ild_compile::compile;
 use ild_schema::Accepted;
 use std::alloc::Global;
@@ -198,7 +198,7 @@ fn is_so(rt: &impl Abort, alloc: Global, acc: &Accepted, row: &Row) -> Result<()
     for (segments, want) in row.2 {
         let path = path_of(alloc, segments)?;
         assert_eq!(rt;
-            seen_at(&view, &path),
+            shown_at(&view, &path),
             *want,
             "{} {:?} {:?}",
             row.0,

@@ -1,5 +1,5 @@
 //! The parts of views one after another, the data of a view, and root blocks with their types. What is wanted was worked out by hand.
-use crate::seen::{Seen, path_of, seen, view_of};
+use crate::seen::{Seen, path_of, shown, view_of};
 use crate::views_at::SRC;
 use ild_cbor::Why;
 use ild_compile::compile;
@@ -92,7 +92,7 @@ fn are_items(rt: &impl Abort, view: &View<'_>, wants: &[Seen<'_>]) -> Result<(),
     let mut left = view.items().ok_or("a list")?;
     for want in wants {
         let part = left.next().ok_or("an element")?;
-        assert_eq!(rt; seen(&part), *want);
+        assert_eq!(rt; shown(&part), *want);
     }
     assert!(rt; left.next().is_none());
     Ok(())
@@ -104,9 +104,9 @@ fn are_entries(rt: &impl Abort, view: &View<'_>, wants: &[(&str, Seen<'_>)]) -> 
     for (name, want) in wants {
         let (key, part) = left.next().ok_or("an entry")?;
         assert_eq!(rt; key, *name);
-        assert_eq!(rt; seen(&part), *want);
+        assert_eq!(rt; shown(&part), *want);
         let found = view.entry(name).ok_or("a value")?;
-        assert_eq!(rt; seen(&found), *want);
+        assert_eq!(rt; shown(&found), *want);
     }
     assert!(rt; left.next().is_none());
     Ok(())
@@ -185,7 +185,7 @@ fn roots(rt: HostRuntime) -> Result<(), Fail> {
         "bafyreidkordfmpj7aoqd4chjc63crb3tl5qx7c4bpddyrmvdwciubxphem"
     );
     assert_eq!(rt; doc.block(), b"\x82\x01\xf6".as_slice());
-    assert_eq!(rt; seen(&doc.view()), Seen::Parts(2));
+    assert_eq!(rt; shown(&doc.view()), Seen::Parts(2));
     let none = opened(rt.alloc(), &acc, "L", b"\x82\x01")?.err();
     assert_eq!(rt; none, Some("no block"));
     let none = opened(rt.alloc(), &acc, "L", b"\x01")?.err();
