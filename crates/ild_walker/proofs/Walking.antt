@@ -140,7 +140,8 @@ left-more u v w (Ok x) a b = record {
   given = b.given ∙ a.given;
   path = let p = a.path in let q = b.path in omega arith;
   on = λ h told lacks. keeps-more h told lacks lacks lacks u v w (Ok x) (omega arith) (λ root at on. (a.on h told lacks root at on).0) (b.on h told lacks);
-  reads = λ held gets. spends-more held gets gets gets u v w (Ok x) (a.reads held gets) (b.reads held gets) }
+  reads = λ held gets. spends-more held gets gets gets u v w (Ok x) (a.reads held gets) (b.reads held gets);
+}
 left-more u v w (Err e) a b = record {
   answer = (b.answer.0, λ h held es s. b.answer.1 h held es ((a.same h held es).0 s));
   same = λ h held es. (λ s. (b.same h held es).0 ((a.same h held es).0 s), λ s. (a.same h held es).1 ((b.same h held es).1 s));
