@@ -1,37 +1,11 @@
-"""Rows for the tests of views: blocks from a plain encoder that knows nothing of schemas, and what stands in each.
+"""Rows for the tests of views: blocks from the plain encoder of the conformance cases, which asks no schema, and what stands in each.
 
 Run it and paste what it prints into crates/ild_layer_tests/src/views_at.rt."""
+import pathlib
+import sys
 
-
-def head(major, n):
-    if n < 24:
-        return bytes([major << 5 | n])
-    if n < 256:
-        return bytes([major << 5 | 24, n])
-    return bytes([major << 5 | 25]) + n.to_bytes(2, "big")
-
-
-class Link(bytes):
-    pass
-
-
-def spell(x):
-    if x is None:
-        return b"\xf6"
-    if isinstance(x, bool):
-        return b"\xf5" if x else b"\xf4"
-    if isinstance(x, int):
-        return head(0, x) if x >= 0 else head(1, -1 - x)
-    if isinstance(x, str):
-        return head(3, len(x.encode())) + x.encode()
-    if isinstance(x, Link):
-        return b"\xd8\x2a" + head(2, len(x) + 1) + b"\0" + bytes(x)
-    if isinstance(x, bytes):
-        return head(2, len(x)) + x
-    if isinstance(x, list):
-        return head(4, len(x)) + b"".join(map(spell, x))
-    keys = sorted(x, key=lambda k: (len(k.encode()), k.encode()))
-    return head(5, len(x)) + b"".join(spell(k) + spell(x[k]) for k in keys)
+sys.path.insert(0, str(pathlib.Path(__file__).resolve().parent.parent / "conformance"))
+from values import Link, head, spelled as spell
 
 
 def literal(b):
