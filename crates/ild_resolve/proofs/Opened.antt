@@ -1,5 +1,5 @@
 -- The types that begin, each with the name by which a text can use it: the text and its rows have the same.
-use Rattle.std.proofs.Common.{◌≡◌, ℕ, suc, ◌+◌, cond, List, [], ◌∷◌, ◌++◌, Option, Some, None, length, map, refl, ap, sym, ◌∙◌}
+use Rattle.std.proofs.Common.{◌≡◌, ℕ, suc, ◌+◌, List, [], ◌∷◌, ◌++◌, Option, Some, None, length, map, refl, ap, sym, ◌∙◌}
 use Rattle.std.specs.List.{flat_map}
 use Rattle.std.proofs.lemmas.List.{map-append, append-nil}
 use Rattle.ild_grammar.specs.Reference.{Reference, refer, Refers, named, link, list, map as map_to}
@@ -17,7 +17,7 @@ use Rattle.ild_grammar.specs.declared.ast.Mark.{Mark}
 use Rattle.ild_grammar.specs.declared.ast.Mark.TheVariants as M
 use Rattle.ild_grammar.specs.declared.ast.KindWord.TheVariants as K
 use Rattle.ild_grammar.specs.declared.ast.EnumMember.{EnumMember}
-use Rattle.ild_schema.specs.Names.{is_open}
+pub use Rattle.ild_schema.specs.Names.{open_name}
 use Rattle.ild_schema.specs.declared.row.Row.{Row}
 use Rattle.ild_resolve.specs.Events.{Event, declares, begins, reference_events, inline_events, map_form_events, field_events, target_events, mark_events, member_events, enum_member_events, each_events, body_events, decl_events}
 use Rattle.ild_resolve.specs.Rows.{reference_rows, inline_rows, field_rows, target_rows, member_rows, body_rows, decl_rows, decls_rows}
@@ -28,9 +28,6 @@ opened [] = []
 opened (declares t ∷ es) = Some t.name ∷ opened es
 opened (begins at ∷ es) = None ∷ opened es
 opened (e ∷ es) = opened es
-
-abbrev pub open_name : Row → Option (List ℕ)
-open_name r = cond (is_open r.origin) (Some r.name) None
 
 -- the rows are those of the types that begin in the text
 abbrev pub AreOf : List Event → List Row → Type 0

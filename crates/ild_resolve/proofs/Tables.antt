@@ -1,8 +1,6 @@
--- The rows of a syntax tree without a fault are a table, and their index is that of the text's names.
+-- The rows of a syntax tree without a fault are a table.
 use Rattle.std.proofs.Common.{◌≡◌, ℕ, ◌+◌, ◌≤◌, List, ◌++◌, Option, None, length, refl, ap, sym, ◌∙◌, arith}
-use Rattle.std.specs.Prelude.{String}
 use Rattle.std.specs.List.{All}
-use Rattle.std.specs.BTreeMap.{BTreeMap, get_by_text}
 use Rattle.std.proofs.Math.Path.{fun_ext}
 use Rattle.std.proofs.lemmas.List.Elements.{All-append}
 use Rattle.ild_grammar.specs.declared.ast.Ast.{Ast}
@@ -10,7 +8,6 @@ use Rattle.ild_schema.specs.Prelude.{prelude}
 use Rattle.ild_schema.specs.Copies.{NoneIsCircular}
 use Rattle.ild_schema.specs.Spelled.{HasTexts}
 use Rattle.ild_schema.specs.Table.{AreNamedOnce, IsTable}
-use Rattle.ild_schema.specs.Held.{IsIndex}
 use Rattle.ild_resolve.specs.Events.{types_in, events_of}
 use Rattle.ild_resolve.specs.Faults.{first_again, taken_names, declared_fault, fault_in}
 use Rattle.ild_resolve.specs.Names.{number_of}
@@ -20,7 +17,7 @@ use Rattle.ild_resolve.proofs.Opened.{decls_opened}
 use Rattle.ild_resolve.proofs.Counts.{rows_count}
 use Rattle.ild_resolve.proofs.Limits.{types_few, few_parts, none_declared, no_faults}
 use Rattle.ild_resolve.proofs.Within.{IsRowWithin, prelude_within, decls_within}
-use Rattle.ild_resolve.proofs.Named.{number_below, numbers_same}
+use Rattle.ild_resolve.proofs.Named.{number_below}
 use Rattle.ild_resolve.proofs.Once.{named_once}
 
 pub rows_few : (ast : Ast) → declared_fault (events_of ast) ≡ None → length (rows_of ast) ≤ 65543
@@ -56,9 +53,6 @@ declared_table ast h none texts =
 
 pub table : (ast : Ast) → fault_in (events_of ast) ≡ None → NoneIsCircular (rows_of ast) → HasTexts (rows_of ast) → IsTable (rows_of ast)
 table ast h none texts = declared_table ast (no_faults (events_of ast) h).0 none texts
-
-pub index : {Y : Type 0} (ast : Ast) (numbers : BTreeMap (String Y) ℕ) → ((name : List ℕ) → get_by_text numbers name ≡ number_of name (events_of ast)) → IsIndex (rows_of ast) numbers
-index ast numbers h name = h name ∙ sym (numbers_same ast name)
 
 -- the rows by any numbers that agree with the text's
 pub rows_by : (ast : Ast) (numbers : List ℕ → Option ℕ) → ((name : List ℕ) → numbers name ≡ number_of name (events_of ast)) → prelude ++ decls_rows numbers 8 ast.decls ≡ rows_of ast

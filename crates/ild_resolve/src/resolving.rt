@@ -34,5 +34,5 @@ pub fn resolve(alloc: Global, ast: Ast) -> Result<Schema, ResolveErr>
         });
     }
     texts_of(&rows);
-    Ok(Schema::of(alloc, rows, numbers)?)
+    Ok(Schema::of(alloc, rows)?)
 }

@@ -37,7 +37,7 @@ pub record Upto (ts : List (Option (List ℕ))) (i : ℕ) (ns : List ℕ) : Type
 pub upto_none : (ts : List (Option (List ℕ))) (ns : List ℕ) → ns ≡ [] → Upto ts 0 ns
 upto_none ts ns is = subst (Upto ts 0) (sym is) (record { rising = tt; found = λ q. refl })
 
-text_got : (ts : List (Option (List ℕ))) (i : ℕ) → i < length ts → text_at ts i ≡ get_or ts i None
+pub text_got : (ts : List (Option (List ℕ))) (i : ℕ) → i < length ts → text_at ts i ≡ get_or ts i None
 text_got [] i lt = absurd (omega (arith, lt))
 text_got (t ∷ ts) zero lt = refl
 text_got (t ∷ ts) (suc i) lt = text_got ts i (omega (arith, lt))
@@ -84,7 +84,7 @@ seat_absent ts ns k r i h found is =
 
 -- ---- the texts of parts
 
-position_map : {X Y : Type 0} (t : Y → Bool) (h : X → Y) (i : ℕ) (xs : List X) → position_from t i (map h xs) ≡ position_from (λ x. t (h x)) i xs
+pub position_map : {X Y : Type 0} (t : Y → Bool) (h : X → Y) (i : ℕ) (xs : List X) → position_from t i (map h xs) ≡ position_from (λ x. t (h x)) i xs
 position_map t h i [] = refl
 position_map t h i (x ∷ xs) = ap (cond (t (h x)) (Some i)) (position_map t h (i + 1) xs)
 

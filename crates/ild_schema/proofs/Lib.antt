@@ -4,6 +4,7 @@ pub mod Circles
 mod Ending
 mod Keeping
 mod Finding
+mod Naming
 pub mod Puts
 mod Seats
 mod Parts

@@ -1,5 +1,5 @@
 -- The names of a table of types: which of them a text can use, and for which type each stands.
-use Rattle.std.specs.Prelude.{ℕ, Bool, true, false, List, Option, map, filter, ◌&&◌, bytes_eq}
+use Rattle.std.specs.Prelude.{ℕ, Bool, true, false, List, Option, Some, None, map, filter, ◌&&◌, bytes_eq, if◌then◌else◌}
 use Rattle.std.specs.List.{position_from}
 use Rattle.ild_schema.specs.declared.row.Row.{Row}
 use Rattle.ild_schema.specs.declared.row.Origin.{Origin}
@@ -23,6 +23,14 @@ is_named name r = is_open r.origin && bytes_eq name r.name
 -- the number of the type for which a name stands: the first of that name that is no inline type
 abbrev pub number_named : List ℕ → List Row → Option ℕ
 number_named name rows = position_from (is_named name) 0 rows
+
+-- the name by which a text can name a type
+abbrev pub open_name : Row → Option (List ℕ)
+open_name r = if is_open r.origin then Some r.name else None
+
+-- those of a table, each at the number of its type
+abbrev pub open_names : List Row → List (Option (List ℕ))
+open_names rows = map open_name rows
 
 -- the declared names, in the order of the text
 abbrev pub declared_names : List Row → List (List ℕ)

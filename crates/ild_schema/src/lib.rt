@@ -2,6 +2,7 @@
 #![tactic(auto)]
 
 mod accepted;
+mod by_name;
 mod by_text;
 mod def;
 mod ends;

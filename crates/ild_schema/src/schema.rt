@@ -5,16 +5,15 @@ ghost use Rattle.ild_schema.specs.Names.{declared_names, number_named};
 ghost use Rattle.ild_schema.specs.Parts.{IsPartOf, part_named, part_spelled, part_texts};
 ghost use Rattle.ild_schema.specs.Table.{IsTable, IsWithin, def_at, name_at, place_at};
 ghost use Rattle.ild_schema.specs.Copies.{base, leads, target_in};
-ghost use Rattle.ild_schema.specs.Held.{IsIndex};
 ghost use Rattle.ild_schema.specs.Indexed.{InKeyOrder};
 
+use crate::by_name::{numbers_by_name, type_with};
 use crate::by_text::{PartIndex, part_with, parts_of};
 use crate::ends::ends_of;
 use crate::label::Label;
 use crate::{Row, TypeDef, TypeNo};
 use ild_data::Txt;
 use std::alloc::{AllocError, Global};
-use std::collections::BTreeMap;
 use std::marker::Model;
 
 /// A table of types by number (IPLD Schemas): the prelude, and then each declared type with the types inside its
@@ -23,7 +22,7 @@ use std::marker::Model;
 pub struct Schema {
     rows: Vec<Row>,
     names: Vec<Txt>,
-    numbers: BTreeMap<String, u32>,
+    numbers: Vec<u32>,
     ends: Vec<Option<TypeNo>>,
     parts: Vec<PartIndex>,
 }
@@ -37,7 +36,7 @@ impl Model for Schema {
 
     ghost view = { λ a. a.rows.items };
 
-    ghost invariant = { λ a. IsHeld a.rows.items a.names.items a.numbers a.ends.items a.parts.items };
+    ghost invariant = { λ a. IsHeld a.rows.items a.names.items a.numbers.items a.ends.items a.parts.items };
 }
 
 /// The declared names of a table.
@@ -54,17 +53,13 @@ fn names_in(alloc: Global, rows: &[Row]) -> Result<Vec<Txt>, AllocError>
 }
 
 impl Schema {
-    /// The schema of a table, with the numbers for which its names stand.
-    pub fn of(
-        alloc: Global,
-        rows: Vec<Row>,
-        numbers: BTreeMap<String, u32>,
-    ) -> Result<Schema, AllocError>
-        requires table { IsTable rows.items }
-        requires numbers { IsIndex rows.items numbers }
+    /// The schema of a table.
+    pub fn of(alloc: Global, rows: Vec<Row>) -> Result<Schema, AllocError>
+        requires { IsTable rows.items }
         ensures { IfOk result (λ schema. schema ≡ rows.items) }
     {
         let names = names_in(alloc, &rows)?;
+        let numbers = numbers_by_name(alloc, &rows)?;
         let ends = ends_of(alloc, &rows)?;
         let parts = parts_of(alloc, &rows)?;
         Ok(Schema {
@@ -127,10 +122,7 @@ impl Schema {
     pub fn type_named(&self, name: &str) -> Option<TypeNo>
         ensures { option_map (λ ty. ty.0) result ≡ number_named name.now self.now }
     {
-        match self.numbers.get(name) {
-            Some(number) => Some(TypeNo(*number)),
-            None => None,
-        }
+        type_with(&self.rows, &self.numbers, name)
     }
 
     /// The number of the field or member of a type that has a name: of the first, where several have it.

@@ -3,10 +3,9 @@ use Rattle.std.specs.BTreeMap.{get_by_text}
 use Rattle.std.proofs.lemmas.Result.{err_from_is_err_and}
 use Rattle.ild_schema.specs.Spelled.{HasTexts}
 use Rattle.ild_schema.specs.Table.{IsTable, place_at}
-use Rattle.ild_schema.specs.Held.{IsIndex}
 use Rattle.ild_schema.specs.Copies.{NoneIsCircular, FirstIsCircular}
 use Rattle.ild_schema.specs.declared.row.Row.{Row}
-use Rattle.ild_resolve.proofs.Tables.{declared_table, index, rows_by, rows_few}
+use Rattle.ild_resolve.proofs.Tables.{declared_table, rows_by, rows_few}
 use Rattle.ild_resolve.proofs.Together.{types_small, fault_free, fault_of_word, copy_cycle}
 use Rattle.ild_resolve.proofs.resolving.resolve.Goals as goal
 
@@ -34,17 +33,12 @@ returns-in-Some-clause-fault c =
     inr (copy_cycle c.args.ast c.in_ok-rows.rows.items c.in-Some.n c.place_of.result rows clean
     (subst (λ (rs : List Row). FirstIsCircular rs c.in-Some.n) c.deref.ensures.value first.1) (subst (λ (rs : List Row). place_at rs c.in-Some.n ≡ Some c.place_of.result) c.deref-in-Some.ensures.value c.place_of.ensures))
 
-pub of-requires-clause-table : goal.of-requires-clause-table
-of-requires-clause-table c =
+pub of-requires : goal.of-requires
+of-requires c =
     let rows = c.in_ok-rows.ensures.rows ∙ rows_by c.args.ast (get_by_text c.in_ok-numbers.numbers) c.in_ok-numbers.ensures.numbers in
     let none : NoneIsCircular c.in_ok-rows.rows.items = subst NoneIsCircular c.deref.ensures.value (c.in_ok-n.ensures.none (ap Ok c.in_default.is)) in
     let texts : HasTexts c.in_ok-rows.rows.items = subst HasTexts c.deref-2.ensures.value c.texts_of.ensures in
     subst IsTable (sym rows) (declared_table c.args.ast c.in_ok-numbers.ensures.free (subst NoneIsCircular rows none) (subst HasTexts rows texts))
-
-pub of-requires-clause-numbers : goal.of-requires-clause-numbers
-of-requires-clause-numbers c =
-    let rows = c.in_ok-rows.ensures.rows ∙ rows_by c.args.ast (get_by_text c.in_ok-numbers.numbers) c.in_ok-numbers.ensures.numbers in
-    subst (λ (rs : List Row). IsIndex rs c.in_ok-numbers.numbers) (sym rows) (index c.args.ast c.in_ok-numbers.numbers c.in_ok-numbers.ensures.numbers)
 
 pub returns-clause-table : goal.returns-clause-table
 returns-clause-table c =
