@@ -1,16 +1,18 @@
 //! Where a key's way ends.
-ghost use Rattle.std.specs.Prelude.{◌≡◌, ◌≤◌, ◌<◌, ◌-◌, ◌==◌, ℕ, cond, not, is_some, List, length};
+ghost use Rattle.std.specs.Prelude.{◌≡◌, ◌≤◌, ◌<◌, ◌-◌, ◌==◌, ℕ, cond, not, is_some, All, List, length};
 ghost use Rattle.std.specs.FinMap.{find};
 ghost use Rattle.ild_data.specs.ByteOrder.{bytewise, without};
 ghost use Rattle.ild_data.specs.Trie.{TrieSlot, bucket_entries};
 ghost use Rattle.ild_data.specs.TrieShape.{trie_levels, index};
 ghost use Rattle.ild_typed.specs.Composed.{usual};
 ghost use Rattle.ild_node.specs.Views.{HasSlots};
+ghost use Rattle.ild_hamt.specs.NodeBytes.{IsNodeBytes};
 ghost use Rattle.ild_hamt.specs.Seen.{Shows};
 ghost use Rattle.ild_hamt.specs.Way.{slot_for};
 ghost use Rattle.ild_hamt.specs.Ends.{EndsAt, agree, agreeing_hashes, hashes_of, is_full};
 
-use crate::reading::{NodeBlock, view_in};
+use crate::reading::view_in;
+use ild_data::Octets;
 use ild_node::{BUCKET_SIZE, LEVELS, NodeSlot, NodeView, index_of};
 
 /// The slot of a hash in a node at a depth.
@@ -24,10 +26,11 @@ pub(crate) fn slot_at<'b>(view: NodeView<'b>, hash: &[u8; 32], depth: u32) -> No
 /// The slot in which a way through these blocks ends.
 pub(crate) fn end_slot<'b>(
     root: NodeView<'b>,
-    blocks: &'b [NodeBlock],
+    blocks: &'b [Octets],
     hash: &[u8; 32],
     depth: u32,
 ) -> NodeSlot<'b>
+    requires { All IsNodeBytes blocks.now }
     ensures { (slots last : List TrieSlot) → HasSlots usual root.entry slots → EndsAt usual slots blocks.now last → depth ≡ length blocks.now
         → depth < trie_levels usual → Shows result (slot_for usual hash.now depth last) }
 {

@@ -15,5 +15,4 @@ mod weighing;
 pub use descending::descend;
 pub use ild_data::{KeyHash, PadKeys, Sha256Keys};
 pub use ild_node::HamtFault;
-pub use reading::NodeBlock;
 pub use trail::Trail;

@@ -1,5 +1,5 @@
 //! From the end of a key's way up to the root, node by node.
-ghost use Rattle.std.specs.Prelude.{◌≡◌, ◌≤◌, ◌<◌, ℕ, suc, List, length, slice_set, Some, IfOk};
+ghost use Rattle.std.specs.Prelude.{◌≡◌, ◌≤◌, ◌<◌, ℕ, suc, All, List, length, slice_set, Some, IfOk};
 ghost use Rattle.ild_data.specs.ByteOrder.{IsInOrder};
 ghost use Rattle.ild_data.specs.Data.{Data};
 ghost use Rattle.ild_data.specs.Trie.{TrieSlot, empty, slots_at};
@@ -9,12 +9,13 @@ ghost use Rattle.ild_typed.specs.Composed.{usual};
 ghost use Rattle.ild_node.specs.NewSlots.{IsFilledSlot, slot_seen};
 ghost use Rattle.ild_node.specs.Views.{HasSlots};
 ghost use Rattle.ild_hamt.specs.Known.{SomeNode};
+ghost use Rattle.ild_hamt.specs.NodeBytes.{IsNodeBytes};
 ghost use Rattle.ild_hamt.specs.Rewriting.{ClimbState, DiffersAt, HasRoot, Lifts, way_up};
 ghost use Rattle.ild_walker.specs.Gives.{IsNodeOf};
 ghost use Rattle.ild_hamt.specs.Way.{IsRootOf};
 
 use crate::gathering::{put_next, rows_of};
-use crate::reading::{NodeBlock, view_in};
+use crate::reading::view_in;
 use crate::weighing::{SLOTS, is_few};
 use ild_bulk::PlannedBlock;
 use ild_data::Octets;
@@ -90,13 +91,14 @@ fn index_at(hash: &[u8; 32], depth: u32) -> u8
 // The same of a node in its block, at the slot of a hash.
 fn lift_block(
     alloc: Global,
-    block: &NodeBlock,
+    block: &Octets,
     hash: &[u8; 32],
     depth: u32,
     slot: Option<NewHold>,
     plan: &mut Vec<PlannedBlock>,
 ) -> Result<Option<NewHold>, AllocError>
-    requires { IsFilledSlot usual slot }
+    requires known { IsNodeBytes block.now }
+    requires filled { IsFilledSlot usual slot }
     ensures filled { IfOk result (IsFilledSlot usual) }
     ensures lifts { (h : List ℕ → List ℕ) (left : ℕ) (ss : List TrieSlot) (gs : List (List ℕ × Data)) → IsNodeOf usual block.now ss → depth < trie_levels usual → IsInOrder gs
         → slots_at h usual left depth gs ≡ Some (slice_set ss (index usual hash.now depth) (slot_seen slot))
@@ -113,13 +115,14 @@ fn lift_block(
 pub(crate) fn climb(
     alloc: Global,
     root: NodeView<'_>,
-    blocks: Vec<NodeBlock>,
+    blocks: Vec<Octets>,
     hash: &[u8; 32],
     depth: u32,
     slot: Option<NewHold>,
     plan: &mut Vec<PlannedBlock>,
 ) -> Result<Octets, AllocError>
-    requires { IsFilledSlot usual slot }
+    requires known { All IsNodeBytes blocks.items }
+    requires filled { IsFilledSlot usual slot }
     ensures { (h : List ℕ → List ℕ) (k : List ℕ) (slots : List TrieSlot) (es fs : List (List ℕ × Data)) → HasSlots usual root.entry slots → IsRootOf h usual es slots → DiffersAt k es fs
         → hash.now ≡ h k → ClimbState h usual k es fs blocks.items depth (slot_seen slot) plan.old.items → IfOk result (λ b. HasRoot h usual fs b × (plan.new.items ≡ way_up h usual k fs)) }
 {

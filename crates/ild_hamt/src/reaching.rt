@@ -5,21 +5,22 @@ ghost use Rattle.ild_data.specs.TrieShape.{trie_levels};
 ghost use Rattle.ild_typed.specs.Composed.{usual};
 ghost use Rattle.ild_node.specs.Views.{HasSlots};
 ghost use Rattle.ild_hamt.specs.Fetching.{Fetches};
+ghost use Rattle.ild_hamt.specs.NodeBytes.{IsNodeBytes};
 ghost use Rattle.ild_hamt.specs.Reaching.{reached_block};
 ghost use Rattle.ild_walker.specs.Gives.{IsNodeOf};
 ghost use Rattle.ild_hamt.specs.Way.{slot_for, child_id};
 
 use crate::ending::slot_at;
-use crate::reading::{NodeBlock, view_in};
+use crate::reading::{refusal, view_in};
 use ild_cbor::BlockWhy;
-use ild_data::BlockId;
+use ild_data::{BlockId, Octets};
 use ild_edges::{EdgeErr, Store};
 use ild_node::{HamtFault, NodeSlot, NodeView};
 
 /// The block of a node, and the id of its child on a key's way.
 #[derive(Drop)]
 pub(crate) struct Reached {
-    pub(crate) block: NodeBlock,
+    pub(crate) block: Octets,
     pub(crate) child: Option<BlockId>,
 }
 
@@ -36,8 +37,9 @@ pub(crate) fn child_at(view: NodeView<'_>, hash: &[u8; 32], depth: u32) -> Optio
 }
 
 // The same of the block of a node.
-fn child_in(block: &NodeBlock, hash: &[u8; 32], depth: u32) -> Option<BlockId>
-    requires { depth < trie_levels usual }
+fn child_in(block: &Octets, hash: &[u8; 32], depth: u32) -> Option<BlockId>
+    requires low { depth < trie_levels usual }
+    requires known { IsNodeBytes block.now }
     ensures { (slots : List TrieSlot) → IsNodeOf usual block.now slots → option_map (λ id. id.0) result ≡ child_id (slot_for usual hash.now depth slots) }
 {
     match view_in(block) {
@@ -55,15 +57,16 @@ pub(crate) fn reach<K: Store>(
 ) -> Result<Reached, HamtFault>
     requires { depth < trie_levels usual }
     ensures fetched { Fetches usual (K.moment store.old) id.now.0 (reached_block result) (K.moment store.new) }
+    ensures known { IfOk result (λ r. IsNodeBytes r.block) }
     ensures child { IfOk result (λ r. (slots : List TrieSlot) → IsNodeOf usual r.block slots → option_map (λ id. id.0) r.child ≡ child_id (slot_for usual hash.now depth slots)) }
 {
     match store.get(id) {
-        Ok(Some(bytes)) => match NodeBlock::of(bytes) {
-            Ok(block) => {
+        Ok(Some(block)) => match refusal(block.as_slice()) {
+            None => {
                 let child = child_in(&block, hash, depth);
                 Ok(Reached { block, child })
             }
-            Err(why) => Err(HamtFault::Block { id: *id, why }),
+            Some(why) => Err(HamtFault::Block { id: *id, why }),
         },
         Ok(None) => Err(HamtFault::Block {
             id: *id,

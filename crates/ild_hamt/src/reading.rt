@@ -5,32 +5,15 @@ ghost use Rattle.ild_typed.specs.Composed.{usual};
 ghost use Rattle.ild_node.specs.Views.{HasSlots};
 ghost use Rattle.ild_hamt.specs.Fetching.{Judges};
 ghost use Rattle.ild_hamt.specs.Known.{SomeNode};
+ghost use Rattle.ild_hamt.specs.NodeBytes.{IsNodeBytes};
 ghost use Rattle.ild_walker.specs.Gives.{IsNodeOf};
 
 use ild_cbor::{BlockWhy, check, known_root};
 use ild_data::Octets;
 use ild_node::{NodeView, known_node, node_of};
-use std::marker::Model;
 
-/// The block of a node, owned. It was checked when it was read, and isn't gone over again.
-#[derive(Drop)]
-pub struct NodeBlock {
-    bytes: Octets,
-}
-
-impl Model for NodeBlock {
-    ghost use Rattle.std.specs.Prelude.{◌≡◌, ℕ, List, true};
-    ghost use Rattle.ild_hamt.specs.NodeBytes.{is_node_bytes};
-
-    ghost Value = { List ℕ };
-
-    ghost view = { λ a. a.bytes };
-
-    ghost invariant = { λ a. is_node_bytes a.bytes ≡ true };
-}
-
-// What is wrong with a block, where it isn't that of a node.
-fn refusal(block: &[u8]) -> Option<BlockWhy>
+/// What is wrong with a block, where it isn't that of a node.
+pub(crate) fn refusal(block: &[u8]) -> Option<BlockWhy>
     ensures { Judges usual block.now result }
 {
     match check(block) {
@@ -42,37 +25,13 @@ fn refusal(block: &[u8]) -> Option<BlockWhy>
     }
 }
 
-impl NodeBlock {
-    ghost use Rattle.std.specs.Prelude.{◌≡◌, IfOk};
-    ghost use Rattle.std.specs.Result.{result_err};
-    ghost use Rattle.ild_typed.specs.Composed.{usual};
-    ghost use Rattle.ild_hamt.specs.Fetching.{Judges};
-
-    /// Bytes as the block of a node, or what is wrong with them.
-    pub(crate) fn of(bytes: Octets) -> Result<NodeBlock, BlockWhy>
-        ensures judged { Judges usual bytes (result_err result) }
-        ensures same { IfOk result (λ b. b ≡ bytes) }
-    {
-        match refusal(bytes.as_slice()) {
-            Some(why) => Err(why),
-            None => Ok(NodeBlock { bytes }),
-        }
-    }
-
-    /// The bytes.
-    pub fn as_slice(&self) -> &[u8]
-        ensures { result.now ≡ self.now }
-    {
-        self.bytes.as_slice()
-    }
-}
-
-/// The node that a block is.
-pub(crate) fn view_in(block: &NodeBlock) -> Option<NodeView<'_>>
+/// The node that a block is, which was checked when it was read and isn't gone over again.
+pub(crate) fn view_in(block: &Octets) -> Option<NodeView<'_>>
+    requires { IsNodeBytes block.now }
     ensures known { IfSome result (λ v. ∥ SomeNode v ∥₁) }
     ensures only { (slots : List TrieSlot) → IsNodeOf usual block.now slots → IsSome result × IfSome result (λ v. HasSlots usual v slots) }
 {
-    known_node(known_root(block.bytes.as_slice()))
+    known_node(known_root(block.as_slice()))
 }
 
 /// The same view of a node, of which is known that it was read from one.

@@ -1,5 +1,5 @@
 //! The new way of a key, planned whole and then put.
-ghost use Rattle.std.specs.Prelude.{◌≡◌, ◌-◌, ◌<◌, ℕ, List, length, IfOk, IfSome, IsSome};
+ghost use Rattle.std.specs.Prelude.{◌≡◌, ◌-◌, ◌<◌, ℕ, All, List, length, IfOk, IfSome, IsSome};
 ghost use Rattle.ild_data.specs.ByteOrder.{without};
 ghost use Rattle.ild_data.specs.Data.{Data};
 ghost use Rattle.ild_data.specs.Trie.{TrieSlot};
@@ -11,6 +11,7 @@ ghost use Rattle.ild_bulk.specs.Planned.{PlansSlot};
 ghost use Rattle.ild_hamt.specs.Descending.{trail_blocks};
 ghost use Rattle.ild_hamt.specs.Ends.{EndsAt, hashes_of};
 ghost use Rattle.ild_hamt.specs.Known.{SomeNode, SomeSlot};
+ghost use Rattle.ild_hamt.specs.NodeBytes.{IsNodeBytes};
 ghost use Rattle.ild_hamt.specs.Rewriting.{ClimbState, DiffersAt, Rewrites};
 ghost use Rattle.ild_hamt.specs.Seen.{Shows};
 ghost use Rattle.ild_hamt.specs.Way.{IsRootOf, slot_for};
@@ -18,7 +19,7 @@ ghost use Rattle.ild_hamt.specs.Way.{IsRootOf, slot_for};
 use crate::ending::slot_at;
 use crate::hashing::keyed;
 use crate::lifting::{climb, few_slot};
-use crate::reading::{NodeBlock, view_again, view_in};
+use crate::reading::{view_again, view_in};
 use crate::trail::Trail;
 use ild_bulk::{PlannedBlock, any_long, is_long, plan_keyed, put_all};
 use ild_data::Octets;
@@ -27,7 +28,8 @@ use ild_node::{BUCKET_SIZE, HamtFault, LEVELS, NewHold, NodeSlot, NodeView, Rows
 use std::alloc::Global;
 
 // The node in which a way through these blocks ends.
-fn end_view<'b>(root: NodeView<'b>, blocks: &'b [NodeBlock]) -> Option<NodeView<'b>>
+fn end_view<'b>(root: NodeView<'b>, blocks: &'b [Octets]) -> Option<NodeView<'b>>
+    requires { All IsNodeBytes blocks.now }
     ensures known { IfSome result (λ v. ∥ SomeNode v ∥₁) }
     ensures only { (slots last : List TrieSlot) → HasSlots usual root.entry slots → EndsAt usual slots blocks.now last → IsSome result × IfSome result (λ v. HasSlots usual v last) }
 {
@@ -41,10 +43,11 @@ fn end_view<'b>(root: NodeView<'b>, blocks: &'b [NodeBlock]) -> Option<NodeView<
 /// The slot in which a way through these blocks ends, of which is known that it was read from a node.
 pub(crate) fn end_again<'b>(
     root: NodeView<'b>,
-    blocks: &'b [NodeBlock],
+    blocks: &'b [Octets],
     hash: &[u8; 32],
     depth: u32,
 ) -> NodeSlot<'b>
+    requires { All IsNodeBytes blocks.now }
     ensures known { ∥ SomeSlot result ∥₁ }
     ensures shows { (slots last : List TrieSlot) → HasSlots usual root.entry slots → EndsAt usual slots blocks.now last → depth ≡ length blocks.now
         → depth < trie_levels usual → Shows result (slot_for usual hash.now depth last) }

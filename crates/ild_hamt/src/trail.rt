@@ -1,9 +1,10 @@
 //! The way of a key.
+ghost use Rattle.std.specs.Prelude.{All};
+ghost use Rattle.ild_hamt.specs.NodeBytes.{IsNodeBytes};
 
 use crate::ending::end_slot;
 use crate::gathering::rows_without;
 use crate::lifting::few_slot;
-use crate::reading::NodeBlock;
 use crate::rewriting::{end_again, rewrite, slot_of};
 use ild_cbor::Node;
 use ild_data::{KeyHash, Octets, Txt};
@@ -18,9 +19,10 @@ pub struct Trail {
     pub(crate) key: Txt,
     pub(crate) hash: [u8; 32],
     pub(crate) depth: u32,
-    pub(crate) blocks: Vec<NodeBlock>,
+    pub(crate) blocks: Vec<Octets>,
     pub(crate) others: Vec<[u8; 32]>,
     pub(crate) exhausted: bool,
+    ghost known: { All IsNodeBytes blocks.items },
 }
 
 impl Trail {
@@ -43,7 +45,7 @@ impl Trail {
     ghost use Rattle.ild_hamt.specs.Setting.{Sets};
 
     /// The blocks that were read, from the child of the root down.
-    pub fn blocks(&self) -> &[NodeBlock]
+    pub fn blocks(&self) -> &[Octets]
         ensures { result.now ≡ trail_blocks self.now }
     {
         &self.blocks

@@ -1,4 +1,9 @@
 //! Entries, and the nodes of their HAMTs. The blocks are those of tests/hamt/trie.py, a plain trie in Python.
+ghost use Rattle.std.specs.Prelude.{◌≡◌, ◌+◌, length, IfOk, OnOk};
+ghost use Rattle.ild_typed.specs.Composed.{usual};
+ghost use Rattle.ild_bulk.specs.Build.{HasShortTrie};
+ghost use Rattle.ild_hamt_samples.specs.Pairs.{entries_of};
+
 use crate::rows::{push, rows_of};
 use ild_bulk::from_entries;
 use ild_data::{KeyHash, Octets};
@@ -39,13 +44,14 @@ pub fn built<H: KeyHash>(
     pairs: &[(&str, u8)],
     keys: &H,
     store: &mut MemStore,
-) -> Result<Octets, Fail> {
+) -> Result<Octets, Fail>
+    ensures { IfOk result (HasShortTrie H.hash_of usual (entries_of pairs.now)) }
+{
     let rows = rows_of(alloc, pairs)?;
-    Ok(
-        from_entries(alloc, &rows, keys, store)
-            .ok()
-            .ok_or("a root")?,
-    )
+    match from_entries(alloc, &rows, keys, store) {
+        Ok(root) => Ok(root),
+        Err(_) => Err("a root".into()),
+    }
 }
 
 /// A letter of a number.
@@ -53,22 +59,31 @@ fn letter(n: u32, shift: u32) -> char {
     char::from(b'a' + (n.wrapping_shr(shift) % 16) as u8)
 }
 
+// Appends the row of a number, and of a number that was drawn with it.
+fn push_drawn(alloc: Global, rows: &mut Rows, n: u16, drawn: u32) -> Result<(), Fail>
+    ensures { OnOk result (length rows.new ≡ length rows.old + 1) }
+{
+    let mut key = String::new(alloc);
+    for shift in [12, 8, 4, 0] {
+        key.push(letter(n as u32, shift))?;
+    }
+    for shift in [28, 24, 20, 16] {
+        key.push(letter(drawn, shift))?;
+    }
+    let mut value = ild_emit::Emit::new(alloc);
+    value.head(0, n as u64)?;
+    push(alloc, rows, key.as_str(), value.finish().as_slice())
+}
+
 /// So many rising keys of eight letters: four that count, and four of a linear congruential generator.
-pub fn pseudo_random(alloc: Global, count: u16) -> Result<Rows, Fail> {
+pub fn pseudo_random(alloc: Global, count: u16) -> Result<Rows, Fail>
+    ensures { IfOk result (λ rows. length rows ≡ count) }
+{
     let mut rows = Rows::new(alloc);
     let mut state: u32 = 1;
     for n in 0..count {
         state = state.wrapping_mul(1_103_515_245).wrapping_add(12345) % 0x8000_0000;
-        let mut key = String::new(alloc);
-        for shift in [12, 8, 4, 0] {
-            key.push(letter(n as u32, shift))?;
-        }
-        for shift in [28, 24, 20, 16] {
-            key.push(letter(state, shift))?;
-        }
-        let mut value = ild_emit::Emit::new(alloc);
-        value.head(0, n as u64)?;
-        push(alloc, &mut rows, key.as_str(), value.finish().as_slice())?;
+        push_drawn(alloc, &mut rows, n, state)?;
     }
     Ok(rows)
 }

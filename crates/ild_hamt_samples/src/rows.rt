@@ -1,8 +1,11 @@
 //! Rows for tests.
-ghost use Rattle.std.specs.Prelude.{◌≡◌, IsTrue};
+ghost use Rattle.std.specs.Prelude.{◌≡◌, ◌++◌, ◌∷◌, [], IsTrue, IfOk, IfSome, OnOk};
 ghost use Rattle.std.specs.Ordering.{is_lt};
 ghost use Rattle.ild_data.specs.ByteOrder.{bytewise};
+ghost use Rattle.ild_cbor.specs.Nodes.{Stands};
 ghost use Rattle.ild_node.specs.Rows.{IsAbove, NestsIn};
+ghost use Rattle.ild_node.specs.Spelled.{tree_in};
+ghost use Rattle.ild_hamt_samples.specs.Pairs.{entries_of};
 
 use ild_cbor::{Node, check};
 use ild_node::Rows;
@@ -34,9 +37,23 @@ pub fn is_scalar(node: &Node<'_>) -> bool
     node.count().is_none()
 }
 
+// The node that a block is.
+fn node_in(block: &[u8]) -> Option<Node<'_>>
+    ensures { IfSome result (λ n. Stands n (tree_in block.now)) }
+{
+    match check(block) {
+        Ok(node) => Some(node),
+        Err(_) => None,
+    }
+}
+
 /// Appends a row, whose value is a block of one scalar.
-pub fn push(alloc: Global, rows: &mut Rows, key: &str, value: &[u8]) -> Result<(), Fail> {
-    let node = check(value).ok().ok_or("a block")?;
+pub fn push(alloc: Global, rows: &mut Rows, key: &str, value: &[u8]) -> Result<(), Fail>
+    ensures { OnOk result (rows.new ≡ rows.old ++ (key.now, tree_in value.now) ∷ []) }
+{
+    let Some(node) = node_in(value) else {
+        return Err("a block".into());
+    };
     if !is_above(rows, key) {
         return Err("the keys rise".into());
     }
@@ -48,10 +65,12 @@ pub fn push(alloc: Global, rows: &mut Rows, key: &str, value: &[u8]) -> Result<(
 }
 
 /// The rows of these keys and values.
-pub fn rows_of(alloc: Global, pairs: &[(&str, u8)]) -> Result<Rows, Fail> {
+pub fn rows_of(alloc: Global, pairs: &[(&str, u8)]) -> Result<Rows, Fail>
+    ensures { IfOk result (λ rows. rows ≡ entries_of pairs.now) }
+{
     let mut rows = Rows::new(alloc);
-    for (key, value) in pairs {
-        push(alloc, &mut rows, key, &[*value])?;
+    for pair in pairs {
+        push(alloc, &mut rows, pair.0, &[pair.1])?;
     }
     Ok(rows)
 }

@@ -1,13 +1,16 @@
 use Rattle.std.proofs.Common.{◌≡◌, ◌<◌, ◌+◌, ◌-◌, List, true, is_some, option_map}
+use Rattle.std.specs.Prelude.{All}
 use Rattle.ild_data.specs.TrieShape.{trie_levels}
 use Rattle.ild_data.specs.Trie.{TrieSlot}
 use Rattle.ild_typed.specs.Composed.{usual}
 use Rattle.ild_node.specs.Views.{HasSlots}
+use Rattle.ild_hamt.specs.NodeBytes.{IsNodeBytes}
 use Rattle.ild_hamt.proofs.Going.{Going}
 use Rattle.ild_hamt.proofs.descending.descend.Given as goal
 
 abbrev pub invariant-loop-next : goal.invariant-loop-next
 invariant-loop-next g l =
+    All IsNodeBytes l.blocks.items ×
     (l.depth < trie_levels usual) ×
     (is_some l.next ≡ true → l.depth + 1 < trie_levels usual) ×
     ((slots : List TrieSlot) → HasSlots usual l.fn.root slots → Going usual l.hash slots (g.K.Store.moment l.initial.store) l.blocks.items l.depth (option_map (λ id. id.0) l.next) (g.K.Store.moment l.store))

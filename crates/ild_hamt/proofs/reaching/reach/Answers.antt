@@ -1,16 +1,23 @@
-use Rattle.std.proofs.Common.{sym, subst, List, ℕ}
-use Rattle.ild_hamt.specs.Fetching.{IsBlockAt, IsNodeBlock}
+use Rattle.std.proofs.Common.{subst, List, ℕ}
+use Rattle.ild_hamt.specs.Fetching.{IsNodeBlock}
 use Rattle.ild_typed.specs.Composed.{usual}
+use Rattle.ild_hamt.proofs.NodeTests.{node-tested}
 use Rattle.ild_hamt.proofs.reaching.reach.Goals as goal
 
-pub returns-in-Ok-clause-fetched : goal.returns-in-Ok-clause-fetched
-returns-in-Ok-clause-fetched g c =
+pub returns-in-None-clause-fetched : goal.returns-in-None-clause-fetched
+returns-in-None-clause-fetched g c =
     let got = rw c.in-Ok-Some.field-0-is at c.in-Ok-Some.ensures in
     record {
-      answer = subst (λ (b : List ℕ). IsBlockAt (g.K.Store.moment c.args.store.now) c.args.id.now.0 b × IsNodeBlock usual b) (sym c.in-Ok.ensures.same) (record { named = got.answer.0; held = got.answer.1 }, c.in-Ok.ensures.judged);
+      answer = (record { named = got.answer.0; held = got.answer.1 }, subst (λ (b : List ℕ). IsNodeBlock usual b) c.as_slice.ensures.same c.in-None.ensures);
       later = got.later;
       blocks = got.blocks;
       given = got.given;
       gets = got.gets;
       puts = got.puts;
     }
+
+pub returns-in-None-clause-known : goal.returns-in-None-clause-known
+returns-in-None-clause-known g c = node-tested _ (subst (λ (b : List ℕ). IsNodeBlock usual b) c.as_slice.ensures.same c.in-None.ensures)
+
+pub child_in-child-requires-clause-known : goal.child_in-child-requires-clause-known
+child_in-child-requires-clause-known g c = node-tested _ (subst (λ (b : List ℕ). IsNodeBlock usual b) c.as_slice.ensures.same c.in-None.ensures)

@@ -1,8 +1,9 @@
-use Rattle.std.proofs.Common.{List, refl, subst, arith}
+use Rattle.std.proofs.Common.{◌-◌, length, List, refl, sym, subst, arith}
 use Rattle.std.specs.Prelude.{IsSome, IfSome}
 use Rattle.ild_data.specs.Trie.{TrieSlot}
 use Rattle.ild_typed.specs.Composed.{usual}
 use Rattle.ild_node.specs.Views.{HasSlots}
+use Rattle.ild_hamt.specs.NodeBytes.{IsNodeBytes}
 use Rattle.ild_hamt.proofs.Fulling.{node-last}
 use Rattle.ild_hamt.proofs.rewriting.end_view.Goals as goal
 
@@ -13,3 +14,6 @@ returns-then-count-eq0-clause-only c = λ slots last has ends.
 pub returns-clause-only : goal.returns-clause-only
 returns-clause-only c = λ slots last has ends.
     c.view_in.ensures.only last (node-last c.args.blocks.now c.index-blocks-count.result c.index-blocks-count.result slots last _ refl c.index-blocks-count.is refl (omega (arith, c.if-count-eq0.false)) ends)
+
+pub view_in-requires : goal.view_in-requires
+view_in-requires c = subst IsNodeBytes (sym c.index-blocks-count.is) (c.requires (length c.args.blocks.now - 1) _ (omega (arith, c.if-count-eq0.false)))
