@@ -4,6 +4,7 @@ ghost use Rattle.ild_data.specs.Data.{Data};
 ghost use Rattle.ild_data.specs.Limits.{IsWithin};
 ghost use Rattle.ild_data.specs.Spell.{spell};
 ghost use Rattle.ild_cbor.specs.Nodes.{Stands};
+ghost use Rattle.ild_typed.specs.Nested.{IsBlock};
 
 use ild_cbor::Node;
 use ild_data::Octets;
@@ -38,6 +39,14 @@ impl Spelled {
         let bytes = Octets::of(alloc, node.spelling())?;
         let _bytes = bytes.as_slice();
         Ok(Spelled { bytes })
+    }
+
+    /// Bytes that are known to spell a value within the limits of a block.
+    pub fn known(bytes: Octets) -> Spelled
+        requires { IsBlock bytes }
+        ensures { (t : Data) → IsWithin t → bytes ≡ spell t → result ≡ t }
+    {
+        Spelled { bytes }
     }
 
     /// The same value, spelled anew.
