@@ -7,6 +7,8 @@
 its JSON. A case that `values.py` answers otherwise than it is meant isn't written, and ends the script; so does a block of
 `SPELLED` that isn't the one that docs/values.md writes out.
 """
+import hashlib
+import itertools
 import pathlib
 import shutil
 import sys
@@ -21,6 +23,20 @@ JOIN = ' representation stringjoin { join ":" }\n'
 PAIRS = ' representation stringpairs { innerDelim "=" entryDelim "&" }\n'
 
 
+def alike(count, length):
+    """So many keys whose hashes agree in so many bytes."""
+    found = {}
+    for n in itertools.count():
+        keys = found.setdefault(hashlib.sha256(f"k{n}".encode()).digest()[:length], [])
+        keys.append(f"k{n}")
+        if len(keys) == count:
+            return keys
+
+
+def entries(keys, value="1"):
+    return "{%s}" % ",".join(f'"{key}":{value}' for key in keys)
+
+
 def link(text):
     return '{"/":"%s"}' % text
 
@@ -33,6 +49,38 @@ def lists(count):
     return "[" * count + "]" * count
 
 
+HAMT = "type H {String:Int} representation advanced HAMT\n"
+CLUB = """# members of a club
+type Club struct {
+  name String
+  users Users
+  motto optional String
+}
+type Users {String:User} representation advanced HAMT
+type User struct {
+  mail String
+  role Role
+  age nullable Int
+  nick optional String
+  avatar optional Bytes
+  contact Contact
+}
+type Role enum {
+  | Admin ("a")
+  | Guest ("g")
+}
+type Contact union {
+  | Phone "phone"
+  | Room "room"
+} representation keyed
+type Phone string
+type Room struct {
+  floor Int
+  door Int
+} representation tuple
+"""
+ANN = '{"mail":"ann@x","role":"Admin","age":null,"avatar":{"/":{"bytes":"AQI"}},"contact":{"Phone":"12"}}'
+BOB = '{"mail":"bob@x","role":"Guest","age":41,"contact":{"Room":{"floor":2,"door":7}}}'
 POINT = "type Point struct { x Int y Int }\n"
 TUPLE = "type T struct { a Int b optional Int c optional nullable Int } representation tuple\n"
 NUMBERS = "".join(f",{n}" for n in (0, 23, 24, 255, 256, 65535, 65536, 4294967295, 4294967296, 18446744073709551615))
@@ -366,6 +414,65 @@ VALUES = {
         "depth-behind-all": ("7 depth", '{"d":%s,"t":{"a":1},"j":{"a":""}}' % lists(96)),
         "json-before-mismatch": ("3 json", '{"t":1,"j":1,"d":1.5}'),
     }),
+    "hamt": ("type H {String:nullable Int} representation advanced HAMT\n", "H", {
+        "empty": ("root", "{}"),
+        "one": ("root", '{"abc":1}'),
+        "null": ("root", '{"abc":null}'),
+        "three-of-one-index": ("root", entries(alike(3, 1))),
+        "four-of-one-index": ("root", entries(alike(4, 1))),
+        "five-of-one-index": ("root", entries(alike(5, 1)[::-1])),
+        "four-of-two-indices": ("root", entries(alike(4, 2))),
+        "300": ("root", entries(f"name {n}" for n in range(300))),
+        "3000": ("root", entries((f"k{n}" for n in range(3000)), "null")),
+        "empty-key": ("root", '{"":1,"/":2}'),
+        "other-letters": ("root", '{"é":1,"鍵":2,"\\u0000":3}'),
+        "last-of-repeated-keys": ("root", '{"a":"x","a":1}'),
+        "list": ("4 mismatch", "[]"),
+        "value-of-another-kind": ("4 mismatch", entries(alike(4, 1), '"1"')),
+        "its-root": ("4 mismatch", '{"hamt":[],"hashAlg":18,"bucketSize":3}'),
+    }),
+    "hamt-in-a-struct": ("type S struct { a Int h optional H i optional H } representation tuple\n" + HAMT, "S", {
+        "both": ("root", '{"a":1,"h":%s,"i":%s}' % (entries(alike(4, 1)), entries(alike(5, 1)))),
+        "hole-before-all": ("6 hole", '{"a":1,"i":{}}'),
+    }),
+    "hamt-twice": ("type L [H]\n" + HAMT, "L", {
+        "alike": ("root", "[%s,{},%s]" % (entries(alike(4, 1)), entries(alike(4, 1)))),
+    }),
+    "hamt-in-a-union": ('type U union { | Int "i" | H "h" } representation envelope { discriminantKey "k" contentKey "c" }\n' + HAMT, "U", {
+        "hamt": ("root", '{"H":%s}' % entries(alike(6, 1))),
+        "integer": ("root", '{"Int":1}'),
+    }),
+    "hamt-of-kinded-members": ('type U union { | String string | H map } representation kinded\ntype H {String:U} representation advanced HAMT\n', "U", {
+        "nested": ("root", '{"H":{"a":{"String":"x"},"b":{"H":%s}}}' % entries(alike(4, 1), '{"H":{}}')),
+    }),
+    "hamt-of-hamts": ("type G {String:H} representation advanced HAMT\n" + HAMT, "G", {
+        "empty-ones": ("root", entries(alike(4, 1), "{}")),
+        "children-in-children": ("root", entries(alike(4, 1), entries(alike(4, 1)))),
+    }),
+    "hamt-of-pairs": ("type H {String:[{String:Int}]} representation advanced HAMT\n", "H", {
+        "lists-of-maps": ("root", entries(alike(4, 2), '[{"b":1,"aa":2},{}]')),
+    }),
+    "hamt-of-joined-keys": ("type M {J:Int} representation advanced HAMT\ntype J struct { a String b E }" + JOIN + "type E enum { | A | B }\n", "M", {
+        "two": ("root", '{"x:A":1,":B":2}'),
+        "part-of-no-enum": ("4 mismatch", '{"x:C":1}'),
+    }),
+    "hamt-of-implicit-values": ("type H {String:S} representation advanced HAMT\ntype S struct { n Int (implicit 1) }\n", "H", {
+        "left-out-and-written": ("root", '{"a":{},"b":{"n":1},"c":{"n":2}}'),
+    }),
+    "hamt-in-itself": ("type H {String:H} representation advanced HAMT\n", "H", {
+        "19-deep": ("root", '{"a":' * 18 + "{}" + "}" * 18),
+        "20-deep": ("7 depth", '{"a":' * 19 + "{}" + "}" * 19),
+    }),
+    "hamt-of-any": ("type H {String:Any} representation advanced HAMT\n", "H", {
+        "91-lists": ("root", '{"a":%s}' % lists(91)),
+        "92-lists": ("7 depth", '{"a":%s}' % lists(92)),
+        "91-lists-in-a-child": ("root", entries(alike(4, 1), lists(91))),
+    }),
+    "club": (CLUB, "Club", {
+        "empty": ("root", '{"name":"Kite","users":{}}'),
+        "two-users": ("root", '{"name":"Kite","users":{"ann":%s,"bob":%s},"motto":"up"}' % (ANN, BOB)),
+        "300-users": ("root", '{"name":"Kite","users":%s}' % entries((f"user {n}" for n in range(300)), BOB)),
+    }),
     "hamt-behind-a-link": ("type A struct { l &H b [&H] }\ntype H {String:Int} representation advanced HAMT\n", "A", {
         "links": ("root", '{"l":%s,"b":[%s]}' % (link(LEAF), link(RAW))),
     }),
@@ -391,18 +498,6 @@ SPELLED = [
     ("", "Int", "24", "1818"),
 ]
 
-HAMT = "type H {String:Int} representation advanced HAMT\n"
-# types under which a HAMT stands, before any value is read
-NOT_BUILT = {
-    "itself": "type A {String:Int} representation advanced HAMT\n",
-    "copy": "type A = H\n" + HAMT,
-    "field": "type A struct { x Int h optional H }\n" + HAMT,
-    "element": "type A [nullable [H]]\n" + HAMT,
-    "value-of-a-map": "type A {String:{String:H}}\n" + HAMT,
-    "member": 'type A union { | Int "i" | B "b" } representation keyed\ntype B = C\ntype C struct { h H }\n' + HAMT,
-    "field-behind-a-circle": "type A struct { b nullable B }\ntype B struct { a nullable A h [H] }\n" + HAMT,
-    "value-of-pairs": "type A {String:H} representation listpairs\n" + HAMT,
-}
 WORDS = {
     "unknown-type": ("type A int\n", "B"),
     "inline-type": ("type A [[Int]]\n", ""),
@@ -415,12 +510,12 @@ def bytes_of(text):
     return text if isinstance(text, bytes) else text.encode()
 
 
-def write(name, words, inputs, text, status, block=None, held=()):
-    case = HERE / "new" / name
+def write(name, words, inputs, text, status, blocks=(), held=(), folder="new"):
+    case = HERE / folder / name
     case.mkdir(parents=True)
     given = {"words": "".join(word + "\n" for word in words), "stdout": text, "status": f"{status}\n", **inputs}
-    if block is not None:
-        given["must"] = values.cid_text(block) + "\n"
+    if blocks:
+        given["must"] = "".join(sorted({values.cid_text(block) + "\n" for block in blocks}))
     for name, content in given.items():
         (case / name).write_bytes(bytes_of(content))
     for name, content in held:
@@ -429,16 +524,16 @@ def write(name, words, inputs, text, status, block=None, held=()):
 
 
 def write_value(name, source, ty, json, meant):
-    text, status, block = values.answer(bytes_of(source), ty, bytes_of(json))
+    text, status, blocks = values.answer(bytes_of(source), ty, bytes_of(json))
     if not text.startswith("root " if meant == "root" else f"fault {meant}\n"):
         raise ValueError(f"{name} is meant to be {meant}, and is told {text}")
-    write(name, ["new", "s", ty, "v"], {"s": source, "v": json}, text, status, block)
+    write(name, ["new", "s", ty, "v"], {"s": source, "v": json}, text, status, blocks)
 
 
 def check_spelled():
     for source, ty, json, spelling in SPELLED:
-        _, _, block = values.answer(bytes_of(source), ty, bytes_of(json))
-        if block is None or block.hex() != spelling:
+        _, _, blocks = values.answer(bytes_of(source), ty, bytes_of(json))
+        if [block.hex() for block in blocks] != [spelling]:
             raise ValueError(f"{json} under {source} has another block than docs/values.md says")
 
 
@@ -448,8 +543,6 @@ def main():
     for form, (source, ty, cases) in VALUES.items():
         for name, (meant, json) in cases.items():
             write_value(f"{form}-{name}", source, ty, json, meant if meant == "root" else f"9 value {meant}")
-    for name, source in NOT_BUILT.items():
-        write_value(f"not-built-{name}", source, "A", "1.5", "3 schema notbuilt")
     for name, (source, ty) in WORDS.items():
         write_value(f"words-{name}", source, ty, "1", "2 words")
     write_value("schema-at-fault", "type A float\n", "A", "1", "3 schema resolve 3 float at 7")
@@ -460,11 +553,10 @@ def main():
     write("schema-absent", ["new", "t", "A", "v"], one, "fault 5 input schema absent\n", 5)
     write("value-absent", ["new", "s", "A", "w"], one, "fault 5 input value absent\n", 5)
     write("type-before-the-value", ["new", "s", "B", "w"], one, "fault 2 words\n", 2)
-    write("not-built-before-the-value", ["new", "s", "H", "w"], {"s": HAMT}, "fault 3 schema notbuilt\n", 3)
-    text, status, block = values.answer(b"type A int\n", "A", b"1")
+    text, status, (block,) = values.answer(b"type A int\n", "A", b"1")
     held = values.cid_text(block)
-    write("block-that-is-held", ["new", "s", "A", "v"], one, text, status, block, [(held, block)])
-    write("wrong-file-under-the-block", ["new", "s", "A", "v"], one, text, status, block, [(held, b"other bytes")])
+    write("block-that-is-held", ["new", "s", "A", "v"], one, text, status, [block], [(held, block)])
+    write("wrong-file-under-the-block", ["new", "s", "A", "v"], one, text, status, [block], [(held, b"other bytes")])
 
 
 if __name__ == "__main__":

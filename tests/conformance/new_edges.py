@@ -1,4 +1,4 @@
-"""What `new` does with big values, with inputs and outputs that fail and with the folder of blocks, as `edges.py` does for `run`.
+"""What `new` and `show` do with big values, with inputs and outputs that fail and with the folder of blocks, as `edges.py` does for `run`.
 
 Each test is a function named for what it shows. It gets the program and a fresh folder, and yields what is wrong. What a run must write
 is worked out by `values.py`.
@@ -8,6 +8,7 @@ import resource
 import subprocess
 
 import edges
+import new_cases
 import values
 
 
@@ -24,9 +25,9 @@ def start(program, place, ty, value="v", **how):
 def asked(program, place, source, ty, text):
     """What is wrong with a run, what it must write being worked out here."""
     give(place, source, text)
-    written, status, block = values.answer(source.encode(), ty, text.encode())
+    written, status, blocks = values.answer(source.encode(), ty, text.encode())
     yield from edges.differs(start(program, place, ty), written.encode(), status)
-    held = {} if block is None else {values.cid_text(block): block}
+    held = {values.cid_text(block): block for block in blocks}
     if edges.files_in(place) != held:
         yield f"left {sorted(edges.files_in(place))}, and {sorted(held)} is wanted"
 
@@ -97,7 +98,7 @@ def standard_output_that_fails(program, place):
 
 
 def two_runs_side_by_side(program, place):
-    text, status, block = values.answer(b"type A any\n", "A", b'{"a":[1,2,3]}')
+    text, status, (block,) = values.answer(b"type A any\n", "A", b'{"a":[1,2,3]}')
     for number in range(100):
         room = place / str(number)
         give(room, "type A any\n", '{"a":[1,2,3]}')
@@ -108,6 +109,54 @@ def two_runs_side_by_side(program, place):
 
 
 HAMT = "type H {String:Int} representation advanced HAMT\n"
+
+
+def a_hamt_with_a_node_above_a_block(program, place):
+    """Four texts of one index stand in a child, three in the root: the sum of their lengths decides."""
+    source = "type H {String:String} representation advanced HAMT\n"
+    for count in (3, 4):
+        for length in (1_000_000, 1_500_000):
+            text = "{%s}" % ",".join(f'"{key}":"{"x" * length}"' for key in new_cases.alike(count, 1))
+            yield from (f"{count} of {length}: {wrong}" for wrong in asked(program, place / f"{count}-{length}", source, "H", text))
+
+
+def a_file_that_is_not_its_block(program, place):
+    """It counts as missing, and stays as it is."""
+    _, _, (block,) = values.answer(b"type A int\n", "A", b"1")
+    root = values.cid_text(block)
+    give(place, "type A int\n", "")
+    (place / "blocks").mkdir()
+    (place / "blocks" / root).write_bytes(b"other bytes")
+    run = edges.start(program, place, ["show", "s", "A", root])
+    yield from edges.differs(run, f"fault 4 root missing {root}\n".encode(), 4)
+    if (place / "blocks" / root).read_bytes() != b"other bytes":
+        yield "the file was written"
+
+
+def roots_without_a_folder(program, place):
+    _, _, (block,) = values.answer(b"type A int\n", "A", b"1")
+    root = values.cid_text(block)
+    give(place, "type A int\n", "")
+    words = ["show", "s", "A", root]
+    yield from edges.differs(edges.start(program, place, words), f"fault 4 root missing {root}\n".encode(), 4)
+    if (place / "blocks").exists():
+        yield "the folder of blocks was made"
+    (place / "blocks").write_bytes(b"mine")
+    yield from edges.differs(edges.start(program, place, words), b"fault 6 store\n", 6)
+
+
+def big_values_are_shown(program, place):
+    numbers = ",".join(f'"k{n}":{n * 4093}' for n in range(20_000))
+    for name, source, ty in (("hamt", HAMT, "H"), ("map", "type M {String:Int}\n", "M")):
+        room = place / name
+        give(room, source, f"{{{numbers}}}")
+        _, _, blocks = values.answer(source.encode(), ty, f"{{{numbers}}}".encode())
+        (room / "blocks").mkdir()
+        for block in blocks:
+            (room / "blocks" / values.cid_text(block)).write_bytes(block)
+        text, status = values.shown_answer(source.encode(), ty, f"{{{numbers}}}".encode())
+        run = edges.start(program, room, ["show", "s", ty, values.cid_text(blocks[0])])
+        yield from (f"{name}: {wrong}" for wrong in edges.differs(run, text.encode(), status))
 
 
 def big_values(program, place):
@@ -122,6 +171,8 @@ def big_values(program, place):
         ("list", "type L [Int]\n", "L", f"[{numbers}]"),
         ("map", "type M {String:Int}\n", "M", f"{{{entries}}}"),
         ("pairs in a list", "type M {String:Int} representation listpairs\n", "M", f"{{{entries}}}"),
+        ("hamt", HAMT, "H", f"{{{entries}}}"),
+        ("hamt of texts above a block together", "type H {String:String} representation advanced HAMT\n", "H", "{%s}" % ",".join(f'"k{n}":"{"x" * 1_000}"' for n in range(10_000))),
         ("struct", f"type S struct {{ {fields} }}\n", "S", f"{{{given}}}"),
         ("text of pairs", 'type Q {String:String} representation stringpairs { innerDelim "=" entryDelim "&" }\n', "Q", "{%s}" % ",".join(f'"k{n}":"{n}"' for n in range(20_000))),
         ("texts of a kind of list", "type L [U]\ntype U union { | String string | Int int } representation kinded\n", "L", "[%s]" % ",".join(['{"String":"x"}', '{"Int":1}'] * 10_000)),
@@ -141,4 +192,8 @@ TESTS = (
     standard_output_that_fails,
     two_runs_side_by_side,
     big_values,
+    a_hamt_with_a_node_above_a_block,
+    a_file_that_is_not_its_block,
+    roots_without_a_folder,
+    big_values_are_shown,
 )

@@ -1,7 +1,9 @@
-"""What `new SCHEMA TYPE VALUE` must write, worked out on plain Python values by docs/values.md, docs/blocks.md and docs/formats.md.
+"""What `new SCHEMA TYPE VALUE` must write, and `show SCHEMA TYPE ROOT` of the root, worked out on plain Python values by docs/values.md,
+docs/blocks.md and docs/formats.md.
 
-Nothing of the program is used: schemas are compiled by `schema.py` and judged by `accept.py`, JSON is read by Python's own reader, and
-blocks are spelled here and hashed by hashlib. `answer(source, type, text)` gives the text, the status and the root block, if there is one.
+Nothing of the program is used: schemas are compiled by `schema.py` and judged by `accept.py`, JSON is read and written by Python's own,
+blocks are spelled here and hashed by hashlib, and a HAMT is made of its final entries. `answer(source, type, text)` gives the text, the
+status and the blocks, the root first, if there are any; `shown_answer(source, type, text)` what `show` writes of that root.
 
 A value of a type is `None` for null, or a tuple that begins with its form: `("scalar", x)` for a bool, an integer, a text, bytes or a
 link, `("any", data)`, `("list", values)`, `("map", pairs)` in the order of its entries, `("struct", values)` with `ABSENT` for a field
@@ -18,6 +20,9 @@ import schema
 LONGEST_BLOCK = 4_194_304
 DEEPEST = 96
 DEEPEST_JSON = 127
+HASH_ALG = 18
+BUCKET_SIZE = 3
+LEVELS = 32
 ABSENT = ("absent",)
 
 
@@ -135,6 +140,7 @@ def varint(found):
 class Schema:
     def __init__(self, rows):
         self.rows = rows
+        self.nodes = []
 
     def body(self, ty):
         return accept.behind_copies(self.rows, ty)
@@ -143,16 +149,6 @@ class Schema:
         """The type of the prelude, or the declared type, that has a name. Inline types and members `&T` are no such types."""
         named = [n for n, row in enumerate(self.rows) if row[0] == name and re.fullmatch("[A-Z][A-Za-z0-9_]*", name, re.A)]
         return named[0] if named else None
-
-    def leads_to_hamt(self, ty):
-        """Whether a map as HAMT stands among the parts of a type, of their types, and so on. Links are not followed."""
-        found, left = set(), [ty]
-        while left:
-            at = left.pop()
-            if at not in found:
-                found.add(at)
-                left += parts_of(self.rows[at][1])
-        return any(self.rows[n][1][0] == "map" and self.rows[n][1][3][0] == "HAMT" for n in found)
 
     # a value of a slot, by the shown form
 
@@ -331,7 +327,26 @@ class Schema:
 
     def of_map(self, body, value):
         pairs = [(key, self.represented(body[2][0], part)) for key, part in value[1]]
+        if body[3][0] == "HAMT":
+            return {"hamt": self.node(pairs, 0), "hashAlg": HASH_ALG, "bucketSize": BUCKET_SIZE}
         return self.of_pairs(body[3], pairs)
+
+    def node(self, pairs, level):
+        """The data of the HAMT node of these entries; the blocks of the nodes beneath it are kept, those below first."""
+        if level == LEVELS:
+            raise Refused("8 exhausted")
+        bits, elements = 0, []
+        for index in range(256):
+            here = sorted((pair for pair in pairs if hash_of(pair[0])[level] == index), key=lambda pair: pair[0].encode())
+            if here:
+                bits |= 1 << index
+                elements.append([[key.encode(), part] for key, part in here] if len(here) <= BUCKET_SIZE else self.child(here, level + 1))
+        return [bits.to_bytes(32, "little"), elements]
+
+    def child(self, pairs, level):
+        block = spelled(self.node(pairs, level))
+        self.nodes.append(block)
+        return link_to(block)
 
     def of_pairs(self, form, pairs):
         if form[0] == "map":
@@ -375,19 +390,23 @@ class Schema:
     def of_unit(self, body, value):
         return {"null": None, "true": True, "false": False, "emptymap": {}}[body[1]]
 
+    # the shown form of a value
 
-def parts_of(body):
-    if body[0] == "copy":
-        return [body[1]]
-    if body[0] == "list":
-        return [body[1][0]]
-    if body[0] == "map":
-        return [body[1][0], body[2][0]]
-    if body[0] == "struct":
-        return [field[3][0] for field in body[1]]
-    if body[0] == "union":
-        return [member[2] for member in body[1]]
-    return []
+    def data_shown(self, ty, value):
+        if value is None:
+            return None
+        body = self.body(ty)
+        form = value[0]
+        if form == "list":
+            return [self.data_shown(body[1][0], part) for part in value[1]]
+        if form == "map":
+            return {key: self.data_shown(body[2][0], part) for key, part in value[1]}
+        if form == "struct":
+            return {field[0]: self.data_shown(field[3][0], part) for field, part in zip(body[1], value[1]) if part is not ABSENT}
+        if form == "union":
+            name, _, inner, _ = body[1][value[1]]
+            return {name: self.data_shown(inner, value[2])}
+        return {"enum": lambda: body[1][value[1]][0], "unit": dict}.get(form, lambda: value[1])()
 
 
 def need(holds):
@@ -421,7 +440,7 @@ def depth(data):
 
 def levels(body):
     if body[0] in ("struct", "map"):
-        return 2 if body[-1][0] == "listpairs" else 1
+        return {"listpairs": 2, "HAMT": 5}.get(body[-1][0], 1)
     return 1 if body[0] in ("list", "union", "unit") else 0
 
 
@@ -488,24 +507,64 @@ def cid_text_of(cid):
     return "b" + base64.b32encode(cid).decode().lower().rstrip("=")
 
 
+def hash_of(key):
+    return hashlib.sha256(key.encode()).digest()
+
+
+def binary_cid(block):
+    return b"\x01\x71\x12\x20" + hashlib.sha256(block).digest()
+
+
 def cid_text(block):
-    return cid_text_of(b"\x01\x71\x12\x20" + hashlib.sha256(block).digest())
+    return cid_text_of(binary_cid(block))
 
 
-# ---- the command
+def link_to(block):
+    return Link(binary_cid(block))
 
 
-def block_of(found, ty, text):
-    """The root block of a value of a type, or the first refusal: json, mismatch, hole, delimiter, depth, size."""
-    value = found.shown((ty, False), data_of(text))
+# ---- data to JSON
+
+
+def json_text(data):
+    """The one JSON text of data, or None where a map whose only key is `/` stands in them."""
+    if has_reserved(data):
+        return None
+    return json.dumps(json_form(data), ensure_ascii=False, separators=(",", ":"))
+
+
+def has_reserved(data):
+    if isinstance(data, dict):
+        return list(data) == ["/"] or any(map(has_reserved, data.values()))
+    return isinstance(data, list) and any(map(has_reserved, data))
+
+
+def json_form(data):
+    if isinstance(data, Link):
+        return {"/": cid_text_of(data)}
+    if isinstance(data, bytes):
+        return {"/": {"bytes": base64.b64encode(data).decode().rstrip("=")}}
+    if isinstance(data, list):
+        return [json_form(part) for part in data]
+    if isinstance(data, dict):
+        return {key: json_form(data[key]) for key in sorted(data, key=str.encode)}
+    return data
+
+
+# ---- the commands
+
+
+def blocks_of(found, ty, value):
+    """The blocks of a value of a type, the root first, or the first refusal: hole, delimiter, depth, exhausted, size."""
     found.check_holes(ty, value)
+    found.nodes = []
     data = found.represented(ty, value)
     if found.deep(ty, value) > DEEPEST:
         raise Refused("7 depth")
-    block = spelled(data)
-    if len(block) > LONGEST_BLOCK:
+    blocks = [spelled(data)] + found.nodes
+    if any(len(block) > LONGEST_BLOCK for block in blocks):
         raise Refused("9 size")
-    return block
+    return blocks
 
 
 def compiled(source):
@@ -517,20 +576,26 @@ def compiled(source):
 
 
 def answer(source, name, text):
-    """What is written, the status, and the block that is put. The text is None where the input isn't there."""
+    """What `new` writes, the status, and the blocks that are put. The text is None where the input isn't there."""
     try:
         found = compiled(source)
     except schema.Fault as fault:
-        return f"fault 3 schema {fault}\n", 3, None
+        return f"fault 3 schema {fault}\n", 3, []
     ty = found.number(name)
     if ty is None:
-        return "fault 2 words\n", 2, None
-    if found.leads_to_hamt(ty):
-        return "fault 3 schema notbuilt\n", 3, None
+        return "fault 2 words\n", 2, []
     if text is None:
-        return "fault 5 input value absent\n", 5, None
+        return "fault 5 input value absent\n", 5, []
     try:
-        block = block_of(found, ty, text)
+        blocks = blocks_of(found, ty, found.shown((ty, False), data_of(text)))
     except Refused as refused:
-        return f"fault 9 value {refused}\n", 9, None
-    return f"root {cid_text(block)}\n", 0, block
+        return f"fault 9 value {refused}\n", 9, []
+    return f"root {cid_text(blocks[0])}\n", 0, blocks
+
+
+def shown_answer(source, name, text):
+    """What `show` writes of the root that `new` gives, and the status."""
+    found = compiled(source)
+    ty = found.number(name)
+    written = json_text(found.data_shown(ty, found.shown((ty, False), data_of(text))))
+    return ("no 10 reserved\n", 1) if written is None else (f"ok {written}\n", 0)

@@ -8,8 +8,6 @@ mod corners;
 #[cfg(test)]
 mod parts;
 #[cfg(test)]
-mod reach;
-#[cfg(test)]
 mod splits;
 #[cfg(test)]
 mod values;

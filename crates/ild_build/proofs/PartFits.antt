@@ -110,7 +110,7 @@ part_typed rows s v d is typed i u w e =
 -- ---- texts
 
 module _ (rows : List Row) (made : IsMade rows) where
-  only_of : (s : Slot) (d : TypeDef) → form_of rows s ≡ Some d → HasOnly rows s K.Text → (k : KindWord) → has_kind d k ≡ true → k ≡ K.Text
+  pub only_of : (s : Slot) (d : TypeDef) → form_of rows s ≡ Some d → HasOnly rows s K.Text → (k : KindWord) → has_kind d k ≡ true → k ≡ K.Text
   only_of s d is only k e = only k (ap (λ o. kind_in o k) is ∙ e)
 
   map_text : (f : MapForm) (value : Slot) → ((k : KindWord) → same_kind (map_kind f) k ≡ true → k ≡ K.Text) → MadeMap rows f value → IsTextSlot rows value
@@ -169,7 +169,7 @@ module _ (rows : List Row) (made : IsMade rows) where
   member_text_at d n u only m e = absurd (none-some u e)
 
   -- the parts of a text are texts
-  part_text : (s : Slot) (v : Value) (d : TypeDef) → form_of rows s ≡ Some d → HasOnly rows s K.Text → (i : ℕ) (u : Slot) (w : Value) → part_at (Some d) v i ≡ Some (u, w) → HasOnly rows u K.Text
+  pub part_text : (s : Slot) (v : Value) (d : TypeDef) → form_of rows s ≡ Some d → HasOnly rows s K.Text → (i : ℕ) (u : Slot) (w : Value) → part_at (Some d) v i ≡ Some (u, w) → HasOnly rows u K.Text
   part_text s (V.list vs) d is only i u w e =
       element_text d u (only_of s d is only) (made (base rows s.ty.0) d is) (at_of (element_of (Some d)) (slice_get (values_list vs) i) u w e).slot
   part_text s (V.map ps) d is only i u w e =
@@ -262,7 +262,7 @@ fields_whole_at (V.absent os) (suc i) w h e = fields_whole_at os i w h e
 fields_whole_at (V.present v os) zero w h e = ap is_whole (sym (same_Some v w (same_Some (Some v) (Some w) e))) ∙ (both_true (is_whole v) (fields_whole os) h).0
 fields_whole_at (V.present v os) (suc i) w h e = fields_whole_at os i w (both_true (is_whole v) (fields_whole os) h).1 e
 
-part_whole : (d : Option TypeDef) (v : Value) (i : ℕ) (u : Slot) (w : Value) → part_at d v i ≡ Some (u, w) → is_whole v ≡ true → is_whole w ≡ true
+pub part_whole : (d : Option TypeDef) (v : Value) (i : ℕ) (u : Slot) (w : Value) → part_at d v i ≡ Some (u, w) → is_whole v ≡ true → is_whole w ≡ true
 part_whole d (V.list vs) i u w e h = are_whole_at vs i w h (at_of (element_of d) (slice_get (values_list vs) i) u w e).value
 part_whole d (V.map ps) i u w e h =
     let a = at_of (element_of d) (option_map (λ (p : List ℕ × Value). p.1) (slice_get (pairs_list ps) i)) u w e in

@@ -62,7 +62,7 @@ node-over h p (suc left) depth es node before is =
 
 -- ---- the plan
 
-follows-append : (before xs ys : List (List ℕ)) → Follows before xs → Follows (before ++ xs) ys → Follows before (xs ++ ys)
+pub follows-append : (before xs ys : List (List ℕ)) → Follows before xs → Follows (before ++ xs) ys → Follows before (xs ++ ys)
 follows-append before [] ys first second = subst (λ (bs : List (List ℕ)). Follows bs ys) (append-nil before) second
 follows-append before (x ∷ xs) ys first second = (first.0, follows-append (before ++ x ∷ []) xs ys first.1 (subst (λ (bs : List (List ℕ)). Follows bs ys) (sym (append_assoc before (x ∷ []) xs)) second))
 
@@ -106,7 +106,7 @@ over-more P Q b f over = record { slots = over.slots; is = over.is; children = a
     all_more [] all = tt
     all_more (s ∷ slots) all = (one s all.0, all_more slots all.1)
 
-held_among : (bs now : List (List ℕ)) (b : List ℕ) → AreHeld bs now → IsAmong b bs → block_at now (id_of b) ≡ Some b
+pub held_among : (bs now : List (List ℕ)) (b : List ℕ) → AreHeld bs now → IsAmong b bs → block_at now (id_of b) ≡ Some b
 held_among [] now b held is = absurd is
 held_among (c ∷ bs) now b held is = ⊎_elim (λ here. subst (λ (x : List ℕ). block_at now (id_of x) ≡ Some x) (sym here) held.0) (λ more. held_among bs now b held.1 more) is
 

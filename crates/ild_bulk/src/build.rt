@@ -37,8 +37,8 @@ pub fn any_long(blocks: &[PlannedBlock]) -> bool
     long
 }
 
-// The root node of the HAMT of these entries. The blocks beneath it are appended, each behind those beneath it.
-fn plan_all<H: KeyHash>(
+/// The root node of the HAMT of these entries. The blocks beneath it are appended, each behind those beneath it.
+pub fn plan_rows<H: KeyHash>(
     alloc: Global,
     entries: &Rows,
     keys: &H,
@@ -69,7 +69,7 @@ pub fn from_entries<K: Store, H: KeyHash>(
     ensures children { BothTold (K.moment store.old).blocks (K.moment store.new).blocks AddsWhole }
 {
     let mut blocks = Vec::new(alloc);
-    let root = plan_all(alloc, entries, keys, &mut blocks)?;
+    let root = plan_rows(alloc, entries, keys, &mut blocks)?;
     let long = is_long(&root) | any_long(&blocks);
     if long {
         return Err(HamtFault::Size);

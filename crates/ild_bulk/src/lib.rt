@@ -8,7 +8,7 @@ mod plan;
 mod planned;
 mod put;
 
-pub use build::{any_long, from_entries, is_long};
+pub use build::{any_long, from_entries, is_long, plan_rows};
 pub use laws::{children_first, plan_is_of_nodes};
 pub use plan::plan_keyed;
 pub use planned::PlannedBlock;

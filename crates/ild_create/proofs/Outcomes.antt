@@ -1,11 +1,12 @@
 -- Bytes make one value, or none for one first cause.
 use Rattle.std.proofs.Common.{◌≡◌, ◌⊎◌, ℕ, ◌<◌, ◌≤◌, ◌==◌, List, Bool, true, false, if◌then◌else◌, Result, Ok, Err, Some, refl, sym, ap, ◌∙◌, subst, inl, inr, arith}
-use Rattle.std.specs.Prelude.{length}
+use Rattle.std.specs.Prelude.{length, Contains}
+use Rattle.std.specs.List.{AllByRecursion}
 use Rattle.std.proofs.lemmas.Bool.{cases_order}
+use Rattle.std.proofs.lemmas.List.Elements.{All-contains, All-from_recursion}
 use Rattle.std.proofs.lemmas.Option.{same_Some}
 use Rattle.ild_data.specs.Data.{Data}
 use Rattle.ild_data.specs.Limits.{longest_block, deepest}
-use Rattle.ild_data.specs.Spell.{spell}
 use Rattle.ild_json.specs.Reading.{json_read}
 use Rattle.ild_json.specs.declared.error.JsonErr.{JsonErr}
 use Rattle.ild_meant.specs.Meant.{Meant}
@@ -17,10 +18,10 @@ use Rattle.ild_schema.specs.Slots.{plainly}
 use Rattle.ild_schema.specs.Value.{Value}
 use Rattle.ild_typed.specs.Fits.{Fits}
 use Rattle.ild_typed.specs.Hamt.{whole}
-use Rattle.ild_typed.specs.Judged.{has_hole, breaks_delimiter}
+use Rattle.ild_typed.specs.Judged.{has_hole, breaks_delimiter, exhausts}
 use Rattle.ild_typed.specs.Represented.{represented}
 use Rattle.ild_typed.specs.Schema.{IsSchema}
-use Rattle.ild_typed.specs.Stands.{bare, Storable}
+use Rattle.ild_typed.specs.Stands.{bare, blocks_of, Storable}
 use Rattle.ild_typed.proofs.Judging.{tree_sound}
 use Rattle.ild_value.specs.Readings.{MeansNothing}
 use Rattle.ild_create.specs.Given.{IsGivenAs}
@@ -67,62 +68,68 @@ no_meaning rows schema n b v given broken =
 
 -- ---- what is made
 
-some_hash : List ℕ → List ℕ
-some_hash k = k
-
 pub one_made : OneIsMade
-one_made rows schema n b v w d e one two =
+one_made h rows schema n b v w d e one two =
     let same = same_given rows schema n b v w one.given two.given in
-    let first = (one.storable some_hash).tree in
-    let second = subst (λ (x : Value). represented (whole some_hash) rows (plainly n) x ≡ Some e) (sym same) (two.storable some_hash).tree in
+    let first = one.storable.tree in
+    let second = subst (λ (x : Value). represented (whole h) rows (plainly n) x ≡ Some e) (sym same) two.storable.tree in
     (same, same_Some d e (sym first ∙ second))
 
-unrefused : (rows : List Row) (n : TypeNo) (v : Value) (d : Data) (r : Refusal) → ((h : List ℕ → List ℕ) → Storable bare h rows n v d) → ValueHas rows n v r → ⊥
-unrefused rows n v d R.Json storable cause = cause
-unrefused rows n v d R.Mismatch storable cause = cause
-unrefused rows n v d R.Hole storable cause = not_both (has_hole rows (plainly n) v) (tree_sound some_hash rows (plainly n) v d (storable some_hash).tree).1 cause
-unrefused rows n v d R.Delimiter storable cause = not_both (breaks_delimiter rows (plainly n) v) (tree_sound some_hash rows (plainly n) v d (storable some_hash).tree).2 cause
-unrefused rows n v d R.Depth storable cause = cause (storable some_hash).fits
-unrefused rows n v d R.Size storable cause =
-    let same : d ≡ cause.tree = same_Some d cause.tree (sym (storable some_hash).tree ∙ cause.represented some_hash) in
-    let short : length (spell cause.tree) ≤ longest_block = subst (λ (x : Data). length (spell x) ≤ longest_block) same (storable some_hash).sized.0 in
-    let long = cause.long in omega (arith, short, long)
+-- a block that is too long isn't among those that are short enough
+short_one : (bs : List (List ℕ)) (block : List ℕ) → AllByRecursion (λ b. length b ≤ longest_block) bs → Contains bs block → longest_block < length block → ⊥
+short_one bs block short among long =
+    let fits : length block ≤ longest_block = All-contains (λ (b : List ℕ). length b ≤ longest_block) bs block (All-from_recursion (λ (b : List ℕ). length b ≤ longest_block) bs short) among in omega (arith, fits, long)
 
-one_given : (rows : List Row) → IsSchema rows → (n : TypeNo) (b : List ℕ) (v : Value) (r : Refusal) → IsGivenAs rows n b v → GiveOne rows n b r → ValueHas rows n v r
-one_given rows schema n b v r given one = subst (λ (w : Value). ValueHas rows n w r) (sym (same_given rows schema n b v one.value given one.given)) one.cause
+unrefused : (h : List ℕ → List ℕ) (rows : List Row) (n : TypeNo) (v : Value) (d : Data) (r : Refusal) → Storable bare h rows n v d → ValueHas h rows n v r → ⊥
+unrefused h rows n v d R.Json storable cause = cause
+unrefused h rows n v d R.Mismatch storable cause = cause
+unrefused h rows n v d R.Hole storable cause = not_both (has_hole rows (plainly n) v) (tree_sound h rows (plainly n) v d storable.tree).1 cause
+unrefused h rows n v d R.Delimiter storable cause = not_both (breaks_delimiter rows (plainly n) v) (tree_sound h rows (plainly n) v d storable.tree).2 cause
+unrefused h rows n v d R.Depth storable cause = cause storable.fits
+unrefused h rows n v d R.Exhausted storable cause = not_both (exhausts h rows (plainly n) v) (tree_sound h rows (plainly n) v d storable.tree).3 cause
+unrefused h rows n v d R.Size storable cause =
+    let same : d ≡ cause.tree = same_Some d cause.tree (sym storable.tree ∙ cause.represented) in
+    let among = subst (λ (x : Data). Contains (blocks_of bare h rows n v x) cause.block) (sym same) cause.among in
+    short_one (blocks_of bare h rows n v d) cause.block storable.sized among cause.long
+
+one_given : (h : List ℕ → List ℕ) (rows : List Row) → IsSchema rows → (n : TypeNo) (b : List ℕ) (v : Value) (r : Refusal) → IsGivenAs rows n b v → GiveOne h rows n b r → ValueHas h rows n v r
+one_given h rows schema n b v r given one = subst (λ (w : Value). ValueHas h rows n w r) (sym (same_given rows schema n b v one.value given one.given)) one.cause
 
 -- a cause that bytes have, which give a value, is one that the value has
-given_has : (rows : List Row) → IsSchema rows → (n : TypeNo) (b : List ℕ) (v : Value) (r : Refusal) → IsGivenAs rows n b v → Refuses rows n b r → ValueHas rows n v r
-given_has rows schema n b v R.Json given refuses = no_fault b given.tree refuses.0 given.json refuses.1
-given_has rows schema n b v R.Mismatch given refuses = no_meaning rows schema n b v given refuses
-given_has rows schema n b v R.Hole given refuses = one_given rows schema n b v R.Hole given refuses
-given_has rows schema n b v R.Delimiter given refuses = one_given rows schema n b v R.Delimiter given refuses
-given_has rows schema n b v R.Depth given refuses = one_given rows schema n b v R.Depth given refuses
-given_has rows schema n b v R.Size given refuses = one_given rows schema n b v R.Size given refuses
+given_has : (h : List ℕ → List ℕ) (rows : List Row) → IsSchema rows → (n : TypeNo) (b : List ℕ) (v : Value) (r : Refusal) → IsGivenAs rows n b v → Refuses h rows n b r → ValueHas h rows n v r
+given_has h rows schema n b v R.Json given refuses = no_fault b given.tree refuses.0 given.json refuses.1
+given_has h rows schema n b v R.Mismatch given refuses = no_meaning rows schema n b v given refuses
+given_has h rows schema n b v R.Hole given refuses = one_given h rows schema n b v R.Hole given refuses
+given_has h rows schema n b v R.Delimiter given refuses = one_given h rows schema n b v R.Delimiter given refuses
+given_has h rows schema n b v R.Depth given refuses = one_given h rows schema n b v R.Depth given refuses
+given_has h rows schema n b v R.Exhausted given refuses = one_given h rows schema n b v R.Exhausted given refuses
+given_has h rows schema n b v R.Size given refuses = one_given h rows schema n b v R.Size given refuses
 
 pub made_unrefused : MadeAreUnrefused
-made_unrefused rows schema n b v d r makes refuses = unrefused rows n v d r makes.storable (given_has rows schema n b v r makes.given refuses)
+made_unrefused h rows schema n b v d r makes refuses = unrefused h rows n v d r makes.storable (given_has h rows schema n b v r makes.given refuses)
 
 -- ---- the first cause
 
 -- a cause of the value is one of the bytes
-lifted : (rows : List Row) (n : TypeNo) (b : List ℕ) (v : Value) (r : Refusal) → IsGivenAs rows n b v → ValueHas rows n v r → Refuses rows n b r
-lifted rows n b v R.Json given cause = absurd cause
-lifted rows n b v R.Mismatch given cause = absurd cause
-lifted rows n b v R.Hole given cause = record { value = v; given = given; cause = cause }
-lifted rows n b v R.Delimiter given cause = record { value = v; given = given; cause = cause }
-lifted rows n b v R.Depth given cause = record { value = v; given = given; cause = cause }
-lifted rows n b v R.Size given cause = record { value = v; given = given; cause = cause }
+lifted : (h : List ℕ → List ℕ) (rows : List Row) (n : TypeNo) (b : List ℕ) (v : Value) (r : Refusal) → IsGivenAs rows n b v → ValueHas h rows n v r → Refuses h rows n b r
+lifted h rows n b v R.Json given cause = absurd cause
+lifted h rows n b v R.Mismatch given cause = absurd cause
+lifted h rows n b v R.Hole given cause = record { value = v; given = given; cause = cause }
+lifted h rows n b v R.Delimiter given cause = record { value = v; given = given; cause = cause }
+lifted h rows n b v R.Depth given cause = record { value = v; given = given; cause = cause }
+lifted h rows n b v R.Exhausted given cause = record { value = v; given = given; cause = cause }
+lifted h rows n b v R.Size given cause = record { value = v; given = given; cause = cause }
 
-pub first_given : (rows : List Row) → IsSchema rows → (n : TypeNo) (b : List ℕ) (v : Value) (r : Refusal) → IsGivenAs rows n b v → IsFirstOf rows n v r → IsFirst rows n b r
-first_given rows schema n b v r given first = record {
-  cause = lifted rows n b v r given first.cause;
-  first = λ q less refuses. first.first q less (given_has rows schema n b v q given refuses);
+pub first_given : (h : List ℕ → List ℕ) (rows : List Row) → IsSchema rows → (n : TypeNo) (b : List ℕ) (v : Value) (r : Refusal) → IsGivenAs rows n b v → IsFirstOf h rows n v r → IsFirst h rows n b r
+first_given h rows schema n b v r given first = record {
+  cause = lifted h rows n b v r given first.cause;
+  first = λ q less refuses. first.first q less (given_has h rows schema n b v q given refuses);
 }
 
 -- the refusal in a turn
 at_turn : ℕ → Refusal
-at_turn k = if k == 1 then R.Json else if k == 2 then R.Mismatch else if k == 3 then R.Hole else if k == 4 then R.Delimiter else if k == 5 then R.Depth else R.Size
+at_turn k =
+    if k == 1 then R.Json else if k == 2 then R.Mismatch else if k == 3 then R.Hole else if k == 4 then R.Delimiter else if k == 5 then R.Depth else if k == 6 then R.Exhausted else R.Size
 
 told_turn : (r : Refusal) → at_turn (turn r) ≡ r
 unfolding at_turn
@@ -131,12 +138,13 @@ told_turn R.Mismatch = refl
 told_turn R.Hole = refl
 told_turn R.Delimiter = refl
 told_turn R.Depth = refl
+told_turn R.Exhausted = refl
 told_turn R.Size = refl
 
-by_turn : (rows : List Row) (n : TypeNo) (b : List ℕ) (q r : Refusal) → IsFirst rows n b q → IsFirst rows n b r → (turn q ≡ turn r) ⊎ ((turn q < turn r) ⊎ (turn r < turn q)) → q ≡ r
-by_turn rows n b q r one two (inl same) = sym (told_turn q) ∙ (ap at_turn same ∙ told_turn r)
-by_turn rows n b q r one two (inr (inl less)) = absurd (two.first q less one.cause)
-by_turn rows n b q r one two (inr (inr less)) = absurd (one.first r less two.cause)
+by_turn : (h : List ℕ → List ℕ) (rows : List Row) (n : TypeNo) (b : List ℕ) (q r : Refusal) → IsFirst h rows n b q → IsFirst h rows n b r → (turn q ≡ turn r) ⊎ ((turn q < turn r) ⊎ (turn r < turn q)) → q ≡ r
+by_turn h rows n b q r one two (inl same) = sym (told_turn q) ∙ (ap at_turn same ∙ told_turn r)
+by_turn h rows n b q r one two (inr (inl less)) = absurd (two.first q less one.cause)
+by_turn h rows n b q r one two (inr (inr less)) = absurd (one.first r less two.cause)
 
 pub one_first : OneIsFirst
-one_first rows n b q r one two = by_turn rows n b q r one two (cases_order (turn q) (turn r))
+one_first h rows n b q r one two = by_turn h rows n b q r one two (cases_order (turn q) (turn r))

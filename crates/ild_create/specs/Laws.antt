@@ -10,11 +10,11 @@ use Rattle.ild_create.specs.Refuses.{Refuses, IsFirst}
 use Rattle.ild_create.specs.declared.fault.Refusal.{Refusal}
 
 abbrev pub OneIsMade : Type 0
-OneIsMade = (rows : List Row) → IsSchema rows → (n : TypeNo) (b : List ℕ) (v w : Value) (d e : Data) → Makes rows n b v d → Makes rows n b w e → (v ≡ w) × (d ≡ e)
+OneIsMade = (h : List ℕ → List ℕ) (rows : List Row) → IsSchema rows → (n : TypeNo) (b : List ℕ) (v w : Value) (d e : Data) → Makes h rows n b v d → Makes h rows n b w e → (v ≡ w) × (d ≡ e)
 
 -- what is made has none of the causes
 abbrev pub MadeAreUnrefused : Type 0
-MadeAreUnrefused = (rows : List Row) → IsSchema rows → (n : TypeNo) (b : List ℕ) (v : Value) (d : Data) (r : Refusal) → Makes rows n b v d → Refuses rows n b r → ⊥
+MadeAreUnrefused = (h : List ℕ → List ℕ) (rows : List Row) → IsSchema rows → (n : TypeNo) (b : List ℕ) (v : Value) (d : Data) (r : Refusal) → Makes h rows n b v d → Refuses h rows n b r → ⊥
 
 abbrev pub OneIsFirst : Type 0
-OneIsFirst = (rows : List Row) (n : TypeNo) (b : List ℕ) (q r : Refusal) → IsFirst rows n b q → IsFirst rows n b r → q ≡ r
+OneIsFirst = (h : List ℕ → List ℕ) (rows : List Row) (n : TypeNo) (b : List ℕ) (q r : Refusal) → IsFirst h rows n b q → IsFirst h rows n b r → q ≡ r

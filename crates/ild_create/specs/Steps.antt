@@ -1,5 +1,5 @@
 -- What each step on the way from bytes to a block answers.
-use Rattle.std.specs.Prelude.{◌≡◌, ℕ, ◌<◌, List, [], ◌∷◌}
+use Rattle.std.specs.Prelude.{◌≡◌, ◌⊎◌, ℕ, ◌<◌, List, Result, Ok, Err}
 use Rattle.ild_build.specs.declared.judgement.Judged.{Judged}
 use Rattle.ild_build.specs.declared.judgement.Judged.TheVariants as J
 use Rattle.ild_data.specs.Data.{Data}
@@ -9,10 +9,18 @@ use Rattle.ild_json.specs.declared.error.JsonErr.TheVariants as JE
 use Rattle.ild_schema.specs.declared.number.TypeNo.{TypeNo}
 use Rattle.ild_schema.specs.declared.row.Row.{Row}
 use Rattle.ild_schema.specs.Value.{Value}
-use Rattle.ild_typed.specs.Stands.{bare, blocks_of, Storable}
+use Rattle.ild_schema.specs.Slots.{plainly}
+use Rattle.ild_edges.specs.Count.{Rose}
+use Rattle.ild_edges.specs.Store.{Moment, Later}
+use Rattle.ild_session.specs.declared.putting.PutFault.{PutFault}
+use Rattle.ild_session.specs.declared.putting.PutFault.TheVariants as P
+use Rattle.ild_typed.specs.Blocks.{nodes}
+use Rattle.ild_typed.specs.Stands.{bare, Storable}
+use Rattle.ild_write.specs.Builds.{Holds, Collides, PutsSome}
+use Rattle.ild_write.specs.declared.fault.BuildFault.{BuildFault}
+use Rattle.ild_write.specs.declared.fault.BuildFault.TheVariants as B
 use Rattle.ild_value.specs.declared.fault.ShownErr.{ShownErr}
 use Rattle.ild_value.specs.declared.fault.ShownErr.TheVariants as SE
-use Rattle.ild_create.specs.Makes.{Makes}
 use Rattle.ild_create.specs.Refuses.{ValueHas, turn, IsFirst}
 use Rattle.ild_create.specs.declared.fault.Refusal.{Refusal}
 use Rattle.ild_create.specs.declared.fault.Refusal.TheVariants as R
@@ -40,35 +48,47 @@ judged_refusal J.Depth = R.Depth
 
 -- ---- a value
 
+abbrev pub built_fault : BuildFault → CreateFault
+built_fault B.Exhausted = F.Refused R.Exhausted
+built_fault B.Size = F.Refused R.Size
+built_fault B.Store = F.Store
+built_fault (B.Clash id) = F.Clash id
+built_fault B.Memory = F.Memory
+
+abbrev pub put_fault : PutFault → CreateFault
+put_fault P.Failed = F.Store
+put_fault (P.Clash id) = F.Clash id
+put_fault P.Memory = F.Memory
+
+-- ---- a value
+
 -- the first cause that a value has
-pub record IsFirstOf (rows : List Row) (n : TypeNo) (v : Value) (r : Refusal) : Type 0 where
-  pub cause : ValueHas rows n v r
-  pub first : (q : Refusal) → turn q < turn r → ValueHas rows n v q → ⊥
+pub record IsFirstOf (h : List ℕ → List ℕ) (rows : List Row) (n : TypeNo) (v : Value) (r : Refusal) : Type 0 where
+  pub cause : ValueHas h rows n v r
+  pub first : (q : Refusal) → turn q < turn r → ValueHas h rows n v q → ⊥
 
-abbrev pub StopsValue : List Row → TypeNo → Value → CreateFault → Type 0
-StopsValue rows n v (F.Refused r) = IsFirstOf rows n v r
-StopsValue rows n v F.Store = ⊥
-StopsValue rows n v (F.Clash id) = ⊥
-StopsValue rows n v F.Memory = Unit {0}
+-- what the steps up to a value answer in its place
+abbrev pub Stops : (List ℕ → List ℕ) → List Row → TypeNo → List ℕ → CreateFault → Type 0
+Stops h rows n b (F.Refused r) = IsFirst h rows n b r
+Stops h rows n b F.Store = ⊥
+Stops h rows n b (F.Clash id) = ⊥
+Stops h rows n b F.Memory = Unit {0}
 
--- the one block of a value that a store can hold
-pub record IsBlockOf (rows : List Row) (n : TypeNo) (v : Value) (block : List ℕ) : Type 0 where
+-- ---- the block of a value, the blocks of whose nodes are put
+
+-- a value that a store can hold, and that nothing was asked of the store but to keep blocks of its nodes
+pub record TriesNodes (h : List ℕ → List ℕ) (rows : List Row) (n : TypeNo) (v : Value) (m k : Moment) : Type 0 where
   pub tree : Data
-  pub storable : (h : List ℕ → List ℕ) → Storable bare h rows n v tree
-  pub one_block : (h : List ℕ → List ℕ) → blocks_of bare h rows n v tree ≡ spell tree ∷ []
-  pub spelled : block ≡ spell tree
+  pub storable : Storable bare h rows n v tree
+  pub steps : PutsSome m (nodes h rows (plainly n) v) k
 
--- ---- bytes
+abbrev pub BlockAnswer : (List ℕ → List ℕ) → List Row → TypeNo → Value → Moment → Result (List ℕ) CreateFault → Moment → Type 0
+BlockAnswer h rows n v m (Ok block) k = (tries : TriesNodes h rows n v m k) × (block ≡ spell tries.tree) × Holds k (nodes h rows (plainly n) v)
+BlockAnswer h rows n v m (Err (F.Refused r)) k = IsFirstOf h rows n v r × (k ≡ m)
+BlockAnswer h rows n v m (Err F.Store) k = Rose m.faults k.faults × TriesNodes h rows n v m k
+BlockAnswer h rows n v m (Err (F.Clash id)) k = Collides k (nodes h rows (plainly n) v) id.0 × TriesNodes h rows n v m k
+BlockAnswer h rows n v m (Err F.Memory) k = (k ≡ m) ⊎ TriesNodes h rows n v m k
 
-abbrev pub Stops : List Row → TypeNo → List ℕ → CreateFault → Type 0
-Stops rows n b (F.Refused r) = IsFirst rows n b r
-Stops rows n b F.Store = ⊥
-Stops rows n b (F.Clash id) = ⊥
-Stops rows n b F.Memory = Unit {0}
-
--- the one block of the value that bytes make
-pub record MakesBlock (rows : List Row) (n : TypeNo) (b block : List ℕ) : Type 0 where
-  pub value : Value
-  pub tree : Data
-  pub makes : Makes rows n b value tree
-  pub spelled : block ≡ spell tree
+pub record HasBlock (h : List ℕ → List ℕ) (rows : List Row) (n : TypeNo) (v : Value) (m : Moment) (result : Result (List ℕ) CreateFault) (k : Moment) : Type 0 where
+  pub answer : BlockAnswer h rows n v m result k
+  pub later : Later m k

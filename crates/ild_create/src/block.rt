@@ -1,15 +1,15 @@
-//! The block of the value that bytes are given as.
-ghost use Rattle.std.specs.Prelude.{◌≡◌, ◌<◌, IfErr, IfOk, length};
-ghost use Rattle.ild_reach.specs.Reach.{HamtFree};
+//! The value that bytes are given as, and its root block.
+ghost use Rattle.std.specs.Prelude.{◌≡◌, ◌<◌, ℕ, List, IfErr, IfOk, length};
 ghost use Rattle.ild_schema.specs.Slots.{plainly};
 ghost use Rattle.ild_schema.specs.ValueSeen.{value_of};
 ghost use Rattle.ild_typed.specs.Typed.{Typed};
 ghost use Rattle.ild_create.specs.Given.{IsGivenAs};
-ghost use Rattle.ild_create.specs.Steps.{IsBlockOf, MakesBlock, Stops, StopsValue, json_fault, judged_refusal, shown_fault};
+ghost use Rattle.ild_create.specs.Steps.{HasBlock, Stops, built_fault, json_fault, judged_refusal, shown_fault};
 
 use crate::{CreateFault, Refusal};
 use ild_build::{Judged, judge};
-use ild_data::Octets;
+use ild_data::{KeyHash, Octets};
+use ild_edges::Store;
 use ild_json::{JsonErr, read};
 use ild_schema::{Accepted, Slot, TypeNo, Val};
 use ild_value::{ShownErr, from_shown};
@@ -49,11 +49,16 @@ fn judged_refusal(judged: Judged) -> Refusal
 }
 
 /// The value of a type that bytes are given as.
-fn given(alloc: Global, acc: &Accepted, ty: TypeNo, bytes: &[u8]) -> Result<Val, CreateFault>
+pub(crate) fn given(
+    alloc: Global,
+    acc: &Accepted,
+    ty: TypeNo,
+    bytes: &[u8],
+) -> Result<Val, CreateFault>
     requires { ty.0 < length acc.now }
     ensures ok { IfOk result (λ v. IsGivenAs acc.now ty bytes.now (value_of v)) }
     ensures typed { IfOk result (λ v. Typed acc.now (plainly ty) (value_of v)) }
-    ensures err { IfErr result (Stops acc.now ty bytes.now) }
+    ensures err { (h : List ℕ → List ℕ) → IfErr result (Stops h acc.now ty bytes.now) }
 {
     let tree = match read(alloc, bytes) {
         Ok(tree) => tree,
@@ -69,18 +74,30 @@ fn given(alloc: Global, acc: &Accepted, ty: TypeNo, bytes: &[u8]) -> Result<Val,
     }
 }
 
-/// The block of a value, or the first cause for which no store holds it.
-fn block_of_value(
+fn built_fault(fault: BuildFault) -> CreateFault
+    ensures { result ≡ built_fault fault }
+{
+    match fault {
+        BuildFault::Exhausted => CreateFault::Refused(Refusal::Exhausted),
+        BuildFault::Size => CreateFault::Refused(Refusal::Size),
+        BuildFault::Store => CreateFault::Store,
+        BuildFault::Clash(id) => CreateFault::Clash(id),
+        BuildFault::Memory => CreateFault::Memory,
+    }
+}
+
+/// The root block of a value, the blocks of whose HAMTs' nodes are put; or the first cause for which no store holds the value.
+pub(crate) fn block_of<K: Store, H: KeyHash>(
     alloc: Global,
     acc: &Accepted,
     ty: TypeNo,
     val: &Val,
+    keys: &H,
+    store: &mut K,
 ) -> Result<Octets, CreateFault>
     requires within { ty.0 < length acc.now }
-    requires free { HamtFree acc.now ty.0 }
     requires typed { Typed acc.now (plainly ty) (value_of val.now) }
-    ensures ok { IfOk result (IsBlockOf acc.now ty (value_of val.now)) }
-    ensures err { IfErr result (StopsValue acc.now ty (value_of val.now)) }
+    ensures { HasBlock H.hash_of acc.now ty (value_of val.now) (K.moment store.old) result (K.moment store.new) }
 {
     let slot = Slot {
         ty,
@@ -91,29 +108,8 @@ fn block_of_value(
         Ok(Some(judged)) => return Err(CreateFault::Refused(judged_refusal(judged))),
         Err(_) => return Err(CreateFault::Memory),
     }
-    match build(alloc, acc, slot, val) {
+    match build(alloc, acc, slot, val, keys, store) {
         Ok(block) => Ok(block),
-        Err(BuildFault::Size) => Err(CreateFault::Refused(Refusal::Size)),
-        Err(BuildFault::Memory) => Err(CreateFault::Memory),
-    }
-}
-
-/// The one block of the value of a type that bytes make, or the first cause for which they make none.
-pub fn block_of(
-    alloc: Global,
-    acc: &Accepted,
-    ty: TypeNo,
-    bytes: &[u8],
-) -> Result<Octets, CreateFault>
-    requires within { ty.0 < length acc.now }
-    requires free { HamtFree acc.now ty.0 }
-    ensures ok { IfOk result (MakesBlock acc.now ty bytes.now) }
-    ensures err { IfErr result (Stops acc.now ty bytes.now) }
-{
-    // It does no work: its clauses say what acceptance says of the types.
-    acc.types();
-    match given(alloc, acc, ty, bytes) {
-        Ok(val) => block_of_value(alloc, acc, ty, &val),
-        Err(fault) => Err(fault),
+        Err(fault) => Err(built_fault(fault)),
     }
 }

@@ -14,7 +14,9 @@ pub enum Refusal {
     Delimiter,
     /// The value nests more than 96 levels.
     Depth,
-    /// The value's block is longer than 4,194,304 bytes.
+    /// More than three keys of a HAMT agree in all 32 bytes of their hashes.
+    Exhausted,
+    /// A block of the value is longer than 4,194,304 bytes.
     Size,
 }
 
@@ -25,7 +27,7 @@ pub enum CreateFault {
     Refused(Refusal),
     /// The store failed.
     Store,
-    /// Other bytes are kept under the id of the value's block.
+    /// Other bytes are kept under the id of a block of the value.
     Clash(BlockId),
     /// Memory is wanting.
     Memory,

@@ -37,19 +37,19 @@ held_schema c script given t taken = subst (λ (f : Option (List (List ℕ × Li
 abbrev Plans : Work → List ℕ → Type 0
 Plans w script = (w ≡ answers script) ⊎ (w ≡ ends F.Memory)
 
-planned : (c : Call) (script : List ℕ) (given : IsGiven c script) (input : Role → Taken) (hamt : Option Bool) (verdict : Option Verdict) → input Role.Script ≡ Taken.Bytes script → IsVerdict (Taken.Bytes given.schema) verdict
-    → Plans (compiled_work (runs given.schema_name given.script_name) verdict hamt input) script
-planned c script given input hamt None held says = inr refl
-planned c script given input hamt (Some v) held says =
+planned : (c : Call) (script : List ℕ) (given : IsGiven c script) (input : Role → Taken) (verdict : Option Verdict) → input Role.Script ≡ Taken.Bytes script → IsVerdict (Taken.Bytes given.schema) verdict
+    → Plans (compiled_work (runs given.schema_name given.script_name) verdict input) script
+planned c script given input None held says = inr refl
+planned c script given input (Some v) held says =
     let one : v ≡ table given.rows = one_verdict_lem given.schema v (table given.rows) says given.compiles in
-    inl (ap (λ x. compiled_work (runs given.schema_name given.script_name) (Some x) hamt input) one ∙ ap (λ b. built_work b (input Role.Script)) given.built ∙ ap (λ x. script_work x) held)
+    inl (ap (λ x. compiled_work (runs given.schema_name given.script_name) (Some x) input) one ∙ ap (λ b. built_work b (input Role.Script)) given.built ∙ ap (λ x. script_work x) held)
 
 held_job : (c : Call) (script : List ℕ) (given : IsGiven c script) (t : Taking) → IsTaking (runs given.schema_name given.script_name) c.before.supply t → Plans (job_work (runs given.schema_name given.script_name) t) script
 held_job c script given t taken =
     let job = runs given.schema_name given.script_name in
     let schema_is = held_schema c script given t taken in
-    let same : job_work job t ≡ compiled_work job t.verdict t.hamt t.input = ap (λ x. schema_work job x t.verdict t.hamt t.input) schema_is in
-    subst (λ (w : Work). Plans w script) (sym same) (planned c script given t.input t.hamt t.verdict (held_script c script given t taken) (subst (λ (x : Taken). IsVerdict x t.verdict) schema_is taken.verdict))
+    let same : job_work job t ≡ compiled_work job t.verdict t.input = ap (λ x. schema_work job x t.verdict t.input) schema_is in
+    subst (λ (w : Work). Plans w script) (sym same) (planned c script given t.input t.verdict (held_script c script given t taken) (subst (λ (x : Taken). IsVerdict x t.verdict) schema_is taken.verdict))
 
 held_work : (c : Call) (script : List ℕ) (given : IsGiven c script) (t : Taking) → AreTaken c.job c.before.supply t → Plans (work_of c.job t) script
 held_work c script given t taken =
@@ -66,6 +66,7 @@ no_list w names b (inr is) listed = let e : ends F.Memory ≡ lists names = sym 
 no_value : (w : Work) (rows : List Row) (n : TypeNo) (bytes b : List ℕ) → Plans w b → w ≡ makes rows n bytes → ⊥
 no_value w rows n bytes b (inl is) made = let e : answers b ≡ makes rows n bytes = sym is ∙ made in cc
 no_value w rows n bytes b (inr is) made = let e : ends F.Memory ≡ makes rows n bytes = sym is ∙ made in cc
+
 
 -- no fault but want of memory is due
 no_fault : (c : Call) (script : List ℕ) (given : IsGiven c script) (calm : IsUndisturbed c script) (t : Taking) (f : Fault) → AreTaken c.job c.before.supply t → IsDue c t f → f ≡ F.Memory
@@ -105,7 +106,7 @@ complete_by : (c : Call) (script : List ℕ) (given : IsGiven c script) (calm : 
 complete_by c script given calm t S.Done taken (inl all) = inr (plainly c script given calm t S.Done false taken refl all)
 complete_by c script given calm t S.Done taken (inr (inl listed)) = absurd (no_list (work_of c.job t) listed.names script (held_work c script given t taken) listed.work)
 complete_by c script given calm t S.Done taken (inr (inr created)) = absurd (no_value (work_of c.job t) created.rows created.type created.bytes script (held_work c script given t taken) created.work)
-complete_by c script given calm t S.Refused taken says = inr (plainly c script given calm t S.Refused true taken refl says)
+complete_by c script given calm t S.Refused taken all = inr (plainly c script given calm t S.Refused true taken refl all)
 complete_by c script given calm t S.Memory taken says = inl refl
 complete_by c script given calm t S.SinkFault taken says = absurd (calm.sink says.0)
 complete_by c script given calm t S.Words taken says = absurd (let e = no_fault c script given calm t F.Words taken says.due in cc)
@@ -121,18 +122,18 @@ complete_by c script given calm t S.Value taken says = absurd (let e = no_fault 
 abbrev Checks : Work → List Row → Type 0
 Checks w rows = (w ≡ lists (declared_names rows)) ⊎ (w ≡ ends F.Memory)
 
-checked : (c : Call) (rows : List Row) (given : IsGivenSchema c rows) (input : Role → Taken) (hamt : Option Bool) (verdict : Option Verdict) → IsVerdict (Taken.Bytes given.schema) verdict → Checks (compiled_work (checks given.schema_name) verdict hamt input) rows
-checked c rows given input hamt None says = inr refl
-checked c rows given input hamt (Some v) says =
+checked : (c : Call) (rows : List Row) (given : IsGivenSchema c rows) (input : Role → Taken) (verdict : Option Verdict) → IsVerdict (Taken.Bytes given.schema) verdict → Checks (compiled_work (checks given.schema_name) verdict input) rows
+checked c rows given input None says = inr refl
+checked c rows given input (Some v) says =
     let one : v ≡ table rows = one_verdict_lem given.schema v (table rows) says given.compiles in
-    inl (ap (λ x. compiled_work (checks given.schema_name) (Some x) hamt input) one)
+    inl (ap (λ x. compiled_work (checks given.schema_name) (Some x) input) one)
 
 checked_job : (c : Call) (rows : List Row) (given : IsGivenSchema c rows) (t : Taking) → IsTaking (checks given.schema_name) c.before.supply t → Checks (job_work (checks given.schema_name) t) rows
 checked_job c rows given t taken =
     let job = checks given.schema_name in
     let schema_is = subst (λ (f : Option (List (List ℕ × List ℕ))). MayBe f given.schema_name (t.input Role.Schema)) given.told (taken.input Role.Schema) ∙ given.schema_held in
-    let same : job_work job t ≡ compiled_work job t.verdict t.hamt t.input = ap (λ x. schema_work job x t.verdict t.hamt t.input) schema_is in
-    subst (λ (w : Work). Checks w rows) (sym same) (checked c rows given t.input t.hamt t.verdict (subst (λ (x : Taken). IsVerdict x t.verdict) schema_is taken.verdict))
+    let same : job_work job t ≡ compiled_work job t.verdict t.input = ap (λ x. schema_work job x t.verdict t.input) schema_is in
+    subst (λ (w : Work). Checks w rows) (sym same) (checked c rows given t.input t.verdict (subst (λ (x : Taken). IsVerdict x t.verdict) schema_is taken.verdict))
 
 checked_work : (c : Call) (rows : List Row) (given : IsGivenSchema c rows) (t : Taking) → AreTaken c.job c.before.supply t → Checks (work_of c.job t) rows
 checked_work c rows given t taken =
@@ -154,9 +155,10 @@ no_check_value : (w : Work) (rows made : List Row) (n : TypeNo) (b : List ℕ) �
 no_check_value w rows made n b (inl is) work = let e : lists (declared_names rows) ≡ makes made n b = sym is ∙ work in cc
 no_check_value w rows made n b (inr is) work = let e : ends F.Memory ≡ makes made n b = sym is ∙ work in cc
 
-no_check_puts : (c : Call) (t : Taking) (rows : List Row) → Checks (work_of c.job t) rows → HasScript (work_of c.job t) ⊎ TriesValue c t → ⊥
-no_check_puts c t rows is (inl script) = no_check_script (work_of c.job t) rows is script
-no_check_puts c t rows is (inr tries) = no_check_value (work_of c.job t) rows tries.rows tries.type tries.bytes is tries.work
+
+no_check_store : (c : Call) (t : Taking) (rows : List Row) → Checks (work_of c.job t) rows → HasScript (work_of c.job t) ⊎ TriesValue c t → ⊥
+no_check_store c t rows is (inl script) = no_check_script (work_of c.job t) rows is script
+no_check_store c t rows is (inr tries) = no_check_value (work_of c.job t) rows tries.rows tries.type tries.bytes is tries.work
 
 no_check_fault : (c : Call) (rows : List Row) (given : IsGivenSchema c rows) (calm : IsCalm c) (t : Taking) (f : Fault) → AreTaken c.job c.before.supply t → IsDue c t f → f ≡ F.Memory
 no_check_fault c rows given calm t F.Memory taken due = refl
@@ -166,7 +168,7 @@ no_check_fault c rows given calm t (F.Schema f) taken due = absurd (no_check_end
 no_check_fault c rows given calm t (F.Input role T.Failed) taken due = absurd (calm.inputs due.0)
 no_check_fault c rows given calm t (F.Input role T.Absent) taken due = absurd (no_check_end (work_of c.job t) (F.Input role T.Absent) rows (checked_work c rows given t taken) (λ e. cc) due.0)
 no_check_fault c rows given calm t (F.Input role T.Long) taken due = absurd (no_check_end (work_of c.job t) (F.Input role T.Long) rows (checked_work c rows given t taken) (λ e. cc) due.0)
-no_check_fault c rows given calm t F.Store taken due = absurd (no_check_puts c t rows (checked_work c rows given t taken) due.1)
+no_check_fault c rows given calm t F.Store taken due = absurd (no_check_store c t rows (checked_work c rows given t taken) due.1)
 no_check_fault c rows given calm t (F.Clash id) taken (inl due) = absurd (no_check_script (work_of c.job t) rows (checked_work c rows given t taken) due.2)
 no_check_fault c rows given calm t (F.Clash id) taken (inr clash) = absurd (no_check_value (work_of c.job t) rows clash.rows clash.type clash.bytes (checked_work c rows given t taken) clash.work)
 no_check_fault c rows given calm t (F.Value r) taken due = absurd (no_check_value (work_of c.job t) rows due.rows due.type due.bytes (checked_work c rows given t taken) due.work)
@@ -183,7 +185,7 @@ listed_by c rows given calm t S.Done taken (inl all) = absurd (no_check_answers 
 listed_by c rows given calm t S.Done taken (inr (inr created)) = absurd (no_check_value (work_of c.job t) rows created.rows created.type created.bytes (checked_work c rows given t taken) created.work)
 listed_by c rows given calm t S.Done taken (inr (inl listed)) =
     inr (refl, subst (λ (names : List (List ℕ)). Lists names c.before.output c.after.output) (same_names (work_of c.job t) listed.names rows (checked_work c rows given t taken) listed.work) listed.written)
-listed_by c rows given calm t S.Refused taken says = absurd (no_check_answers (work_of c.job t) rows says.bytes (checked_work c rows given t taken) says.work)
+listed_by c rows given calm t S.Refused taken all = absurd (no_check_answers (work_of c.job t) rows all.bytes (checked_work c rows given t taken) all.work)
 listed_by c rows given calm t S.Memory taken says = inl refl
 listed_by c rows given calm t S.SinkFault taken says = absurd (calm.sink says.0)
 listed_by c rows given calm t S.Words taken says = absurd (let e = no_check_fault c rows given calm t F.Words taken says.due in cc)

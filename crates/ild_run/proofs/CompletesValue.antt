@@ -1,4 +1,5 @@
 -- Where nothing stands in the way, a value that a store can hold is created.
+use Rattle.std.specs.Prelude.{Contains}
 use Rattle.std.proofs.Common.{◌≡◌, ◌⊎◌, ℕ, List, [], ◌∷◌, Bool, true, false, Option, Some, None, refl, sym, ap, ◌∙◌, subst, inl, inr}
 use Rattle.ild_compile.specs.Compile.{Verdict, table}
 use Rattle.ild_compile.proofs.OneVerdict.{one_verdict_lem}
@@ -6,20 +7,18 @@ use Rattle.ild_create.specs.Creates.{Created, Clashes}
 use Rattle.ild_create.specs.Refuses.{IsFirst}
 use Rattle.ild_create.proofs.Outcomes.{one_made, made_unrefused}
 use Rattle.ild_data.specs.Data.{Data}
-use Rattle.ild_data.specs.Spell.{spell}
 use Rattle.ild_edges.specs.Inputs.{MayBe}
 use Rattle.ild_edges.specs.Store.{block_at}
 use Rattle.ild_edges.specs.Told.{IfTold}
 use Rattle.ild_edges.specs.declared.inputs.Taken.{Taken}
-use Rattle.ild_reach.specs.Reach.{HamtFree, ReachesHamt}
 use Rattle.ild_schema.specs.Names.{number_named}
 use Rattle.ild_schema.specs.Table.{IsTable}
 use Rattle.ild_schema.specs.Value.{Value as Typed}
 use Rattle.ild_schema.specs.declared.number.TypeNo.{TypeNo}
 use Rattle.ild_schema.specs.declared.row.Row.{Row}
-use Rattle.ild_session.specs.Step.{Collides}
-use Rattle.ild_typed.specs.Stands.{bare, root_id, Stands}
-use Rattle.ild_run.specs.Work.{Work, Taking, ends, lists, answers, makes, type_work, compiled_work, schema_work, job_work, work_of, IsVerdict, IsReachOf, IsReach, IsTaking, AreTaken}
+use Rattle.ild_typed.specs.Stands.{bare, root_id, blocks_of, Stands}
+use Rattle.ild_run.specs.Work.{Work, Taking, ends, lists, answers, makes, type_work, compiled_work, schema_work, job_work, work_of, IsVerdict, IsTaking, AreTaken}
+use Rattle.ild_run.specs.KeyHash.{hash}
 use Rattle.ild_run.specs.Words.{Job, creates}
 use Rattle.ild_run.specs.Ended.{Call, IsDue, HasScript, CreatesValue, Says}
 use Rattle.ild_run.specs.Complete.{IsGivenValue, LetsCreate, CreatesPlainly}
@@ -35,41 +34,30 @@ use Rattle.ild_run.specs.declared.status.Status.TheVariants as S
 abbrev Creating : Work → List Row → TypeNo → List ℕ → Type 0
 Creating w rows n b = (w ≡ makes rows n b) ⊎ (w ≡ ends F.Memory)
 
--- no HAMT is reached from a type, or one is
-not_reached : (rows : List Row) (n : TypeNo) → HamtFree rows n.0 → ReachesHamt rows n.0 → ⊥
-not_reached rows n free reaches = free reaches
-
-type_makes : (rows : List Row) (n : TypeNo) (b : List ℕ) (hamt : Option Bool) → HamtFree rows n.0 → IsReachOf rows (Some n.0) hamt → Creating (type_work rows (Some n.0) hamt (Taken.Bytes b)) rows n b
-type_makes rows n b None free reach = inr refl
-type_makes rows n b (Some true) free reach = absurd (not_reached rows n free reach)
-type_makes rows n b (Some false) free reach = inl refl
-
-named_makes : (rows : List Row) (n : TypeNo) (b : List ℕ) (found : Option ℕ) (taken : Taken) (hamt : Option Bool) → found ≡ Some n.0 → taken ≡ Taken.Bytes b → HamtFree rows n.0 → IsReachOf rows found hamt
-    → Creating (type_work rows found hamt taken) rows n b
-named_makes rows n b found taken hamt named held free reach =
-    let same : type_work rows found hamt taken ≡ type_work rows (Some n.0) hamt (Taken.Bytes b) = ap (λ x. type_work rows x hamt taken) named ∙ ap (λ x. type_work rows (Some n.0) hamt x) held in
-    subst (λ (w : Work). Creating w rows n b) (sym same) (type_makes rows n b hamt free (subst (λ (x : Option ℕ). IsReachOf rows x hamt) named reach))
+named_makes : (rows : List Row) (n : TypeNo) (b : List ℕ) (found : Option ℕ) (taken : Taken) → found ≡ Some n.0 → taken ≡ Taken.Bytes b → Creating (type_work rows found taken) rows n b
+named_makes rows n b found taken named held =
+    let same : type_work rows found taken ≡ makes rows n b = ap (λ x. type_work rows x taken) named ∙ ap (λ x. type_work rows (Some n.0) x) held in
+    inl same
 
 abbrev job_in : (c : Call) (v : Typed) (d : Data) → IsGivenValue c v d → Job
 job_in c v d given = creates given.schema_name given.type_name given.value_name
 
-compiled_makes : (c : Call) (v : Typed) (d : Data) (given : IsGivenValue c v d) (input : Role → Taken) (hamt : Option Bool) (verdict : Option Verdict) → input Role.Value ≡ Taken.Bytes given.bytes
-    → IsVerdict (Taken.Bytes given.schema) verdict → IsReach (job_in c v d given) verdict hamt → Creating (compiled_work (job_in c v d given) verdict hamt input) given.rows given.type given.bytes
-compiled_makes c v d given input hamt None held says reach = inr refl
-compiled_makes c v d given input hamt (Some w) held says reach =
+compiled_makes : (c : Call) (v : Typed) (d : Data) (given : IsGivenValue c v d) (input : Role → Taken) (verdict : Option Verdict) → input Role.Value ≡ Taken.Bytes given.bytes
+    → IsVerdict (Taken.Bytes given.schema) verdict → Creating (compiled_work (job_in c v d given) verdict input) given.rows given.type given.bytes
+compiled_makes c v d given input None held says = inr refl
+compiled_makes c v d given input (Some w) held says =
     let one : table given.rows ≡ w = one_verdict_lem given.schema (table given.rows) w given.compiles says in
-    let reach' = subst (λ (x : Verdict). IsReach (job_in c v d given) (Some x) hamt) (sym one) reach in
-    subst (λ (x : Verdict). Creating (compiled_work (job_in c v d given) (Some x) hamt input) given.rows given.type given.bytes) one
-    (named_makes given.rows given.type given.bytes (number_named given.type_name given.rows) (input Role.Value) hamt given.named held given.free reach')
+    subst (λ (x : Verdict). Creating (compiled_work (job_in c v d given) (Some x) input) given.rows given.type given.bytes) one
+    (named_makes given.rows given.type given.bytes (number_named given.type_name given.rows) (input Role.Value) given.named held)
 
 job_makes : (c : Call) (v : Typed) (d : Data) (given : IsGivenValue c v d) (t : Taking) → IsTaking (job_in c v d given) c.before.supply t → Creating (job_work (job_in c v d given) t) given.rows given.type given.bytes
 job_makes c v d given t taken =
     let job = job_in c v d given in
     let schema_is : t.input Role.Schema ≡ Taken.Bytes given.schema = subst (λ (f : Option (List (List ℕ × List ℕ))). MayBe f given.schema_name (t.input Role.Schema)) given.told (taken.input Role.Schema) ∙ given.schema_held in
     let value_is : t.input Role.Value ≡ Taken.Bytes given.bytes = subst (λ (f : Option (List (List ℕ × List ℕ))). MayBe f given.value_name (t.input Role.Value)) given.told (taken.input Role.Value) ∙ given.value_held in
-    let same : job_work job t ≡ compiled_work job t.verdict t.hamt t.input = ap (λ x. schema_work job x t.verdict t.hamt t.input) schema_is in
+    let same : job_work job t ≡ compiled_work job t.verdict t.input = ap (λ x. schema_work job x t.verdict t.input) schema_is in
     subst (λ (w : Work). Creating w given.rows given.type given.bytes) (sym same)
-    (compiled_makes c v d given t.input t.hamt t.verdict value_is (subst (λ (x : Taken). IsVerdict x t.verdict) schema_is taken.verdict) taken.hamt)
+    (compiled_makes c v d given t.input t.verdict value_is (subst (λ (x : Taken). IsVerdict x t.verdict) schema_is taken.verdict))
 
 work_makes : (c : Call) (v : Typed) (d : Data) (given : IsGivenValue c v d) (t : Taking) → AreTaken c.job c.before.supply t → Creating (work_of c.job t) given.rows given.type given.bytes
 work_makes c v d given t taken =
@@ -92,6 +80,7 @@ no_list : (w : Work) (names : List (List ℕ)) (rows : List Row) (n : TypeNo) (b
 no_list w names rows n b (inl is) listed = let e : makes rows n b ≡ lists names = sym is ∙ listed in cc
 no_list w names rows n b (inr is) listed = let e : ends F.Memory ≡ lists names = sym is ∙ listed in cc
 
+
 -- what is said of the value that is made
 abbrev OfMade : (List Row → TypeNo → List ℕ → Type 0) → Work → Type 0
 OfMade P (makes rows n b) = P rows n b
@@ -110,7 +99,7 @@ record IsOfTable (P : List Row → TypeNo → List ℕ → Type 0) (rows : List 
   table : IsTable rows
   holds : P rows n b
 
-no_fault : (c : Call) (v : Typed) (d : Data) (given : IsGivenValue c v d) → LetsCreate c d → (t : Taking) (f : Fault) → AreTaken c.job c.before.supply t → IsDue c t f → f ≡ F.Memory
+no_fault : (c : Call) (v : Typed) (d : Data) (given : IsGivenValue c v d) → LetsCreate c given.rows given.type v d → (t : Taking) (f : Fault) → AreTaken c.job c.before.supply t → IsDue c t f → f ≡ F.Memory
 no_fault c v d given calm t F.Memory taken due = refl
 no_fault c v d given calm t F.Words taken due = absurd (no_end (work_of c.job t) F.Words given.rows given.type given.bytes (work_makes c v d given t taken) (λ e. cc) due)
 no_fault c v d given calm t F.NotBuilt taken due = absurd (no_end (work_of c.job t) F.NotBuilt given.rows given.type given.bytes (work_makes c v d given t taken) (λ e. cc) due)
@@ -121,36 +110,39 @@ no_fault c v d given calm t (F.Input role T.Long) taken due = absurd (no_end (wo
 no_fault c v d given calm t F.Store taken due = absurd (calm.store due.0)
 no_fault c v d given calm t (F.Clash id) taken (inl due) = absurd (no_script (work_of c.job t) given.rows given.type given.bytes (work_makes c v d given t taken) due.2)
 no_fault c v d given calm t (F.Clash id) taken (inr clash) =
-    let P : List Row → TypeNo → List ℕ → Type 0 = IsOfTable (λ rows n b. Clashes rows n b c.before.moment c.after.moment id.0) in
+    let P : List Row → TypeNo → List ℕ → Type 0 = IsOfTable (λ rows n b. Clashes hash rows n b c.before.moment c.after.moment id.0) in
     let it = said P (work_of c.job t) given.rows clash.rows given.type clash.type given.bytes clash.bytes (work_makes c v d given t taken) clash.work (record { table = clash.table; holds = clash.clash }) in
     let tried = it.holds.tried in
-    let same : tried.tree ≡ d = (one_made given.rows (record { table = it.table; accepted = given.compiles.accepted }) given.type given.bytes tried.value v tried.tree d tried.makes given.makes).1 in
-    let hit : Collides c.after.moment (spell d ∷ []) = subst (λ (x : Data). Collides c.after.moment (spell x ∷ [])) same it.holds.hit in
-    absurd (calm.apart hit.kept hit.new hit.among hit.held hit.collide)
+    let same = one_made hash given.rows (record { table = it.table; accepted = given.compiles.accepted }) given.type given.bytes tried.value v tried.tree d tried.makes given.makes in
+    let hit = it.holds.hit in
+    let among : Contains (blocks_of bare hash given.rows given.type v d) hit.new =
+    subst (λ (x : Typed). Contains (blocks_of bare hash given.rows given.type x d) hit.new) same.0
+    (subst (λ (x : Data). Contains (blocks_of bare hash given.rows given.type tried.value x) hit.new) same.1 hit.among) in
+    absurd (calm.apart hit.kept hit.new among hit.held hit.collide)
 no_fault c v d given calm t (F.Value r) taken due =
-    let P : List Row → TypeNo → List ℕ → Type 0 = IsOfTable (λ rows n b. IsFirst rows n b r) in
+    let P : List Row → TypeNo → List ℕ → Type 0 = IsOfTable (λ rows n b. IsFirst hash rows n b r) in
     let it = said P (work_of c.job t) given.rows due.rows given.type due.type given.bytes due.bytes (work_makes c v d given t taken) due.work (record { table = due.table; holds = due.refused }) in
-    absurd (made_unrefused given.rows (record { table = it.table; accepted = given.compiles.accepted }) given.type given.bytes v d r given.makes it.holds.cause)
+    absurd (made_unrefused hash given.rows (record { table = it.table; accepted = given.compiles.accepted }) given.type given.bytes v d r given.makes it.holds.cause)
 
 created_so : (c : Call) (v : Typed) (d : Data) (given : IsGivenValue c v d) (t : Taking) → AreTaken c.job c.before.supply t → CreatesValue c t → CreatesPlainly c given.rows given.type v d S.Done
 created_so c v d given t taken made =
-    let P : List Row → TypeNo → List ℕ → Type 0 = IsOfTable (λ rows n b. Created rows n b c.before.moment c.after.moment made.root.0) in
+    let P : List Row → TypeNo → List ℕ → Type 0 = IsOfTable (λ rows n b. Created hash rows n b c.before.moment c.after.moment made.root.0) in
     let it = said P (work_of c.job t) given.rows made.rows given.type made.type given.bytes made.bytes (work_makes c v d given t taken) made.work (record { table = made.table; holds = made.created }) in
     let tried = it.holds.tried in
-    let same = one_made given.rows (record { table = it.table; accepted = given.compiles.accepted }) given.type given.bytes tried.value v tried.tree d tried.makes given.makes in
+    let same = one_made hash given.rows (record { table = it.table; accepted = given.compiles.accepted }) given.type given.bytes tried.value v tried.tree d tried.makes given.makes in
     record {
       status_is = refl;
       root = made.root;
       root_is = it.holds.root ∙ ap (λ (x : Data). root_id bare x) same.1;
-      stands = λ h. subst (λ (x : Typed). IfTold c.after.moment.blocks (λ held. Stands bare (block_at held) h given.rows given.type made.root.0 x)) same.0 (it.holds.stands h);
+      stands = subst (λ (x : Typed). IfTold c.after.moment.blocks (λ held. Stands bare (block_at held) hash given.rows given.type made.root.0 x)) same.0 it.holds.stands;
       written = made.written;
     }
 
-pub created_by : (c : Call) (v : Typed) (d : Data) (given : IsGivenValue c v d) → LetsCreate c d → (t : Taking) (status : Status) → AreTaken c.job c.before.supply t → Says c t status → (status ≡ S.Memory) ⊎ CreatesPlainly c given.rows given.type v d status
+pub created_by : (c : Call) (v : Typed) (d : Data) (given : IsGivenValue c v d) → LetsCreate c given.rows given.type v d → (t : Taking) (status : Status) → AreTaken c.job c.before.supply t → Says c t status → (status ≡ S.Memory) ⊎ CreatesPlainly c given.rows given.type v d status
 created_by c v d given calm t S.Done taken (inl all) = absurd (no_answers (work_of c.job t) given.rows given.type given.bytes all.bytes (work_makes c v d given t taken) all.work)
 created_by c v d given calm t S.Done taken (inr (inl listed)) = absurd (no_list (work_of c.job t) listed.names given.rows given.type given.bytes (work_makes c v d given t taken) listed.work)
-created_by c v d given calm t S.Done taken (inr (inr made)) = inr (created_so c v d given t taken made)
-created_by c v d given calm t S.Refused taken says = absurd (no_answers (work_of c.job t) given.rows given.type given.bytes says.bytes (work_makes c v d given t taken) says.work)
+created_by c v d given calm t S.Done taken (inr (inr (inl made))) = inr (created_so c v d given t taken made)
+created_by c v d given calm t S.Refused taken all = absurd (no_answers (work_of c.job t) given.rows given.type given.bytes all.bytes (work_makes c v d given t taken) all.work)
 created_by c v d given calm t S.Memory taken says = inl refl
 created_by c v d given calm t S.SinkFault taken says = absurd (calm.sink says.0)
 created_by c v d given calm t S.Words taken says = absurd (let e = no_fault c v d given calm t F.Words taken says.due in cc)

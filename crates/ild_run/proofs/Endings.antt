@@ -30,6 +30,7 @@ use Rattle.ild_run.specs.Words.{Job}
 use Rattle.ild_run.specs.Cut.{CutAs, ToldAs}
 use Rattle.ild_run.specs.Listed.{Lists, ListsFront, ListedAs}
 use Rattle.ild_run.specs.Made.{made_fault, MadeTold, MadeAs}
+use Rattle.ild_run.specs.KeyHash.{hash}
 use Rattle.ild_run.specs.Ended.{Call, IsDue, HasScript, Leaves, Answers, AnswersAll, AnswersSome, ListsNames, ListsSome, CreatesSome, Tells, TellsFront, Says, Ended}
 use Rattle.ild_run.specs.declared.fault.Fault.{Fault}
 use Rattle.ild_run.specs.declared.fault.Fault.TheVariants as F
@@ -75,7 +76,7 @@ ended_told c t f status taken due leaves told = record { taking = t; taken = tak
 
 -- a call whose words have no form
 no_taking : Taking
-no_taking = record { input = in_roles Taken.Absent Taken.Absent; verdict = None; hamt = None }
+no_taking = record { input = in_roles Taken.Absent Taken.Absent; verdict = None }
 
 pub ended_words : (c : Call) (status : Status) → c.job ≡ None → c.after.moment ≡ c.before.moment → ToldAs F.Words c.before.output status c.after.output → Ended c status
 ended_words c status none same told =
@@ -178,7 +179,7 @@ pub ended_done : (c : Call) (job : Job) (t : Taking) → c.job ≡ Some job → 
 ended_done c job t named a all = record { taking = t; taken = are_taken c job t named a; says = inl all }
 
 pub ended_refused : (c : Call) (job : Job) (t : Taking) → c.job ≡ Some job → IsTaking job c.before.supply t → AnswersAll c t true → Ended c S.Refused
-ended_refused c job t named a all = record { taking = t; taken = are_taken c job t named a; says = all }
+ended_refused c job t named a all = record { taking = t; taken = are_taken c job t named a; says = inl all }
 
 -- why a text was cut off
 pub cut_cause : (cut : Cut) (m n : Output) → (IsErrOf {T = Bool} (Err cut) C.Sink → Rose m.faults n.faults) → CutAs m (cut_status cut) n
@@ -259,29 +260,30 @@ says_root c t S.Input some rose = absurd rose
 says_root c t S.StoreFault some rose = absurd rose
 says_root c t S.Value some rose = absurd rose
 
-due_made : (c : Call) (t : Taking) (rows : List Row) (n : TypeNo) (b : List ℕ) (f : CreateFault) → work_of c.job t ≡ makes rows n b → IsTable rows → CreateAnswer rows n b c.before.moment (Err f) c.after.moment → IsDue c t (made_fault f)
+due_made : (c : Call) (t : Taking) (rows : List Row) (n : TypeNo) (b : List ℕ) (f : CreateFault) → work_of c.job t ≡ makes rows n b → IsTable rows → CreateAnswer hash rows n b c.before.moment (Err f) c.after.moment → IsDue c t (made_fault f)
 due_made c t rows n b (V.Refused r) work table answer = record { rows = rows; table = table; type = n; bytes = b; work = work; refused = answer.0 }
 due_made c t rows n b V.Store work table answer = (answer.0, inr (record { rows = rows; type = n; bytes = b; work = work; tried = answer.1 }))
 due_made c t rows n b (V.Clash id) work table answer = inr (record { rows = rows; table = table; type = n; bytes = b; work = work; clash = answer })
 due_made c t rows n b V.Memory work table answer = tt
 
-leaves_made : (c : Call) (t : Taking) (rows : List Row) (n : TypeNo) (b : List ℕ) (f : CreateFault) → work_of c.job t ≡ makes rows n b → CreateAnswer rows n b c.before.moment (Err f) c.after.moment → Leaves c t (made_fault f)
-leaves_made c t rows n b (V.Refused r) work answer = answer.1
-leaves_made c t rows n b V.Store work answer = inr (record { rows = rows; type = n; bytes = b; work = work; tried = answer.1 })
-leaves_made c t rows n b (V.Clash id) work answer = inr (record { rows = rows; type = n; bytes = b; work = work; tried = answer.tried })
-leaves_made c t rows n b V.Memory work answer = by answer where
-  by : CreateAnswer rows n b c.before.moment (Err V.Memory) c.after.moment → Leaves c t F.Memory
+leaves_made : (c : Call) (t : Taking) (rows : List Row) (n : TypeNo) (b : List ℕ) (f : CreateFault) → work_of c.job t ≡ makes rows n b → IsTable rows → CreateAnswer hash rows n b c.before.moment (Err f) c.after.moment → Leaves c t (made_fault f)
+leaves_made c t rows n b (V.Refused r) work table answer = answer.1
+leaves_made c t rows n b V.Store work table answer = inr (record { rows = rows; type = n; bytes = b; work = work; tried = answer.1 })
+leaves_made c t rows n b (V.Clash id) work table answer =
+    inr (record { rows = rows; type = n; bytes = b; work = work; tried = answer.tried })
+leaves_made c t rows n b V.Memory work table answer = by answer where
+  by : CreateAnswer hash rows n b c.before.moment (Err V.Memory) c.after.moment → Leaves c t F.Memory
   by (inl same) = inl same
   by (inr tried) = inr (inr (record { rows = rows; type = n; bytes = b; work = work; tried = tried }))
 
 says_made : (c : Call) (t : Taking) (rows : List Row) (n : TypeNo) (b : List ℕ) (result : Result BlockId CreateFault) (status : Status) → work_of c.job t ≡ makes rows n b → IsTable rows
-    → CreateAnswer rows n b c.before.moment result c.after.moment → MadeTold result c.before.output status c.after.output → Says c t status
+    → CreateAnswer hash rows n b c.before.moment result c.after.moment → MadeTold result c.before.output status c.after.output → Says c t status
 says_made c t rows n b (Ok id) status work table answer (inl done) =
     subst (λ (s : Status). Says c t s) (sym done.0) (inr (inr (record { rows = rows; table = table; type = n; bytes = b; work = work; root = id; created = answer; written = done.1 })))
 says_made c t rows n b (Ok id) status work table answer (inr cut) =
     says_root c t status (record { rows = rows; type = n; bytes = b; work = work; root = id; created = answer; written = cut.1 }) cut.0
 says_made c t rows n b (Err f) status work table answer told =
-    says_by c t (made_fault f) status (due_made c t rows n b f work table answer) (leaves_made c t rows n b f work answer) told.told
+    says_by c t (made_fault f) status (due_made c t rows n b f work table answer) (leaves_made c t rows n b f work table answer) told.told
 
 pub ended_made : (c : Call) (job : Job) (t : Taking) (rows : List Row) (n : TypeNo) (b : List ℕ) (status : Status) → c.job ≡ Some job → IsTaking job c.before.supply t → job_work job t ≡ makes rows n b
     → MadeAs rows n b c.before.moment c.before.output status c.after.moment c.after.output → Ended c status

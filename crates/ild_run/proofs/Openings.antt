@@ -6,7 +6,6 @@ use Rattle.ild_compile.specs.Compile.{Verdict, table, faulty, Compiles}
 use Rattle.ild_edges.specs.Inputs.{Supply, After, MayBe, taken_of, file_at}
 use Rattle.ild_edges.proofs.After.{After-trans}
 use Rattle.ild_edges.specs.declared.inputs.Taken.{Taken}
-use Rattle.ild_reach.specs.Reach.{HamtFree, ReachesHamt}
 use Rattle.ild_schema.specs.Names.{number_named, is_named}
 use Rattle.ild_schema.specs.declared.number.TypeNo.{TypeNo}
 use Rattle.ild_schema.specs.declared.row.Row.{Row}
@@ -16,7 +15,7 @@ use Rattle.ild_run.specs.declared.fault.Role.{Role}
 use Rattle.ild_run.specs.declared.fault.Trouble.TheVariants as T
 use Rattle.ild_run.specs.Built.{is_built}
 use Rattle.ild_run.specs.Words.{Job, checks, runs, creates, name_of}
-use Rattle.ild_run.specs.Work.{Taking, in_roles, built_work, type_work, IsVerdict, IsReachOf, IsReach, IsUnder, IsOpen}
+use Rattle.ild_run.specs.Work.{Taking, in_roles, built_work, type_work, IsVerdict, IsUnder, IsOpen}
 use Rattle.ild_run.specs.declared.open.Task.{Task}
 use Rattle.ild_run.specs.declared.open.Task.TheVariants as P
 use Rattle.ild_run.specs.Opening.{InputAnswer, TakesInput, CompileAnswer, InputsFault, OpensAnswer, IsReady, Opens, OpensBehind}
@@ -47,18 +46,6 @@ all_roles job m schema other one two Role.Schema = one
 all_roles job m schema other one two Role.Script = (other_role_is job m other two).0
 all_roles job m schema other one two Role.Value = (other_role_is job m other two).1
 
--- what memory is wanting for is left open
-none_reached : (rows : List Row) (found : Option ℕ) → IsReachOf rows found None
-none_reached rows None = tt
-none_reached rows (Some n) = tt
-
-no_reach : (job : Job) (verdict : Option Verdict) → IsReach job verdict None
-no_reach (checks schema) verdict = tt
-no_reach (runs schema script) verdict = tt
-no_reach (creates schema ty value) None = tt
-no_reach (creates schema ty value) (Some (faulty f)) = tt
-no_reach (creates schema ty value) (Some (table rows)) = none_reached rows (number_named ty rows)
-
 no_verdict : (t : Taken) → IsVerdict t None
 no_verdict Taken.Absent = tt
 no_verdict Taken.Long = tt
@@ -66,12 +53,12 @@ no_verdict (Taken.Bytes b) = tt
 
 -- a call that ends before its second input
 opens_before : (m n : Supply) (job : Job) (schema : Taken) (verdict : Option Verdict) (result : Result Task Fault) → IsUnder m schema (name_of Role.Schema job) → IsVerdict schema verdict
-    → ((script : Taken) → OpensAnswer m job (record { input = in_roles schema script; verdict = verdict; hamt = None }) result n) → IfOk result IsReady → After m n → Opens m job result n
+    → ((script : Taken) → OpensAnswer m job (record { input = in_roles schema script; verdict = verdict }) result n) → IfOk result IsReady → After m n → Opens m job result n
 opens_before m n job schema verdict result is says answer ready after =
     let other = some_under m (other_name job) in
     record {
-      taking = record { input = in_roles schema other.0; verdict = verdict; hamt = None };
-      taken = record { input = all_roles job m schema other.0 is other.1; verdict = says; hamt = no_reach job verdict };
+      taking = record { input = in_roles schema other.0; verdict = verdict };
+      taken = record { input = all_roles job m schema other.0 is other.1; verdict = says };
       answer = answer other.0;
       ready = ready;
       after = after;
@@ -132,7 +119,7 @@ opens_not_built m n name other b rows is compiles refused after =
 
 -- a call that comes to the script's input
 abbrev taking : List ℕ → List Row → Taken → Taking
-taking b rows script = record { input = in_roles (Taken.Bytes b) script; verdict = Some (table rows); hamt = None }
+taking b rows script = record { input = in_roles (Taken.Bytes b) script; verdict = Some (table rows) }
 
 is_open : (b : List ℕ) (rows : List Row) (script : Taken) → is_built rows ≡ true → IsOpen (taking b rows script)
 is_open b rows script built = record { bytes = b; rows = rows; schema = refl; verdict = refl; built = built }
@@ -176,7 +163,7 @@ opens_script m k n name other b rows result is compiles built after takes =
     let t = script_answer m k n name other b rows result built after.files after.lacks after.faults takes.answer in
     record {
       taking = taking b rows t.0;
-      taken = record { input = all_roles (runs name other) m (Taken.Bytes b) t.0 is t.1; verdict = compiles; hamt = tt };
+      taken = record { input = all_roles (runs name other) m (Taken.Bytes b) t.0 is t.1; verdict = compiles };
       answer = t.2;
       ready = script_ready result;
       after = After-trans m k n after takes.after;
@@ -184,39 +171,19 @@ opens_script m k n name other b rows result is compiles built after takes =
 
 -- ---- a value that is to be created
 
-abbrev value_taking : List ℕ → List Row → Option Bool → Taken → Taking
-value_taking b rows hamt value = record { input = in_roles (Taken.Bytes b) value; verdict = Some (table rows); hamt = hamt }
-
--- a call that ends before the value's input
-opens_type : (m n : Supply) (name ty value b : List ℕ) (rows : List Row) (hamt : Option Bool) (f : Fault) → MayBe m.files name (Taken.Bytes b) → Compiles b (table rows) → IsReachOf rows (number_named ty rows) hamt
-    → ((t : Taken) → InputsFault m (creates name ty value) (value_taking b rows hamt t) f n) → After m n → Opens m (creates name ty value) (Err f) n
-opens_type m n name ty value b rows hamt f is compiles reach fault after =
-    let other = some_taken m.files value in
-    record {
-      taking = value_taking b rows hamt other.0;
-      taken = record { input = all_roles (creates name ty value) m (Taken.Bytes b) other.0 is other.1; verdict = compiles; hamt = reach };
-      answer = fault other.0;
-      ready = tt;
-      after = after;
-    }
+-- a call that ends with its schema
+opens_with : (m n : Supply) (job : Job) (name b : List ℕ) (rows : List Row) (result : Result Task Fault) → name_of Role.Schema job ≡ Some name → MayBe m.files name (Taken.Bytes b) → Compiles b (table rows)
+    → ((t : Taken) → OpensAnswer m job (record { input = in_roles (Taken.Bytes b) t; verdict = Some (table rows) }) result n) → IfOk result IsReady → After m n → Opens m job result n
+opens_with m n job name b rows result named is compiles answer ready after =
+    opens_before m n job (Taken.Bytes b) (Some (table rows)) result (under m (Taken.Bytes b) name (name_of Role.Schema job) named is) compiles answer ready after
 
 -- the table has no type of this name
 pub opens_unnamed : (k : Supply) (rows : List Row) (ty value : List ℕ) → number_named ty rows ≡ None → OpensBehind k rows ty value (Err F.Words) k
 opens_unnamed k rows ty value none m name b is compiles after =
-    opens_type m k name ty value b rows None F.Words is compiles (none_reached rows (number_named ty rows)) (λ t. ap (λ found. type_work rows found None t) none) after
+    opens_with m k (creates name ty value) name b rows (Err F.Words) refl is compiles (λ t. ap (λ found. type_work rows found t) none) tt after
 
-reach_of : (rows : List Row) (found : Option ℕ) (n : TypeNo) (hamt : Option Bool) → found ≡ Some n.0 → IsReachOf rows (Some n.0) hamt → IsReachOf rows found hamt
-reach_of rows found n hamt named is = subst (λ (x : Option ℕ). IsReachOf rows x hamt) (sym named) is
-
--- a HAMT is reached from it
-pub opens_reached : (k : Supply) (rows : List Row) (ty value : List ℕ) (n : TypeNo) → number_named ty rows ≡ Some n.0 → ReachesHamt rows n.0 → OpensBehind k rows ty value (Err F.NotBuilt) k
-opens_reached k rows ty value n named reaches m name b is compiles after =
-    opens_type m k name ty value b rows (Some true) F.NotBuilt is compiles (reach_of rows (number_named ty rows) n (Some true) named reaches) (λ t. ap (λ found. type_work rows found (Some true) t) named) after
-
--- memory is wanting to tell
-pub opens_unknown : (k : Supply) (rows : List Row) (ty value : List ℕ) → OpensBehind k rows ty value (Err F.Memory) k
-opens_unknown k rows ty value m name b is compiles after =
-    opens_type m k name ty value b rows None F.Memory is compiles (none_reached rows (number_named ty rows)) (λ t. tt) after
+abbrev value_taking : List ℕ → List Row → Taken → Taking
+value_taking b rows value = record { input = in_roles (Taken.Bytes b) value; verdict = Some (table rows) }
 
 -- the task that the value's input is
 abbrev pub value_task : List Row → TypeNo → Result (List ℕ) Fault → Result Task Fault
@@ -224,16 +191,16 @@ value_task rows n (Ok b) = Ok (P.Create rows n b)
 value_task rows n (Err f) = Err f
 
 value_answer : (m k n : Supply) (name ty value b : List ℕ) (rows : List Row) (t : TypeNo) (result : Result (List ℕ) Fault) → number_named ty rows ≡ Some t.0 → k.files ≡ m.files → m.lacks ≤ k.lacks → m.faults ≤ k.faults
-    → InputAnswer k Role.Value value result n → (x : Taken) × MayBe m.files value x × OpensAnswer m (creates name ty value) (value_taking b rows (Some false) x) (value_task rows t result) n
+    → InputAnswer k Role.Value value result n → (x : Taken) × MayBe m.files value x × OpensAnswer m (creates name ty value) (value_taking b rows x) (value_task rows t result) n
 value_answer m k n name ty value b rows t (Ok c) named same lacks faults answer =
-    (Taken.Bytes c, subst (λ (x : Option (List (List ℕ × List ℕ))). MayBe x value (Taken.Bytes c)) same answer, ap (λ found. type_work rows found (Some false) (Taken.Bytes c)) named)
+    (Taken.Bytes c, subst (λ (x : Option (List (List ℕ × List ℕ))). MayBe x value (Taken.Bytes c)) same answer, ap (λ found. type_work rows found (Taken.Bytes c)) named)
 value_answer m k n name ty value b rows t (Err (F.Input Role.Value T.Absent)) named same lacks faults answer =
-    (Taken.Absent, subst (λ (x : Option (List (List ℕ × List ℕ))). MayBe x value Taken.Absent) same answer.1, (ap (λ found. type_work rows found (Some false) Taken.Absent) named, let rose = answer.2 in omega arith))
+    (Taken.Absent, subst (λ (x : Option (List (List ℕ × List ℕ))). MayBe x value Taken.Absent) same answer.1, (ap (λ found. type_work rows found Taken.Absent) named, let rose = answer.2 in omega arith))
 value_answer m k n name ty value b rows t (Err (F.Input Role.Value T.Long)) named same lacks faults answer =
-    (Taken.Long, subst (λ (x : Option (List (List ℕ × List ℕ))). MayBe x value Taken.Long) same answer.1, (ap (λ found. type_work rows found (Some false) Taken.Long) named, let rose = answer.2 in omega arith))
+    (Taken.Long, subst (λ (x : Option (List (List ℕ × List ℕ))). MayBe x value Taken.Long) same answer.1, (ap (λ found. type_work rows found Taken.Long) named, let rose = answer.2 in omega arith))
 value_answer m k n name ty value b rows t (Err (F.Input Role.Value T.Failed)) named same lacks faults answer =
     let some = some_taken m.files value in
-    (some.0, some.1, (let rose = answer.1 in omega arith, record { bytes = b; rows = rows; schema = refl; verdict = refl; number = t.0; named = named; free = refl }))
+    (some.0, some.1, (let rose = answer.1 in omega arith, record { bytes = b; rows = rows; schema = refl; verdict = refl; number = t.0; named = named }))
 value_answer m k n name ty value b rows t (Err (F.Input Role.Schema T.Absent)) named same lacks faults answer = absurd (value_role (sym answer.0))
 value_answer m k n name ty value b rows t (Err (F.Input Role.Schema T.Long)) named same lacks faults answer = absurd (value_role (sym answer.0))
 value_answer m k n name ty value b rows t (Err (F.Input Role.Schema T.Failed)) named same lacks faults answer = absurd (value_role (sym answer.0))
@@ -248,19 +215,19 @@ value_answer m k n name ty value b rows t (Err F.Store) named same lacks faults 
 value_answer m k n name ty value b rows t (Err (F.Clash id)) named same lacks faults answer = absurd answer
 value_answer m k n name ty value b rows t (Err (F.Value r)) named same lacks faults answer = absurd answer
 
-value_ready : (rows : List Row) (t : TypeNo) (result : Result (List ℕ) Fault) → t.0 < length rows → HamtFree rows t.0 → IfOk (value_task rows t result) IsReady
-value_ready rows t (Ok b) within free = (within, free)
-value_ready rows t (Err f) within free = tt
+value_ready : (rows : List Row) (t : TypeNo) (result : Result (List ℕ) Fault) → t.0 < length rows → IfOk (value_task rows t result) IsReady
+value_ready rows t (Ok b) within = within
+value_ready rows t (Err f) within = tt
 
-pub opens_value : (k n : Supply) (rows : List Row) (ty value : List ℕ) (t : TypeNo) (result : Result (List ℕ) Fault) → number_named ty rows ≡ Some t.0 → t.0 < length rows → HamtFree rows t.0
+pub opens_value : (k n : Supply) (rows : List Row) (ty value : List ℕ) (t : TypeNo) (result : Result (List ℕ) Fault) → number_named ty rows ≡ Some t.0 → t.0 < length rows
     → TakesInput k Role.Value value result n → OpensBehind k rows ty value (value_task rows t result) n
-opens_value k n rows ty value t result named within free takes m name b is compiles after =
+opens_value k n rows ty value t result named within takes m name b is compiles after =
     let x = value_answer m k n name ty value b rows t result named after.files after.lacks after.faults takes.answer in
     record {
-      taking = value_taking b rows (Some false) x.0;
-      taken = record { input = all_roles (creates name ty value) m (Taken.Bytes b) x.0 is x.1; verdict = compiles; hamt = reach_of rows (number_named ty rows) t (Some false) named free };
+      taking = value_taking b rows x.0;
+      taken = record { input = all_roles (creates name ty value) m (Taken.Bytes b) x.0 is x.1; verdict = compiles };
       answer = x.2;
-      ready = value_ready rows t result within free;
+      ready = value_ready rows t result within;
       after = After-trans m k n after takes.after;
     }
 

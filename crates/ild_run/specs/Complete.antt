@@ -1,10 +1,10 @@
 -- A call that nothing outside stands in the way of does all that its words ask for, unless memory is wanting.
-use Rattle.std.specs.Prelude.{◌≡◌, ◌≢◌, ◌⊎◌, ℕ, List, [], ◌∷◌, true, Some, None, Contains, if◌then◌else◌}
+use Rattle.std.specs.Prelude.{◌≡◌, ◌≢◌, ◌⊎◌, ℕ, List, [], true, Some, None, Contains, if◌then◌else◌}
 use Rattle.std.specs.List.{list_any}
 use Rattle.ild_compile.specs.Compile.{Compiles, table}
 use Rattle.ild_create.specs.Makes.{Makes}
 use Rattle.ild_data.specs.Data.{Data}
-use Rattle.ild_data.specs.Spell.{id_of, spell}
+use Rattle.ild_data.specs.Spell.{id_of}
 use Rattle.ild_data.specs.declared.id.BlockId.{BlockId}
 use Rattle.ild_edges.specs.Count.{Rose}
 use Rattle.ild_edges.specs.Inputs.{taken_of, file_at}
@@ -14,7 +14,6 @@ use Rattle.ild_edges.specs.Told.{IfTold}
 use Rattle.ild_edges.specs.declared.inputs.Taken.TheVariants as Taken
 use Rattle.ild_plain.specs.Plain.{line_due}
 use Rattle.ild_plain.specs.Value.{Value, blocks_of}
-use Rattle.ild_reach.specs.Reach.{HamtFree}
 use Rattle.ild_schema.specs.Names.{declared_names, number_named}
 use Rattle.ild_schema.specs.Value.{Value as Typed}
 use Rattle.ild_schema.specs.declared.number.TypeNo.{TypeNo}
@@ -27,9 +26,10 @@ use Rattle.ild_session.specs.Session.{State, idle}
 use Rattle.ild_session.specs.Run.{texts}
 use Rattle.ild_session.specs.Plain.{PlainRun, MayPut, AreApart}
 use Rattle.ild_run.specs.Built.{is_built}
-use Rattle.ild_typed.specs.Stands.{bare, root_id, Stands}
+use Rattle.ild_typed.specs.Stands.{bare, root_id, blocks_of as typed_blocks, Stands}
 use Rattle.ild_run.specs.Words.{checks, runs, creates}
 use Rattle.ild_run.specs.Listed.{Lists}
+use Rattle.ild_run.specs.KeyHash.{hash}
 use Rattle.ild_run.specs.Ended.{Call}
 use Rattle.ild_run.specs.declared.status.Status.{Status}
 use Rattle.ild_run.specs.declared.status.Status.TheVariants as S
@@ -83,8 +83,8 @@ pub record IsCalm (c : Call) : Type 0 where
   pub inputs : Rose c.before.supply.faults c.after.supply.faults → ⊥
   pub sink : Rose c.before.output.faults c.after.output.faults → ⊥
 
--- the words ask for a new value; the inputs tell and hold what they name; the schema has its type, from which no HAMT is reached; and
--- the value's input makes this value of it, which these data represent
+-- the words ask for a new value; the inputs tell and hold what they name; the schema has its type; and the value's input makes this value
+-- of it, which these data represent
 pub record IsGivenValue (c : Call) (v : Typed) (d : Data) : Type 0 where
   pub schema_name : List ℕ
   pub type_name : List ℕ
@@ -98,31 +98,30 @@ pub record IsGivenValue (c : Call) (v : Typed) (d : Data) : Type 0 where
   pub compiles : Compiles schema (table rows)
   pub type : TypeNo
   pub named : number_named type_name rows ≡ Some type.0
-  pub free : HamtFree rows type.0
   pub bytes : List ℕ
   pub value_held : taken_of (file_at files value_name) ≡ Taken.Bytes bytes
-  pub makes : Makes rows type bytes v d
+  pub makes : Makes hash rows type bytes v d
 
--- no count of faults rose, and the value's block collides with none that the store holds
-pub record LetsCreate (c : Call) (d : Data) : Type 0 where
+-- no count of faults rose, and no block of the value collides with one that the store holds
+pub record LetsCreate (c : Call) (rows : List Row) (n : TypeNo) (v : Typed) (d : Data) : Type 0 where
   pub inputs : Rose c.before.supply.faults c.after.supply.faults → ⊥
   pub store : Rose c.before.moment.faults c.after.moment.faults → ⊥
   pub sink : Rose c.before.output.faults c.after.output.faults → ⊥
-  pub apart : AreApart c.after.moment (Contains (spell d ∷ []))
+  pub apart : AreApart c.after.moment (Contains (typed_blocks bare hash rows n v d))
 
 -- the value stands in the store under the root of these data, and the line of the root was written
 pub record CreatesPlainly (c : Call) (rows : List Row) (n : TypeNo) (v : Typed) (d : Data) (status : Status) : Type 0 where
   pub status_is : status ≡ S.Done
   pub root : BlockId
   pub root_is : root.0 ≡ root_id bare d
-  pub stands : (h : List ℕ → List ℕ) → IfTold c.after.moment.blocks (λ held. Stands bare (block_at held) h rows n root.0 v)
+  pub stands : IfTold c.after.moment.blocks (λ held. Stands bare (block_at held) hash rows n root.0 v)
   pub written : Appends c.before.output.written c.after.output.written (reply_text (R.Root root))
 
 -- a script is answered plainly, the names of an accepted schema are listed, and a value that a store can hold is created
 pub record IsComplete (c : Call) (status : Status) : Type 0 where
   pub runs : (script : List ℕ) → IsGiven c script → IsUndisturbed c script → (status ≡ S.Memory) ⊎ AnswersPlainly c script status
   pub checks : (rows : List Row) → IsGivenSchema c rows → IsCalm c → (status ≡ S.Memory) ⊎ ((status ≡ S.Done) × Lists (declared_names rows) c.before.output c.after.output)
-  pub creates : (v : Typed) (d : Data) (given : IsGivenValue c v d) → LetsCreate c d → (status ≡ S.Memory) ⊎ CreatesPlainly c given.rows given.type v d status
+  pub creates : (v : Typed) (d : Data) (given : IsGivenValue c v d) → LetsCreate c given.rows given.type v d → (status ≡ S.Memory) ⊎ CreatesPlainly c given.rows given.type v d status
 
 -- The premise on collisions can be met: where a store holds none but blocks that may come, as one does that held nothing
 -- before, it is enough that no two of these have one id.

@@ -24,6 +24,7 @@ use Rattle.ild_compile.specs.declared.error.SchemaFault.{SchemaFault}
 use Rattle.ild_run.specs.Words.{Job}
 use Rattle.ild_data.specs.declared.id.BlockId.{BlockId}
 use Rattle.ild_run.specs.First.{Tries}
+use Rattle.ild_run.specs.KeyHash.{hash}
 use Rattle.ild_run.specs.Work.{Work, Taking, ends, lists, answers, makes, work_of, AreTaken, Reaches}
 use Rattle.ild_run.specs.Fault.{fault_text}
 use Rattle.ild_run.specs.Listed.{Lists, ListsFront}
@@ -59,22 +60,22 @@ HasScript (lists names) = ⊥
 HasScript (answers b) = Unit {0}
 HasScript (makes rows n b) = ⊥
 
--- the input makes a value of the type, and the store was asked for nothing but to keep its block
+-- the input makes a value of the type, and nothing was asked of the store but to keep blocks of it
 pub record TriesValue (c : Call) (t : Taking) : Type 0 where
   pub rows : List Row
   pub type : TypeNo
   pub bytes : List ℕ
   pub work : work_of c.job t ≡ makes rows type bytes
-  pub tried : TriesToCreate rows type bytes c.before.moment c.after.moment
+  pub tried : TriesToCreate hash rows type bytes c.before.moment c.after.moment
 
--- the block of the value, with this id, collides with one that is held
+-- a block of the value, with this id, collides with one that is held
 pub record ClashesValue (c : Call) (t : Taking) (id : List ℕ) : Type 0 where
   pub rows : List Row
   pub table : IsTable rows
   pub type : TypeNo
   pub bytes : List ℕ
   pub work : work_of c.job t ≡ makes rows type bytes
-  pub clash : Clashes rows type bytes c.before.moment c.after.moment id
+  pub clash : Clashes hash rows type bytes c.before.moment c.after.moment id
 
 -- the input makes no value of the type that a store can hold, and this is the first cause
 pub record RefusesValue (c : Call) (t : Taking) (r : Refusal) : Type 0 where
@@ -83,7 +84,7 @@ pub record RefusesValue (c : Call) (t : Taking) (r : Refusal) : Type 0 where
   pub type : TypeNo
   pub bytes : List ℕ
   pub work : work_of c.job t ≡ makes rows type bytes
-  pub refused : IsFirst rows type bytes r
+  pub refused : IsFirst hash rows type bytes r
 
 -- the cause of a fault
 abbrev pub IsDue : Call → Taking → Fault → Type 0
@@ -96,7 +97,7 @@ IsDue c t F.Memory = Unit {0}
 IsDue c t f = work_of c.job t ≡ ends f
 
 -- What a fault leaves of the store: it is as it was, unless the call came to its first value, or to a new one; then nothing was
--- asked of the store but to keep this value's block.
+-- asked of the store but to keep the first value's block, or blocks of the new one.
 abbrev pub Leaves : Call → Taking → Fault → Type 0
 Leaves c t F.Store = Tries (blocks_of []) c.before.moment c.after.moment ⊎ TriesValue c t
 Leaves c t (F.Clash id) = Tries (blocks_of []) c.before.moment c.after.moment ⊎ TriesValue c t
@@ -172,7 +173,7 @@ pub record CreatesValue (c : Call) (t : Taking) : Type 0 where
   pub bytes : List ℕ
   pub work : work_of c.job t ≡ makes rows type bytes
   pub root : BlockId
-  pub created : Created rows type bytes c.before.moment c.after.moment root.0
+  pub created : Created hash rows type bytes c.before.moment c.after.moment root.0
   pub written : Appends c.before.output.written c.after.output.written (reply_text (R.Root root))
 
 -- a front of that line was written
@@ -182,7 +183,7 @@ pub record CreatesSome (c : Call) (t : Taking) : Type 0 where
   pub bytes : List ℕ
   pub work : work_of c.job t ≡ makes rows type bytes
   pub root : BlockId
-  pub created : Created rows type bytes c.before.moment c.after.moment root.0
+  pub created : Created hash rows type bytes c.before.moment c.after.moment root.0
   pub written : AppendsFront c.before.output.written c.after.output.written (reply_text (R.Root root))
 
 -- the text that was due was cut off
@@ -195,7 +196,6 @@ Says c t S.Done = AnswersAll c t false ⊎ (ListsNames c t ⊎ CreatesValue c t)
 Says c t S.Refused = AnswersAll c t true
 Says c t S.Words = Tells c t F.Words
 Says c t S.Schema = Tells c t F.NotBuilt ⊎ ((f : SchemaFault) × Tells c t (F.Schema f))
-Says c t S.Root = ⊥
 Says c t S.Input = (role : Role) × (trouble : Trouble) × Tells c t (F.Input role trouble)
 Says c t S.StoreFault = Tells c t F.Store ⊎ ((id : BlockId) × Tells c t (F.Clash id))
 Says c t S.SinkFault = Rose c.before.output.faults c.after.output.faults × IsCut c t

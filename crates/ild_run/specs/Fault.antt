@@ -45,6 +45,7 @@ value_text R.Mismatch = codes "fault 9 value 4 mismatch\n"
 value_text R.Delimiter = codes "fault 9 value 5 delimiter\n"
 value_text R.Hole = codes "fault 9 value 6 hole\n"
 value_text R.Depth = codes "fault 9 value 7 depth\n"
+value_text R.Exhausted = codes "fault 9 value 8 exhausted\n"
 value_text R.Size = codes "fault 9 value 9 size\n"
 
 -- `fault 3 schema STAGE N NAME at OFFSET`

@@ -3,6 +3,7 @@ pub mod Built
 pub mod Work
 pub mod First
 pub mod Fault
+pub mod KeyHash
 pub mod Cut
 pub mod Listed
 pub mod Opening

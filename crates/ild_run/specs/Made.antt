@@ -12,6 +12,7 @@ use Rattle.ild_schema.specs.declared.row.Row.{Row}
 use Rattle.ild_script.specs.Reply.{reply_text}
 use Rattle.ild_script.specs.declared.reply.Reply.TheVariants as R
 use Rattle.ild_run.specs.Cut.{CutAs, ToldAs}
+use Rattle.ild_run.specs.KeyHash.{hash}
 use Rattle.ild_run.specs.declared.fault.Fault.{Fault}
 use Rattle.ild_run.specs.declared.fault.Fault.TheVariants as F
 use Rattle.ild_run.specs.declared.status.Status.{Status}
@@ -32,6 +33,6 @@ MadeTold (Err f) m status n = ToldAs (made_fault f) m status n
 pub record MadeAs (rows : List Row) (n : TypeNo) (b : List ℕ) (m : Moment) (was : Output) (status : Status) (k : Moment) (now : Output) : Type 0 where
   pub table : IsTable rows
   pub result : Result BlockId CreateFault
-  pub creates : Creates rows n b m result k
+  pub creates : Creates hash rows n b m result k
   pub told : MadeTold result was status now
   pub faults : was.faults ≤ now.faults

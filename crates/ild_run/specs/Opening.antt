@@ -7,7 +7,6 @@ use Rattle.ild_edges.specs.Inputs.{Supply, After, MayBe}
 use Rattle.ild_edges.specs.Store.{Moment, Later}
 use Rattle.ild_edges.specs.declared.inputs.Taken.{Taken}
 use Rattle.ild_plain.specs.Value.{Value, block_of, blocks_of}
-use Rattle.ild_reach.specs.Reach.{HamtFree}
 use Rattle.ild_schema.specs.Names.{declared_names}
 use Rattle.ild_schema.specs.declared.row.Row.{Row}
 use Rattle.ild_run.specs.declared.fault.Fault.{Fault}
@@ -65,11 +64,11 @@ work_seen (P.List rows) = lists (declared_names rows)
 work_seen (P.Answer b) = answers b
 work_seen (P.Create rows n b) = makes rows n b
 
--- a value that is to be created has a type of its table, from which no HAMT is reached
+-- a value that is to be created has a type of its table
 abbrev pub IsReady : Task → Type 0
 IsReady (P.List rows) = Unit {0}
 IsReady (P.Answer b) = Unit {0}
-IsReady (P.Create rows n b) = (n.0 < length rows) × HamtFree rows n.0
+IsReady (P.Create rows n b) = n.0 < length rows
 
 abbrev pub OpensAnswer : Supply → Job → Taking → Result Task Fault → Supply → Type 0
 OpensAnswer m job t (Ok task) n = job_work job t ≡ work_seen task

@@ -3,7 +3,6 @@ use Rattle.std.specs.Prelude.{◌≡◌, ℕ, List, Bool, true, false, Option, S
 use Rattle.ild_compile.specs.Compile.{Verdict, table, faulty, Compiles}
 use Rattle.ild_edges.specs.Inputs.{Supply, MayBe}
 use Rattle.ild_edges.specs.declared.inputs.Taken.{Taken}
-use Rattle.ild_reach.specs.Reach.{HamtFree, ReachesHamt}
 use Rattle.ild_schema.specs.Names.{declared_names, number_named}
 use Rattle.ild_schema.specs.declared.number.TypeNo.{TypeNo}
 use Rattle.ild_schema.specs.declared.row.Row.{Row}
@@ -14,19 +13,17 @@ use Rattle.ild_run.specs.declared.fault.Trouble.TheVariants as T
 use Rattle.ild_run.specs.Built.{is_built}
 use Rattle.ild_run.specs.Words.{Job, checks, runs, creates, name_of}
 
--- the call ends with a fault, lists names, answers the lines of a script, or creates a value of a type of a table
+-- the call ends with a fault, lists names, answers the lines of a script, or creates a value of a type of a table from bytes
 pub data Work : Type 0 where
   ends : Fault → Work
   lists : List (List ℕ) → Work
   answers : List ℕ → Work
   makes : List Row → TypeNo → List ℕ → Work
 
--- what is taken of the inputs in each role, or would be; what the schema is compiled to, and whether a HAMT is reached from the type
--- of a value, or none where memory is wanting for it
+-- what is taken of the inputs in each role, or would be, and what the schema is compiled to, or none where memory is wanting for it
 pub record Taking : Type 0 where
   pub input : Role → Taken
   pub verdict : Option Verdict
-  pub hamt : Option Bool
 
 -- what is taken as the schema, and what as the script or the value
 abbrev pub in_roles : Taken → Taken → Role → Taken
@@ -50,36 +47,30 @@ value_work rows n Taken.Absent = ends (F.Input Role.Value T.Absent)
 value_work rows n Taken.Long = ends (F.Input Role.Value T.Long)
 value_work rows n (Taken.Bytes b) = makes rows n b
 
--- values of a type from which a HAMT is reached aren't built yet
-abbrev pub reach_work : List Row → TypeNo → Option Bool → Taken → Work
-reach_work rows n None value = ends F.Memory
-reach_work rows n (Some true) value = ends F.NotBuilt
-reach_work rows n (Some false) value = value_work rows n value
-
 -- the type's name has to be one of the table
-abbrev pub type_work : List Row → Option ℕ → Option Bool → Taken → Work
-type_work rows None hamt value = ends F.Words
-type_work rows (Some n) hamt value = reach_work rows (record { 0 = n }) hamt value
+abbrev pub type_work : List Row → Option ℕ → Taken → Work
+type_work rows None value = ends F.Words
+type_work rows (Some n) value = value_work rows (record { 0 = n }) value
 
 -- what a job does with a table
-abbrev pub table_work : Job → List Row → Option Bool → (Role → Taken) → Work
-table_work (checks schema) rows hamt input = lists (declared_names rows)
-table_work (runs schema script) rows hamt input = built_work (is_built rows) (input Role.Script)
-table_work (creates schema ty value) rows hamt input = type_work rows (number_named ty rows) hamt (input Role.Value)
+abbrev pub table_work : Job → List Row → (Role → Taken) → Work
+table_work (checks schema) rows input = lists (declared_names rows)
+table_work (runs schema script) rows input = built_work (is_built rows) (input Role.Script)
+table_work (creates schema ty value) rows input = type_work rows (number_named ty rows) (input Role.Value)
 
 -- after the schema's input comes its compilation
-abbrev pub compiled_work : Job → Option Verdict → Option Bool → (Role → Taken) → Work
-compiled_work job None hamt input = ends F.Memory
-compiled_work job (Some (faulty f)) hamt input = ends (F.Schema f)
-compiled_work job (Some (table rows)) hamt input = table_work job rows hamt input
+abbrev pub compiled_work : Job → Option Verdict → (Role → Taken) → Work
+compiled_work job None input = ends F.Memory
+compiled_work job (Some (faulty f)) input = ends (F.Schema f)
+compiled_work job (Some (table rows)) input = table_work job rows input
 
-abbrev pub schema_work : Job → Taken → Option Verdict → Option Bool → (Role → Taken) → Work
-schema_work job Taken.Absent verdict hamt input = ends (F.Input Role.Schema T.Absent)
-schema_work job Taken.Long verdict hamt input = ends (F.Input Role.Schema T.Long)
-schema_work job (Taken.Bytes b) verdict hamt input = compiled_work job verdict hamt input
+abbrev pub schema_work : Job → Taken → Option Verdict → (Role → Taken) → Work
+schema_work job Taken.Absent verdict input = ends (F.Input Role.Schema T.Absent)
+schema_work job Taken.Long verdict input = ends (F.Input Role.Schema T.Long)
+schema_work job (Taken.Bytes b) verdict input = compiled_work job verdict input
 
 abbrev pub job_work : Job → Taking → Work
-job_work job t = schema_work job (t.input Role.Schema) t.verdict t.hamt t.input
+job_work job t = schema_work job (t.input Role.Schema) t.verdict t.input
 
 -- the first of the words, the schema and the script decides
 abbrev pub work_of : Option Job → Taking → Work
@@ -91,17 +82,6 @@ abbrev pub IsVerdict : Taken → Option Verdict → Type 0
 IsVerdict (Taken.Bytes b) (Some v) = Compiles b v
 IsVerdict taken verdict = Unit {0}
 
--- whether a HAMT is reached from the type of a value
-abbrev pub IsReachOf : List Row → Option ℕ → Option Bool → Type 0
-IsReachOf rows None hamt = Unit {0}
-IsReachOf rows (Some n) None = Unit {0}
-IsReachOf rows (Some n) (Some true) = ReachesHamt rows n
-IsReachOf rows (Some n) (Some false) = HamtFree rows n
-
-abbrev pub IsReach : Job → Option Verdict → Option Bool → Type 0
-IsReach (creates schema ty value) (Some (table rows)) hamt = IsReachOf rows (number_named ty rows) hamt
-IsReach job verdict hamt = Unit {0}
-
 -- what is taken under a name
 abbrev pub IsUnder : Supply → Taken → Option (List ℕ) → Type 0
 IsUnder supply taken None = Unit {0}
@@ -111,7 +91,6 @@ IsUnder supply taken (Some name) = MayBe supply.files name taken
 pub record IsTaking (job : Job) (supply : Supply) (t : Taking) : Type 0 where
   pub input : (role : Role) → IsUnder supply (t.input role) (name_of role job)
   pub verdict : IsVerdict (t.input Role.Schema) t.verdict
-  pub hamt : IsReach job t.verdict t.hamt
 
 abbrev pub AreTaken : Option Job → Supply → Taking → Type 0
 AreTaken None supply t = Unit {0}
@@ -125,7 +104,7 @@ pub record IsOpen (t : Taking) : Type 0 where
   pub verdict : t.verdict ≡ Some (table rows)
   pub built : is_built rows ≡ true
 
--- the schema has the type with this name, and no HAMT is reached from it
+-- the schema has the type with this name
 pub record IsTypeOpen (ty : List ℕ) (t : Taking) : Type 0 where
   pub bytes : List ℕ
   pub rows : List Row
@@ -133,7 +112,6 @@ pub record IsTypeOpen (ty : List ℕ) (t : Taking) : Type 0 where
   pub verdict : t.verdict ≡ Some (table rows)
   pub number : ℕ
   pub named : number_named ty rows ≡ Some number
-  pub free : t.hamt ≡ Some false
 
 -- a job leads up to taking an input: each to its schema, that of a run, where the schema is open, to the script, and that of a new
 -- value, where its type is, to the value

@@ -70,6 +70,7 @@ fn value_text(refusal: Refusal) -> &'static [u8]
         Refusal::Delimiter => b"fault 9 value 5 delimiter\n",
         Refusal::Hole => b"fault 9 value 6 hole\n",
         Refusal::Depth => b"fault 9 value 7 depth\n",
+        Refusal::Exhausted => b"fault 9 value 8 exhausted\n",
         Refusal::Size => b"fault 9 value 9 size\n",
     }
 }

@@ -1,4 +1,5 @@
-//! The top call: a schema is checked, or a script is run over a plain map from texts to integers, in one block.
+//! The top call: a schema is checked, a value of any of its types is created or shown, or a script is run over a plain map from texts
+//! to integers, in one block.
 #![tactic(auto)]
 
 mod built;

@@ -10,7 +10,6 @@ use ild_compile::{CompileErr, compile};
 use ild_data::Octets;
 use ild_edges::{EdgeErr, Inputs, Store, Taken};
 use ild_plain::PlainMap;
-use ild_reach::reaches_hamt;
 use ild_schema::{Accepted, TypeNo};
 use ild_session::{PutFault, publish};
 use std::alloc::Global;
@@ -98,9 +97,8 @@ fn type_named(schema: &Accepted, name: &str) -> Option<TypeNo>
     schema.type_named(name)
 }
 
-/// Takes the input of a value, if its type is there and no HAMT is reached from it.
+/// Takes the input of a value, if its type is there.
 fn plan_value<I: Inputs>(
-    alloc: Global,
     inputs: &mut I,
     schema: Accepted,
     ty: &str,
@@ -111,11 +109,6 @@ fn plan_value<I: Inputs>(
     let Some(number) = type_named(&schema, ty) else {
         return Err(Fault::Words);
     };
-    match reaches_hamt(alloc, &schema, number) {
-        Ok(false) => {}
-        Ok(true) => return Err(Fault::NotBuilt),
-        Err(_) => return Err(Fault::Memory),
-    }
     match take_input(inputs, Role::Value, value) {
         Ok(bytes) => Ok(Task::Create(schema, number, bytes)),
         Err(fault) => Err(fault),
@@ -131,7 +124,7 @@ pub fn plan<I: Inputs>(alloc: Global, inputs: &mut I, job: &Job<'_>) -> Result<T
     let script = match job {
         Job::Check(_) => return Ok(Task::List(schema)),
         Job::Run(_, script) => script,
-        Job::New(_, ty, value) => return plan_value(alloc, inputs, schema, ty, value),
+        Job::New(_, ty, value) => return plan_value(inputs, schema, ty, value),
     };
     if !is_built(&schema) {
         return Err(Fault::NotBuilt);

@@ -1,6 +1,5 @@
 //! The top call.
 ghost use Rattle.std.specs.Prelude.{◌≡◌, ◌≤◌, ◌<◌, length};
-ghost use Rattle.ild_reach.specs.Reach.{HamtFree};
 ghost use Rattle.ild_edges.specs.Inputs.{After};
 ghost use Rattle.ild_edges.specs.Store.{Later};
 ghost use Rattle.ild_run.specs.Words.{job_of};
@@ -16,7 +15,7 @@ use crate::listed::names_json;
 use crate::open::{Task, job_of, plan, put_first};
 use crate::status::Status;
 use ild_create::{CreateFault, create};
-use ild_data::Txt;
+use ild_data::{Sha256Keys, Txt};
 use ild_edges::{Inputs, Sink, Store};
 use ild_plain::PlainMap;
 use ild_schema::{Accepted, TypeNo};
@@ -79,12 +78,11 @@ fn make<K: Store, W: Sink>(
     out: &mut W,
 ) -> Status
     requires within { ty.0 < length schema.now }
-    requires free { HamtFree schema.now ty.0 }
     ensures { MadeAs schema.now ty bytes.now (K.moment store.old) (W.output out.old) result (K.moment store.new) (W.output out.new) }
 {
     // It does no work: its clauses say that the types are a table.
     schema.types();
-    match create(alloc, schema, ty, bytes, store) {
+    match create(alloc, schema, ty, bytes, &Sha256Keys, store) {
         Ok(id) => match write_reply(alloc, &Reply::Root(id), out) {
             Ok(()) => Status::Done,
             Err(cut) => cut_status(cut),

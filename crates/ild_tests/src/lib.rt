@@ -7,3 +7,5 @@ mod edges;
 mod files;
 #[cfg(test)]
 mod run;
+#[cfg(test)]
+mod typed;

@@ -40,7 +40,7 @@ fn script<'c>(script: &'c str, text: &'c str, status: u8) -> Case<'c> {
     }
 }
 
-fn owned(alloc: Global, words: &[&str]) -> Result<Vec<String>, AllocError> {
+pub(crate) fn owned(alloc: Global, words: &[&str]) -> Result<Vec<String>, AllocError> {
     let mut all = Vec::new(alloc);
     for word in words {
         all.push(String::from_str(alloc, *word)?)?;

@@ -10,6 +10,7 @@ use Rattle.ild_data.specs.Spell.{spell, spell_text, spell_members}
 use Rattle.ild_schema.specs.declared.def.Field.{Field}
 use Rattle.ild_schema.specs.declared.row.Row.{Row}
 use Rattle.ild_schema.specs.Value.{Value}
+use Rattle.ild_typed.specs.Hamt.{whole}
 use Rattle.ild_typed.specs.Strings.{in_key_order}
 use Rattle.ild_write.specs.Made.{both}
 use Rattle.ild_write.specs.Places.{in_order, place_made, places_made, value_made}
@@ -50,11 +51,11 @@ module _ (value : ℕ → Option (List ℕ)) where
   alike_length (p ∷ ps) [] a = absurd a
   alike_length (p ∷ ps) (e ∷ es) a = ap suc (alike_length ps es a.1)
 
-pub alike_made : (rows : List Row) (fs : List Field) (os : List (Option Value)) (tag : List ℕ) (ps : List (List ℕ × ℕ)) (es : List (List ℕ × Data)) → Alike (value_made rows fs os tag) ps es
-    → places_made rows fs os tag ps ≡ Some (spell_members (T.members_of es))
-alike_made rows fs os tag [] [] a = refl
-alike_made rows fs os tag [] (e ∷ es) a = absurd a
-alike_made rows fs os tag (p ∷ ps) [] a = absurd a
-alike_made rows fs os tag (p ∷ ps) (e ∷ es) a =
-    let one : place_made rows fs os tag p ≡ Some (spell_text e.0 ++ spell e.1) = ap (option_map (λ t. spell_text p.0 ++ t)) (a.0).1 ∙ ap (λ k. Some (spell_text k ++ spell e.1)) (a.0).0 in
-    ap (λ o. both o (places_made rows fs os tag ps)) one ∙ ap (both (Some (spell_text e.0 ++ spell e.1))) (alike_made rows fs os tag ps es a.1)
+pub alike_made : (hash : List ℕ → List ℕ) (rows : List Row) (fs : List Field) (os : List (Option Value)) (tag : List ℕ) (ps : List (List ℕ × ℕ)) (es : List (List ℕ × Data)) → Alike (value_made (whole hash) rows fs os tag) ps es
+    → places_made (whole hash) rows fs os tag ps ≡ Some (spell_members (T.members_of es))
+alike_made hash rows fs os tag [] [] a = refl
+alike_made hash rows fs os tag [] (e ∷ es) a = absurd a
+alike_made hash rows fs os tag (p ∷ ps) [] a = absurd a
+alike_made hash rows fs os tag (p ∷ ps) (e ∷ es) a =
+    let one : place_made (whole hash) rows fs os tag p ≡ Some (spell_text e.0 ++ spell e.1) = ap (option_map (λ t. spell_text p.0 ++ t)) (a.0).1 ∙ ap (λ k. Some (spell_text k ++ spell e.1)) (a.0).0 in
+    ap (λ o. both o (places_made (whole hash) rows fs os tag ps)) one ∙ ap (both (Some (spell_text e.0 ++ spell e.1))) (alike_made hash rows fs os tag ps es a.1)

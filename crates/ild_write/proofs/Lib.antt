@@ -1,3 +1,4 @@
+mod Leaving
 mod Digits
 mod Hexing
 mod Ordered
@@ -10,3 +11,15 @@ mod Unions
 mod Heights
 mod Loops
 mod Placed
+mod Flow
+mod Fitted
+mod Bare
+mod AsText
+mod Weighing
+mod Spread
+mod Crowds
+mod Judges
+mod Alikes
+mod Ending
+mod Verdict
+mod Longs

@@ -1,5 +1,5 @@
 -- Turns of the loops that write the parts of a value.
-use Rattle.std.proofs.Common.{◌≡◌, ℕ, ◌+◌, ◌<◌, ◌≤◌, List, [], ◌∷◌, ◌++◌, length, drop, get_or, Bool, true, cond, Option, Some, None, option_map, slice_get, refl, ap, ◌∙◌}
+use Rattle.std.proofs.Common.{◌≡◌, ℕ, ◌+◌, ◌<◌, ◌≤◌, List, [], ◌∷◌, ◌++◌, length, drop, get_or, Bool, true, false, cond, Option, Some, None, option_map, slice_get, refl, sym, ap, ◌∙◌}
 use Rattle.std.specs.Prelude.{option_and_then}
 use Rattle.std.specs.Option.{option_map_or}
 use Rattle.ild_data.specs.Spell.{spell_text}
@@ -15,67 +15,80 @@ use Rattle.ild_write.specs.Made.{made, both, items_made, entry_made, entries_mad
 use Rattle.ild_write.specs.Places.{name_at, named, place_made, places_made, value_made}
 use Rattle.ild_write.proofs.Ordered.{got_at}
 use Rattle.ild_write.proofs.Turns.{over_none, over_some}
+use Rattle.ild_typed.specs.Hamt.{whole}
 
-module _ (rows : List Row) where
-  pub item_turn : (u : Slot) (vs : List Value) (i : ℕ) (v : Value) → slice_get vs i ≡ Some v → items_made rows u (drop i vs) ≡ both (made rows u v) (items_made rows u (drop (i + 1) vs))
-  item_turn u vs i v at = ap (items_made rows u) (drop_got vs i v at)
+module _ (hash : List ℕ → List ℕ) (rows : List Row) where
+  pub item_turn : (u : Slot) (vs : List Value) (i : ℕ) (v : Value) → slice_get vs i ≡ Some v → items_made (whole hash) rows u (drop i vs) ≡ both (made (whole hash) rows u v) (items_made (whole hash) rows u (drop (i + 1) vs))
+  item_turn u vs i v at = ap (items_made (whole hash) rows u) (drop_got vs i v at)
 
-  pub items_end : (u : Slot) (vs : List Value) (i : ℕ) → length vs ≤ i → items_made rows u (drop i vs) ≡ Some []
-  items_end u vs i h = ap (items_made rows u) (drop_all vs i h)
+  pub items_end : (u : Slot) (vs : List Value) (i : ℕ) → length vs ≤ i → items_made (whole hash) rows u (drop i vs) ≡ Some []
+  items_end u vs i h = ap (items_made (whole hash) rows u) (drop_all vs i h)
 
   pub entry_turn : (paired : Bool) (u : Slot) (ps : List (List ℕ × Value)) (i : ℕ) (k : List ℕ) (v : Value) → slice_get ps i ≡ Some (k, v)
-      → entries_made rows paired u (drop i ps) ≡ both (entry_made rows paired k u v) (entries_made rows paired u (drop (i + 1) ps))
-  entry_turn paired u ps i k v at = ap (entries_made rows paired u) (drop_got {A = List ℕ × Value} ps i (k, v) at)
+      → entries_made (whole hash) rows paired u (drop i ps) ≡ both (entry_made (whole hash) rows paired k u v) (entries_made (whole hash) rows paired u (drop (i + 1) ps))
+  entry_turn paired u ps i k v at = ap (entries_made (whole hash) rows paired u) (drop_got {A = List ℕ × Value} ps i (k, v) at)
 
-  pub entries_end : (paired : Bool) (u : Slot) (ps : List (List ℕ × Value)) (i : ℕ) → length ps ≤ i → entries_made rows paired u (drop i ps) ≡ Some []
-  entries_end paired u ps i h = ap (entries_made rows paired u) (drop_all ps i h)
+  pub entries_end : (paired : Bool) (u : Slot) (ps : List (List ℕ × Value)) (i : ℕ) → length ps ≤ i → entries_made (whole hash) rows paired u (drop i ps) ≡ Some []
+  entries_end paired u ps i h = ap (entries_made (whole hash) rows paired u) (drop_all ps i h)
 
   -- ---- tuples
 
-  tuple_ends : (f : Field) (fs : List Field) → tuple_made rows (f ∷ fs) [] ≡ tuple_made rows fs []
+  tuple_ends : (f : Field) (fs : List Field) → tuple_made (whole hash) rows (f ∷ fs) [] ≡ tuple_made (whole hash) rows fs []
   tuple_ends f [] = refl
   tuple_ends f (g ∷ fs) = refl
 
   pub tuple_turn : (fs : List Field) (os : List (Option Value)) (i : ℕ) (f : Field) (v : Value) → slice_get fs i ≡ Some f → field_at os i ≡ Some v
-      → tuple_made rows (drop i fs) (drop i os) ≡ both (made rows f.slot v) (tuple_made rows (drop (i + 1) fs) (drop (i + 1) os))
-  tuple_turn = over_some (tuple_made rows) (λ f fs os. refl) tuple_ends
+      → tuple_made (whole hash) rows (drop i fs) (drop i os) ≡ both (made (whole hash) rows f.slot v) (tuple_made (whole hash) rows (drop (i + 1) fs) (drop (i + 1) os))
+  tuple_turn = over_some (tuple_made (whole hash) rows) (λ f fs os. refl) tuple_ends
 
-  pub tuple_skip : (fs : List Field) (os : List (Option Value)) (i : ℕ) (f : Field) → slice_get fs i ≡ Some f → field_at os i ≡ None → tuple_made rows (drop i fs) (drop i os) ≡ tuple_made rows (drop (i + 1) fs) (drop (i + 1) os)
-  tuple_skip = over_none (tuple_made rows) (λ f fs os. refl) tuple_ends
+  pub tuple_skip : (fs : List Field) (os : List (Option Value)) (i : ℕ) (f : Field) → slice_get fs i ≡ Some f → field_at os i ≡ None → tuple_made (whole hash) rows (drop i fs) (drop i os) ≡ tuple_made (whole hash) rows (drop (i + 1) fs) (drop (i + 1) os)
+  tuple_skip = over_none (tuple_made (whole hash) rows) (λ f fs os. refl) tuple_ends
 
-  pub tuple_end : (fs : List Field) (os : List (Option Value)) (i : ℕ) → length fs ≤ i → tuple_made rows (drop i fs) (drop i os) ≡ Some []
-  tuple_end fs os i h = ap (λ xs. tuple_made rows xs (drop i os)) (drop_all fs i h)
+  pub tuple_end : (fs : List Field) (os : List (Option Value)) (i : ℕ) → length fs ≤ i → tuple_made (whole hash) rows (drop i fs) (drop i os) ≡ Some []
+  tuple_end fs os i h = ap (λ xs. tuple_made (whole hash) rows xs (drop i os)) (drop_all fs i h)
 
   -- ---- fields in the order of declaration
 
-  fields_ends : (f : Field) (fs : List Field) → fields_made rows true (f ∷ fs) [] ≡ fields_made rows true fs []
+  fields_ends : (f : Field) (fs : List Field) → fields_made (whole hash) rows true (f ∷ fs) [] ≡ fields_made (whole hash) rows true fs []
   fields_ends f [] = refl
   fields_ends f (g ∷ fs) = refl
 
   pub fields_turn : (fs : List Field) (os : List (Option Value)) (i : ℕ) (f : Field) (v : Value) (b : Bool) → slice_get fs i ≡ Some f → field_at os i ≡ Some v → is_left_out f.implicit v ≡ b
-      → fields_made rows true (drop i fs) (drop i os)
-      ≡ cond b (fields_made rows true (drop (i + 1) fs) (drop (i + 1) os)) (both (entry_made rows true (field_text f) f.slot v) (fields_made rows true (drop (i + 1) fs) (drop (i + 1) os)))
+      → fields_made (whole hash) rows true (drop i fs) (drop i os)
+      ≡ cond b (fields_made (whole hash) rows true (drop (i + 1) fs) (drop (i + 1) os)) (both (entry_made (whole hash) rows true (field_text f) f.slot v) (fields_made (whole hash) rows true (drop (i + 1) fs) (drop (i + 1) os)))
   fields_turn fs os i f v b at there is =
-      over_some (fields_made rows true) (λ g gs ps. refl) fields_ends fs os i f v at there
-      ∙ ap (λ c. cond c (fields_made rows true (drop (i + 1) fs) (drop (i + 1) os)) (both (entry_made rows true (field_text f) f.slot v) (fields_made rows true (drop (i + 1) fs) (drop (i + 1) os)))) is
+      over_some (fields_made (whole hash) rows true) (λ g gs ps. refl) fields_ends fs os i f v at there
+      ∙ ap (λ c. cond c (fields_made (whole hash) rows true (drop (i + 1) fs) (drop (i + 1) os)) (both (entry_made (whole hash) rows true (field_text f) f.slot v) (fields_made (whole hash) rows true (drop (i + 1) fs) (drop (i + 1) os)))) is
 
   pub fields_skip : (fs : List Field) (os : List (Option Value)) (i : ℕ) (f : Field) → slice_get fs i ≡ Some f → field_at os i ≡ None
-      → fields_made rows true (drop i fs) (drop i os) ≡ fields_made rows true (drop (i + 1) fs) (drop (i + 1) os)
-  fields_skip = over_none (fields_made rows true) (λ f fs os. refl) fields_ends
+      → fields_made (whole hash) rows true (drop i fs) (drop i os) ≡ fields_made (whole hash) rows true (drop (i + 1) fs) (drop (i + 1) os)
+  fields_skip = over_none (fields_made (whole hash) rows true) (λ f fs os. refl) fields_ends
 
-  pub fields_end : (fs : List Field) (os : List (Option Value)) (i : ℕ) → length fs ≤ i → fields_made rows true (drop i fs) (drop i os) ≡ Some []
-  fields_end fs os i h = ap (λ xs. fields_made rows true xs (drop i os)) (drop_all fs i h)
+  pub fields_end : (fs : List Field) (os : List (Option Value)) (i : ℕ) → length fs ≤ i → fields_made (whole hash) rows true (drop i fs) (drop i os) ≡ Some []
+  fields_end fs os i h = ap (λ xs. fields_made (whole hash) rows true xs (drop i os)) (drop_all fs i h)
 
   -- ---- places
 
   pub place_turn : (fs : List Field) (os : List (Option Value)) (key tag : List ℕ) (ps : List ℕ) (i : ℕ) → i < length ps
-      → places_made rows fs os tag (named fs key (drop i ps)) ≡ both (place_made rows fs os tag (name_at fs key (get_or ps i 0), get_or ps i 0)) (places_made rows fs os tag (named fs key (drop (i + 1) ps)))
-  place_turn fs os key tag ps i low = ap (λ xs. places_made rows fs os tag (named fs key xs)) (drop_got ps i (get_or ps i 0) (got_at ps i low))
+      → places_made (whole hash) rows fs os tag (named fs key (drop i ps)) ≡ both (place_made (whole hash) rows fs os tag (name_at fs key (get_or ps i 0), get_or ps i 0)) (places_made (whole hash) rows fs os tag (named fs key (drop (i + 1) ps)))
+  place_turn fs os key tag ps i low = ap (λ xs. places_made (whole hash) rows fs os tag (named fs key xs)) (drop_got ps i (get_or ps i 0) (got_at ps i low))
 
-  pub places_end : (fs : List Field) (os : List (Option Value)) (key tag : List ℕ) (ps : List ℕ) (i : ℕ) → length ps ≤ i → places_made rows fs os tag (named fs key (drop i ps)) ≡ Some []
-  places_end fs os key tag ps i h = ap (λ xs. places_made rows fs os tag (named fs key xs)) (drop_all ps i h)
+  pub places_end : (fs : List Field) (os : List (Option Value)) (key tag : List ℕ) (ps : List ℕ) (i : ℕ) → length ps ≤ i → places_made (whole hash) rows fs os tag (named fs key (drop i ps)) ≡ Some []
+  places_end fs os key tag ps i h = ap (λ xs. places_made (whole hash) rows fs os tag (named fs key xs)) (drop_all ps i h)
 
-  pub tag_made : (fs : List Field) (os : List (Option Value)) (key tag : List ℕ) (p : ℕ) → slice_get fs p ≡ None → place_made rows fs os tag (name_at fs key p, p) ≡ Some (spell_text key ++ spell_text tag)
+  pub tag_made : (fs : List Field) (os : List (Option Value)) (key tag : List ℕ) (p : ℕ) → slice_get fs p ≡ None → place_made (whole hash) rows fs os tag (name_at fs key p, p) ≡ Some (spell_text key ++ spell_text tag)
   tag_made fs os key tag p none =
-      ap (λ o. option_map (λ t. spell_text (option_map_or field_text o key) ++ t) (value_made rows fs os tag p)) none
-      ∙ ap (λ o. option_map (λ t. spell_text key ++ t) (option_map_or (λ f. option_and_then (made rows f.slot) (field_at os p)) o (Some (spell_text tag)))) none
+      ap (λ o. option_map (λ t. spell_text (option_map_or field_text o key) ++ t) (value_made (whole hash) rows fs os tag p)) none
+      ∙ ap (λ o. option_map (λ t. spell_text key ++ t) (option_map_or (λ f. option_and_then (made (whole hash) rows f.slot) (field_at os p)) o (Some (spell_text tag)))) none
+
+  pub place_empty : (fs : List Field) (os : List (Option Value)) (key tag : List ℕ) (p : ℕ) (f : Field) → slice_get fs p ≡ Some f → field_at os p ≡ None → place_made (whole hash) rows fs os tag (name_at fs key p, p) ≡ None
+  place_empty fs os key tag p f at none =
+      ap (λ o. option_map (λ t. spell_text (name_at fs key p) ++ t) (option_map_or (λ g. option_and_then (made (whole hash) rows g.slot) (field_at os p)) o (Some (spell_text tag)))) at
+      ∙ ap (λ o. option_map (λ t. spell_text (name_at fs key p) ++ t) (option_and_then (made (whole hash) rows f.slot) o)) none
+
+  pub place_entry : (fs : List Field) (os : List (Option Value)) (key tag : List ℕ) (p : ℕ) (f : Field) (v : Value) (name : List ℕ) → slice_get fs p ≡ Some f → field_at os p ≡ Some v → name ≡ field_text f
+      → entry_made (whole hash) rows false name f.slot v ≡ place_made (whole hash) rows fs os tag (name_at fs key p, p)
+  place_entry fs os key tag p f v name at there is =
+      ap (λ k. option_map (λ t. spell_text k ++ t) (made (whole hash) rows f.slot v)) (is ∙ sym (ap (λ o. option_map_or field_text o key) at))
+      ∙ sym (ap (λ o. option_map (λ t. spell_text (name_at fs key p) ++ t) (option_map_or (λ g. option_and_then (made (whole hash) rows g.slot) (field_at os p)) o (Some (spell_text tag)))) at
+      ∙ ap (λ o. option_map (λ t. spell_text (name_at fs key p) ++ t) (option_and_then (made (whole hash) rows f.slot) o)) there)

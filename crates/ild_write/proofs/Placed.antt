@@ -1,5 +1,5 @@
 -- Places in the key order, beside the map that they make.
-use Rattle.std.proofs.Common.{◌≡◌, ℕ, suc, List, [], ◌∷◌, length, true, Option, Some, None, slice_get, refl, sym, ap, ◌∙◌}
+use Rattle.std.proofs.Common.{◌≡◌, ℕ, suc, List, [], ◌∷◌, length, true, Option, Some, None, slice_get, refl, sym, ap, ◌∙◌, subst}
 use Rattle.std.specs.Option.{option_map_or}
 use Rattle.std.proofs.lemmas.List.{length-map}
 use Rattle.ild_data.specs.Key.{put}
@@ -12,7 +12,7 @@ use Rattle.ild_schema.specs.declared.def.UnionDef.{UnionDef}
 use Rattle.ild_schema.specs.declared.def.Field.{Field}
 use Rattle.ild_schema.specs.declared.def.Member.{Member}
 use Rattle.ild_schema.specs.declared.row.Row.{Row}
-use Rattle.ild_schema.specs.Clear.{KeysApart}
+use Rattle.ild_schema.specs.Clear.{AreClearFields, AreNamesApart, ClearStruct, KeysApart}
 use Rattle.ild_schema.specs.Copies.{base}
 use Rattle.ild_schema.specs.Legible.{IsLegible}
 use Rattle.ild_schema.specs.Made.{MadeMember}
@@ -20,23 +20,24 @@ use Rattle.ild_schema.specs.Marks.{field_text}
 use Rattle.ild_schema.specs.Rules.{is_map_form, is_map_struct}
 use Rattle.ild_schema.specs.Slots.{form_of}
 use Rattle.ild_schema.specs.Value.{Value}
+use Rattle.ild_typed.specs.Hamt.{whole}
 use Rattle.ild_build.proofs.EachKey.{one_of}
 use Rattle.ild_write.specs.Made.{counted}
 use Rattle.ild_write.specs.Places.{places_from, name_at, named, in_order, map_made, places_made}
 
-pub map_placed : (rows : List Row) (fs : List Field) (os : List (Option Value)) (ps : List ℕ) → named fs [] ps ≡ in_order (named fs [] (places_from 0 fs os)) → map_made rows fs os ≡ counted 5 (length ps) (places_made rows fs os [] (named fs [] ps))
-map_placed rows fs os ps same =
+pub map_placed : (hash : List ℕ → List ℕ) (rows : List Row) (fs : List Field) (os : List (Option Value)) (ps : List ℕ) → named fs [] ps ≡ in_order (named fs [] (places_from 0 fs os)) → map_made (whole hash) rows fs os ≡ counted 5 (length ps) (places_made (whole hash) rows fs os [] (named fs [] ps))
+map_placed hash rows fs os ps same =
     let pair : ℕ → List ℕ × ℕ = λ i. (name_at fs [] i, i) in
-    ap (λ qs. counted 5 (length qs) (places_made rows fs os [] qs)) (sym same) ∙ ap (λ n. counted 5 n (places_made rows fs os [] (named fs [] ps))) (length-map ps pair)
+    ap (λ qs. counted 5 (length qs) (places_made (whole hash) rows fs os [] qs)) (sym same) ∙ ap (λ n. counted 5 n (places_made (whole hash) rows fs os [] (named fs [] ps))) (length-map ps pair)
 
 named_length : (fs : List Field) (key : List ℕ) (ps : List ℕ) → length (named fs key ps) ≡ length ps
 named_length fs key [] = refl
 named_length fs key (p ∷ ps) = ap suc (named_length fs key ps)
 
-pub named_many : (rows : List Row) (fs : List Field) (os : List (Option Value)) (key tag : List ℕ) (ps : List ℕ) → counted 5 (length ps) (places_made rows fs os tag (named fs key ps)) ≡ counted 5 (length (named fs key ps)) (places_made rows fs os tag (named fs key ps))
-named_many rows fs os key tag ps = ap (λ n. counted 5 n (places_made rows fs os tag (named fs key ps))) (sym (named_length fs key ps))
+pub named_many : (hash : List ℕ → List ℕ) (rows : List Row) (fs : List Field) (os : List (Option Value)) (key tag : List ℕ) (ps : List ℕ) → counted 5 (length ps) (places_made (whole hash) rows fs os tag (named fs key ps)) ≡ counted 5 (length (named fs key ps)) (places_made (whole hash) rows fs os tag (named fs key ps))
+named_many hash rows fs os key tag ps = ap (λ n. counted 5 n (places_made (whole hash) rows fs os tag (named fs key ps))) (sym (named_length fs key ps))
 
-past : {A : Type 0} (xs : List A) (n : ℕ) → n ≡ length xs → slice_get xs n ≡ None
+pub past : {A : Type 0} (xs : List A) (n : ℕ) → n ≡ length xs → slice_get xs n ≡ None
 past xs n e = ap (slice_get xs) e ∙ by xs
   where
     by : {A : Type 0} (ys : List A) → slice_get ys (length ys) ≡ None
@@ -65,3 +66,9 @@ member_ready rows legible s u n m is at = one_of (MadeMember rows u.form) u.memb
 
 pub keys_ready : (rows : List Row) → IsLegible rows → (s : Slot) (u : UnionDef) → form_of rows s ≡ Some (D.Union u) → KeysApart u.form
 keys_ready rows legible s u is = (legible.clear.types (base rows s.ty.0) (D.Union u) is).keys
+
+-- the names of a struct's fields, where it stands as a map
+pub names_apart : (rows : List Row) → IsLegible rows → (s : Slot) (sd : StructDef) → form_of rows s ≡ Some (D.Struct sd) → sd.form ≡ S.Map → AreNamesApart sd.fields
+names_apart rows legible s sd is form =
+    let clear : AreClearFields sd.fields = subst (λ g. ClearStruct g sd.fields) form (legible.clear.types (base rows s.ty.0) (D.Struct sd) is) in
+    clear.apart

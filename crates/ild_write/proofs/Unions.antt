@@ -16,24 +16,24 @@ use Rattle.ild_schema.specs.declared.row.Row.{Row}
 use Rattle.ild_schema.specs.Hex.{bytes_of_hex}
 use Rattle.ild_schema.specs.Value.{Value}
 use Rattle.ild_typed.specs.Composed.{marked_form}
-use Rattle.ild_typed.specs.Hamt.{alone}
+use Rattle.ild_typed.specs.Hamt.{whole}
 use Rattle.ild_typed.specs.Represented.{represented}
 use Rattle.ild_typed.specs.Strings.{bytes_in, map_data}
 use Rattle.ild_typed.proofs.Basics.{map_from, then_from}
 use Rattle.ild_typed.proofs.Entries.{only_bytes_data}
 use Rattle.ild_write.specs.Made.{made, entry_made, marked_made}
 
-module _ (rows : List Row) (s : Slot) (v : Value) where
-  pub keyed_made : (name : List ℕ) → marked_made rows UF.Keyed s v name ≡ option_map (λ t. head 5 1 ++ t) (entry_made rows false name s v)
-  keyed_made name = by (represented alone rows s v)
+module _ (hash : List ℕ → List ℕ) (rows : List Row) (s : Slot) (v : Value) where
+  pub keyed_made : (name : List ℕ) → marked_made (whole hash) rows UF.Keyed s v name ≡ option_map (λ t. head 5 1 ++ t) (entry_made (whole hash) rows false name s v)
+  keyed_made name = by (represented (whole hash) rows s v)
     where
       by : (o : Option Data) → option_map spell (option_and_then (λ d. marked_form UF.Keyed d name) o) ≡ option_map (λ t. head 5 1 ++ t) (option_map (λ t. spell_text name ++ t) (option_map spell o))
       by None = refl
       by (Some d) = ap (λ x. Some (head 5 1 ++ x)) (append-nil (spell_text name ++ spell d))
 
   pub envelope_less : (key content name : List ℕ) → key_less key content ≡ true
-      → marked_made rows (UF.Envelope key content) s v name ≡ option_map (λ t. head 5 2 ++ t) (option_map (λ t. (spell_text key ++ spell_text name) ++ t) (entry_made rows false content s v))
-  envelope_less key content name less = by (represented alone rows s v)
+      → marked_made (whole hash) rows (UF.Envelope key content) s v name ≡ option_map (λ t. head 5 2 ++ t) (option_map (λ t. (spell_text key ++ spell_text name) ++ t) (entry_made (whole hash) rows false content s v))
+  envelope_less key content name less = by (represented (whole hash) rows s v)
     where
       order : (o : Ordering) → is_lt o ≡ true → o ≡ Less
       order Less h = refl
@@ -48,8 +48,8 @@ module _ (rows : List Row) (s : Slot) (v : Value) where
           ∙ ap (λ x. Some (head 5 2 ++ ((spell_text key ++ spell_text name) ++ x))) (append-nil (spell_text content ++ spell d))
 
   pub envelope_more : (key content name : List ℕ) → key_less key content ≡ false → (key ≡ content → ⊥)
-      → marked_made rows (UF.Envelope key content) s v name ≡ option_map (λ t. head 5 2 ++ t) (option_map (λ t. t ++ (spell_text key ++ spell_text name)) (entry_made rows false content s v))
-  envelope_more key content name more apart = by (represented alone rows s v)
+      → marked_made (whole hash) rows (UF.Envelope key content) s v name ≡ option_map (λ t. head 5 2 ++ t) (option_map (λ t. t ++ (spell_text key ++ spell_text name)) (entry_made (whole hash) rows false content s v))
+  envelope_more key content name more apart = by (represented (whole hash) rows s v)
     where
       order : (o : Ordering) → (o ≡ Equal → ⊥) → is_lt o ≡ false → o ≡ Greater
       order Less other h = absurd cc
@@ -68,13 +68,13 @@ module _ (rows : List Row) (s : Slot) (v : Value) where
     pub front : List ℕ
     pub rest : List ℕ
     pub known : bytes_of_hex digits ≡ Some front
-    pub there : made rows s v ≡ Some (spell_bytes rest)
+    pub there : made (whole hash) rows s v ≡ Some (spell_bytes rest)
     pub is : spell_bytes (front ++ rest) ≡ t
 
-  pub prefixed_from : (digits t : List ℕ) → marked_made rows UF.BytesPrefix s v digits ≡ Some t → Prefixed digits t
+  pub prefixed_from : (digits t : List ℕ) → marked_made (whole hash) rows UF.BytesPrefix s v digits ≡ Some t → Prefixed digits t
   prefixed_from digits t e =
-      let x = map_from spell (option_and_then (λ d. marked_form UF.BytesPrefix d digits) (represented alone rows s v)) t e in
-      let y = then_from (λ d. marked_form UF.BytesPrefix d digits) (represented alone rows s v) x.item x.there in
+      let x = map_from spell (option_and_then (λ d. marked_form UF.BytesPrefix d digits) (represented (whole hash) rows s v)) t e in
+      let y = then_from (λ d. marked_form UF.BytesPrefix d digits) (represented (whole hash) rows s v) x.item x.there in
       let z = then_from (λ front. option_map (λ b. T.bytes (front ++ b)) (bytes_in y.item)) (bytes_of_hex digits) x.item y.made in
       let w = map_from (λ b. T.bytes (z.item ++ b)) (bytes_in y.item) x.item z.made in
       record {

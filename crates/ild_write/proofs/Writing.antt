@@ -70,14 +70,14 @@ starts rest old now p e = record {
       record { more = x.item; is = x.there; there = ap (λ y. old ++ y) (sym (same_Some (p ++ x.item) s x.made)) ∙ sym (append_assoc old p x.item) ∙ ap (λ y. y ++ x.item) (sym e) };
 }
 
-record Both (part next : Option (List ℕ)) (s : List ℕ) : Type 0 where
-  first : List ℕ
-  second : List ℕ
-  one : part ≡ Some first
-  two : next ≡ Some second
-  all : first ++ second ≡ s
+pub record Both (part next : Option (List ℕ)) (s : List ℕ) : Type 0 where
+  pub first : List ℕ
+  pub second : List ℕ
+  pub one : part ≡ Some first
+  pub two : next ≡ Some second
+  pub all : first ++ second ≡ s
 
-both_from : (part next : Option (List ℕ)) (s : List ℕ) → both part next ≡ Some s → Both part next s
+pub both_from : (part next : Option (List ℕ)) (s : List ℕ) → both part next ≡ Some s → Both part next s
 both_from None next s e = absurd (none-some s e)
 both_from (Some a) None s e = absurd (none-some s e)
 both_from (Some a) (Some b) s e = record { first = a; second = b; one = refl; two = refl; all = same_Some (a ++ b) s e }

@@ -6,15 +6,15 @@ use Rattle.ild_schema.specs.declared.def.Field.{Field}
 use Rattle.ild_schema.specs.declared.def.UnionForm.{UnionForm}
 use Rattle.ild_schema.specs.declared.row.Row.{Row}
 use Rattle.ild_schema.specs.Marks.{field_text}
+use Rattle.ild_schema.specs.Value as V
 use Rattle.ild_schema.specs.Value.{Value}
-use Rattle.ild_typed.specs.Composed.{marked_form}
-use Rattle.ild_typed.specs.Hamt.{alone}
+use Rattle.ild_typed.specs.Composed.{Hamts, marked_form}
 use Rattle.ild_typed.specs.Represented.{represented}
 use Rattle.ild_build.specs.LeftOut.{is_left_out}
 
 -- of a value
-abbrev pub made : List Row → Slot → Value → Option (List ℕ)
-made rows s v = option_map spell (represented alone rows s v)
+abbrev pub made : Hamts → List Row → Slot → Value → Option (List ℕ)
+made at rows s v = option_map spell (represented at rows s v)
 
 -- bytes, and others behind them
 abbrev pub both : Option (List ℕ) → Option (List ℕ) → Option (List ℕ)
@@ -25,9 +25,9 @@ both (Some s) more = option_map (λ t. s ++ t) more
 abbrev pub counted : ℕ → ℕ → Option (List ℕ) → Option (List ℕ)
 counted major n more = option_map (λ t. head major n ++ t) more
 
-abbrev pub items_made : List Row → Slot → List Value → Option (List ℕ)
-items_made rows s [] = Some []
-items_made rows s (v ∷ vs) = both (made rows s v) (items_made rows s vs)
+abbrev pub items_made : Hamts → List Row → Slot → List Value → Option (List ℕ)
+items_made at rows s [] = Some []
+items_made at rows s (v ∷ vs) = both (made at rows s v) (items_made at rows s vs)
 
 -- what stands before a key: the head of a pair, or nothing in a map
 abbrev pub before_key : Bool → List ℕ
@@ -39,28 +39,37 @@ entries_major true = 4
 entries_major false = 5
 
 -- a key and a value
-abbrev pub entry_made : List Row → Bool → List ℕ → Slot → Value → Option (List ℕ)
-entry_made rows paired k s v = option_map (λ t. (before_key paired ++ spell_text k) ++ t) (made rows s v)
+abbrev pub entry_made : Hamts → List Row → Bool → List ℕ → Slot → Value → Option (List ℕ)
+entry_made at rows paired k s v = option_map (λ t. (before_key paired ++ spell_text k) ++ t) (made at rows s v)
 
-abbrev pub entries_made : List Row → Bool → Slot → List (List ℕ × Value) → Option (List ℕ)
-entries_made rows paired s [] = Some []
-entries_made rows paired s (p ∷ ps) = both (entry_made rows paired p.0 s p.1) (entries_made rows paired s ps)
+abbrev pub entries_made : Hamts → List Row → Bool → Slot → List (List ℕ × Value) → Option (List ℕ)
+entries_made at rows paired s [] = Some []
+entries_made at rows paired s (p ∷ ps) = both (entry_made at rows paired p.0 s p.1) (entries_made at rows paired s ps)
 
 -- the values that are there, without their names
-abbrev pub tuple_made : List Row → List Field → List (Option Value) → Option (List ℕ)
-tuple_made rows [] os = Some []
-tuple_made rows (f ∷ fs) [] = Some []
-tuple_made rows (f ∷ fs) (Some v ∷ os) = both (made rows f.slot v) (tuple_made rows fs os)
-tuple_made rows (f ∷ fs) (None ∷ os) = tuple_made rows fs os
+abbrev pub tuple_made : Hamts → List Row → List Field → List (Option Value) → Option (List ℕ)
+tuple_made at rows [] os = Some []
+tuple_made at rows (f ∷ fs) [] = Some []
+tuple_made at rows (f ∷ fs) (Some v ∷ os) = both (made at rows f.slot v) (tuple_made at rows fs os)
+tuple_made at rows (f ∷ fs) (None ∷ os) = tuple_made at rows fs os
 
 -- the fields that are there and not left out, in the order of declaration
-abbrev pub fields_made : List Row → Bool → List Field → List (Option Value) → Option (List ℕ)
-fields_made rows paired [] os = Some []
-fields_made rows paired (f ∷ fs) [] = Some []
-fields_made rows paired (f ∷ fs) (Some v ∷ os) =
-    cond (is_left_out f.implicit v) (fields_made rows paired fs os) (both (entry_made rows paired (field_text f) f.slot v) (fields_made rows paired fs os))
-fields_made rows paired (f ∷ fs) (None ∷ os) = fields_made rows paired fs os
+abbrev pub fields_made : Hamts → List Row → Bool → List Field → List (Option Value) → Option (List ℕ)
+fields_made at rows paired [] os = Some []
+fields_made at rows paired (f ∷ fs) [] = Some []
+fields_made at rows paired (f ∷ fs) (Some v ∷ os) =
+    cond (is_left_out f.implicit v) (fields_made at rows paired fs os) (both (entry_made at rows paired (field_text f) f.slot v) (fields_made at rows paired fs os))
+fields_made at rows paired (f ∷ fs) (None ∷ os) = fields_made at rows paired fs os
 
 -- of a member of a union, where its mark has this text
-abbrev pub marked_made : List Row → UnionForm → Slot → Value → List ℕ → Option (List ℕ)
-marked_made rows form s v name = option_map spell (option_and_then (λ d. marked_form form d name) (represented alone rows s v))
+abbrev pub marked_made : Hamts → List Row → UnionForm → Slot → Value → List ℕ → Option (List ℕ)
+marked_made at rows form s v name = option_map spell (option_and_then (λ d. marked_form form d name) (represented at rows s v))
+
+-- a value that has no parts, and is no root of a HAMT
+abbrev pub IsLeaf : Value → Type 0
+IsLeaf (V.list vs) = ⊥
+IsLeaf (V.map ps) = ⊥
+IsLeaf (V.struct os) = ⊥
+IsLeaf (V.union n v) = ⊥
+IsLeaf (V.hamt d) = ⊥
+IsLeaf v = Unit {0}

@@ -8,6 +8,7 @@ use Rattle.ild_schema.specs.declared.def.Field.{Field}
 use Rattle.ild_schema.specs.declared.row.Row.{Row}
 use Rattle.ild_schema.specs.Marks.{field_text}
 use Rattle.ild_schema.specs.Value.{Value}
+use Rattle.ild_typed.specs.Composed.{Hamts}
 use Rattle.ild_build.specs.LeftOut.{is_left_out}
 use Rattle.ild_build.specs.PartAt.{field_at}
 use Rattle.ild_write.specs.Made.{made, both, counted}
@@ -44,19 +45,19 @@ in_order [] = []
 in_order (p ∷ ps) = put p.0 p.1 (in_order ps)
 
 -- the value at a place, which is a text past the fields
-abbrev pub value_made : List Row → List Field → List (Option Value) → List ℕ → ℕ → Option (List ℕ)
-value_made rows fs os tag i =
-    option_map_or (λ f. option_and_then (made rows f.slot) (field_at os i)) (slice_get fs i) (Some (spell_text tag))
+abbrev pub value_made : Hamts → List Row → List Field → List (Option Value) → List ℕ → ℕ → Option (List ℕ)
+value_made at rows fs os tag i =
+    option_map_or (λ f. option_and_then (made at rows f.slot) (field_at os i)) (slice_get fs i) (Some (spell_text tag))
 
-abbrev pub place_made : List Row → List Field → List (Option Value) → List ℕ → List ℕ × ℕ → Option (List ℕ)
-place_made rows fs os tag p = option_map (λ t. spell_text p.0 ++ t) (value_made rows fs os tag p.1)
+abbrev pub place_made : Hamts → List Row → List Field → List (Option Value) → List ℕ → List ℕ × ℕ → Option (List ℕ)
+place_made at rows fs os tag p = option_map (λ t. spell_text p.0 ++ t) (value_made at rows fs os tag p.1)
 
-abbrev pub places_made : List Row → List Field → List (Option Value) → List ℕ → List (List ℕ × ℕ) → Option (List ℕ)
-places_made rows fs os tag [] = Some []
-places_made rows fs os tag (p ∷ ps) = both (place_made rows fs os tag p) (places_made rows fs os tag ps)
+abbrev pub places_made : Hamts → List Row → List Field → List (Option Value) → List ℕ → List (List ℕ × ℕ) → Option (List ℕ)
+places_made at rows fs os tag [] = Some []
+places_made at rows fs os tag (p ∷ ps) = both (place_made at rows fs os tag p) (places_made at rows fs os tag ps)
 
 -- a struct as a map
-abbrev pub map_made : List Row → List Field → List (Option Value) → Option (List ℕ)
-map_made rows fs os =
+abbrev pub map_made : Hamts → List Row → List Field → List (Option Value) → Option (List ℕ)
+map_made at rows fs os =
     let ps = in_order (named fs [] (places_from 0 fs os)) in
-    counted 5 (length ps) (places_made rows fs os [] ps)
+    counted 5 (length ps) (places_made at rows fs os [] ps)

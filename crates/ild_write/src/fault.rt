@@ -1,14 +1,21 @@
-//! Why a value has no block.
+//! Why a value has no blocks.
 ghost use Rattle.std.specs.Prelude.{◌≡◌};
 
+use ild_data::BlockId;
 use std::alloc::AllocError;
 
-/// Why there is no block of a value.
+/// Why the blocks of a value are not there.
 #[derive(Clone, Copy, Debug, PartialEq, Eq)]
 pub enum BuildFault {
-    /// It would be longer than 4,194,304 bytes.
+    /// More keys of a HAMT than a bucket takes agree in all bits of their hashes (IPLD HashMap).
+    Exhausted,
+    /// A block would be longer than 4,194,304 bytes.
     Size,
-    /// There is no memory for it.
+    /// The store failed.
+    Store,
+    /// Other bytes are kept under the id of a block that was to be put.
+    Clash(BlockId),
+    /// There is no memory for the blocks.
     Memory,
 }
 

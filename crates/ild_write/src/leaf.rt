@@ -6,8 +6,9 @@ ghost use Rattle.ild_schema.specs.Marks.{member_integer, member_text};
 ghost use Rattle.ild_schema.specs.Value.{unit, enum};
 ghost use Rattle.ild_schema.specs.ValueSeen.{value_of};
 ghost use Rattle.ild_typed.specs.Composed.{enum_form, unit_data};
+ghost use Rattle.ild_typed.specs.Hamt.{alone};
 ghost use Rattle.ild_build.specs.TextRep.{text_rep};
-ghost use Rattle.ild_write.specs.Made.{before_key, entries_major, made};
+ghost use Rattle.ild_write.specs.Made.{before_key, entries_major, IsLeaf, made};
 ghost use Rattle.ild_write.specs.Wrote.{Wrote};
 
 use crate::decimal::decimal_of;
@@ -30,10 +31,10 @@ fn add_unit_form(form: UnitForm, out: &mut Emit) -> Result<(), AllocError>
     }
 }
 
-/// Appends a unit.
-pub(crate) fn add_unit(acc: &Accepted, slot: Slot, out: &mut Emit) -> Result<(), AllocError>
+// Appends a unit.
+fn add_unit(acc: &Accepted, slot: Slot, out: &mut Emit) -> Result<(), AllocError>
     requires { slot.ty.0 < length acc.now }
-    ensures ok { OnOk result (Wrote (made acc.now slot unit) out.old out.new) }
+    ensures ok { OnOk result (Wrote (made alone acc.now slot unit) out.old out.new) }
     ensures err { OnErr result (out.new ≡ out.old) }
 {
     match form_of(acc, slot) {
@@ -76,15 +77,15 @@ fn add_enum_form(form: EnumForm, member: &EnumMember, out: &mut Emit) -> Result<
     }
 }
 
-/// Appends the member of an enum with a number.
-pub(crate) fn add_enum(
+// Appends the member of an enum with a number.
+fn add_enum(
     acc: &Accepted,
     slot: Slot,
     number: u32,
     out: &mut Emit,
 ) -> Result<(), AllocError>
     requires { slot.ty.0 < length acc.now }
-    ensures ok { OnOk result (Wrote (made acc.now slot (enum number)) out.old out.new) }
+    ensures ok { OnOk result (Wrote (made alone acc.now slot (enum number)) out.old out.new) }
     ensures err { OnErr result (out.new ≡ out.old) }
 {
     match form_of(acc, slot) {
@@ -92,6 +93,32 @@ pub(crate) fn add_enum(
             Some(member) => add_enum_form(def.form, member, out),
             None => Ok(()),
         },
+        _ => Ok(()),
+    }
+}
+
+/// Appends a value that has no parts.
+pub(crate) fn add_leaf(
+    acc: &Accepted,
+    slot: Slot,
+    val: &Val,
+    out: &mut Emit,
+) -> Result<(), AllocError>
+    requires within { slot.ty.0 < length acc.now }
+    requires leaf { IsLeaf (value_of val.now) }
+    ensures ok { OnOk result (Wrote (made alone acc.now slot (value_of val.now)) out.old out.new) }
+    ensures err { OnErr result (out.new ≡ out.old) }
+{
+    match val {
+        Val::Null => out.simple(None),
+        Val::Bool(b) => out.simple(Some(*b)),
+        Val::Int(n) => out.int(*n),
+        Val::Text(text) => out.text(text.as_str()),
+        Val::Bytes(bytes) => out.bytes(bytes.as_slice()),
+        Val::Link(cid) => out.link(&cid.view()),
+        Val::Any(tree) => out.tree(tree),
+        Val::Unit => add_unit(acc, slot, out),
+        Val::Enum(number) => add_enum(acc, slot, *number, out),
         _ => Ok(()),
     }
 }

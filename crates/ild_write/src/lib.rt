@@ -4,12 +4,14 @@
 mod block;
 mod decimal;
 mod fault;
+mod hamt;
 mod hex;
 mod leaf;
+mod nodes;
 mod order;
 mod pass;
-mod value;
+mod plan;
+mod planned;
 
 pub use block::build;
 pub use fault::BuildFault;
-pub use value::write_value;

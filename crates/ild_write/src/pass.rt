@@ -2,7 +2,7 @@
 ghost use Rattle.std.specs.Prelude.{◌≡◌, ◌<◌, OnOk, OnErr, length, option_map, option_and_then, false, true};
 ghost use Rattle.ild_data.specs.Spell.{spell};
 ghost use Rattle.ild_emit.specs.Grown.{IsGrown};
-ghost use Rattle.ild_schema.specs.Clear.{KeysApart};
+ghost use Rattle.ild_schema.specs.Clear.{AreNamesApart, KeysApart};
 ghost use Rattle.ild_schema.specs.Made.{MadeMember};
 ghost use Rattle.ild_schema.specs.Rules.{is_map_struct};
 ghost use Rattle.ild_schema.specs.Slots.{form_of, plainly};
@@ -13,17 +13,21 @@ ghost use Rattle.ild_schema.specs.ValueSeen.{value_of};
 ghost use Rattle.ild_schema.specs.declared.def.TypeDef.TheVariants as D;
 ghost use Rattle.ild_schema.specs.declared.def.UnionForm.TheVariants as UF;
 ghost use Rattle.ild_typed.specs.Composed.{member_form};
-ghost use Rattle.ild_typed.specs.Hamt.{alone};
+ghost use Rattle.ild_typed.specs.Hamt.{whole};
 ghost use Rattle.ild_typed.specs.Represented.{represented};
 ghost use Rattle.ild_write.specs.Made.{counted, entries_made, entry_made, entries_major, fields_made, items_made, made, marked_made, tuple_made};
 ghost use Rattle.ild_write.specs.Places.{count_present, count_written, map_made, name_at, named, place_made, places_made};
-ghost use Rattle.ild_write.specs.Wrote.{Wrote};
+ghost use Rattle.ild_write.specs.Fitting.{EntriesFit, FitsIn, IsApartFrom, ItemsFit, PlacesFit};
+ghost use Rattle.ild_write.specs.Weights.{entries_weight, fields_weight, items_weight, place_weight, places_weight, weigh};
+ghost use Rattle.ild_write.specs.Writes.{Writes};
 
+use crate::hamt::add_hamt;
 use crate::hex::{add_hex, behind_head};
-use crate::leaf::{Tag, add_as_text, add_count, add_enum, add_key, add_tag, add_unit};
+use crate::leaf::{Tag, add_as_text, add_count, add_key, add_leaf, add_tag};
+use crate::nodes::Nodes;
 use crate::order::{in_order, places, present, put, written};
 use ild_build::{field_at, form_of, is_left_out, text_of_field};
-use ild_data::key_less;
+use ild_data::{KeyHash, key_less};
 use ild_emit::Emit;
 use ild_schema::{
     Accepted, MapForm, Mark, Member, Slot, StructDef, StructForm, TypeDef, UnionForm, Val,
@@ -36,64 +40,65 @@ const NO_TAG: Tag<'static> = Tag { key: "", name: "" };
 
 /// Appends a value of a slot.
 #[cycle(pass)]
-pub(crate) fn add(
+pub(crate) fn add<H: KeyHash>(
     alloc: Global,
     acc: &Accepted,
+    keys: &H,
     slot: Slot,
     val: &Val,
+    nodes: &mut Nodes,
     out: &mut Emit,
 ) -> Result<(), AllocError>
-    requires { slot.ty.0 < length acc.now }
-    ensures ok { OnOk result (Wrote (made acc.now slot (value_of val.now)) out.old out.new) }
+    requires within { slot.ty.0 < length acc.now }
+    requires fits { FitsIn acc.now slot (value_of val.now) }
+    ensures ok { OnOk result (Writes H.hash_of acc.now (made (whole H.hash_of) acc.now slot (value_of val.now)) (λ μ. weigh μ acc.now slot (value_of val.now)) out.old out.new nodes.old nodes.new) }
     ensures err { OnErr result (IsGrown out.old out.new) }
 {
     match val {
-        Val::Null => out.simple(None),
-        Val::Bool(b) => out.simple(Some(*b)),
-        Val::Int(n) => out.int(*n),
-        Val::Text(text) => out.text(text.as_str()),
-        Val::Bytes(bytes) => out.bytes(bytes.as_slice()),
-        Val::Link(cid) => out.link(&cid.view()),
-        Val::Any(tree) => out.tree(tree),
-        Val::Unit => add_unit(acc, slot, out),
-        Val::Enum(number) => add_enum(acc, slot, *number, out),
-        Val::List(vals) => add_list(alloc, acc, slot, vals, out),
-        Val::Map(pairs) => add_map(alloc, acc, slot, val, pairs, out),
-        Val::Struct(fields) => add_struct(alloc, acc, slot, val, fields, out),
-        Val::Union(number, part) => add_union(alloc, acc, slot, val, *number, part, out),
+        Val::List(vals) => add_list(alloc, acc, keys, slot, vals, nodes, out),
+        Val::Map(pairs) => add_map(alloc, acc, keys, slot, val, pairs, nodes, out),
+        Val::Struct(fields) => add_struct(alloc, acc, keys, slot, val, fields, nodes, out),
+        Val::Union(number, part) => add_union(alloc, acc, keys, slot, val, *number, part, nodes, out),
+        _ => add_leaf(acc, slot, val, out),
     }
 }
 
 // Appends a list.
 #[cycle(pass)]
-fn add_list(
+fn add_list<H: KeyHash>(
     alloc: Global,
     acc: &Accepted,
+    keys: &H,
     slot: Slot,
     vals: &Vals,
+    nodes: &mut Nodes,
     out: &mut Emit,
 ) -> Result<(), AllocError>
-    requires { slot.ty.0 < length acc.now }
-    ensures ok { OnOk result (Wrote (made acc.now slot (V.list vals.now)) out.old out.new) }
+    requires within { slot.ty.0 < length acc.now }
+    requires fits { FitsIn acc.now slot (V.list vals.now) }
+    ensures ok { OnOk result (Writes H.hash_of acc.now (made (whole H.hash_of) acc.now slot (V.list vals.now)) (λ μ. weigh μ acc.now slot (V.list vals.now)) out.old out.new nodes.old nodes.new) }
     ensures err { OnErr result (IsGrown out.old out.new) }
 {
     match form_of(acc, slot) {
-        TypeDef::List { elem, .. } => add_items(alloc, acc, *elem, vals, out),
+        TypeDef::List { elem, .. } => add_items(alloc, acc, keys, *elem, vals, nodes, out),
         _ => Ok(()),
     }
 }
 
 // Appends the count of elements, and each in this slot.
 #[cycle(pass)]
-fn add_items(
+fn add_items<H: KeyHash>(
     alloc: Global,
     acc: &Accepted,
+    keys: &H,
     elem: Slot,
     vals: &Vals,
+    nodes: &mut Nodes,
     out: &mut Emit,
 ) -> Result<(), AllocError>
-    requires { elem.ty.0 < length acc.now }
-    ensures ok { OnOk result (Wrote (counted 4 (length (values_list vals.now)) (items_made acc.now elem (values_list vals.now))) out.old out.new) }
+    requires within { elem.ty.0 < length acc.now }
+    requires fits { ItemsFit acc.now elem (values_list vals.now) }
+    ensures ok { OnOk result (Writes H.hash_of acc.now (counted 4 (length (values_list vals.now)) (items_made (whole H.hash_of) acc.now elem (values_list vals.now))) (λ μ. items_weight μ acc.now elem (values_list vals.now)) out.old out.new nodes.old nodes.new) }
     ensures err { OnErr result (IsGrown out.old out.new) }
 {
     out.head(4, vals.len() as u64)?;
@@ -101,32 +106,36 @@ fn add_items(
         let Some(val) = vals.get(i) else {
             return Ok(());
         };
-        add(alloc, acc, elem, val, out)?;
+        add(alloc, acc, keys, elem, val, nodes, out)?;
     }
     Ok(())
 }
 
 // Appends a map.
 #[cycle(pass)]
-fn add_map(
+fn add_map<H: KeyHash>(
     alloc: Global,
     acc: &Accepted,
+    keys: &H,
     slot: Slot,
     val: &Val,
     pairs: &ValPairs,
+    nodes: &mut Nodes,
     out: &mut Emit,
 ) -> Result<(), AllocError>
     requires within { slot.ty.0 < length acc.now }
     requires same { value_of val.now ≡ V.map pairs.now }
-    ensures ok { OnOk result (Wrote (made acc.now slot (V.map pairs.now)) out.old out.new) }
+    requires fits { FitsIn acc.now slot (V.map pairs.now) }
+    ensures ok { OnOk result (Writes H.hash_of acc.now (made (whole H.hash_of) acc.now slot (V.map pairs.now)) (λ μ. weigh μ acc.now slot (V.map pairs.now)) out.old out.new nodes.old nodes.new) }
     ensures err { OnErr result (IsGrown out.old out.new) }
 {
+    let _legible = acc.types();
     match form_of(acc, slot) {
         TypeDef::Map { value, form, .. } => match form {
-            MapForm::Map => add_pairs(alloc, acc, *value, pairs, false, out),
-            MapForm::ListPairs => add_pairs(alloc, acc, *value, pairs, true, out),
+            MapForm::Map => add_pairs(alloc, acc, keys, *value, pairs, false, nodes, out),
+            MapForm::ListPairs => add_pairs(alloc, acc, keys, *value, pairs, true, nodes, out),
             MapForm::StringPairs(_, _) => add_as_text(alloc, acc, slot, val, out),
-            MapForm::Hamt => Ok(()),
+            MapForm::Hamt => add_hamt(alloc, acc, keys, *value, pairs, nodes, out),
         },
         _ => Ok(()),
     }
@@ -134,16 +143,19 @@ fn add_map(
 
 // Appends the count of entries, and each, as entries of a map or as pairs.
 #[cycle(pass)]
-fn add_pairs(
+fn add_pairs<H: KeyHash>(
     alloc: Global,
     acc: &Accepted,
+    keys: &H,
     value: Slot,
     pairs: &ValPairs,
     paired: bool,
+    nodes: &mut Nodes,
     out: &mut Emit,
 ) -> Result<(), AllocError>
-    requires { value.ty.0 < length acc.now }
-    ensures ok { OnOk result (Wrote (counted (entries_major paired) (length (pairs_list pairs.now)) (entries_made acc.now paired value (pairs_list pairs.now))) out.old out.new) }
+    requires within { value.ty.0 < length acc.now }
+    requires fits { EntriesFit acc.now value (pairs_list pairs.now) }
+    ensures ok { OnOk result (Writes H.hash_of acc.now (counted (entries_major paired) (length (pairs_list pairs.now)) (entries_made (whole H.hash_of) acc.now paired value (pairs_list pairs.now))) (λ μ. entries_weight μ acc.now value (pairs_list pairs.now)) out.old out.new nodes.old nodes.new) }
     ensures err { OnErr result (IsGrown out.old out.new) }
 {
     add_count(paired, pairs.len(), out)?;
@@ -151,51 +163,57 @@ fn add_pairs(
         let Some(pair) = pairs.get(i) else {
             return Ok(());
         };
-        add_entry(alloc, acc, pair.0.as_str(), value, &pair.1, paired, out)?;
+        add_entry(alloc, acc, keys, pair.0.as_str(), value, &pair.1, paired, nodes, out)?;
     }
     Ok(())
 }
 
 // Appends a key and its value, as an entry of a map or as a pair.
 #[cycle(pass)]
-fn add_entry(
+fn add_entry<H: KeyHash>(
     alloc: Global,
     acc: &Accepted,
+    keys: &H,
     key: &str,
     slot: Slot,
     val: &Val,
     paired: bool,
+    nodes: &mut Nodes,
     out: &mut Emit,
 ) -> Result<(), AllocError>
-    requires { slot.ty.0 < length acc.now }
-    ensures ok { OnOk result (Wrote (entry_made acc.now paired key.now slot (value_of val.now)) out.old out.new) }
+    requires within { slot.ty.0 < length acc.now }
+    requires fits { FitsIn acc.now slot (value_of val.now) }
+    ensures ok { OnOk result (Writes H.hash_of acc.now (entry_made (whole H.hash_of) acc.now paired key.now slot (value_of val.now)) (λ μ. weigh μ acc.now slot (value_of val.now)) out.old out.new nodes.old nodes.new) }
     ensures err { OnErr result (IsGrown out.old out.new) }
 {
     add_key(paired, key, out)?;
-    add(alloc, acc, slot, val, out)
+    add(alloc, acc, keys, slot, val, nodes, out)
 }
 
 // Appends a struct.
 #[cycle(pass)]
-fn add_struct(
+fn add_struct<H: KeyHash>(
     alloc: Global,
     acc: &Accepted,
+    keys: &H,
     slot: Slot,
     val: &Val,
     vals: &ValFields,
+    nodes: &mut Nodes,
     out: &mut Emit,
 ) -> Result<(), AllocError>
     requires within { slot.ty.0 < length acc.now }
     requires same { value_of val.now ≡ V.struct vals.now }
-    ensures ok { OnOk result (Wrote (made acc.now slot (V.struct vals.now)) out.old out.new) }
+    requires fits { FitsIn acc.now slot (V.struct vals.now) }
+    ensures ok { OnOk result (Writes H.hash_of acc.now (made (whole H.hash_of) acc.now slot (V.struct vals.now)) (λ μ. weigh μ acc.now slot (V.struct vals.now)) out.old out.new nodes.old nodes.new) }
     ensures err { OnErr result (IsGrown out.old out.new) }
 {
     let _legible = acc.types();
     match form_of(acc, slot) {
         TypeDef::Struct(def) => match def.form {
-            StructForm::Map => add_fields(alloc, acc, def, vals, out),
-            StructForm::Tuple => add_tuple(alloc, acc, def, vals, out),
-            StructForm::ListPairs => add_listed(alloc, acc, def, vals, out),
+            StructForm::Map => add_fields(alloc, acc, keys, def, vals, nodes, out),
+            StructForm::Tuple => add_tuple(alloc, acc, keys, def, vals, nodes, out),
+            StructForm::ListPairs => add_listed(alloc, acc, keys, def, vals, nodes, out),
             StructForm::StringPairs(_, _) | StructForm::StringJoin(_) => {
                 add_as_text(alloc, acc, slot, val, out)
             }
@@ -206,15 +224,18 @@ fn add_struct(
 
 // Appends the values that are there, without their names.
 #[cycle(pass)]
-fn add_tuple(
+fn add_tuple<H: KeyHash>(
     alloc: Global,
     acc: &Accepted,
+    keys: &H,
     def: &StructDef,
     vals: &ValFields,
+    nodes: &mut Nodes,
     out: &mut Emit,
 ) -> Result<(), AllocError>
-    requires { IsWithin (length acc.now) (D.Struct def.now) }
-    ensures ok { OnOk result (Wrote (counted 4 (count_present (optionals_list vals.now)) (tuple_made acc.now def.now.fields (optionals_list vals.now))) out.old out.new) }
+    requires within { IsWithin (length acc.now) (D.Struct def.now) }
+    requires fits { PlacesFit acc.now def.now.fields (optionals_list vals.now) }
+    ensures ok { OnOk result (Writes H.hash_of acc.now (counted 4 (count_present (optionals_list vals.now)) (tuple_made (whole H.hash_of) acc.now def.now.fields (optionals_list vals.now))) (λ μ. fields_weight μ acc.now def.now.fields (optionals_list vals.now)) out.old out.new nodes.old nodes.new) }
     ensures err { OnErr result (IsGrown out.old out.new) }
 {
     out.head(4, present(vals) as u64)?;
@@ -222,22 +243,25 @@ fn add_tuple(
         let Some(val) = field_at(vals, i) else {
             continue;
         };
-        add(alloc, acc, field.slot, val, out)?;
+        add(alloc, acc, keys, field.slot, val, nodes, out)?;
     }
     Ok(())
 }
 
 // Appends the fields that are there and not left out as pairs, in the order of declaration.
 #[cycle(pass)]
-fn add_listed(
+fn add_listed<H: KeyHash>(
     alloc: Global,
     acc: &Accepted,
+    keys: &H,
     def: &StructDef,
     vals: &ValFields,
+    nodes: &mut Nodes,
     out: &mut Emit,
 ) -> Result<(), AllocError>
-    requires { IsWithin (length acc.now) (D.Struct def.now) }
-    ensures ok { OnOk result (Wrote (counted 4 (count_written def.now.fields (optionals_list vals.now)) (fields_made acc.now true def.now.fields (optionals_list vals.now))) out.old out.new) }
+    requires within { IsWithin (length acc.now) (D.Struct def.now) }
+    requires fits { PlacesFit acc.now def.now.fields (optionals_list vals.now) }
+    ensures ok { OnOk result (Writes H.hash_of acc.now (counted 4 (count_written def.now.fields (optionals_list vals.now)) (fields_made (whole H.hash_of) acc.now true def.now.fields (optionals_list vals.now))) (λ μ. fields_weight μ acc.now def.now.fields (optionals_list vals.now)) out.old out.new nodes.old nodes.new) }
     ensures err { OnErr result (IsGrown out.old out.new) }
 {
     out.head(4, written(&def.fields, vals) as u64)?;
@@ -248,64 +272,74 @@ fn add_listed(
         if is_left_out(field, val) {
             continue;
         }
-        add_entry(alloc, acc, text_of_field(field), field.slot, val, true, out)?;
+        add_entry(alloc, acc, keys, text_of_field(field), field.slot, val, true, nodes, out)?;
     }
     Ok(())
 }
 
 // Appends the fields that are there and not left out as a map.
 #[cycle(pass)]
-fn add_fields(
+fn add_fields<H: KeyHash>(
     alloc: Global,
     acc: &Accepted,
+    keys: &H,
     def: &StructDef,
     vals: &ValFields,
+    nodes: &mut Nodes,
     out: &mut Emit,
 ) -> Result<(), AllocError>
-    requires { IsWithin (length acc.now) (D.Struct def.now) }
-    ensures ok { OnOk result (Wrote (map_made acc.now def.now.fields (optionals_list vals.now)) out.old out.new) }
+    requires within { IsWithin (length acc.now) (D.Struct def.now) }
+    requires fits { PlacesFit acc.now def.now.fields (optionals_list vals.now) }
+    requires apart { AreNamesApart def.now.fields }
+    ensures ok { OnOk result (Writes H.hash_of acc.now (map_made (whole H.hash_of) acc.now def.now.fields (optionals_list vals.now)) (λ μ. fields_weight μ acc.now def.now.fields (optionals_list vals.now)) out.old out.new nodes.old nodes.new) }
     ensures err { OnErr result (IsGrown out.old out.new) }
 {
     let places = places(alloc, &def.fields, vals)?;
     let places = in_order(alloc, &def.fields, NO_TAG.key, places)?;
-    add_places(alloc, acc, def, vals, NO_TAG, &places, out)
+    add_places(alloc, acc, keys, def, vals, NO_TAG, &places, nodes, out)
 }
 
 // Appends the fields at these places, and a text under a key for the place past them, as a map.
 #[cycle(pass)]
-fn add_places(
+fn add_places<H: KeyHash>(
     alloc: Global,
     acc: &Accepted,
+    keys: &H,
     def: &StructDef,
     vals: &ValFields,
     tag: Tag<'_>,
     places: &[usize],
+    nodes: &mut Nodes,
     out: &mut Emit,
 ) -> Result<(), AllocError>
-    requires { IsWithin (length acc.now) (D.Struct def.now) }
-    ensures ok { OnOk result (Wrote (counted 5 (length places.now) (places_made acc.now def.now.fields (optionals_list vals.now) tag.entry.name.now (named def.now.fields tag.entry.key.now places.now))) out.old out.new) }
+    requires within { IsWithin (length acc.now) (D.Struct def.now) }
+    requires fits { PlacesFit acc.now def.now.fields (optionals_list vals.now) }
+    ensures ok { OnOk result (Writes H.hash_of acc.now (counted 5 (length places.now) (places_made (whole H.hash_of) acc.now def.now.fields (optionals_list vals.now) tag.entry.name.now (named def.now.fields tag.entry.key.now places.now))) (λ μ. places_weight μ acc.now def.now.fields (optionals_list vals.now) places.now) out.old out.new nodes.old nodes.new) }
     ensures err { OnErr result (IsGrown out.old out.new) }
 {
     out.head(5, places.len() as u64)?;
     for place in places {
-        add_place(alloc, acc, def, vals, tag, *place, out)?;
+        add_place(alloc, acc, keys, def, vals, tag, *place, nodes, out)?;
     }
     Ok(())
 }
 
 // Appends the field at a place under its name, or the text under its key.
 #[cycle(pass)]
-fn add_place(
+fn add_place<H: KeyHash>(
     alloc: Global,
     acc: &Accepted,
+    keys: &H,
     def: &StructDef,
     vals: &ValFields,
     tag: Tag<'_>,
     place: usize,
+    nodes: &mut Nodes,
     out: &mut Emit,
 ) -> Result<(), AllocError>
-    requires { IsWithin (length acc.now) (D.Struct def.now) }
-    ensures ok { OnOk result (Wrote (place_made acc.now def.now.fields (optionals_list vals.now) tag.entry.name.now (name_at def.now.fields tag.entry.key.now place, place)) out.old out.new) }
+    requires within { IsWithin (length acc.now) (D.Struct def.now) }
+    requires fits { PlacesFit acc.now def.now.fields (optionals_list vals.now) }
+    ensures ok { OnOk result (Writes H.hash_of acc.now (place_made (whole H.hash_of) acc.now def.now.fields (optionals_list vals.now) tag.entry.name.now (name_at def.now.fields tag.entry.key.now place, place)) (λ μ. place_weight μ acc.now def.now.fields (optionals_list vals.now) place) out.old out.new nodes.old nodes.new) }
     ensures err { OnErr result (IsGrown out.old out.new) }
 {
     match def.fields.get(place) {
@@ -313,10 +347,12 @@ fn add_place(
             Some(val) => add_entry(
                 alloc,
                 acc,
+                keys,
                 text_of_field(field),
                 field.slot,
                 val,
                 false,
+                nodes,
                 out,
             ),
             None => Ok(()),
@@ -327,18 +363,21 @@ fn add_place(
 
 // Appends a union.
 #[cycle(pass)]
-fn add_union(
+fn add_union<H: KeyHash>(
     alloc: Global,
     acc: &Accepted,
+    keys: &H,
     slot: Slot,
     val: &Val,
     number: u32,
     part: &ValPart,
+    nodes: &mut Nodes,
     out: &mut Emit,
 ) -> Result<(), AllocError>
     requires within { slot.ty.0 < length acc.now }
     requires same { value_of val.now ≡ V.union number part.now }
-    ensures ok { OnOk result (Wrote (made acc.now slot (V.union number part.now)) out.old out.new) }
+    requires fits { FitsIn acc.now slot (V.union number part.now) }
+    ensures ok { OnOk result (Writes H.hash_of acc.now (made (whole H.hash_of) acc.now slot (V.union number part.now)) (λ μ. weigh μ acc.now slot (V.union number part.now)) out.old out.new nodes.old nodes.new) }
     ensures err { OnErr result (IsGrown out.old out.new) }
 {
     let _legible = acc.types();
@@ -346,7 +385,7 @@ fn add_union(
         TypeDef::Union(def) => match &def.form {
             UnionForm::StringPrefix => add_as_text(alloc, acc, slot, val, out),
             form => match def.members.get(number as usize) {
-                Some(member) => add_member(alloc, acc, form, member, part, out),
+                Some(member) => add_member(alloc, acc, keys, form, member, part, nodes, out),
                 None => Ok(()),
             },
         },
@@ -356,19 +395,22 @@ fn add_union(
 
 // Appends a union's member by the union's form, which is no prefix of a text.
 #[cycle(pass)]
-fn add_member(
+fn add_member<H: KeyHash>(
     alloc: Global,
     acc: &Accepted,
+    keys: &H,
     form: &UnionForm,
     member: &Member,
     part: &ValPart,
+    nodes: &mut Nodes,
     out: &mut Emit,
 ) -> Result<(), AllocError>
     requires within { member.now.ty.0 < length acc.now }
     requires form { form.now ≡ UF.StringPrefix → ⊥ }
     requires made { MadeMember acc.now form.now member.now }
     requires apart { KeysApart form.now }
-    ensures ok { OnOk result (Wrote (option_map spell (option_and_then (λ d. member_form form.now d member.now) (represented alone acc.now (plainly member.now.ty) part.now))) out.old out.new) }
+    requires fits { FitsIn acc.now (plainly member.now.ty) part.now }
+    ensures ok { OnOk result (Writes H.hash_of acc.now (option_map spell (option_and_then (λ d. member_form form.now d member.now) (represented (whole H.hash_of) acc.now (plainly member.now.ty) part.now))) (λ μ. weigh μ acc.now (plainly member.now.ty) part.now) out.old out.new nodes.old nodes.new) }
     ensures err { OnErr result (IsGrown out.old out.new) }
 {
     let slot = Slot {
@@ -377,26 +419,26 @@ fn add_member(
     };
     let val = part.get();
     match (form, &member.mark) {
-        (UnionForm::Kinded, _) => add(alloc, acc, slot, val, out),
+        (UnionForm::Kinded, _) => add(alloc, acc, keys, slot, val, nodes, out),
         (UnionForm::Keyed, Mark::Text(name)) => {
-            add_keyed(alloc, acc, name.as_str(), slot, val, out)
+            add_keyed(alloc, acc, keys, name.as_str(), slot, val, nodes, out)
         }
         (UnionForm::Envelope(key, content), Mark::Text(name)) => {
             let tag = Tag {
                 key: key.as_str(),
                 name: name.as_str(),
             };
-            add_envelope(alloc, acc, tag, content.as_str(), slot, val, out)
+            add_envelope(alloc, acc, keys, tag, content.as_str(), slot, val, nodes, out)
         }
         (UnionForm::Inline(key), Mark::Text(name)) => {
             let tag = Tag {
                 key: key.as_str(),
                 name: name.as_str(),
             };
-            add_inline(alloc, acc, tag, slot, val, out)
+            add_inline(alloc, acc, keys, tag, slot, val, nodes, out)
         }
         (UnionForm::BytesPrefix, Mark::Text(digits)) => {
-            add_prefixed(alloc, acc, digits.as_str(), slot, val, out)
+            add_prefixed(alloc, acc, keys, digits.as_str(), slot, val, nodes, out)
         }
         _ => Ok(()),
     }
@@ -404,62 +446,72 @@ fn add_member(
 
 // Appends a member under its text.
 #[cycle(pass)]
-fn add_keyed(
+fn add_keyed<H: KeyHash>(
     alloc: Global,
     acc: &Accepted,
+    keys: &H,
     name: &str,
     slot: Slot,
     val: &Val,
+    nodes: &mut Nodes,
     out: &mut Emit,
 ) -> Result<(), AllocError>
-    requires { slot.ty.0 < length acc.now }
-    ensures ok { OnOk result (Wrote (marked_made acc.now UF.Keyed slot (value_of val.now) name.now) out.old out.new) }
+    requires within { slot.ty.0 < length acc.now }
+    requires fits { FitsIn acc.now slot (value_of val.now) }
+    ensures ok { OnOk result (Writes H.hash_of acc.now (marked_made (whole H.hash_of) acc.now UF.Keyed slot (value_of val.now) name.now) (λ μ. weigh μ acc.now slot (value_of val.now)) out.old out.new nodes.old nodes.new) }
     ensures err { OnErr result (IsGrown out.old out.new) }
 {
     out.head(5, 1)?;
-    add_entry(alloc, acc, name, slot, val, false, out)
+    add_entry(alloc, acc, keys, name, slot, val, false, nodes, out)
 }
 
 // Appends a member beside its text, both under keys, in the key order.
 #[cycle(pass)]
-fn add_envelope(
+fn add_envelope<H: KeyHash>(
     alloc: Global,
     acc: &Accepted,
+    keys: &H,
     tag: Tag<'_>,
     content: &str,
     slot: Slot,
     val: &Val,
+    nodes: &mut Nodes,
     out: &mut Emit,
 ) -> Result<(), AllocError>
     requires within { slot.ty.0 < length acc.now }
     requires apart { tag.key.now ≡ content.now → ⊥ }
-    ensures ok { OnOk result (Wrote (marked_made acc.now (UF.Envelope tag.entry.key.now content.now) slot (value_of val.now) tag.entry.name.now) out.old out.new) }
+    requires fits { FitsIn acc.now slot (value_of val.now) }
+    ensures ok { OnOk result (Writes H.hash_of acc.now (marked_made (whole H.hash_of) acc.now (UF.Envelope tag.entry.key.now content.now) slot (value_of val.now) tag.entry.name.now) (λ μ. weigh μ acc.now slot (value_of val.now)) out.old out.new nodes.old nodes.new) }
     ensures err { OnErr result (IsGrown out.old out.new) }
 {
     out.head(5, 2)?;
     if key_less(tag.key, content) {
         add_tag(tag, out)?;
-        add_entry(alloc, acc, content, slot, val, false, out)
+        add_entry(alloc, acc, keys, content, slot, val, false, nodes, out)
     } else {
-        add_entry(alloc, acc, content, slot, val, false, out)?;
+        add_entry(alloc, acc, keys, content, slot, val, false, nodes, out)?;
         add_tag(tag, out)
     }
 }
 
 // Appends a member, which is a struct as a map, with an entry more for its text.
 #[cycle(pass)]
-fn add_inline(
+fn add_inline<H: KeyHash>(
     alloc: Global,
     acc: &Accepted,
+    keys: &H,
     tag: Tag<'_>,
     slot: Slot,
     val: &Val,
+    nodes: &mut Nodes,
     out: &mut Emit,
 ) -> Result<(), AllocError>
     requires within { slot.ty.0 < length acc.now }
     requires plain { slot.nullable ≡ false }
     requires map { is_map_struct (form_of acc.now slot) ≡ true }
-    ensures ok { OnOk result (Wrote (marked_made acc.now (UF.Inline tag.entry.key.now) slot (value_of val.now) tag.entry.name.now) out.old out.new) }
+    requires fits { FitsIn acc.now slot (value_of val.now) }
+    requires apart { IsApartFrom acc.now tag.key.now slot }
+    ensures ok { OnOk result (Writes H.hash_of acc.now (marked_made (whole H.hash_of) acc.now (UF.Inline tag.entry.key.now) slot (value_of val.now) tag.entry.name.now) (λ μ. weigh μ acc.now slot (value_of val.now)) out.old out.new nodes.old nodes.new) }
     ensures err { OnErr result (IsGrown out.old out.new) }
 {
     let _legible = acc.types();
@@ -468,7 +520,7 @@ fn add_inline(
             let places = places(alloc, &def.fields, vals)?;
             let mut places = in_order(alloc, &def.fields, tag.key, places)?;
             put(&def.fields, tag.key, &mut places, def.fields.len())?;
-            add_places(alloc, acc, def, vals, tag, &places, out)
+            add_places(alloc, acc, keys, def, vals, tag, &places, nodes, out)
         }
         _ => Ok(()),
     }
@@ -476,20 +528,23 @@ fn add_inline(
 
 // Appends the bytes of a member behind its prefix.
 #[cycle(pass)]
-fn add_prefixed(
+fn add_prefixed<H: KeyHash>(
     alloc: Global,
     acc: &Accepted,
+    keys: &H,
     digits: &str,
     slot: Slot,
     val: &Val,
+    nodes: &mut Nodes,
     out: &mut Emit,
 ) -> Result<(), AllocError>
-    requires { slot.ty.0 < length acc.now }
-    ensures ok { OnOk result (Wrote (marked_made acc.now UF.BytesPrefix slot (value_of val.now) digits.now) out.old out.new) }
+    requires within { slot.ty.0 < length acc.now }
+    requires fits { FitsIn acc.now slot (value_of val.now) }
+    ensures ok { OnOk result (Writes H.hash_of acc.now (marked_made (whole H.hash_of) acc.now UF.BytesPrefix slot (value_of val.now) digits.now) (λ μ. weigh μ acc.now slot (value_of val.now)) out.old out.new nodes.old nodes.new) }
     ensures err { OnErr result (out.new ≡ out.old) }
 {
     let mut member = Emit::new(alloc);
-    add(alloc, acc, slot, val, &mut member)?;
+    add(alloc, acc, keys, slot, val, nodes, &mut member)?;
     let spelled = member.finish();
     let mut bytes = Vec::new(alloc);
     add_hex(&mut bytes, digits.as_bytes())?;

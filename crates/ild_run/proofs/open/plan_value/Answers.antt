@@ -1,25 +1,18 @@
 use Rattle.std.proofs.Common.{option_map, Ok, Err, sym, ap, ◌∙◌}
 use Rattle.ild_schema.specs.declared.number.TypeNo.{TypeNo}
-use Rattle.ild_run.proofs.Openings.{opens_unnamed, opens_reached, opens_unknown, opens_value}
+use Rattle.ild_run.proofs.Openings.{opens_unnamed, opens_value}
 use Rattle.ild_run.proofs.open.plan_value.Goals as goal
 
 pub returns-in_default : goal.returns-in_default
 returns-in_default g c =
     opens_unnamed (g.I.Inputs.supply c.args.inputs.now) c.args.schema c.args.ty.now c.args.value.now (sym c.type_named.ensures.named ∙ ap (option_map (λ (n : TypeNo). n.0)) c.in_default.is)
 
-pub returns-in-Ok-true : goal.returns-in-Ok-true
-returns-in-Ok-true g c =
-    opens_reached (g.I.Inputs.supply c.args.inputs.now) c.args.schema c.args.ty.now c.args.value.now c.in-Some.number (sym c.in-Some.ensures.named) (c.in-Ok-true.ensures.reaches c.in-Ok-true.field-0-test)
-
-pub returns-in-Err : goal.returns-in-Err
-returns-in-Err g c = opens_unknown (g.I.Inputs.supply c.args.inputs.now) c.args.schema c.args.ty.now c.args.value.now
-
 pub returns-in-Ok : goal.returns-in-Ok
 returns-in-Ok g c =
     opens_value (g.I.Inputs.supply c.args.inputs.now) (g.I.Inputs.supply c.take_input.new.inputs) c.args.schema c.args.ty.now c.args.value.now c.in-Some.number (Ok c.in-Ok.bytes)
-    (sym c.in-Some.ensures.named) c.in-Some.ensures.within (c.in-Ok-false.ensures.free c.in-Ok-false.field-0-test) c.in-Ok.ensures
+    (sym c.in-Some.ensures.named) c.in-Some.ensures.within c.in-Ok.ensures
 
-pub returns-in-Err-take_input : goal.returns-in-Err-take_input
-returns-in-Err-take_input g c =
-    opens_value (g.I.Inputs.supply c.args.inputs.now) (g.I.Inputs.supply c.take_input.new.inputs) c.args.schema c.args.ty.now c.args.value.now c.in-Some.number (Err c.in-Err-take_input.fault)
-    (sym c.in-Some.ensures.named) c.in-Some.ensures.within (c.in-Ok-false.ensures.free c.in-Ok-false.field-0-test) c.in-Err-take_input.ensures
+pub returns-in-Err : goal.returns-in-Err
+returns-in-Err g c =
+    opens_value (g.I.Inputs.supply c.args.inputs.now) (g.I.Inputs.supply c.take_input.new.inputs) c.args.schema c.args.ty.now c.args.value.now c.in-Some.number (Err c.in-Err.fault)
+    (sym c.in-Some.ensures.named) c.in-Some.ensures.within c.in-Err.ensures
