@@ -1,7 +1,6 @@
 -- Layers that stand as a text: what they write, and that no HAMT is in them.
-use Rattle.std.proofs.Common.{◌≡◌, ℕ, List, [], true, Option, Some, option_map, refl, sym, ap, ◌∙◌}
+use Rattle.std.proofs.Common.{◌≡◌, ℕ, List, true, Some, option_map, refl, sym, ap, ◌∙◌}
 use Rattle.std.specs.Prelude.{option_and_then}
-use Rattle.std.proofs.lemmas.Option.{same_Some}
 use Rattle.ild_data.specs.Spell.{spell, spell_text}
 use Rattle.ild_schema.specs.declared.number.Slot.{Slot}
 use Rattle.ild_schema.specs.declared.def.TypeDef.{TypeDef}
@@ -16,11 +15,10 @@ use Rattle.ild_schema.specs.Made.{HasOnly, IsMade}
 use Rattle.ild_schema.specs.Slots.{form_of, plainly}
 use Rattle.ild_schema.specs.Value as V
 use Rattle.ild_schema.specs.Value.{Value}
-use Rattle.ild_typed.specs.Hamt.{alone, whole}
+use Rattle.ild_typed.specs.Hamt.{whole}
 use Rattle.ild_typed.specs.Layer as L
 use Rattle.ild_typed.specs.Layer.{Layer}
 use Rattle.ild_typed.specs.Layers.{layer_of}
-use Rattle.ild_typed.specs.OfType.{OfType}
 use Rattle.ild_typed.specs.Represented.{represented}
 use Rattle.ild_typed.specs.Strings.{text_in}
 use Rattle.ild_typed.proofs.Basics.{map_from}

@@ -1,9 +1,8 @@
 -- Values in which no HAMT stands weigh nothing: leaves, and texts.
-use Rattle.std.proofs.Common.{◌≡◌, ℕ, zero, suc, ◌+◌, ◌<◌, List, [], ◌∷◌, Bool, true, false, ◌||◌, Option, Some, None, option_map, slice_get, refl, sym, ap, ◌∙◌, subst, arith}
+use Rattle.std.proofs.Common.{◌≡◌, ℕ, zero, suc, ◌+◌, ◌<◌, List, [], ◌∷◌, Bool, true, false, ◌||◌, Option, Some, None, option_map, refl, sym, ap, ◌∙◌, arith}
 use Rattle.std.specs.Prelude.{option_and_then}
 use Rattle.std.specs.Option.{option_map_or}
-use Rattle.std.proofs.lemmas.Option.{same_Some, none-some}
-use Rattle.ild_data.specs.Data as T
+use Rattle.std.proofs.lemmas.Option.{none-some}
 use Rattle.ild_data.specs.Data.{Data}
 use Rattle.ild_data.specs.Spell.{spell}
 use Rattle.ild_schema.specs.declared.number.Slot.{Slot}
@@ -29,7 +28,6 @@ use Rattle.ild_typed.specs.EachLayer.{some_layer, some_value, some_pair, some_fi
 use Rattle.ild_typed.specs.Hamt.{a_map, alone, root_map, whole}
 use Rattle.ild_typed.specs.Layer as L
 use Rattle.ild_typed.specs.Layer.{Layer, as_map, as_hamt}
-use Rattle.ild_typed.specs.Layers.{layer_of}
 use Rattle.ild_typed.specs.OfType.{OfType}
 use Rattle.ild_typed.specs.Represented.{represented, layered}
 use Rattle.ild_typed.specs.Slots.{element_of, fields_of, member_of}

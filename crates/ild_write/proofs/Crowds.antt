@@ -1,11 +1,11 @@
 -- Whether entries have a trie is said by their keys alone.
-use Rattle.std.proofs.Common.{◌≡◌, ℕ, zero, suc, ◌+◌, ◌-◌, ◌^◌, nat_le, ◌==◌, Bool, true, false, cond, not, ◌||◌, ◌&&◌, List, [], ◌∷◌, length, map, Option, Some, None, is_some, is_none, option_map, refl, sym, ap, ◌∙◌}
-use Rattle.std.specs.List.{filter, list_all, range_with_len}
+use Rattle.std.proofs.Common.{◌≡◌, ℕ, zero, suc, ◌+◌, ◌-◌, ◌^◌, nat_le, ◌==◌, Bool, true, false, cond, not, ◌||◌, ◌&&◌, List, [], ◌∷◌, length, map, Option, Some, None, is_some, option_map, refl, sym, ap, ◌∙◌}
+use Rattle.std.specs.List.{range_with_len}
 use Rattle.std.specs.Ordering.{eq_by_cmp, match_ordering}
 use Rattle.std.specs.declared.cmp.Ordering.{Ordering}
 use Rattle.std.specs.declared.cmp.Ordering.TheVariants.{Less, Equal, Greater}
 use Rattle.std.specs.FinMap.{find, put}
-use Rattle.std.proofs.lemmas.Option.{same_Some, none-some}
+use Rattle.std.proofs.lemmas.Option.{same_Some}
 use Rattle.ild_data.specs.ByteOrder.{bytewise, in_byte_order, no_key_twice}
 use Rattle.ild_data.specs.Data as T
 use Rattle.ild_data.specs.Data.{Data}
@@ -70,7 +70,7 @@ module _ (h : List ℕ → List ℕ) (p : TrieShape) where
       by more true = refl
       by more false = more
 
-  twice_nulls : (es : List (List ℕ × Data)) → no_key_twice (nulls es) ≡ no_key_twice es
+  pub twice_nulls : (es : List (List ℕ × Data)) → no_key_twice (nulls es) ≡ no_key_twice es
   twice_nulls [] = refl
   twice_nulls (e ∷ es) = λ i. not (find_nulls e.0 es i) && twice_nulls es i
 

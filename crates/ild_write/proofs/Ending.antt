@@ -1,12 +1,10 @@
 -- What puts of the planned blocks leave.
-use Rattle.std.proofs.Common.{◌≡◌, ◌⊎◌, inl, inr, ⊎_elim, ℕ, zero, suc, ◌+◌, ◌≤◌, List, [], ◌∷◌, length, take, Option, Some, None, Result, Ok, Err, refl, sym, ap, ◌∙◌, subst, arith}
+use Rattle.std.proofs.Common.{◌≡◌, inl, inr, ⊎_elim, ℕ, zero, suc, ◌+◌, List, [], ◌∷◌, take, Option, Some, None, Result, Ok, Err, refl, sym, ap, ◌∙◌, subst, arith}
 use Rattle.std.specs.List.{AllByRecursion}
-use Rattle.ild_data.specs.Bytes.{AreBytes}
-use Rattle.ild_data.specs.Spell.{spell, id_of}
-use Rattle.ild_data.specs.declared.id.BlockId.{BlockId}
+use Rattle.ild_data.specs.Spell.{id_of}
 use Rattle.ild_edges.specs.Store.{Moment, block_at}
 use Rattle.ild_edges.specs.Told.{BothTold, IfTold}
-use Rattle.ild_bulk.specs.Children.{AddsWhole, Follows}
+use Rattle.ild_bulk.specs.Children.{Follows}
 use Rattle.ild_bulk.specs.Putting.{AreHeld, IsAmong, PutsAll, StopsAfter}
 use Rattle.ild_bulk.proofs.Childs.{held_among, puts-whole}
 use Rattle.ild_bulk.proofs.Puts.{told-map}
@@ -16,7 +14,7 @@ use Rattle.ild_schema.specs.declared.number.Slot.{Slot}
 use Rattle.ild_schema.specs.declared.row.Row.{Row}
 use Rattle.ild_schema.specs.Value.{Value}
 use Rattle.ild_typed.specs.Blocks.{nodes}
-use Rattle.ild_write.specs.Builds.{AddsOnly, BuildAnswer, Builds, Collides, HasBlocks, Holds, PutsSome}
+use Rattle.ild_write.specs.Builds.{BuildAnswer, Builds, HasBlocks, PutsSome}
 use Rattle.ild_write.specs.Planned.{AreAlike, IsPlanned, Plans, StoppedBy}
 use Rattle.ild_write.specs.declared.fault.BuildFault.{BuildFault}
 use Rattle.ild_write.specs.declared.fault.BuildFault.TheVariants as B
@@ -71,13 +69,13 @@ module _ (h : List ℕ → List ℕ) (rows : List Row) (slot : Slot) (v : Value)
   stop_answer m n bs (F.Clash id kept new) r has same by puts =
       subst (λ (f : BuildFault). BuildAnswer h rows slot v m (Err f) n) (sym by.0) (
         record {
-              kept = kept;
-              new = new;
-              held = if_more n.blocks (λ held. block_at held id.0 ≡ Some kept) (λ held. AllByRecursion (λ b. block_at held (id_of b) ≡ Some b) (kept ∷ [])) (λ held t. (ap (block_at held) puts.answer.1 ∙ t, tt)) puts.answer.4;
-              among = contained new (nodes h rows slot v) (among_alike bs (nodes h rows slot v) same new puts.answer.0);
-              named = puts.answer.2;
-              collide = record { kept_bytes = by.1; new_bytes = by.2; differ = puts.answer.3; one_id = puts.answer.1 ∙ sym puts.answer.2 };
-            },
+          kept = kept;
+          new = new;
+          held = if_more n.blocks (λ held. block_at held id.0 ≡ Some kept) (λ held. AllByRecursion (λ b. block_at held (id_of b) ≡ Some b) (kept ∷ [])) (λ held t. (ap (block_at held) puts.answer.1 ∙ t, tt)) puts.answer.4;
+          among = contained new (nodes h rows slot v) (among_alike bs (nodes h rows slot v) same new puts.answer.0);
+          named = puts.answer.2;
+          collide = record { kept_bytes = by.1; new_bytes = by.2; differ = puts.answer.3; one_id = puts.answer.1 ∙ sym puts.answer.2 };
+        },
         has,
       )
   stop_answer m n bs F.Memory r has same by puts = subst (λ (f : BuildFault). BuildAnswer h rows slot v m (Err f) n) (sym by) (inr has)

@@ -1,6 +1,5 @@
 -- The parts of a value that fits fit too.
 use Rattle.std.proofs.Common.{◌≡◌, ℕ, zero, suc, ◌+◌, ◌-◌, ◌≤◌, List, [], ◌∷◌, Option, Some, None, IsUtf8, slice_get, Bool, true, false, option_map, refl, sym, ap, ◌∙◌, subst, arith}
-use Rattle.std.specs.Prelude.{option_and_then}
 use Rattle.std.specs.List.{AllByRecursion}
 use Rattle.std.proofs.lemmas.Option.{same_Some, none-some}
 use Rattle.ild_data.specs.Data as T
@@ -22,18 +21,16 @@ use Rattle.ild_schema.specs.Value.{Value, Values, Pairs, Optionals, values_list,
 use Rattle.ild_typed.specs.Fits.{Fits}
 use Rattle.ild_typed.specs.Layer as L
 use Rattle.ild_typed.specs.Layer.{Layer}
-use Rattle.ild_typed.specs.Layers.{AreKeys, FieldsFit, LayerFits, Shows, layer_of}
+use Rattle.ild_typed.specs.Layers.{AreKeys, LayerFits, Shows, layer_of}
 use Rattle.ild_typed.specs.Levels.{levels_of}
 use Rattle.ild_typed.proofs.FormOf.{list_form, map_form, struct_form, union_form}
 use Rattle.ild_build.specs.PartAt.{field_at, in_slot, part_at}
 use Rattle.ild_typed.specs.Slots.{element_of, fields_of, member_at, slot_of}
-use Rattle.ild_schema.specs.Whole.{is_whole}
-use Rattle.ild_typed.specs.Judged.{breaks, breaks_delimiter, has_hole}
+use Rattle.ild_typed.specs.Judged.{breaks, breaks_delimiter}
 use Rattle.ild_build.proofs.PartFits.{part_fits, part_free, part_whole}
 use Rattle.ild_build.proofs.PartTests.{by_part}
 use Rattle.ild_build.proofs.RoomParts.{in_room}
-use Rattle.ild_build.proofs.Turns.{value_got}
-use Rattle.ild_write.specs.Fitting.{FitsIn, ItemsFit, EntriesFit, PlacesFit, HamtEntry, HamtFits}
+use Rattle.ild_write.specs.Fitting.{FitsIn, ItemsFit, EntriesFit, PlacesFit, HamtFits}
 
 module _ (rows : List Row) where
   record LayerFit (d : TypeDef) (v : Value) (l : Layer Value) : Type 0 where
@@ -69,13 +66,13 @@ module _ (rows : List Row) where
       let a = x.low in
       record {
         fit = record {
-              room = x.room;
-              low = omega (arith, a);
-              fits = part_fits (Fits rows x.room) rows d v l i u w e x.holds at;
-              whole = part_whole (Some d) v i u w at fit.whole;
-              hole = part_free rows s v d f fit.hole i u w at;
-              joined = unbroken s v d f fit.joined i u w at;
-            };
+          room = x.room;
+          low = omega (arith, a);
+          fits = part_fits (Fits rows x.room) rows d v l i u w e x.holds at;
+          whole = part_whole (Some d) v i u w at fit.whole;
+          hole = part_free rows s v d f fit.hole i u w at;
+          joined = unbroken s v d f fit.joined i u w at;
+        };
         low = a;
       }
 
@@ -212,3 +209,8 @@ module _ (rows : List Row) where
   member_fit s ud n m v f at fit =
       let x = union_fit s n v (D.Union ud) f fit in
       subst (λ (k : Member). FitsIn rows (plainly k.ty) v) (same_Some x.member m (sym x.at ∙ sym (ap (λ (d : TypeDef). member_at (Some d) n) x.is) ∙ at)) x.fits
+
+  pub member_there : (s : Slot) (ud : UnionDef) (n : ℕ) (v : Value) → form_of rows s ≡ Some (D.Union ud) → FitsIn rows s (V.union n v) → slice_get ud.members n ≡ None → ⊥
+  member_there s ud n v f fit none =
+      let x = union_fit s n v (D.Union ud) f fit in
+      none-some x.member (sym none ∙ ap (λ (d : TypeDef). member_at (Some d) n) x.is ∙ x.at)

@@ -1,10 +1,10 @@
 -- What is written in turns, with the blocks that are found on the way.
-use Rattle.std.proofs.Common.{◌≡◌, ◌⊎◌, inl, inr, ⊎_elim, ℕ, zero, suc, ◌+◌, ◌≤◌, ◌<◌, Bool, true, false, cond, nat_lt, List, [], ◌∷◌, ◌++◌, length, Option, Some, None, option_map, refl, sym, ap, ◌∙◌, subst, arith, append_assoc, append-nil}
+use Rattle.std.proofs.Common.{◌≡◌, ◌⊎◌, inl, inr, ⊎_elim, ℕ, zero, suc, ◌+◌, ◌≤◌, ◌<◌, Bool, true, false, cond, nat_lt, List, [], ◌++◌, length, Option, Some, option_map, refl, sym, ap, ◌∙◌, subst, arith, append_assoc, append-nil}
 use Rattle.std.specs.List.{sum_by}
 use Rattle.std.proofs.lemmas.Bool.Decides.{nat_tests}
 use Rattle.std.proofs.lemmas.List.{length-append}
 use Rattle.std.proofs.lemmas.List.Sums.{sum_by-append}
-use Rattle.std.proofs.lemmas.Option.{same_Some, none-some}
+use Rattle.std.proofs.lemmas.Option.{same_Some}
 use Rattle.ild_bulk.specs.Children.{Follows}
 use Rattle.ild_bulk.proofs.Childs.{follows-append}
 use Rattle.ild_data.specs.Limits.{longest_block}
@@ -171,6 +171,21 @@ module _ (h : List ℕ → List ℕ) (rows : List Row) where
           blocks = λ f. refl;
           fine = fine;
         });
+  }
+
+  -- with no head
+  pub begins : (whole : Option (List ℕ)) (N : Weight → ℕ) (old : List ℕ) (was : Nodes) → ToGo whole whole N N old old was was
+  begins whole N old was = record {
+    grown = record { more = []; is = sym (append-nil old) };
+    added = [];
+    blocks = sym (append-nil was.blocks.items);
+    follows = λ before. tt;
+    done = λ μ. 0;
+    all = λ μ. omega arith;
+    exhausted = set_none was.exhausted;
+    ahead = λ s is. record { more = s; is = is; short = omega arith };
+    stays = λ k. k;
+    exact = λ fine s is. inl (record { there = refl; blocks = λ f. refl; fine = fine });
   }
 
   pub goes : (whole rest part next : Option (List ℕ)) (N R W S : Weight → ℕ) (old now new : List ℕ) (was then after : Nodes) → rest ≡ both part next → ((μ : Weight) → R μ ≡ W μ + S μ)

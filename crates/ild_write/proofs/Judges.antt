@@ -1,6 +1,5 @@
 -- What the weights of a value say: its blocks, and whether a HAMT of it has no trie.
-use Rattle.std.proofs.Common.{◌≡◌, ℕ, zero, suc, ◌+◌, ◌≤◌, Bool, true, false, cond, ◌||◌, not, List, [], ◌∷◌, ◌++◌, Option, Some, None, is_some, is_none, option_map, refl, sym, ap, ◌∙◌, subst, arith}
-use Rattle.std.specs.Prelude.{option_and_then}
+use Rattle.std.proofs.Common.{◌≡◌, ℕ, ◌+◌, Bool, true, false, cond, ◌||◌, List, [], ◌∷◌, ◌++◌, Option, Some, None, is_some, is_none, option_map, refl, sym, ap, ◌∙◌, arith}
 use Rattle.std.specs.List.{sum_by}
 use Rattle.std.specs.Option.{option_map_or}
 use Rattle.std.proofs.lemmas.List.Sums.{sum_by-append}
@@ -11,7 +10,6 @@ use Rattle.ild_schema.specs.declared.number.Slot.{Slot}
 use Rattle.ild_schema.specs.declared.number.TypeNo.{TypeNo}
 use Rattle.ild_schema.specs.declared.def.TypeDef.{TypeDef}
 use Rattle.ild_schema.specs.declared.def.TypeDef.TheVariants as D
-use Rattle.ild_schema.specs.declared.def.MapForm.{MapForm}
 use Rattle.ild_schema.specs.declared.def.MapForm.TheVariants as MF
 use Rattle.ild_schema.specs.declared.def.Field.{Field}
 use Rattle.ild_schema.specs.declared.row.Row.{Row}
@@ -32,7 +30,7 @@ use Rattle.ild_typed.proofs.Entries.{both_from}
 use Rattle.ild_typed.proofs.OneValue.{Way, as_null, as_layer, way_of}
 use Rattle.ild_typed.proofs.PartData.{values_data, pairs_data, member_data}
 use Rattle.ild_write.specs.Weights.{Weight, beneath, beneath_of, bare_keys, crowded, hamt_weight, weigh, weigh_values, weigh_pairs, weigh_fields}
-use Rattle.ild_write.proofs.Crowds.{nulls, nulls_keys, trie_nulls}
+use Rattle.ild_write.proofs.Crowds.{nulls_keys, trie_nulls}
 
 -- ---- blocks
 
@@ -310,7 +308,7 @@ module _ (h : List ℕ → List ℕ) (rows : List Row) where
         let b = both_from (represented (whole h) rows u v) (represented_values (whole h) rows u vs) ds e in
         omega (arith, uncrowded u v b.item b.first, uncrowded_values u vs b.items b.rest)
 
-    uncrowded_pairs : (u : Slot) (ps : Pairs) (ds : List (List ℕ × Data)) → represented_pairs (whole h) rows u ps ≡ Some ds → weigh_pairs (crowded h) rows u ps ≡ 0
+    pub uncrowded_pairs : (u : Slot) (ps : Pairs) (ds : List (List ℕ × Data)) → represented_pairs (whole h) rows u ps ≡ Some ds → weigh_pairs (crowded h) rows u ps ≡ 0
     uncrowded_pairs u V.no_pairs ds e = refl
     uncrowded_pairs u (V.pair k v ps) ds e =
         let b = both_from (option_map {U = List ℕ × Data} (λ d. (k, d)) (represented (whole h) rows u v)) (represented_pairs (whole h) rows u ps) ds e in

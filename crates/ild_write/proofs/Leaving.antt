@@ -1,10 +1,9 @@
 -- What stays in a store where nothing is put.
-use Rattle.std.proofs.Common.{◌≡◌, ◌⊎◌, inl, ℕ, List, Option, Some, None, refl, arith}
-use Rattle.ild_edges.specs.Store.{Moment, block_at}
+use Rattle.std.proofs.Common.{inl, ℕ, List, Option, Some, None, refl, arith}
+use Rattle.ild_edges.specs.Store.{Moment}
 use Rattle.ild_edges.specs.Told.{BothTold}
 use Rattle.ild_edges.proofs.Later.{Later-refl}
-use Rattle.ild_bulk.specs.Children.{AddsWhole}
-use Rattle.ild_write.specs.Builds.{AddsOnly, PutsSome}
+use Rattle.ild_write.specs.Builds.{PutsSome}
 
 told_same : (P : List (List ℕ) → List (List ℕ) → Type 0) → ((a : List (List ℕ)) → P a a) → (a : Option (List (List ℕ))) → BothTold a a P
 told_same P f None = tt

@@ -1,16 +1,16 @@
 -- Where the blocks of a HAMT are short enough, so are the values of its entries.
-use Rattle.std.proofs.Common.{◌≡◌, ℕ, zero, suc, ◌+◌, ◌^◌, ◌<◌, ◌≤◌, nat_le, ◌==◌, Bool, true, false, cond, List, [], ◌∷◌, ◌++◌, length, map, Option, Some, None, refl, sym, ap, ◌∙◌, subst, arith, flat_map}
+use Rattle.std.proofs.Common.{◌≡◌, ℕ, zero, suc, ◌+◌, ◌^◌, ◌<◌, ◌≤◌, ◌==◌, Bool, true, false, cond, List, [], ◌∷◌, ◌++◌, length, map, Some, refl, sym, ap, ◌∙◌, subst, arith, flat_map}
 use Rattle.std.specs.Prelude.{codes, pos}
 use Rattle.std.specs.List.{AllByRecursion, range_with_len, sum_by}
 use Rattle.std.proofs.lemmas.Bool.{lt-leb, eq-eqb}
 use Rattle.std.proofs.lemmas.List.{length-append}
-use Rattle.std.proofs.lemmas.List.Sums.{sum_by-append}
-use Rattle.std.proofs.lemmas.Option.{same_Some, none-some}
+use Rattle.std.proofs.lemmas.List.Sums.{sum_by-append, sum_by-cons}
+use Rattle.std.proofs.lemmas.Option.{none-some}
 use Rattle.ild_data.specs.Data as T
 use Rattle.ild_data.specs.Data.{Data}
 use Rattle.ild_data.specs.Limits.{longest_block}
 use Rattle.ild_data.specs.Spell.{head, spell, spell_items, spell_members, spell_text}
-use Rattle.ild_data.specs.Trie.{TrieSlot, empty, bucket, child, all_some, at_depth, elements_of, entry_data, map_of, node_data, node_of, part, slot_of}
+use Rattle.ild_data.specs.Trie.{TrieSlot, bucket, all_some, at_depth, elements_of, entry_data, map_of, node_data, node_of, part, slot_of}
 use Rattle.ild_data.specs.TrieBlocks.{block_of, node_and_beneath, nodes_beneath, none_or}
 use Rattle.ild_data.specs.TrieShape.{TrieShape}
 use Rattle.ild_trie.proofs.Index.{index_below}
@@ -20,7 +20,6 @@ use Rattle.ild_typed.specs.Hamt.{root_map}
 use Rattle.ild_typed.proofs.TrieTells.{SlotWay, nothing, few, many, slot_way}
 use Rattle.ild_write.specs.Weights.{over}
 use Rattle.ild_write.proofs.Alikes.{short_of}
-use Rattle.ild_write.proofs.Flow.{over_more}
 
 abbrev pub IsShort : List ℕ × Data → Type 0
 IsShort e = length (spell e.1) ≤ longest_block
@@ -29,7 +28,7 @@ abbrev items_size : List Data → ℕ
 items_size ds = length (spell_items (T.items_of ds))
 
 items_append : (xs ys : List Data) → items_size (xs ++ ys) ≡ items_size xs + items_size ys
-items_append [] ys = refl
+items_append [] ys = omega arith
 items_append (x ∷ xs) ys =
     let more = items_append xs ys in
     omega (arith, more, length-append (spell x) (spell_items (T.items_of (xs ++ ys))), length-append (spell x) (spell_items (T.items_of xs)))
@@ -104,7 +103,8 @@ module _ (h : List ℕ → List ℕ) (p : TrieShape) where
       let plan : node_and_beneath p.bucket (node_of h p left depth) (nodes_beneath h p left depth) es ≡ spell n ∷ nodes_beneath h p left depth es
       = ap (λ b. none_or b (λ fs. block_of (node_of h p left depth fs) ++ nodes_beneath h p left depth fs) es) (lt-leb (length es) p.bucket long) ∙ ap (λ o. block_of o ++ nodes_beneath h p left depth es) has in
       let sum = ap (sum_by over) plan in
-      below es n has (omega (arith, none, sum)) (omega (arith, none, sum))
+      let parts = sum_by-cons over (spell n) (nodes_beneath h p left depth es) in
+      below es n has (omega (arith, none, sum, parts)) (omega (arith, none, sum, parts))
 
   slots_short : (left depth : ℕ) → Below left depth → (at : List ℕ → ℕ) (es : List (List ℕ × Data)) (from n : ℕ) (slots : List TrieSlot)
       → all_some (map (λ i. slot_of p.bucket (node_of h p left depth) (part at es i)) (range_with_len from n)) ≡ Some slots → items_size (flat_map elements_of slots) ≤ longest_block

@@ -1,5 +1,5 @@
 -- Turns of the loops that write the parts of a value.
-use Rattle.std.proofs.Common.{◌≡◌, ℕ, ◌+◌, ◌<◌, ◌≤◌, List, [], ◌∷◌, ◌++◌, length, drop, get_or, Bool, true, false, cond, Option, Some, None, option_map, slice_get, refl, sym, ap, ◌∙◌}
+use Rattle.std.proofs.Common.{◌≡◌, ℕ, ◌+◌, ◌≤◌, List, [], ◌∷◌, ◌++◌, length, drop, Bool, true, false, cond, Option, Some, None, option_map, slice_get, refl, sym, ap, ◌∙◌}
 use Rattle.std.specs.Prelude.{option_and_then}
 use Rattle.std.specs.Option.{option_map_or}
 use Rattle.ild_data.specs.Spell.{spell_text}
@@ -12,8 +12,7 @@ use Rattle.ild_build.specs.LeftOut.{is_left_out}
 use Rattle.ild_build.specs.PartAt.{field_at}
 use Rattle.ild_build.proofs.Texting.{drop_got, drop_all}
 use Rattle.ild_write.specs.Made.{made, both, items_made, entry_made, entries_made, tuple_made, fields_made}
-use Rattle.ild_write.specs.Places.{name_at, named, place_made, places_made, value_made}
-use Rattle.ild_write.proofs.Ordered.{got_at}
+use Rattle.ild_write.specs.Places.{name_at, place_made, value_made}
 use Rattle.ild_write.proofs.Turns.{over_none, over_some}
 use Rattle.ild_typed.specs.Hamt.{whole}
 
@@ -69,22 +68,10 @@ module _ (hash : List ℕ → List ℕ) (rows : List Row) where
 
   -- ---- places
 
-  pub place_turn : (fs : List Field) (os : List (Option Value)) (key tag : List ℕ) (ps : List ℕ) (i : ℕ) → i < length ps
-      → places_made (whole hash) rows fs os tag (named fs key (drop i ps)) ≡ both (place_made (whole hash) rows fs os tag (name_at fs key (get_or ps i 0), get_or ps i 0)) (places_made (whole hash) rows fs os tag (named fs key (drop (i + 1) ps)))
-  place_turn fs os key tag ps i low = ap (λ xs. places_made (whole hash) rows fs os tag (named fs key xs)) (drop_got ps i (get_or ps i 0) (got_at ps i low))
-
-  pub places_end : (fs : List Field) (os : List (Option Value)) (key tag : List ℕ) (ps : List ℕ) (i : ℕ) → length ps ≤ i → places_made (whole hash) rows fs os tag (named fs key (drop i ps)) ≡ Some []
-  places_end fs os key tag ps i h = ap (λ xs. places_made (whole hash) rows fs os tag (named fs key xs)) (drop_all ps i h)
-
   pub tag_made : (fs : List Field) (os : List (Option Value)) (key tag : List ℕ) (p : ℕ) → slice_get fs p ≡ None → place_made (whole hash) rows fs os tag (name_at fs key p, p) ≡ Some (spell_text key ++ spell_text tag)
   tag_made fs os key tag p none =
       ap (λ o. option_map (λ t. spell_text (option_map_or field_text o key) ++ t) (value_made (whole hash) rows fs os tag p)) none
       ∙ ap (λ o. option_map (λ t. spell_text key ++ t) (option_map_or (λ f. option_and_then (made (whole hash) rows f.slot) (field_at os p)) o (Some (spell_text tag)))) none
-
-  pub place_empty : (fs : List Field) (os : List (Option Value)) (key tag : List ℕ) (p : ℕ) (f : Field) → slice_get fs p ≡ Some f → field_at os p ≡ None → place_made (whole hash) rows fs os tag (name_at fs key p, p) ≡ None
-  place_empty fs os key tag p f at none =
-      ap (λ o. option_map (λ t. spell_text (name_at fs key p) ++ t) (option_map_or (λ g. option_and_then (made (whole hash) rows g.slot) (field_at os p)) o (Some (spell_text tag)))) at
-      ∙ ap (λ o. option_map (λ t. spell_text (name_at fs key p) ++ t) (option_and_then (made (whole hash) rows f.slot) o)) none
 
   pub place_entry : (fs : List Field) (os : List (Option Value)) (key tag : List ℕ) (p : ℕ) (f : Field) (v : Value) (name : List ℕ) → slice_get fs p ≡ Some f → field_at os p ≡ Some v → name ≡ field_text f
       → entry_made (whole hash) rows false name f.slot v ≡ place_made (whole hash) rows fs os tag (name_at fs key p, p)

@@ -1,5 +1,5 @@
 -- What fields weigh together, in whatever order they are written.
-use Rattle.std.proofs.Common.{◌≡◌, ℕ, zero, suc, ◌+◌, List, [], ◌∷◌, length, map, Bool, true, false, cond, Option, Some, None, slice_get, refl, sym, ap, ◌∙◌, subst, arith}
+use Rattle.std.proofs.Common.{◌≡◌, ℕ, suc, ◌+◌, List, [], ◌∷◌, length, map, Bool, true, false, cond, Option, Some, None, slice_get, refl, sym, ap, ◌∙◌, subst, arith}
 use Rattle.std.specs.List.{AllByRecursion}
 use Rattle.std.specs.Option.{option_map_or}
 use Rattle.std.specs.Ordering.{match_ordering}
@@ -14,7 +14,7 @@ use Rattle.ild_schema.specs.Marks.{field_text}
 use Rattle.ild_schema.specs.Value.{Value}
 use Rattle.ild_build.specs.LeftOut.{is_left_out}
 use Rattle.ild_build.specs.PartAt.{field_at}
-use Rattle.ild_write.specs.Places.{in_order, name_at, named, places_from}
+use Rattle.ild_write.specs.Places.{count_written, in_order, name_at, named, places_from}
 use Rattle.ild_write.specs.Weights.{Weight, weigh, fields_weight, place_weight, places_weight}
 use Rattle.ild_write.proofs.Weighing.{field_place, left_weight, no_place}
 
@@ -109,6 +109,27 @@ module _ (name : ℕ → List ℕ) where
         by : sum_at at (here (places_from (suc n) fs os)) ≡ fields_weight μ rows fs os → (b : Bool) → is_left_out f.implicit v ≡ b → sum_at at (here (cond b (places_from (suc n) fs os) (n ∷ places_from (suc n) fs os))) ≡ weigh μ rows f.slot v + fields_weight μ rows fs os
         by rest true e = let none = left_weight rows μ f.implicit f.slot v e in omega (arith, none, rest)
         by rest false e = let same : n ≡ n + 0 = omega arith in let first : at n ≡ weigh μ rows f.slot v = ap at same ∙ w 0 f v refl refl in omega (arith, first, rest)
+
+count_from : (name : ℕ → List ℕ) (n : ℕ) (fs : List Field) (os : List (Option Value)) → sum_at (λ i. 1) (here name (places_from n fs os)) ≡ count_written fs os
+count_from name n [] os = refl
+count_from name n (f ∷ fs) [] = refl
+count_from name n (f ∷ fs) (None ∷ os) = count_from name (suc n) fs os
+count_from name n (f ∷ fs) (Some v ∷ os) = by (is_left_out f.implicit v) (count_from name (suc n) fs os)
+  where
+    by : (b : Bool) → sum_at (λ i. 1) (here name (places_from (suc n) fs os)) ≡ count_written fs os
+        → sum_at (λ i. 1) (here name (cond b (places_from (suc n) fs os) (n ∷ places_from (suc n) fs os))) ≡ cond b (count_written fs os) (suc (count_written fs os))
+    by true rest = rest
+    by false rest = omega (arith, rest)
+
+count_all : (ps : List (List ℕ × ℕ)) → length ps ≡ sum_at (λ i. 1) ps
+count_all [] = refl
+count_all (p ∷ ps) = let rest = count_all ps in omega (arith, rest)
+
+pub order_count : (fs : List Field) (os : List (Option Value)) (key : List ℕ) → AreNamesApart fs → length (in_order (named fs key (places_from 0 fs os))) ≡ count_written fs os
+order_count fs os key apart =
+    let ps = named fs key (places_from 0 fs os) in
+    let names : (j : ℕ) (f : Field) → slice_get fs j ≡ Some f → name_at fs key (0 + j) ≡ field_text f = λ j f at. let e : 0 + j ≡ j = omega arith in ap (name_at fs key) e ∙ ap (λ o. option_map_or field_text o key) at in
+    count_all (in_order ps) ∙ order_sum (λ i. 1) ps (apart_places (name_at fs key) 0 fs os names apart) ∙ count_from (name_at fs key) 0 fs os
 
 -- ---- the fields of a struct
 

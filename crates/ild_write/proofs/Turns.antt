@@ -1,5 +1,5 @@
 -- What a turn of a loop over the fields of a struct meets.
-use Rattle.std.proofs.Common.{◌≡◌, ◌⊎◌, inl, inr, ℕ, zero, suc, ◌+◌, ◌≤◌, List, [], ◌∷◌, ◌++◌, length, drop, Bool, cond, Option, Some, None, slice_get, refl, sym, ap, ◌∙◌, add-one, append_assoc}
+use Rattle.std.proofs.Common.{◌≡◌, ◌⊎◌, inl, inr, ℕ, zero, suc, ◌+◌, ◌≤◌, List, [], ◌∷◌, length, drop, Bool, cond, Option, Some, None, slice_get, refl, sym, ap, ◌∙◌, add-one}
 use Rattle.std.proofs.lemmas.Option.{none-some}
 use Rattle.ild_schema.specs.declared.def.Field.{Field}
 use Rattle.ild_schema.specs.Value.{Value}
@@ -7,7 +7,7 @@ use Rattle.ild_build.specs.LeftOut.{is_left_out}
 use Rattle.ild_build.specs.PartAt.{field_at}
 use Rattle.ild_build.proofs.Texting.{drop_got, drop_all}
 use Rattle.ild_build.proofs.Turns.{value_got}
-use Rattle.ild_write.specs.Places.{count_present, count_written, places_from}
+use Rattle.ild_write.specs.Places.{count_present, count_written}
 
 pub some_next : (os : List (Option Value)) (i : ℕ) (v : Value) → field_at os i ≡ Some v → drop i os ≡ Some v ∷ drop (i + 1) os
 some_next os i v e = drop_got os i (Some v) (value_got os i v e)
@@ -63,35 +63,3 @@ written_none = over_none count_written (λ g gs ps. refl) written_ends
 
 pub written_end : (fs : List Field) (os : List (Option Value)) (i : ℕ) → length fs ≤ i → count_written (drop i fs) (drop i os) ≡ 0
 written_end fs os i h = ap (λ xs. count_written xs (drop i os)) (drop_all fs i h)
-
--- ---- places
-
-module _ (n : ℕ) where
-  places_ends : (f : Field) (fs : List Field) → places_from n (f ∷ fs) [] ≡ []
-  places_ends f fs = refl
-
-  places_nothing : (fs : List Field) → places_from n fs [] ≡ []
-  places_nothing [] = refl
-  places_nothing (f ∷ fs) = refl
-
-pub places_some : (fs : List Field) (os : List (Option Value)) (i : ℕ) (f : Field) (v : Value) (b : Bool) → slice_get fs i ≡ Some f → field_at os i ≡ Some v → is_left_out f.implicit v ≡ b
-    → places_from i (drop i fs) (drop i os) ≡ cond b (places_from (i + 1) (drop (i + 1) fs) (drop (i + 1) os)) (i ∷ places_from (i + 1) (drop (i + 1) fs) (drop (i + 1) os))
-places_some fs os i f v b at there is =
-    ap (λ xs. places_from i xs (drop i os)) (drop_got fs i f at) ∙ ap (places_from i (f ∷ drop (i + 1) fs)) (some_next os i v there)
-    ∙ ap (λ c. cond c (places_from (suc i) (drop (i + 1) fs) (drop (i + 1) os)) (i ∷ places_from (suc i) (drop (i + 1) fs) (drop (i + 1) os))) is
-    ∙ ap (λ m. cond b (places_from m (drop (i + 1) fs) (drop (i + 1) os)) (i ∷ places_from m (drop (i + 1) fs) (drop (i + 1) os))) (sym (add-one i))
-
-pub places_none : (fs : List Field) (os : List (Option Value)) (i : ℕ) (f : Field) → slice_get fs i ≡ Some f → field_at os i ≡ None → places_from i (drop i fs) (drop i os) ≡ places_from (i + 1) (drop (i + 1) fs) (drop (i + 1) os)
-places_none fs os i f at none =
-    ap (λ xs. places_from i xs (drop i os)) (drop_got fs i f at) ∙ by (none_from os i none) ∙ ap (λ m. places_from m (drop (i + 1) fs) (drop m os)) (sym (add-one i))
-  where
-    by : (drop i os ≡ None ∷ drop (suc i) os) ⊎ ((drop i os ≡ []) × (drop (suc i) os ≡ [])) → places_from i (f ∷ drop (i + 1) fs) (drop i os) ≡ places_from (suc i) (drop (i + 1) fs) (drop (suc i) os)
-    by (inl e) = ap (places_from i (f ∷ drop (i + 1) fs)) e
-    by (inr e) = ap (places_from i (f ∷ drop (i + 1) fs)) e.0 ∙ sym (ap (places_from (suc i) (drop (i + 1) fs)) e.1 ∙ places_nothing (suc i) (drop (i + 1) fs))
-
-pub places_end : (fs : List Field) (os : List (Option Value)) (i : ℕ) → length fs ≤ i → places_from i (drop i fs) (drop i os) ≡ []
-places_end fs os i h = ap (λ xs. places_from i xs (drop i os)) (drop_all fs i h)
-
--- more behind what was found
-pub found_more : (xs ys new rest more all : List ℕ) (x : ℕ) → rest ≡ x ∷ more → new ≡ xs ++ x ∷ [] → xs ++ rest ≡ all → new ++ more ≡ all
-found_more xs ys new rest more all x is grown so_far = ap (λ zs. zs ++ more) grown ∙ append_assoc xs (x ∷ []) more ∙ ap (λ zs. xs ++ zs) (sym is) ∙ so_far

@@ -1,11 +1,11 @@
 -- What a whole value's writing says of it.
-use Rattle.std.proofs.Common.{◌≡◌, ◌⊎◌, inl, inr, ⊎_elim, ℕ, zero, ◌+◌, ◌≤◌, Bool, true, false, ◌||◌, cond, nat_lt, List, [], ◌∷◌, ◌++◌, length, Option, Some, option_map, refl, sym, ap, ◌∙◌, subst, arith}
-use Rattle.std.specs.List.{AllByRecursion, sum_by}
+use Rattle.std.proofs.Common.{◌≡◌, ◌⊎◌, inl, inr, ⊎_elim, ℕ, ◌+◌, ◌≤◌, Bool, true, false, ◌||◌, cond, List, [], ◌∷◌, ◌++◌, Some, option_map, refl, sym, ap, ◌∙◌, subst, arith}
+use Rattle.std.specs.List.{sum_by}
 use Rattle.std.proofs.lemmas.List.Sums.{sum_by-cons}
 use Rattle.ild_bulk.specs.Build.{any_long, is_long}
 use Rattle.ild_bulk.specs.Children.{Follows}
 use Rattle.ild_data.specs.Data.{Data}
-use Rattle.ild_data.specs.Limits.{longest_block}
+use Rattle.ild_data.specs.Limits.{deepest}
 use Rattle.ild_data.specs.Spell.{spell}
 use Rattle.ild_schema.specs.declared.number.Slot.{Slot}
 use Rattle.ild_schema.specs.declared.row.Row.{Row}
@@ -13,10 +13,12 @@ use Rattle.ild_schema.specs.Made.{IsMade}
 use Rattle.ild_schema.specs.Value.{Value}
 use Rattle.ild_typed.specs.Blocks.{nodes}
 use Rattle.ild_typed.specs.Hamt.{whole}
-use Rattle.ild_typed.specs.Judged.{exhausts}
+use Rattle.ild_typed.specs.Fits.{Fits}
+use Rattle.ild_typed.specs.Judged.{breaks_delimiter, exhausts, has_hole}
 use Rattle.ild_typed.specs.Represented.{represented}
+use Rattle.ild_typed.specs.Typed.{Typed}
 use Rattle.ild_typed.proofs.MakingValues.{typed_tree}
-use Rattle.ild_write.specs.Builds.{HasBlocks, IsTooLong}
+use Rattle.ild_write.specs.Builds.{IsTooLong}
 use Rattle.ild_write.specs.Fitting.{FitsIn}
 use Rattle.ild_write.specs.Made.{made}
 use Rattle.ild_write.specs.Planned.{IsPlanned}
@@ -25,6 +27,7 @@ use Rattle.ild_write.specs.Writes.{told, IsFine, Exact, TooLong, Writes}
 use Rattle.ild_write.specs.declared.nodes.Nodes.{Nodes}
 use Rattle.ild_write.specs.declared.planned.Planned.{Planned}
 use Rattle.ild_write.proofs.Alikes.{all_short, contained, some_long}
+use Rattle.ild_write.proofs.Flags.{unset}
 use Rattle.ild_write.proofs.Judges.{full, nodes_weigh, uncrowded}
 
 -- ---- tests of lengths
@@ -53,6 +56,9 @@ none_over (b ∷ bs) e =
     omega (arith, none, more, sum_by-cons over b bs)
 
 -- ---- a value that fits
+
+pub whole_fits : (rows : List Row) (s : Slot) (v : Value) → Typed rows s v → has_hole rows s v ≡ false → breaks_delimiter rows s v ≡ false → Fits rows deepest s v → FitsIn rows s v
+whole_fits rows s v typed hole joined fits = record { room = deepest; low = omega arith; fits = fits; whole = typed.2; hole = hole; joined = joined }
 
 module _ (h : List ℕ → List ℕ) (rows : List Row) (made_is : IsMade rows) (s : Slot) (v : Value) (fit : FitsIn rows s v) where
   pub record HasTree : Type 0 where
@@ -83,15 +89,7 @@ module _ (h : List ℕ → List ℕ) (rows : List Row) (made_is : IsMade rows) (
         exhausted_is (omega (arith, k, none))
 
     pub whole_tree : now.exhausted ≡ false → HasTree
-    whole_tree e =
-        let none : told now.exhausted ≡ 0 = ap told e in
-        tree_there (by (weigh (crowded h) rows s v) refl none)
-      where
-        by : (n : ℕ) → weigh (crowded h) rows s v ≡ n → told now.exhausted ≡ 0 → weigh (crowded h) rows s v ≡ 0
-        by n is none = by_set w.exhausted.set
-          where
-            by_set : (1 ≤ told was.exhausted + weigh (crowded h) rows s v → 1 ≤ told now.exhausted) → weigh (crowded h) rows s v ≡ 0
-            by_set set = omega (arith, set, none)
+    whole_tree e = tree_there (unset was.exhausted now.exhausted (weigh (crowded h) rows s v) w.exhausted e).1
 
     all_over : (t : Data) → over (spell t) + weigh (beneath h rows over) rows s v ≡ sum_by over (spell t ∷ nodes h rows s v)
     all_over t = ap (λ n. over (spell t) + n) (sym (nodes_weigh h rows over s v)) ∙ sym (sum_by-cons over (spell t) (nodes h rows s v))

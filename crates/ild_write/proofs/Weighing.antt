@@ -1,6 +1,5 @@
 -- What the parts of a value weigh, in the turns of the loops that write them.
-use Rattle.std.proofs.Common.{◌≡◌, ℕ, ◌+◌, ◌<◌, ◌≤◌, List, [], ◌∷◌, length, drop, get_or, Bool, true, false, Option, Some, None, option_map, slice_get, refl, ap, ◌∙◌, zero-add}
-use Rattle.std.specs.Prelude.{option_and_then}
+use Rattle.std.proofs.Common.{◌≡◌, ℕ, ◌+◌, ◌≤◌, List, [], ◌∷◌, length, drop, true, Option, Some, None, option_map, slice_get, refl, ap, ◌∙◌, zero-add}
 use Rattle.std.specs.Option.{option_map_or}
 use Rattle.ild_schema.specs.declared.number.Slot.{Slot}
 use Rattle.ild_schema.specs.declared.number.TypeNo.{TypeNo}
@@ -21,8 +20,7 @@ use Rattle.ild_typed.specs.Slots.{element_of, fields_of, member_of, slot_of}
 use Rattle.ild_build.specs.LeftOut.{is_left_out}
 use Rattle.ild_build.specs.PartAt.{field_at}
 use Rattle.ild_build.proofs.Texting.{drop_got, drop_all}
-use Rattle.ild_write.specs.Weights.{Weight, weigh, weigh_values, weigh_pairs, weigh_fields, hamt_weight, items_weight, entries_weight, fields_weight, place_weight, places_weight}
-use Rattle.ild_write.proofs.Ordered.{got_at}
+use Rattle.ild_write.specs.Weights.{Weight, weigh, weigh_values, weigh_pairs, weigh_fields, hamt_weight, items_weight, entries_weight, fields_weight, place_weight}
 use Rattle.ild_write.proofs.Turns.{over_none, over_some}
 
 module _ (rows : List Row) (μ : Weight) where
@@ -62,19 +60,9 @@ module _ (rows : List Row) (μ : Weight) where
   left_weight (Some (C.Text a)) u (V.text b) e = refl
   left_weight (Some (C.Text a)) u v e = absurd cc
 
-  pub place_weigh : (fs : List Field) (os : List (Option Value)) (ps : List ℕ) (i : ℕ) → i < length ps → places_weight μ rows fs os (drop i ps) ≡ place_weight μ rows fs os (get_or ps i 0) + places_weight μ rows fs os (drop (i + 1) ps)
-  place_weigh fs os ps i low = ap (places_weight μ rows fs os) (drop_got ps i (get_or ps i 0) (got_at ps i low))
-
-  pub places_weigh : (fs : List Field) (os : List (Option Value)) (ps : List ℕ) (i : ℕ) → length ps ≤ i → places_weight μ rows fs os (drop i ps) ≡ 0
-  places_weigh fs os ps i h = ap (places_weight μ rows fs os) (drop_all ps i h)
-
   pub field_place : (fs : List Field) (os : List (Option Value)) (i : ℕ) (f : Field) (v : Value) → slice_get fs i ≡ Some f → field_at os i ≡ Some v → place_weight μ rows fs os i ≡ weigh μ rows f.slot v
   field_place fs os i f v at there =
       ap (λ o. option_map_or (λ (g : Field). option_map_or (λ w. weigh μ rows g.slot w) (field_at os i) 0) o 0) at ∙ ap (λ o. option_map_or (λ w. weigh μ rows f.slot w) o 0) there
-
-  pub empty_place : (fs : List Field) (os : List (Option Value)) (i : ℕ) (f : Field) → slice_get fs i ≡ Some f → field_at os i ≡ None → place_weight μ rows fs os i ≡ 0
-  empty_place fs os i f at none =
-      ap (λ o. option_map_or (λ (g : Field). option_map_or (λ w. weigh μ rows g.slot w) (field_at os i) 0) o 0) at ∙ ap (λ o. option_map_or (λ w. weigh μ rows f.slot w) o 0) none
 
   pub no_place : (fs : List Field) (os : List (Option Value)) (i : ℕ) → slice_get fs i ≡ None → place_weight μ rows fs os i ≡ 0
   no_place fs os i none = ap (λ o. option_map_or (λ (g : Field). option_map_or (λ w. weigh μ rows g.slot w) (field_at os i) 0) o 0) none

@@ -1,6 +1,6 @@
 -- What building the blocks of a typed value gives, and what it leaves in a store (IPLD Schemas, "Representation Strategies"; DAG-CBOR;
 -- IPLD HashMap).
-use Rattle.std.specs.Prelude.{◌≡◌, ◌⊎◌, ℕ, ◌+◌, ◌≤◌, ◌<◌, true, false, List, [], ◌∷◌, length, Some, Result, Ok, Err, Contains}
+use Rattle.std.specs.Prelude.{◌≡◌, ◌⊎◌, ℕ, ◌+◌, ◌≤◌, ◌<◌, true, List, [], ◌∷◌, length, Some, Result, Ok, Err, Contains}
 use Rattle.std.specs.List.{AllByRecursion}
 use Rattle.ild_data.specs.Data.{Data}
 use Rattle.ild_data.specs.Limits.{longest_block}

@@ -6,3 +6,4 @@ pub mod Writes
 pub mod Fitting
 pub mod Builds
 pub mod Planned
+pub mod Entries

@@ -78,12 +78,7 @@ fn add_enum_form(form: EnumForm, member: &EnumMember, out: &mut Emit) -> Result<
 }
 
 // Appends the member of an enum with a number.
-fn add_enum(
-    acc: &Accepted,
-    slot: Slot,
-    number: u32,
-    out: &mut Emit,
-) -> Result<(), AllocError>
+fn add_enum(acc: &Accepted, slot: Slot, number: u32, out: &mut Emit) -> Result<(), AllocError>
     requires { slot.ty.0 < length acc.now }
     ensures ok { OnOk result (Wrote (made alone acc.now slot (enum number)) out.old out.new) }
     ensures err { OnErr result (out.new ≡ out.old) }

@@ -1,5 +1,5 @@
 //! One pass over a value: each layer by the form of its type.
-ghost use Rattle.std.specs.Prelude.{◌≡◌, ◌<◌, OnOk, OnErr, length, option_map, option_and_then, false, true};
+ghost use Rattle.std.specs.Prelude.{◌≡◌, ◌+◌, ◌<◌, [], OnOk, OnErr, Some, length, option_map, option_and_then, false, true};
 ghost use Rattle.ild_data.specs.Spell.{spell};
 ghost use Rattle.ild_emit.specs.Grown.{IsGrown};
 ghost use Rattle.ild_schema.specs.Clear.{AreNamesApart, KeysApart};
@@ -16,16 +16,16 @@ ghost use Rattle.ild_typed.specs.Composed.{member_form};
 ghost use Rattle.ild_typed.specs.Hamt.{whole};
 ghost use Rattle.ild_typed.specs.Represented.{represented};
 ghost use Rattle.ild_write.specs.Made.{counted, entries_made, entry_made, entries_major, fields_made, items_made, made, marked_made, tuple_made};
-ghost use Rattle.ild_write.specs.Places.{count_present, count_written, map_made, name_at, named, place_made, places_made};
-ghost use Rattle.ild_write.specs.Fitting.{EntriesFit, FitsIn, IsApartFrom, ItemsFit, PlacesFit};
-ghost use Rattle.ild_write.specs.Weights.{entries_weight, fields_weight, items_weight, place_weight, places_weight, weigh};
+ghost use Rattle.ild_write.specs.Places.{count_present, count_written, map_made, named, places_made, written_of};
+ghost use Rattle.ild_write.specs.Fitting.{EntriesFit, FitsIn, HamtFits, IsApartFrom, ItemsFit, PlacesFit};
+ghost use Rattle.ild_write.specs.Weights.{entries_weight, fields_weight, hamt_made, items_weight, places_weight, weigh};
 ghost use Rattle.ild_write.specs.Writes.{Writes};
 
-use crate::hamt::add_hamt;
+use crate::hamt::{add_root, add_row};
 use crate::hex::{add_hex, behind_head};
 use crate::leaf::{Tag, add_as_text, add_count, add_key, add_leaf, add_tag};
 use crate::nodes::Nodes;
-use crate::order::{in_order, places, present, put, written};
+use crate::order::{count_before, present, written};
 use ild_build::{field_at, form_of, is_left_out, text_of_field};
 use ild_data::{KeyHash, key_less};
 use ild_emit::Emit;
@@ -34,9 +34,6 @@ use ild_schema::{
     ValFields, ValPairs, ValPart, Vals,
 };
 use std::alloc::{AllocError, Global};
-
-// For a struct that is no member of an inline union: no place stands past its fields.
-const NO_TAG: Tag<'static> = Tag { key: "", name: "" };
 
 /// Appends a value of a slot.
 #[cycle(pass)]
@@ -58,7 +55,9 @@ pub(crate) fn add<H: KeyHash>(
         Val::List(vals) => add_list(alloc, acc, keys, slot, vals, nodes, out),
         Val::Map(pairs) => add_map(alloc, acc, keys, slot, val, pairs, nodes, out),
         Val::Struct(fields) => add_struct(alloc, acc, keys, slot, val, fields, nodes, out),
-        Val::Union(number, part) => add_union(alloc, acc, keys, slot, val, *number, part, nodes, out),
+        Val::Union(number, part) => add_union(
+            alloc, acc, keys, slot, val, *number, part, nodes, out,
+        ),
         _ => add_leaf(acc, slot, val, out),
     }
 }
@@ -163,9 +162,48 @@ fn add_pairs<H: KeyHash>(
         let Some(pair) = pairs.get(i) else {
             return Ok(());
         };
-        add_entry(alloc, acc, keys, pair.0.as_str(), value, &pair.1, paired, nodes, out)?;
+        add_entry(
+            alloc,
+            acc,
+            keys,
+            pair.0.as_str(),
+            value,
+            &pair.1,
+            paired,
+            nodes,
+            out,
+        )?;
     }
     Ok(())
+}
+
+// Appends the root map of a HAMT. The blocks beneath its root go to the others, behind those of its values.
+#[cycle(pass)]
+fn add_hamt<H: KeyHash>(
+    alloc: Global,
+    acc: &Accepted,
+    keys: &H,
+    value: Slot,
+    pairs: &ValPairs,
+    nodes: &mut Nodes,
+    out: &mut Emit,
+) -> Result<(), AllocError>
+    requires within { value.ty.0 < length acc.now }
+    requires fits { HamtFits acc.now value (pairs_list pairs.now) }
+    ensures ok { OnOk result (Writes H.hash_of acc.now (hamt_made H.hash_of acc.now value pairs.now) (λ μ. μ value pairs.now + entries_weight μ acc.now value (pairs_list pairs.now)) out.old out.new nodes.old nodes.new) }
+    ensures err { OnErr result (IsGrown out.old out.new) }
+{
+    let _legible = acc.types();
+    let mut rows = Vec::new(alloc);
+    for i in 0..pairs.len() {
+        let Some(pair) = pairs.get(i) else {
+            return Ok(());
+        };
+        let mut part = Emit::new(alloc);
+        add(alloc, acc, keys, value, &pair.1, nodes, &mut part)?;
+        add_row(alloc, pair.0.as_str(), part.finish(), nodes, &mut rows)?;
+    }
+    add_root(alloc, keys, rows, nodes, out)
 }
 
 // Appends a key and its value, as an entry of a map or as a pair.
@@ -211,12 +249,11 @@ fn add_struct<H: KeyHash>(
     let _legible = acc.types();
     match form_of(acc, slot) {
         TypeDef::Struct(def) => match def.form {
-            StructForm::Map => add_fields(alloc, acc, keys, def, vals, nodes, out),
+            StructForm::Map => add_fields(alloc, acc, keys, slot, def, vals, nodes, out),
             StructForm::Tuple => add_tuple(alloc, acc, keys, def, vals, nodes, out),
             StructForm::ListPairs => add_listed(alloc, acc, keys, def, vals, nodes, out),
-            StructForm::StringPairs(_, _) | StructForm::StringJoin(_) => {
-                add_as_text(alloc, acc, slot, val, out)
-            }
+            StructForm::StringPairs(_, _) => add_as_text(alloc, acc, slot, val, out),
+            StructForm::StringJoin(_) => add_as_text(alloc, acc, slot, val, out),
         },
         _ => Ok(()),
     }
@@ -272,34 +309,47 @@ fn add_listed<H: KeyHash>(
         if is_left_out(field, val) {
             continue;
         }
-        add_entry(alloc, acc, keys, text_of_field(field), field.slot, val, true, nodes, out)?;
+        add_entry(
+            alloc,
+            acc,
+            keys,
+            text_of_field(field),
+            field.slot,
+            val,
+            true,
+            nodes,
+            out,
+        )?;
     }
     Ok(())
 }
 
-// Appends the fields that are there and not left out as a map.
+// Appends the fields that are there and not left out as a map, in the key order.
 #[cycle(pass)]
 fn add_fields<H: KeyHash>(
     alloc: Global,
     acc: &Accepted,
     keys: &H,
+    slot: Slot,
     def: &StructDef,
     vals: &ValFields,
     nodes: &mut Nodes,
     out: &mut Emit,
 ) -> Result<(), AllocError>
+    requires low { slot.ty.0 < length acc.now }
+    requires known { form_of acc.now slot ≡ Some (D.Struct def.now) }
     requires within { IsWithin (length acc.now) (D.Struct def.now) }
     requires fits { PlacesFit acc.now def.now.fields (optionals_list vals.now) }
     requires apart { AreNamesApart def.now.fields }
     ensures ok { OnOk result (Writes H.hash_of acc.now (map_made (whole H.hash_of) acc.now def.now.fields (optionals_list vals.now)) (λ μ. fields_weight μ acc.now def.now.fields (optionals_list vals.now)) out.old out.new nodes.old nodes.new) }
     ensures err { OnErr result (IsGrown out.old out.new) }
 {
-    let places = places(alloc, &def.fields, vals)?;
-    let places = in_order(alloc, &def.fields, NO_TAG.key, places)?;
-    add_places(alloc, acc, keys, def, vals, NO_TAG, &places, nodes, out)
+    out.head(5, written(&def.fields, vals) as u64)?;
+    let places = acc.in_key_order(acc.base(slot.ty));
+    add_places(alloc, acc, keys, def, vals, places, nodes, out)
 }
 
-// Appends the fields at these places, and a text under a key for the place past them, as a map.
+// Appends those of the fields at these places that are there and not left out, each under its name.
 #[cycle(pass)]
 fn add_places<H: KeyHash>(
     alloc: Global,
@@ -307,58 +357,38 @@ fn add_places<H: KeyHash>(
     keys: &H,
     def: &StructDef,
     vals: &ValFields,
-    tag: Tag<'_>,
     places: &[usize],
     nodes: &mut Nodes,
     out: &mut Emit,
 ) -> Result<(), AllocError>
     requires within { IsWithin (length acc.now) (D.Struct def.now) }
     requires fits { PlacesFit acc.now def.now.fields (optionals_list vals.now) }
-    ensures ok { OnOk result (Writes H.hash_of acc.now (counted 5 (length places.now) (places_made (whole H.hash_of) acc.now def.now.fields (optionals_list vals.now) tag.entry.name.now (named def.now.fields tag.entry.key.now places.now))) (λ μ. places_weight μ acc.now def.now.fields (optionals_list vals.now) places.now) out.old out.new nodes.old nodes.new) }
+    ensures ok { OnOk result (Writes H.hash_of acc.now (places_made (whole H.hash_of) acc.now def.now.fields (optionals_list vals.now) [] (named def.now.fields [] (written_of def.now.fields (optionals_list vals.now) places.now))) (λ μ. places_weight μ acc.now def.now.fields (optionals_list vals.now) (written_of def.now.fields (optionals_list vals.now) places.now)) out.old out.new nodes.old nodes.new) }
     ensures err { OnErr result (IsGrown out.old out.new) }
 {
-    out.head(5, places.len() as u64)?;
     for place in places {
-        add_place(alloc, acc, keys, def, vals, tag, *place, nodes, out)?;
+        let Some(field) = def.fields.get(*place) else {
+            continue;
+        };
+        let Some(part) = field_at(vals, *place) else {
+            continue;
+        };
+        if is_left_out(field, part) {
+            continue;
+        }
+        add_entry(
+            alloc,
+            acc,
+            keys,
+            text_of_field(field),
+            field.slot,
+            part,
+            false,
+            nodes,
+            out,
+        )?;
     }
     Ok(())
-}
-
-// Appends the field at a place under its name, or the text under its key.
-#[cycle(pass)]
-fn add_place<H: KeyHash>(
-    alloc: Global,
-    acc: &Accepted,
-    keys: &H,
-    def: &StructDef,
-    vals: &ValFields,
-    tag: Tag<'_>,
-    place: usize,
-    nodes: &mut Nodes,
-    out: &mut Emit,
-) -> Result<(), AllocError>
-    requires within { IsWithin (length acc.now) (D.Struct def.now) }
-    requires fits { PlacesFit acc.now def.now.fields (optionals_list vals.now) }
-    ensures ok { OnOk result (Writes H.hash_of acc.now (place_made (whole H.hash_of) acc.now def.now.fields (optionals_list vals.now) tag.entry.name.now (name_at def.now.fields tag.entry.key.now place, place)) (λ μ. place_weight μ acc.now def.now.fields (optionals_list vals.now) place) out.old out.new nodes.old nodes.new) }
-    ensures err { OnErr result (IsGrown out.old out.new) }
-{
-    match def.fields.get(place) {
-        Some(field) => match field_at(vals, place) {
-            Some(val) => add_entry(
-                alloc,
-                acc,
-                keys,
-                text_of_field(field),
-                field.slot,
-                val,
-                false,
-                nodes,
-                out,
-            ),
-            None => Ok(()),
-        },
-        None => add_tag(tag, out),
-    }
 }
 
 // Appends a union.
@@ -428,7 +458,17 @@ fn add_member<H: KeyHash>(
                 key: key.as_str(),
                 name: name.as_str(),
             };
-            add_envelope(alloc, acc, keys, tag, content.as_str(), slot, val, nodes, out)
+            add_envelope(
+                alloc,
+                acc,
+                keys,
+                tag,
+                content.as_str(),
+                slot,
+                val,
+                nodes,
+                out,
+            )
         }
         (UnionForm::Inline(key), Mark::Text(name)) => {
             let tag = Tag {
@@ -517,10 +557,15 @@ fn add_inline<H: KeyHash>(
     let _legible = acc.types();
     match (form_of(acc, slot), val) {
         (TypeDef::Struct(def), Val::Struct(vals)) => {
-            let places = places(alloc, &def.fields, vals)?;
-            let mut places = in_order(alloc, &def.fields, tag.key, places)?;
-            put(&def.fields, tag.key, &mut places, def.fields.len())?;
-            add_places(alloc, acc, keys, def, vals, tag, &places, nodes, out)
+            let Some(count) = written(&def.fields, vals).checked_add(1) else {
+                return Err(AllocError);
+            };
+            out.head(5, count as u64)?;
+            let places = acc.in_key_order(acc.base(slot.ty));
+            let (before, behind) = places.split_at(count_before(&def.fields, tag.key, places));
+            add_places(alloc, acc, keys, def, vals, before, nodes, out)?;
+            add_tag(tag, out)?;
+            add_places(alloc, acc, keys, def, vals, behind, nodes, out)
         }
         _ => Ok(()),
     }

@@ -1,7 +1,8 @@
-use Rattle.std.proofs.Common.{rules, ◌≡◌, ◌+◌, ◌≤◌, ◌∙◌, ◌++◌, ℕ, List, [], length, drop, Some, option_map, slice_get, true, false, refl, sym, ap, subst, arith}
-use Rattle.ild_data.specs.Spell.{head, spell_text, spell_bytes}
-use Rattle.ild_schema.specs.Copies.{base}
+use Rattle.std.proofs.Common.{rules, ◌≡◌, ◌+◌, ◌<◌, ◌≤◌, ◌∙◌, ◌++◌, ℕ, List, [], length, drop, get_or, Some, option_map, true, false, refl, sym, ap, subst, arith}
+use Rattle.std.specs.Prelude.{OnOk, option_and_then}
+use Rattle.ild_data.specs.Spell.{head, spell, spell_text}
 use Rattle.ild_schema.specs.Hex.{bytes_of_hex}
+use Rattle.ild_schema.specs.Marks.{text_of as mark_text}
 use Rattle.ild_schema.specs.Slots.{plainly}
 use Rattle.ild_schema.specs.Table.{IsWithin}
 use Rattle.ild_schema.specs.Value as V
@@ -10,26 +11,47 @@ use Rattle.ild_schema.specs.ValueSeen.{value_of}
 use Rattle.ild_schema.specs.declared.def.MapForm.TheVariants as MF
 use Rattle.ild_schema.specs.declared.def.TypeDef.TheVariants as D
 use Rattle.ild_schema.specs.declared.def.UnionForm.TheVariants as UF
+use Rattle.ild_typed.specs.Composed.{member_form}
 use Rattle.ild_typed.specs.Hamt.{whole}
+use Rattle.ild_typed.specs.Represented.{represented}
+use Rattle.ild_build.specs.TextRep.{is_text_struct}
 use Rattle.ild_build.proofs.Low.{field_low, member_low}
 use Rattle.ild_build.proofs.PartTests.{pair_height, field_height}
 use Rattle.ild_build.proofs.Turns.{got, value_got, fitting}
 use Rattle.ild_write.specs.Made.{both, entries_made, entry_made, entries_major, before_key, fields_made, items_made, made, marked_made, tuple_made}
-use Rattle.ild_write.specs.Places.{count_present, count_written, in_order, named, places_made}
-use Rattle.ild_write.specs.Weights.{entries_weight, fields_weight, items_weight, place_weight, places_weight, weigh}
+use Rattle.ild_write.specs.Fitting.{FitsIn}
+use Rattle.ild_write.specs.Places.{count_present, count_written, named, places_made, written_of}
+use Rattle.ild_write.specs.Weights.{entries_weight, fields_weight, items_weight, places_weight, weigh}
+use Rattle.ild_write.specs.Writes.{Writes}
 use Rattle.ild_write.proofs.AsText.{layer_text, texts, union_text}
 use Rattle.ild_write.proofs.Bare.{a_leaf, leafs}
-use Rattle.ild_write.proofs.Fitted.{entries_fit, hamt_fit, items_fit, list_fit, map_fit, member_fit, places_fit, struct_fit, union_fit}
-use Rattle.ild_write.proofs.Flow.{behind, before, ends, from, goes, leaf, skips, starts}
+use Rattle.ild_write.proofs.Fitted.{entries_fit, hamt_fit, items_fit, list_fit, map_fit, member_fit, member_there, places_fit, struct_fit, union_fit}
+use Rattle.ild_write.proofs.Flow.{begins, behind, before, ends, from, goes, leaf, skips, starts}
 use Rattle.ild_write.proofs.Forms.{hamt_is_made, list_made, map_is_made, pairs_are_made}
 use Rattle.ild_write.proofs.Heights.{value_height}
-use Rattle.ild_write.proofs.Loops.{place_empty, place_entry, item_turn, items_end, entry_turn, entries_end, tuple_turn, tuple_skip, tuple_end, fields_turn, fields_skip, fields_end, place_turn, places_end, tag_made}
-use Rattle.ild_write.proofs.Placed.{map_placed, names_apart, named_many, past, put_past, map_struct_is, member_ready, keys_ready}
-use Rattle.ild_write.proofs.Spread.{fields_spread, tagged_spread}
-use Rattle.ild_write.proofs.StructForms.{listed_made, fields_in_map, inline_made, tuple_is_made}
-use Rattle.ild_write.proofs.Unions.{keyed_made, envelope_less, envelope_more, prefixed_from}
-use Rattle.ild_write.proofs.Weighing.{empty_place, entries_weigh, entry_weight, field_place, field_skip, field_weight, fields_weigh, hamt_weigh, item_weight, items_weigh, left_weight, list_weight, map_weight, no_place, place_weigh, places_weigh, struct_weight, union_weight}
-use Rattle.ild_write.proofs.Writing.{on_ok, wrote_behind, wrote_before, wrote_from, wrote_same, wrote_none, wrote_is, none_past}
+use Rattle.ild_write.proofs.Inlined.{inlined}
+use Rattle.ild_write.proofs.Kept.{left_or_not, no_field, no_value, none_left, passes, takes}
+use Rattle.ild_write.proofs.Keyed.{keyed}
+use Rattle.ild_write.proofs.Loops.{place_entry, item_turn, items_end, entry_turn, entries_end, tuple_turn, tuple_skip, tuple_end, fields_turn, fields_skip, fields_end}
+use Rattle.ild_write.proofs.Placed.{names_apart, map_struct_is, member_ready, keys_ready, table_order}
+use Rattle.ild_write.proofs.Spread.{fields_spread}
+use Rattle.ild_write.proofs.StructForms.{listed_made, fields_in_map, tuple_is_made}
+use Rattle.ild_write.proofs.Others.{no_struct, none_made, none_weighs}
+use Rattle.ild_write.proofs.Tagged.{map_kept}
+use Rattle.ild_write.proofs.Members.{kinded_from, marked_by, union_is_made}
+use Rattle.ild_write.proofs.Prefixing.{prefixed}
+use Rattle.ild_write.proofs.Unions.{keyed_made, envelope_less, envelope_more}
+use Rattle.ild_write.proofs.Weighing.{entries_weigh, entry_weight, field_place, field_skip, field_weight, fields_weigh, hamt_weigh, item_weight, items_weigh, left_weight, list_weight, map_weight, struct_weight, union_weight}
+use Rattle.ild_write.proofs.Writing.{grown_on, on_err, on_ok, wrote_none, none_past}
+use Rattle.std.proofs.Common.{take}
+use Rattle.std.proofs.lemmas.List.{take_all}
+use Rattle.ild_emit.proofs.Growing.{grown_same, on_err_always}
+use Rattle.ild_node.specs.Rows.{deepest_value, rows_seen}
+use Rattle.ild_typed.specs.Nested.{BlockIn}
+use Rattle.ild_write.specs.Weights.{bare_keys}
+use Rattle.ild_write.proofs.Gathering.{Gathered, gathered_more, none_gathered, value_block}
+use Rattle.ild_write.proofs.Rooting.{hamt_written, once_by_keys}
+use Rattle.ild_write.proofs.RowOrder.{taken_got, texts_by_keys}
 use Rattle.ild_write.proofs.pass.+pass.Goals as goal
 
 -- ---- values
@@ -87,7 +109,10 @@ add_items-returns-clause-ok g t c =
 -- ---- maps
 
 pub add_entry-add-requires : goal.add_entry-add-requires
-add_entry-add-requires g t c = λ κs le. (omega arith, (le, (c.requires.0, c.requires.1)))
+add_entry-add-requires g t c = λ κs le.
+    let within : c.args.slot.ty.0 < length c.args.acc.now = first_of (assumption c.requires, search rules) in
+    let fits : FitsIn c.args.acc.now c.args.slot (value_of c.args.val.now) = first_of (assumption c.requires, search rules) in
+    (omega arith, (le, (within, fits)))
 
 pub add_entry-returns-clause-ok : goal.add_entry-returns-clause-ok
 add_entry-returns-clause-ok g t c =
@@ -105,10 +130,10 @@ add_map-add_pairs-requires-in-ListPairs g t c = λ κs le.
     let h = c.in-Map in
     (omega arith, (le, (search rules, entries_fit c.args.acc.now c.args.slot h.key h.key_at h.value h.at h.form c.args.pairs.now (c.form_of.ensures.same ∙ ap Some h.is) c.requires.fits)))
 
-pub add_map-add_hamt-requires-clause-fits : goal.add_map-add_hamt-requires-clause-fits
-add_map-add_hamt-requires-clause-fits g t c =
+pub add_map-add_hamt-requires : goal.add_map-add_hamt-requires
+add_map-add_hamt-requires g t c = λ κs le.
     let h = c.in-Map in
-    hamt_fit c.args.acc.now c.args.slot h.key h.key_at h.value h.at h.form c.args.pairs.now (c.form_of.ensures.same ∙ ap Some h.is) c.in-Hamt.is c.requires.fits
+    (omega arith, (le, (search rules, hamt_fit c.args.acc.now c.args.slot h.key h.key_at h.value h.at h.form c.args.pairs.now (c.form_of.ensures.same ∙ ap Some h.is) c.in-Hamt.is c.requires.fits)))
 
 pub add_map-returns-in-Map-form-clause-ok : goal.add_map-returns-in-Map-form-clause-ok
 add_map-returns-in-Map-form-clause-ok g t c =
@@ -143,7 +168,7 @@ add_map-returns-in-Hamt-clause-ok g t c =
     let h = c.in-Map in
     let is = c.form_of.ensures.same ∙ ap Some h.is in
     on_ok c.add_hamt.result _ _
-    (λ w. from g.H.KeyHash.hash_of rows _ _ _ _ c.args.out.now c.add_hamt.new._out c.args.nodes.now c.add_hamt.new._nodes (hamt_is_made g.H.KeyHash.hash_of rows c.args.slot h.key h.key_at h.value h.at h.form c.args.pairs.now is c.in-Hamt.is)
+    (λ w. from g.H.KeyHash.hash_of rows _ _ _ _ c.args.out.now c.add_hamt.new.out c.args.nodes.now c.add_hamt.new.nodes (hamt_is_made g.H.KeyHash.hash_of rows c.args.slot h.key h.key_at h.value h.at h.form c.args.pairs.now is c.in-Hamt.is)
     (λ μ. hamt_weigh rows μ c.args.slot h.key h.key_at h.value h.at h.form c.args.pairs.now is c.in-Hamt.is) w) c.add_hamt.ensures.ok
 
 pub add_map-returns-in_default : goal.add_map-returns-in_default
@@ -184,8 +209,11 @@ add_pairs-returns-clause-ok g t c =
 
 pub add_struct-add_fields-requires : goal.add_struct-add_fields-requires
 add_struct-add_fields-requires g t c = λ κs le.
-    let is = c.form_of.ensures.same ∙ ap Some c.in-Struct.is in
-    (omega arith, (le, (search rules, (places_fit c.args.acc.now c.args.slot c.in-Struct.def c.args.vals.now is c.requires.fits, names_apart c.args.acc.now c.types-legible.ensures.legible c.args.slot c.in-Struct.def is c.in-Map.is))))
+    let rows = c.args.acc.now in
+    let is = c.form_of.ensures.same ∙ ap Some c.in-Struct.is in (
+      omega arith,
+      (le, (c.requires.within, (is, (subst (IsWithin (length rows)) c.in-Struct.is c.form_of.ensures.within, (places_fit rows c.args.slot c.in-Struct.def c.args.vals.now is c.requires.fits, names_apart rows c.types-legible.ensures.legible c.args.slot c.in-Struct.def is c.in-Map.is))))),
+    )
 
 pub add_struct-add_tuple-requires : goal.add_struct-add_tuple-requires
 add_struct-add_tuple-requires g t c = λ κs le.
@@ -332,73 +360,91 @@ add_fields-add_places-requires g t c = λ κs le. (omega arith, (le, (c.requires
 
 pub add_fields-returns-clause-ok : goal.add_fields-returns-clause-ok
 add_fields-returns-clause-ok g t c =
+    let hash = g.H.KeyHash.hash_of in
     let rows = c.args.acc.now in
     let fs = c.args.def.now.fields in
     let os = optionals_list c.args.vals.now in
-    let same = ap (named fs []) c.deref.ensures.value ∙ c.in_ok-places-2.ensures.same ∙ ap (λ ps. in_order (named fs [] ps)) c.in_ok-places.ensures in
+    let ps = c.in_key_order-places.result.now in
+    let order = table_order rows c.args.slot c.args.def.now c.base.result.0 ps c.requires.known c.base.ensures.same c.in_key_order-places.ensures in
     on_ok c.add_places.result _ _
-    (λ w. from g.H.KeyHash.hash_of rows _ _ _ _ c.args.out.now c.add_places.new.out c.args.nodes.now c.add_places.new.nodes (λ s e. sym (map_placed g.H.KeyHash.hash_of rows fs os c.deref.result.now same) ∙ e)
-    (λ μ. sym (fields_spread rows μ fs os [] c.requires.apart c.deref.result.now same)) w) c.add_places.ensures.ok
+    (λ w. from hash rows _ _ _ _ c.args.out.now c.add_places.new.out c.args.nodes.now c.add_places.new.nodes (λ s e. sym (map_kept hash rows fs os c.requires.apart ps order) ∙ e)
+    (λ μ. sym (fields_spread rows μ fs os [] c.requires.apart (written_of fs os ps) (keyed fs os [] c.requires.apart ps order)))
+    (behind hash rows (places_made (whole hash) rows fs os [] (named fs [] (written_of fs os ps))) (λ μ. places_weight μ rows fs os (written_of fs os ps)) c.args.out.now c.head.new.self c.add_places.new.out (head 5 (count_written fs os)) c.args.nodes.now
+    c.add_places.new.nodes (c.in_ok-head.ensures.ok ∙ ap (λ n. c.args.out.now ++ head 5 n) c.written.ensures) w)) c.add_places.ensures.ok
 
 pub add_places-loop-place-init : goal.add_places-loop-place-init
 add_places-loop-place-init g t c =
+    let rows = c.args.acc.now in
     let fs = c.args.def.now.fields in
     let os = optionals_list c.args.vals.now in
-    starts g.H.KeyHash.hash_of c.args.acc.now (places_made (whole g.H.KeyHash.hash_of) c.args.acc.now fs os c.args.tag.name.now (named fs c.args.tag.key.now c.args.places.now)) (λ μ. places_weight μ c.args.acc.now fs os c.args.places.now) c.args.out.now c.head.new.self
-    (head 5 (length c.args.places.now)) c.args.nodes.now (c.in_ok-head.ensures.ok)
+    let ps = written_of fs os c.args.places.now in
+    begins g.H.KeyHash.hash_of rows (places_made (whole g.H.KeyHash.hash_of) rows fs os [] (named fs [] ps)) (λ μ. places_weight μ rows fs os ps) c.args.out.now c.args.nodes.now
 
-pub add_places-add_place-requires : goal.add_places-add_place-requires
-add_places-add_place-requires g t c = λ κs le. (omega arith, (le, (c.requires.within, c.requires.fits)))
+pub add_places-add_entry-requires : goal.add_places-add_entry-requires
+add_places-add_entry-requires g t c = λ κs le.
+    let i = get_or c.args.places.now c.loop-place.place-index 0 in
+    let v = value_of c.in-Some-field_at.part.now in
+    let low = field_height c.args.vals.now i v (value_got (optionals_list c.args.vals.now) i v (sym c.in-Some-field_at.ensures)) in
+    (omega arith, (le, (field_low (length c.args.acc.now) c.args.def.now i c.in-Some.field.now (sym c.in-Some.ensures) c.requires.within, c.requires.fits i c.in-Some.field.now v (sym c.in-Some.ensures) (sym c.in-Some-field_at.ensures))))
+
+pub add_places-loop-place-preserved-in_default : goal.add_places-loop-place-preserved-in_default
+add_places-loop-place-preserved-in_default g t c =
+    let rows = c.args.acc.now in
+    let fs = c.args.def.now.fields in
+    let os = optionals_list c.args.vals.now in
+    let i = get_or c.args.places.now c.loop-place.place-index 0 in
+    let same = passes fs os c.args.places.now c.loop-place.place-index c.loop-place-test.true (no_field fs os i (sym c.in_default.ensures)) in
+    skips g.H.KeyHash.hash_of rows _ _ _ _ _ _ c.args.out.now c.loop-place.out c.args.nodes.now c.loop-place.nodes
+    (ap (λ ps. places_made (whole g.H.KeyHash.hash_of) rows fs os [] (named fs [] ps)) same) (λ μ. ap (places_weight μ rows fs os) same) c.loop-place.invariant
+
+pub add_places-loop-place-preserved-in_default-field_at : goal.add_places-loop-place-preserved-in_default-field_at
+add_places-loop-place-preserved-in_default-field_at g t c =
+    let rows = c.args.acc.now in
+    let fs = c.args.def.now.fields in
+    let os = optionals_list c.args.vals.now in
+    let i = get_or c.args.places.now c.loop-place.place-index 0 in
+    let same = passes fs os c.args.places.now c.loop-place.place-index c.loop-place-test.true (no_value fs os i c.in-Some.field.now (sym c.in-Some.ensures) (sym c.in_default-field_at.ensures)) in
+    skips g.H.KeyHash.hash_of rows _ _ _ _ _ _ c.args.out.now c.loop-place.out c.args.nodes.now c.loop-place.nodes
+    (ap (λ ps. places_made (whole g.H.KeyHash.hash_of) rows fs os [] (named fs [] ps)) same) (λ μ. ap (places_weight μ rows fs os) same) c.loop-place.invariant
+
+pub add_places-loop-place-preserved-then-is_left_out : goal.add_places-loop-place-preserved-then-is_left_out
+add_places-loop-place-preserved-then-is_left_out g t c =
+    let rows = c.args.acc.now in
+    let fs = c.args.def.now.fields in
+    let os = optionals_list c.args.vals.now in
+    let i = get_or c.args.places.now c.loop-place.place-index 0 in
+    let v = value_of c.in-Some-field_at.part.now in
+    let same = passes fs os c.args.places.now c.loop-place.place-index c.loop-place-test.true
+    (left_or_not fs os i c.in-Some.field.now v true (sym c.in-Some.ensures) (sym c.in-Some-field_at.ensures) (sym c.is_left_out.ensures ∙ c.if-is_left_out.true)) in
+    skips g.H.KeyHash.hash_of rows _ _ _ _ _ _ c.args.out.now c.loop-place.out c.args.nodes.now c.loop-place.nodes
+    (ap (λ ps. places_made (whole g.H.KeyHash.hash_of) rows fs os [] (named fs [] ps)) same) (λ μ. ap (places_weight μ rows fs os) same) c.loop-place.invariant
 
 pub add_places-loop-place-preserved : goal.add_places-loop-place-preserved
 add_places-loop-place-preserved g t c =
     let rows = c.args.acc.now in
-    goes g.H.KeyHash.hash_of rows _ _ _ _ _ _ _ _ c.args.out.now c.loop-place.out c.add_place.new.out c.args.nodes.now c.loop-place.nodes c.add_place.new.nodes
-    (place_turn g.H.KeyHash.hash_of rows c.args.def.now.fields (optionals_list c.args.vals.now) c.args.tag.key.now c.args.tag.name.now c.args.places.now c.loop-place.place-index c.loop-place-test.true)
-    (λ μ. place_weigh rows μ c.args.def.now.fields (optionals_list c.args.vals.now) c.args.places.now c.loop-place.place-index c.loop-place-test.true)
-    c.in_ok-add_place.ensures.ok c.loop-place.invariant
+    let fs = c.args.def.now.fields in
+    let os = optionals_list c.args.vals.now in
+    let i = get_or c.args.places.now c.loop-place.place-index 0 in
+    let f = c.in-Some.field.now in
+    let v = value_of c.in-Some-field_at.part.now in
+    let next = written_of fs os (drop (c.loop-place.place-index + 1) c.args.places.now) in
+    let here = takes fs os c.args.places.now c.loop-place.place-index c.loop-place-test.true
+    (left_or_not fs os i f v false (sym c.in-Some.ensures) (sym c.in-Some-field_at.ensures) (sym c.is_left_out.ensures ∙ c.if-is_left_out.false)) in
+    goes g.H.KeyHash.hash_of rows _ _ (entry_made (whole g.H.KeyHash.hash_of) rows false c.text_of_field.result.now f.slot v) _ _ _ (λ μ. weigh μ rows f.slot v) _ c.args.out.now c.loop-place.out c.add_entry.new.out c.args.nodes.now c.loop-place.nodes
+    c.add_entry.new.nodes
+    (ap (λ ps. places_made (whole g.H.KeyHash.hash_of) rows fs os [] (named fs [] ps)) here
+    ∙ ap (λ o. both o (places_made (whole g.H.KeyHash.hash_of) rows fs os [] (named fs [] next)))
+    (sym (place_entry g.H.KeyHash.hash_of rows fs os [] [] i f v c.text_of_field.result.now (sym c.in-Some.ensures) (sym c.in-Some-field_at.ensures) c.text_of_field.ensures)))
+    (λ μ. ap (places_weight μ rows fs os) here ∙ ap (λ n. n + places_weight μ rows fs os next) (field_place rows μ fs os i f v (sym c.in-Some.ensures) (sym c.in-Some-field_at.ensures))) c.in_ok-add_entry.ensures.ok c.loop-place.invariant
 
 pub add_places-returns-clause-ok : goal.add_places-returns-clause-ok
 add_places-returns-clause-ok g t c =
     let rows = c.args.acc.now in
+    let fs = c.args.def.now.fields in
+    let os = optionals_list c.args.vals.now in
+    let last = none_left fs os c.args.places.now c.loop-place.place-index (omega arith) in
     ends g.H.KeyHash.hash_of rows _ _ _ _ c.args.out.now c.loop-place.out c.args.nodes.now c.loop-place.nodes
-    (places_end g.H.KeyHash.hash_of rows c.args.def.now.fields (optionals_list c.args.vals.now) c.args.tag.key.now c.args.tag.name.now c.args.places.now c.loop-place.place-index (omega arith))
-    (λ μ. places_weigh rows μ c.args.def.now.fields (optionals_list c.args.vals.now) c.args.places.now c.loop-place.place-index (omega arith)) c.loop-place.invariant
-
-pub add_place-add_entry-requires : goal.add_place-add_entry-requires
-add_place-add_entry-requires g t c = λ κs le.
-    let v = value_of c.in-Some-field_at.val.now in
-    let low = field_height c.args.vals.now c.args.place v (value_got (optionals_list c.args.vals.now) c.args.place v (sym c.in-Some-field_at.ensures)) in
-    (omega arith, (le, (field_low (length c.args.acc.now) c.args.def.now c.args.place c.in-Some.field.now (sym c.in-Some.ensures) c.requires.within, c.requires.fits c.args.place c.in-Some.field.now v (sym c.in-Some.ensures) (sym c.in-Some-field_at.ensures))))
-
-pub add_place-returns-in-Some-field_at-clause-ok : goal.add_place-returns-in-Some-field_at-clause-ok
-add_place-returns-in-Some-field_at-clause-ok g t c =
-    let rows = c.args.acc.now in
-    let fs = c.args.def.now.fields in
-    let os = optionals_list c.args.vals.now in
-    let f = c.in-Some.field.now in
-    let v = value_of c.in-Some-field_at.val.now in
-    on_ok c.add_entry.result _ _
-    (λ w. from g.H.KeyHash.hash_of rows _ _ _ _ c.args.out.now c.add_entry.new.out c.args.nodes.now c.add_entry.new.nodes
-    (λ s e. place_entry g.H.KeyHash.hash_of rows fs os c.args.tag.key.now c.args.tag.name.now c.args.place f v c.text_of_field.result.now (sym c.in-Some.ensures) (sym c.in-Some-field_at.ensures) c.text_of_field.ensures ∙ e)
-    (λ μ. field_place rows μ fs os c.args.place f v (sym c.in-Some.ensures) (sym c.in-Some-field_at.ensures)) w) c.add_entry.ensures.ok
-
-pub add_place-returns-in-None-field_at-clause-ok : goal.add_place-returns-in-None-field_at-clause-ok
-add_place-returns-in-None-field_at-clause-ok g t c =
-    let rows = c.args.acc.now in
-    let fs = c.args.def.now.fields in
-    let os = optionals_list c.args.vals.now in
-    leaf g.H.KeyHash.hash_of rows _ _ c.args.out.now c.args.out.now c.args.nodes.now (λ μ. empty_place rows μ fs os c.args.place c.in-Some.field.now (sym c.in-Some.ensures) (sym c.in-None-field_at.ensures))
-    (wrote_none _ c.args.out.now (place_empty g.H.KeyHash.hash_of rows fs os c.args.tag.key.now c.args.tag.name.now c.args.place c.in-Some.field.now (sym c.in-Some.ensures) (sym c.in-None-field_at.ensures)))
-
-pub add_place-returns-in-None-clause-ok : goal.add_place-returns-in-None-clause-ok
-add_place-returns-in-None-clause-ok g t c =
-    let rows = c.args.acc.now in
-    let fs = c.args.def.now.fields in
-    let os = optionals_list c.args.vals.now in
-    on_ok c.add_tag.result _ _
-    (λ e. leaf g.H.KeyHash.hash_of rows _ _ c.args.out.now c.add_tag.new.out c.args.nodes.now (λ μ. no_place rows μ fs os c.args.place (sym c.in-None.ensures))
-    (wrote_is _ c.args.out.now c.add_tag.new.out _ (tag_made g.H.KeyHash.hash_of rows fs os c.args.tag.key.now c.args.tag.name.now c.args.place (sym c.in-None.ensures)) e)) c.add_tag.ensures.ok
+    (ap (λ ps. places_made (whole g.H.KeyHash.hash_of) rows fs os [] (named fs [] ps)) last) (λ μ. ap (places_weight μ rows fs os) last) c.loop-place.invariant
 
 -- ---- unions
 
@@ -459,36 +505,84 @@ add_envelope-returns-in_ok-add_entry-clause-ok g t c =
     (behind g.H.KeyHash.hash_of rows (option_map (λ s. s ++ tag) entry) (λ μ. weigh μ rows c.args.slot v) c.args.out.now c.head.new.self new (head 5 2) c.args.nodes.now last c.in_ok-head.ensures.ok
     (before g.H.KeyHash.hash_of rows entry (λ μ. weigh μ rows c.args.slot v) c.head.new.self c.add_entry-else-key_less.new.out new tag c.args.nodes.now last e c.in_ok-add_entry.ensures.ok))) c.add_tag-else-key_less.ensures.ok
 
-pub add_inline-returns-in_ok-put-in-Struct-Struct-clause-ok : goal.add_inline-returns-in_ok-put-in-Struct-Struct-clause-ok
-add_inline-returns-in_ok-put-in-Struct-Struct-clause-ok g t c =
+pub add_inline-add_places-requires : goal.add_inline-add_places-requires
+add_inline-add_places-requires g t c = λ κs le.
     let rows = c.args.acc.now in
     let h = c.in-Struct-Struct in
-    let fs = h.def.fields in
-    let os = optionals_list h.vals in
+    let lower = ap (λ v. height (value_of v)) h.is-1 in
+    (omega arith, (le, (subst (IsWithin (length rows)) h.is-0 c.form_of.ensures.within, places_fit rows c.args.slot h.def h.vals (c.form_of.ensures.same ∙ ap Some h.is-0) (subst (λ v. FitsIn rows c.args.slot (value_of v)) h.is-1 c.requires.fits))))
+
+pub add_inline-add_places-requires-in-Struct-Struct : goal.add_inline-add_places-requires-in-Struct-Struct
+add_inline-add_places-requires-in-Struct-Struct g t c = λ κs le.
+    let rows = c.args.acc.now in
+    let h = c.in-Struct-Struct in
+    let lower = ap (λ v. height (value_of v)) h.is-1 in
+    (omega arith, (le, (subst (IsWithin (length rows)) h.is-0 c.form_of.ensures.within, places_fit rows c.args.slot h.def h.vals (c.form_of.ensures.same ∙ ap Some h.is-0) (subst (λ v. FitsIn rows c.args.slot (value_of v)) h.is-1 c.requires.fits))))
+
+pub add_inline-returns-in_ok-add_tag-in-Struct-Struct-clause-ok : goal.add_inline-returns-in_ok-add_tag-in-Struct-Struct-clause-ok
+add_inline-returns-in_ok-add_tag-in-Struct-Struct-clause-ok g t c =
+    let hash = g.H.KeyHash.hash_of in
+    let rows = c.args.acc.now in
+    let s = c.args.slot in
+    let h = c.in-Struct-Struct in
     let key = c.args.tag.key.now in
     let name = c.args.tag.name.now in
     let is = c.form_of.ensures.same ∙ ap Some h.is-0 in
-    let last = ap (named fs key) c.deref.ensures.value ∙ c.in_ok-put-in-Struct-Struct.ensures.put in
-    let all = put_past fs key os c.deref.result.now c.in_ok-places-in-Struct-Struct-2.places.items c.in_ok-places-in-Struct-Struct.places.items c.len.result c.len.ensures last c.in_ok-places-in-Struct-Struct-2.ensures.same c.in_ok-places-in-Struct-Struct.ensures in
-    let form = map_struct_is rows c.args.slot h.def is c.requires.map in
-    on_ok c.add_places.result _ _
-    (λ w. from g.H.KeyHash.hash_of rows _ _ _ _ c.args.out.now c.add_places.new.out c.args.nodes.now c.add_places.new.nodes
-    (λ s e. named_many g.H.KeyHash.hash_of rows fs os key name c.deref.result.now
-    ∙ inline_made g.H.KeyHash.hash_of rows c.args.slot h.def h.vals key name (fitting rows c.types-legible.ensures.legible c.args.slot h.def is) is form (named fs key c.deref.result.now) all s
-    (ap (λ v. marked_made (whole g.H.KeyHash.hash_of) rows (UF.Inline key) c.args.slot (value_of v) name) (sym h.is-1) ∙ e))
-    (λ μ. ap (λ v. weigh μ rows c.args.slot (value_of v)) h.is-1 ∙ struct_weight rows μ c.args.slot h.def h.vals is
-    ∙ sym (tagged_spread rows μ fs os key (names_apart rows c.types-legible.ensures.legible c.args.slot h.def is form) (c.requires.apart h.def is) (length fs) (past fs (length fs) refl) c.deref.result.now all)) w) c.add_places.ensures.ok
+    let form = map_struct_is rows s h.def is c.requires.map in
+    let ps = c.in_key_order-places.result.now in
+    let last = c.add_places-in-Struct-Struct in
+    let count : c.in-Some.count ≡ count_written h.def.fields (optionals_list h.vals) + 1 = omega (arith, c.in-Some.ensures, c.written.ensures) in
+    on_ok last.result _ _
+    (λ w. subst (λ v. Writes hash rows (marked_made (whole hash) rows (UF.Inline key) s (value_of v) name) (λ μ. weigh μ rows s (value_of v)) c.args.out.now last.new.out c.args.nodes.now last.new.nodes) (sym h.is-1)
+    (inlined hash rows s h.def h.vals key name (fitting rows c.types-legible.ensures.legible s h.def is) is form (names_apart rows c.types-legible.ensures.legible s h.def is form) (c.requires.apart h.def is) c.count_before.result ps
+    c.split_at.result.0.now c.split_at.result.1.now
+    (record {
+      order = table_order rows s h.def c.base.result.0 ps is c.base.ensures.same c.in_key_order-places.ensures;
+      front = c.split_at.ensures.front;
+      back = c.split_at.ensures.back;
+      less = c.count_before.ensures.before;
+      next = c.count_before.ensures.next;
+    })
+    c.args.out.now c.head.new.self c.add_places.new.out c.add_tag.new.out last.new.out c.args.nodes.now c.add_places.new.nodes last.new.nodes
+    (c.in_ok-head-in-Struct-Struct.ensures.ok ∙ ap (λ n. c.args.out.now ++ head 5 n) count) c.in_ok-add_places-in-Struct-Struct.ensures.ok c.in_ok-add_tag-in-Struct-Struct.ensures.ok w)) last.ensures.ok
 
-pub add_inline-add_places-requires : goal.add_inline-add_places-requires
-add_inline-add_places-requires g t c = ?
+pub add_inline-returns-in_ok-add_tag-in-Struct-Struct-clause-err : goal.add_inline-returns-in_ok-add_tag-in-Struct-Struct-clause-err
+add_inline-returns-in_ok-add_tag-in-Struct-Struct-clause-err g t c =
+    let last = c.add_places-in-Struct-Struct in
+    on_err last.result _ _
+    (λ more. grown_on c.args.out.now c.add_tag.new.out last.new.out
+    (grown_on c.args.out.now c.add_places.new.out c.add_tag.new.out
+    (grown_on c.args.out.now c.head.new.self c.add_places.new.out (record { more = head 5 c.in-Some.count; is = c.in_ok-head-in-Struct-Struct.ensures.ok }) c.in_ok-add_places-in-Struct-Struct.ensures.ok.grown)
+    (record { more = spell_text c.args.tag.key.now ++ spell_text c.args.tag.name.now; is = c.in_ok-add_tag-in-Struct-Struct.ensures.ok })) more) last.ensures.err
 
 pub add_prefixed-returns-clause-ok : goal.add_prefixed-returns-clause-ok
-add_prefixed-returns-clause-ok g t c = ?
+add_prefixed-returns-clause-ok g t c =
+    let hash = g.H.KeyHash.hash_of in
+    let rows = c.args.acc.now in
+    let v = value_of c.args.val.now in
+    let w = subst (λ old. Writes hash rows (made (whole hash) rows c.args.slot v) (λ μ. weigh μ rows c.args.slot v) old c.add.new.out c.args.nodes.now c.add.new.nodes) c.new-member.ensures c.in_ok-add.ensures.ok in
+    on_ok c.bytes.result _ _
+    (λ e. prefixed hash rows c.args.slot v c.args.digits.now c.args.out.now c.bytes.new.self c.add.new.out c.deref.result.now c.args.nodes.now c.add.new.nodes
+    (λ front rest known spelled.
+    let tail = c.behind_head.ensures rest (c.as_slice.ensures.same ∙ c.finish-spelled.ensures ∙ spelled) in
+    let first = c.in_ok-add_hex.ensures front (ap bytes_of_hex c.as_bytes.ensures.value ∙ known) ∙ ap (λ x. x ++ front) c.new-bytes.ensures.items in
+    c.deref.ensures.value ∙ c.in_ok-extend_from_slice.ensures.items ∙ ap (λ x. x ++ c.behind_head.result.now) first ∙ ap (λ x. front ++ x) tail) e w) c.bytes.ensures.ok
 
 -- ---- texts and unions
 
 pub add_struct-returns-in-StringPairs-clause-ok : goal.add_struct-returns-in-StringPairs-clause-ok
-add_struct-returns-in-StringPairs-clause-ok g t c = ?
+add_struct-returns-in-StringPairs-clause-ok g t c =
+    let rows = c.args.acc.now in
+    let text = layer_text rows c.args.slot (V.struct c.args.vals.now) (D.Struct c.in-Struct.def) (c.form_of.ensures.same ∙ ap Some c.in-Struct.is) (ap is_text_struct c.in-StringPairs.is) in
+    on_ok c.add_as_text.result _ _
+    (λ w. texts g.H.KeyHash.hash_of rows c.types-legible.ensures.legible.made c.args.slot (V.struct c.args.vals.now) text c.requires.fits c.args.out.now c.add_as_text.new.out c.args.nodes.now (rw c.requires.same at w)) c.add_as_text.ensures.ok
+
+pub add_struct-returns-in-StringJoin-clause-ok : goal.add_struct-returns-in-StringJoin-clause-ok
+add_struct-returns-in-StringJoin-clause-ok g t c =
+    let rows = c.args.acc.now in
+    let text = layer_text rows c.args.slot (V.struct c.args.vals.now) (D.Struct c.in-Struct.def) (c.form_of.ensures.same ∙ ap Some c.in-Struct.is) (ap is_text_struct c.in-StringJoin.is) in
+    on_ok c.add_as_text-in-StringJoin.result _ _
+    (λ w. texts g.H.KeyHash.hash_of rows c.types-legible.ensures.legible.made c.args.slot (V.struct c.args.vals.now) text c.requires.fits c.args.out.now c.add_as_text-in-StringJoin.new.out c.args.nodes.now (rw c.requires.same at w)) c.add_as_text-in-StringJoin.ensures.ok
 
 pub add_union-returns-in-StringPrefix-clause-ok : goal.add_union-returns-in-StringPrefix-clause-ok
 add_union-returns-in-StringPrefix-clause-ok g t c =
@@ -499,25 +593,154 @@ add_union-returns-in-StringPrefix-clause-ok g t c =
     (λ w. texts g.H.KeyHash.hash_of rows c.types-legible.ensures.legible.made c.args.slot (V.union c.args.number c.args.part.now) text c.requires.fits c.args.out.now c.add_as_text.new.out c.args.nodes.now (rw c.requires.same at w)) c.add_as_text.ensures.ok
 
 pub add_union-returns-in-Some : goal.add_union-returns-in-Some
-add_union-returns-in-Some g t c = ?
+add_union-returns-in-Some g t c =
+    let hash = g.H.KeyHash.hash_of in
+    let rows = c.args.acc.now in
+    let u = c.in-Union.def in
+    let m = c.in-Some.member.now in
+    let is = c.form_of.ensures.same ∙ ap Some c.in-Union.is in
+    let at = sym c.in-Some.ensures in
+    record {
+      ok = on_ok c.add_member.result _ _
+          (λ w. from hash rows _ _ _ _ c.args.out.now c.add_member.new.out c.args.nodes.now c.add_member.new.nodes (λ s e. sym (union_is_made hash rows c.args.slot u c.args.number m c.args.part.now is at) ∙ e)
+          (λ μ. union_weight rows μ c.args.slot u c.args.number m c.args.part.now is at) w) c.add_member.ensures.ok;
+      err = c.add_member.ensures.err;
+    }
 
 pub add_union-returns-in-None : goal.add_union-returns-in-None
-add_union-returns-in-None g t c = ?
+add_union-returns-in-None g t c =
+    absurd (member_there c.args.acc.now c.args.slot c.in-Union.def c.args.number c.args.part.now (c.form_of.ensures.same ∙ ap Some c.in-Union.is) c.requires.fits (sym c.in-None.ensures))
 
 pub add_member-returns-in-Kinded-default-clause-ok : goal.add_member-returns-in-Kinded-default-clause-ok
-add_member-returns-in-Kinded-default-clause-ok g t c = ?
+add_member-returns-in-Kinded-default-clause-ok g t c =
+    let hash = g.H.KeyHash.hash_of in
+    let rows = c.args.acc.now in
+    let m = c.args.member.now in
+    let inner = represented (whole hash) rows (plainly m.ty) c.args.part.now in
+    on_ok c.add.result _ _
+    (λ w. from hash rows _ _ _ _ c.args.out.now c.add.new.out c.args.nodes.now c.add.new.nodes
+    (λ s e. kinded_from m inner s (ap (λ f. option_map spell (option_and_then (λ d. member_form f d m) inner)) (sym c.in-Kinded-default.is-0) ∙ e)) (λ μ. refl)
+    (subst (λ v. Writes hash rows (made (whole hash) rows (plainly m.ty) v) (λ μ. weigh μ rows (plainly m.ty) v) c.args.out.now c.add.new.out c.args.nodes.now c.add.new.nodes) c.get-val.ensures w)) c.add.ensures.ok
 
 pub add_member-returns-in-Keyed-Text-clause-ok : goal.add_member-returns-in-Keyed-Text-clause-ok
-add_member-returns-in-Keyed-Text-clause-ok g t c = ?
+add_member-returns-in-Keyed-Text-clause-ok g t c =
+    let hash = g.H.KeyHash.hash_of in
+    let rows = c.args.acc.now in
+    let m = c.args.member.now in
+    let inner = represented (whole hash) rows (plainly m.ty) c.args.part.now in
+    let form = UF.Keyed in
+    let name = c.as_str.result.now in
+    on_ok c.add_keyed.result _ _
+    (λ w. from hash rows _ _ _ _ c.args.out.now c.add_keyed.new.out c.args.nodes.now c.add_keyed.new.nodes
+    (λ s e. sym (marked_by c.args.form.now form c.in-Keyed-Text.is-0 (λ k. absurd cc) m name (ap mark_text c.in-Keyed-Text.is-1 ∙ ap Some (sym c.as_str.ensures.same)) inner) ∙ e) (λ μ. refl)
+    (subst (λ v. Writes hash rows (marked_made (whole hash) rows form (plainly m.ty) v name) (λ μ. weigh μ rows (plainly m.ty) v) c.args.out.now c.add_keyed.new.out c.args.nodes.now c.add_keyed.new.nodes) c.get-val.ensures w)) c.add_keyed.ensures.ok
 
 pub add_member-returns-in-Envelope-Text-clause-ok : goal.add_member-returns-in-Envelope-Text-clause-ok
-add_member-returns-in-Envelope-Text-clause-ok g t c = ?
+add_member-returns-in-Envelope-Text-clause-ok g t c =
+    let hash = g.H.KeyHash.hash_of in
+    let rows = c.args.acc.now in
+    let m = c.args.member.now in
+    let inner = represented (whole hash) rows (plainly m.ty) c.args.part.now in
+    let form = UF.Envelope c.as_str-in-Envelope-Text.result.now c.as_str-in-Envelope-Text-3.result.now in
+    let name = c.as_str-in-Envelope-Text-2.result.now in
+    on_ok c.add_envelope.result _ _
+    (λ w. from hash rows _ _ _ _ c.args.out.now c.add_envelope.new.out c.args.nodes.now c.add_envelope.new.nodes
+    (λ s e. sym (marked_by c.args.form.now form (c.in-Envelope-Text.is-0 ∙ ap (λ k. UF.Envelope k c.in-Envelope-Text.content) (sym c.as_str-in-Envelope-Text.ensures.same) ∙ ap (UF.Envelope c.as_str-in-Envelope-Text.result.now) (sym c.as_str-in-Envelope-Text-3.ensures.same)) (λ k. absurd cc) m name (ap mark_text c.in-Envelope-Text.is-1 ∙ ap Some (sym c.as_str-in-Envelope-Text-2.ensures.same)) inner) ∙ e) (λ μ. refl)
+    (subst (λ v. Writes hash rows (marked_made (whole hash) rows form (plainly m.ty) v name) (λ μ. weigh μ rows (plainly m.ty) v) c.args.out.now c.add_envelope.new.out c.args.nodes.now c.add_envelope.new.nodes) c.get-val.ensures w)) c.add_envelope.ensures.ok
 
 pub add_member-returns-in-Inline-Text-clause-ok : goal.add_member-returns-in-Inline-Text-clause-ok
-add_member-returns-in-Inline-Text-clause-ok g t c = ?
+add_member-returns-in-Inline-Text-clause-ok g t c =
+    let hash = g.H.KeyHash.hash_of in
+    let rows = c.args.acc.now in
+    let m = c.args.member.now in
+    let inner = represented (whole hash) rows (plainly m.ty) c.args.part.now in
+    let form = UF.Inline c.as_str-in-Inline-Text.result.now in
+    let name = c.as_str-in-Inline-Text-2.result.now in
+    on_ok c.add_inline.result _ _
+    (λ w. from hash rows _ _ _ _ c.args.out.now c.add_inline.new.out c.args.nodes.now c.add_inline.new.nodes
+    (λ s e. sym (marked_by c.args.form.now form (c.in-Inline-Text.is-0 ∙ ap UF.Inline (sym c.as_str-in-Inline-Text.ensures.same)) (λ k. absurd cc) m name (ap mark_text c.in-Inline-Text.is-1 ∙ ap Some (sym c.as_str-in-Inline-Text-2.ensures.same)) inner) ∙ e) (λ μ. refl)
+    (subst (λ v. Writes hash rows (marked_made (whole hash) rows form (plainly m.ty) v name) (λ μ. weigh μ rows (plainly m.ty) v) c.args.out.now c.add_inline.new.out c.args.nodes.now c.add_inline.new.nodes) c.get-val.ensures w)) c.add_inline.ensures.ok
 
 pub add_inline-returns-in_default : goal.add_inline-returns-in_default
-add_inline-returns-in_default g t c = ?
+add_inline-returns-in_default g t c =
+    let hash = g.H.KeyHash.hash_of in
+    let rows = c.args.acc.now in
+    let v = value_of c.args.val.now in
+    let other = no_struct c.args.val.now c.in_default.not-Struct-1 in
+    let is = c.form_of.ensures.same ∙ ap Some c.in_default.is-0 in
+    record {
+      ok = leaf hash rows _ _ c.args.out.now c.args.out.now c.args.nodes.now (none_weighs hash rows c.args.slot c.in_default.field-0-0 is v other)
+          (wrote_none _ c.args.out.now (none_made hash rows c.args.slot c.in_default.field-0-0 is c.requires.plain v other (UF.Inline c.args.tag.key.now) c.args.tag.name.now));
+      err = tt;
+    }
 
 pub add-returns-in-Union-clause-ok : goal.add-returns-in-Union-clause-ok
-add-returns-in-Union-clause-ok g t c = ?
+add-returns-in-Union-clause-ok g t c =
+    subst (λ v. OnOk c.add_union.result (Writes g.H.KeyHash.hash_of c.args.acc.now (made (whole g.H.KeyHash.hash_of) c.args.acc.now c.args.slot (value_of v)) (λ μ. weigh μ c.args.acc.now c.args.slot (value_of v)) c.args.out.now c.add_union.new.out c.args.nodes.now c.add_union.new.nodes))
+    (sym c.in-Union.is) c.add_union.ensures.ok
+
+-- ---- HAMTs
+
+pub add_hamt-loop-i-init : goal.add_hamt-loop-i-init
+add_hamt-loop-i-init g t c =
+    let h = g.H.KeyHash.hash_of in
+    subst (λ rs. Gathered h c.args.acc.now c.args.value [] (rows_seen rs) c.args.nodes.now c.args.nodes.now) (sym c.new-rows.ensures.items) (none_gathered h c.args.acc.now c.args.value c.args.nodes.now)
+
+pub add_hamt-returns-in_default-clause-ok : goal.add_hamt-returns-in_default-clause-ok
+add_hamt-returns-in_default-clause-ok g t c = absurd (none_past (pairs_list c.args.pairs.now) c.loop-i.i (sym c.in_default.ensures) (omega arith))
+
+pub add_hamt-add-requires : goal.add_hamt-add-requires
+add_hamt-add-requires g t c = λ κs le.
+    let p : List ℕ × Value = (c.in-Some.pair.now.0, value_of c.in-Some.pair.now.1) in
+    let h = pair_height c.args.pairs.now c.loop-i.i p (sym c.in-Some.ensures) in
+    (omega arith, (le, (c.requires.within, (c.requires.fits.each c.loop-i.i p (sym c.in-Some.ensures)).part)))
+
+pub add_hamt-returns-in_err-add-clause-err : goal.add_hamt-returns-in_err-add-clause-err
+add_hamt-returns-in_err-add-clause-err g t c = on_err_always c.from_residual.result _ (grown_same c.args.out.now c.args.out.now refl)
+
+pub add_hamt-add_row-requires : goal.add_hamt-add_row-requires
+add_hamt-add_row-requires g t c = λ fine.
+    let h = g.H.KeyHash.hash_of in
+    let rows = c.args.acc.now in
+    let v = value_of c.in-Some.pair.now.1 in
+    let p : List ℕ × Value = (c.as_str.result.now, v) in
+    let at = sym c.in-Some.ensures ∙ ap (λ k. Some (k, v)) (sym c.as_str.ensures.same) in
+    let w = subst (λ old. Writes h rows (made (whole h) rows c.args.value v) (λ μ. weigh μ rows c.args.value v) old c.add.new.out c.loop-i.nodes c.add.new.nodes) c.new-part.ensures c.in_ok-add.ensures.ok in
+    subst (λ b. BlockIn deepest_value b) (sym c.finish.ensures)
+    (value_block h rows c.args.value c.types-legible.ensures.legible.made c.types-legible.ensures.table.texts.spelled p (c.requires.fits.each c.loop-i.i p at) c.add.new.out c.loop-i.nodes c.add.new.nodes w fine)
+
+pub add_hamt-returns-in_err-add_row-clause-err : goal.add_hamt-returns-in_err-add_row-clause-err
+add_hamt-returns-in_err-add_row-clause-err g t c = on_err_always c.from_residual-in_err-add_row.result _ (grown_same c.args.out.now c.args.out.now refl)
+
+pub add_hamt-loop-i-preserved : goal.add_hamt-loop-i-preserved
+add_hamt-loop-i-preserved g t c =
+    let h = g.H.KeyHash.hash_of in
+    let rows = c.args.acc.now in
+    let ps = pairs_list c.args.pairs.now in
+    let v = value_of c.in-Some.pair.now.1 in
+    let p : List ℕ × Value = (c.as_str.result.now, v) in
+    let at = sym c.in-Some.ensures ∙ ap (λ k. Some (k, v)) (sym c.as_str.ensures.same) in
+    let w = subst (λ old. Writes h rows (made (whole h) rows c.args.value v) (λ μ. weigh μ rows c.args.value v) old c.add.new.out c.loop-i.nodes c.add.new.nodes) c.new-part.ensures c.in_ok-add.ensures.ok in
+    let u = subst (λ b. Writes h rows (made (whole h) rows c.args.value v) (λ μ. weigh μ rows c.args.value v) [] b c.loop-i.nodes c.add.new.nodes) (sym c.finish.ensures) w in
+    subst (λ xs. Gathered h rows c.args.value xs (rows_seen c.add_row.new.rows.items) c.args.nodes.now c.add_row.new.nodes) (sym (taken_got {X = List ℕ × Value} ps c.loop-i.i p at))
+    (gathered_more h rows c.args.value c.types-legible.ensures.legible.made c.types-legible.ensures.table.texts.spelled p (c.requires.fits.each c.loop-i.i p at) (take c.loop-i.i ps) c.loop-i.rows.items c.add_row.new.rows.items c.args.nodes.now c.loop-i.nodes c.add.new.nodes
+    c.add_row.new.nodes c.finish.result c.loop-i.invariant u c.in_ok-add_row.ensures)
+
+pub add_hamt-add_root-requires-clause-apart : goal.add_hamt-add_root-requires-clause-apart
+add_hamt-add_root-requires-clause-apart g t c =
+    let ps = pairs_list c.args.pairs.now in
+    once_by_keys g.H.KeyHash.hash_of ps (rows_seen c.loop-i.rows.items) (c.loop-i.invariant.keys ∙ ap bare_keys (take_all c.loop-i.i ps (omega arith))) c.requires.fits.rises
+
+pub add_hamt-add_root-requires-clause-texts : goal.add_hamt-add_root-requires-clause-texts
+add_hamt-add_root-requires-clause-texts g t c =
+    let ps = pairs_list c.args.pairs.now in
+    texts_by_keys ps (rows_seen c.loop-i.rows.items) (c.loop-i.invariant.keys ∙ ap bare_keys (take_all c.loop-i.i ps (omega arith))) (λ i p e. (c.requires.fits.each i p e).text)
+
+pub add_hamt-returns-clause-ok : goal.add_hamt-returns-clause-ok
+add_hamt-returns-clause-ok g t c =
+    let h = g.H.KeyHash.hash_of in
+    let rows = c.args.acc.now in
+    let ps = pairs_list c.args.pairs.now in
+    on_ok c.add_root.result _ _
+    (λ r. hamt_written h rows c.args.value c.args.pairs.now (rows_seen c.loop-i.rows.items) c.args.out.now c.add_root.new.out c.args.nodes.now c.loop-i.nodes c.add_root.new.nodes
+    (subst (λ xs. Gathered h rows c.args.value xs (rows_seen c.loop-i.rows.items) c.args.nodes.now c.loop-i.nodes) (take_all c.loop-i.i ps (omega arith)) c.loop-i.invariant) r) c.add_root.ensures.ok

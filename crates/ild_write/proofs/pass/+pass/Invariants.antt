@@ -1,11 +1,13 @@
-use Rattle.std.proofs.Common.{◌+◌, ◌*◌, length, drop, true}
+use Rattle.std.proofs.Common.{◌+◌, ◌*◌, [], length, drop, take, true}
 use Rattle.ild_schema.specs.Value.{height, values_height, pairs_height, optionals_height, optionals_list, pairs_list, values_list}
 use Rattle.ild_schema.specs.ValueSeen.{value_of}
 use Rattle.ild_write.specs.Made.{counted, entries_made, entries_major, fields_made, items_made, tuple_made}
-use Rattle.ild_write.specs.Places.{count_present, count_written, named, places_made}
+use Rattle.ild_write.specs.Places.{count_present, count_written, named, places_made, written_of}
 use Rattle.ild_typed.specs.Hamt.{whole}
 use Rattle.ild_write.specs.Weights.{entries_weight, fields_weight, items_weight, places_weight}
 use Rattle.ild_write.proofs.Flow.{ToGo}
+use Rattle.ild_write.proofs.Gathering.{Gathered}
+use Rattle.ild_node.specs.Rows.{rows_seen}
 use Rattle.ild_write.proofs.pass.+pass.Given as goal
 
 abbrev pub invariant-add_items-loop-i : goal.invariant-add_items-loop-i
@@ -30,9 +32,10 @@ invariant-add_listed-loop-i g l =
 
 abbrev pub invariant-add_places-loop-place : goal.invariant-add_places-loop-place
 invariant-add_places-loop-place g l =
-    ToGo g.H.KeyHash.hash_of l.acc (counted 5 (length l.places) (places_made (whole g.H.KeyHash.hash_of) l.acc l.def.fields (optionals_list l.vals) l.tag.name.now (named l.def.fields l.tag.key.now l.places)))
-    (places_made (whole g.H.KeyHash.hash_of) l.acc l.def.fields (optionals_list l.vals) l.tag.name.now (named l.def.fields l.tag.key.now (drop l.place-index l.places)))
-    (λ μ. places_weight μ l.acc l.def.fields (optionals_list l.vals) l.places) (λ μ. places_weight μ l.acc l.def.fields (optionals_list l.vals) (drop l.place-index l.places)) l.fn.out l.out l.fn.nodes l.nodes
+    ToGo g.H.KeyHash.hash_of l.acc (places_made (whole g.H.KeyHash.hash_of) l.acc l.def.fields (optionals_list l.vals) [] (named l.def.fields [] (written_of l.def.fields (optionals_list l.vals) l.places)))
+    (places_made (whole g.H.KeyHash.hash_of) l.acc l.def.fields (optionals_list l.vals) [] (named l.def.fields [] (written_of l.def.fields (optionals_list l.vals) (drop l.place-index l.places))))
+    (λ μ. places_weight μ l.acc l.def.fields (optionals_list l.vals) (written_of l.def.fields (optionals_list l.vals) l.places))
+    (λ μ. places_weight μ l.acc l.def.fields (optionals_list l.vals) (written_of l.def.fields (optionals_list l.vals) (drop l.place-index l.places))) l.fn.out l.out l.fn.nodes l.nodes
 
 abbrev pub decreases-add : goal.decreases-add
 decreases-add g l = 8 * height (value_of l.val.now)
@@ -67,9 +70,6 @@ decreases-add_fields g l = 8 * optionals_height l.vals.now + 5
 abbrev pub decreases-add_places : goal.decreases-add_places
 decreases-add_places g l = 8 * optionals_height l.vals.now + 4
 
-abbrev pub decreases-add_place : goal.decreases-add_place
-decreases-add_place g l = 8 * optionals_height l.vals.now + 3
-
 abbrev pub decreases-add_union : goal.decreases-add_union
 decreases-add_union g l = 8 * height l.part.now + 6
 
@@ -87,3 +87,9 @@ decreases-add_inline g l = 8 * height (value_of l.val.now) + 4
 
 abbrev pub decreases-add_prefixed : goal.decreases-add_prefixed
 decreases-add_prefixed g l = 8 * height (value_of l.val.now) + 2
+
+abbrev pub decreases-add_hamt : goal.decreases-add_hamt
+decreases-add_hamt g l = 8 * pairs_height l.pairs.now + 5
+
+abbrev pub invariant-add_hamt-loop-i : goal.invariant-add_hamt-loop-i
+invariant-add_hamt-loop-i g l = Gathered g.H.KeyHash.hash_of l.acc l.value (take l.i (pairs_list l.pairs)) (rows_seen l.rows.items) l.fn.nodes l.nodes
