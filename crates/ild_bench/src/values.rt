@@ -1,11 +1,13 @@
 //! Values of a type, whose schema stands here, written. The answer is a sum of lengths, or `None` where the bytes are no JSON of a
-//! value or memory is wanting.
+//! value that a store can hold, or memory is wanting.
+use ild_build::judge;
 use ild_compile::compile;
-use ild_emit::Emit;
+use ild_data::Sha256Keys;
+use ild_edges::MemStore;
 use ild_json::read;
 use ild_schema::Slot;
 use ild_value::from_shown;
-use ild_write::write_value;
+use ild_write::build;
 use std::alloc::Global;
 
 /// A list of structs, whose names don't rise in the key order.
@@ -25,11 +27,15 @@ pub(crate) fn write_all(alloc: Global, bytes: &[u8], times: u32) -> Option<u64> 
     };
     let tree = read(alloc, bytes).ok()?;
     let val = from_shown(alloc, &acc, slot, tree).ok()?;
+    match judge(alloc, &acc, slot, &val, 96) {
+        Ok(None) => {}
+        _ => return None,
+    }
+    let mut store = MemStore::new(alloc, &[], &[]).ok()?;
     let mut sum: u64 = 0;
     for _ in 0..times {
-        let mut out = Emit::new(alloc);
-        write_value(alloc, &acc, slot, &val, &mut out).ok()?;
-        sum = sum.wrapping_add(out.finish().as_slice().len() as u64);
+        let block = build(alloc, &acc, slot, &val, &Sha256Keys, &mut store).ok()?;
+        sum = sum.wrapping_add(block.as_slice().len() as u64);
     }
     Some(sum)
 }
