@@ -69,6 +69,10 @@ abbrev pub places_made : Hamts → List Row → List Field → List (Option Valu
 places_made at rows fs os tag [] = Some []
 places_made at rows fs os tag (p ∷ ps) = both (place_made at rows fs os tag p) (places_made at rows fs os tag ps)
 
+-- the fields at these places, as far as they are written
+abbrev pub written_made : Hamts → List Row → List Field → List (Option Value) → List ℕ → Option (List ℕ)
+written_made at rows fs os is = places_made at rows fs os [] (named fs [] (written_of fs os is))
+
 -- a struct as a map
 abbrev pub map_made : Hamts → List Row → List Field → List (Option Value) → Option (List ℕ)
 map_made at rows fs os =

@@ -1,4 +1,4 @@
-//! The order in which the fields of a struct stand in a map.
+//! How many fields of a struct are written, and how many of them before a key.
 ghost use Rattle.std.specs.Prelude.{◌≡◌, ◌≤◌, ◌<◌, false, get_or, length, take, true};
 ghost use Rattle.std.specs.List.{AllByRecursion};
 ghost use Rattle.ild_schema.specs.Value.{optionals_list};

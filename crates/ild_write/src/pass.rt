@@ -1,5 +1,5 @@
 //! One pass over a value: each layer by the form of its type.
-ghost use Rattle.std.specs.Prelude.{◌≡◌, ◌+◌, ◌<◌, [], OnOk, OnErr, Some, length, option_map, option_and_then, false, true};
+ghost use Rattle.std.specs.Prelude.{◌≡◌, ◌+◌, ◌<◌, OnOk, OnErr, Some, length, option_map, option_and_then, false, true};
 ghost use Rattle.ild_data.specs.Spell.{spell};
 ghost use Rattle.ild_emit.specs.Grown.{IsGrown};
 ghost use Rattle.ild_schema.specs.Clear.{AreNamesApart, KeysApart};
@@ -16,7 +16,7 @@ ghost use Rattle.ild_typed.specs.Composed.{member_form};
 ghost use Rattle.ild_typed.specs.Hamt.{whole};
 ghost use Rattle.ild_typed.specs.Represented.{represented};
 ghost use Rattle.ild_write.specs.Made.{counted, entries_made, entry_made, entries_major, fields_made, items_made, made, marked_made, tuple_made};
-ghost use Rattle.ild_write.specs.Places.{count_present, count_written, map_made, named, places_made, written_of};
+ghost use Rattle.ild_write.specs.Places.{count_present, count_written, map_made, written_made, written_of};
 ghost use Rattle.ild_write.specs.Fitting.{EntriesFit, FitsIn, HamtFits, IsApartFrom, ItemsFit, PlacesFit};
 ghost use Rattle.ild_write.specs.Weights.{entries_weight, fields_weight, hamt_made, items_weight, places_weight, weigh};
 ghost use Rattle.ild_write.specs.Writes.{Writes};
@@ -162,17 +162,8 @@ fn add_pairs<H: KeyHash>(
         let Some(pair) = pairs.get(i) else {
             return Ok(());
         };
-        add_entry(
-            alloc,
-            acc,
-            keys,
-            pair.0.as_str(),
-            value,
-            &pair.1,
-            paired,
-            nodes,
-            out,
-        )?;
+        let key = pair.0.as_str();
+        add_entry(alloc, acc, keys, key, value, &pair.1, paired, nodes, out)?;
     }
     Ok(())
 }
@@ -309,17 +300,8 @@ fn add_listed<H: KeyHash>(
         if is_left_out(field, val) {
             continue;
         }
-        add_entry(
-            alloc,
-            acc,
-            keys,
-            text_of_field(field),
-            field.slot,
-            val,
-            true,
-            nodes,
-            out,
-        )?;
+        let name = text_of_field(field);
+        add_entry(alloc, acc, keys, name, field.slot, val, true, nodes, out)?;
     }
     Ok(())
 }
@@ -363,7 +345,7 @@ fn add_places<H: KeyHash>(
 ) -> Result<(), AllocError>
     requires within { IsWithin (length acc.now) (D.Struct def.now) }
     requires fits { PlacesFit acc.now def.now.fields (optionals_list vals.now) }
-    ensures ok { OnOk result (Writes H.hash_of acc.now (places_made (whole H.hash_of) acc.now def.now.fields (optionals_list vals.now) [] (named def.now.fields [] (written_of def.now.fields (optionals_list vals.now) places.now))) (λ μ. places_weight μ acc.now def.now.fields (optionals_list vals.now) (written_of def.now.fields (optionals_list vals.now) places.now)) out.old out.new nodes.old nodes.new) }
+    ensures ok { OnOk result (Writes H.hash_of acc.now (written_made (whole H.hash_of) acc.now def.now.fields (optionals_list vals.now) places.now) (λ μ. places_weight μ acc.now def.now.fields (optionals_list vals.now) (written_of def.now.fields (optionals_list vals.now) places.now)) out.old out.new nodes.old nodes.new) }
     ensures err { OnErr result (IsGrown out.old out.new) }
 {
     for place in places {
@@ -376,17 +358,8 @@ fn add_places<H: KeyHash>(
         if is_left_out(field, part) {
             continue;
         }
-        add_entry(
-            alloc,
-            acc,
-            keys,
-            text_of_field(field),
-            field.slot,
-            part,
-            false,
-            nodes,
-            out,
-        )?;
+        let name = text_of_field(field);
+        add_entry(alloc, acc, keys, name, field.slot, part, false, nodes, out)?;
     }
     Ok(())
 }

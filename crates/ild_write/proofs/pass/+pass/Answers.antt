@@ -194,10 +194,10 @@ add_pairs-returns-in_default-clause-ok g t c = absurd (none_past (pairs_list c.a
 pub add_pairs-loop-i-preserved : goal.add_pairs-loop-i-preserved
 add_pairs-loop-i-preserved g t c =
     let v = value_of c.in-Some.pair.now.1 in
-    let at = sym c.in-Some.ensures ∙ ap (λ k. Some (k, v)) (sym c.as_str.ensures.same) in
-    goes g.H.KeyHash.hash_of c.args.acc.now _ _ (entry_made (whole g.H.KeyHash.hash_of) c.args.acc.now c.args.paired c.as_str.result.now c.args.value v) _ _ _ (λ μ. weigh μ c.args.acc.now c.args.value v) _ c.args.out.now c.loop-i.out c.add_entry.new.out
-    c.args.nodes.now c.loop-i.nodes c.add_entry.new.nodes (entry_turn g.H.KeyHash.hash_of c.args.acc.now c.args.paired c.args.value (pairs_list c.args.pairs.now) c.loop-i.i c.as_str.result.now v at)
-    (λ μ. entry_weight c.args.acc.now μ c.args.value (pairs_list c.args.pairs.now) c.loop-i.i c.as_str.result.now v at) c.in_ok-add_entry.ensures.ok c.loop-i.invariant
+    let at = sym c.in-Some.ensures ∙ ap (λ k. Some (k, v)) (sym c.as_str-key.ensures.same) in
+    goes g.H.KeyHash.hash_of c.args.acc.now _ _ (entry_made (whole g.H.KeyHash.hash_of) c.args.acc.now c.args.paired c.as_str-key.result.now c.args.value v) _ _ _ (λ μ. weigh μ c.args.acc.now c.args.value v) _ c.args.out.now c.loop-i.out c.add_entry.new.out
+    c.args.nodes.now c.loop-i.nodes c.add_entry.new.nodes (entry_turn g.H.KeyHash.hash_of c.args.acc.now c.args.paired c.args.value (pairs_list c.args.pairs.now) c.loop-i.i c.as_str-key.result.now v at)
+    (λ μ. entry_weight c.args.acc.now μ c.args.value (pairs_list c.args.pairs.now) c.loop-i.i c.as_str-key.result.now v at) c.in_ok-add_entry.ensures.ok c.loop-i.invariant
 
 pub add_pairs-returns-clause-ok : goal.add_pairs-returns-clause-ok
 add_pairs-returns-clause-ok g t c =
@@ -343,7 +343,7 @@ add_listed-loop-i-preserved g t c =
     let at = got c.as_slice-field-items.result.now fs c.loop-i.i c.field-item.result c.as_slice-field-items.ensures (omega arith) c.field-item.is in
     goes g.H.KeyHash.hash_of rows _ _ _ _ _ _ (λ μ. weigh μ rows c.field-item.result.slot v) _ c.args.out.now c.loop-i.out c.add_entry.new.out c.args.nodes.now c.loop-i.nodes c.add_entry.new.nodes
     (fields_turn g.H.KeyHash.hash_of rows fs os c.loop-i.i c.field-item.result v false at (sym c.in-Some.ensures) (sym c.is_left_out.ensures ∙ c.if-is_left_out.false)
-    ∙ ap (λ k. both (entry_made (whole g.H.KeyHash.hash_of) rows true k c.field-item.result.slot v) (fields_made (whole g.H.KeyHash.hash_of) rows true (drop (c.loop-i.i + 1) fs) (drop (c.loop-i.i + 1) os))) (sym c.text_of_field.ensures))
+    ∙ ap (λ k. both (entry_made (whole g.H.KeyHash.hash_of) rows true k c.field-item.result.slot v) (fields_made (whole g.H.KeyHash.hash_of) rows true (drop (c.loop-i.i + 1) fs) (drop (c.loop-i.i + 1) os))) (sym c.text_of_field-name.ensures))
     (λ μ. field_weight rows μ fs os c.loop-i.i c.field-item.result v at (sym c.in-Some.ensures)) c.in_ok-add_entry.ensures.ok c.loop-i.invariant
 
 pub add_listed-returns-clause-ok : goal.add_listed-returns-clause-ok
@@ -430,11 +430,11 @@ add_places-loop-place-preserved g t c =
     let next = written_of fs os (drop (c.loop-place.place-index + 1) c.args.places.now) in
     let here = takes fs os c.args.places.now c.loop-place.place-index c.loop-place-test.true
     (left_or_not fs os i f v false (sym c.in-Some.ensures) (sym c.in-Some-field_at.ensures) (sym c.is_left_out.ensures ∙ c.if-is_left_out.false)) in
-    goes g.H.KeyHash.hash_of rows _ _ (entry_made (whole g.H.KeyHash.hash_of) rows false c.text_of_field.result.now f.slot v) _ _ _ (λ μ. weigh μ rows f.slot v) _ c.args.out.now c.loop-place.out c.add_entry.new.out c.args.nodes.now c.loop-place.nodes
+    goes g.H.KeyHash.hash_of rows _ _ (entry_made (whole g.H.KeyHash.hash_of) rows false c.text_of_field-name.result.now f.slot v) _ _ _ (λ μ. weigh μ rows f.slot v) _ c.args.out.now c.loop-place.out c.add_entry.new.out c.args.nodes.now c.loop-place.nodes
     c.add_entry.new.nodes
     (ap (λ ps. places_made (whole g.H.KeyHash.hash_of) rows fs os [] (named fs [] ps)) here
     ∙ ap (λ o. both o (places_made (whole g.H.KeyHash.hash_of) rows fs os [] (named fs [] next)))
-    (sym (place_entry g.H.KeyHash.hash_of rows fs os [] [] i f v c.text_of_field.result.now (sym c.in-Some.ensures) (sym c.in-Some-field_at.ensures) c.text_of_field.ensures)))
+    (sym (place_entry g.H.KeyHash.hash_of rows fs os [] [] i f v c.text_of_field-name.result.now (sym c.in-Some.ensures) (sym c.in-Some-field_at.ensures) c.text_of_field-name.ensures)))
     (λ μ. ap (places_weight μ rows fs os) here ∙ ap (λ n. n + places_weight μ rows fs os next) (field_place rows μ fs os i f v (sym c.in-Some.ensures) (sym c.in-Some-field_at.ensures))) c.in_ok-add_entry.ensures.ok c.loop-place.invariant
 
 pub add_places-returns-clause-ok : goal.add_places-returns-clause-ok
@@ -643,9 +643,10 @@ add_member-returns-in-Envelope-Text-clause-ok g t c =
     let inner = represented (whole hash) rows (plainly m.ty) c.args.part.now in
     let form = UF.Envelope c.as_str-in-Envelope-Text.result.now c.as_str-in-Envelope-Text-3.result.now in
     let name = c.as_str-in-Envelope-Text-2.result.now in
+    let same = c.in-Envelope-Text.is-0 ∙ ap (λ k. UF.Envelope k c.in-Envelope-Text.content) (sym c.as_str-in-Envelope-Text.ensures.same) ∙ ap (UF.Envelope c.as_str-in-Envelope-Text.result.now) (sym c.as_str-in-Envelope-Text-3.ensures.same) in
     on_ok c.add_envelope.result _ _
     (λ w. from hash rows _ _ _ _ c.args.out.now c.add_envelope.new.out c.args.nodes.now c.add_envelope.new.nodes
-    (λ s e. sym (marked_by c.args.form.now form (c.in-Envelope-Text.is-0 ∙ ap (λ k. UF.Envelope k c.in-Envelope-Text.content) (sym c.as_str-in-Envelope-Text.ensures.same) ∙ ap (UF.Envelope c.as_str-in-Envelope-Text.result.now) (sym c.as_str-in-Envelope-Text-3.ensures.same)) (λ k. absurd cc) m name (ap mark_text c.in-Envelope-Text.is-1 ∙ ap Some (sym c.as_str-in-Envelope-Text-2.ensures.same)) inner) ∙ e) (λ μ. refl)
+    (λ s e. sym (marked_by c.args.form.now form same (λ k. absurd cc) m name (ap mark_text c.in-Envelope-Text.is-1 ∙ ap Some (sym c.as_str-in-Envelope-Text-2.ensures.same)) inner) ∙ e) (λ μ. refl)
     (subst (λ v. Writes hash rows (marked_made (whole hash) rows form (plainly m.ty) v name) (λ μ. weigh μ rows (plainly m.ty) v) c.args.out.now c.add_envelope.new.out c.args.nodes.now c.add_envelope.new.nodes) c.get-val.ensures w)) c.add_envelope.ensures.ok
 
 pub add_member-returns-in-Inline-Text-clause-ok : goal.add_member-returns-in-Inline-Text-clause-ok
