@@ -67,7 +67,6 @@ no_value : (w : Work) (rows : List Row) (n : TypeNo) (bytes b : List ℕ) → Pl
 no_value w rows n bytes b (inl is) made = let e : answers b ≡ makes rows n bytes = sym is ∙ made in cc
 no_value w rows n bytes b (inr is) made = let e : ends F.Memory ≡ makes rows n bytes = sym is ∙ made in cc
 
-
 -- no fault but want of memory is due
 no_fault : (c : Call) (script : List ℕ) (given : IsGiven c script) (calm : IsUndisturbed c script) (t : Taking) (f : Fault) → AreTaken c.job c.before.supply t → IsDue c t f → f ≡ F.Memory
 no_fault c script given calm t F.Memory taken due = refl
@@ -154,7 +153,6 @@ no_check_answers w rows b (inr is) work = let e : ends F.Memory ≡ answers b = 
 no_check_value : (w : Work) (rows made : List Row) (n : TypeNo) (b : List ℕ) → Checks w rows → w ≡ makes made n b → ⊥
 no_check_value w rows made n b (inl is) work = let e : lists (declared_names rows) ≡ makes made n b = sym is ∙ work in cc
 no_check_value w rows made n b (inr is) work = let e : ends F.Memory ≡ makes made n b = sym is ∙ work in cc
-
 
 no_check_store : (c : Call) (t : Taking) (rows : List Row) → Checks (work_of c.job t) rows → HasScript (work_of c.job t) ⊎ TriesValue c t → ⊥
 no_check_store c t rows is (inl script) = no_check_script (work_of c.job t) rows is script

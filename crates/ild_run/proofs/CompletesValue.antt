@@ -80,7 +80,6 @@ no_list : (w : Work) (names : List (List ℕ)) (rows : List Row) (n : TypeNo) (b
 no_list w names rows n b (inl is) listed = let e : makes rows n b ≡ lists names = sym is ∙ listed in cc
 no_list w names rows n b (inr is) listed = let e : ends F.Memory ≡ lists names = sym is ∙ listed in cc
 
-
 -- what is said of the value that is made
 abbrev OfMade : (List Row → TypeNo → List ℕ → Type 0) → Work → Type 0
 OfMade P (makes rows n b) = P rows n b

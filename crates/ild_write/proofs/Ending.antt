@@ -69,13 +69,13 @@ module _ (h : List ℕ → List ℕ) (rows : List Row) (slot : Slot) (v : Value)
   stop_answer m n bs (F.Clash id kept new) r has same by puts =
       subst (λ (f : BuildFault). BuildAnswer h rows slot v m (Err f) n) (sym by.0) (
         record {
-              kept = kept;
-              new = new;
-              held = if_more n.blocks (λ held. block_at held id.0 ≡ Some kept) (λ held. AllByRecursion (λ b. block_at held (id_of b) ≡ Some b) (kept ∷ [])) (λ held t. (ap (block_at held) puts.answer.1 ∙ t, tt)) puts.answer.4;
-              among = contained new (nodes h rows slot v) (among_alike bs (nodes h rows slot v) same new puts.answer.0);
-              named = puts.answer.2;
-              collide = record { kept_bytes = by.1; new_bytes = by.2; differ = puts.answer.3; one_id = puts.answer.1 ∙ sym puts.answer.2 };
-            },
+          kept = kept;
+          new = new;
+          held = if_more n.blocks (λ held. block_at held id.0 ≡ Some kept) (λ held. AllByRecursion (λ b. block_at held (id_of b) ≡ Some b) (kept ∷ [])) (λ held t. (ap (block_at held) puts.answer.1 ∙ t, tt)) puts.answer.4;
+          among = contained new (nodes h rows slot v) (among_alike bs (nodes h rows slot v) same new puts.answer.0);
+          named = puts.answer.2;
+          collide = record { kept_bytes = by.1; new_bytes = by.2; differ = puts.answer.3; one_id = puts.answer.1 ∙ sym puts.answer.2 };
+        },
         has,
       )
   stop_answer m n bs F.Memory r has same by puts = subst (λ (f : BuildFault). BuildAnswer h rows slot v m (Err f) n) (sym by) (inr has)
