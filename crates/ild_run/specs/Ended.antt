@@ -196,6 +196,7 @@ Says c t S.Done = AnswersAll c t false ⊎ (ListsNames c t ⊎ CreatesValue c t)
 Says c t S.Refused = AnswersAll c t true
 Says c t S.Words = Tells c t F.Words
 Says c t S.Schema = Tells c t F.NotBuilt ⊎ ((f : SchemaFault) × Tells c t (F.Schema f))
+Says c t S.Root = ⊥
 Says c t S.Input = (role : Role) × (trouble : Trouble) × Tells c t (F.Input role trouble)
 Says c t S.StoreFault = Tells c t F.Store ⊎ ((id : BlockId) × Tells c t (F.Clash id))
 Says c t S.SinkFault = Rose c.before.output.faults c.after.output.faults × IsCut c t
