@@ -140,7 +140,7 @@ created_so c v d given t taken made =
 pub created_by : (c : Call) (v : Typed) (d : Data) (given : IsGivenValue c v d) → LetsCreate c given.rows given.type v d → (t : Taking) (status : Status) → AreTaken c.job c.before.supply t → Says c t status → (status ≡ S.Memory) ⊎ CreatesPlainly c given.rows given.type v d status
 created_by c v d given calm t S.Done taken (inl all) = absurd (no_answers (work_of c.job t) given.rows given.type given.bytes all.bytes (work_makes c v d given t taken) all.work)
 created_by c v d given calm t S.Done taken (inr (inl listed)) = absurd (no_list (work_of c.job t) listed.names given.rows given.type given.bytes (work_makes c v d given t taken) listed.work)
-created_by c v d given calm t S.Done taken (inr (inr (inl made))) = inr (created_so c v d given t taken made)
+created_by c v d given calm t S.Done taken (inr (inr made)) = inr (created_so c v d given t taken made)
 created_by c v d given calm t S.Refused taken all = absurd (no_answers (work_of c.job t) given.rows given.type given.bytes all.bytes (work_makes c v d given t taken) all.work)
 created_by c v d given calm t S.Memory taken says = inl refl
 created_by c v d given calm t S.SinkFault taken says = absurd (calm.sink says.0)

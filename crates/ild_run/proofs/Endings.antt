@@ -179,7 +179,7 @@ pub ended_done : (c : Call) (job : Job) (t : Taking) → c.job ≡ Some job → 
 ended_done c job t named a all = record { taking = t; taken = are_taken c job t named a; says = inl all }
 
 pub ended_refused : (c : Call) (job : Job) (t : Taking) → c.job ≡ Some job → IsTaking job c.before.supply t → AnswersAll c t true → Ended c S.Refused
-ended_refused c job t named a all = record { taking = t; taken = are_taken c job t named a; says = inl all }
+ended_refused c job t named a all = record { taking = t; taken = are_taken c job t named a; says = all }
 
 -- why a text was cut off
 pub cut_cause : (cut : Cut) (m n : Output) → (IsErrOf {T = Bool} (Err cut) C.Sink → Rose m.faults n.faults) → CutAs m (cut_status cut) n
