@@ -1,6 +1,6 @@
 -- Where nothing stands in the way, a value that a store can hold is created.
 use Rattle.std.specs.Prelude.{Contains}
-use Rattle.std.proofs.Common.{◌≡◌, ◌⊎◌, ℕ, List, [], ◌∷◌, Bool, true, false, Option, Some, None, refl, sym, ap, ◌∙◌, subst, inl, inr}
+use Rattle.std.proofs.Common.{◌≡◌, ◌⊎◌, ℕ, List, Option, Some, None, refl, sym, ap, ◌∙◌, subst, inl, inr}
 use Rattle.ild_compile.specs.Compile.{Verdict, table}
 use Rattle.ild_compile.proofs.OneVerdict.{one_verdict_lem}
 use Rattle.ild_create.specs.Creates.{Created, Clashes}

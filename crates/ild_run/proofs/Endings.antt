@@ -31,7 +31,7 @@ use Rattle.ild_run.specs.Cut.{CutAs, ToldAs}
 use Rattle.ild_run.specs.Listed.{Lists, ListsFront, ListedAs}
 use Rattle.ild_run.specs.Made.{made_fault, MadeTold, MadeAs}
 use Rattle.ild_run.specs.KeyHash.{hash}
-use Rattle.ild_run.specs.Ended.{Call, IsDue, HasScript, Leaves, Answers, AnswersAll, AnswersSome, ListsNames, ListsSome, CreatesSome, Tells, TellsFront, Says, Ended}
+use Rattle.ild_run.specs.Ended.{Call, IsDue, HasScript, Leaves, Answers, AnswersAll, AnswersSome, ListsSome, CreatesSome, Tells, TellsFront, Says, Ended}
 use Rattle.ild_run.specs.declared.fault.Fault.{Fault}
 use Rattle.ild_run.specs.declared.fault.Fault.TheVariants as F
 use Rattle.ild_run.specs.declared.fault.Role.{Role}

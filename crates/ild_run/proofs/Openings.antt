@@ -18,7 +18,7 @@ use Rattle.ild_run.specs.Words.{Job, checks, runs, creates, name_of}
 use Rattle.ild_run.specs.Work.{Taking, in_roles, built_work, type_work, IsVerdict, IsUnder, IsOpen}
 use Rattle.ild_run.specs.declared.open.Task.{Task}
 use Rattle.ild_run.specs.declared.open.Task.TheVariants as P
-use Rattle.ild_run.specs.Opening.{InputAnswer, TakesInput, CompileAnswer, InputsFault, OpensAnswer, IsReady, Opens, OpensBehind}
+use Rattle.ild_run.specs.Opening.{InputAnswer, TakesInput, CompileAnswer, OpensAnswer, IsReady, Opens, OpensBehind}
 
 -- something may be taken under each name
 some_taken : (files : Option (List (List ℕ × List ℕ))) (name : List ℕ) → (t : Taken) × MayBe files name t

@@ -1,5 +1,5 @@
 -- The names that a schema declares, listed: one reply, `ok` and the JSON list of them.
-use Rattle.std.specs.Prelude.{◌≡◌, ◌⊎◌, ◌≤◌, ℕ, List, map, Option, Some}
+use Rattle.std.specs.Prelude.{◌≡◌, ◌⊎◌, ◌≤◌, ℕ, List, map, Some}
 use Rattle.ild_data.specs.Data.{Data, list, items_of, text}
 use Rattle.ild_edges.specs.Sink.{Output, Appends, AppendsFront}
 use Rattle.ild_json.specs.Printing.{json_text}

@@ -1,7 +1,6 @@
 use Rattle.std.proofs.Common.{option_map, true, false, refl, sym, ap, ◌∙◌}
 use Rattle.ild_session.specs.Session.{resting}
 use Rattle.ild_edges.proofs.Later.{Later-trans}
-use Rattle.ild_schema.specs.Names.{declared_names}
 use Rattle.ild_run.specs.Words.{job_of}
 use Rattle.ild_run.specs.Opening.{job_seen}
 use Rattle.ild_run.specs.Ended.{Call, call_of}
