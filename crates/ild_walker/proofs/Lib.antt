@@ -1,4 +1,5 @@
 pub mod Opening
+pub mod Lying
 pub mod Stepping
 pub mod OneNode
 pub mod Spending
@@ -6,6 +7,7 @@ pub mod Placed
 pub mod Keeping
 pub mod Walking
 pub mod Nexting
+pub mod Passing
 pub mod Listing
 pub mod Ending
 pub mod Tried

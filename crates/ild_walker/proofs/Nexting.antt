@@ -1,5 +1,5 @@
 -- One call of a walker's next, put together.
-use Rattle.std.proofs.Common.{◌≡◌, inl, inr, ⊎_elim, ◌↔◌, ℕ, ◌+◌, ◌-◌, ◌<◌, ◌≤◌, true, false, List, [], ◌∷◌, length, Option, Some, None, refl, sym, ap, ◌∙◌, subst, arith}
+use Rattle.std.proofs.Common.{◌≡◌, inl, inr, ⊎_elim, ◌↔◌, ℕ, ◌+◌, ◌-◌, ◌<◌, ◌≤◌, Bool, true, false, List, [], ◌∷◌, length, Option, Some, None, refl, sym, ap, ◌∙◌, subst, arith}
 use Rattle.std.specs.Prelude.{Result, Ok, Err}
 use Rattle.std.proofs.lemmas.Bool.{false≢true}
 use Rattle.ild_cbor.specs.declared.why.BlockWhy.{BlockWhy}
@@ -17,7 +17,7 @@ use Rattle.ild_node.specs.declared.fault.HamtFault.TheVariants as F
 use Rattle.std.proofs.lemmas.List.{length-map}
 use Rattle.ild_walker.specs.Fetching.{IsRefused, OnlyGets}
 use Rattle.ild_walker.specs.Todo.{Todo, give, enter, leave, node_todo, fits, StillGives}
-use Rattle.ild_walker.specs.Ahead.{Ahead, StillAhead, walker_todo, walker_path, walker_here, IsFaultAt, IsTrieFault, SameTold, NothingTold, KeepsAhead, Leaves, Enters, EnterAnswer, IsCause, IsUnchanged, Takes, Gives, GiveAnswer, GivesNext, IsNew, IsReady, NextAnswer, Nexts, Counts}
+use Rattle.ild_walker.specs.Ahead.{Ahead, StillAhead, walker_todo, walker_path, walker_here, IsFaultAt, IsTrieFault, SameTold, NothingTold, KeepsAhead, Leaves, Enters, EnterAnswer, IsCause, IsUnchanged, Takes, Gives, GiveAnswer, GivesNext, IsNew, IsReady, NextAnswer, Nexts, Counts, AnyRow, ComesNext}
 use Rattle.ild_walker.proofs.Opening.{root-on, root-off}
 use Rattle.ild_walker.proofs.Walking.{unchanged-same}
 use Rattle.ild_walker.specs.Standing.{KeepsOn, RowStands}
@@ -187,8 +187,8 @@ gives-leave h v before rest e is ready fault here =
     by F.NoKey f = absurd f
     by F.Memory f = absurd f
 
-pub gives-enter : (h : List ℕ → List ℕ) (v w : Walker) (r : Result (Option Row) HamtFault) (id : List ℕ) (i : ℕ) (rest : List Todo) → walker_todo v ≡ enter id i ∷ rest → IsReady v.given (walker_todo v) → Gives h v r w
-gives-enter h v w r id i rest is ready = absurd (subst (IsReady v.given) is ready)
+pub not-enter : (v : Walker) (id : List ℕ) (i : ℕ) (rest : List Todo) → walker_todo v ≡ enter id i ∷ rest → IsReady v.given (walker_todo v) → ⊥
+not-enter v id i rest is ready = subst (IsReady v.given) is ready
 
 -- ---- the whole call
 
@@ -322,6 +322,19 @@ next-given h m n u v w x r short l e g = record { answer = by r g.answer; counts
     by (Err (F.Clash id kept new)) p = failed (F.Clash id kept new) p
     by (Err F.Size) p = failed F.Size p
     by (Err F.NoKey) p = failed F.NoKey p
+
+-- ---- what comes next
+
+pub comes : (m n : Moment) (u v w : Walker) → length (walker_path u) < trie_levels usual → Leaves u (Ok (tt {0})) v → Enters (trie_levels usual) m v (Ok (tt {0})) w n → ComesNext m u w n
+comes m n u v w short l e = record { between = v; short = short; left = l; entered = e }
+
+pub given-next : (h : List ℕ → List ℕ) (m n : Moment) (u w x : Walker) (r : Result (Option Row) HamtFault) → ComesNext m u w n → Gives h w r x → Nexts h m u r x n
+given-next h m n u w x r c g = next-given h m n u c.between w x r c.short c.left c.entered g
+
+pub any-next : (h : List ℕ → List ℕ) (m n : Moment) (u w x : Walker) (r : Result Bool HamtFault) → ComesNext m u w n → AnyRow (λ r. Gives h w r x) r → AnyRow (λ r. Nexts h m u r x n) r
+any-next h m n u w x (Ok true) c g = (g.0, given-next h m n u w x (Ok (Some g.0)) c g.1)
+any-next h m n u w x (Ok false) c g = given-next h m n u w x (Ok None) c g
+any-next h m n u w x (Err e) c g = given-next h m n u w x (Err e) c g
 
 -- ---- a new walker
 

@@ -8,7 +8,7 @@ use Rattle.ild_data.specs.Trie.{TrieSlot, empty, bucket, child}
 use Rattle.ild_typed.specs.Composed.{usual}
 use Rattle.ild_cbor.specs.Nodes.{Stands}
 use Rattle.ild_cbor.specs.declared.node.Node.{Node}
-use Rattle.ild_node.specs.Steps.{SlotsGive}
+use Rattle.ild_node.specs.Steps.{IsAtSlot, SlotsGive}
 use Rattle.ild_node.specs.Views.{HasSlots, SlotHolds, EntryIs}
 use Rattle.ild_node.specs.declared.bucket.Bucket.{Bucket}
 use Rattle.ild_node.specs.declared.slots.Slots.{Slots}
@@ -23,7 +23,7 @@ use Rattle.ild_node.specs.declared.fault.HamtFault.TheVariants as F
 use Rattle.ild_walker.specs.Fetching.{ReadsBlock, IsBlockAt, OnlyGets, Fetches}
 use Rattle.ild_walker.specs.Gathered.{Gathered}
 use Rattle.ild_walker.specs.Shown.{Shows}
-use Rattle.ild_walker.specs.Steps.{step_todo, steps_todo}
+use Rattle.ild_walker.specs.Steps.{step_todo, steps_todo, entry_key, entry_value}
 use Rattle.ild_walker.specs.Todo.{Todo, give, slot_todo, node_todo}
 use Rattle.ild_walker.specs.declared.step.Step.{Step}
 use Rattle.ild_walker.specs.declared.step.Step.TheVariants as T
@@ -46,7 +46,7 @@ shows-empty (bucket es) i is = absurd is
 shows-empty (child c) i is = absurd is
 
 -- one entry more
-pub entry-pushed : (index : ℕ) (old new : List Step) (e : Entry) (x : List ℕ × Data) → new ≡ old ++ T.Give e ∷ [] → e.key ≡ x.0 → e.value ≡ x.1 → e.index ≡ index → map step_todo new ≡ map step_todo old ++ give x.0 x.1 index ∷ []
+pub entry-pushed : (index : ℕ) (old new : List Step) (e : Entry) (x : List ℕ × Data) → new ≡ old ++ T.Give e ∷ [] → entry_key e ≡ x.0 → entry_value e ≡ x.1 → e.index ≡ index → map step_todo new ≡ map step_todo old ++ give x.0 x.1 index ∷ []
 entry-pushed index old new e x pushes key value at =
     ap (map step_todo) pushes ∙ map-append step_todo old (T.Give e ∷ []) ∙ (λ k. map step_todo old ++ give (key k) (value k) (at k) ∷ [])
 
@@ -111,6 +111,13 @@ pub gathered-on : {E : Type 0} (v : NodeView) (slots : List TrieSlot) (i : ℕ) 
     → ((z : TrieSlot) → Shows x z → OnOk r (map step_todo new ≡ map step_todo old ++ slot_todo i z)) → OnOk r (Gathered v slots (i + 1) t new)
 gathered-on v slots i s t x old new (Ok u) has was gives adds = gathered-more v slots i s t x old new has was gives adds
 gathered-on v slots i s t x old new (Err e) has was gives adds = tt
+
+pub gathered-none : (v : NodeView) (slots : List TrieSlot) (s : Slots) (steps : List Step) → steps ≡ [] → IsAtSlot v slots 0 s → Gathered v slots 0 s steps
+gathered-none v slots s steps none at = record { at = at; done = ap (map step_todo) none ∙ by slots }
+  where
+    by : (ss : List TrieSlot) → [] ≡ node_todo 0 (take 0 ss)
+    by [] = refl
+    by (x ∷ ss) = refl
 
 -- there is a slot for each index
 pub gathered-end : (v : NodeView) (slots : List TrieSlot) (i : ℕ) (s t : Slots) (steps : List Step) → HasSlots usual v slots → Gathered v slots i s steps → SlotsGive s None t → i < 2 ^ usual.width → ⊥

@@ -1,5 +1,5 @@
 -- What a walker has still to give (IPLD HashMap), and what its calls do to it.
-use Rattle.std.specs.Prelude.{◌≡◌, ◌↔◌, ◌⊎◌, ℕ, ◌+◌, ◌-◌, ◌^◌, ◌<◌, ◌≤◌, List, [], ◌∷◌, ◌++◌, length, Option, Some, None, Result, Ok, Err}
+use Rattle.std.specs.Prelude.{Bool, true, false, ◌≡◌, ◌↔◌, ◌⊎◌, ℕ, ◌+◌, ◌-◌, ◌^◌, ◌<◌, ◌≤◌, List, [], ◌∷◌, ◌++◌, length, Option, Some, None, Result, Ok, Err}
 use Rattle.ild_data.specs.Data.{Data}
 use Rattle.ild_data.specs.Spell.{spell}
 use Rattle.ild_data.specs.Trie.{TrieSlot}
@@ -16,7 +16,7 @@ use Rattle.ild_walker.specs.Gives.{RootGives}
 use Rattle.ild_walker.specs.Standing.{IsOn, KeepsOn, RowStands, way_of, last_of}
 use Rattle.ild_walker.specs.Steps.{steps_todo, path_of}
 use Rattle.ild_walker.specs.Reads.{NodesBeneath, LeftNodes, Spends}
-use Rattle.ild_walker.specs.Todo.{Todo, give, enter, leave, StillGives}
+use Rattle.ild_walker.specs.Todo.{Todo, give, enter, leave, StillGives, fits}
 use Rattle.ild_walker.specs.declared.step.Child.{Child}
 use Rattle.ild_walker.specs.declared.step.Step.{Step}
 use Rattle.ild_walker.specs.declared.due.Due.{Due}
@@ -193,6 +193,30 @@ Takes v (Ok None) w = ⊥
 Takes v (Err Memory) w = IsUnchanged v w
 Takes v (Err e) w = ⊥
 
+-- the row is that of the next step, which gives an entry
+pub record IsNextRow (v : Walker) (row : Row) : Type 0 where
+  pub value : Data
+  pub index : ℕ
+  pub rest : List Todo
+  pub was : walker_todo v ≡ give row.key value index ∷ rest
+  pub spelled : row.value ≡ spell value
+  pub block : row.block.0 ≡ walker_here v
+
+-- the next step gave an entry, and is passed
+pub record IsPassed (v w : Walker) : Type 0 where
+  pub first : Todo
+  pub was : walker_todo v ≡ first ∷ walker_todo w
+  pub path : walker_path w ≡ walker_path v
+  pub given : w.given ≡ v.given + 1
+  pub most : w.given < 2 ^ 64
+  pub children : w.path.items ≡ v.path.items
+  pub at : w.at.0 ≡ v.at.0
+
+abbrev pub PassesStep : Walker → Result (Unit {0}) HamtFault → Walker → Type 0
+PassesStep v (Ok u) w = IsPassed v w
+PassesStep v (Err Memory) w = IsUnchanged v w
+PassesStep v (Err e) w = ⊥
+
 -- the entries begin with this pair, and the others are what is still to be given
 pub record Begins (h : List ℕ → List ℕ) (held : List (List ℕ)) (key : List ℕ) (value : Data) (w : Walker) (es : List (List ℕ × Data)) : Type 0 where
   pub rest : List (List ℕ × Data)
@@ -223,6 +247,23 @@ pub record Gives (h : List ℕ → List ℕ) (v : Walker) (result : Result (Opti
   pub on : (told : Option (List (List ℕ))) (lacks : ℕ) → KeepsOn h told lacks lacks v result w
   pub row : (told : Option (List (List ℕ))) → RowStands told v result
   pub reads : (held : List (List ℕ)) (gets : ℕ) → Spends held gets gets v result w
+
+-- what a call that gives rows says, of one that only tells whether there was one
+abbrev pub AnyRow : (Result (Option Row) HamtFault → Type 0) → Result Bool HamtFault → Type 0
+AnyRow Says (Ok true) = (row : Row) × Says (Ok (Some row))
+AnyRow Says (Ok false) = Says (Ok None)
+AnyRow Says (Err e) = Says (Err e)
+
+-- an entry is next, and fits its place
+pub record FitsNext (h : List ℕ → List ℕ) (v : Walker) : Type 0 where
+  pub next : GivesNext v
+  pub fit : fits h usual (walker_path v) next.index next.key ≡ true
+
+-- whether an entry is next, or why none is to be given
+abbrev pub Judges : (List ℕ → List ℕ) → Walker → Result Bool HamtFault → Type 0
+Judges h v (Ok true) = FitsNext h v
+Judges h v (Ok false) = walker_todo v ≡ []
+Judges h v (Err e) = Gives h v (Err e) v
 
 -- ---- one call of next
 
@@ -257,3 +298,14 @@ pub record Nexts (h : List ℕ → List ℕ) (m : Moment) (v : Walker) (result :
   pub on : KeepsOn h m.blocks m.lacks n.lacks v result w
   pub row : RowStands m.blocks v result
   pub reads : (held : List (List ℕ)) → m.blocks ≡ Some held → Spends held m.gets n.gets v result w
+
+-- nodes are left and children entered, and an entry is to be given, or nothing
+pub record ComesNext (m : Moment) (v w : Walker) (n : Moment) : Type 0 where
+  pub between : Walker
+  pub short : length (walker_path v) < trie_levels usual
+  pub left : Leaves v (Ok (tt {0})) between
+  pub entered : Enters (trie_levels usual) m between (Ok (tt {0})) w n
+
+abbrev pub Readies : Moment → Walker → Result (Unit {0}) HamtFault → Walker → Moment → Type 0
+Readies m v (Ok u) w n = ComesNext m v w n
+Readies m v (Err e) w n = (h : List ℕ → List ℕ) → Nexts h m v (Err e) w n

@@ -3,6 +3,7 @@ pub mod Todo
 pub mod OnTree
 pub mod Reads
 pub mod Standing
+pub mod Pieces
 pub mod Steps
 pub mod Shown
 pub mod Gathered

@@ -23,6 +23,6 @@ pub fn check_tree<K: Store, H: KeyHash>(
     ensures { (slots : List TrieSlot) → HasSlots usual root.entry slots → Checks H.hash_of slots at.0 (K.moment store.old) result (K.moment store.new) }
 {
     let mut walker = Walker::new(alloc, root, at)?;
-    while let Some(_row) = walker.next(keys, store)? {}
+    while walker.advance(keys, store)? {}
     Ok(walker.given())
 }

@@ -3,6 +3,7 @@
 
 mod check;
 mod due;
+mod entry;
 mod fetch;
 mod laws;
 mod list;

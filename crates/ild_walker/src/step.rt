@@ -1,6 +1,11 @@
 //! The steps that a walk has still to do.
-use ild_data::{BlockId, Txt};
-use ild_node::Spelled;
+ghost use Rattle.std.specs.Prelude.{◌≡◌, ◌≤◌, true, length};
+ghost use Rattle.std.specs.Str.{is_utf8};
+ghost use Rattle.ild_node.specs.Spelled.{IsFaultless};
+ghost use Rattle.ild_walker.specs.Pieces.{piece};
+
+use ild_data::{BlockId, Octets};
+use std::rc::Rc;
 
 /// A step of a walk.
 #[derive(Drop)]
@@ -13,12 +18,19 @@ pub(crate) enum Step {
     Leave(u64),
 }
 
-/// An entry to be given.
+/// An entry to be given: where its key and the spelling of its value stand in the block of its node, the value behind the key.
 #[derive(Drop)]
 pub(crate) struct Entry {
-    pub(crate) key: Txt,
-    pub(crate) value: Spelled,
+    pub(crate) held: Rc<Octets>,
+    pub(crate) from: usize,
+    pub(crate) middle: usize,
+    pub(crate) to: usize,
     pub(crate) index: u8,
+    ghost order: { from ≤ middle },
+    ghost rise: { middle ≤ to },
+    ghost within: { to ≤ length held.value },
+    ghost text: { is_utf8 (piece held.value from middle) ≡ true },
+    ghost tree: { IsFaultless (piece held.value middle to) },
 }
 
 /// A child to be entered.

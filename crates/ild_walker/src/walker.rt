@@ -6,7 +6,7 @@ ghost use Rattle.ild_walker.specs.Steps.{path_of};
 ghost use Rattle.ild_walker.specs.Todo.{agrees};
 
 use crate::due::Due;
-use crate::fetch::{fetch, steps_in};
+use crate::fetch::{fetch, root_steps};
 use crate::row::Row;
 use crate::step::{Child, Entry, Step};
 use ild_cbor::{BlockWhy, Why};
@@ -16,7 +16,7 @@ use ild_node::{BUCKET_SIZE, HamtFault, LEVELS, NodeView, index_of};
 use std::alloc::{AllocError, Global};
 
 /// A walk over the entries of a HAMT in the order of its trie: by index, and bytewise by key inside a bucket. It keeps what is
-/// still to be done in the nodes on its way, and borrows nothing.
+/// still to be done in the nodes on its way, with the blocks in which their entries stand, and borrows nothing.
 #[derive(Drop)]
 pub struct Walker {
     pub(crate) alloc: Global,
@@ -46,7 +46,8 @@ impl Walker {
     ghost use Rattle.ild_typed.specs.Composed.{usual};
     ghost use Rattle.ild_node.specs.Views.{HasSlots};
     ghost use Rattle.ild_walker.specs.Todo.{enter, fits, leave};
-    ghost use Rattle.ild_walker.specs.Ahead.{Enters, Gives, GivesNext, IsDue, IsFaultAt, IsNew, IsNewLeft, IsNewOn, IsPast, IsReady, IsTrieFault, Leaves, NextIs, Nexts, Opens, Takes, walker_here, walker_path, walker_todo};
+    ghost use Rattle.ild_walker.specs.Steps.{entry_key};
+    ghost use Rattle.ild_walker.specs.Ahead.{AnyRow, Enters, Gives, GivesNext, IsDue, IsFaultAt, IsNew, IsNewLeft, IsNewOn, IsNextRow, IsPast, IsReady, Judges, IsTrieFault, Leaves, NextIs, Nexts, Opens, PassesStep, Readies, Takes, walker_here, walker_path, walker_todo};
 
     /// A walk beneath a root, which stands in the block of this id.
     pub fn new(alloc: Global, root: NodeView<'_>, at: BlockId) -> Result<Walker, AllocError>
@@ -55,7 +56,7 @@ impl Walker {
         ensures on { (slots : List TrieSlot) → HasSlots usual root.entry slots → IfOk result (IsNewOn slots at.0) }
         ensures reads { (slots : List TrieSlot) → HasSlots usual root.entry slots → IfOk result (IsNewLeft slots) }
     {
-        let steps = steps_in(alloc, root)?;
+        let steps = root_steps(alloc, root)?;
         Ok(Walker {
             alloc,
             at,
@@ -179,10 +180,51 @@ impl Walker {
     // Whether an entry fits its place.
     fn fits<H: KeyHash>(&self, entry: &Entry, keys: &H) -> bool
         requires { length (walker_path self.now) < trie_levels usual }
-        ensures { result ≡ fits H.hash_of usual (walker_path self.now) entry.now.index entry.now.key }
+        ensures { result ≡ fits H.hash_of usual (walker_path self.now) entry.now.index (entry_key entry.now) }
     {
-        let hash = keys.hash(entry.key.as_str().as_bytes());
+        let hash = keys.hash(entry.key());
         agrees(&hash, 0, &self.path) && index_of(&hash, self.path.len() as u32) == entry.index
+    }
+
+    // Whether an entry is next, which fits its place. None is next where all are given.
+    fn is_next<H: KeyHash>(&self, keys: &H) -> Result<bool, HamtFault>
+        requires ready { IsReady self.now.given (walker_todo self.now) }
+        requires short { length (walker_path self.now) < trie_levels usual }
+        ensures { Judges H.hash_of self.now result }
+    {
+        match self.steps.last() {
+            None => Ok(false),
+            Some(Step::Give(entry)) => {
+                let fits = self.fits(entry, keys);
+                if fits { Ok(true) } else { Err(self.fault()) }
+            }
+            Some(Step::Leave(_)) => Err(self.fault()),
+            Some(Step::Enter(_)) => Err(self.fault()),
+        }
+    }
+
+    // The row of the next step, which gives an entry.
+    fn next_row(&self) -> Result<Row, AllocError>
+        requires { GivesNext self.now }
+        ensures { IfOk result (IsNextRow self.now) }
+    {
+        match self.steps.last() {
+            Some(Step::Give(entry)) => entry.row(self.alloc, self.here()),
+            _ => Err(AllocError),
+        }
+    }
+
+    // Passes over the next step, which gives an entry.
+    fn pass_step(&mut self) -> Result<(), HamtFault>
+        requires { GivesNext self.old }
+        ensures { PassesStep self.old result self.new }
+    {
+        let Some(given) = self.given.checked_add(1) else {
+            return Err(HamtFault::Memory);
+        };
+        self.steps.pop();
+        self.given = given;
+        Ok(())
     }
 
     // Takes the next step, which gives an entry.
@@ -190,21 +232,9 @@ impl Walker {
         requires { GivesNext self.old }
         ensures { Takes self.old result self.new }
     {
-        let Some(given) = self.given.checked_add(1) else {
-            return Err(HamtFault::Memory);
-        };
-        let block = self.here();
-        match self.steps.pop() {
-            Some(Step::Give(entry)) => {
-                self.given = given;
-                Ok(Some(Row {
-                    key: entry.key,
-                    value: entry.value.into_octets(),
-                    block,
-                }))
-            }
-            _ => Err(HamtFault::Memory),
-        }
+        let row = self.next_row()?;
+        self.pass_step()?;
+        Ok(Some(row))
     }
 
     // Gives the next entry, where it fits its place.
@@ -213,19 +243,37 @@ impl Walker {
         requires short { length (walker_path self.old) < trie_levels usual }
         ensures { Gives H.hash_of self.old result self.new }
     {
-        match self.steps.last() {
-            None => Ok(None),
-            Some(Step::Give(entry)) => {
-                let fits = self.fits(entry, keys);
-                if fits {
-                    self.take_row()
-                } else {
-                    Err(self.fault())
-                }
-            }
-            Some(Step::Leave(_)) => Err(self.fault()),
-            Some(Step::Enter(_)) => Err(self.fault()),
+        if self.is_next(keys)? {
+            return self.take_row();
         }
+        Ok(None)
+    }
+
+    // The same without its row: whether there was one.
+    fn pass<H: KeyHash>(&mut self, keys: &H) -> Result<bool, HamtFault>
+        requires ready { IsReady self.old.given (walker_todo self.old) }
+        requires short { length (walker_path self.old) < trie_levels usual }
+        ensures { AnyRow (λ r. Gives H.hash_of self.old r self.new) result }
+    {
+        if self.is_next(keys)? {
+            self.pass_step()?;
+            return Ok(true);
+        }
+        Ok(false)
+    }
+
+    // Leaves nodes and enters children until an entry is to be given, or nothing.
+    fn ready<K: Store>(&mut self, store: &mut K) -> Result<(), HamtFault>
+        ensures readies { Readies (K.moment store.old) self.old result self.new (K.moment store.new) }
+        ensures ready { OnOk result (IsReady self.new.given (walker_todo self.new)) }
+        ensures short { OnOk result (length (walker_path self.new) < trie_levels usual) }
+    {
+        if self.path.len() >= LEVELS as usize {
+            return Err(self.fault());
+        }
+        self.leave_done()?;
+        self.enter_all(store)?;
+        Ok(())
     }
 
     /// The next entry, or `None` where all are given. A block that is refused is on the tree: the store lacks it, it is no block
@@ -237,11 +285,19 @@ impl Walker {
     ) -> Result<Option<Row>, HamtFault>
         ensures { Nexts H.hash_of (K.moment store.old) self.old result self.new (K.moment store.new) }
     {
-        if self.path.len() >= LEVELS as usize {
-            return Err(self.fault());
-        }
-        self.leave_done()?;
-        self.enter_all(store)?;
+        self.ready(store)?;
         self.give(keys)
+    }
+
+    /// The same without a copy of the entry: whether there was one.
+    pub(crate) fn advance<K: Store, H: KeyHash>(
+        &mut self,
+        keys: &H,
+        store: &mut K,
+    ) -> Result<bool, HamtFault>
+        ensures { AnyRow (λ r. Nexts H.hash_of (K.moment store.old) self.old r self.new (K.moment store.new)) result }
+    {
+        self.ready(store)?;
+        self.pass(keys)
     }
 }

@@ -1,4 +1,5 @@
 use Rattle.std.proofs.Common.{Some, ◌∙◌, sym, ap}
+use Rattle.ild_walker.specs.Steps.{entry_key, entry_value}
 use Rattle.ild_walker.specs.declared.step.Step.TheVariants.{Give, Enter, Leave}
 use Rattle.ild_walker.proofs.Walking.{next-todo}
 use Rattle.ild_walker.proofs.walker.Walker.due.Goals as goal
@@ -7,7 +8,7 @@ pub returns-in-Some-Give : goal.returns-in-Some-Give
 returns-in-Some-Give c =
     let e = c.in-Some-Give.field-0-0 in
     let n = next-todo c.args.self.now.steps.items c.deref.result.now (Give e) c.deref.ensures.value (sym c.in-Some-Give.ensures.value ∙ ap Some c.in-Some-Give.field-0-is) in
-    (e.key, e.value, e.index, n.0, n.1)
+    (entry_key e, entry_value e, e.index, n.0, n.1)
 
 pub returns-in-Some-Enter : goal.returns-in-Some-Enter
 returns-in-Some-Enter c = next-todo c.args.self.now.steps.items c.deref.result.now (Enter c.in-Some-Enter.child) c.deref.ensures.value (sym c.in-Some-Enter.ensures.value ∙ ap Some c.in-Some-Enter.field-0-is)
