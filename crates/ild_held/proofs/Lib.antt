@@ -1,6 +1,10 @@
+pub mod Beneath
 pub mod Fitting
 pub mod Hamts
+pub mod Orderly
 pub mod Parting
+pub mod Permuted
 pub mod Plainly
 pub mod Roots
 pub mod Splitting
+pub mod Trieing

@@ -10,6 +10,5 @@ mod Reaching
 mod Indexing
 mod Ordering
 mod Tallying
-mod Treeing
 mod Iterating
 mod Counting

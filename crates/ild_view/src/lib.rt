@@ -26,7 +26,6 @@ mod rep;
 mod rest;
 mod scalars;
 mod step;
-mod tree;
 mod view;
 
 pub use elements::ViewItems;

@@ -1,0 +1,66 @@
+-- What acceptance says of parts: their types are in the table, the piece of a union passes over nothing, and delimiters are given.
+use Rattle.std.proofs.Common.{◌≡◌, ℕ, zero, suc, ◌<◌, ◌≤◌, List, [], ◌∷◌, length, get_or, map, Bool, true, false, Some, refl, sym, ◌∙◌, ap, subst, arith}
+use Rattle.std.specs.Prelude.{slice_get}
+use Rattle.std.specs.List.{All}
+use Rattle.std.specs.Option.{option_map_or}
+use Rattle.std.proofs.lemmas.Option.{none-some, same_Some}
+use Rattle.ild_cbor.specs.declared.piece.Piece.{Piece}
+use Rattle.ild_schema.specs.Legible.{IsLegible}
+use Rattle.ild_schema.specs.Rows.{def_at}
+use Rattle.ild_schema.specs.Slots.{form_of}
+use Rattle.ild_schema.specs.Table.{IsWithin}
+use Rattle.ild_schema.specs.declared.def.Field.{Field}
+use Rattle.ild_schema.specs.declared.def.MapForm.{MapForm}
+use Rattle.ild_schema.specs.declared.def.MapForm.TheVariants as MF
+use Rattle.ild_schema.specs.declared.def.TypeDef.{TypeDef}
+use Rattle.ild_schema.specs.declared.def.TypeDef.TheVariants as D
+use Rattle.ild_schema.specs.declared.def.UnionDef.{UnionDef}
+use Rattle.ild_schema.specs.declared.number.Slot.{Slot}
+use Rattle.ild_schema.specs.declared.number.TypeNo.{TypeNo}
+use Rattle.ild_schema.specs.declared.row.Row.{Row}
+use Rattle.ild_struct.proofs.Splitting.{given_some}
+use Rattle.ild_typed.specs.Levels.{map_levels}
+use Rattle.ild_walk.proofs.Finding.{got_at}
+use Rattle.ild_union.specs.Forms.{passes_over}
+use Rattle.ild_walk.specs.Ready.{IsInlined, is_struct}
+use Rattle.ild_read.specs.Ready.{HasDelims}
+
+pub got : {A : Type 0} (xs ys : List A) (i : ℕ) (x : A) → xs ≡ ys → i < length xs → x ≡ get_or xs i x → slice_get ys i ≡ Some x
+got xs ys i x same h e = subst (λ zs. slice_get zs i ≡ Some x) same (got_at xs i x h e)
+
+-- ---- structs
+
+pub field_low : (count : ℕ) (fs : List Field) (i : ℕ) (f : Field) → All (λ k. k < count) (map (λ (g : Field). g.slot.ty.0) fs) → slice_get fs i ≡ Some f → f.slot.ty.0 < count
+field_low count [] i f all e = absurd (none-some f e)
+field_low count (g ∷ fs) zero f all e = subst (λ (x : Field). x.slot.ty.0 < count) (same_Some g f e) (all 0 0 (omega arith))
+field_low count (g ∷ fs) (suc i) f all e = field_low count fs i f (λ k v less. all (suc k) v (omega (arith, less))) e
+
+-- ---- unions
+
+-- the piece of a union passes over nothing
+pub union_plain : (rows : List Row) (s : Slot) (u : UnionDef) → form_of rows s ≡ Some (D.Union u) → (p : Piece) → IsInlined rows s p → passes_over p ≡ false
+union_plain rows s u is p inlined = by (passes_over p) refl where
+  by : (b : Bool) → passes_over p ≡ b → passes_over p ≡ false
+  by false e = e
+  by true e = let x : false ≡ true = sym (ap (λ o. option_map_or is_struct o false) is) ∙ inlined e in absurd cc
+
+-- ---- maps
+
+pub map_delims : (rows : List Row) → IsLegible rows → (n : ℕ) (key : TypeNo) (key_at : ℕ) (value : Slot) (at : ℕ) (form : MapForm) → def_at rows n ≡ Some (D.Map key key_at value at form) → HasDelims form
+map_delims rows legible n key key_at value at MF.Map known = tt
+map_delims rows legible n key key_at value at MF.ListPairs known = tt
+map_delims rows legible n key key_at value at MF.Hamt known = tt
+map_delims rows legible n key key_at value at (MF.StringPairs inner entry) known =
+    (given_some inner (legible.clear.types n (D.Map key key_at value at (MF.StringPairs inner entry)) known), given_some entry (legible.delims n (D.Map key key_at value at (MF.StringPairs inner entry)) known))
+
+pub key_low : (rows : List Row) (found : TypeDef) (key : TypeNo) (key_at : ℕ) (value : Slot) (at : ℕ) (form : MapForm) → found ≡ D.Map key key_at value at form → IsWithin (length rows) found → key.0 < length rows
+key_low rows found key key_at value at form is within = let w : IsWithin (length rows) (D.Map key key_at value at form) = subst (IsWithin (length rows)) is within in w.1 0 0 (omega arith)
+
+pub value_low : (rows : List Row) (found : TypeDef) (key : TypeNo) (key_at : ℕ) (value : Slot) (at : ℕ) (form : MapForm) → found ≡ D.Map key key_at value at form → IsWithin (length rows) found → value.ty.0 < length rows
+value_low rows found key key_at value at form is within = let w : IsWithin (length rows) (D.Map key key_at value at form) = subst (IsWithin (length rows)) is within in w.1 1 0 (omega arith)
+
+pub some_map_levels : (form : MapForm) → 1 ≤ map_levels form
+some_map_levels MF.Map = omega arith
+some_map_levels MF.ListPairs = omega arith
+some_map_levels (MF.StringPairs i e) = omega arith
+some_map_levels MF.Hamt = omega arith

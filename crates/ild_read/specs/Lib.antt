@@ -1,0 +1,9 @@
+pub mod Around
+pub mod Broken
+pub mod Fields
+pub mod Hamts
+pub mod Leaf
+pub mod Parts
+pub mod Reads
+pub mod Ready
+pub mod Sites
