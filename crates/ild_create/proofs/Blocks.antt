@@ -182,7 +182,7 @@ block_answer h rows n v m k (Ok b) sound built steps = (tries_nodes h rows n v m
 block_answer h rows n v m k (Err B.Exhausted) sound built steps = (first_exhausted h rows n v sound built.0, built.1)
 block_answer h rows n v m k (Err B.Size) sound built steps = (first_long h rows n v sound built.0, built.1)
 block_answer h rows n v m k (Err B.Store) sound built steps = (built.0, tries_nodes h rows n v m k sound built.1 steps)
-block_answer h rows n v m k (Err (B.Clash id)) sound built steps = (built.0, tries_nodes h rows n v m k sound built.1 steps)
+block_answer h rows n v m k (Err (B.Clash id kept new)) sound built steps = (record { kept = kept; new = new; is = built.0 }, tries_nodes h rows n v m k sound built.1 steps)
 block_answer h rows n v m k (Err B.Memory) sound (inl same) steps = inl same
 block_answer h rows n v m k (Err B.Memory) sound (inr has) steps = inr (tries_nodes h rows n v m k sound has steps)
 

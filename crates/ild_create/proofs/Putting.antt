@@ -239,8 +239,8 @@ unbuilt h rows schema n b v m k (F.Clash id) given answer =
     let hit = answer.0 in
     record {
       tried = only_nodes h rows n b v m k given answer.1;
-      hit = record { kept = hit.kept; new = hit.new; held = hit.held; among = node_among h rows n v answer.1.tree hit.new hit.among; collide = hit.collide };
-      named = sym hit.named;
+      hit = record { kept = hit.kept; new = hit.new; held = hit.is.held; among = node_among h rows n v answer.1.tree hit.new hit.is.among; collide = hit.is.collide };
+      named = sym hit.is.named;
     }
 unbuilt h rows schema n b v m k F.Memory given (inl same) = inl same
 unbuilt h rows schema n b v m k F.Memory given (inr tries) = inr (only_nodes h rows n b v m k given tries)

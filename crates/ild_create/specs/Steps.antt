@@ -52,7 +52,7 @@ abbrev pub built_fault : BuildFault → CreateFault
 built_fault B.Exhausted = F.Refused R.Exhausted
 built_fault B.Size = F.Refused R.Size
 built_fault B.Store = F.Store
-built_fault (B.Clash id) = F.Clash id
+built_fault (B.Clash id kept new) = F.Clash id
 built_fault B.Memory = F.Memory
 
 abbrev pub put_fault : PutFault → CreateFault
@@ -82,11 +82,17 @@ pub record TriesNodes (h : List ℕ → List ℕ) (rows : List Row) (n : TypeNo)
   pub storable : Storable bare h rows n v tree
   pub steps : PutsSome m (nodes h rows (plainly n) v) k
 
+-- a block that is held collides with one of these, under this id
+pub record CollidesAt (m : Moment) (blocks : List (List ℕ)) (id : List ℕ) : Type 0 where
+  pub kept : List ℕ
+  pub new : List ℕ
+  pub is : Collides m blocks id kept new
+
 abbrev pub BlockAnswer : (List ℕ → List ℕ) → List Row → TypeNo → Value → Moment → Result (List ℕ) CreateFault → Moment → Type 0
 BlockAnswer h rows n v m (Ok block) k = (tries : TriesNodes h rows n v m k) × (block ≡ spell tries.tree) × Holds k (nodes h rows (plainly n) v)
 BlockAnswer h rows n v m (Err (F.Refused r)) k = IsFirstOf h rows n v r × (k ≡ m)
 BlockAnswer h rows n v m (Err F.Store) k = Rose m.faults k.faults × TriesNodes h rows n v m k
-BlockAnswer h rows n v m (Err (F.Clash id)) k = Collides k (nodes h rows (plainly n) v) id.0 × TriesNodes h rows n v m k
+BlockAnswer h rows n v m (Err (F.Clash id)) k = CollidesAt k (nodes h rows (plainly n) v) id.0 × TriesNodes h rows n v m k
 BlockAnswer h rows n v m (Err F.Memory) k = (k ≡ m) ⊎ TriesNodes h rows n v m k
 
 pub record HasBlock (h : List ℕ → List ℕ) (rows : List Row) (n : TypeNo) (v : Value) (m : Moment) (result : Result (List ℕ) CreateFault) (k : Moment) : Type 0 where

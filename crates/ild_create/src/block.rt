@@ -81,7 +81,7 @@ fn built_fault(fault: BuildFault) -> CreateFault
         BuildFault::Exhausted => CreateFault::Refused(Refusal::Exhausted),
         BuildFault::Size => CreateFault::Refused(Refusal::Size),
         BuildFault::Store => CreateFault::Store,
-        BuildFault::Clash(id) => CreateFault::Clash(id),
+        BuildFault::Clash { id, .. } => CreateFault::Clash(id),
         BuildFault::Memory => CreateFault::Memory,
     }
 }

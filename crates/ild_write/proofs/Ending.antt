@@ -69,8 +69,6 @@ module _ (h : List ℕ → List ℕ) (rows : List Row) (slot : Slot) (v : Value)
   stop_answer m n bs (F.Clash id kept new) r has same by puts =
       subst (λ (f : BuildFault). BuildAnswer h rows slot v m (Err f) n) (sym by.0) (
         record {
-          kept = kept;
-          new = new;
           held = if_more n.blocks (λ held. block_at held id.0 ≡ Some kept) (λ held. AllByRecursion (λ b. block_at held (id_of b) ≡ Some b) (kept ∷ [])) (λ held t. (ap (block_at held) puts.answer.1 ∙ t, tt)) puts.answer.4;
           among = contained new (nodes h rows slot v) (among_alike bs (nodes h rows slot v) same new puts.answer.0);
           named = puts.answer.2;
@@ -95,7 +93,7 @@ module _ (h : List ℕ → List ℕ) (rows : List Row) (slot : Slot) (v : Value)
   none_answer m B.Size is = (is, refl)
   none_answer m B.Memory is = inl refl
   none_answer m B.Store is = absurd is
-  none_answer m (B.Clash id) is = absurd is
+  none_answer m (B.Clash id kept new) is = absurd is
 
   pub unplanned : (m : Moment) (e : BuildFault) → Plans h rows slot v (Err e) → Builds h rows slot v m (Err e) m
   unplanned m e is = record { answer = none_answer m e is; steps = puts_none m (nodes h rows slot v) }

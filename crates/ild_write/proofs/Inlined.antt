@@ -25,7 +25,7 @@ use Rattle.ild_write.specs.declared.nodes.Nodes.{Nodes}
 use Rattle.ild_write.proofs.Flow.{from}
 use Rattle.ild_write.proofs.Kept.{placed_between}
 use Rattle.ild_write.proofs.Keyed.{texts_of}
-use Rattle.ild_write.proofs.Placed.{past}
+use Rattle.ild_write.proofs.AcceptedTables.{past}
 use Rattle.ild_write.proofs.Spread.{tagged_spread}
 use Rattle.ild_write.proofs.StructForms.{inline_made}
 use Rattle.ild_write.proofs.Tagged.{around, sides_count, sides_made, sides_weigh}

@@ -1,5 +1,5 @@
 -- Turns over places in the key order of a table, and a discriminant that is put among them.
-use Rattle.std.proofs.Common.{◌≡◌, ℕ, zero, suc, ◌+◌, ◌<◌, ◌≤◌, List, [], ◌∷◌, ◌++◌, length, take, drop, get_or, map, Bool, true, false, cond, Option, Some, None, option_map, slice_get, refl, sym, ap, ◌∙◌, arith}
+use Rattle.std.proofs.Common.{◌≡◌, ⊎_elim, ℕ, zero, suc, ◌+◌, ◌<◌, ◌≤◌, List, [], ◌∷◌, ◌++◌, length, take, drop, get_or, map, Bool, true, false, cond, Option, Some, None, option_map, slice_get, refl, sym, ap, ◌∙◌, arith}
 use Rattle.std.specs.Prelude.{not, option_and_then}
 use Rattle.std.specs.List.{AllByRecursion, filter}
 use Rattle.std.specs.Option.{option_map_or, unwrap_or}
@@ -20,8 +20,9 @@ use Rattle.ild_build.specs.LeftOut.{is_left_out}
 use Rattle.ild_build.specs.PartAt.{field_at}
 use Rattle.ild_build.proofs.EachKey.{one_of}
 use Rattle.ild_build.proofs.Texting.{drop_got, drop_all}
-use Rattle.ild_write.specs.Places.{in_order, is_before, is_written, name_at, named, places_from, written_of}
-use Rattle.ild_write.proofs.Keyed.{below_some, kept_is, keyed, texts_of}
+use Rattle.ild_write.specs.Places.{in_order, is_before, is_written, kept_at, name_at, named, places_from, written_of}
+use Rattle.ild_write.proofs.Keyed.{below_some, kept_is as kept_are, keyed, texts_of}
+use Rattle.ild_write.proofs.Turns.{kept_is, kept_none}
 use Rattle.ild_write.proofs.Ordered.{got_at, less_is}
 
 module _ (fs : List Field) (os : List (Option Value)) where
@@ -33,11 +34,17 @@ module _ (fs : List Field) (os : List (Option Value)) where
   pub no_field : (i : ℕ) → slice_get fs i ≡ None → is_written fs os i ≡ false
   no_field i none = ap (λ o. test o (field_at os i)) none
 
-  pub no_value : (i : ℕ) (f : Field) → slice_get fs i ≡ Some f → field_at os i ≡ None → is_written fs os i ≡ false
+  no_value : (i : ℕ) (f : Field) → slice_get fs i ≡ Some f → field_at os i ≡ None → is_written fs os i ≡ false
   no_value i f at none = ap (λ o. test o (field_at os i)) at ∙ ap (test (Some f)) none
 
-  pub left_or_not : (i : ℕ) (f : Field) (v : Value) (b : Bool) → slice_get fs i ≡ Some f → field_at os i ≡ Some v → is_left_out f.implicit v ≡ b → is_written fs os i ≡ not b
+  left_or_not : (i : ℕ) (f : Field) (v : Value) (b : Bool) → slice_get fs i ≡ Some f → field_at os i ≡ Some v → is_left_out f.implicit v ≡ b → is_written fs os i ≡ not b
   left_or_not i f v b at there is = ap (λ o. test o (field_at os i)) at ∙ ap (test (Some f)) there ∙ ap not is
+
+  pub not_kept : (i : ℕ) (f : Field) → slice_get fs i ≡ Some f → kept_at f os i ≡ None → is_written fs os i ≡ false
+  not_kept i f at e = ⊎_elim (λ n. no_value i f at n) (λ x. left_or_not i f x.value true at x.there x.left) (kept_none f os i e)
+
+  pub kept : (i : ℕ) (f : Field) (v : Value) → slice_get fs i ≡ Some f → kept_at f os i ≡ Some v → is_written fs os i ≡ true
+  kept i f v at e = let x = kept_is f os i v e in left_or_not i f v false at x.there x.stays
 
   pub record Stands (i : ℕ) : Type 0 where
     pub field : Field
@@ -127,7 +134,7 @@ module _ (fs : List Field) (os : List (Option Value)) where
         let pair : ℕ → List ℕ × ℕ = λ i. (name_at fs key i, i) in
         let a = written_of fs os (take c ns) in
         let b = written_of fs os (drop c ns) in
-        let below : IsBelow key (map pair b) = rw (kept_is fs os key (drop c ns)) (below_some (λ (p : List ℕ × ℕ). is_written fs os p.1) key (under_texts (texts_of fs) (drop c ns)) (next_below other c ns next) (risen c ns order.rising)) in
+        let below : IsBelow key (map pair b) = rw (kept_are fs os key (drop c ns)) (below_some (λ (p : List ℕ × ℕ). is_written fs os p.1) key (under_texts (texts_of fs) (drop c ns)) (next_below other c ns next) (risen c ns order.rising)) in
         map-append pair a (n ∷ b) ∙ ap (λ k. map pair a ++ ((k, n) ∷ map pair b)) (ap (λ o. option_map_or field_text o key) none)
         ∙ sym (put_between key n (map pair a) (map pair b) (front (take c ns) before) below)
         ∙ ap (put key n) (sym (map-append pair a b) ∙ ap (map pair) (sym (filter-append (is_written fs os) (take c ns) (drop c ns)) ∙ ap (filter (is_written fs os)) (take-append-drop c ns)) ∙ keyed fs os key apart ns order)

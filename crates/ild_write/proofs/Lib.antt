@@ -10,7 +10,7 @@ mod StructForms
 mod Unions
 mod Heights
 mod Loops
-mod Placed
+mod AcceptedTables
 mod Flow
 mod Fitted
 mod Bare

@@ -1,5 +1,5 @@
 -- Turns of the loops that write the parts of a value.
-use Rattle.std.proofs.Common.{◌≡◌, ℕ, ◌+◌, ◌≤◌, List, [], ◌∷◌, ◌++◌, length, drop, Bool, true, false, cond, Option, Some, None, option_map, slice_get, refl, sym, ap, ◌∙◌}
+use Rattle.std.proofs.Common.{◌≡◌, ℕ, ◌+◌, ◌≤◌, List, [], ◌∷◌, ◌++◌, length, drop, Bool, true, false, cond, Option, Some, None, option_map, slice_get, refl, sym, ap, ◌∙◌, ⊎_elim}
 use Rattle.std.specs.Prelude.{option_and_then}
 use Rattle.std.specs.Option.{option_map_or}
 use Rattle.ild_data.specs.Spell.{spell_text}
@@ -12,8 +12,8 @@ use Rattle.ild_build.specs.LeftOut.{is_left_out}
 use Rattle.ild_build.specs.PartAt.{field_at}
 use Rattle.ild_build.proofs.Texting.{drop_got, drop_all}
 use Rattle.ild_write.specs.Made.{made, both, items_made, entry_made, entries_made, tuple_made, fields_made}
-use Rattle.ild_write.specs.Places.{name_at, place_made, value_made}
-use Rattle.ild_write.proofs.Turns.{over_none, over_some}
+use Rattle.ild_write.specs.Places.{kept_at, name_at, place_made, value_made}
+use Rattle.ild_write.proofs.Turns.{kept_is, kept_none, over_none, over_some}
 use Rattle.ild_typed.specs.Hamt.{whole}
 
 module _ (hash : List ℕ → List ℕ) (rows : List Row) where
@@ -52,16 +52,26 @@ module _ (hash : List ℕ → List ℕ) (rows : List Row) where
   fields_ends f [] = refl
   fields_ends f (g ∷ fs) = refl
 
-  pub fields_turn : (fs : List Field) (os : List (Option Value)) (i : ℕ) (f : Field) (v : Value) (b : Bool) → slice_get fs i ≡ Some f → field_at os i ≡ Some v → is_left_out f.implicit v ≡ b
+  fields_turn : (fs : List Field) (os : List (Option Value)) (i : ℕ) (f : Field) (v : Value) (b : Bool) → slice_get fs i ≡ Some f → field_at os i ≡ Some v → is_left_out f.implicit v ≡ b
       → fields_made (whole hash) rows true (drop i fs) (drop i os)
       ≡ cond b (fields_made (whole hash) rows true (drop (i + 1) fs) (drop (i + 1) os)) (both (entry_made (whole hash) rows true (field_text f) f.slot v) (fields_made (whole hash) rows true (drop (i + 1) fs) (drop (i + 1) os)))
   fields_turn fs os i f v b at there is =
       over_some (fields_made (whole hash) rows true) (λ g gs ps. refl) fields_ends fs os i f v at there
       ∙ ap (λ c. cond c (fields_made (whole hash) rows true (drop (i + 1) fs) (drop (i + 1) os)) (both (entry_made (whole hash) rows true (field_text f) f.slot v) (fields_made (whole hash) rows true (drop (i + 1) fs) (drop (i + 1) os)))) is
 
-  pub fields_skip : (fs : List Field) (os : List (Option Value)) (i : ℕ) (f : Field) → slice_get fs i ≡ Some f → field_at os i ≡ None
+  fields_skip : (fs : List Field) (os : List (Option Value)) (i : ℕ) (f : Field) → slice_get fs i ≡ Some f → field_at os i ≡ None
       → fields_made (whole hash) rows true (drop i fs) (drop i os) ≡ fields_made (whole hash) rows true (drop (i + 1) fs) (drop (i + 1) os)
   fields_skip = over_none (fields_made (whole hash) rows true) (λ f fs os. refl) fields_ends
+
+  pub fields_kept : (fs : List Field) (os : List (Option Value)) (i : ℕ) (f : Field) (v : Value) (name : List ℕ) → slice_get fs i ≡ Some f → kept_at f os i ≡ Some v → name ≡ field_text f
+      → fields_made (whole hash) rows true (drop i fs) (drop i os) ≡ both (entry_made (whole hash) rows true name f.slot v) (fields_made (whole hash) rows true (drop (i + 1) fs) (drop (i + 1) os))
+  fields_kept fs os i f v name at e is =
+      let x = kept_is f os i v e in
+      fields_turn fs os i f v false at x.there x.stays ∙ ap (λ k. both (entry_made (whole hash) rows true k f.slot v) (fields_made (whole hash) rows true (drop (i + 1) fs) (drop (i + 1) os))) (sym is)
+
+  pub fields_passed : (fs : List Field) (os : List (Option Value)) (i : ℕ) (f : Field) → slice_get fs i ≡ Some f → kept_at f os i ≡ None
+      → fields_made (whole hash) rows true (drop i fs) (drop i os) ≡ fields_made (whole hash) rows true (drop (i + 1) fs) (drop (i + 1) os)
+  fields_passed fs os i f at e = ⊎_elim (λ n. fields_skip fs os i f at n) (λ x. fields_turn fs os i f x.value true at x.there x.left) (kept_none f os i e)
 
   pub fields_end : (fs : List Field) (os : List (Option Value)) (i : ℕ) → length fs ≤ i → fields_made (whole hash) rows true (drop i fs) (drop i os) ≡ Some []
   fields_end fs os i h = ap (λ xs. fields_made (whole hash) rows true xs (drop i os)) (drop_all fs i h)

@@ -1,5 +1,5 @@
 -- What the parts of a value weigh, in the turns of the loops that write them.
-use Rattle.std.proofs.Common.{◌≡◌, ℕ, ◌+◌, ◌≤◌, List, [], ◌∷◌, length, drop, true, Option, Some, None, option_map, slice_get, refl, ap, ◌∙◌, zero-add}
+use Rattle.std.proofs.Common.{◌≡◌, ⊎_elim, ℕ, ◌+◌, ◌≤◌, List, [], ◌∷◌, length, drop, true, Option, Some, None, option_map, slice_get, refl, ap, ◌∙◌, zero-add, arith}
 use Rattle.std.specs.Option.{option_map_or}
 use Rattle.ild_schema.specs.declared.number.Slot.{Slot}
 use Rattle.ild_schema.specs.declared.number.TypeNo.{TypeNo}
@@ -21,7 +21,8 @@ use Rattle.ild_build.specs.LeftOut.{is_left_out}
 use Rattle.ild_build.specs.PartAt.{field_at}
 use Rattle.ild_build.proofs.Texting.{drop_got, drop_all}
 use Rattle.ild_write.specs.Weights.{Weight, weigh, weigh_values, weigh_pairs, weigh_fields, hamt_weight, items_weight, entries_weight, fields_weight, place_weight}
-use Rattle.ild_write.proofs.Turns.{over_none, over_some}
+use Rattle.ild_write.specs.Places.{kept_at}
+use Rattle.ild_write.proofs.Turns.{kept_none, over_none, over_some}
 
 module _ (rows : List Row) (μ : Weight) where
   pub item_weight : (u : Slot) (vs : List Value) (i : ℕ) (v : Value) → slice_get vs i ≡ Some v → items_weight μ rows u (drop i vs) ≡ weigh μ rows u v + items_weight μ rows u (drop (i + 1) vs)
@@ -59,6 +60,11 @@ module _ (rows : List Row) (μ : Weight) where
   left_weight (Some (C.Int a)) u v e = absurd cc
   left_weight (Some (C.Text a)) u (V.text b) e = refl
   left_weight (Some (C.Text a)) u v e = absurd cc
+
+  pub field_passed : (fs : List Field) (os : List (Option Value)) (i : ℕ) (f : Field) → slice_get fs i ≡ Some f → kept_at f os i ≡ None → fields_weight μ rows (drop i fs) (drop i os) ≡ fields_weight μ rows (drop (i + 1) fs) (drop (i + 1) os)
+  field_passed fs os i f at e =
+      ⊎_elim (λ n. field_skip fs os i f at n)
+      (λ x. let none = left_weight f.implicit f.slot x.value x.left in let turn = field_weight fs os i f x.value at x.there in omega (arith, none, turn)) (kept_none f os i e)
 
   pub field_place : (fs : List Field) (os : List (Option Value)) (i : ℕ) (f : Field) (v : Value) → slice_get fs i ≡ Some f → field_at os i ≡ Some v → place_weight μ rows fs os i ≡ weigh μ rows f.slot v
   field_place fs os i f v at there =

@@ -50,10 +50,8 @@ Holds m blocks = IfTold m.blocks (λ held. AllByRecursion (λ b. block_at held (
 abbrev pub AddsOnly : Moment → Moment → List (List ℕ) → Type 0
 AddsOnly m n blocks = BothTold m.blocks n.blocks (λ was now. (id b : List ℕ) → block_at now id ≡ Some b → (block_at was id ≡ Some b) ⊎ Contains blocks b)
 
--- a block that is held collides with one of these
-pub record Collides (m : Moment) (blocks : List (List ℕ)) (id : List ℕ) : Type 0 where
-  pub kept : List ℕ
-  pub new : List ℕ
+-- a block that is held collides with one of these, under this id
+pub record Collides (m : Moment) (blocks : List (List ℕ)) (id kept new : List ℕ) : Type 0 where
   pub held : Holds m (kept ∷ [])
   pub among : Contains blocks new
   pub named : id_of new ≡ id
@@ -80,7 +78,7 @@ BuildAnswer h rows slot v m (Ok b) n = IsBuilt h rows slot v b n
 BuildAnswer h rows slot v m (Err B.Exhausted) n = (exhausts h rows slot v ≡ true) × (n ≡ m)
 BuildAnswer h rows slot v m (Err B.Size) n = IsTooLong h rows slot v × (n ≡ m)
 BuildAnswer h rows slot v m (Err B.Store) n = Rose m.faults n.faults × HasBlocks h rows slot v
-BuildAnswer h rows slot v m (Err (B.Clash id)) n = Collides n (nodes h rows slot v) id.0 × HasBlocks h rows slot v
+BuildAnswer h rows slot v m (Err (B.Clash id kept new)) n = Collides n (nodes h rows slot v) id.0 kept new × HasBlocks h rows slot v
 BuildAnswer h rows slot v m (Err B.Memory) n = (n ≡ m) ⊎ HasBlocks h rows slot v
 
 -- From the moment m of a store, a value is built into the block of its representation, or not; and of its other blocks some are put.

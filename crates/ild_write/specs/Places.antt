@@ -21,6 +21,10 @@ places_from n (f ∷ fs) [] = []
 places_from n (f ∷ fs) (Some v ∷ os) = cond (is_left_out f.implicit v) (places_from (suc n) fs os) (n ∷ places_from (suc n) fs os)
 places_from n (f ∷ fs) (None ∷ os) = places_from (suc n) fs os
 
+-- the value of a field at a place, where it is written: one is there, and not left out
+abbrev pub kept_at : Field → List (Option Value) → ℕ → Option Value
+kept_at f os i = option_and_then (λ v. cond (is_left_out f.implicit v) None (Some v)) (field_at os i)
+
 -- whether a field stands at a place, and is there and not left out
 abbrev pub is_written : List Field → List (Option Value) → ℕ → Bool
 is_written fs os i = option_map_or (λ f. option_map_or (λ v. not (is_left_out f.implicit v)) (field_at os i) false) (slice_get fs i) false

@@ -37,5 +37,5 @@ Plans h rows slot v (Err e) = ⊥
 -- why a put stopped, for a caller
 abbrev pub StoppedBy : HamtFault → BuildFault → Type 0
 StoppedBy F.Store r = r ≡ B.Store
-StoppedBy (F.Clash id kept new) r = (r ≡ B.Clash id) × AreBytes kept × AreBytes new
+StoppedBy (F.Clash id kept new) r = (r ≡ B.Clash id kept new) × AreBytes kept × AreBytes new
 StoppedBy fault r = r ≡ B.Memory

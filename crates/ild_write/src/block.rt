@@ -24,15 +24,15 @@ fn are_bytes(bytes: &[u8])
 {}
 
 // Why a put stopped.
-fn stopped_by(fault: &HamtFault) -> BuildFault
-    ensures { StoppedBy fault.now result }
+fn stopped_by(fault: HamtFault) -> BuildFault
+    ensures { StoppedBy fault result }
 {
     match fault {
         HamtFault::Store => BuildFault::Store,
         HamtFault::Clash { id, kept, new } => {
             are_bytes(kept.as_slice());
             are_bytes(new.as_slice());
-            BuildFault::Clash(*id)
+            BuildFault::Clash { id, kept, new }
         }
         _ => BuildFault::Memory,
     }
@@ -41,7 +41,7 @@ fn stopped_by(fault: &HamtFault) -> BuildFault
 /// The block of a typed value: the spelling of its one representation. The other blocks of the value, those of the nodes of its HAMTs,
 /// are put, each behind its children; the answer isn't. The value has no hole, breaks no delimiter and nests at most 96 levels.
 /// `Exhausted` comes exactly where a HAMT of the value has no trie, and else `Size` exactly where one of its blocks has more than
-/// 4,194,304 bytes; then nothing is put.
+/// 4,194,304 bytes; then nothing is put. A `Clash` tells the bytes that are held and those of the block that was to be put.
 pub fn build<K: Store, H: KeyHash>(
     alloc: Global,
     acc: &Accepted,
@@ -63,6 +63,6 @@ pub fn build<K: Store, H: KeyHash>(
     };
     match put_all(&planned.nodes, store) {
         Ok(()) => Ok(planned.block),
-        Err(fault) => Err(stopped_by(&fault)),
+        Err(fault) => Err(stopped_by(fault)),
     }
 }

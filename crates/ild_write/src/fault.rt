@@ -1,11 +1,11 @@
 //! Why a value has no blocks.
 ghost use Rattle.std.specs.Prelude.{◌≡◌};
 
-use ild_data::BlockId;
+use ild_data::{BlockId, Octets};
 use std::alloc::AllocError;
 
 /// Why the blocks of a value are not there.
-#[derive(Clone, Copy, Debug, PartialEq, Eq)]
+#[derive(Drop)]
 pub enum BuildFault {
     /// More keys of a HAMT than a bucket takes agree in all bits of their hashes (IPLD HashMap).
     Exhausted,
@@ -13,8 +13,12 @@ pub enum BuildFault {
     Size,
     /// The store failed.
     Store,
-    /// Other bytes are kept under the id of a block that was to be put.
-    Clash(BlockId),
+    /// Other bytes are held under the id of a block that was to be put: both have this id.
+    Clash {
+        id: BlockId,
+        kept: Octets,
+        new: Octets,
+    },
     /// There is no memory for the blocks.
     Memory,
 }

@@ -1,12 +1,13 @@
-//! How many fields of a struct are written, and how many of them before a key.
-ghost use Rattle.std.specs.Prelude.{◌≡◌, ◌≤◌, ◌<◌, false, get_or, length, take, true};
+//! Which fields of a struct are written, how many of them, and how many before a key.
+ghost use Rattle.std.specs.Prelude.{◌≡◌, ◌≤◌, ◌<◌, false, get_or, length, option_map, take, true};
 ghost use Rattle.std.specs.List.{AllByRecursion};
 ghost use Rattle.ild_schema.specs.Value.{optionals_list};
-ghost use Rattle.ild_write.specs.Places.{count_present, count_written, is_before};
+ghost use Rattle.ild_schema.specs.ValueSeen.{value_of};
+ghost use Rattle.ild_write.specs.Places.{count_present, count_written, is_before, kept_at};
 
 use ild_build::{field_at, is_left_out, text_of_field};
 use ild_data::key_less;
-use ild_schema::{Fields, ValFields};
+use ild_schema::{Field, Fields, Val, ValFields};
 
 /// How many values are there.
 pub(crate) fn present(vals: &ValFields) -> usize
@@ -22,18 +23,29 @@ pub(crate) fn present(vals: &ValFields) -> usize
     count
 }
 
+/// The value of a field at a place, where it is written: one is there, and isn't left out.
+pub(crate) fn kept_at<'v>(field: &Field, vals: &'v ValFields, place: usize) -> Option<&'v Val>
+    ensures { option_map (λ v. value_of v.now) result ≡ kept_at field.now (optionals_list vals.now) place }
+{
+    let Some(val) = field_at(vals, place) else {
+        return None;
+    };
+    if is_left_out(field, val) {
+        None
+    } else {
+        Some(val)
+    }
+}
+
 /// How many fields are there and not left out.
 pub(crate) fn written(fields: &Fields, vals: &ValFields) -> usize
     ensures { result ≡ count_written fields.now (optionals_list vals.now) }
 {
     let mut count = 0;
     for (i, field) in fields.as_slice().iter().enumerate() {
-        let Some(val) = field_at(vals, i) else {
+        let Some(_) = kept_at(field, vals, i) else {
             continue;
         };
-        if is_left_out(field, val) {
-            continue;
-        }
         count += 1;
     }
     count

@@ -25,8 +25,8 @@ use crate::hamt::{add_root, add_row};
 use crate::hex::{add_hex, behind_head};
 use crate::leaf::{Tag, add_as_text, add_count, add_key, add_leaf, add_tag};
 use crate::nodes::Nodes;
-use crate::order::{count_before, present, written};
-use ild_build::{field_at, form_of, is_left_out, text_of_field};
+use crate::order::{count_before, kept_at, present, written};
+use ild_build::{field_at, form_of, text_of_field};
 use ild_data::{KeyHash, key_less};
 use ild_emit::Emit;
 use ild_schema::{
@@ -294,12 +294,9 @@ fn add_listed<H: KeyHash>(
 {
     out.head(4, written(&def.fields, vals) as u64)?;
     for (i, field) in def.fields.as_slice().iter().enumerate() {
-        let Some(val) = field_at(vals, i) else {
+        let Some(val) = kept_at(field, vals, i) else {
             continue;
         };
-        if is_left_out(field, val) {
-            continue;
-        }
         let name = text_of_field(field);
         add_entry(alloc, acc, keys, name, field.slot, val, true, nodes, out)?;
     }
@@ -352,12 +349,9 @@ fn add_places<H: KeyHash>(
         let Some(field) = def.fields.get(*place) else {
             continue;
         };
-        let Some(part) = field_at(vals, *place) else {
+        let Some(part) = kept_at(field, vals, *place) else {
             continue;
         };
-        if is_left_out(field, part) {
-            continue;
-        }
         let name = text_of_field(field);
         add_entry(alloc, acc, keys, name, field.slot, part, false, nodes, out)?;
     }

@@ -1,8 +1,8 @@
-use Rattle.std.proofs.Common.{◌∙◌, sym, arith, true, false}
+use Rattle.std.proofs.Common.{sym, arith}
 use Rattle.ild_schema.specs.Value.{optionals_list}
 use Rattle.ild_schema.specs.ValueSeen.{value_of}
 use Rattle.ild_build.proofs.Turns.{got}
-use Rattle.ild_write.proofs.Turns.{written_some, written_none}
+use Rattle.ild_write.proofs.Turns.{written_kept, written_passed}
 use Rattle.ild_write.proofs.order.written.Goals as goal
 
 pub loop-i-preserved-in_default : goal.loop-i-preserved-in_default
@@ -12,17 +12,7 @@ loop-i-preserved-in_default c =
     let at = got c.as_slice-field-items.result.now fs c.loop-i.i c.field-item.result c.as_slice-field-items.ensures (omega arith) c.field-item.is in
     record {
       few = omega arith;
-      so_far = omega (arith, written_none fs os c.loop-i.i c.field-item.result at (sym c.in_default.ensures));
-    }
-
-pub loop-i-preserved-then-is_left_out : goal.loop-i-preserved-then-is_left_out
-loop-i-preserved-then-is_left_out c =
-    let fs = c.args.fields.now in
-    let os = optionals_list c.args.vals.now in
-    let at = got c.as_slice-field-items.result.now fs c.loop-i.i c.field-item.result c.as_slice-field-items.ensures (omega arith) c.field-item.is in
-    record {
-      few = omega arith;
-      so_far = omega (arith, written_some fs os c.loop-i.i c.field-item.result (value_of c.in-Some.val.now) true at (sym c.in-Some.ensures) (sym c.is_left_out.ensures ∙ c.if-is_left_out.true));
+      so_far = omega (arith, written_passed fs os c.loop-i.i c.field-item.result at (sym c.in_default.ensures));
     }
 
 pub loop-i-preserved : goal.loop-i-preserved
@@ -32,5 +22,5 @@ loop-i-preserved c =
     let at = got c.as_slice-field-items.result.now fs c.loop-i.i c.field-item.result c.as_slice-field-items.ensures (omega arith) c.field-item.is in
     record {
       few = omega arith;
-      so_far = omega (arith, written_some fs os c.loop-i.i c.field-item.result (value_of c.in-Some.val.now) false at (sym c.in-Some.ensures) (sym c.is_left_out.ensures ∙ c.if-is_left_out.false));
+      so_far = omega (arith, written_kept fs os c.loop-i.i c.field-item.result (value_of c.in-Some.field-0.now) at (sym c.in-Some.ensures));
     }

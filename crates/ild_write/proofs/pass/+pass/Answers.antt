@@ -30,10 +30,11 @@ use Rattle.ild_write.proofs.Flow.{begins, behind, before, ends, from, goes, leaf
 use Rattle.ild_write.proofs.Forms.{hamt_is_made, list_made, map_is_made, pairs_are_made}
 use Rattle.ild_write.proofs.Heights.{value_height}
 use Rattle.ild_write.proofs.Inlined.{inlined}
-use Rattle.ild_write.proofs.Kept.{left_or_not, no_field, no_value, none_left, passes, takes}
+use Rattle.ild_write.proofs.Kept.{kept, no_field, none_left, not_kept, passes, takes}
+use Rattle.ild_write.proofs.Turns.{kept_is}
 use Rattle.ild_write.proofs.Keyed.{keyed}
-use Rattle.ild_write.proofs.Loops.{place_entry, item_turn, items_end, entry_turn, entries_end, tuple_turn, tuple_skip, tuple_end, fields_turn, fields_skip, fields_end}
-use Rattle.ild_write.proofs.Placed.{names_apart, map_struct_is, member_ready, keys_ready, table_order}
+use Rattle.ild_write.proofs.Loops.{place_entry, item_turn, items_end, entry_turn, entries_end, tuple_turn, tuple_skip, tuple_end, fields_kept, fields_passed, fields_end}
+use Rattle.ild_write.proofs.AcceptedTables.{names_apart, map_struct_is, member_ready, keys_ready, table_order}
 use Rattle.ild_write.proofs.Spread.{fields_spread}
 use Rattle.ild_write.proofs.StructForms.{listed_made, fields_in_map, tuple_is_made}
 use Rattle.ild_write.proofs.Others.{no_struct, none_made, none_weighs}
@@ -41,7 +42,7 @@ use Rattle.ild_write.proofs.Tagged.{map_kept}
 use Rattle.ild_write.proofs.Members.{kinded_from, marked_by, union_is_made}
 use Rattle.ild_write.proofs.Prefixing.{prefixed}
 use Rattle.ild_write.proofs.Unions.{keyed_made, envelope_less, envelope_more}
-use Rattle.ild_write.proofs.Weighing.{entries_weigh, entry_weight, field_place, field_skip, field_weight, fields_weigh, hamt_weigh, item_weight, items_weigh, left_weight, list_weight, map_weight, struct_weight, union_weight}
+use Rattle.ild_write.proofs.Weighing.{entries_weigh, entry_weight, field_passed, field_place, field_skip, field_weight, fields_weigh, hamt_weigh, item_weight, items_weigh, list_weight, map_weight, struct_weight, union_weight}
 use Rattle.ild_write.proofs.Writing.{grown_on, on_err, on_ok, wrote_none, none_past}
 use Rattle.std.proofs.Common.{take}
 use Rattle.std.proofs.lemmas.List.{take_all}
@@ -302,8 +303,9 @@ pub add_listed-add_entry-requires : goal.add_listed-add_entry-requires
 add_listed-add_entry-requires g t c = λ κs le.
     let v = value_of c.in-Some.val.now in
     let at = got c.as_slice-field-items.result.now c.args.def.now.fields c.loop-i.i c.field-item.result c.as_slice-field-items.ensures (omega arith) c.field-item.is in
-    let low = field_height c.args.vals.now c.loop-i.i v (value_got (optionals_list c.args.vals.now) c.loop-i.i v (sym c.in-Some.ensures)) in
-    (omega arith, (le, (field_low (length c.args.acc.now) c.args.def.now c.loop-i.i c.field-item.result at c.requires.within, c.requires.fits c.loop-i.i c.field-item.result v at (sym c.in-Some.ensures))))
+    let there = (kept_is c.field-item.result (optionals_list c.args.vals.now) c.loop-i.i v (sym c.in-Some.ensures)).there in
+    let low = field_height c.args.vals.now c.loop-i.i v (value_got (optionals_list c.args.vals.now) c.loop-i.i v there) in
+    (omega arith, (le, (field_low (length c.args.acc.now) c.args.def.now c.loop-i.i c.field-item.result at c.requires.within, c.requires.fits c.loop-i.i c.field-item.result v at there)))
 
 pub add_listed-loop-i-init : goal.add_listed-loop-i-init
 add_listed-loop-i-init g t c =
@@ -318,21 +320,8 @@ add_listed-loop-i-preserved-in_default g t c =
     let fs = c.args.def.now.fields in
     let os = optionals_list c.args.vals.now in
     let at = got c.as_slice-field-items.result.now fs c.loop-i.i c.field-item.result c.as_slice-field-items.ensures (omega arith) c.field-item.is in
-    skips g.H.KeyHash.hash_of rows _ _ _ _ _ _ c.args.out.now c.loop-i.out c.args.nodes.now c.loop-i.nodes (fields_skip g.H.KeyHash.hash_of rows fs os c.loop-i.i c.field-item.result at (sym c.in_default.ensures))
-    (λ μ. field_skip rows μ fs os c.loop-i.i c.field-item.result at (sym c.in_default.ensures)) c.loop-i.invariant
-
-pub add_listed-loop-i-preserved-then-is_left_out : goal.add_listed-loop-i-preserved-then-is_left_out
-add_listed-loop-i-preserved-then-is_left_out g t c =
-    let rows = c.args.acc.now in
-    let fs = c.args.def.now.fields in
-    let os = optionals_list c.args.vals.now in
-    let v = value_of c.in-Some.val.now in
-    let at = got c.as_slice-field-items.result.now fs c.loop-i.i c.field-item.result c.as_slice-field-items.ensures (omega arith) c.field-item.is in
-    let out = sym c.is_left_out.ensures ∙ c.if-is_left_out.true in
-    skips g.H.KeyHash.hash_of rows _ _ _ _ _ _ c.args.out.now c.loop-i.out c.args.nodes.now c.loop-i.nodes
-    (fields_turn g.H.KeyHash.hash_of rows fs os c.loop-i.i c.field-item.result v true at (sym c.in-Some.ensures) out)
-    (λ μ. let none = left_weight rows μ c.field-item.result.implicit c.field-item.result.slot v out in
-    let turn = field_weight rows μ fs os c.loop-i.i c.field-item.result v at (sym c.in-Some.ensures) in omega (arith, none, turn)) c.loop-i.invariant
+    skips g.H.KeyHash.hash_of rows _ _ _ _ _ _ c.args.out.now c.loop-i.out c.args.nodes.now c.loop-i.nodes (fields_passed g.H.KeyHash.hash_of rows fs os c.loop-i.i c.field-item.result at (sym c.in_default.ensures))
+    (λ μ. field_passed rows μ fs os c.loop-i.i c.field-item.result at (sym c.in_default.ensures)) c.loop-i.invariant
 
 pub add_listed-loop-i-preserved : goal.add_listed-loop-i-preserved
 add_listed-loop-i-preserved g t c =
@@ -342,9 +331,8 @@ add_listed-loop-i-preserved g t c =
     let v = value_of c.in-Some.val.now in
     let at = got c.as_slice-field-items.result.now fs c.loop-i.i c.field-item.result c.as_slice-field-items.ensures (omega arith) c.field-item.is in
     goes g.H.KeyHash.hash_of rows _ _ _ _ _ _ (λ μ. weigh μ rows c.field-item.result.slot v) _ c.args.out.now c.loop-i.out c.add_entry.new.out c.args.nodes.now c.loop-i.nodes c.add_entry.new.nodes
-    (fields_turn g.H.KeyHash.hash_of rows fs os c.loop-i.i c.field-item.result v false at (sym c.in-Some.ensures) (sym c.is_left_out.ensures ∙ c.if-is_left_out.false)
-    ∙ ap (λ k. both (entry_made (whole g.H.KeyHash.hash_of) rows true k c.field-item.result.slot v) (fields_made (whole g.H.KeyHash.hash_of) rows true (drop (c.loop-i.i + 1) fs) (drop (c.loop-i.i + 1) os))) (sym c.text_of_field-name.ensures))
-    (λ μ. field_weight rows μ fs os c.loop-i.i c.field-item.result v at (sym c.in-Some.ensures)) c.in_ok-add_entry.ensures.ok c.loop-i.invariant
+    (fields_kept g.H.KeyHash.hash_of rows fs os c.loop-i.i c.field-item.result v c.text_of_field-name.result.now at (sym c.in-Some.ensures) c.text_of_field-name.ensures)
+    (λ μ. field_weight rows μ fs os c.loop-i.i c.field-item.result v at (kept_is c.field-item.result os c.loop-i.i v (sym c.in-Some.ensures)).there) c.in_ok-add_entry.ensures.ok c.loop-i.invariant
 
 pub add_listed-returns-clause-ok : goal.add_listed-returns-clause-ok
 add_listed-returns-clause-ok g t c =
@@ -383,9 +371,11 @@ add_places-loop-place-init g t c =
 pub add_places-add_entry-requires : goal.add_places-add_entry-requires
 add_places-add_entry-requires g t c = λ κs le.
     let i = get_or c.args.places.now c.loop-place.place-index 0 in
-    let v = value_of c.in-Some-field_at.part.now in
-    let low = field_height c.args.vals.now i v (value_got (optionals_list c.args.vals.now) i v (sym c.in-Some-field_at.ensures)) in
-    (omega arith, (le, (field_low (length c.args.acc.now) c.args.def.now i c.in-Some.field.now (sym c.in-Some.ensures) c.requires.within, c.requires.fits i c.in-Some.field.now v (sym c.in-Some.ensures) (sym c.in-Some-field_at.ensures))))
+    let os = optionals_list c.args.vals.now in
+    let v = value_of c.in-Some-kept_at.part.now in
+    let there = (kept_is c.in-Some.field.now os i v (sym c.in-Some-kept_at.ensures)).there in
+    let low = field_height c.args.vals.now i v (value_got os i v there) in
+    (omega arith, (le, (field_low (length c.args.acc.now) c.args.def.now i c.in-Some.field.now (sym c.in-Some.ensures) c.requires.within, c.requires.fits i c.in-Some.field.now v (sym c.in-Some.ensures) there)))
 
 pub add_places-loop-place-preserved-in_default : goal.add_places-loop-place-preserved-in_default
 add_places-loop-place-preserved-in_default g t c =
@@ -397,25 +387,13 @@ add_places-loop-place-preserved-in_default g t c =
     skips g.H.KeyHash.hash_of rows _ _ _ _ _ _ c.args.out.now c.loop-place.out c.args.nodes.now c.loop-place.nodes
     (ap (λ ps. places_made (whole g.H.KeyHash.hash_of) rows fs os [] (named fs [] ps)) same) (λ μ. ap (places_weight μ rows fs os) same) c.loop-place.invariant
 
-pub add_places-loop-place-preserved-in_default-field_at : goal.add_places-loop-place-preserved-in_default-field_at
-add_places-loop-place-preserved-in_default-field_at g t c =
+pub add_places-loop-place-preserved-in_default-kept_at : goal.add_places-loop-place-preserved-in_default-kept_at
+add_places-loop-place-preserved-in_default-kept_at g t c =
     let rows = c.args.acc.now in
     let fs = c.args.def.now.fields in
     let os = optionals_list c.args.vals.now in
     let i = get_or c.args.places.now c.loop-place.place-index 0 in
-    let same = passes fs os c.args.places.now c.loop-place.place-index c.loop-place-test.true (no_value fs os i c.in-Some.field.now (sym c.in-Some.ensures) (sym c.in_default-field_at.ensures)) in
-    skips g.H.KeyHash.hash_of rows _ _ _ _ _ _ c.args.out.now c.loop-place.out c.args.nodes.now c.loop-place.nodes
-    (ap (λ ps. places_made (whole g.H.KeyHash.hash_of) rows fs os [] (named fs [] ps)) same) (λ μ. ap (places_weight μ rows fs os) same) c.loop-place.invariant
-
-pub add_places-loop-place-preserved-then-is_left_out : goal.add_places-loop-place-preserved-then-is_left_out
-add_places-loop-place-preserved-then-is_left_out g t c =
-    let rows = c.args.acc.now in
-    let fs = c.args.def.now.fields in
-    let os = optionals_list c.args.vals.now in
-    let i = get_or c.args.places.now c.loop-place.place-index 0 in
-    let v = value_of c.in-Some-field_at.part.now in
-    let same = passes fs os c.args.places.now c.loop-place.place-index c.loop-place-test.true
-    (left_or_not fs os i c.in-Some.field.now v true (sym c.in-Some.ensures) (sym c.in-Some-field_at.ensures) (sym c.is_left_out.ensures ∙ c.if-is_left_out.true)) in
+    let same = passes fs os c.args.places.now c.loop-place.place-index c.loop-place-test.true (not_kept fs os i c.in-Some.field.now (sym c.in-Some.ensures) (sym c.in_default-kept_at.ensures)) in
     skips g.H.KeyHash.hash_of rows _ _ _ _ _ _ c.args.out.now c.loop-place.out c.args.nodes.now c.loop-place.nodes
     (ap (λ ps. places_made (whole g.H.KeyHash.hash_of) rows fs os [] (named fs [] ps)) same) (λ μ. ap (places_weight μ rows fs os) same) c.loop-place.invariant
 
@@ -426,16 +404,16 @@ add_places-loop-place-preserved g t c =
     let os = optionals_list c.args.vals.now in
     let i = get_or c.args.places.now c.loop-place.place-index 0 in
     let f = c.in-Some.field.now in
-    let v = value_of c.in-Some-field_at.part.now in
+    let v = value_of c.in-Some-kept_at.part.now in
+    let there = (kept_is f os i v (sym c.in-Some-kept_at.ensures)).there in
     let next = written_of fs os (drop (c.loop-place.place-index + 1) c.args.places.now) in
-    let here = takes fs os c.args.places.now c.loop-place.place-index c.loop-place-test.true
-    (left_or_not fs os i f v false (sym c.in-Some.ensures) (sym c.in-Some-field_at.ensures) (sym c.is_left_out.ensures ∙ c.if-is_left_out.false)) in
+    let here = takes fs os c.args.places.now c.loop-place.place-index c.loop-place-test.true (kept fs os i f v (sym c.in-Some.ensures) (sym c.in-Some-kept_at.ensures)) in
     goes g.H.KeyHash.hash_of rows _ _ (entry_made (whole g.H.KeyHash.hash_of) rows false c.text_of_field-name.result.now f.slot v) _ _ _ (λ μ. weigh μ rows f.slot v) _ c.args.out.now c.loop-place.out c.add_entry.new.out c.args.nodes.now c.loop-place.nodes
     c.add_entry.new.nodes
     (ap (λ ps. places_made (whole g.H.KeyHash.hash_of) rows fs os [] (named fs [] ps)) here
     ∙ ap (λ o. both o (places_made (whole g.H.KeyHash.hash_of) rows fs os [] (named fs [] next)))
-    (sym (place_entry g.H.KeyHash.hash_of rows fs os [] [] i f v c.text_of_field-name.result.now (sym c.in-Some.ensures) (sym c.in-Some-field_at.ensures) c.text_of_field-name.ensures)))
-    (λ μ. ap (places_weight μ rows fs os) here ∙ ap (λ n. n + places_weight μ rows fs os next) (field_place rows μ fs os i f v (sym c.in-Some.ensures) (sym c.in-Some-field_at.ensures))) c.in_ok-add_entry.ensures.ok c.loop-place.invariant
+    (sym (place_entry g.H.KeyHash.hash_of rows fs os [] [] i f v c.text_of_field-name.result.now (sym c.in-Some.ensures) there c.text_of_field-name.ensures)))
+    (λ μ. ap (places_weight μ rows fs os) here ∙ ap (λ n. n + places_weight μ rows fs os next) (field_place rows μ fs os i f v (sym c.in-Some.ensures) there)) c.in_ok-add_entry.ensures.ok c.loop-place.invariant
 
 pub add_places-returns-clause-ok : goal.add_places-returns-clause-ok
 add_places-returns-clause-ok g t c =
