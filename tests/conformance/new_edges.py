@@ -1,4 +1,4 @@
-"""What `new` does with big values, with inputs and outputs that fail and with the folder of blocks, as `edges.py` does for `run`.
+"""What `new` and `show` do with big values, with inputs and outputs that fail and with the folder of blocks, as `edges.py` does for `run`.
 
 Each test is a function named for what it shows. It gets the program and a fresh folder, and yields what is wrong. What a run must write
 is worked out by `values.py`.
@@ -120,6 +120,60 @@ def a_hamt_with_a_node_above_a_block(program, place):
             yield from (f"{count} of {length}: {wrong}" for wrong in asked(program, place / f"{count}-{length}", source, "H", text))
 
 
+def a_file_that_is_not_its_block(program, place):
+    """It counts as missing, and stays as it is."""
+    _, _, (block,) = values.answer(b"type A int\n", "A", b"1")
+    root = values.cid_text(block)
+    give(place, "type A int\n", "")
+    (place / "blocks").mkdir()
+    (place / "blocks" / root).write_bytes(b"other bytes")
+    run = edges.start(program, place, ["show", "s", "A", root])
+    yield from edges.differs(run, f"fault 4 root missing {root}\n".encode(), 4)
+    if (place / "blocks" / root).read_bytes() != b"other bytes":
+        yield "the file was written"
+
+
+def roots_without_a_folder(program, place):
+    _, _, (block,) = values.answer(b"type A int\n", "A", b"1")
+    root = values.cid_text(block)
+    give(place, "type A int\n", "")
+    words = ["show", "s", "A", root]
+    yield from edges.differs(edges.start(program, place, words), f"fault 4 root missing {root}\n".encode(), 4)
+    if (place / "blocks").exists():
+        yield "the folder of blocks was made"
+    (place / "blocks").write_bytes(b"mine")
+    yield from edges.differs(edges.start(program, place, words), b"fault 6 store\n", 6)
+
+
+def what_is_created_is_shown(program, place):
+    """Each value that `new` has a case for is created, and shown from what it left, all in one folder."""
+    for form, (source, ty, cases) in new_cases.VALUES.items():
+        for name, (meant, json) in cases.items():
+            if meant == "root":
+                given = new_cases.bytes_of(source), ty, new_cases.bytes_of(json)
+                written, _, _ = values.answer(*given)
+                (place / "s").write_bytes(given[0])
+                (place / "v").write_bytes(given[2])
+                yield from (f"{form}-{name}: {wrong}" for wrong in edges.differs(start(program, place, ty), written.encode(), 0))
+                run = edges.start(program, place, ["show", "s", ty, written.split()[1]])
+                shown, status = values.shown_answer(*given)
+                yield from (f"{form}-{name}, shown: {wrong}" for wrong in edges.differs(run, shown.encode(), status))
+
+
+def big_values_are_shown(program, place):
+    numbers = ",".join(f'"k{n}":{n * 4093}' for n in range(20_000))
+    for name, source, ty in (("hamt", HAMT, "H"), ("map", "type M {String:Int}\n", "M")):
+        room = place / name
+        give(room, source, f"{{{numbers}}}")
+        _, _, blocks = values.answer(source.encode(), ty, f"{{{numbers}}}".encode())
+        (room / "blocks").mkdir()
+        for block in blocks:
+            (room / "blocks" / values.cid_text(block)).write_bytes(block)
+        text, status = values.shown_answer(source.encode(), ty, f"{{{numbers}}}".encode())
+        run = edges.start(program, room, ["show", "s", ty, values.cid_text(blocks[0])])
+        yield from (f"{name}: {wrong}" for wrong in edges.differs(run, text.encode(), status))
+
+
 def big_values(program, place):
     """Above the sizes at which a call that always gave memory up could be told from one that works."""
     numbers = ",".join(str(n * 4093) for n in range(100_000))
@@ -154,4 +208,8 @@ TESTS = (
     two_runs_side_by_side,
     big_values,
     a_hamt_with_a_node_above_a_block,
+    a_file_that_is_not_its_block,
+    roots_without_a_folder,
+    what_is_created_is_shown,
+    big_values_are_shown,
 )

@@ -1,8 +1,9 @@
-"""What `new SCHEMA TYPE VALUE` must write, worked out on plain Python values by docs/values.md, docs/blocks.md and docs/formats.md.
+"""What `new SCHEMA TYPE VALUE` must write, and `show SCHEMA TYPE ROOT` of the root, worked out on plain Python values by docs/values.md,
+docs/blocks.md and docs/formats.md.
 
-Nothing of the program is used: schemas are compiled by `schema.py` and judged by `accept.py`, JSON is read by Python's own reader,
+Nothing of the program is used: schemas are compiled by `schema.py` and judged by `accept.py`, JSON is read and written by Python's own,
 blocks are spelled here and hashed by hashlib, and a HAMT is made of its final entries. `answer(source, type, text)` gives the text, the
-status and the blocks, the root first, if there are any.
+status and the blocks, the root first, if there are any; `shown_answer(source, type, text)` what `show` writes of that root.
 
 A value of a type is `None` for null, or a tuple that begins with its form: `("scalar", x)` for a bool, an integer, a text, bytes or a
 link, `("any", data)`, `("list", values)`, `("map", pairs)` in the order of its entries, `("struct", values)` with `ABSENT` for a field
@@ -389,6 +390,25 @@ class Schema:
     def of_unit(self, body, value):
         return {"null": None, "true": True, "false": False, "emptymap": {}}[body[1]]
 
+    # the shown form of a value
+
+    def data_shown(self, ty, value):
+        if value is None:
+            return None
+        body = self.body(ty)
+        form = value[0]
+        if form == "list":
+            return [self.data_shown(body[1][0], part) for part in value[1]]
+        if form == "map":
+            return {key: self.data_shown(body[2][0], part) for key, part in value[1]}
+        if form == "struct":
+            return {field[0]: self.data_shown(field[3][0], part) for field, part in zip(body[1], value[1]) if part is not ABSENT}
+        if form == "union":
+            name, _, inner, _ = body[1][value[1]]
+            return {name: self.data_shown(inner, value[2])}
+        return {"enum": lambda: body[1][value[1]][0], "unit": dict}.get(form, lambda: value[1])()
+
+
 def need(holds):
     if not holds:
         raise Refused("4 mismatch")
@@ -503,7 +523,35 @@ def link_to(block):
     return Link(binary_cid(block))
 
 
-# ---- the command
+# ---- data to JSON
+
+
+def json_text(data):
+    """The one JSON text of data, or None where a map whose only key is `/` stands in them."""
+    if has_reserved(data):
+        return None
+    return json.dumps(json_form(data), ensure_ascii=False, separators=(",", ":"))
+
+
+def has_reserved(data):
+    if isinstance(data, dict):
+        return list(data) == ["/"] or any(map(has_reserved, data.values()))
+    return isinstance(data, list) and any(map(has_reserved, data))
+
+
+def json_form(data):
+    if isinstance(data, Link):
+        return {"/": cid_text_of(data)}
+    if isinstance(data, bytes):
+        return {"/": {"bytes": base64.b64encode(data).decode().rstrip("=")}}
+    if isinstance(data, list):
+        return [json_form(part) for part in data]
+    if isinstance(data, dict):
+        return {key: json_form(data[key]) for key in sorted(data, key=str.encode)}
+    return data
+
+
+# ---- the commands
 
 
 def blocks_of(found, ty, value):
@@ -543,3 +591,11 @@ def answer(source, name, text):
     except Refused as refused:
         return f"fault 9 value {refused}\n", 9, []
     return f"root {cid_text(blocks[0])}\n", 0, blocks
+
+
+def shown_answer(source, name, text):
+    """What `show` writes of the root that `new` gives, and the status."""
+    found = compiled(source)
+    ty = found.number(name)
+    written = json_text(found.data_shown(ty, found.shown((ty, False), data_of(text))))
+    return ("no 10 reserved\n", 1) if written is None else (f"ok {written}\n", 0)

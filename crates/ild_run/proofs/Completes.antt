@@ -14,12 +14,13 @@ use Rattle.ild_schema.specs.declared.number.TypeNo.{TypeNo}
 use Rattle.ild_schema.specs.declared.row.Row.{Row}
 use Rattle.ild_session.specs.Session.{resting}
 use Rattle.ild_session.proofs.Steps.{told_later, plain_run}
-use Rattle.ild_run.specs.Work.{Work, Taking, ends, lists, answers, makes, script_work, built_work, compiled_work, schema_work, job_work, work_of, IsVerdict, IsTaking, AreTaken}
+use Rattle.ild_run.specs.Work.{Work, Taking, ends, lists, answers, makes, opens, script_work, built_work, compiled_work, schema_work, job_work, work_of, IsVerdict, IsTaking, AreTaken}
 use Rattle.ild_run.specs.Words.{Job, checks, runs}
-use Rattle.ild_run.specs.Ended.{Call, IsDue, HasScript, TriesValue, AnswersAll, Says, Ended}
+use Rattle.ild_run.specs.Ended.{Call, IsDue, HasScript, TriesValue, ReadsRoot, AnswersAll, Says, Ended}
 use Rattle.ild_run.specs.Complete.{IsGiven, IsUndisturbed, AnswersPlainly, IsGivenSchema, IsCalm, IsComplete}
 use Rattle.ild_run.specs.Listed.{Lists}
 use Rattle.ild_run.proofs.CompletesValue.{created_by}
+use Rattle.ild_run.proofs.CompletesRoot.{shown_by}
 use Rattle.ild_run.specs.declared.fault.Fault.{Fault}
 use Rattle.ild_run.specs.declared.fault.Fault.TheVariants as F
 use Rattle.ild_run.specs.declared.fault.Role.{Role}
@@ -67,6 +68,10 @@ no_value : (w : Work) (rows : List Row) (n : TypeNo) (bytes b : List ℕ) → Pl
 no_value w rows n bytes b (inl is) made = let e : answers b ≡ makes rows n bytes = sym is ∙ made in cc
 no_value w rows n bytes b (inr is) made = let e : ends F.Memory ≡ makes rows n bytes = sym is ∙ made in cc
 
+no_root : (w : Work) (rows : List Row) (n : TypeNo) (id b : List ℕ) → Plans w b → w ≡ opens rows n id → ⊥
+no_root w rows n id b (inl is) opened = let e : answers b ≡ opens rows n id = sym is ∙ opened in cc
+no_root w rows n id b (inr is) opened = let e : ends F.Memory ≡ opens rows n id = sym is ∙ opened in cc
+
 -- no fault but want of memory is due
 no_fault : (c : Call) (script : List ℕ) (given : IsGiven c script) (calm : IsUndisturbed c script) (t : Taking) (f : Fault) → AreTaken c.job c.before.supply t → IsDue c t f → f ≡ F.Memory
 no_fault c script given calm t F.Memory taken due = refl
@@ -80,6 +85,7 @@ no_fault c script given calm t F.Store taken due = absurd (calm.store due.0)
 no_fault c script given calm t (F.Clash id) taken (inl due) = absurd (let hit = due.1 in calm.apart hit.kept hit.new (inl hit.among) hit.held hit.collide)
 no_fault c script given calm t (F.Clash id) taken (inr clash) = absurd (no_value (work_of c.job t) clash.rows clash.type clash.bytes script (held_work c script given t taken) clash.work)
 no_fault c script given calm t (F.Value r) taken due = absurd (no_value (work_of c.job t) due.rows due.type due.bytes script (held_work c script given t taken) due.work)
+no_fault c script given calm t (F.Root id why) taken due = absurd (no_root (work_of c.job t) due.rows due.type due.root script (held_work c script given t taken) due.work)
 
 same_bytes : (w : Work) (a b : List ℕ) → w ≡ answers a → Plans w b → a ≡ b
 same_bytes w a b p (inl q) = let e : answers a ≡ answers b = sym p ∙ q in cc
@@ -104,8 +110,10 @@ plainly c script given calm t status refused taken is all =
 complete_by : (c : Call) (script : List ℕ) (given : IsGiven c script) (calm : IsUndisturbed c script) (t : Taking) (status : Status) → AreTaken c.job c.before.supply t → Says c t status → (status ≡ S.Memory) ⊎ AnswersPlainly c script status
 complete_by c script given calm t S.Done taken (inl all) = inr (plainly c script given calm t S.Done false taken refl all)
 complete_by c script given calm t S.Done taken (inr (inl listed)) = absurd (no_list (work_of c.job t) listed.names script (held_work c script given t taken) listed.work)
-complete_by c script given calm t S.Done taken (inr (inr created)) = absurd (no_value (work_of c.job t) created.rows created.type created.bytes script (held_work c script given t taken) created.work)
-complete_by c script given calm t S.Refused taken all = inr (plainly c script given calm t S.Refused true taken refl all)
+complete_by c script given calm t S.Done taken (inr (inr (inl created))) = absurd (no_value (work_of c.job t) created.rows created.type created.bytes script (held_work c script given t taken) created.work)
+complete_by c script given calm t S.Done taken (inr (inr (inr shows))) = absurd (let has = shows.1.has in no_root (work_of c.job t) has.rows has.type has.root script (held_work c script given t taken) has.work)
+complete_by c script given calm t S.Refused taken (inl all) = inr (plainly c script given calm t S.Refused true taken refl all)
+complete_by c script given calm t S.Refused taken (inr shows) = absurd (let has = shows.has in no_root (work_of c.job t) has.rows has.type has.root script (held_work c script given t taken) has.work)
 complete_by c script given calm t S.Memory taken says = inl refl
 complete_by c script given calm t S.SinkFault taken says = absurd (calm.sink says.0)
 complete_by c script given calm t S.Words taken says = absurd (let e = no_fault c script given calm t F.Words taken says.due in cc)
@@ -114,7 +122,7 @@ complete_by c script given calm t S.Schema taken (inr tells) = absurd (let e = n
 complete_by c script given calm t S.Input taken says = absurd (let e = no_fault c script given calm t (F.Input says.0 says.1) taken says.2.due in cc)
 complete_by c script given calm t S.StoreFault taken (inl tells) = absurd (let e = no_fault c script given calm t F.Store taken tells.due in cc)
 complete_by c script given calm t S.StoreFault taken (inr tells) = absurd (let e = no_fault c script given calm t (F.Clash tells.0) taken tells.1.due in cc)
-complete_by c script given calm t S.Root taken says = absurd says
+complete_by c script given calm t S.Root taken says = absurd (let e = no_fault c script given calm t (F.Root says.0 says.1) taken says.2.due in cc)
 complete_by c script given calm t S.Value taken says = absurd (let e = no_fault c script given calm t (F.Value says.0) taken says.1.due in cc)
 
 -- the same of a schema that is checked
@@ -154,9 +162,14 @@ no_check_value : (w : Work) (rows made : List Row) (n : TypeNo) (b : List ℕ) �
 no_check_value w rows made n b (inl is) work = let e : lists (declared_names rows) ≡ makes made n b = sym is ∙ work in cc
 no_check_value w rows made n b (inr is) work = let e : ends F.Memory ≡ makes made n b = sym is ∙ work in cc
 
-no_check_store : (c : Call) (t : Taking) (rows : List Row) → Checks (work_of c.job t) rows → HasScript (work_of c.job t) ⊎ TriesValue c t → ⊥
+no_check_root : (w : Work) (rows opened : List Row) (n : TypeNo) (id : List ℕ) → Checks w rows → w ≡ opens opened n id → ⊥
+no_check_root w rows opened n id (inl is) work = let e : lists (declared_names rows) ≡ opens opened n id = sym is ∙ work in cc
+no_check_root w rows opened n id (inr is) work = let e : ends F.Memory ≡ opens opened n id = sym is ∙ work in cc
+
+no_check_store : (c : Call) (t : Taking) (rows : List Row) → Checks (work_of c.job t) rows → HasScript (work_of c.job t) ⊎ (TriesValue c t ⊎ ReadsRoot c t) → ⊥
 no_check_store c t rows is (inl script) = no_check_script (work_of c.job t) rows is script
-no_check_store c t rows is (inr tries) = no_check_value (work_of c.job t) rows tries.rows tries.type tries.bytes is tries.work
+no_check_store c t rows is (inr (inr reads)) = no_check_root (work_of c.job t) rows reads.rows reads.type reads.root is reads.work
+no_check_store c t rows is (inr (inl tries)) = no_check_value (work_of c.job t) rows tries.rows tries.type tries.bytes is tries.work
 
 no_check_fault : (c : Call) (rows : List Row) (given : IsGivenSchema c rows) (calm : IsCalm c) (t : Taking) (f : Fault) → AreTaken c.job c.before.supply t → IsDue c t f → f ≡ F.Memory
 no_check_fault c rows given calm t F.Memory taken due = refl
@@ -170,6 +183,7 @@ no_check_fault c rows given calm t F.Store taken due = absurd (no_check_store c 
 no_check_fault c rows given calm t (F.Clash id) taken (inl due) = absurd (no_check_script (work_of c.job t) rows (checked_work c rows given t taken) due.2)
 no_check_fault c rows given calm t (F.Clash id) taken (inr clash) = absurd (no_check_value (work_of c.job t) rows clash.rows clash.type clash.bytes (checked_work c rows given t taken) clash.work)
 no_check_fault c rows given calm t (F.Value r) taken due = absurd (no_check_value (work_of c.job t) rows due.rows due.type due.bytes (checked_work c rows given t taken) due.work)
+no_check_fault c rows given calm t (F.Root id why) taken due = absurd (no_check_root (work_of c.job t) rows due.rows due.type due.root (checked_work c rows given t taken) due.work)
 
 same_names : (w : Work) (names : List (List ℕ)) (rows : List Row) → Checks w rows → w ≡ lists names → names ≡ declared_names rows
 same_names w names rows (inl is) work = let e : lists names ≡ lists (declared_names rows) = sym work ∙ is in cc
@@ -180,10 +194,12 @@ IsListed c rows status = (status ≡ S.Memory) ⊎ ((status ≡ S.Done) × Lists
 
 listed_by : (c : Call) (rows : List Row) (given : IsGivenSchema c rows) (calm : IsCalm c) (t : Taking) (status : Status) → AreTaken c.job c.before.supply t → Says c t status → IsListed c rows status
 listed_by c rows given calm t S.Done taken (inl all) = absurd (no_check_answers (work_of c.job t) rows all.bytes (checked_work c rows given t taken) all.work)
-listed_by c rows given calm t S.Done taken (inr (inr created)) = absurd (no_check_value (work_of c.job t) rows created.rows created.type created.bytes (checked_work c rows given t taken) created.work)
+listed_by c rows given calm t S.Done taken (inr (inr (inl created))) = absurd (no_check_value (work_of c.job t) rows created.rows created.type created.bytes (checked_work c rows given t taken) created.work)
+listed_by c rows given calm t S.Done taken (inr (inr (inr shows))) = absurd (let has = shows.1.has in no_check_root (work_of c.job t) rows has.rows has.type has.root (checked_work c rows given t taken) has.work)
 listed_by c rows given calm t S.Done taken (inr (inl listed)) =
     inr (refl, subst (λ (names : List (List ℕ)). Lists names c.before.output c.after.output) (same_names (work_of c.job t) listed.names rows (checked_work c rows given t taken) listed.work) listed.written)
-listed_by c rows given calm t S.Refused taken all = absurd (no_check_answers (work_of c.job t) rows all.bytes (checked_work c rows given t taken) all.work)
+listed_by c rows given calm t S.Refused taken (inl all) = absurd (no_check_answers (work_of c.job t) rows all.bytes (checked_work c rows given t taken) all.work)
+listed_by c rows given calm t S.Refused taken (inr shows) = absurd (let has = shows.has in no_check_root (work_of c.job t) rows has.rows has.type has.root (checked_work c rows given t taken) has.work)
 listed_by c rows given calm t S.Memory taken says = inl refl
 listed_by c rows given calm t S.SinkFault taken says = absurd (calm.sink says.0)
 listed_by c rows given calm t S.Words taken says = absurd (let e = no_check_fault c rows given calm t F.Words taken says.due in cc)
@@ -192,7 +208,7 @@ listed_by c rows given calm t S.Schema taken (inr tells) = absurd (let e = no_ch
 listed_by c rows given calm t S.Input taken says = absurd (let e = no_check_fault c rows given calm t (F.Input says.0 says.1) taken says.2.due in cc)
 listed_by c rows given calm t S.StoreFault taken (inl tells) = absurd (let e = no_check_fault c rows given calm t F.Store taken tells.due in cc)
 listed_by c rows given calm t S.StoreFault taken (inr tells) = absurd (let e = no_check_fault c rows given calm t (F.Clash tells.0) taken tells.1.due in cc)
-listed_by c rows given calm t S.Root taken says = absurd says
+listed_by c rows given calm t S.Root taken says = absurd (let e = no_check_fault c rows given calm t (F.Root says.0 says.1) taken says.2.due in cc)
 listed_by c rows given calm t S.Value taken says = absurd (let e = no_check_fault c rows given calm t (F.Value says.0) taken says.1.due in cc)
 
 -- a call that ended with its cause is complete
@@ -201,4 +217,5 @@ complete_from c status ended = record {
   runs = λ script given calm. complete_by c script given calm ended.taking status ended.taken ended.says;
   checks = λ rows given calm. listed_by c rows given calm ended.taking status ended.taken ended.says;
   creates = λ v d given calm. created_by c v d given calm ended.taking status ended.taken ended.says;
+  shows = λ v given calm. shown_by c v given calm ended.taking status ended.taken ended.says;
 }

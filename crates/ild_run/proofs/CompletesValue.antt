@@ -1,6 +1,6 @@
 -- Where nothing stands in the way, a value that a store can hold is created.
 use Rattle.std.specs.Prelude.{Contains}
-use Rattle.std.proofs.Common.{◌≡◌, ◌⊎◌, ℕ, List, Option, Some, None, refl, sym, ap, ◌∙◌, subst, inl, inr}
+use Rattle.std.proofs.Common.{◌≡◌, ◌⊎◌, ℕ, List, [], ◌∷◌, Bool, true, false, Option, Some, None, refl, sym, ap, ◌∙◌, subst, inl, inr}
 use Rattle.ild_compile.specs.Compile.{Verdict, table}
 use Rattle.ild_compile.proofs.OneVerdict.{one_verdict_lem}
 use Rattle.ild_create.specs.Creates.{Created, Clashes}
@@ -17,8 +17,8 @@ use Rattle.ild_schema.specs.Value.{Value as Typed}
 use Rattle.ild_schema.specs.declared.number.TypeNo.{TypeNo}
 use Rattle.ild_schema.specs.declared.row.Row.{Row}
 use Rattle.ild_typed.specs.Stands.{bare, root_id, blocks_of, Stands}
-use Rattle.ild_run.specs.Work.{Work, Taking, ends, lists, answers, makes, type_work, compiled_work, schema_work, job_work, work_of, IsVerdict, IsTaking, AreTaken}
-use Rattle.ild_run.specs.KeyHash.{hash}
+use Rattle.ild_run.specs.Work.{Work, Taking, ends, lists, answers, makes, opens, type_work, compiled_work, schema_work, job_work, work_of, IsVerdict, IsTaking, AreTaken}
+use Rattle.ild_run.specs.Shown.{hash}
 use Rattle.ild_run.specs.Words.{Job, creates}
 use Rattle.ild_run.specs.Ended.{Call, IsDue, HasScript, CreatesValue, Says}
 use Rattle.ild_run.specs.Complete.{IsGivenValue, LetsCreate, CreatesPlainly}
@@ -80,12 +80,17 @@ no_list : (w : Work) (names : List (List ℕ)) (rows : List Row) (n : TypeNo) (b
 no_list w names rows n b (inl is) listed = let e : makes rows n b ≡ lists names = sym is ∙ listed in cc
 no_list w names rows n b (inr is) listed = let e : ends F.Memory ≡ lists names = sym is ∙ listed in cc
 
+no_root : (w : Work) (opened : List Row) (m : TypeNo) (id : List ℕ) (rows : List Row) (n : TypeNo) (b : List ℕ) → Creating w rows n b → w ≡ opens opened m id → ⊥
+no_root w opened m id rows n b (inl is) work = let e : makes rows n b ≡ opens opened m id = sym is ∙ work in cc
+no_root w opened m id rows n b (inr is) work = let e : ends F.Memory ≡ opens opened m id = sym is ∙ work in cc
+
 -- what is said of the value that is made
 abbrev OfMade : (List Row → TypeNo → List ℕ → Type 0) → Work → Type 0
 OfMade P (makes rows n b) = P rows n b
 OfMade P (ends f) = ⊥
 OfMade P (lists names) = ⊥
 OfMade P (answers b) = ⊥
+OfMade P (opens rows n id) = ⊥
 
 said : (P : List Row → TypeNo → List ℕ → Type 0) (w : Work) (rows made : List Row) (n m : TypeNo) (b c : List ℕ) → Creating w rows n b → w ≡ makes made m c → P made m c → P rows n b
 said P w rows made n m b c (inl is) work p = subst (OfMade P) (sym work ∙ is) p
@@ -118,6 +123,7 @@ no_fault c v d given calm t (F.Clash id) taken (inr clash) =
     subst (λ (x : Typed). Contains (blocks_of bare hash given.rows given.type x d) hit.new) same.0
     (subst (λ (x : Data). Contains (blocks_of bare hash given.rows given.type tried.value x) hit.new) same.1 hit.among) in
     absurd (calm.apart hit.kept hit.new among hit.held hit.collide)
+no_fault c v d given calm t (F.Root id why) taken due = absurd (no_root (work_of c.job t) due.rows due.type due.root given.rows given.type given.bytes (work_makes c v d given t taken) due.work)
 no_fault c v d given calm t (F.Value r) taken due =
     let P : List Row → TypeNo → List ℕ → Type 0 = IsOfTable (λ rows n b. IsFirst hash rows n b r) in
     let it = said P (work_of c.job t) given.rows due.rows given.type due.type given.bytes due.bytes (work_makes c v d given t taken) due.work (record { table = due.table; holds = due.refused }) in
@@ -140,8 +146,12 @@ created_so c v d given t taken made =
 pub created_by : (c : Call) (v : Typed) (d : Data) (given : IsGivenValue c v d) → LetsCreate c given.rows given.type v d → (t : Taking) (status : Status) → AreTaken c.job c.before.supply t → Says c t status → (status ≡ S.Memory) ⊎ CreatesPlainly c given.rows given.type v d status
 created_by c v d given calm t S.Done taken (inl all) = absurd (no_answers (work_of c.job t) given.rows given.type given.bytes all.bytes (work_makes c v d given t taken) all.work)
 created_by c v d given calm t S.Done taken (inr (inl listed)) = absurd (no_list (work_of c.job t) listed.names given.rows given.type given.bytes (work_makes c v d given t taken) listed.work)
-created_by c v d given calm t S.Done taken (inr (inr made)) = inr (created_so c v d given t taken made)
-created_by c v d given calm t S.Refused taken all = absurd (no_answers (work_of c.job t) given.rows given.type given.bytes all.bytes (work_makes c v d given t taken) all.work)
+created_by c v d given calm t S.Done taken (inr (inr (inl made))) = inr (created_so c v d given t taken made)
+created_by c v d given calm t S.Done taken (inr (inr (inr shows))) =
+    absurd (let has = shows.1.has in no_root (work_of c.job t) has.rows has.type has.root given.rows given.type given.bytes (work_makes c v d given t taken) has.work)
+created_by c v d given calm t S.Refused taken (inl all) = absurd (no_answers (work_of c.job t) given.rows given.type given.bytes all.bytes (work_makes c v d given t taken) all.work)
+created_by c v d given calm t S.Refused taken (inr shows) =
+    absurd (let has = shows.has in no_root (work_of c.job t) has.rows has.type has.root given.rows given.type given.bytes (work_makes c v d given t taken) has.work)
 created_by c v d given calm t S.Memory taken says = inl refl
 created_by c v d given calm t S.SinkFault taken says = absurd (calm.sink says.0)
 created_by c v d given calm t S.Words taken says = absurd (let e = no_fault c v d given calm t F.Words taken says.due in cc)
@@ -150,5 +160,5 @@ created_by c v d given calm t S.Schema taken (inr tells) = absurd (let e = no_fa
 created_by c v d given calm t S.Input taken says = absurd (let e = no_fault c v d given calm t (F.Input says.0 says.1) taken says.2.due in cc)
 created_by c v d given calm t S.StoreFault taken (inl tells) = absurd (let e = no_fault c v d given calm t F.Store taken tells.due in cc)
 created_by c v d given calm t S.StoreFault taken (inr tells) = absurd (let e = no_fault c v d given calm t (F.Clash tells.0) taken tells.1.due in cc)
-created_by c v d given calm t S.Root taken says = absurd says
+created_by c v d given calm t S.Root taken says = absurd (let e = no_fault c v d given calm t (F.Root says.0 says.1) taken says.2.due in cc)
 created_by c v d given calm t S.Value taken says = absurd (let e = no_fault c v d given calm t (F.Value says.0) taken says.1.due in cc)

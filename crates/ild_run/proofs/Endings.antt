@@ -23,15 +23,19 @@ use Rattle.ild_session.specs.Session.{Stage, resting}
 use Rattle.ild_session.specs.Step.{Holds}
 use Rattle.ild_session.proofs.Steps.{run_gets, run_puts}
 use Rattle.ild_run.specs.First.{Tries}
+use Rattle.ild_run.proofs.Openings.{taking_of}
 use Rattle.ild_run.specs.Opening.{PutsFirst, FirstAnswer, InputsFault}
 use Rattle.ild_run.specs.Fault.{fault_text, status_of, cut_status}
-use Rattle.ild_run.specs.Work.{Work, Taking, in_roles, lists, answers, makes, work_of, job_work, IsTaking, AreTaken, Takes, Reaches}
+use Rattle.ild_run.specs.Work.{Work, Taking, in_roles, lists, answers, makes, opens, work_of, job_work, IsTaking, AreTaken, Takes, Reaches}
 use Rattle.ild_run.specs.Words.{Job}
 use Rattle.ild_run.specs.Cut.{CutAs, ToldAs}
 use Rattle.ild_run.specs.Listed.{Lists, ListsFront, ListedAs}
 use Rattle.ild_run.specs.Made.{made_fault, MadeTold, MadeAs}
-use Rattle.ild_run.specs.KeyHash.{hash}
-use Rattle.ild_run.specs.Ended.{Call, IsDue, HasScript, Leaves, Answers, AnswersAll, AnswersSome, ListsSome, CreatesSome, Tells, TellsFront, Says, Ended}
+use Rattle.ild_run.specs.Shown.{hash, Replied, ShownTold, ShownAs}
+use Rattle.ild_show.specs.Shows.{Shows}
+use Rattle.ild_show.specs.declared.fault.ShowFault.{ShowFault}
+use Rattle.ild_show.specs.declared.fault.ShowFault.TheVariants as W
+use Rattle.ild_run.specs.Ended.{Call, IsDue, HasScript, Leaves, Answers, AnswersAll, AnswersSome, ListsNames, ListsSome, CreatesSome, ReadsRoot, HasRoot, reply_on, ShowsSome, Tells, TellsFront, Says, Ended}
 use Rattle.ild_run.specs.declared.fault.Fault.{Fault}
 use Rattle.ild_run.specs.declared.fault.Fault.TheVariants as F
 use Rattle.ild_run.specs.declared.fault.Role.{Role}
@@ -51,6 +55,7 @@ says_told c t F.Store tells = inl tells
 says_told c t (F.Clash id) tells = inr (id, tells)
 says_told c t F.Memory tells = inl tells
 says_told c t (F.Value r) tells = (r, tells)
+says_told c t (F.Root id why) tells = (id, why, tells)
 
 -- a fault whose line was cut off
 says_front : (c : Call) (t : Taking) (status : Status) → TellsFront c t → CutAs c.before.output status c.after.output → Says c t status
@@ -82,6 +87,10 @@ pub ended_words : (c : Call) (status : Status) → c.job ≡ None → c.after.mo
 ended_words c status none same told =
     ended_told c no_taking F.Words status (subst (λ (j : Option Job). AreTaken j c.before.supply no_taking) (sym none) tt) (ap (λ j. work_of j no_taking) none) same told
 
+-- a call for whose words memory is wanting
+pub ended_unread : (c : Call) (status : Status) → c.after.moment ≡ c.before.moment → ToldAs F.Memory c.before.output status c.after.output → Ended c status
+ended_unread c status same told = let some = taking_of c.job c.before.supply in ended_told c some.0 F.Memory status some.1 tt (inl same) told
+
 -- the work of a call whose inputs were taken
 has_script : (found : Option Job) (job : Job) (t : Taking) (b : List ℕ) → found ≡ Some job → job_work job t ≡ answers b → work_of found t ≡ answers b
 has_script found job t b named is = ap (λ j. work_of j t) named ∙ is
@@ -101,12 +110,14 @@ due_first c t F.NotBuilt has answer = absurd answer
 due_first c t (F.Schema f) has answer = absurd answer
 due_first c t (F.Input role trouble) has answer = absurd answer
 due_first c t (F.Value r) has answer = absurd answer
+due_first c t (F.Root id why) has answer = absurd answer
 
 leaves_first : (c : Call) (t : Taking) (f : Fault) → HasScript (work_of c.job t) → FirstAnswer c.before.moment [] (Err f) c.after.moment → Tries (blocks_of []) c.before.moment c.after.moment → Leaves c t f
 leaves_first c t F.Store has answer tries = inl tries
 leaves_first c t (F.Clash id) has answer tries = inl tries
 leaves_first c t F.Memory has answer tries = inr (inl (has, tries))
 leaves_first c t (F.Value r) has answer tries = absurd answer
+leaves_first c t (F.Root id why) has answer tries = absurd answer
 leaves_first c t F.Words has answer tries = absurd answer
 leaves_first c t F.NotBuilt has answer tries = absurd answer
 leaves_first c t (F.Schema f) has answer tries = absurd answer
@@ -179,7 +190,7 @@ pub ended_done : (c : Call) (job : Job) (t : Taking) → c.job ≡ Some job → 
 ended_done c job t named a all = record { taking = t; taken = are_taken c job t named a; says = inl all }
 
 pub ended_refused : (c : Call) (job : Job) (t : Taking) → c.job ≡ Some job → IsTaking job c.before.supply t → AnswersAll c t true → Ended c S.Refused
-ended_refused c job t named a all = record { taking = t; taken = are_taken c job t named a; says = all }
+ended_refused c job t named a all = record { taking = t; taken = are_taken c job t named a; says = inl all }
 
 -- why a text was cut off
 pub cut_cause : (cut : Cut) (m n : Output) → (IsErrOf {T = Bool} (Err cut) C.Sink → Rose m.faults n.faults) → CutAs m (cut_status cut) n
@@ -201,6 +212,7 @@ due_inputs c job t (F.Schema f) named fault = is_work c job t _ named fault
 due_inputs c job t F.Memory named fault = tt
 due_inputs c job t F.Words named fault = is_work c job t _ named fault
 due_inputs c job t (F.Value r) named fault = absurd fault
+due_inputs c job t (F.Root id why) named fault = absurd fault
 due_inputs c job t F.Store named fault = absurd fault
 due_inputs c job t (F.Clash id) named fault = absurd fault
 
@@ -211,6 +223,7 @@ leaves_inputs c job t (F.Schema f) fault same = same
 leaves_inputs c job t F.Memory fault same = inl same
 leaves_inputs c job t F.Words fault same = same
 leaves_inputs c job t (F.Value r) fault same = absurd fault
+leaves_inputs c job t (F.Root id why) fault same = absurd fault
 leaves_inputs c job t F.Store fault same = absurd fault
 leaves_inputs c job t (F.Clash id) fault same = absurd fault
 
@@ -249,8 +262,8 @@ ended_listed c job t names status named a work same listed =
 
 -- a front of the line of its root
 says_root : (c : Call) (t : Taking) (status : Status) → CreatesSome c t → CutAs c.before.output status c.after.output → Says c t status
-says_root c t S.SinkFault some rose = (rose, inr (inr (inr some)))
-says_root c t S.Memory some rose = inr (inr (inr (inr some)))
+says_root c t S.SinkFault some rose = (rose, inr (inr (inr (inl some))))
+says_root c t S.Memory some rose = inr (inr (inr (inr (inl some))))
 says_root c t S.Done some rose = absurd rose
 says_root c t S.Refused some rose = absurd rose
 says_root c t S.Words some rose = absurd rose
@@ -262,24 +275,24 @@ says_root c t S.Value some rose = absurd rose
 
 due_made : (c : Call) (t : Taking) (rows : List Row) (n : TypeNo) (b : List ℕ) (f : CreateFault) → work_of c.job t ≡ makes rows n b → IsTable rows → CreateAnswer hash rows n b c.before.moment (Err f) c.after.moment → IsDue c t (made_fault f)
 due_made c t rows n b (V.Refused r) work table answer = record { rows = rows; table = table; type = n; bytes = b; work = work; refused = answer.0 }
-due_made c t rows n b V.Store work table answer = (answer.0, inr (record { rows = rows; type = n; bytes = b; work = work; tried = answer.1 }))
+due_made c t rows n b V.Store work table answer = (answer.0, inr (inl (record { rows = rows; type = n; bytes = b; work = work; tried = answer.1 })))
 due_made c t rows n b (V.Clash id) work table answer = inr (record { rows = rows; table = table; type = n; bytes = b; work = work; clash = answer })
 due_made c t rows n b V.Memory work table answer = tt
 
 leaves_made : (c : Call) (t : Taking) (rows : List Row) (n : TypeNo) (b : List ℕ) (f : CreateFault) → work_of c.job t ≡ makes rows n b → IsTable rows → CreateAnswer hash rows n b c.before.moment (Err f) c.after.moment → Leaves c t (made_fault f)
 leaves_made c t rows n b (V.Refused r) work table answer = answer.1
-leaves_made c t rows n b V.Store work table answer = inr (record { rows = rows; type = n; bytes = b; work = work; tried = answer.1 })
+leaves_made c t rows n b V.Store work table answer = inr (inl (record { rows = rows; type = n; bytes = b; work = work; tried = answer.1 }))
 leaves_made c t rows n b (V.Clash id) work table answer =
     inr (record { rows = rows; type = n; bytes = b; work = work; tried = answer.tried })
 leaves_made c t rows n b V.Memory work table answer = by answer where
   by : CreateAnswer hash rows n b c.before.moment (Err V.Memory) c.after.moment → Leaves c t F.Memory
   by (inl same) = inl same
-  by (inr tried) = inr (inr (record { rows = rows; type = n; bytes = b; work = work; tried = tried }))
+  by (inr tried) = inr (inr (inl (record { rows = rows; type = n; bytes = b; work = work; tried = tried })))
 
 says_made : (c : Call) (t : Taking) (rows : List Row) (n : TypeNo) (b : List ℕ) (result : Result BlockId CreateFault) (status : Status) → work_of c.job t ≡ makes rows n b → IsTable rows
     → CreateAnswer hash rows n b c.before.moment result c.after.moment → MadeTold result c.before.output status c.after.output → Says c t status
 says_made c t rows n b (Ok id) status work table answer (inl done) =
-    subst (λ (s : Status). Says c t s) (sym done.0) (inr (inr (record { rows = rows; table = table; type = n; bytes = b; work = work; root = id; created = answer; written = done.1 })))
+    subst (λ (s : Status). Says c t s) (sym done.0) (inr (inr (inl (record { rows = rows; table = table; type = n; bytes = b; work = work; root = id; created = answer; written = done.1 }))))
 says_made c t rows n b (Ok id) status work table answer (inr cut) =
     says_root c t status (record { rows = rows; type = n; bytes = b; work = work; root = id; created = answer; written = cut.1 }) cut.0
 says_made c t rows n b (Err f) status work table answer told =
@@ -291,4 +304,49 @@ ended_made c job t rows n b status named a work made = record {
   taking = t;
   taken = are_taken c job t named a;
   says = says_made c t rows n b made.result status (is_work c job t (makes rows n b) named work) made.table made.creates.answer made.told;
+}
+
+-- ---- a value that is shown
+
+-- a front of its line
+says_shown : (c : Call) (t : Taking) (status : Status) → ShowsSome c t → CutAs c.before.output status c.after.output → Says c t status
+says_shown c t S.SinkFault some rose = (rose, inr (inr (inr (inr some))))
+says_shown c t S.Memory some rose = inr (inr (inr (inr (inr some))))
+says_shown c t S.Done some rose = absurd rose
+says_shown c t S.Refused some rose = absurd rose
+says_shown c t S.Words some rose = absurd rose
+says_shown c t S.Schema some rose = absurd rose
+says_shown c t S.Root some rose = absurd rose
+says_shown c t S.Input some rose = absurd rose
+says_shown c t S.StoreFault some rose = absurd rose
+says_shown c t S.Value some rose = absurd rose
+
+says_json : (c : Call) (t : Taking) (json : List ℕ) (status : Status) → HasRoot c t (Some json) → Replied (reply_on (Some json)) S.Done c.before.output status c.after.output → Says c t status
+says_json c t json status has (inl done) = subst (λ (s : Status). Says c t s) (sym done.0) (inr (inr (inr (json, record { has = has; written = done.1 }))))
+says_json c t json status has (inr cut) = says_shown c t status (record { json = Some json; has = has; written = cut.1 }) cut.0
+
+says_reserved : (c : Call) (t : Taking) (status : Status) → HasRoot c t None → Replied (reply_on None) S.Refused c.before.output status c.after.output → Says c t status
+says_reserved c t status has (inl done) = subst (λ (s : Status). Says c t s) (sym done.0) (inr (record { has = has; written = done.1 }))
+says_reserved c t status has (inr cut) = says_shown c t status (record { json = None; has = has; written = cut.1 }) cut.0
+
+says_present : (c : Call) (t : Taking) (rows : List Row) (n : TypeNo) (id : List ℕ) (result : Result (List ℕ) ShowFault) (status : Status) → work_of c.job t ≡ opens rows n id → IsTable rows
+    → Shows hash rows n id c.before.moment result c.after.moment → ShownTold result c.before.output status c.after.output → Says c t status
+says_present c t rows n id (Ok json) status work table shows told =
+    says_json c t json status (record { rows = rows; table = table; type = n; root = id; work = work; shown = shows.answer; reads = shows.reads }) told
+says_present c t rows n id (Err W.Reserved) status work table shows told =
+    says_reserved c t status (record { rows = rows; table = table; type = n; root = id; work = work; shown = shows.answer; reads = shows.reads }) told
+says_present c t rows n id (Err (W.Block at why)) status work table shows told =
+    says_by c t (F.Root at why) status (record { rows = rows; table = table; type = n; root = id; work = work; refused = shows.answer }) (record { rows = rows; type = n; root = id; work = work; reads = shows.reads }) told.told
+says_present c t rows n id (Err W.Store) status work table shows told =
+    let reads : ReadsRoot c t = record { rows = rows; type = n; root = id; work = work; reads = shows.reads } in
+    says_by c t F.Store status (shows.answer, inr (inr reads)) (inr (inr reads)) told.told
+says_present c t rows n id (Err W.Memory) status work table shows told =
+    says_by c t F.Memory status tt (inr (inr (inr (record { rows = rows; type = n; root = id; work = work; reads = shows.reads })))) told.told
+
+pub ended_shown : (c : Call) (job : Job) (t : Taking) (rows : List Row) (n : TypeNo) (id : List ℕ) (status : Status) → c.job ≡ Some job → IsTaking job c.before.supply t → job_work job t ≡ opens rows n id
+    → ShownAs rows n id c.before.moment c.before.output status c.after.moment c.after.output → Ended c status
+ended_shown c job t rows n id status named a work shown = record {
+  taking = t;
+  taken = are_taken c job t named a;
+  says = says_present c t rows n id shown.result status (is_work c job t (opens rows n id) named work) shown.table shown.shows shown.told;
 }

@@ -6,6 +6,7 @@ use Rattle.ild_compile.specs.Compile.{Verdict, table, faulty, Compiles}
 use Rattle.ild_edges.specs.Inputs.{Supply, After, MayBe, taken_of, file_at}
 use Rattle.ild_edges.proofs.After.{After-trans}
 use Rattle.ild_edges.specs.declared.inputs.Taken.{Taken}
+use Rattle.ild_data.specs.declared.id.BlockId.{BlockId}
 use Rattle.ild_schema.specs.Names.{number_named, is_named}
 use Rattle.ild_schema.specs.declared.number.TypeNo.{TypeNo}
 use Rattle.ild_schema.specs.declared.row.Row.{Row}
@@ -14,8 +15,8 @@ use Rattle.ild_run.specs.declared.fault.Fault.TheVariants as F
 use Rattle.ild_run.specs.declared.fault.Role.{Role}
 use Rattle.ild_run.specs.declared.fault.Trouble.TheVariants as T
 use Rattle.ild_run.specs.Built.{is_built}
-use Rattle.ild_run.specs.Words.{Job, checks, runs, creates, name_of}
-use Rattle.ild_run.specs.Work.{Taking, in_roles, built_work, type_work, IsVerdict, IsUnder, IsOpen}
+use Rattle.ild_run.specs.Words.{Job, checks, runs, creates, shows, name_of}
+use Rattle.ild_run.specs.Work.{Taking, in_roles, built_work, type_work, root_work, IsVerdict, IsUnder, IsTaking, AreTaken, IsOpen}
 use Rattle.ild_run.specs.declared.open.Task.{Task}
 use Rattle.ild_run.specs.declared.open.Task.TheVariants as P
 use Rattle.ild_run.specs.Opening.{InputAnswer, TakesInput, CompileAnswer, OpensAnswer, IsReady, Opens, OpensBehind}
@@ -34,12 +35,14 @@ abbrev other_name : Job → Option (List ℕ)
 other_name (checks schema) = None
 other_name (runs schema script) = Some script
 other_name (creates schema ty value) = Some value
+other_name (shows schema ty id) = None
 
 -- it is the script's or the value's
 other_role_is : (job : Job) (m : Supply) (other : Taken) → IsUnder m other (other_name job) → IsUnder m other (name_of Role.Script job) × IsUnder m other (name_of Role.Value job)
 other_role_is (checks schema) m other is = (tt, tt)
 other_role_is (runs schema script) m other is = (is, tt)
 other_role_is (creates schema ty value) m other is = (tt, is)
+other_role_is (shows schema ty id) m other is = (tt, tt)
 
 all_roles : (job : Job) (m : Supply) (schema other : Taken) → IsUnder m schema (name_of Role.Schema job) → IsUnder m other (other_name job) → (role : Role) → IsUnder m (in_roles schema other role) (name_of role job)
 all_roles job m schema other one two Role.Schema = one
@@ -63,6 +66,17 @@ opens_before m n job schema verdict result is says answer ready after =
       ready = ready;
       after = after;
     }
+
+-- whatever a job is, something may be taken for it
+job_taking : (job : Job) (m : Supply) → (t : Taking) × IsTaking job m t
+job_taking job m =
+    let schema = some_under m (name_of Role.Schema job) in
+    let other = some_under m (other_name job) in
+    (record { input = in_roles schema.0 other.0; verdict = None }, record { input = all_roles job m schema.0 other.0 schema.1 other.1; verdict = no_verdict schema.0 })
+
+pub taking_of : (job : Option Job) (m : Supply) → (t : Taking) × AreTaken job m t
+taking_of None m = (record { input = in_roles Taken.Absent Taken.Absent; verdict = None }, tt)
+taking_of (Some job) m = job_taking job m
 
 other_role : Role.Script ≡ Role.Schema → ⊥
 other_role e = cc
@@ -96,6 +110,7 @@ opens_schema m n job name (F.Schema f) named answer after = absurd answer
 opens_schema m n job name F.Store named answer after = absurd answer
 opens_schema m n job name (F.Clash id) named answer after = absurd answer
 opens_schema m n job name (F.Value r) named answer after = absurd answer
+opens_schema m n job name (F.Root id why) named answer after = absurd answer
 
 -- a call that ends at the schema's compilation
 pub opens_faulty : (m n : Supply) (job : Job) (name b : List ℕ) (f : Fault) → name_of Role.Schema job ≡ Some name → MayBe m.files name (Taken.Bytes b) → CompileAnswer b (Err f) → After m n → Opens m job (Err f) n
@@ -107,6 +122,7 @@ opens_faulty m n job name b F.NotBuilt named is answer after = absurd answer
 opens_faulty m n job name b F.Store named is answer after = absurd answer
 opens_faulty m n job name b (F.Clash id) named is answer after = absurd answer
 opens_faulty m n job name b (F.Value r) named is answer after = absurd answer
+opens_faulty m n job name b (F.Root id why) named is answer after = absurd answer
 
 -- a call whose schema is checked
 pub opens_checked : (m n : Supply) (name : List ℕ) (b : List ℕ) (rows : List Row) → MayBe m.files name (Taken.Bytes b) → Compiles b (table rows) → After m n → Opens m (checks name) (Ok (P.List rows)) n
@@ -146,6 +162,7 @@ script_answer m k n name other b rows (Err (F.Input Role.Value T.Absent)) built 
 script_answer m k n name other b rows (Err (F.Input Role.Value T.Long)) built same lacks faults answer = absurd (value_script answer.0)
 script_answer m k n name other b rows (Err (F.Input Role.Value T.Failed)) built same lacks faults answer = absurd (value_script answer.0)
 script_answer m k n name other b rows (Err (F.Value r)) built same lacks faults answer = absurd answer
+script_answer m k n name other b rows (Err (F.Root id why)) built same lacks faults answer = absurd answer
 script_answer m k n name other b rows (Err F.Memory) built same lacks faults answer = let some = some_taken m.files other in (some.0, some.1, tt)
 script_answer m k n name other b rows (Err F.Words) built same lacks faults answer = absurd answer
 script_answer m k n name other b rows (Err F.NotBuilt) built same lacks faults answer = absurd answer
@@ -169,7 +186,7 @@ opens_script m k n name other b rows result is compiles built after takes =
       after = After-trans m k n after takes.after;
     }
 
--- ---- a value that is to be created
+-- ---- a value that is to be created or shown
 
 -- a call that ends with its schema
 opens_with : (m n : Supply) (job : Job) (name b : List ℕ) (rows : List Row) (result : Result Task Fault) → name_of Role.Schema job ≡ Some name → MayBe m.files name (Taken.Bytes b) → Compiles b (table rows)
@@ -178,9 +195,17 @@ opens_with m n job name b rows result named is compiles answer ready after =
     opens_before m n job (Taken.Bytes b) (Some (table rows)) result (under m (Taken.Bytes b) name (name_of Role.Schema job) named is) compiles answer ready after
 
 -- the table has no type of this name
-pub opens_unnamed : (k : Supply) (rows : List Row) (ty value : List ℕ) → number_named ty rows ≡ None → OpensBehind k rows ty value (Err F.Words) k
+pub opens_unnamed : (k : Supply) (rows : List Row) (ty value : List ℕ) → number_named ty rows ≡ None → OpensBehind k rows (λ name. creates name ty value) (Err F.Words) k
 opens_unnamed k rows ty value none m name b is compiles after =
     opens_with m k (creates name ty value) name b rows (Err F.Words) refl is compiles (λ t. ap (λ found. type_work rows found t) none) tt after
+
+pub opens_no_type : (k : Supply) (rows : List Row) (ty id : List ℕ) → number_named ty rows ≡ None → OpensBehind k rows (λ name. shows name ty id) (Err F.Words) k
+opens_no_type k rows ty id none m name b is compiles after =
+    opens_with m k (shows name ty id) name b rows (Err F.Words) refl is compiles (λ t. ap (λ found. root_work rows found id) none) tt after
+
+pub opens_root : (k : Supply) (rows : List Row) (ty : List ℕ) (id : BlockId) (t : TypeNo) → number_named ty rows ≡ Some t.0 → t.0 < length rows → OpensBehind k rows (λ name. shows name ty id.0) (Ok (P.Show rows t id)) k
+opens_root k rows ty id t named within m name b is compiles after =
+    opens_with m k (shows name ty id.0) name b rows (Ok (P.Show rows t id)) refl is compiles (λ x. ap (λ found. root_work rows found id.0) named) within after
 
 abbrev value_taking : List ℕ → List Row → Taken → Taking
 value_taking b rows value = record { input = in_roles (Taken.Bytes b) value; verdict = Some (table rows) }
@@ -214,13 +239,14 @@ value_answer m k n name ty value b rows t (Err (F.Schema f)) named same lacks fa
 value_answer m k n name ty value b rows t (Err F.Store) named same lacks faults answer = absurd answer
 value_answer m k n name ty value b rows t (Err (F.Clash id)) named same lacks faults answer = absurd answer
 value_answer m k n name ty value b rows t (Err (F.Value r)) named same lacks faults answer = absurd answer
+value_answer m k n name ty value b rows t (Err (F.Root id why)) named same lacks faults answer = absurd answer
 
 value_ready : (rows : List Row) (t : TypeNo) (result : Result (List ℕ) Fault) → t.0 < length rows → IfOk (value_task rows t result) IsReady
 value_ready rows t (Ok b) within = within
 value_ready rows t (Err f) within = tt
 
 pub opens_value : (k n : Supply) (rows : List Row) (ty value : List ℕ) (t : TypeNo) (result : Result (List ℕ) Fault) → number_named ty rows ≡ Some t.0 → t.0 < length rows
-    → TakesInput k Role.Value value result n → OpensBehind k rows ty value (value_task rows t result) n
+    → TakesInput k Role.Value value result n → OpensBehind k rows (λ name. creates name ty value) (value_task rows t result) n
 opens_value k n rows ty value t result named within takes m name b is compiles after =
     let x = value_answer m k n name ty value b rows t result named after.files after.lacks after.faults takes.answer in
     record {

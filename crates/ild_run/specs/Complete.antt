@@ -1,5 +1,5 @@
 -- A call that nothing outside stands in the way of does all that its words ask for, unless memory is wanting.
-use Rattle.std.specs.Prelude.{◌≡◌, ◌≢◌, ◌⊎◌, ℕ, List, [], true, Some, None, Contains, if◌then◌else◌}
+use Rattle.std.specs.Prelude.{◌≡◌, ◌≢◌, ◌⊎◌, ℕ, List, [], true, Option, Some, None, Contains, if◌then◌else◌}
 use Rattle.std.specs.List.{list_any}
 use Rattle.ild_compile.specs.Compile.{Compiles, table}
 use Rattle.ild_create.specs.Makes.{Makes}
@@ -14,6 +14,9 @@ use Rattle.ild_edges.specs.Told.{IfTold}
 use Rattle.ild_edges.specs.declared.inputs.Taken.TheVariants as Taken
 use Rattle.ild_plain.specs.Plain.{line_due}
 use Rattle.ild_plain.specs.Value.{Value, blocks_of}
+use Rattle.ild_json.specs.Printing.{json_text}
+use Rattle.ild_schema.specs.Slots.{plainly}
+use Rattle.ild_typed.specs.Shown.{shown}
 use Rattle.ild_schema.specs.Names.{declared_names, number_named}
 use Rattle.ild_schema.specs.Value.{Value as Typed}
 use Rattle.ild_schema.specs.declared.number.TypeNo.{TypeNo}
@@ -27,9 +30,9 @@ use Rattle.ild_session.specs.Run.{texts}
 use Rattle.ild_session.specs.Plain.{PlainRun, MayPut, AreApart}
 use Rattle.ild_run.specs.Built.{is_built}
 use Rattle.ild_typed.specs.Stands.{bare, root_id, blocks_of as typed_blocks, Stands}
-use Rattle.ild_run.specs.Words.{checks, runs, creates}
+use Rattle.ild_run.specs.Words.{checks, runs, creates, shows}
 use Rattle.ild_run.specs.Listed.{Lists}
-use Rattle.ild_run.specs.KeyHash.{hash}
+use Rattle.ild_run.specs.Shown.{hash, reserved}
 use Rattle.ild_run.specs.Ended.{Call}
 use Rattle.ild_run.specs.declared.status.Status.{Status}
 use Rattle.ild_run.specs.declared.status.Status.TheVariants as S
@@ -117,11 +120,46 @@ pub record CreatesPlainly (c : Call) (rows : List Row) (n : TypeNo) (v : Typed) 
   pub stands : IfTold c.after.moment.blocks (λ held. Stands bare (block_at held) hash rows n root.0 v)
   pub written : Appends c.before.output.written c.after.output.written (reply_text (R.Root root))
 
--- a script is answered plainly, the names of an accepted schema are listed, and a value that a store can hold is created
+-- the words ask for the value under a root; the inputs tell and hold a schema that is accepted and has the type; and this value of the
+-- type stands under the root, in a store that tells what it holds
+pub record IsGivenRoot (c : Call) (v : Typed) : Type 0 where
+  pub schema_name : List ℕ
+  pub type_name : List ℕ
+  pub root : List ℕ
+  pub job : c.job ≡ Some (shows schema_name type_name root)
+  pub files : List (List ℕ × List ℕ)
+  pub told : c.before.supply.files ≡ Some files
+  pub schema : List ℕ
+  pub schema_held : taken_of (file_at files schema_name) ≡ Taken.Bytes schema
+  pub rows : List Row
+  pub compiles : Compiles schema (table rows)
+  pub type : TypeNo
+  pub named : number_named type_name rows ≡ Some type.0
+  pub held : List (List ℕ)
+  pub store : c.before.moment.blocks ≡ Some held
+  pub stands : Stands bare (block_at held) hash rows type root v
+
+-- no count of faults rose
+pub record LetsShow (c : Call) : Type 0 where
+  pub inputs : Rose c.before.supply.faults c.after.supply.faults → ⊥
+  pub store : Rose c.before.moment.faults c.after.moment.faults → ⊥
+  pub sink : Rose c.before.output.faults c.after.output.faults → ⊥
+
+-- the JSON of the value's shown form was written, or `no 10 reserved`, where it has none since a map whose only key is `/` stands in it
+abbrev pub ShownBy : Call → Status → Option (List ℕ) → Type 0
+ShownBy c status (Some json) = (status ≡ S.Done) × Appends c.before.output.written c.after.output.written (reply_text (R.Ok json))
+ShownBy c status None = (status ≡ S.Refused) × Appends c.before.output.written c.after.output.written (reply_text reserved)
+
+abbrev pub ShowsPlainly : Call → List Row → TypeNo → Typed → Status → Type 0
+ShowsPlainly c rows n v status = ShownBy c status (json_text (shown rows (plainly n) v))
+
+-- a script is answered plainly, the names of an accepted schema are listed, a value that a store can hold is created, and one that stands
+-- under a root is shown
 pub record IsComplete (c : Call) (status : Status) : Type 0 where
   pub runs : (script : List ℕ) → IsGiven c script → IsUndisturbed c script → (status ≡ S.Memory) ⊎ AnswersPlainly c script status
   pub checks : (rows : List Row) → IsGivenSchema c rows → IsCalm c → (status ≡ S.Memory) ⊎ ((status ≡ S.Done) × Lists (declared_names rows) c.before.output c.after.output)
   pub creates : (v : Typed) (d : Data) (given : IsGivenValue c v d) → LetsCreate c given.rows given.type v d → (status ≡ S.Memory) ⊎ CreatesPlainly c given.rows given.type v d status
+  pub shows : (v : Typed) (given : IsGivenRoot c v) → LetsShow c → (status ≡ S.Memory) ⊎ ShowsPlainly c given.rows given.type v status
 
 -- The premise on collisions can be met: where a store holds none but blocks that may come, as one does that held nothing
 -- before, it is enough that no two of these have one id.

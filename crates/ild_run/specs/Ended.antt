@@ -1,5 +1,5 @@
 -- How a call ends: the status, what is written, and the cause.
-use Rattle.std.specs.Prelude.{◌≡◌, ◌⊎◌, ℕ, ◌+◌, ◌≤◌, List, [], ◌++◌, Bool, true, false, Option}
+use Rattle.std.specs.Prelude.{◌≡◌, ◌⊎◌, ℕ, ◌+◌, ◌≤◌, List, [], ◌++◌, Bool, true, false, Option, Some, None}
 use Rattle.std.specs.List.{list_any}
 use Rattle.ild_edges.specs.Count.{Rose}
 use Rattle.ild_edges.specs.Inputs.{Supply}
@@ -24,8 +24,11 @@ use Rattle.ild_compile.specs.declared.error.SchemaFault.{SchemaFault}
 use Rattle.ild_run.specs.Words.{Job}
 use Rattle.ild_data.specs.declared.id.BlockId.{BlockId}
 use Rattle.ild_run.specs.First.{Tries}
-use Rattle.ild_run.specs.KeyHash.{hash}
-use Rattle.ild_run.specs.Work.{Work, Taking, ends, lists, answers, makes, work_of, AreTaken, Reaches}
+use Rattle.ild_cbor.specs.declared.why.BlockWhy.{BlockWhy}
+use Rattle.ild_read.specs.Reads.{OnlyReads}
+use Rattle.ild_show.specs.Shows.{HasShown, NotOpened}
+use Rattle.ild_run.specs.Shown.{hash, reserved}
+use Rattle.ild_run.specs.Work.{Work, Taking, ends, lists, answers, makes, opens, work_of, AreTaken, Reaches}
 use Rattle.ild_run.specs.Fault.{fault_text}
 use Rattle.ild_run.specs.Listed.{Lists, ListsFront}
 use Rattle.ild_run.specs.declared.fault.Fault.{Fault}
@@ -59,6 +62,7 @@ HasScript (ends f) = ⊥
 HasScript (lists names) = ⊥
 HasScript (answers b) = Unit {0}
 HasScript (makes rows n b) = ⊥
+HasScript (opens rows n id) = ⊥
 
 -- the input makes a value of the type, and nothing was asked of the store but to keep blocks of it
 pub record TriesValue (c : Call) (t : Taking) : Type 0 where
@@ -86,22 +90,42 @@ pub record RefusesValue (c : Call) (t : Taking) (r : Refusal) : Type 0 where
   pub work : work_of c.job t ≡ makes rows type bytes
   pub refused : IsFirst hash rows type bytes r
 
+-- a root was to be opened, and nothing was asked of the store but to get blocks
+pub record ReadsRoot (c : Call) (t : Taking) : Type 0 where
+  pub rows : List Row
+  pub type : TypeNo
+  pub root : List ℕ
+  pub work : work_of c.job t ≡ opens rows type root
+  pub reads : OnlyReads c.before.moment c.after.moment
+
+-- no value of the type stands under the root: this block isn't held, or isn't what has to stand there
+pub record LacksRoot (c : Call) (t : Taking) (id : List ℕ) (why : BlockWhy) : Type 0 where
+  pub rows : List Row
+  pub table : IsTable rows
+  pub type : TypeNo
+  pub root : List ℕ
+  pub work : work_of c.job t ≡ opens rows type root
+  pub refused : NotOpened hash rows type root c.before.moment id why c.after.moment
+
 -- the cause of a fault
 abbrev pub IsDue : Call → Taking → Fault → Type 0
 IsDue c t (F.Input role T.Failed) = Rose c.before.supply.faults c.after.supply.faults × Reaches role c.job t
 IsDue c t (F.Input role trouble) = (work_of c.job t ≡ ends (F.Input role trouble)) × Rose c.before.supply.lacks c.after.supply.lacks
-IsDue c t F.Store = Rose c.before.moment.faults c.after.moment.faults × (HasScript (work_of c.job t) ⊎ TriesValue c t)
+IsDue c t F.Store = Rose c.before.moment.faults c.after.moment.faults × (HasScript (work_of c.job t) ⊎ (TriesValue c t ⊎ ReadsRoot c t))
 IsDue c t (F.Clash id) = ((id.0 ≡ root_of []) × Collides c.after.moment (blocks_of []) × HasScript (work_of c.job t)) ⊎ ClashesValue c t id.0
 IsDue c t (F.Value r) = RefusesValue c t r
+IsDue c t (F.Root id why) = LacksRoot c t id.0 why
 IsDue c t F.Memory = Unit {0}
 IsDue c t f = work_of c.job t ≡ ends f
 
--- What a fault leaves of the store: it is as it was, unless the call came to its first value, or to a new one; then nothing was
--- asked of the store but to keep the first value's block, or blocks of the new one.
+-- What a fault leaves of the store: it is as it was, unless the call came to its first value, to a new one, or to a root; then
+-- nothing was asked of the store but to keep the first value's block, or blocks of the new one, or to get blocks.
 abbrev pub Leaves : Call → Taking → Fault → Type 0
-Leaves c t F.Store = Tries (blocks_of []) c.before.moment c.after.moment ⊎ TriesValue c t
+Leaves c t F.Store = Tries (blocks_of []) c.before.moment c.after.moment ⊎ (TriesValue c t ⊎ ReadsRoot c t)
 Leaves c t (F.Clash id) = Tries (blocks_of []) c.before.moment c.after.moment ⊎ TriesValue c t
-Leaves c t F.Memory = (c.after.moment ≡ c.before.moment) ⊎ ((HasScript (work_of c.job t) × Tries (blocks_of []) c.before.moment c.after.moment) ⊎ TriesValue c t)
+Leaves c t (F.Root id why) = ReadsRoot c t
+Leaves c t F.Memory =
+    (c.after.moment ≡ c.before.moment) ⊎ ((HasScript (work_of c.job t) × Tries (blocks_of []) c.before.moment c.after.moment) ⊎ (TriesValue c t ⊎ ReadsRoot c t))
 Leaves c t f = c.after.moment ≡ c.before.moment
 
 -- The empty map's block was put, and these lines were answered from it. All in all there were no more gets and puts than the
@@ -186,17 +210,43 @@ pub record CreatesSome (c : Call) (t : Taking) : Type 0 where
   pub created : Created hash rows type bytes c.before.moment c.after.moment root.0
   pub written : AppendsFront c.before.output.written c.after.output.written (reply_text (R.Root root))
 
+-- A value of the type stands under the root, its shown form has this JSON, or none, and nothing was asked of the store but to get blocks.
+pub record HasRoot (c : Call) (t : Taking) (json : Option (List ℕ)) : Type 0 where
+  pub rows : List Row
+  pub table : IsTable rows
+  pub type : TypeNo
+  pub root : List ℕ
+  pub work : work_of c.job t ≡ opens rows type root
+  pub shown : HasShown hash rows type root c.before.moment json
+  pub reads : OnlyReads c.before.moment c.after.moment
+
+-- the reply that is due on a JSON, or on none
+abbrev pub reply_on : Option (List ℕ) → Reply
+reply_on (Some json) = R.Ok json
+reply_on None = reserved
+
+-- it was shown: `ok JSON`, or `no 10 reserved` where there is none
+pub record ShowsRoot (c : Call) (t : Taking) (json : Option (List ℕ)) : Type 0 where
+  pub has : HasRoot c t json
+  pub written : Appends c.before.output.written c.after.output.written (reply_text (reply_on json))
+
+-- a front of that line was written
+pub record ShowsSome (c : Call) (t : Taking) : Type 0 where
+  pub json : Option (List ℕ)
+  pub has : HasRoot c t json
+  pub written : AppendsFront c.before.output.written c.after.output.written (reply_text (reply_on json))
+
 -- the text that was due was cut off
 abbrev pub IsCut : Call → Taking → Type 0
-IsCut c t = TellsFront c t ⊎ (AnswersSome c t ⊎ (ListsSome c t ⊎ CreatesSome c t))
+IsCut c t = TellsFront c t ⊎ (AnswersSome c t ⊎ (ListsSome c t ⊎ (CreatesSome c t ⊎ ShowsSome c t)))
 
 -- what a status says
 abbrev pub Says : Call → Taking → Status → Type 0
-Says c t S.Done = AnswersAll c t false ⊎ (ListsNames c t ⊎ CreatesValue c t)
-Says c t S.Refused = AnswersAll c t true
+Says c t S.Done = AnswersAll c t false ⊎ (ListsNames c t ⊎ (CreatesValue c t ⊎ ((json : List ℕ) × ShowsRoot c t (Some json))))
+Says c t S.Refused = AnswersAll c t true ⊎ ShowsRoot c t None
 Says c t S.Words = Tells c t F.Words
 Says c t S.Schema = Tells c t F.NotBuilt ⊎ ((f : SchemaFault) × Tells c t (F.Schema f))
-Says c t S.Root = ⊥
+Says c t S.Root = (id : BlockId) × (why : BlockWhy) × Tells c t (F.Root id why)
 Says c t S.Input = (role : Role) × (trouble : Trouble) × Tells c t (F.Input role trouble)
 Says c t S.StoreFault = Tells c t F.Store ⊎ ((id : BlockId) × Tells c t (F.Clash id))
 Says c t S.SinkFault = Rose c.before.output.faults c.after.output.faults × IsCut c t

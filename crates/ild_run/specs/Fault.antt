@@ -1,6 +1,8 @@
 -- The faults that end a call before its lines, each with its status and its line.
 use Rattle.std.specs.Prelude.{ℕ, List, [], ◌∷◌, ◌++◌, codes}
 use Rattle.std.specs.Fmt.{decimal}
+use Rattle.ild_cbor.specs.declared.why.BlockWhy.{BlockWhy}
+use Rattle.ild_cbor.specs.declared.why.BlockWhy.TheVariants as B
 use Rattle.ild_compile.specs.Line.{flaw_text}
 use Rattle.ild_compile.specs.declared.error.SchemaFault.{SchemaFault}
 use Rattle.ild_create.specs.declared.fault.Refusal.{Refusal}
@@ -26,6 +28,7 @@ status_of F.Store = S.StoreFault
 status_of (F.Clash id) = S.StoreFault
 status_of F.Memory = S.Memory
 status_of (F.Value r) = S.Value
+status_of (F.Root id why) = S.Root
 
 abbrev pub input_text : Role → Trouble → List ℕ
 input_text Role.Schema T.Failed = codes "fault 5 input schema failed\n"
@@ -52,6 +55,12 @@ value_text R.Size = codes "fault 9 value 9 size\n"
 abbrev pub schema_text : SchemaFault → List ℕ
 schema_text f = codes "fault 3 schema " ++ flaw_text f.flaw ++ codes " at " ++ decimal f.at ++ 10 ∷ []
 
+-- what is wrong with a block, before its CID
+abbrev pub block_text : BlockWhy → List ℕ
+block_text B.Missing = codes "fault 4 root missing "
+block_text (B.Cbor fault) = codes "fault 4 root cbor "
+block_text (B.Shape why) = codes "fault 4 root shape "
+
 -- the line of a fault, with its line feed
 abbrev pub fault_text : Fault → List ℕ
 fault_text F.Words = codes "fault 2 words\n"
@@ -62,6 +71,7 @@ fault_text F.Store = codes "fault 6 store\n"
 fault_text (F.Clash id) = codes "fault 6 clash " ++ (cid_text_of (cid_of id.0) ++ 10 ∷ [])
 fault_text F.Memory = codes "fault 8 memory\n"
 fault_text (F.Value r) = value_text r
+fault_text (F.Root id why) = block_text why ++ (cid_text_of (cid_of id.0) ++ 10 ∷ [])
 
 abbrev pub cut_status : Cut → Status
 cut_status C.Sink = S.SinkFault

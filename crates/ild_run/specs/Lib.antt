@@ -1,12 +1,13 @@
+pub mod RootText
 pub mod Words
 pub mod Built
 pub mod Work
 pub mod First
 pub mod Fault
-pub mod KeyHash
 pub mod Cut
 pub mod Listed
 pub mod Opening
+pub mod Shown
 pub mod Made
 pub mod Ended
 pub mod Complete

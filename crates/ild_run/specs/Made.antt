@@ -12,7 +12,7 @@ use Rattle.ild_schema.specs.declared.row.Row.{Row}
 use Rattle.ild_script.specs.Reply.{reply_text}
 use Rattle.ild_script.specs.declared.reply.Reply.TheVariants as R
 use Rattle.ild_run.specs.Cut.{CutAs, ToldAs}
-use Rattle.ild_run.specs.KeyHash.{hash}
+use Rattle.ild_run.specs.Shown.{hash}
 use Rattle.ild_run.specs.declared.fault.Fault.{Fault}
 use Rattle.ild_run.specs.declared.fault.Fault.TheVariants as F
 use Rattle.ild_run.specs.declared.status.Status.{Status}

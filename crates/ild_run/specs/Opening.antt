@@ -1,7 +1,10 @@
 -- What each step before the lines answers.
-use Rattle.std.specs.Prelude.{◌≡◌, ◌<◌, ℕ, List, length, Result, Ok, Err, IfOk}
+use Rattle.std.specs.Prelude.{◌≡◌, ◌<◌, ℕ, List, length, Option, None, option_map, Result, Ok, Err, IfOk}
 use Rattle.ild_compile.specs.Compile.{table, faulty, Compiles}
 use Rattle.ild_data.specs.Spell.{id_of}
+use Rattle.ild_data.specs.declared.fault.TextErr.{TextErr}
+use Rattle.ild_data.specs.declared.fault.TextErr.TheVariants as E
+use Rattle.ild_data.specs.declared.id.BlockId.{BlockId}
 use Rattle.ild_edges.specs.Count.{Rose}
 use Rattle.ild_edges.specs.Inputs.{Supply, After, MayBe}
 use Rattle.ild_edges.specs.Store.{Moment, Later}
@@ -18,15 +21,34 @@ use Rattle.ild_run.specs.declared.open.Job.TheVariants as J
 use Rattle.ild_run.specs.declared.open.Task.{Task}
 use Rattle.ild_run.specs.declared.open.Task.TheVariants as P
 use Rattle.ild_session.specs.Step.{Holds, Collides}
-use Rattle.ild_run.specs.Words.{Job, checks, runs, creates}
+use Rattle.ild_run.specs.Words.{Job, checks, runs, creates, shows}
 use Rattle.ild_run.specs.First.{Tries}
-use Rattle.ild_run.specs.Work.{Work, Taking, ends, lists, answers, makes, job_work, IsTaking, Takes}
+use Rattle.ild_run.specs.RootText.{root_of_text}
+use Rattle.ild_run.specs.Work.{Work, Taking, ends, lists, answers, makes, opens, job_work, IsTaking, Takes}
 
 -- the job that the program holds
 abbrev pub job_seen : Held → Job
 job_seen (J.Check schema) = checks schema.now
 job_seen (J.Run schema script) = runs schema.now script.now
 job_seen (J.New schema ty value) = creates schema.now ty.now value.now
+job_seen (J.Show schema ty root) = shows schema.now ty.now root.0
+
+-- what words ask for; memory may be wanting to read a root
+abbrev pub AsksFor : Option Job → Result (Option Held) Fault → Type 0
+AsksFor job (Ok found) = option_map job_seen found ≡ job
+AsksFor job (Err f) = f ≡ F.Memory
+
+-- a text that is no CID's stands for no root
+abbrev pub no_root : TextErr → Result (Option BlockId) Fault
+no_root E.Memory = Err F.Memory
+no_root E.Prefix = Ok None
+no_root E.Digit = Ok None
+no_root E.Bits = Ok None
+no_root (E.Cid fault) = Ok None
+
+abbrev pub AsksRoot : List ℕ → Result (Option BlockId) Fault → Type 0
+AsksRoot text (Ok found) = option_map (λ (id : BlockId). id.0) found ≡ root_of_text text
+AsksRoot text (Err f) = f ≡ F.Memory
 
 abbrev pub InputAnswer : Supply → Role → List ℕ → Result (List ℕ) Fault → Supply → Type 0
 InputAnswer m role name (Ok b) n = MayBe m.files name (Taken.Bytes b)
@@ -63,12 +85,14 @@ abbrev pub work_seen : Task → Work
 work_seen (P.List rows) = lists (declared_names rows)
 work_seen (P.Answer b) = answers b
 work_seen (P.Create rows n b) = makes rows n b
+work_seen (P.Show rows n id) = opens rows n id.0
 
--- a value that is to be created has a type of its table
+-- a value that is to be created or shown has a type of its table
 abbrev pub IsReady : Task → Type 0
 IsReady (P.List rows) = Unit {0}
 IsReady (P.Answer b) = Unit {0}
 IsReady (P.Create rows n b) = n.0 < length rows
+IsReady (P.Show rows n id) = n.0 < length rows
 
 abbrev pub OpensAnswer : Supply → Job → Taking → Result Task Fault → Supply → Type 0
 OpensAnswer m job t (Ok task) n = job_work job t ≡ work_seen task
@@ -82,10 +106,10 @@ pub record Opens (m : Supply) (job : Job) (result : Result Task Fault) (n : Supp
   pub ready : IfOk result IsReady
   pub after : After m n
 
--- the same from where the schema is compiled, in a call that came so far
-abbrev pub OpensBehind : Supply → List Row → List ℕ → List ℕ → Result Task Fault → Supply → Type 0
-OpensBehind k rows ty value result n =
-    (m : Supply) (name bytes : List ℕ) → MayBe m.files name (Taken.Bytes bytes) → Compiles bytes (table rows) → After m k → Opens m (creates name ty value) result n
+-- the same from where the schema is compiled, in a call that came so far; job makes the job, from the schema's name
+abbrev pub OpensBehind : Supply → List Row → (List ℕ → Job) → Result Task Fault → Supply → Type 0
+OpensBehind k rows job result n =
+    (m : Supply) (name bytes : List ℕ) → MayBe m.files name (Taken.Bytes bytes) → Compiles bytes (table rows) → After m k → Opens m (job name) result n
 
 abbrev pub FirstAnswer : Moment → Value → Result (Unit {0}) Fault → Moment → Type 0
 FirstAnswer m v (Ok _) n = Holds n (blocks_of v)

@@ -11,14 +11,16 @@ use Rattle.ild_run.specs.declared.fault.Fault.TheVariants as F
 use Rattle.ild_run.specs.declared.fault.Role.{Role}
 use Rattle.ild_run.specs.declared.fault.Trouble.TheVariants as T
 use Rattle.ild_run.specs.Built.{is_built}
-use Rattle.ild_run.specs.Words.{Job, checks, runs, creates, name_of}
+use Rattle.ild_run.specs.Words.{Job, checks, runs, creates, shows, name_of}
 
--- the call ends with a fault, lists names, answers the lines of a script, or creates a value of a type of a table from bytes
+-- the call ends with a fault, lists names, answers the lines of a script, creates a value of a type of a table from bytes, or opens the
+-- value of such a type that stands under a block id
 pub data Work : Type 0 where
   ends : Fault → Work
   lists : List (List ℕ) → Work
   answers : List ℕ → Work
   makes : List Row → TypeNo → List ℕ → Work
+  opens : List Row → TypeNo → List ℕ → Work
 
 -- what is taken of the inputs in each role, or would be, and what the schema is compiled to, or none where memory is wanting for it
 pub record Taking : Type 0 where
@@ -52,11 +54,16 @@ abbrev pub type_work : List Row → Option ℕ → Taken → Work
 type_work rows None value = ends F.Words
 type_work rows (Some n) value = value_work rows (record { 0 = n }) value
 
+abbrev pub root_work : List Row → Option ℕ → List ℕ → Work
+root_work rows None id = ends F.Words
+root_work rows (Some n) id = opens rows (record { 0 = n }) id
+
 -- what a job does with a table
 abbrev pub table_work : Job → List Row → (Role → Taken) → Work
 table_work (checks schema) rows input = lists (declared_names rows)
 table_work (runs schema script) rows input = built_work (is_built rows) (input Role.Script)
 table_work (creates schema ty value) rows input = type_work rows (number_named ty rows) (input Role.Value)
+table_work (shows schema ty id) rows input = root_work rows (number_named ty rows) id
 
 -- after the schema's input comes its compilation
 abbrev pub compiled_work : Job → Option Verdict → (Role → Taken) → Work
@@ -120,9 +127,11 @@ Takes Role.Schema job t = Unit {0}
 Takes Role.Script (checks schema) t = ⊥
 Takes Role.Script (runs schema script) t = IsOpen t
 Takes Role.Script (creates schema ty value) t = ⊥
+Takes Role.Script (shows schema ty id) t = ⊥
 Takes Role.Value (checks schema) t = ⊥
 Takes Role.Value (runs schema script) t = ⊥
 Takes Role.Value (creates schema ty value) t = IsTypeOpen ty t
+Takes Role.Value (shows schema ty id) t = ⊥
 
 abbrev pub Reaches : Role → Option Job → Taking → Type 0
 Reaches role None t = ⊥

@@ -5,9 +5,10 @@ ghost use Rattle.ild_data.specs.CidText.{cid_text_of};
 ghost use Rattle.ild_edges.specs.Count.{Rose};
 ghost use Rattle.ild_edges.specs.Sink.{Appends, AppendsFront};
 ghost use Rattle.ild_session.specs.declared.cut.Cut.TheVariants as cut;
-ghost use Rattle.ild_run.specs.Fault.{status_of, input_text, schema_text, value_text, fault_text};
+ghost use Rattle.ild_run.specs.Fault.{status_of, block_text, input_text, schema_text, value_text, fault_text};
 
 use crate::Status;
+use ild_cbor::BlockWhy;
 use ild_compile::SchemaFault;
 use ild_create::Refusal;
 use ild_data::{BlockId, Octets};
@@ -42,6 +43,7 @@ pub enum Fault {
     Clash(BlockId),
     Memory,
     Value(Refusal),
+    Root(BlockId, BlockWhy),
 }
 
 fn input_text(role: Role, trouble: Trouble) -> &'static [u8]
@@ -87,12 +89,23 @@ fn schema_text(alloc: Global, fault: SchemaFault) -> Result<Octets, AllocError>
     Ok(Octets::from_vec(line))
 }
 
-/// The line of a clash over the block with this id.
-fn clash_text(alloc: Global, id: BlockId) -> Result<Octets, AllocError>
-    ensures { IfOk result (λ line. line ≡ codes "fault 6 clash " ++ (cid_text_of (cid_of id.0) ++ 10 ∷ [])) }
+/// What is wrong with a block under a root, before its CID.
+fn block_text(why: BlockWhy) -> &'static [u8]
+    ensures { result.now ≡ block_text why }
+{
+    match why {
+        BlockWhy::Missing => b"fault 4 root missing ",
+        BlockWhy::Cbor(_) => b"fault 4 root cbor ",
+        BlockWhy::Shape(_) => b"fault 4 root shape ",
+    }
+}
+
+/// A line that ends with the CID of a block.
+fn cid_line(alloc: Global, words: &[u8], id: BlockId) -> Result<Octets, AllocError>
+    ensures { IfOk result (λ line. line ≡ words.now ++ (cid_text_of (cid_of id.0) ++ 10 ∷ [])) }
 {
     let cid = id.text(alloc)?;
-    let mut line = b"fault 6 clash ".to_vec(alloc)?;
+    let mut line = words.to_vec(alloc)?;
     line.extend_from_slice(cid.as_str().as_bytes())?;
     line.push(b'\n')?;
     Ok(Octets::from_vec(line))
@@ -110,7 +123,21 @@ impl Fault {
             Fault::Store | Fault::Clash(_) => Status::StoreFault,
             Fault::Memory => Status::Memory,
             Fault::Value(_) => Status::Value,
+            Fault::Root(_, _) => Status::Root,
         }
+    }
+}
+
+/// Writes a line that ends with the CID of a block.
+fn write_cid_line<W: Sink>(alloc: Global, words: &[u8], id: BlockId, out: &mut W) -> Result<(), Cut>
+    ensures ok { OnOk result (Appends (W.output out.old).written (W.output out.new).written (words.now ++ (cid_text_of (cid_of id.0) ++ 10 ∷ []))) }
+    ensures err { OnErr result (AppendsFront (W.output out.old).written (W.output out.new).written (words.now ++ (cid_text_of (cid_of id.0) ++ 10 ∷ []))) }
+    ensures faults { (W.output out.old).faults ≤ (W.output out.new).faults }
+    ensures sink { IsErrOf result cut.Sink → Rose (W.output out.old).faults (W.output out.new).faults }
+{
+    match cid_line(alloc, words, id) {
+        Ok(line) => write(out, line.as_slice()),
+        Err(_) => Err(Cut::Memory),
     }
 }
 
@@ -130,11 +157,9 @@ pub fn write_fault<W: Sink>(alloc: Global, fault: Fault, out: &mut W) -> Result<
         },
         Fault::Input(role, trouble) => write(out, input_text(role, trouble)),
         Fault::Store => write(out, b"fault 6 store\n"),
-        Fault::Clash(id) => match clash_text(alloc, id) {
-            Ok(line) => write(out, line.as_slice()),
-            Err(_) => Err(Cut::Memory),
-        },
+        Fault::Clash(id) => write_cid_line(alloc, b"fault 6 clash ", id, out),
         Fault::Memory => write(out, b"fault 8 memory\n"),
         Fault::Value(refusal) => write(out, value_text(refusal)),
+        Fault::Root(id, why) => write_cid_line(alloc, block_text(why), id, out),
     }
 }

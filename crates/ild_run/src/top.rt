@@ -1,26 +1,29 @@
 //! The top call.
-ghost use Rattle.std.specs.Prelude.{◌≡◌, ◌≤◌, ◌<◌, length};
+ghost use Rattle.std.specs.Prelude.{◌≡◌, ◌≤◌, ◌<◌, length, Some};
 ghost use Rattle.ild_edges.specs.Inputs.{After};
 ghost use Rattle.ild_edges.specs.Store.{Later};
 ghost use Rattle.ild_run.specs.Words.{job_of};
+ghost use Rattle.ild_run.specs.Opening.{job_seen};
 ghost use Rattle.ild_run.specs.Fault.{cut_status};
 ghost use Rattle.ild_run.specs.Cut.{ToldAs};
 ghost use Rattle.ild_run.specs.Listed.{ListedAs};
 ghost use Rattle.ild_run.specs.Made.{MadeAs, made_fault};
+ghost use Rattle.ild_run.specs.Shown.{Replied, ShownAs};
 ghost use Rattle.ild_run.specs.Ended.{Ended, call_of};
 ghost use Rattle.ild_run.specs.Complete.{IsComplete};
 
 use crate::fault::{Fault, write_fault};
 use crate::listed::names_json;
-use crate::open::{Task, job_of, plan, put_first};
+use crate::open::{Job, Task, job_of, plan, put_first};
 use crate::status::Status;
 use ild_create::{CreateFault, create};
-use ild_data::{Sha256Keys, Txt};
+use ild_data::{BlockId, Sha256Keys, Txt};
 use ild_edges::{Inputs, Sink, Store};
 use ild_plain::PlainMap;
 use ild_schema::{Accepted, TypeNo};
-use ild_script::Reply;
+use ild_script::{No, Reply};
 use ild_session::{Cut, answer_all, write_reply};
+use ild_show::{ShowFault, show};
 use std::alloc::Global;
 
 /// The status of a call whose text was cut off.
@@ -91,23 +94,54 @@ fn make<K: Store, W: Sink>(
     }
 }
 
-/// Does what the words say, and answers how it ended.
-fn carry_out<I: Inputs, K: Store, W: Sink>(
+/// Writes the one reply of a call, and answers how it ended: with this status, if all was written.
+fn reply<W: Sink>(alloc: Global, reply: &Reply, due: Status, out: &mut W) -> Status
+    ensures told { Replied reply.now due (W.output out.old) result (W.output out.new) }
+    ensures faults { (W.output out.old).faults ≤ (W.output out.new).faults }
+{
+    match write_reply(alloc, reply, out) {
+        Ok(()) => due,
+        Err(cut) => cut_status(cut),
+    }
+}
+
+/// Opens the value of a type that stands under a root, writes its JSON, and answers how it ended.
+fn present<K: Store, W: Sink>(
     alloc: Global,
-    words: &[String],
+    schema: &Accepted,
+    ty: TypeNo,
+    root: &BlockId,
+    store: &mut K,
+    out: &mut W,
+) -> Status
+    requires within { ty.0 < length schema.now }
+    ensures { ShownAs schema.now ty root.now.0 (K.moment store.old) (W.output out.old) result (K.moment store.new) (W.output out.new) }
+{
+    // It does no work: its clauses say that the types are a table.
+    schema.types();
+    match show(alloc, schema, ty, root, &Sha256Keys, store) {
+        Ok(json) => reply(alloc, &Reply::Ok(json), Status::Done, out),
+        Err(ShowFault::Reserved) => reply(alloc, &Reply::No(No::Reserved), Status::Refused, out),
+        Err(ShowFault::Block { id, why }) => tell(alloc, Fault::Root(id, why), out),
+        Err(ShowFault::Store) => tell(alloc, Fault::Store, out),
+        Err(ShowFault::Memory) => tell(alloc, Fault::Memory, out),
+    }
+}
+
+/// Does what a job asks for, and answers how it ended.
+fn carry_job<I: Inputs, K: Store, W: Sink>(
+    alloc: Global,
+    job: &Job<'_>,
     inputs: &mut I,
     store: &mut K,
     out: &mut W,
 ) -> Status
-    ensures ended { Ended (call_of (job_of words.now) (I.supply inputs.old) (K.moment store.old) (W.output out.old) (I.supply inputs.new) (K.moment store.new) (W.output out.new)) result }
+    ensures ended { Ended (call_of (Some (job_seen job.now)) (I.supply inputs.old) (K.moment store.old) (W.output out.old) (I.supply inputs.new) (K.moment store.new) (W.output out.new)) result }
     ensures inputs { After (I.supply inputs.old) (I.supply inputs.new) }
     ensures later { Later (K.moment store.old) (K.moment store.new) }
     ensures sink { (W.output out.old).faults ≤ (W.output out.new).faults }
 {
-    let Some(job) = job_of(words) else {
-        return tell(alloc, Fault::Words, out);
-    };
-    let task = match plan(alloc, inputs, &job) {
+    let task = match plan(alloc, inputs, job) {
         Ok(task) => task,
         Err(fault) => return tell(alloc, fault, out),
     };
@@ -117,6 +151,7 @@ fn carry_out<I: Inputs, K: Store, W: Sink>(
         Task::Create(schema, ty, bytes) => {
             return make(alloc, schema, *ty, bytes.as_slice(), store, out);
         }
+        Task::Show(schema, ty, root) => return present(alloc, schema, *ty, root, store, out),
     };
     let mut value = PlainMap::new(alloc);
     if let Err(fault) = put_first(alloc, &value, store) {
@@ -130,12 +165,33 @@ fn carry_out<I: Inputs, K: Store, W: Sink>(
 }
 
 /// Does what the words say, and answers how it ended.
+fn carry_out<I: Inputs, K: Store, W: Sink>(
+    alloc: Global,
+    words: &[String],
+    inputs: &mut I,
+    store: &mut K,
+    out: &mut W,
+) -> Status
+    ensures ended { Ended (call_of (job_of words.now) (I.supply inputs.old) (K.moment store.old) (W.output out.old) (I.supply inputs.new) (K.moment store.new) (W.output out.new)) result }
+    ensures inputs { After (I.supply inputs.old) (I.supply inputs.new) }
+    ensures later { Later (K.moment store.old) (K.moment store.new) }
+    ensures sink { (W.output out.old).faults ≤ (W.output out.new).faults }
+{
+    match job_of(alloc, words) {
+        Ok(Some(job)) => carry_job(alloc, &job, inputs, store, out),
+        Ok(None) => tell(alloc, Fault::Words, out),
+        Err(_) => tell(alloc, Fault::Memory, out),
+    }
+}
+
+/// Does what the words say, and answers how it ended.
 ///
 /// Under `check` a schema is compiled, and the names that it declares are listed, or its first fault is told. Under `run` each
 /// line of the script is answered as the same command is on the plain value of the map, from the empty map on. A root that is
 /// printed is the id of the block built from scratch from the value at that line. A line that is refused changes nothing, and
 /// its cause is there. Under `new` the value of a type that an input means as DAG-JSON is built and put, and its root is printed;
-/// or the first cause is told for which no store holds such a value.
+/// or the first cause is told for which no store holds such a value. Under `show` the value of a type that stands under a root is read
+/// and written as DAG-JSON; or a block is told that isn't held, or isn't what has to stand there, where no such value does.
 pub fn run<I: Inputs, K: Store, W: Sink>(
     alloc: Global,
     words: &[String],

@@ -57,3 +57,10 @@ returns-in-New g c =
     let taken = by_name m c.in-New.field-0.now c.schema.result.now c.in_ok-bytes.bytes (rw c.in-New.is at c.schema.ensures) c.in_ok-bytes.ensures.answer in
     let compiled = rw c.as_slice.ensures.same at c.in_ok-schema.ensures in
     rw c.in-New.is (c.plan_value.ensures m c.in-New.field-0.now c.in_ok-bytes.bytes taken compiled c.in_ok-bytes.ensures.after)
+
+pub returns-in-Show : goal.returns-in-Show
+returns-in-Show g c =
+    let m = g.I.Inputs.supply c.args.inputs.now in
+    let taken = by_name m c.in-Show.field-0.now c.schema.result.now c.in_ok-bytes.bytes (rw c.in-Show.is at c.schema.ensures) c.in_ok-bytes.ensures.answer in
+    let compiled = rw c.as_slice.ensures.same at c.in_ok-schema.ensures in
+    rw c.in-Show.is (c.plan_root.ensures m c.in-Show.field-0.now c.in_ok-bytes.bytes taken compiled c.in_ok-bytes.ensures.after)

@@ -1,83 +1,22 @@
-use Rattle.std.proofs.Common.{option_map, true, false, refl, sym, ap, ◌∙◌}
-use Rattle.ild_session.specs.Session.{resting}
-use Rattle.ild_edges.proofs.Later.{Later-trans}
-use Rattle.ild_run.specs.Words.{job_of}
-use Rattle.ild_run.specs.Opening.{job_seen}
-use Rattle.ild_run.specs.Ended.{Call, call_of}
-use Rattle.ild_run.proofs.Endings.{ended_words, ended_inputs, ended_listed, ended_made, ended_first, ended_done, ended_refused, ended_cut, answered_all, answered_some, cut_cause}
+use Rattle.std.proofs.Common.{Option, None, refl, sym, subst}
+use Rattle.ild_run.specs.Words.{Job, job_of}
+use Rattle.ild_run.specs.Ended.{Call, Ended, call_of}
+use Rattle.ild_run.proofs.Endings.{ended_words, ended_unread}
 use Rattle.ild_run.proofs.top.carry_out.Goals as goal
+
+pub returns-in-Ok-Some-clause-ended : goal.returns-in-Ok-Some-clause-ended
+returns-in-Ok-Some-clause-ended g c =
+    let call : Option Job → Call = λ (job : Option Job). call_of job (g.I.Inputs.supply c.args.inputs.now) (g.K.Store.moment c.args.store.now) (g.W.Sink.output c.args.out.now) (g.I.Inputs.supply c.carry_job.new.inputs) (g.K.Store.moment c.carry_job.new.store) (g.W.Sink.output c.carry_job.new.out) in
+    let asks = rw c.in-Ok-Some.field-0-is at c.in-Ok-Some.ensures in
+    subst (λ (job : Option Job). Ended (call job) c.carry_job.result) asks c.carry_job.ensures.ended
+
+pub returns-in-Ok-None-clause-ended : goal.returns-in-Ok-None-clause-ended
+returns-in-Ok-None-clause-ended g c =
+    let call : Call = call_of (job_of c.args.words.now) (g.I.Inputs.supply c.args.inputs.now) (g.K.Store.moment c.args.store.now) (g.W.Sink.output c.args.out.now) (g.I.Inputs.supply c.args.inputs.now) (g.K.Store.moment c.args.store.now) (g.W.Sink.output c.tell.new.out) in
+    let asks = rw c.in-Ok-None.field-0-is at c.in-Ok-None.ensures in
+    ended_words call c.tell.result (sym asks) refl c.tell.ensures
 
 pub returns-in-Err-clause-ended : goal.returns-in-Err-clause-ended
 returns-in-Err-clause-ended g c =
-    let call : Call = call_of (job_of c.args.words.now) (g.I.Inputs.supply c.args.inputs.now) (g.K.Store.moment c.args.store.now) (g.W.Sink.output c.args.out.now) (g.I.Inputs.supply c.plan.new.inputs) (g.K.Store.moment c.args.store.now) (g.W.Sink.output c.tell-in-Err.new.out) in
-    let opens = c.in-Err.ensures in
-    ended_inputs call (job_seen c.in-Some.job) opens.taking c.in-Err.fault c.tell-in-Err.result (sym c.in-Some.ensures) opens.taken opens.answer refl c.tell-in-Err.ensures
-
-pub returns-in-Err-put_first-clause-ended : goal.returns-in-Err-put_first-clause-ended
-returns-in-Err-put_first-clause-ended g c =
-    let call : Call = call_of (job_of c.args.words.now) (g.I.Inputs.supply c.args.inputs.now) (g.K.Store.moment c.args.store.now) (g.W.Sink.output c.args.out.now) (g.I.Inputs.supply c.plan.new.inputs) (g.K.Store.moment c.put_first.new.store) (g.W.Sink.output c.tell-in-Err-put_first.new.out) in
-    let opens = c.in-Ok.ensures in
-    let work = rw c.in-Answer.is at opens.answer in
-    ended_first call (job_seen c.in-Some.job) opens.taking _ c.new-value.result c.in-Err-put_first.fault c.tell-in-Err-put_first.result
-    (sym c.in-Some.ensures) opens.taken work c.new-value.ensures c.in-Err-put_first.ensures c.tell-in-Err-put_first.ensures
-
-pub returns-in-Ok-true-clause-ended : goal.returns-in-Ok-true-clause-ended
-returns-in-Ok-true-clause-ended g c =
-    let call : Call = call_of (job_of c.args.words.now) (g.I.Inputs.supply c.args.inputs.now) (g.K.Store.moment c.args.store.now) (g.W.Sink.output c.args.out.now) (g.I.Inputs.supply c.plan.new.inputs) (g.K.Store.moment c.answer_all.new.store) (g.W.Sink.output c.answer_all.new.out) in
-    let opens = c.in-Ok.ensures in
-    let work = rw c.in-Answer.is at opens.answer in
-    let done = rw (c.as_slice-2.ensures.same, c.in-Ok-true.field-0-test) at c.in-Ok-true.ensures.done in
-    ended_refused call (job_seen c.in-Some.job) opens.taking (sym c.in-Some.ensures) opens.taken
-    (answered_all call (job_seen c.in-Some.job) opens.taking _ c.new-value.result c.put_first.result c.in_default-put_first.field-0 (g.K.Store.moment c.put_first.new.store) (resting c.answer_all.new.session) true
-    (sym c.in-Some.ensures) work c.new-value.ensures c.in_default-put_first.is c.put_first.ensures done)
-
-pub returns-in-Ok-false-clause-ended : goal.returns-in-Ok-false-clause-ended
-returns-in-Ok-false-clause-ended g c =
-    let call : Call = call_of (job_of c.args.words.now) (g.I.Inputs.supply c.args.inputs.now) (g.K.Store.moment c.args.store.now) (g.W.Sink.output c.args.out.now) (g.I.Inputs.supply c.plan.new.inputs) (g.K.Store.moment c.answer_all.new.store) (g.W.Sink.output c.answer_all.new.out) in
-    let opens = c.in-Ok.ensures in
-    let work = rw c.in-Answer.is at opens.answer in
-    let done = rw (c.as_slice-2.ensures.same, c.in-Ok-false.field-0-test) at c.in-Ok-false.ensures.done in
-    ended_done call (job_seen c.in-Some.job) opens.taking (sym c.in-Some.ensures) opens.taken
-    (answered_all call (job_seen c.in-Some.job) opens.taking _ c.new-value.result c.put_first.result c.in_default-put_first.field-0 (g.K.Store.moment c.put_first.new.store) (resting c.answer_all.new.session) false
-    (sym c.in-Some.ensures) work c.new-value.ensures c.in_default-put_first.is c.put_first.ensures done)
-
-pub returns-clause-ended : goal.returns-clause-ended
-returns-clause-ended g c =
-    let call : Call = call_of (job_of c.args.words.now) (g.I.Inputs.supply c.args.inputs.now) (g.K.Store.moment c.args.store.now) (g.W.Sink.output c.args.out.now) (g.I.Inputs.supply c.plan.new.inputs) (g.K.Store.moment c.answer_all.new.store) (g.W.Sink.output c.answer_all.new.out) in
-    let opens = c.in-Ok.ensures in
-    let work = rw c.in-Answer.is at opens.answer in
-    let cut = rw c.as_slice-2.ensures.same at c.in-Err-answer_all.ensures.part in
-    let some = answered_some call (job_seen c.in-Some.job) opens.taking _ c.new-value.result c.put_first.result c.in_default-put_first.field-0 (g.K.Store.moment c.put_first.new.store) (resting c.answer_all.new.session)
-    (sym c.in-Some.ensures) work c.new-value.ensures c.in_default-put_first.is c.put_first.ensures cut in
-    rw c.cut_status.ensures (ended_cut call (job_seen c.in-Some.job) opens.taking c.in-Err-answer_all.cut (sym c.in-Some.ensures) opens.taken some
-    (cut_cause c.in-Err-answer_all.cut (g.W.Sink.output c.args.out.now) (g.W.Sink.output c.answer_all.new.out) c.in-Err-answer_all.ensures.sink))
-
-pub returns-in-Ok-true-clause-later : goal.returns-in-Ok-true-clause-later
-returns-in-Ok-true-clause-later g c = Later-trans _ (g.K.Store.moment c.put_first.new.store) _ c.put_first.ensures.later c.in-Ok-true.ensures.done.later
-
-pub returns-in-Ok-false-clause-later : goal.returns-in-Ok-false-clause-later
-returns-in-Ok-false-clause-later g c = Later-trans _ (g.K.Store.moment c.put_first.new.store) _ c.put_first.ensures.later c.in-Ok-false.ensures.done.later
-
-pub returns-clause-later : goal.returns-clause-later
-returns-clause-later g c = Later-trans _ (g.K.Store.moment c.put_first.new.store) _ c.put_first.ensures.later c.in-Err-answer_all.ensures.part.later
-
-pub returns-in_default-clause-ended : goal.returns-in_default-clause-ended
-returns-in_default-clause-ended g c =
-    let call : Call = call_of (job_of c.args.words.now) (g.I.Inputs.supply c.args.inputs.now) (g.K.Store.moment c.args.store.now) (g.W.Sink.output c.args.out.now) (g.I.Inputs.supply c.args.inputs.now) (g.K.Store.moment c.args.store.now) (g.W.Sink.output c.tell.new.out) in
-    ended_words call c.tell.result (sym c.job_of.ensures ∙ ap (option_map job_seen) c.in_default.is) refl c.tell.ensures
-
-pub returns-in-List-clause-ended : goal.returns-in-List-clause-ended
-returns-in-List-clause-ended g c =
-    let call : Call = call_of (job_of c.args.words.now) (g.I.Inputs.supply c.args.inputs.now) (g.K.Store.moment c.args.store.now) (g.W.Sink.output c.args.out.now) (g.I.Inputs.supply c.plan.new.inputs) (g.K.Store.moment c.args.store.now) (g.W.Sink.output c.list.new.out) in
-    let opens = c.in-Ok.ensures in
-    let work = rw c.in-List.is at opens.answer in
-    let listed = rw c.names.ensures at c.list.ensures in
-    ended_listed call (job_seen c.in-Some.job) opens.taking _ c.list.result (sym c.in-Some.ensures) opens.taken work refl listed
-
-pub returns-in-Create-clause-ended : goal.returns-in-Create-clause-ended
-returns-in-Create-clause-ended g c =
-    let call : Call = call_of (job_of c.args.words.now) (g.I.Inputs.supply c.args.inputs.now) (g.K.Store.moment c.args.store.now) (g.W.Sink.output c.args.out.now) (g.I.Inputs.supply c.plan.new.inputs) (g.K.Store.moment c.make.new.store) (g.W.Sink.output c.make.new.out) in
-    let opens = c.in-Ok.ensures in
-    let work = rw c.in-Create.is at opens.answer in
-    let made = rw c.as_slice.ensures.same at c.make.ensures in
-    ended_made call (job_seen c.in-Some.job) opens.taking _ _ _ c.make.result (sym c.in-Some.ensures) opens.taken work made
+    let call : Call = call_of (job_of c.args.words.now) (g.I.Inputs.supply c.args.inputs.now) (g.K.Store.moment c.args.store.now) (g.W.Sink.output c.args.out.now) (g.I.Inputs.supply c.args.inputs.now) (g.K.Store.moment c.args.store.now) (g.W.Sink.output c.tell-in-Err.new.out) in
+    ended_unread call c.tell-in-Err.result refl c.tell-in-Err.ensures

@@ -1,0 +1,5 @@
+pub mod Broken
+pub mod Found
+pub mod Item
+pub mod Loaded
+pub mod Opened

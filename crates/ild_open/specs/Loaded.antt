@@ -1,0 +1,64 @@
+-- What loading a view answers: the value at it, all of whose HAMTs the store holds, or the block for which there is none.
+use Rattle.std.specs.Prelude.{◌≡◌, ◌⊎◌, ℕ, ◌+◌, ◌≤◌, List, length, Option, Some, Result, Ok, Err}
+use Rattle.ild_cbor.specs.Nodes.{block_of}
+use Rattle.ild_cbor.specs.declared.piece.Piece.{Piece}
+use Rattle.ild_cbor.specs.declared.piece.Piece.TheVariants as P
+use Rattle.ild_cbor.specs.declared.why.BlockWhy.{BlockWhy}
+use Rattle.ild_cbor.specs.declared.why.BlockWhy.TheVariants as B
+use Rattle.ild_cbor.specs.declared.why.Why.{Why}
+use Rattle.ild_data.specs.Data.{Data}
+use Rattle.ild_data.specs.Spell.{id_of}
+use Rattle.ild_edges.specs.Count.{Rose}
+use Rattle.ild_edges.specs.Store.{Moment, block_at}
+use Rattle.ild_schema.specs.Value.{Value}
+use Rattle.ild_schema.specs.ValueSeen.{value_of}
+use Rattle.ild_schema.specs.declared.number.TypeNo.{TypeNo}
+use Rattle.ild_schema.specs.declared.val.Val.{Val}
+use Rattle.ild_typed.specs.Blocks.{nodes}
+use Rattle.ild_view.specs.Body.{BodyStands}
+use Rattle.ild_view.specs.View.{body_of, piece_of, slot_of, table_of}
+use Rattle.ild_view.specs.declared.view.View.{View}
+use Rattle.ild_walk.specs.Checks.{IsRefusal}
+use Rattle.ild_held.specs.Held.{IsHeld}
+use Rattle.ild_read.specs.Broken.{IsBroken}
+use Rattle.ild_read.specs.Reads.{OnlyReads}
+use Rattle.ild_read.specs.declared.fault.OpenFault.{OpenFault}
+use Rattle.ild_read.specs.declared.fault.OpenFault.TheVariants as F
+
+-- the value at the view that these data represent, where a store holds these blocks
+abbrev pub IsValueAt : (List ℕ → List ℕ) → List (List ℕ) → View → Data → Value → Type 0
+IsValueAt h held view t v = IsHeld (block_at held) h (table_of view) 96 (slot_of view) t v
+
+-- the block in which an item stands
+abbrev pub IsInBlock : Option Piece → List ℕ → Type 0
+IsInBlock (Some (P.Node n)) at = at ≡ id_of (block_of n)
+IsInBlock (Some (P.Inline n u)) at = at ≡ id_of (block_of n)
+IsInBlock p at = ⊥
+
+-- the data need more room than there is
+pub record IsTooDeep (view : View) (t : Data) (at id : List ℕ) (why : BlockWhy) : Type 0 where
+  pub type : TypeNo
+  pub cause : Why
+  pub told_is : why ≡ B.Shape cause
+  pub here : id ≡ at
+  pub refusal : IsRefusal (table_of view) 96 (slot_of view) t type cause
+
+-- why a block is refused: the value nests too deep at the view, or something is wrong with a HAMT in it
+abbrev pub IsRefusedAt : (List ℕ → List ℕ) → View → Moment → Data → List ℕ → BlockWhy → Moment → Type 0
+IsRefusedAt h view m t id why n =
+    (at : List ℕ) × IsInBlock (piece_of view) at
+    × (IsTooDeep view t at id why ⊎ IsBroken h (table_of view) m.blocks m.lacks n.lacks at 96 (slot_of view) t id why)
+
+abbrev pub LoadAnswer : (List ℕ → List ℕ) → View → Moment → Data → Result Val OpenFault → Moment → Type 0
+LoadAnswer h view m t (Ok val) n = (held : List (List ℕ)) → m.blocks ≡ Some held → IsValueAt h held view t (value_of val)
+LoadAnswer h view m t (Err (F.Block id why)) n =
+    ((held : List (List ℕ)) (v : Value) → m.blocks ≡ Some held → IsValueAt h held view t v → ⊥) × IsRefusedAt h view m t id.0 why n
+LoadAnswer h view m t (Err F.Store) n = Rose m.faults n.faults
+LoadAnswer h view m t (Err F.Memory) n = Unit {0}
+
+-- the value at a view is loaded: by gets alone, no more of them than it has nodes of HAMTs
+pub record Loads (h : List ℕ → List ℕ) (view : View) (m : Moment) (result : Result Val OpenFault) (n : Moment) : Type 0 where
+  pub answer : (t : Data) → BodyStands (table_of view) (body_of view) t → LoadAnswer h view m t result n
+  pub only : OnlyReads m n
+  pub gets : (t : Data) (held : List (List ℕ)) (v : Value) → BodyStands (table_of view) (body_of view) t → m.blocks ≡ Some held → IsValueAt h held view t v
+      → n.gets ≤ m.gets + length (nodes h (table_of view) (slot_of view) v)

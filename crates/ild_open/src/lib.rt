@@ -1,0 +1,10 @@
+//! Opening roots: the whole tree of a typed value is read from a store and checked, and the value at a view is loaded (IPLD
+//! Schemas; IPLD HashMap).
+#![tactic(auto)]
+
+mod loading;
+mod opening;
+
+pub use ild_read::OpenFault;
+pub use loading::load;
+pub use opening::{open_root, open_value};

@@ -1,0 +1,138 @@
+-- Where nothing stands in the way, a value that stands under a root is shown.
+use Rattle.std.proofs.Common.{◌≡◌, ◌⊎◌, ℕ, List, Option, Some, None, refl, sym, ap, ◌∙◌, subst, inl, inr}
+use Rattle.ild_compile.specs.Compile.{Verdict, table}
+use Rattle.ild_compile.proofs.OneVerdict.{one_verdict_lem}
+use Rattle.ild_edges.specs.Inputs.{MayBe}
+use Rattle.ild_edges.specs.declared.inputs.Taken.{Taken}
+use Rattle.ild_json.specs.Printing.{json_text}
+use Rattle.ild_schema.specs.Names.{number_named}
+use Rattle.ild_schema.specs.Slots.{plainly}
+use Rattle.ild_schema.specs.Table.{IsTable}
+use Rattle.ild_schema.specs.Value.{Value as Typed}
+use Rattle.ild_schema.specs.declared.number.TypeNo.{TypeNo}
+use Rattle.ild_schema.specs.declared.row.Row.{Row}
+use Rattle.ild_show.specs.Shows.{HasShown, NotOpened}
+use Rattle.ild_show.proofs.OneShown.{shown_stands, none_refused}
+use Rattle.ild_typed.specs.Shown.{shown}
+use Rattle.ild_run.specs.Work.{Work, Taking, ends, lists, answers, makes, opens, root_work, compiled_work, schema_work, job_work, work_of, IsVerdict, IsTaking, AreTaken}
+use Rattle.ild_run.specs.Shown.{hash}
+use Rattle.ild_run.specs.Words.{Job, shows}
+use Rattle.ild_run.specs.Ended.{Call, IsDue, HasScript, HasRoot, Says}
+use Rattle.ild_run.specs.Complete.{IsGivenRoot, LetsShow, ShownBy, ShowsPlainly}
+use Rattle.ild_run.specs.declared.fault.Fault.{Fault}
+use Rattle.ild_run.specs.declared.fault.Fault.TheVariants as F
+use Rattle.ild_run.specs.declared.fault.Role.{Role}
+use Rattle.ild_run.specs.declared.fault.Trouble.TheVariants as T
+use Rattle.ild_run.specs.declared.status.Status.{Status}
+use Rattle.ild_run.specs.declared.status.Status.TheVariants as S
+
+-- ---- the work
+
+abbrev Opening : Work → List Row → TypeNo → List ℕ → Type 0
+Opening w rows n id = (w ≡ opens rows n id) ⊎ (w ≡ ends F.Memory)
+
+abbrev job_in : (c : Call) (v : Typed) → IsGivenRoot c v → Job
+job_in c v given = shows given.schema_name given.type_name given.root
+
+compiled_opens : (c : Call) (v : Typed) (given : IsGivenRoot c v) (input : Role → Taken) (verdict : Option Verdict) → IsVerdict (Taken.Bytes given.schema) verdict
+    → Opening (compiled_work (job_in c v given) verdict input) given.rows given.type given.root
+compiled_opens c v given input None says = inr refl
+compiled_opens c v given input (Some w) says =
+    let one : table given.rows ≡ w = one_verdict_lem given.schema (table given.rows) w given.compiles says in
+    subst (λ (x : Verdict). Opening (compiled_work (job_in c v given) (Some x) input) given.rows given.type given.root) one
+    (inl (ap (λ x. root_work given.rows x given.root) given.named))
+
+job_opens : (c : Call) (v : Typed) (given : IsGivenRoot c v) (t : Taking) → IsTaking (job_in c v given) c.before.supply t → Opening (job_work (job_in c v given) t) given.rows given.type given.root
+job_opens c v given t taken =
+    let job = job_in c v given in
+    let schema_is : t.input Role.Schema ≡ Taken.Bytes given.schema = subst (λ (f : Option (List (List ℕ × List ℕ))). MayBe f given.schema_name (t.input Role.Schema)) given.told (taken.input Role.Schema) ∙ given.schema_held in
+    let same : job_work job t ≡ compiled_work job t.verdict t.input = ap (λ x. schema_work job x t.verdict t.input) schema_is in
+    subst (λ (w : Work). Opening w given.rows given.type given.root) (sym same)
+    (compiled_opens c v given t.input t.verdict (subst (λ (x : Taken). IsVerdict x t.verdict) schema_is taken.verdict))
+
+work_opens : (c : Call) (v : Typed) (given : IsGivenRoot c v) (t : Taking) → AreTaken c.job c.before.supply t → Opening (work_of c.job t) given.rows given.type given.root
+work_opens c v given t taken =
+    subst (λ (w : Work). Opening w given.rows given.type given.root) (sym (ap (λ j. work_of j t) given.job)) (job_opens c v given t (subst (λ (j : Option Job). AreTaken j c.before.supply t) given.job taken))
+
+-- ---- what it is not
+
+no_end : (w : Work) (f : Fault) (rows : List Row) (n : TypeNo) (id : List ℕ) → Opening w rows n id → (f ≡ F.Memory → ⊥) → w ≡ ends f → ⊥
+no_end w f rows n id (inl is) other ended = let e : opens rows n id ≡ ends f = sym is ∙ ended in cc
+no_end w f rows n id (inr is) other ended = other (let e : ends F.Memory ≡ ends f = sym is ∙ ended in cc)
+
+no_script : (w : Work) (rows : List Row) (n : TypeNo) (id : List ℕ) → Opening w rows n id → HasScript w → ⊥
+no_script w rows n id (inl is) has = subst HasScript is has
+no_script w rows n id (inr is) has = subst HasScript is has
+
+no_answers : (w : Work) (rows : List Row) (n : TypeNo) (id lines : List ℕ) → Opening w rows n id → w ≡ answers lines → ⊥
+no_answers w rows n id lines is work = no_script w rows n id is (subst HasScript (sym work) tt)
+
+no_list : (w : Work) (names : List (List ℕ)) (rows : List Row) (n : TypeNo) (id : List ℕ) → Opening w rows n id → w ≡ lists names → ⊥
+no_list w names rows n id (inl is) listed = let e : opens rows n id ≡ lists names = sym is ∙ listed in cc
+no_list w names rows n id (inr is) listed = let e : ends F.Memory ≡ lists names = sym is ∙ listed in cc
+
+no_value : (w : Work) (made : List Row) (m : TypeNo) (b : List ℕ) (rows : List Row) (n : TypeNo) (id : List ℕ) → Opening w rows n id → w ≡ makes made m b → ⊥
+no_value w made m b rows n id (inl is) work = let e : opens rows n id ≡ makes made m b = sym is ∙ work in cc
+no_value w made m b rows n id (inr is) work = let e : ends F.Memory ≡ makes made m b = sym is ∙ work in cc
+
+-- what is said of the root that is opened
+abbrev OfOpened : (List Row → TypeNo → List ℕ → Type 0) → Work → Type 0
+OfOpened P (opens rows n id) = P rows n id
+OfOpened P (ends f) = ⊥
+OfOpened P (lists names) = ⊥
+OfOpened P (answers b) = ⊥
+OfOpened P (makes rows n b) = ⊥
+
+said : (P : List Row → TypeNo → List ℕ → Type 0) (w : Work) (rows opened : List Row) (n m : TypeNo) (id j : List ℕ) → Opening w rows n id → w ≡ opens opened m j → P opened m j → P rows n id
+said P w rows opened n m id j (inl is) work p = subst (OfOpened P) (sym work ∙ is) p
+said P w rows opened n m id j (inr is) work p = absurd (subst (OfOpened P) (sym work ∙ is) p)
+
+-- ---- the value
+
+-- of an accepted table
+record IsOfTable (P : List Row → TypeNo → List ℕ → Type 0) (rows : List Row) (n : TypeNo) (id : List ℕ) : Type 0 where
+  table : IsTable rows
+  holds : P rows n id
+
+no_fault : (c : Call) (v : Typed) (given : IsGivenRoot c v) → LetsShow c → (t : Taking) (f : Fault) → AreTaken c.job c.before.supply t → IsDue c t f → f ≡ F.Memory
+no_fault c v given calm t F.Memory taken due = refl
+no_fault c v given calm t F.Words taken due = absurd (no_end (work_of c.job t) F.Words given.rows given.type given.root (work_opens c v given t taken) (λ e. cc) due)
+no_fault c v given calm t F.NotBuilt taken due = absurd (no_end (work_of c.job t) F.NotBuilt given.rows given.type given.root (work_opens c v given t taken) (λ e. cc) due)
+no_fault c v given calm t (F.Schema f) taken due = absurd (no_end (work_of c.job t) (F.Schema f) given.rows given.type given.root (work_opens c v given t taken) (λ e. cc) due)
+no_fault c v given calm t (F.Input role T.Failed) taken due = absurd (calm.inputs due.0)
+no_fault c v given calm t (F.Input role T.Absent) taken due = absurd (no_end (work_of c.job t) (F.Input role T.Absent) given.rows given.type given.root (work_opens c v given t taken) (λ e. cc) due.0)
+no_fault c v given calm t (F.Input role T.Long) taken due = absurd (no_end (work_of c.job t) (F.Input role T.Long) given.rows given.type given.root (work_opens c v given t taken) (λ e. cc) due.0)
+no_fault c v given calm t F.Store taken due = absurd (calm.store due.0)
+no_fault c v given calm t (F.Clash id) taken (inl due) = absurd (no_script (work_of c.job t) given.rows given.type given.root (work_opens c v given t taken) due.2)
+no_fault c v given calm t (F.Clash id) taken (inr clash) = absurd (no_value (work_of c.job t) clash.rows clash.type clash.bytes given.rows given.type given.root (work_opens c v given t taken) clash.work)
+no_fault c v given calm t (F.Value r) taken due = absurd (no_value (work_of c.job t) due.rows due.type due.bytes given.rows given.type given.root (work_opens c v given t taken) due.work)
+no_fault c v given calm t (F.Root id why) taken due =
+    let P : List Row → TypeNo → List ℕ → Type 0 = λ rows n root. NotOpened hash rows n root c.before.moment id.0 why c.after.moment in
+    let it = said P (work_of c.job t) given.rows due.rows given.type due.type given.root due.root (work_opens c v given t taken) due.work due.refused in
+    absurd (none_refused hash given.rows given.type given.root v c.before.moment c.after.moment id.0 why given.held given.store given.stands it)
+
+-- the JSON is that of this value's shown form
+same_json : (c : Call) (v : Typed) (given : IsGivenRoot c v) (t : Taking) (json : Option (List ℕ)) → AreTaken c.job c.before.supply t → HasRoot c t json → json_text (shown given.rows (plainly given.type) v) ≡ json
+same_json c v given t json taken has =
+    let P : List Row → TypeNo → List ℕ → Type 0 = IsOfTable (λ rows n root. HasShown hash rows n root c.before.moment json) in
+    let it = said P (work_of c.job t) given.rows has.rows given.type has.type given.root has.root (work_opens c v given t taken) has.work (record { table = has.table; holds = has.shown }) in
+    shown_stands hash given.rows (record { table = it.table; accepted = given.compiles.accepted }) given.type given.root v c.before.moment json given.held given.store given.stands it.holds
+
+pub shown_by : (c : Call) (v : Typed) (given : IsGivenRoot c v) → LetsShow c → (t : Taking) (status : Status) → AreTaken c.job c.before.supply t → Says c t status → (status ≡ S.Memory) ⊎ ShowsPlainly c given.rows given.type v status
+shown_by c v given calm t S.Done taken (inl all) = absurd (no_answers (work_of c.job t) given.rows given.type given.root all.bytes (work_opens c v given t taken) all.work)
+shown_by c v given calm t S.Done taken (inr (inl listed)) = absurd (no_list (work_of c.job t) listed.names given.rows given.type given.root (work_opens c v given t taken) listed.work)
+shown_by c v given calm t S.Done taken (inr (inr (inl made))) = absurd (no_value (work_of c.job t) made.rows made.type made.bytes given.rows given.type given.root (work_opens c v given t taken) made.work)
+shown_by c v given calm t S.Done taken (inr (inr (inr there))) =
+    inr (subst (ShownBy c S.Done) (sym (same_json c v given t (Some there.0) taken there.1.has)) (refl, there.1.written))
+shown_by c v given calm t S.Refused taken (inl all) = absurd (no_answers (work_of c.job t) given.rows given.type given.root all.bytes (work_opens c v given t taken) all.work)
+shown_by c v given calm t S.Refused taken (inr there) = inr (subst (ShownBy c S.Refused) (sym (same_json c v given t None taken there.has)) (refl, there.written))
+shown_by c v given calm t S.Memory taken says = inl refl
+shown_by c v given calm t S.SinkFault taken says = absurd (calm.sink says.0)
+shown_by c v given calm t S.Words taken says = absurd (let e = no_fault c v given calm t F.Words taken says.due in cc)
+shown_by c v given calm t S.Schema taken (inl tells) = absurd (let e = no_fault c v given calm t F.NotBuilt taken tells.due in cc)
+shown_by c v given calm t S.Schema taken (inr tells) = absurd (let e = no_fault c v given calm t (F.Schema tells.0) taken tells.1.due in cc)
+shown_by c v given calm t S.Input taken says = absurd (let e = no_fault c v given calm t (F.Input says.0 says.1) taken says.2.due in cc)
+shown_by c v given calm t S.StoreFault taken (inl tells) = absurd (let e = no_fault c v given calm t F.Store taken tells.due in cc)
+shown_by c v given calm t S.StoreFault taken (inr tells) = absurd (let e = no_fault c v given calm t (F.Clash tells.0) taken tells.1.due in cc)
+shown_by c v given calm t S.Root taken says = absurd (let e = no_fault c v given calm t (F.Root says.0 says.1) taken says.2.due in cc)
+shown_by c v given calm t S.Value taken says = absurd (let e = no_fault c v given calm t (F.Value says.0) taken says.1.due in cc)
