@@ -36,7 +36,7 @@ behind_head block from to H B rest h end same =
     record { fits = omega arith; place = omega arith; holds = record { before = h.before ++ H; after = h.after; is = is; place = omega arith } }
 
 -- a piece between two others, where value begins with it, and after is behind it
-record Pieces (block : List ℕ) (from : ℕ) (P D M value after : List ℕ) : Type 0 where
+pub record Pieces (block : List ℕ) (from : ℕ) (P D M value after : List ℕ) : Type 0 where
   pub value_fits : length value ≤ length block
   pub fits : length after ≤ length block
   pub value_place : length block - length value ≡ from + length P
@@ -44,7 +44,7 @@ record Pieces (block : List ℕ) (from : ℕ) (P D M value after : List ℕ) : T
   pub first : Holds block (from + length P) D
   pub others : Holds block (length block - length after) M
 
-pieces : (block : List ℕ) (from : ℕ) (S P D M value after : List ℕ) (h : Holds block from S) → S ++ h.after ≡ P ++ (D ++ (M ++ h.after)) → value ≡ D ++ (M ++ h.after) → after ≡ M ++ h.after → Pieces block from P D M value after
+pub pieces : (block : List ℕ) (from : ℕ) (S P D M value after : List ℕ) (h : Holds block from S) → S ++ h.after ≡ P ++ (D ++ (M ++ h.after)) → value ≡ D ++ (M ++ h.after) → after ≡ M ++ h.after → Pieces block from P D M value after
 pieces block from S P D M value after h cut value_is after_is =
     let N : List ℕ = M ++ h.after in
     let start = h.place in
@@ -66,7 +66,7 @@ pieces block from S P D M value after h cut value_is after_is =
       others = record { before = (h.before ++ P) ++ D; after = h.after; is = to_first ∙ sym (append_assoc (h.before ++ P) D N); place = omega arith };
     }
 
-held_at : (block piece : List ℕ) (i j : ℕ) → Holds block i piece → i ≡ j → Holds block j piece
+pub held_at : (block piece : List ℕ) (i j : ℕ) → Holds block i piece → i ≡ j → Holds block j piece
 held_at block piece i j h e = subst (λ (k : ℕ). Holds block k piece) e h
 
 -- ---- items

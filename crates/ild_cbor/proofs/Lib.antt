@@ -7,8 +7,12 @@ pub mod Taken
 pub mod Blocks
 pub mod Shapes
 pub mod Spans
+pub mod Firsts
+pub mod Leaves
 pub mod Passes
 pub mod Insides
 pub mod Around
+pub mod Halves
 pub mod Searches
 pub mod Iterations
+pub mod Unfolding

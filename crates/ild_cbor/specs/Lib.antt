@@ -6,8 +6,10 @@ pub mod Scalar
 pub mod OfHead
 pub mod Shape
 pub mod Row
+pub mod Chain
 pub mod Passing
 pub mod Search
 pub mod Nodes
+pub mod Pairing
 pub mod Steps
 pub mod Laws

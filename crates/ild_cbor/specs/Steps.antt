@@ -8,6 +8,7 @@ use Rattle.ild_cbor.specs.declared.items.Items.{Items as ItemsLeft}
 use Rattle.ild_cbor.specs.declared.pairs.Pairs.{Pairs}
 use Rattle.ild_cbor.specs.Nodes.{Stands, block_of, start_of}
 use Rattle.ild_cbor.specs.Spelled.{SpellsItems, SpellsMembers}
+use Rattle.ild_cbor.specs.Chain.{chain}
 
 -- ---- the items of a list
 
@@ -49,6 +50,28 @@ FindsItems n (Some ds) (Some s) = IteratesItems n ds s
 FindsItems n None None = Unit {0}
 FindsItems n (Some ds) None = ⊥
 FindsItems n None (Some s) = ⊥
+
+-- the items of the next one, a list, stand in its place, and the iterator behind its head
+pub record Unfolded (s : ItemsLeft) (es ds : Items) (n : ℕ) (t : ItemsLeft) : Type 0 where
+  pub count : length (items_list es) ≡ n
+  pub left : HasItems t (chain es ds)
+  pub same_block : t.block.now ≡ s.block.now
+  pub place : t.from ≡ s.from + length (head 4 n)
+
+-- how many they are, or nothing is changed where it is no list
+abbrev pub UnfoldStep : ItemsLeft → Items → Option Items → Option ℕ → ItemsLeft → Type 0
+UnfoldStep s ds (Some es) (Some n) t = Unfolded s es ds n t
+UnfoldStep s ds None None t = t ≡ s
+UnfoldStep s ds (Some es) None t = ⊥
+UnfoldStep s ds None (Some n) t = ⊥
+
+abbrev pub UnfoldFirst : ItemsLeft → Items → Option ℕ → ItemsLeft → Type 0
+UnfoldFirst s no_items None t = t ≡ s
+UnfoldFirst s no_items (Some n) t = ⊥
+UnfoldFirst s (item d ds) r t = UnfoldStep s ds (items_of d) r t
+
+abbrev pub Unfolds : ItemsLeft → Option ℕ → ItemsLeft → Type 0
+Unfolds s r t = (ds : Items) → HasItems s ds → UnfoldFirst s ds r t
 
 -- ---- the entries of a map
 

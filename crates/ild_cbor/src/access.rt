@@ -48,8 +48,10 @@ impl<'b> Node<'b> {
     pub fn kind(&self) -> Kind
         ensures { (t : Data) → Stands self.now t → result ≡ kind_of t }
     {
-        let start = self.start();
-        kind_at(start.major, start.argument)
+        match self.spelling() {
+            [] => Kind::Null,
+            [first, ..] => kind_at(*first / 32, (*first % 32) as u64),
+        }
     }
 
     /// The truth value, or `None` where the item is of another kind.

@@ -3,7 +3,7 @@ ghost use Rattle.std.specs.Prelude.{◌≡◌};
 ghost use Rattle.std.specs.Iterator.{at_most};
 ghost use Rattle.ild_data.specs.Data.{Data};
 ghost use Rattle.ild_cbor.specs.Nodes.{Stands};
-ghost use Rattle.ild_cbor.specs.Steps.{ItemsGive, EntriesGive, FindsItems, FindsEntries, items_of, members_of};
+ghost use Rattle.ild_cbor.specs.Steps.{ItemsGive, EntriesGive, FindsItems, FindsEntries, Unfolds, items_of, members_of};
 
 use crate::items::Items;
 use crate::node::Node;
@@ -11,6 +11,7 @@ use crate::pairs::Pairs;
 use crate::scalar::known_text;
 use crate::search::first_key;
 use crate::skip::skip;
+use crate::start::Start;
 
 impl<'b> Node<'b> {
     /// The items of a list in order, or `None` where this item is no list.
@@ -41,6 +42,28 @@ impl<'b> Node<'b> {
             from: self.to - start.rest.len(),
             left: start.argument,
         })
+    }
+}
+
+impl<'b> Items<'b> {
+    /// Where the next item is a list, its own items stand in its place from now on: how many they are. Else nothing is changed.
+    pub fn unfold(&mut self) -> Option<u64>
+        ensures { Unfolds self.old result self.new }
+    {
+        if self.left == 0 {
+            return None;
+        }
+        let start = Start::of(&self.block[self.from..]);
+        if start.major != 4 {
+            return None;
+        }
+        let behind = self.block.len() - start.rest.len();
+        *self = Items {
+            block: self.block,
+            from: behind,
+            left: (self.left - 1).saturating_add(start.argument),
+        };
+        Some(start.argument)
     }
 }
 

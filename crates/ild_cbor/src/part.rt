@@ -3,6 +3,7 @@ ghost use Rattle.std.specs.Prelude.{◌≡◌, ◌++◌, List, length};
 ghost use Rattle.ild_data.specs.Data.{Data, items_of, list};
 ghost use Rattle.ild_cbor.specs.Nodes.{Stands, IsPart, Finds, HasPart, HasLast, AreAround};
 ghost use Rattle.ild_cbor.specs.Span.{place_of, item_of, entry_of, index_of};
+ghost use Rattle.ild_cbor.specs.Pairing.{FindsPair};
 
 use crate::node::Node;
 use crate::search::value_from;
@@ -47,6 +48,23 @@ impl<'b> Node<'b> {
             return Some(self.last(rest));
         }
         Some(self.part(rest))
+    }
+
+    /// The two items of a list of two, or `None` where this item is none.
+    pub fn pair(&self) -> Option<(Node<'b>, Node<'b>)>
+        ensures { (t : Data) → Stands self.now t → FindsPair self.now t result }
+    {
+        let start = self.start();
+        if start.major != 4 || start.argument != 2 {
+            return None;
+        }
+        let rest = skip(start.rest, 1);
+        let first = Node {
+            block: self.block,
+            from: self.to - start.rest.len(),
+            to: self.to - rest.len(),
+        };
+        Some((first, self.last(rest)))
     }
 
     /// What stands in a list before `m` of its items from number `i` on, and what stands behind them, as it is spelled.

@@ -49,6 +49,7 @@ fn is_at(passed: Option<&str>, key: &str) -> bool
 }
 
 /// The entries of a map in order, or `None` where the data are no map.
+#[inline(always)]
 pub fn entries<'b>(acc: &'b Accepted, piece: &Piece<'b>) -> Option<MapEntries<'b>>
     requires { IsNumbered acc.now piece.now }
     ensures { (t : Data) → StandsFor acc.now piece.now t → Maps (members_in t) result }

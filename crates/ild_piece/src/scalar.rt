@@ -10,6 +10,7 @@ use ild_cbor::{Kind, Piece};
 use ild_data::Int;
 
 /// The kind of the data.
+#[inline(always)]
 pub fn kind(piece: &Piece<'_>) -> Kind
     ensures { (rows : List Row) (t : Data) → StandsFor rows piece.now t → result ≡ kind_of t }
 {
