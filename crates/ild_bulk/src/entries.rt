@@ -25,6 +25,18 @@ pub(crate) struct Entries {
     pub(crate) marks: Vec<Mark>,
 }
 
+// No entry yet, with room for the marks of so many.
+fn none_yet(alloc: Global, count: usize) -> Result<Entries, AllocError>
+    ensures { (h : List ℕ → List ℕ) → IfOk result (HasEntries h []) }
+{
+    let mut marks = Vec::new(alloc);
+    marks.reserve(count)?;
+    Ok(Entries {
+        out: Emit::new(alloc),
+        marks,
+    })
+}
+
 // Appends an entry.
 fn add(entries: &mut Entries, row: &Row, hash: [u8; 32]) -> Result<(), AllocError>
     ensures { (h : List ℕ → List ℕ) (es : List (List ℕ × Data)) → HasEntries h es entries.old → hash ≡ h (row_seen row.now).0
@@ -45,10 +57,7 @@ pub(crate) fn entries_of<H: KeyHash>(
 ) -> Result<Entries, AllocError>
     ensures { IfOk result (HasEntries H.hash_of (rows_seen rows.now)) }
 {
-    let mut entries = Entries {
-        out: Emit::new(alloc),
-        marks: Vec::new(alloc),
-    };
+    let mut entries = none_yet(alloc, rows.len())?;
     for row in rows {
         let hash = keys.hash(row.key.as_str().as_bytes());
         add(&mut entries, row, hash)?;
@@ -60,10 +69,7 @@ pub(crate) fn entries_of<H: KeyHash>(
 pub(crate) fn entries_with(alloc: Global, rows: &[Keyed<'_>]) -> Result<Entries, AllocError>
     ensures { (h : List ℕ → List ℕ) → AreKeyed h rows.now → IfOk result (HasEntries h (keyed_rows rows.now)) }
 {
-    let mut entries = Entries {
-        out: Emit::new(alloc),
-        marks: Vec::new(alloc),
-    };
+    let mut entries = none_yet(alloc, rows.len())?;
     for keyed in rows {
         add(&mut entries, keyed.row, keyed.hash)?;
     }

@@ -1,5 +1,5 @@
 //! The nodes of a HAMT, before any is put.
-ghost use Rattle.std.specs.Prelude.{◌≡◌, ◌^◌, ◌-◌, ◌<◌, ◌≤◌, ◌==◌, [], List, ℕ, IfOk, length};
+ghost use Rattle.std.specs.Prelude.{◌≡◌, ◌^◌, ◌-◌, ◌<◌, ◌≤◌, ◌==◌, [], List, ℕ, IfOk, OnOk, length};
 ghost use Rattle.std.specs.List.{filter};
 ghost use Rattle.ild_data.specs.Data.{Data};
 ghost use Rattle.ild_data.specs.Trie.{TrieSlot};
@@ -17,12 +17,9 @@ use crate::entries::{entries_with, pieces};
 use crate::planned::PlannedBlock;
 use ild_data::Octets;
 use ild_node::{
-    BUCKET_SIZE, Draft, HamtFault, HashedEntry, Keyed, LEVELS, NewHold, Rows, index_of,
+    BUCKET_SIZE, Draft, HamtFault, HashedEntry, Keyed, LEVELS, NewHold, Rows, SLOTS, index_of,
 };
 use std::alloc::{AllocError, Global};
-
-/// How many slots a node has.
-const SLOTS: usize = 256;
 
 /// So many entries at most are looked through for each index that they have.
 const FEW: usize = 24;
@@ -67,23 +64,23 @@ fn parted<'r>(
     Ok(parts)
 }
 
-// The entries of one index at a depth.
+// Leaves the entries of one index at a depth in a vector that is used again.
 fn part_of<'r>(
-    alloc: Global,
     entries: &[HashedEntry<'r>],
     depth: u32,
     i: usize,
-) -> Result<Vec<HashedEntry<'r>>, AllocError>
+    part: &mut Vec<HashedEntry<'r>>,
+) -> Result<(), AllocError>
     requires { depth < trie_levels usual }
-    ensures { IfOk result (λ part. part.items ≡ hashed_part usual depth entries.now i) }
+    ensures { OnOk result (part.new.items ≡ hashed_part usual depth entries.now i) }
 {
-    let mut part = Vec::new(alloc);
+    part.clear();
     for entry in entries {
         if index_of(&entry.hash, depth) as usize == i {
             part.push(*entry)?;
         }
     }
-    Ok(part)
+    Ok(())
 }
 
 // The lesser of two indices, where the first isn't below a bound.
@@ -191,9 +188,10 @@ fn plan_few<'r>(
         → PlansNode h usual (trie_levels usual - depth) depth es result blocks.old.items blocks.new.items }
 {
     let mut draft = Draft::new(alloc);
+    let mut part = Vec::new(alloc);
     let mut i = next_index(entries, depth, 0);
     while i < SLOTS {
-        let part = part_of(alloc, entries, depth, i)?;
+        part_of(entries, depth, i, &mut part)?;
         plan_part(alloc, &part, depth + 1, i as u8, spare, &mut draft, blocks)?;
         i = next_index(entries, depth, i + 1);
     }

@@ -1,11 +1,10 @@
 -- Steps of the loops over the items of buckets and nodes.
 use Rattle.std.proofs.Common.{◌≡◌, ℕ, zero, suc, ◌+◌, ◌-◌, ◌<◌, ◌≤◌, ◌&&◌, Bool, true, false, not, cond, List, [], ◌∷◌, length, map, drop, Option, Some, None, refl, sym, ap, ◌∙◌, subst, arith}
 use Rattle.std.specs.Prelude.{slice_get}
-use Rattle.std.specs.Borrow.{Bor}
 use Rattle.std.specs.Option.{is_none}
 use Rattle.std.specs.Ordering.{eq_by_cmp}
 use Rattle.std.specs.FinMap.{find}
-use Rattle.std.proofs.lemmas.Bool.{false_from_ne_true}
+use Rattle.std.proofs.lemmas.Bool.{false_from_ne_true, false≢true}
 use Rattle.ild_data.specs.Data.{Data, bytes, Items, no_items, item}
 use Rattle.ild_cbor.specs.declared.node.Node.{Node}
 use Rattle.ild_cbor.specs.declared.items.Items.{Items as ItemsLeft}
@@ -17,75 +16,13 @@ use Rattle.ild_data.specs.ByteOrder.{bytewise}
 use Rattle.ild_data.specs.Trie.{entry_data}
 use Rattle.ild_trie.proofs.Parts.{same_key, key_itself}
 use Rattle.ild_node.specs.Form.{bucket_data}
-use Rattle.ild_typed.specs.NodeReading.{pair_in, entry_in, rises, goes_on, are_entries, element_fits, elements_fit, map_bit, map_bits}
+use Rattle.ild_typed.specs.NodeReading.{pair_in, elements_fit, map_bit, map_bits}
 use Rattle.ild_node.specs.Items.{IsAtItem}
-use Rattle.ild_node.specs.Parts.{PairIs, EntryIn}
+use Rattle.ild_node.specs.Parts.{PairIs}
 use Rattle.ild_node.specs.Places.{value_place}
+use Rattle.ild_node.specs.Told.{ElementTold}
 use Rattle.ild_node.specs.Views.{ValueIn}
 use Rattle.ild_node.proofs.Iter.{part-of, iter-step, iter-end}
-
--- ---- entries
-
-abbrev pub Reads : Node → Option (Bor (List ℕ) × Node) → Type 0
-Reads n r = (d : Data) → Stands n d → EntryIn n d (entry_in d) r
-
-pub record EntriesLeft (s : ItemsLeft) (last : Option (List ℕ)) (ds : Items) : Type 0 where
-  pub more : Items
-  pub left : HasItems s more
-  pub same : are_entries ds None ≡ are_entries more last
-
-entry_on : (n : Node) (t : Data) (o : Option (List ℕ × Data)) (r : Bor (List ℕ) × Node) (last : Option (List ℕ)) (rest : Option (List ℕ) → Bool) → EntryIn n t o (Some r) → rises last r.0.now ≡ true → goes_on last o rest ≡ rest (Some r.0.now)
-entry_on n t None r last rest is up = absurd is
-entry_on n t (Some e) r last rest is up =
-    let keys : e.0 ≡ r.0.now = sym is.0 in
-    let above : rises last e.0 ≡ true = ap (rises last) keys ∙ up in
-    λ i. above i && rest (Some (keys i))
-
-entry_falls : (n : Node) (t : Data) (o : Option (List ℕ × Data)) (r : Bor (List ℕ) × Node) (last : Option (List ℕ)) (rest : Option (List ℕ) → Bool) → EntryIn n t o (Some r) → rises last r.0.now ≡ false → goes_on last o rest ≡ false
-entry_falls n t None r last rest is down = refl
-entry_falls n t (Some e) r last rest is down = ap (λ b. b && rest (Some e.0)) (ap (rises last) (sym is.0) ∙ down)
-
-entry_missing : (n : Node) (t : Data) (o : Option (List ℕ × Data)) (last : Option (List ℕ)) (rest : Option (List ℕ) → Bool) → EntryIn n t o None → goes_on last o rest ≡ false
-entry_missing n t None last rest is = refl
-entry_missing n t (Some e) last rest is = absurd is
-
-step_at : (s t : ItemsLeft) (n : Node) (last : Option (List ℕ)) (ds more : Items) (r : Bor (List ℕ) × Node) → HasItems s more → are_entries ds None ≡ are_entries more last
-    → ItemsGive s (Some n) t → Reads n (Some r) → rises last r.0.now ≡ true → EntriesLeft t (Some r.0.now) ds
-step_at s t n last ds no_items r left same gives reads up = absurd (gives no_items left)
-step_at s t n last ds (item d more) r left same gives reads up =
-    let step = gives (item d more) left in
-    record { more = more; left = step.left; same = same ∙ entry_on n d (entry_in d) r last (are_entries more) (reads d step.stands) up }
-
-pub entries_step : (s t : ItemsLeft) (n : Node) (last : Option (List ℕ)) (ds : Items) (r : Bor (List ℕ) × Node) → EntriesLeft s last ds
-    → ItemsGive s (Some n) t → Reads n (Some r) → rises last r.0.now ≡ true → EntriesLeft t (Some r.0.now) ds
-entries_step s t n last ds r l gives reads up = step_at s t n last ds l.more r l.left l.same gives reads up
-
-falls_at : (s t : ItemsLeft) (n : Node) (last : Option (List ℕ)) (ds more : Items) (r : Bor (List ℕ) × Node) → HasItems s more → are_entries ds None ≡ are_entries more last
-    → ItemsGive s (Some n) t → Reads n (Some r) → rises last r.0.now ≡ false → false ≡ are_entries ds None
-falls_at s t n last ds no_items r left same gives reads down = absurd (gives no_items left)
-falls_at s t n last ds (item d more) r left same gives reads down =
-    sym (same ∙ entry_falls n d (entry_in d) r last (are_entries more) (reads d (gives (item d more) left).stands) down)
-
-pub entries_fall : (s t : ItemsLeft) (n : Node) (last : Option (List ℕ)) (ds : Items) (r : Bor (List ℕ) × Node) → EntriesLeft s last ds
-    → ItemsGive s (Some n) t → Reads n (Some r) → rises last r.0.now ≡ false → false ≡ are_entries ds None
-entries_fall s t n last ds r l gives reads down = falls_at s t n last ds l.more r l.left l.same gives reads down
-
-missing_at : (s t : ItemsLeft) (n : Node) (last : Option (List ℕ)) (ds more : Items) → HasItems s more → are_entries ds None ≡ are_entries more last
-    → ItemsGive s (Some n) t → Reads n None → false ≡ are_entries ds None
-missing_at s t n last ds no_items left same gives reads = absurd (gives no_items left)
-missing_at s t n last ds (item d more) left same gives reads =
-    sym (same ∙ entry_missing n d (entry_in d) last (are_entries more) (reads d (gives (item d more) left).stands))
-
-pub entries_missing : (s t : ItemsLeft) (n : Node) (last : Option (List ℕ)) (ds : Items) → EntriesLeft s last ds
-    → ItemsGive s (Some n) t → Reads n None → false ≡ are_entries ds None
-entries_missing s t n last ds l gives reads = missing_at s t n last ds l.more l.left l.same gives reads
-
-done_at : (s t : ItemsLeft) (last : Option (List ℕ)) (ds more : Items) → HasItems s more → are_entries ds None ≡ are_entries more last → ItemsGive s None t → true ≡ are_entries ds None
-done_at s t last ds no_items left same gives = sym same
-done_at s t last ds (item d more) left same gives = absurd (gives (item d more) left)
-
-pub entries_done : (s t : ItemsLeft) (last : Option (List ℕ)) (ds : Items) → EntriesLeft s last ds → ItemsGive s None t → true ≡ are_entries ds None
-entries_done s t last ds l gives = done_at s t last ds l.more l.left l.same gives
 
 -- ---- the value at a key
 
@@ -199,37 +136,28 @@ fit_on : (most : ℕ) (ones : List ℕ) (slots i : ℕ) (ds more : Items) → el
 fit_on most ones slots i ds more same lt on =
     same ∙ ap (λ bits. elements_fit most bits more) (bits_more ones slots i lt ∙ ap (λ b. b ∷ map_bits ones (i + 1) (slots - (i + 1))) on)
 
-element_step_at : (s t : ItemsLeft) (n : Node) (most : ℕ) (ones : List ℕ) (slots i : ℕ) (ds more : Items) → HasItems s more → elements_fit most (map_bits ones 0 slots) ds ≡ elements_fit most (true ∷ map_bits ones (i + 1) (slots - (i + 1))) more
-    → ItemsGive s (Some n) t → ((d : Data) → Stands n d → true ≡ element_fits most d) → ElementsLeft t most ones slots (i + 1) ds
-element_step_at s t n most ones slots i ds no_items left same gives fits = absurd (gives no_items left)
-element_step_at s t n most ones slots i ds (item d more) left same gives fits =
-    let step = gives (item d more) left in
-    record { more = more; left = step.left; same = same ∙ ap (λ b. b && elements_fit most (map_bits ones (i + 1) (slots - (i + 1))) more) (sym (fits d step.stands)) }
+element_step_at : (s t : ItemsLeft) (most : ℕ) (ones : List ℕ) (slots i : ℕ) (ds more : Items) (b : Bool) → HasItems s more → elements_fit most (map_bits ones 0 slots) ds ≡ elements_fit most (true ∷ map_bits ones (i + 1) (slots - (i + 1))) more
+    → ((es : Items) → HasItems s es → ElementTold most es b t) → b ≡ true → ElementsLeft t most ones slots (i + 1) ds
+element_step_at s t most ones slots i ds no_items b left same tells said = absurd (false≢true (sym (tells no_items left) ∙ said))
+element_step_at s t most ones slots i ds (item d more) b left same tells said =
+    let told = tells (item d more) left in
+    record { more = more; left = told.left said; same = same ∙ ap (λ c. c && elements_fit most (map_bits ones (i + 1) (slots - (i + 1))) more) (sym told.same ∙ said) }
 
-pub elements_step : (s t : ItemsLeft) (n : Node) (most : ℕ) (ones : List ℕ) (slots i : ℕ) (ds : Items) → ElementsLeft s most ones slots i ds → i < slots → map_bit ones i ≡ true
-    → ItemsGive s (Some n) t → ((d : Data) → Stands n d → true ≡ element_fits most d) → ElementsLeft t most ones slots (i + 1) ds
-elements_step s t n most ones slots i ds l lt on gives fits =
-    element_step_at s t n most ones slots i ds l.more l.left (fit_on most ones slots i ds l.more l.same lt on) gives fits
+pub elements_step : (s t : ItemsLeft) (most : ℕ) (ones : List ℕ) (slots i : ℕ) (ds : Items) (b : Bool) → ElementsLeft s most ones slots i ds → i < slots → map_bit ones i ≡ true
+    → ((es : Items) → HasItems s es → ElementTold most es b t) → b ≡ true → ElementsLeft t most ones slots (i + 1) ds
+elements_step s t most ones slots i ds b l lt on tells said =
+    element_step_at s t most ones slots i ds l.more b l.left (fit_on most ones slots i ds l.more l.same lt on) tells said
 
-element_other_at : (s t : ItemsLeft) (n : Node) (most : ℕ) (ones : List ℕ) (slots i : ℕ) (ds more : Items) → HasItems s more → elements_fit most (map_bits ones 0 slots) ds ≡ elements_fit most (true ∷ map_bits ones (i + 1) (slots - (i + 1))) more
-    → ItemsGive s (Some n) t → ((d : Data) → Stands n d → false ≡ element_fits most d) → false ≡ elements_fit most (map_bits ones 0 slots) ds
-element_other_at s t n most ones slots i ds no_items left same gives fits = absurd (gives no_items left)
-element_other_at s t n most ones slots i ds (item d more) left same gives fits =
-    sym (same ∙ ap (λ b. b && elements_fit most (map_bits ones (i + 1) (slots - (i + 1))) more) (sym (fits d (gives (item d more) left).stands)))
+element_other_at : (s t : ItemsLeft) (most : ℕ) (ones : List ℕ) (slots i : ℕ) (ds more : Items) (b : Bool) → HasItems s more → elements_fit most (map_bits ones 0 slots) ds ≡ elements_fit most (true ∷ map_bits ones (i + 1) (slots - (i + 1))) more
+    → ((es : Items) → HasItems s es → ElementTold most es b t) → b ≡ false → false ≡ elements_fit most (map_bits ones 0 slots) ds
+element_other_at s t most ones slots i ds no_items b left same tells no_element = sym same
+element_other_at s t most ones slots i ds (item d more) b left same tells no_element =
+    sym (same ∙ ap (λ c. c && elements_fit most (map_bits ones (i + 1) (slots - (i + 1))) more) (sym (tells (item d more) left).same ∙ no_element))
 
-pub elements_other : (s t : ItemsLeft) (n : Node) (most : ℕ) (ones : List ℕ) (slots i : ℕ) (ds : Items) → ElementsLeft s most ones slots i ds → i < slots → map_bit ones i ≡ true
-    → ItemsGive s (Some n) t → ((d : Data) → Stands n d → false ≡ element_fits most d) → false ≡ elements_fit most (map_bits ones 0 slots) ds
-elements_other s t n most ones slots i ds l lt on gives fits =
-    element_other_at s t n most ones slots i ds l.more l.left (fit_on most ones slots i ds l.more l.same lt on) gives fits
-
-element_missing_at : (s t : ItemsLeft) (most : ℕ) (ones : List ℕ) (slots i : ℕ) (ds more : Items) → HasItems s more → elements_fit most (map_bits ones 0 slots) ds ≡ elements_fit most (true ∷ map_bits ones (i + 1) (slots - (i + 1))) more
-    → ItemsGive s None t → false ≡ elements_fit most (map_bits ones 0 slots) ds
-element_missing_at s t most ones slots i ds no_items left same gives = sym same
-element_missing_at s t most ones slots i ds (item d more) left same gives = absurd (gives (item d more) left)
-
-pub elements_missing : (s t : ItemsLeft) (most : ℕ) (ones : List ℕ) (slots i : ℕ) (ds : Items) → ElementsLeft s most ones slots i ds → i < slots → map_bit ones i ≡ true
-    → ItemsGive s None t → false ≡ elements_fit most (map_bits ones 0 slots) ds
-elements_missing s t most ones slots i ds l lt on gives = element_missing_at s t most ones slots i ds l.more l.left (fit_on most ones slots i ds l.more l.same lt on) gives
+pub elements_other : (s t : ItemsLeft) (most : ℕ) (ones : List ℕ) (slots i : ℕ) (ds : Items) (b : Bool) → ElementsLeft s most ones slots i ds → i < slots → map_bit ones i ≡ true
+    → ((es : Items) → HasItems s es → ElementTold most es b t) → b ≡ false → false ≡ elements_fit most (map_bits ones 0 slots) ds
+elements_other s t most ones slots i ds b l lt on tells no_element =
+    element_other_at s t most ones slots i ds l.more b l.left (fit_on most ones slots i ds l.more l.same lt on) tells no_element
 
 elements_end_at : (s t : ItemsLeft) (most : ℕ) (ds more : Items) (bits : List Bool) (o : Option Node) (b : Bool) → HasItems s more → elements_fit most bits ds ≡ elements_fit most [] more
     → ItemsGive s o t → b ≡ is_none o → b ≡ elements_fit most bits ds

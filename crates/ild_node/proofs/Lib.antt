@@ -3,6 +3,7 @@ pub mod Entries
 pub mod Trees
 pub mod Fits
 pub mod Left
+pub mod Telling
 pub mod InSlot
 pub mod Pushing
 pub mod Rooting

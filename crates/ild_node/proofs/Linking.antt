@@ -1,14 +1,12 @@
 -- The CID of a block, told by its length and its first four bytes.
-use Rattle.std.proofs.Common.{◌≡◌, ℕ, ◌==◌, Bool, true, List, [], ◌∷◌, length, drop, get_or, Some, None, refl, ap, ◌∙◌, arith}
+use Rattle.std.proofs.Common.{◌≡◌, ℕ, ◌==◌, Bool, true, List, [], ◌∷◌, length, drop, get_or, ap, ◌∙◌, arith}
 use Rattle.std.specs.Prelude.{◌&&◌, false}
 use Rattle.std.specs.Ordering.{eq_by_cmp}
 use Rattle.std.specs.Cmp.{both_ways}
 use Rattle.std.proofs.lemmas.Bool.{and_parts, eqb-true, false_from_ne_true}
 use Rattle.ild_data.specs.ByteOrder.{bytewise}
-use Rattle.ild_data.specs.Data.{Data, link, list}
 use Rattle.ild_data.specs.Spell.{cid_of}
-use Rattle.ild_cbor.specs.Scalar.{link_of}
-use Rattle.ild_typed.specs.NodeReading.{links_block, bucket_fits, element_fits}
+use Rattle.ild_typed.specs.NodeReading.{links_block}
 use Rattle.ild_typed.proofs.NodeElements.{block-link, link-read}
 
 abbrev first_are : List ℕ → Bool
@@ -34,12 +32,3 @@ links-first (a ∷ b ∷ c ∷ d ∷ t) long = both_ways (first_are (a ∷ b ∷
 
 pub links-other : (s : List ℕ) → (length s ≡ 36 → ⊥) → links_block s ≡ false
 links-other s short = false_from_ne_true (links_block s) (λ e. short (eqb-true (length s) 36 (and_parts (length s == 36) (eq_by_cmp bytewise s (cid_of (drop 4 s))) e).0))
-
-pub element-link : (most : ℕ) (t : Data) (cid : List ℕ) → Some cid ≡ link_of t → links_block cid ≡ element_fits most t
-element-link most (link s) cid is = let same : cid ≡ s = cc in ap links_block same
-element-link most t cid is = absurd cc
-
-pub element-other : (most : ℕ) (t : Data) → None ≡ link_of t → bucket_fits most t ≡ element_fits most t
-element-other most (link s) is = absurd cc
-element-other most (list ds) is = refl
-element-other most t is = refl

@@ -2,6 +2,7 @@ pub mod Form
 pub mod Places
 pub mod Reading
 pub mod Parts
+pub mod Told
 pub mod Items
 pub mod Views
 pub mod Steps

@@ -9,6 +9,9 @@ pub const LEVELS: u32 = 32;
 /// How many entries a bucket takes.
 pub const BUCKET_SIZE: usize = 3;
 
+/// How many slots a node has.
+pub const SLOTS: usize = 256;
+
 /// The index of a hash at a depth, its next eight bits, or `None` where the levels are used up.
 pub fn index(hash: &[u8; 32], depth: u32) -> Option<u8>
     ensures { result ≡ index_at usual hash.now depth }

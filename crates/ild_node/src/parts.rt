@@ -7,13 +7,14 @@ ghost use Rattle.ild_cbor.specs.Scalar.{bytes_of};
 ghost use Rattle.ild_cbor.specs.Steps.{HasItems};
 ghost use Rattle.ild_data.specs.ByteOrder.{bytewise};
 ghost use Rattle.ild_data.specs.Trie.{entry_data};
-ghost use Rattle.ild_typed.specs.NodeReading.{text_in, pair_in, entry_in, rises, are_entries, bucket_fits, child_in, links_block, element_fits, map_bit, map_bits, elements_fit, parts_fit};
+ghost use Rattle.ild_typed.specs.NodeReading.{text_in, pair_in, entry_in, rises, child_in, links_block, map_bit, map_bits, elements_fit, parts_fit};
 ghost use Rattle.ild_node.specs.Reading.{byte_ones, ones_below};
 ghost use Rattle.ild_node.specs.Items.{IsAtItem};
 ghost use Rattle.ild_node.specs.Parts.{PairIs, EntryIn, shape_of};
 ghost use Rattle.ild_node.specs.Views.{ValueIn};
 
 use crate::shape::HamtShape;
+use crate::told::next_element;
 use ild_cbor::{Items, Node};
 use ild_data::BlockId;
 
@@ -24,16 +25,11 @@ const BLOCK_CID: usize = 36;
 pub(crate) fn pair_in<'b>(node: &Node<'b>) -> Option<(Node<'b>, Node<'b>)>
     ensures { (t : Data) → Stands node.now t → PairIs node.now t (pair_in t) result }
 {
-    if node.count() != Some(2) {
-        return None;
-    }
-    match (node.item(0), node.item(1)) {
-        (Some(first), Some(second)) => Some((first, second)),
-        _ => None,
-    }
+    node.pair()
 }
 
-fn text_in(bytes: &[u8]) -> Option<&str>
+/// Bytes as a text.
+pub(crate) fn text_in(bytes: &[u8]) -> Option<&str>
     ensures { option_map (λ s. s.now) result ≡ text_in bytes.now }
 {
     match str::from_utf8(bytes) {
@@ -53,32 +49,14 @@ pub(crate) fn entry_in<'b>(node: &Node<'b>) -> Option<(&'b str, Node<'b>)>
     }
 }
 
-fn rises(last: Option<&str>, key: &str) -> bool
+/// Whether a key stands above the last one, if there is one.
+pub fn rises(last: Option<&str>, key: &str) -> bool
     ensures { result ≡ rises (option_map (λ s. s.now) last.entry) key.now }
 {
     match last {
         None => true,
         Some(last) => last < key,
     }
-}
-
-// Whether the items are entries whose keys rise.
-fn are_entries(items: Items<'_>) -> bool
-    ensures { (ds : DataItems) → HasItems items.entry ds → result ≡ are_entries ds None }
-{
-    let mut last = None;
-    for item in items {
-        match entry_in(&item) {
-            Some((key, _)) => {
-                if !rises(last, key) {
-                    return false;
-                }
-                last = Some(key);
-            }
-            None => return false,
-        }
-    }
-    true
 }
 
 // Whether an item is this byte string.
@@ -104,18 +82,8 @@ pub(crate) fn value_at<'b>(bucket: &Node<'b>, entries: Items<'b>, key: &[u8]) ->
     None
 }
 
-/// Whether an item is a bucket of this many entries at most.
-pub(crate) fn bucket_fits(node: &Node<'_>, most: u32) -> bool
-    ensures { (t : Data) → Stands node.now t → result ≡ bucket_fits most t }
-{
-    match (node.count(), node.items()) {
-        (Some(count), Some(items)) => 0 < count && count <= most as u64 && are_entries(items),
-        _ => false,
-    }
-}
-
-/// The id of the block that a link leads to.
-pub(crate) fn child_in(node: &Node<'_>) -> Option<BlockId>
+/// The id of the block that a link leads to, where the item is such a link.
+pub fn child_in(node: &Node<'_>) -> Option<BlockId>
     ensures { (t : Data) → Stands node.now t → option_map (λ id. id.0) result ≡ child_in t }
 {
     match node.link() {
@@ -124,8 +92,8 @@ pub(crate) fn child_in(node: &Node<'_>) -> Option<BlockId>
     }
 }
 
-// Whether a CID is that of a block: version 1, dag-cbor, and sha2-256 of 32 bytes.
-fn links_block(cid: &[u8]) -> bool
+/// Whether a CID is that of a block: version 1, dag-cbor, and sha2-256 of 32 bytes.
+pub(crate) fn links_block(cid: &[u8]) -> bool
     ensures { result ≡ links_block cid.now }
 {
     if cid.len() != BLOCK_CID {
@@ -134,17 +102,8 @@ fn links_block(cid: &[u8]) -> bool
     (cid[0] == 0x01) & (cid[1] == 0x71) & (cid[2] == 0x12) & (cid[3] == 0x20)
 }
 
-fn element_fits(node: &Node<'_>, most: u32) -> bool
-    ensures { (t : Data) → Stands node.now t → result ≡ element_fits most t }
-{
-    match node.link() {
-        Some(cid) => links_block(cid.whole()),
-        None => bucket_fits(node, most),
-    }
-}
-
-/// Whether the bit of a slot is set.
-pub(crate) fn map_bit(ones: &[u8], i: usize) -> bool
+/// Whether the bit of a slot is set in the map of a node.
+pub fn map_bit(ones: &[u8], i: usize) -> bool
     ensures { result ≡ map_bit ones.now i }
 {
     match ones.get(i / 8) {
@@ -188,13 +147,8 @@ fn elements_fit(ones: &[u8], slots: usize, most: u32, elements: Items<'_>) -> bo
     for i in 0..slots {
         let on = map_bit(ones, i);
         if on {
-            match elements.next() {
-                Some(element) => {
-                    if !element_fits(&element, most) {
-                        return false;
-                    }
-                }
-                None => return false,
+            if !next_element(&mut elements, most) {
+                return false;
             }
         }
     }

@@ -56,6 +56,7 @@ fn map_of(alloc: Global, used: &[bool]) -> Result<Vec<u8>, AllocError>
     ensures { IfOk result (λ m. m.items ≡ bytes_of_bits used.now) }
 {
     let mut map = Vec::new(alloc);
+    map.reserve(used.len() / 8)?;
     for j in 0..used.len() / 8 {
         map.push(byte_of(&used[8 * j..8 * j + 8]))?;
     }

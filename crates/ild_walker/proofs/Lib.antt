@@ -1,5 +1,6 @@
 pub mod Opening
 pub mod Lying
+pub mod Adding
 pub mod Stepping
 pub mod OneNode
 pub mod Spending

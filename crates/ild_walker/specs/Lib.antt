@@ -5,8 +5,7 @@ pub mod Reads
 pub mod Standing
 pub mod Pieces
 pub mod Steps
-pub mod Shown
-pub mod Gathered
+pub mod Told
 pub mod Fetching
 pub mod Ahead
 pub mod Checked

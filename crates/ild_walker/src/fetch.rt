@@ -1,121 +1,20 @@
-//! Reading a node as the steps that a walk does in it.
-ghost use Rattle.std.specs.Prelude.{◌≡◌, ◌++◌, ◌∷◌, ◌+◌, [], Some, ℕ, List, map, slice_get, IfOk, OnOk};
-ghost use Rattle.ild_data.specs.Data.{Data};
+//! Reading a node of a store as the steps that a walk does in it.
+ghost use Rattle.std.specs.Prelude.{◌≡◌, List, IfOk};
 ghost use Rattle.ild_data.specs.Trie.{TrieSlot};
 ghost use Rattle.ild_typed.specs.Composed.{usual};
-ghost use Rattle.ild_node.specs.Views.{HasEntries, HasSlots};
+ghost use Rattle.ild_node.specs.Views.{HasSlots};
 ghost use Rattle.ild_walker.specs.Fetching.{Fetches, ReadsBlock};
-ghost use Rattle.ild_node.specs.declared.view.NodeView.{NodeView};
-ghost use Rattle.ild_walker.specs.Gathered.{Gathered, HasBucketIn, HasNodeIn, SlotIn, StandsBefore};
-ghost use Rattle.ild_walker.specs.Shown.{Shows};
-ghost use Rattle.ild_walker.specs.Steps.{step_todo, steps_todo};
-ghost use Rattle.ild_walker.specs.Todo.{give, slot_todo, node_todo};
+ghost use Rattle.ild_walker.specs.Steps.{steps_todo};
+ghost use Rattle.ild_walker.specs.Todo.{node_todo};
 
-use crate::step::{Child, Entry, Step};
-use ild_cbor::{BlockWhy, check, known_root};
+use crate::read::steps_in;
+use crate::step::Step;
+use ild_cbor::{BlockWhy, Why, check, known_root};
 use ild_data::{BlockId, Octets};
 use ild_edges::{EdgeErr, Store};
-use ild_node::{Bucket, HamtFault, NodeSlot, NodeView, Slots, Spelled, node_of};
+use ild_node::{HamtFault, NodeView, Spelled};
 use std::alloc::{AllocError, Global};
 use std::rc::Rc;
-
-/// How many slots a node has.
-const SLOTS: usize = 256;
-
-// Appends the entry at a place of a bucket, which stands in this block.
-fn add_entry(
-    held: &Rc<Octets>,
-    steps: &mut Vec<Step>,
-    bucket: Bucket<'_>,
-    i: usize,
-    index: u8,
-) -> Result<(), AllocError>
-    requires { HasBucketIn held.now.value bucket }
-    ensures { (es : List (List ℕ × Data)) (e : List ℕ × Data) → HasEntries bucket.entry es → slice_get es i ≡ Some e → OnOk result (map step_todo steps.new.items ≡ map step_todo steps.old.items ++ give e.0 e.1 index ∷ []) }
-{
-    match bucket.entry(i) {
-        Some((key, value)) => {
-            let (middle, size) = value.span();
-            let held = held.clone()?;
-            let entry = Entry {
-                held,
-                from: middle - key.len(),
-                middle,
-                to: middle + size,
-                index,
-            };
-            steps.push(Step::Give(entry))?;
-            Ok(())
-        }
-        None => Ok(()),
-    }
-}
-
-// Appends the entries of a bucket.
-fn add_bucket(
-    held: &Rc<Octets>,
-    steps: &mut Vec<Step>,
-    bucket: Bucket<'_>,
-    index: u8,
-) -> Result<(), AllocError>
-    requires { HasBucketIn held.now.value bucket }
-    ensures { (es : List (List ℕ × Data)) → HasEntries bucket.entry es → OnOk result (map step_todo steps.new.items ≡ map step_todo steps.old.items ++ map (λ e. give e.0 e.1 index) es) }
-{
-    for i in 0..bucket.len() {
-        add_entry(held, steps, bucket, i, index)?;
-    }
-    Ok(())
-}
-
-// Appends the steps of a slot.
-fn add_slot(
-    held: &Rc<Octets>,
-    steps: &mut Vec<Step>,
-    slot: NodeSlot<'_>,
-    index: u8,
-) -> Result<(), AllocError>
-    requires { SlotIn held.now.value slot }
-    ensures { (s : TrieSlot) → Shows slot.entry s → OnOk result (map step_todo steps.new.items ≡ map step_todo steps.old.items ++ slot_todo index s) }
-{
-    match slot {
-        NodeSlot::Empty => Ok(()),
-        NodeSlot::Bucket(bucket) => add_bucket(held, steps, bucket, index),
-        NodeSlot::Child(id) => {
-            steps.push(Step::Enter(Child { id, index }))?;
-            Ok(())
-        }
-    }
-}
-
-// Appends the steps of the next slot.
-fn add_next(
-    held: &Rc<Octets>,
-    steps: &mut Vec<Step>,
-    slots: &mut Slots<'_>,
-    index: u8,
-) -> Result<(), AllocError>
-    requires { StandsBefore held.now.value index slots.old }
-    ensures { (v : NodeView) (ss : List TrieSlot) → HasSlots usual v ss → Gathered v ss index slots.old steps.old.items → OnOk result (Gathered v ss (index + 1) slots.new steps.new.items) }
-{
-    match slots.next() {
-        Some(slot) => add_slot(held, steps, slot, index),
-        None => Ok(()),
-    }
-}
-
-// The steps of a node in this block, the first behind the others.
-fn steps_in(alloc: Global, held: &Rc<Octets>, view: NodeView<'_>) -> Result<Vec<Step>, AllocError>
-    requires { HasNodeIn held.now.value view }
-    ensures { (slots : List TrieSlot) → HasSlots usual view.entry slots → IfOk result (λ steps. steps_todo steps.items ≡ node_todo 0 slots) }
-{
-    let mut steps = Vec::new(alloc);
-    let mut slots = view.slots();
-    for i in 0..SLOTS {
-        add_next(held, &mut steps, &mut slots, i as u8)?;
-    }
-    steps.reverse();
-    Ok(steps)
-}
 
 /// The steps of a root, of whose node a copy is made.
 pub(crate) fn root_steps(alloc: Global, root: NodeView<'_>) -> Result<Vec<Step>, AllocError>
@@ -123,9 +22,9 @@ pub(crate) fn root_steps(alloc: Global, root: NodeView<'_>) -> Result<Vec<Step>,
 {
     let node = Spelled::of(alloc, &root.node())?;
     let held = Rc::new(alloc, node.into_octets())?;
-    match node_of(known_root(held.as_slice())) {
-        Ok(view) => steps_in(alloc, &held, view),
-        Err(_) => Err(AllocError),
+    match steps_in(alloc, &held, known_root(held.as_slice()))? {
+        Some(steps) => Ok(steps),
+        None => Err(AllocError),
     }
 }
 
@@ -134,11 +33,11 @@ fn steps_at(alloc: Global, id: &BlockId, held: &Rc<Octets>) -> Result<Vec<Step>,
     ensures { ReadsBlock id.now.0 held.now.value result }
 {
     match check(held.as_slice()) {
-        Ok(node) => match node_of(node) {
-            Ok(view) => Ok(steps_in(alloc, held, view)?),
-            Err(why) => Err(HamtFault::Block {
+        Ok(node) => match steps_in(alloc, held, node)? {
+            Some(steps) => Ok(steps),
+            None => Err(HamtFault::Block {
                 id: *id,
-                why: BlockWhy::Shape(why),
+                why: BlockWhy::Shape(Why::Trie),
             }),
         },
         Err(fault) => Err(HamtFault::Block {

@@ -7,6 +7,7 @@ mod entry;
 mod fetch;
 mod laws;
 mod list;
+mod read;
 mod row;
 mod step;
 mod walker;

@@ -56,7 +56,7 @@ plan_few-loop-i-preserved t c = record {
       let here = hashed-part h usual c.args.depth es c.args.entries.now c.loop-i.i are in
       let step = plans-step h usual c.args.depth es c.loop-i.i c.loop-i.draft c.plan_part.new.draft c.args.blocks.now.items c.loop-i.blocks.items c.plan_part.new.blocks.items was
       (c.in_ok-plan_part.ensures h (part (at_depth h usual c.args.depth) es c.loop-i.i)
-      (subst (λ (ks : List HashedEntry). AreHashed h (part (at_depth h usual c.args.depth) es c.loop-i.i) ks) (sym (c.deref.ensures.value ∙ c.in_ok-part.ensures)) here)
+      (subst (λ (ks : List HashedEntry). AreHashed h (part (at_depth h usual c.args.depth) es c.loop-i.i) ks) (sym (c.deref.ensures.value ∙ c.in_ok-part_of.ensures)) here)
       (rows-part (at_depth h usual c.args.depth) es c.loop-i.i rows) was.slots was.written was.many) in
       plans-skip h usual c.args.depth es c.args.entries.now (c.loop-i.i + 1) c.next_index-i-in-loop-i.result c.plan_part.new.draft c.args.blocks.now.items c.plan_part.new.blocks.items are step
       (c.next_index-i-in-loop-i.ensures.from (omega arith)) c.next_index-i-in-loop-i.ensures.most c.next_index-i-in-loop-i.ensures.none;
@@ -69,7 +69,7 @@ plan_few-returns-in_err-plan_part t c = λ h es are rows.
     let here = hashed-part h usual c.args.depth es c.args.entries.now c.loop-i.i are in
     rw (p.1, p.2) (plans-stop h usual c.args.depth es c.loop-i.i c.in_err-plan_part.field-0.0 c.args.blocks.now.items c.plan_part.new.blocks.items c.loop-i.blocks.items c.plan_part.new.blocks.items (omega arith) (omega arith) was.slots c.plan_part.new.draft
     (c.in_err-plan_part.ensures h (part (at_depth h usual c.args.depth) es c.loop-i.i)
-    (subst (λ (ks : List HashedEntry). AreHashed h (part (at_depth h usual c.args.depth) es c.loop-i.i) ks) (sym (c.deref.ensures.value ∙ c.in_ok-part.ensures)) here)
+    (subst (λ (ks : List HashedEntry). AreHashed h (part (at_depth h usual c.args.depth) es c.loop-i.i) ks) (sym (c.deref.ensures.value ∙ c.in_ok-part_of.ensures)) here)
     (rows-part (at_depth h usual c.args.depth) es c.loop-i.i rows) was.slots was.written was.many))
 
 pub plan_few-returns : goal.plan_few-returns

@@ -1,7 +1,7 @@
-use Rattle.std.proofs.Common.{◌≡◌, refl, sym, ap, ◌∙◌, subst}
+use Rattle.std.proofs.Common.{◌≡◌, refl, sym, ◌∙◌, subst}
 use Rattle.ild_data.specs.Spell.{spell}
 use Rattle.ild_data.specs.Trie.{node_data}
-use Rattle.ild_cbor.specs.Nodes.{block_of, Stands}
+use Rattle.ild_cbor.specs.Nodes.{Stands}
 use Rattle.ild_cbor.specs.declared.node.Node.{Node}
 use Rattle.ild_cbor.proofs.Blocks.{block_again}
 use Rattle.ild_walker.proofs.Lying.{root-block}
@@ -19,13 +19,13 @@ steps_in-requires c =
     let held : c.as_slice.result.now ≡ c.in_ok-held.held.value = c.as_slice.ensures.same ∙ c.deref.ensures in
     let same : c.as_slice.result.now ≡ spell n = held ∙ c.in_ok-held.ensures.ok ∙ c.into_octets.ensures in
     let root = c.known_root.ensures n (root-block c.as_slice.result.now n n c.in_ok-node.ensures.within same refl) in
-    let s = c.in-Ok.ensures.found n root.stands in
-    record { slots = s.0; has = s.2; here = ap block_of c.in-Ok.ensures.item ∙ root.block_is ∙ held }
+    record { of = n; stands = root.stands; here = root.block_is ∙ held }
 
-pub returns-in-Ok : goal.returns-in-Ok
-returns-in-Ok c = λ slots has.
+pub returns-in-Some : goal.returns-in-Some
+returns-in-Some c = λ slots has.
     let n = c.in_ok-node.node in
     let same : c.as_slice.result.now ≡ spell n = c.as_slice.ensures.same ∙ c.deref.ensures ∙ c.in_ok-held.ensures.ok ∙ c.into_octets.ensures in
     let is : n ≡ node_data slots = c.in_ok-node.ensures.same (node_data slots) (subst (λ (m : Node). Stands m (node_data slots)) (sym c.node.ensures) has.stands) in
     let root = c.known_root.ensures (node_data slots) (root-block c.as_slice.result.now n (node_data slots) c.in_ok-node.ensures.within same is) in
-    c.steps_in.ensures slots (c.in-Ok.ensures.only slots root.stands has.form).1
+    let told = rw c.in-Some.is at c.in_ok-steps.ensures (node_data slots) root.stands in
+    told.1 slots refl has.form
