@@ -34,6 +34,7 @@ impl Notes {
     }
 
     /// The same, at the place of the name's field.
+    #[inline(always)]
     pub(crate) fn note_placed(&mut self, fields: &Fields<'_>, place: usize, value: &Piece<'_>)
         requires { place ≤ length fields.now.def.now.fields }
         ensures { AreNamesApart fields.now.def.now.fields → (name : List ℕ) → place ≡ place_of fields.now.def.now.fields name → (rows : List Row) (d : Data) → StandsFor rows value.now d → (ks : List (List ℕ)) (es : List (List ℕ × Data)) → Noted fields.now.def.now.fields ks es self.old → Noted fields.now.def.now.fields (ks ++ name ∷ []) (es ++ (name, d) ∷ []) self.new }

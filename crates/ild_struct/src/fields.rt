@@ -56,9 +56,9 @@ impl Fields<'_> {
         }
     }
 
-    /// The same of a name in a map, and where in the key order the name behind it is guessed. The keys of a block's map rise,
-    /// and so do the names of the fields in that order: the next few are asked first, and then a name is searched among all.
-    pub(crate) fn place_by_key(&self, name: &str, order: &[usize], guess: usize) -> (usize, usize)
+    // The same, where the guess may be wrong: the next few are asked, and then a name is searched among all.
+    #[inline(never)]
+    fn search_by_key(&self, name: &str, order: &[usize], guess: usize) -> (usize, usize)
         ensures place { AreNamesApart self.now.def.now.fields → result.0 ≡ place_of self.now.def.now.fields name.now }
         ensures within { result.0 ≤ length self.now.def.now.fields }
     {
@@ -70,6 +70,20 @@ impl Fields<'_> {
         match named_in_order(fields, order, at, name) {
             Some(place) => (place, at.saturating_add(1)),
             None => (self.look_up(name), at),
+        }
+    }
+
+    /// The same of a name in a map, and where in the key order the name behind it is guessed. The keys of a block's map rise,
+    /// and so do the names of the fields in that order: the guessed one is asked first.
+    #[inline(always)]
+    pub(crate) fn place_by_key(&self, name: &str, order: &[usize], guess: usize) -> (usize, usize)
+        ensures place { AreNamesApart self.now.def.now.fields → result.0 ≡ place_of self.now.def.now.fields name.now }
+        ensures within { result.0 ≤ length self.now.def.now.fields }
+    {
+        let fields = self.def.fields.as_slice();
+        match named_in_order(fields, order, guess, name) {
+            Some(place) => (place, guess.saturating_add(1)),
+            None => self.search_by_key(name, order, guess),
         }
     }
 

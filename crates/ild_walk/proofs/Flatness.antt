@@ -7,7 +7,6 @@ use Rattle.std.proofs.lemmas.Option.{same_Some, none-some}
 use Rattle.ild_data.specs.Data as T
 use Rattle.ild_data.specs.Data.{Data, depth, items_depth, members_depth}
 use Rattle.ild_data.specs.Key.{put, value_at}
-use Rattle.ild_data.specs.Trie as Trie
 use Rattle.ild_schema.specs.declared.number.Slot.{Slot}
 use Rattle.ild_schema.specs.declared.number.TypeNo.{TypeNo}
 use Rattle.ild_schema.specs.declared.def.TypeDef.{TypeDef}
@@ -28,17 +27,15 @@ use Rattle.ild_schema.specs.DataKinds.{same_kind}
 use Rattle.ild_schema.specs.Hex.{bytes_of_hex}
 use Rattle.ild_schema.specs.Marks.{text_of as mark_text, kind_of as mark_kind}
 use Rattle.ild_schema.specs.Slots.{plainly}
-use Rattle.ild_typed.specs.Composed.{usual, composed, map_form, struct_form, inlined, marked_form, member_form, union_form}
+use Rattle.ild_typed.specs.Composed.{composed, map_form, struct_form, inlined, marked_form, member_form, union_form}
 use Rattle.ild_typed.specs.Fields.{is_implicit, field_entries, tuple_items, all_items}
 use Rattle.ild_typed.specs.Hamt.{alone}
 use Rattle.ild_typed.specs.Kinds.{kind_of}
 use Rattle.ild_typed.specs.Levels.{struct_levels}
 use Rattle.ild_typed.specs.Layer as L
 use Rattle.ild_typed.specs.Layer.{Layer, as_list, as_map, as_struct, as_union}
-use Rattle.ild_typed.specs.Node.{IsRoot}
 use Rattle.ild_typed.specs.Pieces.{needs}
 use Rattle.ild_typed.specs.Refused.{AreParts}
-use Rattle.ild_typed.specs.RootSpots.{root_spots}
 use Rattle.ild_typed.specs.Slots.{slot_of}
 use Rattle.ild_typed.specs.Spots.{Spot, value_spot, entry_spots, field_steps, field_spots, member_spots, spots_of}
 use Rattle.ild_typed.specs.Strings.{text_in, bytes_in, members_in, texts_in, text_pairs, in_key_order, map_data, listpairs, stringpairs, stringjoin}
@@ -46,7 +43,7 @@ use Rattle.ild_typed.specs.Texts.{join, join_pairs}
 use Rattle.ild_typed.proofs.Basics.{then_from, map_from, true_from}
 use Rattle.ild_typed.proofs.Entries.{both_from, only_text_data, only_bytes_data}
 use Rattle.ild_typed.proofs.OneValue.{plain_safe}
-use Rattle.ild_typed.proofs.Onlies.{only_list, only_struct, only_union}
+use Rattle.ild_typed.proofs.Onlies.{only_struct, only_union}
 use Rattle.ild_typed.proofs.Structs.{scalar_data, scalar_same, written, field_from}
 
 abbrev pub IsFlat : Data → Type 0

@@ -10,6 +10,9 @@ pub mod Texting
 pub mod Stepping
 pub mod Structing
 pub mod Walking
+pub mod Passing
+pub mod Digesting
+pub mod Sweeping
 pub mod Flatness
 pub mod Spreading
 pub mod Stacking

@@ -56,7 +56,7 @@ empty_list n d s t list no_more =
     let is : d ≡ T.list T.no_items = named.is ∙ ap T.list (item_end s named.items t no_more named.left) in
     (ap is_pair is, ap is_two is)
 
-pair_same : (e f : List ℕ × Data) → pair_data e ≡ pair_data f → (e.0 ≡ f.0) × (e.1 ≡ f.1)
+pub pair_same : (e f : List ℕ × Data) → pair_data e ≡ pair_data f → (e.0 ≡ f.0) × (e.1 ≡ f.1)
 pair_same e f h = (cc, cc)
 
 -- ---- one step
@@ -125,7 +125,7 @@ module _ (s : PairEntries) (ps : List Spot) (h : HasPairs s ps) where
 
 -- ---- the pairs of a list, as they were met
 
-any_more : {A : Type 0} (p : A → Bool) (xs : List A) (x : A) → list_any p (xs ++ x ∷ []) ≡ (list_any p xs || p x)
+pub any_more : {A : Type 0} (p : A → Bool) (xs : List A) (x : A) → list_any p (xs ++ x ∷ []) ≡ (list_any p xs || p x)
 any_more p [] x = or_false (p x) where
   or_false : (b : Bool) → (b || false) ≡ b
   or_false true = refl
@@ -154,7 +154,7 @@ twice_more (x ∷ ks) k =
     turn false true false d = refl
     turn false false c d = refl
 
-names_more : (ds : List Data) (k : List ℕ) (d e : Data) → d ≡ pair_data (k, e) → pair_names (ds ++ d ∷ []) ≡ pair_names ds ++ k ∷ []
+pub names_more : (ds : List Data) (k : List ℕ) (d e : Data) → d ≡ pair_data (k, e) → pair_names (ds ++ d ∷ []) ≡ pair_names ds ++ k ∷ []
 names_more [] k d e is = ap (λ x. name_of (items_or x) ++ []) is
 names_more (x ∷ ds) k d e is = ap (λ ns. name_of (items_or x) ++ ns) (names_more ds k d e is) ∙ sym (append_assoc (name_of (items_or x)) (pair_names ds) (k ∷ []))
 

@@ -1,5 +1,5 @@
 -- A plain piece is that of a value exactly where it opens and its parts are those of values, however much room these take.
-use Rattle.std.proofs.Common.{◌≡◌, ℕ, ◌+◌, ◌≤◌, ◌<◌, List, [], ◌∷◌, ◌++◌, append_assoc, length, Bool, true, false, cond, Option, Some, None, max, refl, sym, ◌∙◌, ap, subst, arith, inl, inr}
+use Rattle.std.proofs.Common.{◌≡◌, ℕ, ◌+◌, ◌≤◌, ◌<◌, List, [], ◌∷◌, ◌++◌, append_assoc, false, cond, Some, None, refl, sym, ◌∙◌, ap, subst, arith, inl, inr}
 use Rattle.std.specs.Prelude.{◌⊎◌, nat_lt}
 use Rattle.std.specs.Option.{option_or}
 use Rattle.std.specs.List.{AllByRecursion}
@@ -11,12 +11,11 @@ use Rattle.ild_schema.specs.Legible.{IsLegible}
 use Rattle.ild_schema.specs.Slots.{form_of}
 use Rattle.ild_schema.specs.Value.{Value}
 use Rattle.ild_schema.specs.declared.def.TypeDef.{TypeDef}
-use Rattle.ild_schema.specs.declared.number.Slot.{Slot}
 use Rattle.ild_schema.specs.declared.row.Row.{Row}
 use Rattle.ild_typed.specs.Causes.{why_of}
 use Rattle.ild_typed.specs.Fits.{Fits, Front}
 use Rattle.ild_typed.specs.Layers.{Shows}
-use Rattle.ild_typed.specs.Pieces.{HasNoRoot, IsWhy, hamt_why, is_null_there, keys_why, needs, room_why, why_at}
+use Rattle.ild_typed.specs.Pieces.{IsWhy, hamt_why, is_null_there, keys_why, needs, room_why, why_at}
 use Rattle.ild_typed.specs.Refused.{AreParts, Refusal, Refused}
 use Rattle.ild_typed.specs.Schema.{IsSchema}
 use Rattle.ild_typed.specs.Spots.{Spot}
@@ -25,7 +24,6 @@ use Rattle.ild_typed.proofs.Rooms.{all_more, fits_more, shows_more}
 use Rattle.ild_typed.proofs.WalkForms.{table_parts, table_walk}
 use Rattle.ild_typed.proofs.WalkSound.{refused_sound}
 use Rattle.ild_typed.proofs.WalkTotal.{parts_fit}
-use Rattle.ild_walk.specs.Part.{FitsAnywhere}
 use Rattle.ild_walk.specs.Ready.{IsIn}
 use Rattle.ild_walk.specs.Stacked.{AreSifted, IsShown}
 use Rattle.ild_walk.proofs.Walking.{all_join, part_refused, why_refused}

@@ -63,7 +63,7 @@ scalar_fits rows clear delims slot (C.Text a) (Some D.Text) is h tree room =
     let p = text_plain room (T.text a) refl in plain_fits rows slot (T.text a) tree clear delims D.Text is room p.0 p.1
 scalar_fits rows clear delims slot s o is h tree room = absurd cc
 
-implicit_fits : (rows : List Row) → IsLegible rows → (f : Field) (d : Data) → ImplicitFits rows f → is_implicit f.implicit d ≡ true → FitsAnywhere rows (value_spot f.slot d [])
+pub implicit_fits : (rows : List Row) → IsLegible rows → (f : Field) (d : Data) → ImplicitFits rows f → is_implicit f.implicit d ≡ true → FitsAnywhere rows (value_spot f.slot d [])
 implicit_fits rows legible f d fits e = by f.implicit refl e where
   by : (o : Option Scalar) → f.implicit ≡ o → is_implicit o d ≡ true → FitsAnywhere rows (value_spot f.slot d [])
   by None is h = absurd cc
@@ -84,7 +84,7 @@ drop_end [] (suc i) h = refl
 drop_end (x ∷ xs) zero h = absurd (omega (arith, h))
 drop_end (x ∷ xs) (suc i) h = drop_end xs i (omega (arith, h))
 
-all_got : {A : Type 0} (P : A → Type 0) (xs : List A) (i : ℕ) (x : A) → AllByRecursion P xs → slice_get xs i ≡ Some x → P x
+pub all_got : {A : Type 0} (P : A → Type 0) (xs : List A) (i : ℕ) (x : A) → AllByRecursion P xs → slice_get xs i ≡ Some x → P x
 all_got P [] i x all e = absurd (none-some x e)
 all_got P (y ∷ ys) zero x all e = subst P (same_Some y x e) all.0
 all_got P (y ∷ ys) (suc i) x all e = all_got P ys i x all.1 e

@@ -11,6 +11,8 @@ pub mod Keys
 pub mod Texts
 pub mod Parts
 pub mod Ready
+pub mod Leaf
+pub mod Apart
 pub mod Opens
 pub mod Scalars
 pub mod Stacked

@@ -4,6 +4,7 @@ ghost use Rattle.ild_cbor.specs.Steps.{HasItems};
 ghost use Rattle.ild_data.specs.Data.{Items as Parts, items_list};
 ghost use Rattle.ild_walk.specs.Judged.{IsJudged, cause_of};
 
+use crate::apart::plainly_apart;
 use crate::keys::is_new;
 use crate::shape::{Shape, shape_of};
 use ild_cbor::{Items, Why};
@@ -21,6 +22,16 @@ fn cause(miscounted: bool, repeated: bool) -> Option<Why>
 
 /// The first cause why the items are no pairs of a map.
 pub(crate) fn pairs_cause(alloc: Global, items: Items<'_>) -> Result<Option<Why>, AllocError>
+    ensures { IfOk result (λ why. (ds : Parts) → HasItems items.entry ds → IsJudged (items_list ds) why) }
+{
+    if plainly_apart(alloc, items)? {
+        return Ok(None);
+    }
+    met_cause(alloc, items)
+}
+
+// The same, where each key is kept once it was met.
+fn met_cause(alloc: Global, items: Items<'_>) -> Result<Option<Why>, AllocError>
     ensures { IfOk result (λ why. (ds : Parts) → HasItems items.entry ds → IsJudged (items_list ds) why) }
 {
     let mut seen = BTreeSet::new(alloc);

@@ -2,6 +2,8 @@
 #![tactic(auto)]
 
 mod any;
+mod apart;
+mod behind;
 mod check;
 mod elements;
 mod entries;
@@ -11,6 +13,7 @@ mod hamt;
 mod judge;
 mod key_text;
 mod keys;
+mod leaf;
 mod list;
 mod map;
 mod null;
@@ -19,6 +22,7 @@ mod pair_entries;
 mod pairs;
 mod part;
 mod parts;
+mod past_fields;
 mod place;
 mod refusal;
 mod root;

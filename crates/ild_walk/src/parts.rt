@@ -28,6 +28,7 @@ pub(crate) enum Parts<'b> {
 
 impl<'b> Parts<'b> {
     /// The first part, where something is to be checked of it, and the parts behind it; or `None` where none is left.
+    #[inline(always)]
     pub(crate) fn split_first(&self) -> Option<(Option<Part<'b>>, Parts<'b>)>
         ensures step { (rows : List Row) (ps : List Spot) → HasLeft rows self.now ps → Splits rows ps result }
         ensures fewer { IfSome result (λ r. parts_left r.1 < parts_left self.now) }

@@ -12,6 +12,7 @@ ghost use Rattle.ild_walk.specs.Opens.{IsOpening, Opens};
 ghost use Rattle.ild_walk.specs.Ready.{IsIn, IsInlined};
 
 use crate::any::open_any;
+use crate::behind::behind_leaves;
 use crate::fault::ViewErr;
 use crate::hamt::open_hamt;
 use crate::list::open_list;
@@ -110,7 +111,7 @@ pub(crate) fn check_piece<'b>(
     let Some(opening) = opened else {
         return Ok(());
     };
-    let mut parts = opening.parts;
+    let mut parts = behind_leaves(acc, opening.parts);
     while let Some((part, behind)) = parts.split_first() {
         if let Some(part) = part {
             if let Err(fault) = check_piece(alloc, acc, part.slot, &part.piece, opening.room) {

@@ -1,4 +1,4 @@
-use Rattle.std.proofs.Common.{◌≡◌, List, true, false, refl, sym, subst}
+use Rattle.std.proofs.Common.{◌≡◌, List, true, false, subst}
 use Rattle.ild_schema.specs.declared.row.Row.{Row}
 use Rattle.ild_walk.specs.Stacked.{Spreads}
 use Rattle.ild_walk.proofs.Stacking.{going_on, going_refused, ready_last}

@@ -1,4 +1,4 @@
-use Rattle.std.proofs.Common.{◌≡◌, ◌∙◌, List, Some, None, Ok, Err, sym, subst, lit≤}
+use Rattle.std.proofs.Common.{◌∙◌, List, Some, Ok, Err, sym, subst, lit≤}
 use Rattle.ild_schema.specs.declared.row.Row.{Row}
 use Rattle.ild_typed.specs.Schema.{IsSchema}
 use Rattle.ild_walk.specs.Opens.{IsOpening, Opens}

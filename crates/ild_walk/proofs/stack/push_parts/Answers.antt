@@ -1,7 +1,7 @@
-use Rattle.std.proofs.Common.{List, Some, None, subst}
+use Rattle.std.proofs.Common.{subst}
 use Rattle.ild_walk.specs.Parts.{SplitsOff}
 use Rattle.ild_walk.specs.Ready.{AreReadyBoth}
-use Rattle.ild_walk.proofs.Stacking.{adding_ends, adding_nothing, adding_part, ready_more}
+use Rattle.ild_walk.proofs.Stacking.{adding_nothing, adding_part, ready_more}
 use Rattle.ild_walk.proofs.stack.push_parts.Goals as goal
 
 pub loop-part-preserved-in_ok-push : goal.loop-part-preserved-in_ok-push

@@ -25,15 +25,20 @@ returns-in_default m c = λ t stands tree.
     plain_shows rows schema c.types-types.ensures.legible c.args.room c.args.slot c.requires.within t tree
     (λ d is. subst (λ o. Opens rows c.args.room d t (Ok o)) c.in_default.is (c.in-Ok.ensures.opens d t stands is))
 
+pub behind_leaves-parts-requires : goal.behind_leaves-parts-requires
+behind_leaves-parts-requires m c = (subst (λ o. IsOpening c.args.acc.now c.args.room (Ok o)) c.in-Some.is c.in-Ok.ensures.ready).0
+
 pub loop-part-init : goal.loop-part-init
 loop-part-init m c =
     let rows : List Row = c.args.acc.now in
     let schema : IsSchema rows = record { table = c.types-types.ensures.table; accepted = c.types-types.ensures.accepted } in
     let ready : IsOpening rows c.args.room (Ok (Some c.in-Some.opening)) = subst (λ o. IsOpening rows c.args.room (Ok o)) c.in-Some.is c.in-Ok.ensures.ready in (
-      ready.0,
+      c.behind_leaves-parts.ensures.ready,
       ready.1,
-      λ t stands tree. opened_begins rows schema c.args.room c.args.slot c.requires.within t c.in-Some.opening
-          (λ d is. subst (λ o. Opens rows c.args.room d t (Ok o)) c.in-Some.is (c.in-Ok.ensures.opens d t stands is)),
+      λ t stands tree. past_nothing rows c.args.room c.args.slot t c.in-Some.opening.room c.in-Some.opening.parts
+          (opened_begins rows schema c.args.room c.args.slot c.requires.within t c.in-Some.opening
+          (λ d is. subst (λ o. Opens rows c.args.room d t (Ok o)) c.in-Some.is (c.in-Ok.ensures.opens d t stands is))) schema tree c.behind_leaves-parts.result
+          (λ ps h. c.behind_leaves-parts.ensures.passes ps h),
     )
 
 pub check_piece-requires : goal.check_piece-requires

@@ -1,7 +1,7 @@
 use Rattle.std.proofs.Common.{ap, ◌||◌}
 use Rattle.ild_walk.proofs.Meeting.{turned}
 use Rattle.ild_walk.proofs.Paired.{judged_odd, judged_other, judged_pair, judging_begins}
-use Rattle.ild_walk.proofs.judge.pairs_cause.Goals as goal
+use Rattle.ild_walk.proofs.judge.met_cause.Goals as goal
 
 pub loop-item-init : goal.loop-item-init
 loop-item-init c = λ ds has. judging_begins ds c.args.items c.new-seen.result has c.new-seen.ensures.empty
