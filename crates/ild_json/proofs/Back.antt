@@ -35,23 +35,23 @@ link_back : (cid : List ℕ) → IsTree (link cid) → link_read (cid_text_of ci
 unfolding link_read
 link_back cid is = ap link_or_fault (read-cid_text cid is.0 is.1)
 
-slash_only : (j : json.Data) → only_member slash (json.member slash j json.no_members) ≡ Some j
+pub slash_only : (j : json.Data) → only_member slash (json.member slash j json.no_members) ≡ Some j
 unfolding only_member
 slash_only j = refl
 
-word_only : (j : json.Data) → only_member bytes_word (json.member bytes_word j json.no_members) ≡ Some j
+pub word_only : (j : json.Data) → only_member bytes_word (json.member bytes_word j json.no_members) ≡ Some j
 unfolding only_member
 word_only j = refl
 
 -- ---- an object and the entries that are read of it
 
-abbrev Held : json.Members → List (List ℕ × Data) → Type 0
+abbrev pub Held : json.Members → List (List ℕ × Data) → Type 0
 Held json.no_members [] = Unit {0}
 Held json.no_members (m ∷ ms) = ⊥
 Held (json.member k j js) [] = ⊥
 Held (json.member k j js) (m ∷ ms) = (k ≡ m.0) × (data_read j ≡ Ok m.1) × Held js ms
 
-held_read : (js : json.Members) (ms : List (List ℕ × Data)) → Held js ms → members_read js ≡ Ok ms
+pub held_read : (js : json.Members) (ms : List (List ℕ × Data)) → Held js ms → members_read js ≡ Ok ms
 held_read json.no_members [] h = refl
 held_read json.no_members (m ∷ ms) h = absurd h
 held_read (json.member k j js) [] h = absurd h
@@ -65,7 +65,7 @@ held_at Less k l j e d js later m ms laters is read key old others rest = (refl,
 held_at Equal k l j e d js later m ms laters is read key old others rest = (sym (exact_bytes k l is), read, others)
 held_at Greater k l j e d js later m ms laters is read key old others rest = (key, old, rest)
 
-held_put : (k : List ℕ) (j : json.Data) (d : Data) (js : json.Members) (ms : List (List ℕ × Data)) → data_read j ≡ Ok d → Held js ms → Held (json.put k j js) (put_bytewise k d ms)
+pub held_put : (k : List ℕ) (j : json.Data) (d : Data) (js : json.Members) (ms : List (List ℕ × Data)) → data_read j ≡ Ok d → Held js ms → Held (json.put k j js) (put_bytewise k d ms)
 held_put k j d json.no_members [] read h = (refl, read, tt)
 held_put k j d json.no_members (m ∷ ms) read h = absurd h
 held_put k j d (json.member l e js) [] read h = absurd h
@@ -105,7 +105,7 @@ two_at Less k l i j is apart = refl
 two_at Equal k l i j is apart = absurd (apart (exact_bytes l k is))
 two_at Greater k l i j is apart = refl
 
-lone : (o : Ordering) (k : List ℕ) (j : json.Data) → slice_cmp nat_cmp slash k ≡ o → same_text k slash ≡ false → match_ordering o None (Some j) None ≡ None
+pub lone : (o : Ordering) (k : List ℕ) (j : json.Data) → slice_cmp nat_cmp slash k ≡ o → same_text k slash ≡ false → match_ordering o None (Some j) None ≡ None
 lone Less k j is apart = refl
 lone Equal k j is apart = absurd (let e : false ≡ true = sym apart ∙ ap (λ s. same_text s slash) (sym (exact_bytes slash k is)) in cc)
 lone Greater k j is apart = refl
@@ -120,7 +120,7 @@ not_alone (member k d (member l e ms)) up apart =
     let more = grows_all (members_json ms) first in
     only_member-others slash (put_members (members_json ms) first) (λ one. absurd (omega (arith, two, more, one)))
 
-rises_members : (ms : Members) → AreEntries ms → Rises (members_list ms)
+pub rises_members : (ms : Members) → AreEntries ms → Rises (members_list ms)
 rises_members no_members all = tt
 rises_members (member k d ms) all = (all.2, rises_members ms all.3)
 

@@ -44,7 +44,7 @@ pub fn reserved(alloc: Global, value: &Value) -> Result<Tree, JsonErr>
 
 /// The link that the text of a CID means.
 #[tactic(auto, using(crate::proofs::Slashes::link_refused), unfolding(crate::specs::Reading::link_read))]
-fn link(alloc: Global, text: &str) -> Result<Tree, JsonErr>
+pub fn link(alloc: Global, text: &str) -> Result<Tree, JsonErr>
     ensures ok { IfOk result (λ t. link_read text.now ≡ Ok (data_of t)) }
     ensures err { IfErr result (λ e. (e ≡ JsonErr.Memory) ⊎ (link_read text.now ≡ Err e)) }
 {
@@ -53,7 +53,7 @@ fn link(alloc: Global, text: &str) -> Result<Tree, JsonErr>
 
 /// The bytes that a text in base64 means.
 #[tactic(auto, using(crate::proofs::Slashes::bytes_refused), unfolding(crate::specs::Reading::bytes_read))]
-fn bytes(alloc: Global, text: &str) -> Result<Tree, JsonErr>
+pub fn bytes(alloc: Global, text: &str) -> Result<Tree, JsonErr>
     ensures ok { IfOk result (λ t. bytes_read text.now ≡ Ok (data_of t)) }
     ensures err { IfErr result (λ e. (e ≡ JsonErr.Memory) ⊎ (bytes_read text.now ≡ Err e)) }
 {

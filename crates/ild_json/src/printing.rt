@@ -1,15 +1,18 @@
 //! From a tree to its text.
-ghost use Rattle.std.specs.Prelude.{◌≡◌, ◌≤◌, Some, None, Ok, IfOk, IfErr};
+ghost use Rattle.std.specs.Prelude.{◌≡◌, ◌≤◌, [], Some, None, Ok, IfOk, IfErr, IsUtf8, string_bytes};
 ghost use Rattle.ild_data.specs.Limits.{deepest};
 ghost use Rattle.ild_data.specs.Seen.{data_of, depth_of};
+ghost use Rattle.json.specs.Lex.{tokens};
+ghost use Rattle.json.specs.Print.{print};
 ghost use Rattle.serde_json.specs.Data.{depth};
 ghost use Rattle.serde_json.specs.Read.{max_depth};
 ghost use Rattle.ild_json.specs.Printing.{json_of, json_text};
 ghost use Rattle.ild_json.specs.Reading.{json_read};
 
 use crate::PrintErr;
-use crate::show::value_of;
+use crate::show::write;
 use ild_data::{Tree, Txt};
+use json::Writer;
 use std::alloc::Global;
 
 /// The DAG-JSON text of a tree, without white space and with keys that rise bytewise.
@@ -20,8 +23,19 @@ pub fn print(alloc: Global, tree: &Tree) -> Result<Txt, PrintErr>
     ensures reserved { IfErr result (λ e. e ≡ PrintErr.Reserved → json_text (data_of tree.now) ≡ None) }
 {
     tree.well_formed();
-    let value = value_of(alloc, tree)?;
-    let text = value.to_string(alloc)?;
-    let _utf8 = text.as_str();
+    let mut out = Writer::new(Vec::with_capacity(alloc, 128)?);
+    write(alloc, tree, &mut out)?;
+    let text = text_of(out);
     Ok(Txt::from_string(text))
+}
+
+/// What was written, as a text.
+fn text_of(out: Writer) -> String
+    requires { out.before ≡ [] }
+    ensures text { string_bytes result ≡ print out.tokens }
+    ensures utf8 { IsUtf8 (string_bytes result) }
+    ensures reads_back { tokens (string_bytes result) ≡ out.tokens }
+{
+    let bytes = out.into_inner();
+    unsafe { String::from_utf8_unchecked(bytes) }
 }

@@ -1,112 +1,137 @@
-//! From a tree to the JSON value that stands for it.
-ghost use Rattle.std.specs.Prelude.{◌≡◌, IfOk, IfErr, true, false};
-ghost use Rattle.serde_json.specs.Data.{number, string};
-ghost use Rattle.serde_json.specs.Find.{of_integer};
-ghost use Rattle.serde_json.specs.View.{view, number_view, items_view, members_view};
-ghost use Rattle.ild_data.specs.CidText.{cid_text_of};
-ghost use Rattle.ild_data.specs.Data.{bytes, link, map};
+//! From a tree to the tokens of its JSON text, part by part.
+ghost use Rattle.std.specs.Prelude.{◌≡◌, ◌∷◌, [], IfOk, IfErr, OnOk, true, false};
+ghost use Rattle.std.specs.List.Sorted.{IsPermutation, IsSortedByKey};
+ghost use Rattle.json.specs.Token.{begin_object, key};
+ghost use Rattle.ild_data.specs.ByteOrder.{bytewise};
+ghost use Rattle.ild_data.specs.Data.{bytes, integer, link, list, map};
 ghost use Rattle.ild_data.specs.Seen.{data_of};
-ghost use Rattle.serde_json.specs.Data.{no_members};
-ghost use Rattle.ild_json.specs.Printing.{single, json_of, items_json, members_json, put_members, has_reserved, items_have_reserved, members_have_reserved, is_slash_alone};
+ghost use Rattle.ild_json.specs.Printing.{has_reserved, items_have_reserved, is_slash_alone};
+ghost use Rattle.ild_json.specs.Tokens.{Appends, AreBytewise, data_tokens, entries_seen};
 
 use crate::PrintErr;
 use crate::object::{BYTES, SLASH};
 use base64::engine::general_purpose::STANDARD_NO_PAD;
-use ild_data::{Cid, Entries, Int, Tree, Trees, cid_text};
-use serde_json::{Map, Number, Value};
+use ild_data::{Cid, Entries, Int, Tree, Trees, Txt, cid_text};
+use json::Writer;
 use std::alloc::{AllocError, Global};
 
-/// The value of a tree in which no map has the only key `/`.
+/// Writes a tree in which no map has the only key `/`.
 #[cycle(show)]
-pub fn value_of(alloc: Global, tree: &Tree) -> Result<Value, PrintErr>
-    ensures ok { IfOk result (λ v. view v ≡ json_of (data_of tree.now)) }
-    ensures free { IfOk result (λ _. has_reserved (data_of tree.now) ≡ false) }
+pub fn write(alloc: Global, tree: &Tree, out: &mut Writer) -> Result<(), PrintErr>
+    ensures ok { OnOk result (Appends out.old out.new (data_tokens (data_of tree.now))) }
+    ensures free { OnOk result (has_reserved (data_of tree.now) ≡ false) }
     ensures reserved { IfErr result (λ e. e ≡ PrintErr.Reserved → has_reserved (data_of tree.now) ≡ true) }
 {
     match tree {
-        Tree::Null => Ok(Value::Null),
-        Tree::Bool(b) => Ok(Value::Bool(*b)),
-        Tree::Int(n) => Ok(Value::Number(number_of(*n))),
-        Tree::Text(text) => Ok(Value::String(String::from_str(alloc, text.as_str())?)),
-        Tree::Bytes(bytes) => Ok(bytes_value(alloc, bytes.as_slice())?),
-        Tree::List(trees) => Ok(Value::Array(items_of(alloc, trees)?)),
-        Tree::Map(entries) => Ok(Value::Object(members_of(alloc, entries)?)),
-        Tree::Link(cid) => Ok(link_value(alloc, cid)?),
+        Tree::Null => Ok(out.null()?),
+        Tree::Bool(b) => Ok(out.boolean(*b)?),
+        Tree::Int(n) => Ok(write_int(*n, out)?),
+        Tree::Text(text) => Ok(out.string(text.as_str())?),
+        Tree::Bytes(bytes) => Ok(write_bytes(alloc, bytes.as_slice(), out)?),
+        Tree::List(trees) => write_items(alloc, trees, out),
+        Tree::Map(entries) => write_members(alloc, entries, out),
+        Tree::Link(cid) => Ok(write_link(alloc, cid, out)?),
     }
 }
 
-/// The number of an integer.
-fn number_of(n: Int) -> Number
-    ensures { number_view result ≡ of_integer n }
+/// Writes an integer in decimal.
+fn write_int(n: Int, out: &mut Writer) -> Result<(), AllocError>
+    ensures { OnOk result (Appends out.old out.new (data_tokens (integer n))) }
 {
     let n = n.get();
     if n >= 0 {
-        Number::from(n as u64)
+        out.u64(n as u64)
     } else {
-        Number::from(n as i64)
+        out.i64(n as i64)
     }
 }
 
-/// An object with one member.
-fn single(alloc: Global, key: &str, value: Value) -> Result<Value, AllocError>
-    ensures { IfOk result (λ v. view v ≡ single key.now (view value)) }
+/// Begins an object with one key.
+fn begin_single(name: &str, out: &mut Writer) -> Result<(), AllocError>
+    ensures { OnOk result (Appends out.old out.new (begin_object ∷ key name.now ∷ [])) }
 {
-    let mut members = Map::new(alloc);
-    members.insert(String::from_str(alloc, key)?, value)?;
-    Ok(Value::Object(members))
+    out.begin_object()?;
+    out.key(name)
 }
 
-/// The object of bytes (DAG-JSON, "Bytes").
+/// Writes the object of bytes (DAG-JSON, "Bytes").
 #[tactic(auto, unfolding(crate::specs::Printing::bytes_text))]
-fn bytes_value(alloc: Global, b: &[u8]) -> Result<Value, AllocError>
-    ensures { IfOk result (λ v. view v ≡ json_of (bytes b.now)) }
+fn write_bytes(alloc: Global, b: &[u8], out: &mut Writer) -> Result<(), AllocError>
+    ensures { OnOk result (Appends out.old out.new (data_tokens (bytes b.now))) }
 {
     let text = STANDARD_NO_PAD.encode(alloc, b)?;
-    single(alloc, SLASH, single(alloc, BYTES, Value::String(text))?)
+    begin_single(SLASH, out)?;
+    begin_single(BYTES, out)?;
+    out.string(text.as_str())?;
+    out.end_object()?;
+    out.end_object()
 }
 
-/// The object of a link (DAG-JSON, "Links").
-fn link_value(alloc: Global, cid: &Cid) -> Result<Value, AllocError>
-    ensures { IfOk result (λ v. view v ≡ json_of (link cid.now)) }
+/// Writes the object of a link (DAG-JSON, "Links").
+fn write_link(alloc: Global, cid: &Cid, out: &mut Writer) -> Result<(), AllocError>
+    ensures { OnOk result (Appends out.old out.new (data_tokens (link cid.now))) }
 {
     let text = cid_text(alloc, &cid.view())?;
-    single(alloc, SLASH, Value::String(text.into_string()))
+    begin_single(SLASH, out)?;
+    out.string(text.as_str())?;
+    out.end_object()
 }
 
-/// The values of a list's items, in order.
+/// Writes a list's items, in order.
 #[cycle(show)]
-fn items_of(alloc: Global, trees: &Trees) -> Result<Vec<Value>, PrintErr>
-    ensures ok { IfOk result (λ v. items_view v.items ≡ items_json trees.now) }
-    ensures free { IfOk result (λ _. items_have_reserved trees.now ≡ false) }
+fn write_items(alloc: Global, trees: &Trees, out: &mut Writer) -> Result<(), PrintErr>
+    ensures ok { OnOk result (Appends out.old out.new (data_tokens (list trees.now))) }
+    ensures free { OnOk result (items_have_reserved trees.now ≡ false) }
     ensures reserved { IfErr result (λ e. e ≡ PrintErr.Reserved → items_have_reserved trees.now ≡ true) }
 {
-    let mut items = Vec::with_capacity(alloc, trees.len())?;
+    out.begin_array()?;
     for tree in trees.as_slice() {
-        items.push(value_of(alloc, tree)?)?;
+        write(alloc, tree, out)?;
     }
-    Ok(items)
+    Ok(out.end_array()?)
 }
 
-/// The members of a map's object, unless `/` is its only key.
+/// Writes the object of a map, unless `/` is its only key.
 #[cycle(show)]
-fn members_of(alloc: Global, entries: &Entries) -> Result<Map<String, Value>, PrintErr>
-    ensures ok { IfOk result (λ m. members_view m.entries ≡ put_members (members_json entries.now) no_members) }
-    ensures free { IfOk result (λ _. has_reserved (map entries.now) ≡ false) }
+fn write_members(alloc: Global, entries: &Entries, out: &mut Writer) -> Result<(), PrintErr>
+    ensures ok { OnOk result (Appends out.old out.new (data_tokens (map entries.now))) }
+    ensures free { OnOk result (has_reserved (map entries.now) ≡ false) }
     ensures reserved { IfErr result (λ e. e ≡ PrintErr.Reserved → has_reserved (map entries.now) ≡ true) }
 {
     if is_slash_alone(entries) {
         return Err(PrintErr::Reserved);
     }
-    let mut members = Map::new(alloc);
-    for pair in entries.as_slice() {
-        let value = value_of(alloc, &pair.1)?;
-        members.insert(String::from_str(alloc, pair.0.as_str())?, value)?;
+    let pairs = bytewise(alloc, entries)?;
+    out.begin_object()?;
+    for pair in &pairs {
+        out.key(pair.0.as_str())?;
+        write(alloc, &pair.1, out)?;
     }
-    Ok(members)
+    Ok(out.end_object()?)
+}
+
+/// The entries of a map, bytewise by key.
+fn bytewise(alloc: Global, entries: &Entries) -> Result<Vec<&(Txt, Tree)>, AllocError>
+    ensures { IfOk result (λ v. AreBytewise entries.now (entries_seen v.items)) }
+{
+    let mut pairs = Vec::with_capacity(alloc, entries.len())?;
+    for pair in entries.as_slice() {
+        pairs.push(pair)?;
+    }
+    sort_bytewise(&mut pairs)?;
+    Ok(pairs)
+}
+
+/// Sorts entries bytewise by key.
+fn sort_bytewise(pairs: &mut Vec<&(Txt, Tree)>) -> Result<(), AllocError>
+    ensures same { IsPermutation pairs.old.items pairs.new.items }
+    ensures order { OnOk result (IsSortedByKey (λ p. p.now.0) bytewise pairs.new.items) }
+{
+    pairs.sort_by(|a, b| a.0.as_str().cmp(b.0.as_str()))
 }
 
 /// Whether `/` is the only key of a map.
-fn is_slash_alone(entries: &Entries) -> bool
+pub fn is_slash_alone(entries: &Entries) -> bool
     ensures { result ≡ is_slash_alone entries.now }
 {
     match entries.as_slice() {
