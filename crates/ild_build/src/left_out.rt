@@ -20,6 +20,7 @@ pub fn text_of_field(field: &Field) -> &str
 }
 
 /// Whether the value is the one that stands for the field where it is left out.
+#[inline(always)]
 pub fn is_left_out(field: &Field, val: &Val) -> bool
     ensures { result ≡ is_left_out field.now.implicit (value_of val.now) }
 {

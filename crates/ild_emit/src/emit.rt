@@ -64,6 +64,7 @@ impl Emit {
     }
 
     /// Appends a text, or leaves the buffer unchanged.
+    #[inline(always)]
     pub fn text(&mut self, s: &str) -> Result<(), AllocError>
         ensures ok { OnOk result (self.new ≡ self.old ++ spell_text s.now) }
         ensures err { OnErr result (self.new ≡ self.old) }

@@ -1,19 +1,34 @@
 //! The heads of items (RFC 8949, section 3).
-ghost use Rattle.std.specs.Prelude.{◌≡◌, ◌++◌, ◌<◌, length, OnOk, OnErr};
+ghost use Rattle.std.specs.Prelude.{◌≡◌, ◌++◌, ◌<◌, ◌≤◌, length, OnOk, OnErr};
 ghost use Rattle.ild_data.specs.Spell.{head};
 
 use std::alloc::AllocError;
 
 /// Appends the shortest head, or leaves the buffer unchanged.
+#[inline(always)]
 pub fn add_head(out: &mut Vec<u8>, major: u8, n: u64) -> Result<(), AllocError>
     requires { major < 6 }
     ensures ok { OnOk result (out.new.items ≡ out.old.items ++ head major n) }
     ensures err { OnErr result (out.new.items ≡ out.old.items) }
 {
-    let first = 32 * major;
     if n < 24 {
-        out.push(first + n as u8)?;
-    } else if n < 0x100 {
+        out.push(32 * major + n as u8)?;
+        Ok(())
+    } else {
+        add_long_head(out, major, n)
+    }
+}
+
+// Appends a head of more than one byte, or leaves the buffer unchanged.
+#[inline(never)]
+fn add_long_head(out: &mut Vec<u8>, major: u8, n: u64) -> Result<(), AllocError>
+    requires major { major < 6 }
+    requires long { 24 ≤ n }
+    ensures ok { OnOk result (out.new.items ≡ out.old.items ++ head major n) }
+    ensures err { OnErr result (out.new.items ≡ out.old.items) }
+{
+    let first = 32 * major;
+    if n < 0x100 {
         out.extend_from_slice(&[first + 24, n as u8])?;
     } else if n < 0x1_0000 {
         let mut piece = [first + 25; 3];
@@ -31,8 +46,25 @@ pub fn add_head(out: &mut Vec<u8>, major: u8, n: u64) -> Result<(), AllocError>
     Ok(())
 }
 
-/// Appends a head and the bytes that it counts, or leaves the buffer unchanged.
+/// Appends a head and the bytes that it counts, or leaves the buffer unchanged. A short piece, whose head is one byte, goes in with it in one step.
+#[inline(always)]
 pub fn add_string(out: &mut Vec<u8>, major: u8, piece: &[u8]) -> Result<(), AllocError>
+    requires { major < 6 }
+    ensures ok { OnOk result (out.new.items ≡ out.old.items ++ (head major (length piece.now) ++ piece.now)) }
+    ensures err { OnErr result (out.new.items ≡ out.old.items) }
+{
+    if piece.len() < 24 {
+        out.reserve(piece.len() + 1)?;
+        out.push_reserved(32 * major + piece.len() as u8);
+        out.extend_from_slice(piece)
+    } else {
+        add_long_string(out, major, piece)
+    }
+}
+
+// Appends a head of any length and the bytes that it counts, or leaves the buffer unchanged.
+#[inline(never)]
+fn add_long_string(out: &mut Vec<u8>, major: u8, piece: &[u8]) -> Result<(), AllocError>
     requires { major < 6 }
     ensures ok { OnOk result (out.new.items ≡ out.old.items ++ (head major (length piece.now) ++ piece.now)) }
     ensures err { OnErr result (out.new.items ≡ out.old.items) }

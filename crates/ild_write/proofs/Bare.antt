@@ -1,10 +1,11 @@
 -- Values in which no HAMT stands weigh nothing: leaves, and texts.
-use Rattle.std.proofs.Common.{◌≡◌, ℕ, zero, suc, ◌+◌, ◌<◌, List, [], ◌∷◌, Bool, true, false, ◌||◌, Option, Some, None, option_map, refl, sym, ap, ◌∙◌, arith}
+use Rattle.std.proofs.Common.{rules, ◌≡◌, ℕ, ℤ, zero, suc, ◌+◌, ◌<◌, List, [], ◌∷◌, ◌++◌, Bool, true, false, ◌||◌, Option, Some, None, option_map, refl, sym, ap, ◌∙◌, subst, arith}
 use Rattle.std.specs.Prelude.{option_and_then}
 use Rattle.std.specs.Option.{option_map_or}
 use Rattle.std.proofs.lemmas.Option.{none-some}
 use Rattle.ild_data.specs.Data.{Data}
-use Rattle.ild_data.specs.Spell.{spell}
+use Rattle.ild_data.specs.Spell.{spell, spell_int, spell_text}
+use Rattle.ild_emit.specs.Simple.{simple_data}
 use Rattle.ild_schema.specs.declared.number.Slot.{Slot}
 use Rattle.ild_schema.specs.declared.def.TypeDef.{TypeDef}
 use Rattle.ild_schema.specs.declared.def.TypeDef.TheVariants as D
@@ -109,6 +110,19 @@ module _ (h : List ℕ → List ℕ) (rows : List Row) where
 pub leafs : (h : List ℕ → List ℕ) (rows : List Row) (s : Slot) (v : Value) → IsLeaf v → (old new : List ℕ) (was : Nodes) → Wrote (made alone rows s v) old new → Writes h rows (made (whole h) rows s v) (λ μ. weigh μ rows s v) old new was was
 leafs h rows s v k old new was w =
     leaf h rows (made (whole h) rows s v) (λ μ. weigh μ rows s v) old new was (λ μ. leaf_weight μ rows s v k) (wrote_same (made (whole h) rows s v) (made alone rows s v) old new (leaf_made h rows s v k) w)
+
+pub leaf_of : (h : List ℕ → List ℕ) (rows : List Row) (s : Slot) (val : Val) (v : Value) → value_of val ≡ v → IsLeaf v → (old new : List ℕ) (was : Nodes) → Wrote (made alone rows s v) old new
+    → Writes h rows (made (whole h) rows s (value_of val)) (λ μ. weigh μ rows s (value_of val)) old new was was
+leaf_of h rows s val v is k old new was w = subst (λ u. Writes h rows (made (whole h) rows s u) (λ μ. weigh μ rows s u) old new was was) (sym is) (leafs h rows s v k old new was w)
+
+pub text_wrote : (rows : List Row) (s : Slot) (t old new : List ℕ) → new ≡ old ++ spell_text t → Wrote (made alone rows s (V.text t)) old new
+text_wrote rows s t old new e = search rules
+
+pub int_wrote : (rows : List Row) (s : Slot) (n : ℤ) (old new : List ℕ) → new ≡ old ++ spell_int n → Wrote (made alone rows s (V.integer n)) old new
+int_wrote rows s n old new e = search rules
+
+pub bool_wrote : (rows : List Row) (s : Slot) (b : Bool) (old new : List ℕ) → new ≡ old ++ spell (simple_data (Some b)) → Wrote (made alone rows s (V.boolean b)) old new
+bool_wrote rows s b old new e = search rules
 
 pub a_leaf : (val : Val) → ((x : Values) → val ≡ W.List x → ⊥) → ((x : Pairs) → val ≡ W.Map x → ⊥) → ((x : Optionals) → val ≡ W.Struct x → ⊥) → ((n : ℕ) (x : Value) → val ≡ W.Union n x → ⊥) → IsLeaf (value_of val)
 a_leaf W.Null a b c d = tt

@@ -32,6 +32,7 @@ fn add_unit_form(form: UnitForm, out: &mut Emit) -> Result<(), AllocError>
 }
 
 // Appends a unit.
+#[inline(never)]
 fn add_unit(acc: &Accepted, slot: Slot, out: &mut Emit) -> Result<(), AllocError>
     requires { slot.ty.0 < length acc.now }
     ensures ok { OnOk result (Wrote (made alone acc.now slot unit) out.old out.new) }
@@ -78,6 +79,7 @@ fn add_enum_form(form: EnumForm, member: &EnumMember, out: &mut Emit) -> Result<
 }
 
 // Appends the member of an enum with a number.
+#[inline(never)]
 fn add_enum(acc: &Accepted, slot: Slot, number: u32, out: &mut Emit) -> Result<(), AllocError>
     requires { slot.ty.0 < length acc.now }
     ensures ok { OnOk result (Wrote (made alone acc.now slot (enum number)) out.old out.new) }
@@ -93,6 +95,7 @@ fn add_enum(acc: &Accepted, slot: Slot, number: u32, out: &mut Emit) -> Result<(
 }
 
 /// Appends a value that has no parts.
+#[inline(always)]
 pub(crate) fn add_leaf(
     acc: &Accepted,
     slot: Slot,
@@ -139,6 +142,7 @@ pub(crate) fn add_as_text(
 }
 
 // Appends what stands before a key: the head of a pair, or nothing in a map.
+#[inline(always)]
 fn add_before_key(paired: bool, out: &mut Emit) -> Result<(), AllocError>
     ensures ok { OnOk result (out.new ≡ out.old ++ before_key paired) }
     ensures err { OnErr result (out.new ≡ out.old) }
@@ -147,6 +151,7 @@ fn add_before_key(paired: bool, out: &mut Emit) -> Result<(), AllocError>
 }
 
 /// Appends a key, behind the head of a pair where it stands in one.
+#[inline(always)]
 pub(crate) fn add_key(paired: bool, key: &str, out: &mut Emit) -> Result<(), AllocError>
     ensures ok { OnOk result (out.new ≡ out.old ++ (before_key paired ++ spell_text key.now)) }
     ensures err { OnErr result (IsGrown out.old out.new) }

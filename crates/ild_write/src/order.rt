@@ -24,6 +24,7 @@ pub(crate) fn present(vals: &ValFields) -> usize
 }
 
 /// The value of a field at a place, where it is written: one is there, and isn't left out.
+#[inline(always)]
 pub(crate) fn kept_at<'v>(field: &Field, vals: &'v ValFields, place: usize) -> Option<&'v Val>
     ensures { option_map (λ v. value_of v.now) result ≡ kept_at field.now (optionals_list vals.now) place }
 {

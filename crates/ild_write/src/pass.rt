@@ -37,6 +37,7 @@ use std::alloc::{AllocError, Global};
 
 /// Appends a value of a slot.
 #[cycle(pass)]
+#[inline(always)]
 pub(crate) fn add<H: KeyHash>(
     alloc: Global,
     acc: &Accepted,
@@ -52,6 +53,10 @@ pub(crate) fn add<H: KeyHash>(
     ensures err { OnErr result (IsGrown out.old out.new) }
 {
     match val {
+        // Most values are one of these three: they are told from the others in one step.
+        Val::Text(text) => out.text(text.as_str()),
+        Val::Int(n) => out.int(*n),
+        Val::Bool(b) => out.simple(Some(*b)),
         Val::List(vals) => add_list(alloc, acc, keys, slot, vals, nodes, out),
         Val::Map(pairs) => add_map(alloc, acc, keys, slot, val, pairs, nodes, out),
         Val::Struct(fields) => add_struct(alloc, acc, keys, slot, val, fields, nodes, out),
@@ -64,6 +69,7 @@ pub(crate) fn add<H: KeyHash>(
 
 // Appends a list.
 #[cycle(pass)]
+#[inline(never)]
 fn add_list<H: KeyHash>(
     alloc: Global,
     acc: &Accepted,
@@ -112,6 +118,7 @@ fn add_items<H: KeyHash>(
 
 // Appends a map.
 #[cycle(pass)]
+#[inline(never)]
 fn add_map<H: KeyHash>(
     alloc: Global,
     acc: &Accepted,
@@ -199,6 +206,7 @@ fn add_hamt<H: KeyHash>(
 
 // Appends a key and its value, as an entry of a map or as a pair.
 #[cycle(pass)]
+#[inline(always)]
 fn add_entry<H: KeyHash>(
     alloc: Global,
     acc: &Accepted,
@@ -221,6 +229,7 @@ fn add_entry<H: KeyHash>(
 
 // Appends a struct.
 #[cycle(pass)]
+#[inline(never)]
 fn add_struct<H: KeyHash>(
     alloc: Global,
     acc: &Accepted,
@@ -360,6 +369,7 @@ fn add_places<H: KeyHash>(
 
 // Appends a union.
 #[cycle(pass)]
+#[inline(never)]
 fn add_union<H: KeyHash>(
     alloc: Global,
     acc: &Accepted,

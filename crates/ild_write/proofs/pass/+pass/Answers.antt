@@ -24,7 +24,7 @@ use Rattle.ild_write.specs.Places.{count_present, count_written, named, places_m
 use Rattle.ild_write.specs.Weights.{entries_weight, fields_weight, items_weight, places_weight, weigh}
 use Rattle.ild_write.specs.Writes.{Writes}
 use Rattle.ild_write.proofs.AsText.{layer_text, texts, union_text}
-use Rattle.ild_write.proofs.Bare.{a_leaf, leafs}
+use Rattle.ild_write.proofs.Bare.{a_leaf, bool_wrote, int_wrote, leaf_of, leafs, text_wrote}
 use Rattle.ild_write.proofs.Fitted.{entries_fit, hamt_fit, items_fit, list_fit, map_fit, member_fit, member_there, places_fit, struct_fit, union_fit}
 use Rattle.ild_write.proofs.Flow.{begins, behind, before, ends, from, goes, leaf, skips, starts}
 use Rattle.ild_write.proofs.Forms.{hamt_is_made, list_made, map_is_made, pairs_are_made}
@@ -62,6 +62,30 @@ add-returns-in_default-clause-ok g t c =
     on_ok c.add_leaf.result _ _
     (λ w. leafs g.H.KeyHash.hash_of c.args.acc.now c.args.slot (value_of c.args.val.now) (a_leaf c.args.val.now c.in_default.not-List c.in_default.not-Map c.in_default.not-Struct c.in_default.not-Union) c.args.out.now c.add_leaf.new.out c.args.nodes.now w)
     c.add_leaf.ensures.ok
+
+pub add-returns-in-Text-clause-ok : goal.add-returns-in-Text-clause-ok
+add-returns-in-Text-clause-ok g t c =
+    let rows = c.args.acc.now in
+    let x = c.in-Text in
+    on_ok c.text.result _ _
+    (λ e. leaf_of g.H.KeyHash.hash_of rows c.args.slot c.args.val.now (V.text x.text) (ap value_of x.is) tt c.args.out.now c.text.new.self c.args.nodes.now
+    (text_wrote rows c.args.slot x.text c.args.out.now c.text.new.self (e ∙ ap (λ b. c.args.out.now ++ spell_text b) c.as_str.ensures.same))) c.text.ensures.ok
+
+pub add-returns-in-Int-clause-ok : goal.add-returns-in-Int-clause-ok
+add-returns-in-Int-clause-ok g t c =
+    let rows = c.args.acc.now in
+    let x = c.in-Int in
+    on_ok c.int.result _ _
+    (λ e. leaf_of g.H.KeyHash.hash_of rows c.args.slot c.args.val.now (V.integer x.n) (ap value_of x.is) tt c.args.out.now c.int.new.self c.args.nodes.now
+    (int_wrote rows c.args.slot x.n c.args.out.now c.int.new.self e)) c.int.ensures.ok
+
+pub add-returns-in-Bool-clause-ok : goal.add-returns-in-Bool-clause-ok
+add-returns-in-Bool-clause-ok g t c =
+    let rows = c.args.acc.now in
+    let x = c.in-Bool in
+    on_ok c.simple.result _ _
+    (λ e. leaf_of g.H.KeyHash.hash_of rows c.args.slot c.args.val.now (V.boolean x.b) (ap value_of x.is) tt c.args.out.now c.simple.new.self c.args.nodes.now
+    (bool_wrote rows c.args.slot x.b c.args.out.now c.simple.new.self e)) c.simple.ensures.ok
 
 -- ---- lists
 
