@@ -1,8 +1,7 @@
-//! Tests of public calls on accepted schemas, and on values and texts under them: a file a subject.
+//! Tests of public calls on accepted schemas, and on values and texts under them: a file a subject. What makes a schema no accepted one
+//! is told by cases of the command `check`.
 #![tactic(auto)]
 
-#[cfg(test)]
-mod acceptance;
 #[cfg(test)]
 mod corners;
 #[cfg(test)]

@@ -164,7 +164,7 @@ opts-opens end =
 
 -- a field, behind its name and behind `optional`
 field_from : Name → Bool → Stream → Result (Field × Stream) ℕ
-field_from n b s = (ref_at deepest) s >>= (λ s278. opts_at s278.1 >>= (λ s282. Ok (record { name = n; optional = b; value = s278.0; opts = s282.0 }, s282.1)))
+field_from n b s = (ref_at deepest) s >>= (λ r. opts_at r.1 >>= (λ os. Ok (record { name = n; optional = b; value = r.0; opts = os.0 }, os.1)))
 
 behind_name : Name → Stream → Result (Field × Stream) ℕ
 behind_name n s = cond (next_is (codes "optional") s) (field_from n true (rest_of s)) (field_from n false s)

@@ -1,5 +1,5 @@
 -- From the survey, the rows and the copies to the result.
-use Rattle.std.proofs.Common.{◌≡◌, ℕ, ◌≤◌, List, Option, Some, None, sym, ap, ◌∙◌, subst, inl, inr}
+use Rattle.std.proofs.Common.{◌≡◌, ℕ, ◌≤◌, List, Option, Some, None, sym, ap, ◌∙◌, subst, inr}
 use Rattle.std.specs.Option.{option_or}
 use Rattle.std.proofs.Math.Path.{fun_ext}
 use Rattle.ild_grammar.specs.declared.ast.Ast.{Ast}
@@ -18,19 +18,18 @@ pub types_small : (ast : Ast) → declared_fault (events_of ast) ≡ None → ty
 types_small ast free = types_few (events_of ast) (none_declared (events_of ast) free).above
 
 -- the fault of the text, by the numbers that were found
-fault_by : (es : List Event) (numbers : List ℕ → Option ℕ) → declared_fault es ≡ None → ((name : List ℕ) → numbers name ≡ number_of name es) → fault_in es ≡ first_wrong numbers es
-fault_by es numbers free same = ap (λ o. option_or o (first_wrong (λ name. number_of name es) es)) free ∙ ap (λ ns. first_wrong ns es) (sym (fun_ext same))
+pub fault_by : (ast : Ast) (numbers : List ℕ → Option ℕ) → declared_fault (events_of ast) ≡ None → ((name : List ℕ) → numbers name ≡ number_of name (events_of ast))
+    → fault_in (events_of ast) ≡ first_wrong numbers (events_of ast)
+fault_by ast numbers free same =
+    let es : List Event = events_of ast in
+    ap (λ o. option_or o (first_wrong (λ name. number_of name es) es)) free ∙ ap (λ ns. first_wrong ns es) (sym (fun_ext same))
 
 pub fault_free : (ast : Ast) (numbers : List ℕ → Option ℕ) → declared_fault (events_of ast) ≡ None → ((name : List ℕ) → numbers name ≡ number_of name (events_of ast))
     → first_wrong numbers (events_of ast) ≡ None → fault_in (events_of ast) ≡ None
-fault_free ast numbers free same none = fault_by (events_of ast) numbers free same ∙ none
+fault_free ast numbers free same none = fault_by ast numbers free same ∙ none
 
-pub fault_of_word : (ast : Ast) (numbers : List ℕ → Option ℕ) (e : ResolveErr) → declared_fault (events_of ast) ≡ None → ((name : List ℕ) → numbers name ≡ number_of name (events_of ast))
-    → first_wrong numbers (events_of ast) ≡ Some e → IsFault ast e
-fault_of_word ast numbers e free same is = inl (fault_by (events_of ast) numbers free same ∙ is)
-
-pub fault_declared : (ast : Ast) (e : ResolveErr) → declared_fault (events_of ast) ≡ Some e → IsFault ast e
-fault_declared ast e is = inl (ap (λ o. option_or o (first_wrong (λ name. number_of name (events_of ast)) (events_of ast))) is)
+pub fault_declared : (ast : Ast) (e : ResolveErr) → declared_fault (events_of ast) ≡ Some e → fault_in (events_of ast) ≡ Some e
+fault_declared ast e is = ap (λ o. option_or o (first_wrong (λ name. number_of name (events_of ast)) (events_of ast))) is
 
 -- where the text has no fault, one of its copies
 pub copy_cycle : (ast : Ast) (rows : List Row) (n at : ℕ) → rows ≡ rows_of ast → fault_in (events_of ast) ≡ None → FirstIsCircular rows n → place_at rows n ≡ Some at → IsFault ast (E.CopyCycle at)

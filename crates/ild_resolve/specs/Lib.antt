@@ -1,5 +1,6 @@
 pub mod Events
 pub mod Names
+pub mod Numbers
 pub mod Faults
 pub mod Forms
 pub mod Rows

@@ -1,6 +1,6 @@
 //! What a declaration says of its type, and the rows of the inline types in it.
 ghost use Rattle.std.specs.Prelude.{◌≡◌, ◌+◌, ◌<◌, ◌≤◌, ◌++◌, ◌∷◌, codes, length, IfOk, OnOk};
-ghost use Rattle.std.specs.BTreeMap.{get_by_text};
+ghost use Rattle.ild_resolve.specs.Numbers.{number_in};
 ghost use Rattle.ild_grammar.specs.declared.ast.Body.TheVariants as B;
 ghost use Rattle.ild_grammar.specs.declared.ast.Target.TheVariants as T;
 ghost use Rattle.ild_schema.specs.declared.def.TypeDef.TheVariants as D;
@@ -30,13 +30,13 @@ use std::collections::BTreeMap;
 /// A field, and the rows of the inline types in it.
 fn field_of(
     rows: &mut Vec<Row>,
-    numbers: &BTreeMap<String, u32>,
+    numbers: &BTreeMap<&str, u32>,
     part: AstField,
 ) -> Result<Field, ResolveErr>
     requires small { length rows.old.items + types_in (reference_events part.value) ≤ 65543 }
-    ensures words { Judged (get_by_text numbers.now) (reference_events part.value) result }
-    ensures rows { OnOk result (rows.new.items ≡ rows.old.items ++ reference_rows (get_by_text numbers.now) (length rows.old.items) part.value) }
-    ensures same { IfOk result (λ f. f ≡ field (get_by_text numbers.now) (length rows.old.items) part) }
+    ensures words { Judged (number_in numbers.now) (reference_events part.value) result }
+    ensures rows { OnOk result (rows.new.items ≡ rows.old.items ++ reference_rows (number_in numbers.now) (length rows.old.items) part.value) }
+    ensures same { IfOk result (λ f. f ≡ field (number_in numbers.now) (length rows.old.items) part) }
 {
     let slot = slot_in(rows, numbers, &part.value)?;
     let (rename, implicit) = settings(part.opts);
@@ -53,13 +53,13 @@ fn field_of(
 /// The fields of a struct, and the rows of the inline types in them.
 fn fields_of(
     rows: &mut Vec<Row>,
-    numbers: &BTreeMap<String, u32>,
+    numbers: &BTreeMap<&str, u32>,
     parts: AstList<AstField>,
 ) -> Result<Fields, ResolveErr>
     requires small { length rows.old.items + types_in (each_events field_events 0 parts) ≤ 65543 }
-    ensures words { Judged (get_by_text numbers.now) (each_events field_events 0 parts) result }
-    ensures rows { OnOk result (rows.new.items ≡ rows.old.items ++ field_rows (get_by_text numbers.now) (length rows.old.items) parts) }
-    ensures same { IfOk result (λ fs. fs ≡ fields (get_by_text numbers.now) (length rows.old.items) parts) }
+    ensures words { Judged (number_in numbers.now) (each_events field_events 0 parts) result }
+    ensures rows { OnOk result (rows.new.items ≡ rows.old.items ++ field_rows (number_in numbers.now) (length rows.old.items) parts) }
+    ensures same { IfOk result (λ fs. fs ≡ fields (number_in numbers.now) (length rows.old.items) parts) }
 {
     let mut made = Vec::new(*rows.allocator());
     for part in parts.into_vec() {
@@ -80,15 +80,15 @@ fn link_name_of(alloc: Global, name: &TypeName) -> Result<Txt, AllocError>
 /// A member `&T`: its name and the number of its row, which has the same name.
 fn link_target(
     rows: &mut Vec<Row>,
-    numbers: &BTreeMap<String, u32>,
+    numbers: &BTreeMap<&str, u32>,
     at: usize,
     name: &TypeName,
 ) -> Result<(Txt, TypeNo), ResolveErr>
     requires small { length rows.old.items < 65543 }
-    ensures words { Judged (get_by_text numbers.now) (target_events at (T.Link name.now)) result }
-    ensures rows { OnOk result (rows.new.items ≡ rows.old.items ++ target_rows (get_by_text numbers.now) at (T.Link name.now)) }
-    ensures name { IfOk result (λ t. t.0 ≡ target_name (get_by_text numbers.now) (T.Link name.now)) }
-    ensures same { IfOk result (λ t. t.1 ≡ target_type (get_by_text numbers.now) (length rows.old.items) (T.Link name.now)) }
+    ensures words { Judged (number_in numbers.now) (target_events at (T.Link name.now)) result }
+    ensures rows { OnOk result (rows.new.items ≡ rows.old.items ++ target_rows (number_in numbers.now) at (T.Link name.now)) }
+    ensures name { IfOk result (λ t. t.0 ≡ target_name (number_in numbers.now) (T.Link name.now)) }
+    ensures same { IfOk result (λ t. t.1 ≡ target_type (number_in numbers.now) (length rows.old.items) (T.Link name.now)) }
 {
     let text = link_name_of(*rows.allocator(), name)?;
     let copy = text.copy()?;
@@ -99,15 +99,15 @@ fn link_target(
 /// The name and the type of a member of a union.
 fn target_of(
     rows: &mut Vec<Row>,
-    numbers: &BTreeMap<String, u32>,
+    numbers: &BTreeMap<&str, u32>,
     at: usize,
     target: Target,
 ) -> Result<(Txt, TypeNo), ResolveErr>
     requires small { length rows.old.items + types_in (target_events at target) ≤ 65543 }
-    ensures words { Judged (get_by_text numbers.now) (target_events at target) result }
-    ensures rows { OnOk result (rows.new.items ≡ rows.old.items ++ target_rows (get_by_text numbers.now) at target) }
-    ensures name { IfOk result (λ t. t.0 ≡ target_name (get_by_text numbers.now) target) }
-    ensures same { IfOk result (λ t. t.1 ≡ target_type (get_by_text numbers.now) (length rows.old.items) target) }
+    ensures words { Judged (number_in numbers.now) (target_events at target) result }
+    ensures rows { OnOk result (rows.new.items ≡ rows.old.items ++ target_rows (number_in numbers.now) at target) }
+    ensures name { IfOk result (λ t. t.0 ≡ target_name (number_in numbers.now) target) }
+    ensures same { IfOk result (λ t. t.1 ≡ target_type (number_in numbers.now) (length rows.old.items) target) }
 {
     match target {
         Target::Type(name) => {
@@ -121,13 +121,13 @@ fn target_of(
 /// A member of a union, and the row of its type where it is `&T`.
 fn member_of(
     rows: &mut Vec<Row>,
-    numbers: &BTreeMap<String, u32>,
+    numbers: &BTreeMap<&str, u32>,
     part: AstMember,
 ) -> Result<Member, ResolveErr>
     requires small { length rows.old.items + types_in (target_events part.at part.target) ≤ 65543 }
-    ensures words { Judged (get_by_text numbers.now) (target_events part.at part.target ++ mark_events part.mark) result }
-    ensures rows { OnOk result (rows.new.items ≡ rows.old.items ++ target_rows (get_by_text numbers.now) part.at part.target) }
-    ensures same { IfOk result (λ m. m ≡ member (get_by_text numbers.now) (length rows.old.items) part) }
+    ensures words { Judged (number_in numbers.now) (target_events part.at part.target ++ mark_events part.mark) result }
+    ensures rows { OnOk result (rows.new.items ≡ rows.old.items ++ target_rows (number_in numbers.now) part.at part.target) }
+    ensures same { IfOk result (λ m. m ≡ member (number_in numbers.now) (length rows.old.items) part) }
 {
     let at = part.at;
     let (name, ty) = target_of(rows, numbers, at, part.target)?;
@@ -138,13 +138,13 @@ fn member_of(
 /// The members of a union, and the rows of their types `&T`.
 fn members_of(
     rows: &mut Vec<Row>,
-    numbers: &BTreeMap<String, u32>,
+    numbers: &BTreeMap<&str, u32>,
     parts: AstList<AstMember>,
 ) -> Result<Members, ResolveErr>
     requires small { length rows.old.items + types_in (each_events member_events 0 parts) ≤ 65543 }
-    ensures words { Judged (get_by_text numbers.now) (each_events member_events 0 parts) result }
-    ensures rows { OnOk result (rows.new.items ≡ rows.old.items ++ member_rows (get_by_text numbers.now) parts) }
-    ensures same { IfOk result (λ ms. ms ≡ members (get_by_text numbers.now) (length rows.old.items) parts) }
+    ensures words { Judged (number_in numbers.now) (each_events member_events 0 parts) result }
+    ensures rows { OnOk result (rows.new.items ≡ rows.old.items ++ member_rows (number_in numbers.now) parts) }
+    ensures same { IfOk result (λ ms. ms ≡ members (number_in numbers.now) (length rows.old.items) parts) }
 {
     let mut made = Vec::new(*rows.allocator());
     for part in parts.into_vec() {
@@ -156,15 +156,15 @@ fn members_of(
 /// The types of the key and of the value of a map, and the rows of the inline types in its value.
 fn entry_of(
     rows: &mut Vec<Row>,
-    numbers: &BTreeMap<String, u32>,
+    numbers: &BTreeMap<&str, u32>,
     key: &TypeName,
     value: &Ref,
 ) -> Result<(TypeNo, Slot), ResolveErr>
     requires small { length rows.old.items + types_in (reference_events value.now) ≤ 65543 }
-    ensures words { Judged (get_by_text numbers.now) (uses key.now ∷ reference_events value.now) result }
-    ensures rows { OnOk result (rows.new.items ≡ rows.old.items ++ reference_rows (get_by_text numbers.now) (length rows.old.items) value.now) }
-    ensures key { IfOk result (λ e. e.0 ≡ type_of (get_by_text numbers.now) key.now) }
-    ensures value { IfOk result (λ e. e.1 ≡ slot (get_by_text numbers.now) (length rows.old.items) value.now) }
+    ensures words { Judged (number_in numbers.now) (uses key.now ∷ reference_events value.now) result }
+    ensures rows { OnOk result (rows.new.items ≡ rows.old.items ++ reference_rows (number_in numbers.now) (length rows.old.items) value.now) }
+    ensures key { IfOk result (λ e. e.0 ≡ type_of (number_in numbers.now) key.now) }
+    ensures value { IfOk result (λ e. e.1 ≡ slot (number_in numbers.now) (length rows.old.items) value.now) }
 {
     let key = type_no(numbers, key)?;
     let value = slot_in(rows, numbers, value)?;
@@ -174,15 +174,15 @@ fn entry_of(
 /// The key, the value and the form of a map, and the rows of the inline types in its value.
 fn map_def(
     rows: &mut Vec<Row>,
-    numbers: &BTreeMap<String, u32>,
+    numbers: &BTreeMap<&str, u32>,
     key: &TypeName,
     value: &Ref,
     form: Option<AstMapForm>,
 ) -> Result<TypeDef, ResolveErr>
     requires small { length rows.old.items + types_in (reference_events value.now) ≤ 65543 }
-    ensures words { Judged (get_by_text numbers.now) (uses key.now ∷ reference_events value.now ++ map_form_events form) result }
-    ensures rows { OnOk result (rows.new.items ≡ rows.old.items ++ reference_rows (get_by_text numbers.now) (length rows.old.items) value.now) }
-    ensures same { IfOk result (λ d. d ≡ D.Map (type_of (get_by_text numbers.now) key.now) key.now.at (slot (get_by_text numbers.now) (length rows.old.items) value.now) (first_token (get_by_text numbers.now) value.now) (map_form form)) }
+    ensures words { Judged (number_in numbers.now) (uses key.now ∷ reference_events value.now ++ map_form_events form) result }
+    ensures rows { OnOk result (rows.new.items ≡ rows.old.items ++ reference_rows (number_in numbers.now) (length rows.old.items) value.now) }
+    ensures same { IfOk result (λ d. d ≡ D.Map (type_of (number_in numbers.now) key.now) key.now.at (slot (number_in numbers.now) (length rows.old.items) value.now) (first_token (number_in numbers.now) value.now) (map_form form)) }
 {
     let (key_no, slot) = entry_of(rows, numbers, key, value)?;
     let form = map_form_of(form)?;
@@ -198,13 +198,13 @@ fn map_def(
 /// The fields and the form of a struct, and the rows of the inline types in it.
 fn struct_def(
     rows: &mut Vec<Row>,
-    numbers: &BTreeMap<String, u32>,
+    numbers: &BTreeMap<&str, u32>,
     body: StructBody,
 ) -> Result<TypeDef, ResolveErr>
     requires small { length rows.old.items + types_in (body_events (B.Struct body)) ≤ 65543 }
-    ensures words { Judged (get_by_text numbers.now) (body_events (B.Struct body)) result }
-    ensures rows { OnOk result (rows.new.items ≡ rows.old.items ++ field_rows (get_by_text numbers.now) (length rows.old.items) body.fields) }
-    ensures same { IfOk result (λ d. d ≡ body_def (get_by_text numbers.now) (length rows.old.items) (B.Struct body)) }
+    ensures words { Judged (number_in numbers.now) (body_events (B.Struct body)) result }
+    ensures rows { OnOk result (rows.new.items ≡ rows.old.items ++ field_rows (number_in numbers.now) (length rows.old.items) body.fields) }
+    ensures same { IfOk result (λ d. d ≡ body_def (number_in numbers.now) (length rows.old.items) (B.Struct body)) }
 {
     let fields = fields_of(rows, numbers, body.fields)?;
     let form = struct_form_of(body.form);
@@ -214,13 +214,13 @@ fn struct_def(
 /// The members and the form of a union, and the rows of its types `&T`.
 fn union_def(
     rows: &mut Vec<Row>,
-    numbers: &BTreeMap<String, u32>,
+    numbers: &BTreeMap<&str, u32>,
     body: UnionBody,
 ) -> Result<TypeDef, ResolveErr>
     requires small { length rows.old.items + types_in (body_events (B.Union body)) ≤ 65543 }
-    ensures words { Judged (get_by_text numbers.now) (body_events (B.Union body)) result }
-    ensures rows { OnOk result (rows.new.items ≡ rows.old.items ++ member_rows (get_by_text numbers.now) body.members) }
-    ensures same { IfOk result (λ d. d ≡ body_def (get_by_text numbers.now) (length rows.old.items) (B.Union body)) }
+    ensures words { Judged (number_in numbers.now) (body_events (B.Union body)) result }
+    ensures rows { OnOk result (rows.new.items ≡ rows.old.items ++ member_rows (number_in numbers.now) body.members) }
+    ensures same { IfOk result (λ d. d ≡ body_def (number_in numbers.now) (length rows.old.items) (B.Union body)) }
 {
     let members = members_of(rows, numbers, body.members)?;
     let form = union_form_of(body.form);
@@ -239,13 +239,13 @@ fn enum_def(alloc: Global, body: EnumBody) -> Result<TypeDef, AllocError>
 /// The element of a list, and the rows of the inline types in it.
 fn list_def(
     rows: &mut Vec<Row>,
-    numbers: &BTreeMap<String, u32>,
+    numbers: &BTreeMap<&str, u32>,
     elem: &Ref,
 ) -> Result<TypeDef, ResolveErr>
     requires small { length rows.old.items + types_in (reference_events elem.now) ≤ 65543 }
-    ensures words { Judged (get_by_text numbers.now) (reference_events elem.now) result }
-    ensures rows { OnOk result (rows.new.items ≡ rows.old.items ++ reference_rows (get_by_text numbers.now) (length rows.old.items) elem.now) }
-    ensures same { IfOk result (λ d. d ≡ D.List (slot (get_by_text numbers.now) (length rows.old.items) elem.now) (first_token (get_by_text numbers.now) elem.now)) }
+    ensures words { Judged (number_in numbers.now) (reference_events elem.now) result }
+    ensures rows { OnOk result (rows.new.items ≡ rows.old.items ++ reference_rows (number_in numbers.now) (length rows.old.items) elem.now) }
+    ensures same { IfOk result (λ d. d ≡ D.List (slot (number_in numbers.now) (length rows.old.items) elem.now) (first_token (number_in numbers.now) elem.now)) }
 {
     let slot = slot_in(rows, numbers, elem)?;
     Ok(TypeDef::List {
@@ -257,13 +257,13 @@ fn list_def(
 /// What a declaration says of its type, and the rows of the inline types in it.
 pub(crate) fn def_of(
     rows: &mut Vec<Row>,
-    numbers: &BTreeMap<String, u32>,
+    numbers: &BTreeMap<&str, u32>,
     body: Body,
 ) -> Result<TypeDef, ResolveErr>
     requires small { length rows.old.items + types_in (body_events body) ≤ 65543 }
-    ensures words { Judged (get_by_text numbers.now) (body_events body) result }
-    ensures rows { OnOk result (rows.new.items ≡ rows.old.items ++ body_rows (get_by_text numbers.now) (length rows.old.items) body) }
-    ensures same { IfOk result (λ d. d ≡ body_def (get_by_text numbers.now) (length rows.old.items) body) }
+    ensures words { Judged (number_in numbers.now) (body_events body) result }
+    ensures rows { OnOk result (rows.new.items ≡ rows.old.items ++ body_rows (number_in numbers.now) (length rows.old.items) body) }
+    ensures same { IfOk result (λ d. d ≡ body_def (number_in numbers.now) (length rows.old.items) body) }
 {
     match body {
         Body::Copy(name) => Ok(TypeDef::Copy(type_no(numbers, &name)?)),

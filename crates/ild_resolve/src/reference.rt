@@ -1,6 +1,6 @@
 //! References to types, and the rows of their inline types.
 ghost use Rattle.std.specs.Prelude.{◌≡◌, ◌+◌, ◌<◌, ◌≤◌, ◌++◌, ◌∷◌, [], List, length, IfOk, IfErr, OnOk};
-ghost use Rattle.std.specs.BTreeMap.{get_by_text};
+ghost use Rattle.ild_resolve.specs.Numbers.{number_in};
 ghost use Rattle.ild_grammar.specs.Reference.{list, link, map};
 ghost use Rattle.ild_grammar.specs.ReferenceSeen.{refers_of};
 ghost use Rattle.ild_schema.specs.Prelude.{number};
@@ -51,14 +51,14 @@ pub(crate) fn define(rows: &mut Vec<Row>, ty: TypeNo, def: TypeDef)
 /// The row of an inline type `&T`, under a name of its own.
 pub(crate) fn link_row(
     rows: &mut Vec<Row>,
-    numbers: &BTreeMap<String, u32>,
+    numbers: &BTreeMap<&str, u32>,
     name: Txt,
     at: usize,
     target: &TypeName,
 ) -> Result<TypeNo, ResolveErr>
     requires small { length rows.old.items < 65543 }
-    ensures words { Judged (get_by_text numbers.now) (begins at ∷ uses target.now ∷ []) result }
-    ensures rows { OnOk result (rows.new.items ≡ rows.old.items ++ inline (get_by_text numbers.now) name (D.Link (type_of (get_by_text numbers.now) target.now)) at ∷ []) }
+    ensures words { Judged (number_in numbers.now) (begins at ∷ uses target.now ∷ []) result }
+    ensures rows { OnOk result (rows.new.items ≡ rows.old.items ++ inline (number_in numbers.now) name (D.Link (type_of (number_in numbers.now) target.now)) at ∷ []) }
     ensures same { IfOk result (λ ty. ty ≡ number (length rows.old.items)) }
 {
     let ty = begin(rows, name, at, Origin::Inline)?;
@@ -70,13 +70,13 @@ pub(crate) fn link_row(
 /// The row of an inline type `&T` without a name.
 fn bare_link_row(
     rows: &mut Vec<Row>,
-    numbers: &BTreeMap<String, u32>,
+    numbers: &BTreeMap<&str, u32>,
     at: usize,
     target: &TypeName,
 ) -> Result<TypeNo, ResolveErr>
     requires small { length rows.old.items < 65543 }
-    ensures words { Judged (get_by_text numbers.now) (inline_events at (link target.now)) result }
-    ensures rows { OnOk result (rows.new.items ≡ rows.old.items ++ inline_rows (get_by_text numbers.now) (length rows.old.items) at (link target.now)) }
+    ensures words { Judged (number_in numbers.now) (inline_events at (link target.now)) result }
+    ensures rows { OnOk result (rows.new.items ≡ rows.old.items ++ inline_rows (number_in numbers.now) (length rows.old.items) at (link target.now)) }
     ensures same { IfOk result (λ ty. ty ≡ number (length rows.old.items)) }
 {
     let name = Txt::of(*rows.allocator(), "")?;
@@ -87,13 +87,13 @@ fn bare_link_row(
 #[cycle(reference)]
 fn list_row(
     rows: &mut Vec<Row>,
-    numbers: &BTreeMap<String, u32>,
+    numbers: &BTreeMap<&str, u32>,
     at: usize,
     elem: &Ref,
 ) -> Result<TypeNo, ResolveErr>
     requires small { length rows.old.items + types_in (inline_events at (list elem.now)) ≤ 65543 }
-    ensures words { Judged (get_by_text numbers.now) (inline_events at (list elem.now)) result }
-    ensures rows { OnOk result (rows.new.items ≡ rows.old.items ++ inline_rows (get_by_text numbers.now) (length rows.old.items) at (list elem.now)) }
+    ensures words { Judged (number_in numbers.now) (inline_events at (list elem.now)) result }
+    ensures rows { OnOk result (rows.new.items ≡ rows.old.items ++ inline_rows (number_in numbers.now) (length rows.old.items) at (list elem.now)) }
     ensures same { IfOk result (λ ty. ty ≡ number (length rows.old.items)) }
 {
     let name = Txt::of(*rows.allocator(), "")?;
@@ -111,14 +111,14 @@ fn list_row(
 #[cycle(reference)]
 fn map_row(
     rows: &mut Vec<Row>,
-    numbers: &BTreeMap<String, u32>,
+    numbers: &BTreeMap<&str, u32>,
     at: usize,
     key: &TypeName,
     value: &Ref,
 ) -> Result<TypeNo, ResolveErr>
     requires small { length rows.old.items + types_in (inline_events at (map key.now value.now)) ≤ 65543 }
-    ensures words { Judged (get_by_text numbers.now) (inline_events at (map key.now value.now)) result }
-    ensures rows { OnOk result (rows.new.items ≡ rows.old.items ++ inline_rows (get_by_text numbers.now) (length rows.old.items) at (map key.now value.now)) }
+    ensures words { Judged (number_in numbers.now) (inline_events at (map key.now value.now)) result }
+    ensures rows { OnOk result (rows.new.items ≡ rows.old.items ++ inline_rows (number_in numbers.now) (length rows.old.items) at (map key.now value.now)) }
     ensures same { IfOk result (λ ty. ty ≡ number (length rows.old.items)) }
 {
     let name = Txt::of(*rows.allocator(), "")?;
@@ -140,14 +140,14 @@ fn map_row(
 #[cycle(reference)]
 fn inline_type(
     rows: &mut Vec<Row>,
-    numbers: &BTreeMap<String, u32>,
+    numbers: &BTreeMap<&str, u32>,
     at: usize,
     inline: &Inline,
 ) -> Result<TypeNo, ResolveErr>
     requires small { length rows.old.items + types_in (inline_events at (refers_of inline.now)) ≤ 65543 }
-    ensures words { Judged (get_by_text numbers.now) (inline_events at (refers_of inline.now)) result }
-    ensures rows { OnOk result (rows.new.items ≡ rows.old.items ++ inline_rows (get_by_text numbers.now) (length rows.old.items) at (refers_of inline.now)) }
-    ensures same { IfOk result (λ ty. ty ≡ type_in (get_by_text numbers.now) (length rows.old.items) (refers_of inline.now)) }
+    ensures words { Judged (number_in numbers.now) (inline_events at (refers_of inline.now)) result }
+    ensures rows { OnOk result (rows.new.items ≡ rows.old.items ++ inline_rows (number_in numbers.now) (length rows.old.items) at (refers_of inline.now)) }
+    ensures same { IfOk result (λ ty. ty ≡ type_in (number_in numbers.now) (length rows.old.items) (refers_of inline.now)) }
 {
     match inline {
         Inline::Type(name) => type_no(numbers, name),
@@ -161,13 +161,13 @@ fn inline_type(
 #[cycle(reference)]
 pub(crate) fn slot_in(
     rows: &mut Vec<Row>,
-    numbers: &BTreeMap<String, u32>,
+    numbers: &BTreeMap<&str, u32>,
     reference: &Ref,
 ) -> Result<Slot, ResolveErr>
     requires small { length rows.old.items + types_in (reference_events reference.now) ≤ 65543 }
-    ensures words { Judged (get_by_text numbers.now) (reference_events reference.now) result }
-    ensures rows { OnOk result (rows.new.items ≡ rows.old.items ++ reference_rows (get_by_text numbers.now) (length rows.old.items) reference.now) }
-    ensures same { IfOk result (λ s. s ≡ slot (get_by_text numbers.now) (length rows.old.items) reference.now) }
+    ensures words { Judged (number_in numbers.now) (reference_events reference.now) result }
+    ensures rows { OnOk result (rows.new.items ≡ rows.old.items ++ reference_rows (number_in numbers.now) (length rows.old.items) reference.now) }
+    ensures same { IfOk result (λ s. s ≡ slot (number_in numbers.now) (length rows.old.items) reference.now) }
 {
     let ty = inline_type(rows, numbers, reference.type_at, &reference.inline)?;
     Ok(Slot {

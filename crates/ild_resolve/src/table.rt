@@ -1,7 +1,7 @@
 //! The rows of a table: the prelude, and then the declared types with their inline types.
 ghost use Rattle.std.specs.Prelude.{◌≡◌, ◌⊎◌, ◌+◌, ◌≤◌, ◌++◌, length, None, Some, IfErr, IfOk, OnOk};
 ghost use Rattle.std.specs.List.{flat_map};
-ghost use Rattle.std.specs.BTreeMap.{get_by_text};
+ghost use Rattle.ild_resolve.specs.Numbers.{number_in};
 ghost use Rattle.ild_grammar.specs.declared.ast.Decl.TheVariants as A;
 ghost use Rattle.ild_schema.specs.Prelude.{prelude};
 ghost use Rattle.ild_resolve.specs.Events.{decl_events, events_of, types_in};
@@ -23,12 +23,12 @@ use std::collections::BTreeMap;
 /// Appends the row of a declared type, and the rows of its inline types behind it.
 fn push_type(
     rows: &mut Vec<Row>,
-    numbers: &BTreeMap<String, u32>,
+    numbers: &BTreeMap<&str, u32>,
     decl: TypeDecl,
 ) -> Result<(), ResolveErr>
     requires small { length rows.old.items + types_in (decl_events (A.Type decl)) ≤ 65543 }
-    ensures words { Judged (get_by_text numbers.now) (decl_events (A.Type decl)) result }
-    ensures rows { OnOk result (rows.new.items ≡ rows.old.items ++ decl_rows (get_by_text numbers.now) (length rows.old.items) (A.Type decl)) }
+    ensures words { Judged (number_in numbers.now) (decl_events (A.Type decl)) result }
+    ensures rows { OnOk result (rows.new.items ≡ rows.old.items ++ decl_rows (number_in numbers.now) (length rows.old.items) (A.Type decl)) }
 {
     let at = decl.name.at;
     let ty = begin(rows, decl.name.name, at, Origin::Declared)?;
@@ -40,12 +40,12 @@ fn push_type(
 /// Appends the rows of a declaration.
 fn push_decl(
     rows: &mut Vec<Row>,
-    numbers: &BTreeMap<String, u32>,
+    numbers: &BTreeMap<&str, u32>,
     decl: Decl,
 ) -> Result<(), ResolveErr>
     requires small { length rows.old.items + types_in (decl_events decl) ≤ 65543 }
-    ensures words { Judged (get_by_text numbers.now) (decl_events decl) result }
-    ensures rows { OnOk result (rows.new.items ≡ rows.old.items ++ decl_rows (get_by_text numbers.now) (length rows.old.items) decl) }
+    ensures words { Judged (number_in numbers.now) (decl_events decl) result }
+    ensures rows { OnOk result (rows.new.items ≡ rows.old.items ++ decl_rows (number_in numbers.now) (length rows.old.items) decl) }
 {
     match decl {
         Decl::Type(decl) => push_type(rows, numbers, decl),
@@ -59,12 +59,12 @@ fn push_decl(
 /// Appends the rows of declarations.
 fn push_decls(
     rows: &mut Vec<Row>,
-    numbers: &BTreeMap<String, u32>,
+    numbers: &BTreeMap<&str, u32>,
     decls: AstList<Decl>,
 ) -> Result<(), ResolveErr>
     requires small { length rows.old.items + types_in (flat_map decl_events decls) ≤ 65543 }
-    ensures words { Judged (get_by_text numbers.now) (flat_map decl_events decls) result }
-    ensures rows { OnOk result (rows.new.items ≡ rows.old.items ++ decls_rows (get_by_text numbers.now) (length rows.old.items) decls) }
+    ensures words { Judged (number_in numbers.now) (flat_map decl_events decls) result }
+    ensures rows { OnOk result (rows.new.items ≡ rows.old.items ++ decls_rows (number_in numbers.now) (length rows.old.items) decls) }
 {
     for decl in decls.into_vec() {
         push_decl(rows, numbers, decl)?;
@@ -75,13 +75,13 @@ fn push_decls(
 /// The rows of the table of a syntax tree, or its first wrong word.
 pub(crate) fn table_of(
     alloc: Global,
-    numbers: &BTreeMap<String, u32>,
+    numbers: &BTreeMap<&str, u32>,
     ast: Ast,
 ) -> Result<Vec<Row>, ResolveErr>
     requires small { types_in (events_of ast) ≤ 65535 }
-    ensures free { IfOk result (λ _. first_wrong (get_by_text numbers.now) (events_of ast) ≡ None) }
-    ensures rows { IfOk result (λ rows. rows.items ≡ prelude ++ decls_rows (get_by_text numbers.now) 8 ast.decls) }
-    ensures fault { IfErr result (λ e. (e ≡ E.Memory) ⊎ (first_wrong (get_by_text numbers.now) (events_of ast) ≡ Some e)) }
+    ensures free { IfOk result (λ _. first_wrong (number_in numbers.now) (events_of ast) ≡ None) }
+    ensures rows { IfOk result (λ rows. rows.items ≡ prelude ++ decls_rows (number_in numbers.now) 8 ast.decls) }
+    ensures fault { IfErr result (λ e. (e ≡ E.Memory) ⊎ (first_wrong (number_in numbers.now) (events_of ast) ≡ Some e)) }
 {
     let mut rows = prelude_rows(alloc)?;
     push_decls(&mut rows, numbers, ast.decls)?;

@@ -1,6 +1,6 @@
 //! Words: the names of types, and the name of the advanced layout.
 ghost use Rattle.std.specs.Prelude.{◌≡◌, ℕ, List, Option, [], ◌∷◌, IfOk};
-ghost use Rattle.std.specs.BTreeMap.{get_by_text};
+ghost use Rattle.ild_resolve.specs.Numbers.{number_in};
 ghost use Rattle.ild_schema.specs.declared.def.MapForm.TheVariants as M;
 ghost use Rattle.ild_resolve.specs.Events.{advances, uses};
 ghost use Rattle.ild_resolve.specs.Judged.{Judged};
@@ -12,12 +12,9 @@ use ild_schema::{MapForm, TypeNo};
 use std::collections::BTreeMap;
 
 /// The type for which a name stands.
-pub(crate) fn type_no(
-    numbers: &BTreeMap<String, u32>,
-    name: &TypeName,
-) -> Result<TypeNo, ResolveErr>
-    ensures words { Judged (get_by_text numbers.now) (uses name.now ∷ []) result }
-    ensures same { IfOk result (λ ty. ty ≡ type_of (get_by_text numbers.now) name.now) }
+pub(crate) fn type_no(numbers: &BTreeMap<&str, u32>, name: &TypeName) -> Result<TypeNo, ResolveErr>
+    ensures words { Judged (number_in numbers.now) (uses name.now ∷ []) result }
+    ensures same { IfOk result (λ ty. ty ≡ type_of (number_in numbers.now) name.now) }
 {
     let at = name.at;
     let text = name.name.as_str();

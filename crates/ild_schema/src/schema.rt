@@ -59,6 +59,15 @@ impl Schema {
         ensures { IfOk result (λ schema. schema ≡ rows.items) }
     {
         let names = names_in(alloc, &rows)?;
+        Schema::with_names(alloc, rows, names)
+    }
+
+    /// The schema of a table whose declared names are listed.
+    pub fn with_names(alloc: Global, rows: Vec<Row>, names: Vec<Txt>) -> Result<Schema, AllocError>
+        requires table { IsTable rows.items }
+        requires names { names.items ≡ declared_names rows.items }
+        ensures { IfOk result (λ schema. schema ≡ rows.items) }
+    {
         let numbers = numbers_by_name(alloc, &rows)?;
         let ends = ends_of(alloc, &rows)?;
         let parts = parts_of(alloc, &rows)?;

@@ -1,5 +1,5 @@
-//! Tokens of schemas, and the first faults of characters. All places were counted in the texts.
-use ild_lex::{LexErr, TokenKind, tokens};
+//! Tokens of schemas. All places were counted in the texts.
+use ild_lex::{TokenKind, tokens};
 use std::alloc::Global;
 use std::process::Abort;
 use std::test::Fail;
@@ -84,33 +84,6 @@ fn try_tokens(rt: &impl Abort, alloc: Global, case: &Tokened<'_>) -> Result<(), 
 fn tokens_of_texts(rt: HostRuntime) -> Result<(), Fail> {
     for case in TOKENED {
         try_tokens(&rt, rt.alloc(), &case)?;
-    }
-    Ok(())
-}
-
-/// Texts without tokens: whether a text in them doesn't end, and the place.
-const FAULTS: [(&str, bool, usize); 9] = [
-    (";", false, 0),
-    ("a -", false, 2),
-    ("a - 1", false, 2),
-    ("\u{e9}", false, 0),
-    ("# \u{e9}\n,", false, 5),
-    ("\"a\\n\"", false, 2),
-    ("\"a", true, 0),
-    ("a \"b\n\"", true, 2),
-    ("\"a\\", true, 0),
-];
-
-#[test]
-fn faults_of_texts(rt: HostRuntime) -> Result<(), Fail> {
-    for (src, unended, at) in FAULTS {
-        let found = match tokens(rt.alloc(), src) {
-            Ok(_) => None,
-            Err(LexErr::Char { at }) => Some((false, at)),
-            Err(LexErr::Unended { at }) => Some((true, at)),
-            Err(LexErr::Memory) => return Err(Fail::from("memory")),
-        };
-        assert_eq!(rt; found, Some((unended, at)), "{src}");
     }
     Ok(())
 }

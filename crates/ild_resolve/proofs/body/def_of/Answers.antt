@@ -1,5 +1,5 @@
 use Rattle.std.proofs.Common.{arith}
-use Rattle.std.specs.BTreeMap.{get_by_text}
+use Rattle.ild_resolve.specs.Numbers.{number_in}
 use Rattle.ild_resolve.specs.Events.{reference_events, map_form_events}
 use Rattle.ild_resolve.proofs.Counts.{types_in-append}
 use Rattle.ild_resolve.proofs.Words.{enum_members-right}
@@ -12,4 +12,4 @@ map_def-requires c =
     record { small = omega (arith, small, both) }
 
 pub returns-in_ok-enum_def-in-Enum-clause-words : goal.returns-in_ok-enum_def-in-Enum-clause-words
-returns-in_ok-enum_def-in-Enum-clause-words c = rw c.in-Enum.is (enum_members-right (get_by_text c.args.numbers.now) 0 c.in-Enum.body.members)
+returns-in_ok-enum_def-in-Enum-clause-words c = rw c.in-Enum.is (enum_members-right (number_in c.args.numbers.now) 0 c.in-Enum.body.members)

@@ -12,11 +12,11 @@ pub returns-in_err-member_of-clause-words : goal.returns-in_err-member_of-clause
 returns-in_err-member_of-clause-words c =
     let left = rw c.in-Some.ensures.steps.0 at c.loop-part.invariant.2 in
     let p = err_from_is_err_and c.from_residual.result c.from_residual.ensures.1 in
-    rw (p.1, p.2) (members_left-wrong _ _ _ _ _ _ _ _ left c.in_err-member_of.ensures.words)
+    rw (p.1, p.2) (members_left-wrong _ _ _ _ _ _ _ left _ c.in_err-member_of.ensures.words)
 
 pub loop-part-preserved : goal.loop-part-preserved
 loop-part-preserved c =
     let left = rw c.in-Some.ensures.steps.0 at c.loop-part.invariant.2 in
     let pushed = c.in_ok-push.ensures.items ∙ ap (λ f. c.loop-part.made.items ++ f ∷ []) c.in_ok-member_of.ensures.same in
     let count = ap length c.in-Some.ensures.steps.0 in
-    (tt, tt, members_left-next _ _ _ _ _ _ _ _ _ left c.in_ok-member_of.ensures.words c.in_ok-member_of.ensures.rows pushed, omega (arith, count, c.in-Some.ensures.steps.1, c.loop-part.invariant.3))
+    (tt, tt, members_left-next _ _ _ _ _ _ _ left _ _ c.in_ok-member_of.ensures.words c.in_ok-member_of.ensures.rows pushed, omega (arith, count, c.in-Some.ensures.steps.1, c.loop-part.invariant.3))
