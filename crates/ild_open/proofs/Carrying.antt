@@ -50,7 +50,7 @@ use Rattle.ild_read.specs.declared.fault.OpenFault.{OpenFault}
 use Rattle.ild_read.specs.declared.fault.OpenFault.TheVariants as F
 use Rattle.ild_open.specs.Item.{DataAnswer, IsStopped, LoadsAlone, LoadsBytes, LoadsData, LoadsIn, LoadsPiece, StoppedIn}
 use Rattle.ild_open.specs.Loaded.{IsInBlock, IsRefusedAt, LoadAnswer, Loads}
-use Rattle.ild_open.proofs.Breaking.{only_same}
+use Rattle.ild_read.proofs.Turning.{only_refl}
 
 -- null stands for null alone
 pub is_safe_slot : (rows : List Row) (s : Slot) → is_safe rows s ≡ true → IsSafe rows s
@@ -83,7 +83,7 @@ module _ (h : List ℕ → List ℕ) (rows : List Row) (s : Slot) where
     pub loads_deep : LoadsIn h rows s at.0 t m (Err (F.Block at (B.Shape why))) m
     loads_deep = record {
       answer = (none_held, inl (record { type = ty; cause = why; told_is = refl; here = refl; refusal = x }));
-      only = only_same m;
+      only = only_refl m;
       gets = λ held v told has. omega arith;
     }
 
@@ -150,8 +150,7 @@ module _ (h : List ℕ → List ℕ) (view : View) (m n : Moment) where
   s = slot_of view
 
   in_block : (at : List ℕ) (t : Data) (id : List ℕ) (why : BlockWhy) → IsInBlock (piece_of view) at → IsStopped h rows s at t m n id why → IsRefusedAt h view m t id why n
-  in_block at t id why here (inl x) = (at, here, inl (record { type = x.type; cause = x.cause; told_is = x.told_is; here = x.here; refusal = x.refusal }))
-  in_block at t id why here (inr x) = (at, here, inr x)
+  in_block at t id why here x = (at, here, x)
 
   stopped : (p : Piece) → piece_of view ≡ Some p → (t : Data) (id : List ℕ) (why : BlockWhy) → StoppedIn h rows s p t m n id why → IsRefusedAt h view m t id why n
   stopped (P.Node q) is t id why x = in_block (id_of (block_of q)) t id why (subst (λ o. IsInBlock o (id_of (block_of q))) (sym is) refl) x

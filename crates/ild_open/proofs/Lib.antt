@@ -1,3 +1,2 @@
-pub mod Breaking
 pub mod Carrying
 pub mod Settling

@@ -40,7 +40,8 @@ use Rattle.ild_read.specs.declared.fault.OpenFault.TheVariants as F
 use Rattle.ild_open.specs.Broken.{IsWrongRoot}
 use Rattle.ild_open.specs.Found.{FindAnswer, Finds, HasKept, ReadsRoot}
 use Rattle.ild_open.specs.Opened.{HasOpened, HasValue, IsRootOf, NoneStands, OpenStops, Opens}
-use Rattle.ild_open.proofs.Breaking.{broken_since, only_then, rose_since}
+use Rattle.ild_read.proofs.Breaking.{broken_earlier, rose_later}
+use Rattle.ild_read.proofs.Turning.{only_trans}
 
 some_told : (o : Option (List (List ℕ))) (held : List (List ℕ)) (P : List (List ℕ) → Type 0) → o ≡ Some held → IfTold o P → P held
 some_told o held P is x = subst (λ k. IfTold k P) is x
@@ -139,23 +140,23 @@ module _ (rows : List Row) (schema : IsSchema rows) (h : List ℕ → List ℕ) 
             let a = (own (Ok val) reads).answer held (x.only.blocks ∙ told) in
             record { value = a.value; is = root_stands held (block_in d) t x.answer.at.named (there held told) x.answer.root.root.block a.value a.is; kept = a.kept };
       };
-      only = only_then m k n x.only (own (Ok val) reads).only;
+      only = only_trans m k n x.only (own (Ok val) reads).only;
       gets = gets (Ok val) reads;
     }
 
     broken : (at : List ℕ) (why : BlockWhy) → IsBroken h rows k.blocks k.lacks n.lacks id 96 (plainly ty) t at why → IsBroken h rows m.blocks m.lacks n.lacks id 96 (plainly ty) t at why
-    broken at why b = broken_since h rows m.blocks m.lacks k.lacks n.lacks x.only.later.lacks id 96 (plainly ty) t at why (subst (λ o. IsBroken h rows o k.lacks n.lacks id 96 (plainly ty) t at why) x.only.blocks b)
+    broken at why b = broken_earlier h id rows 96 (plainly ty, t) m k n at why x.only b
 
     breaks : (e : OpenFault) → Reads h id rows 96 (plainly ty, t) keep k (Err e) n → OpenStops h rows ty id m e n
     breaks (F.Block at why) y = (
       λ held v told st. y.answer.0 held v (x.only.blocks ∙ told) (is_held held v st (block_in d) t (there held told) x.answer.root.root.block),
       inr (record { block = block_in d; at = x.answer.at; tree = t; is = x.answer.root.root.block; wrong = broken at.0 why y.answer.1 }),
     )
-    breaks F.Store y = rose_since m.faults k.faults n.faults x.only.later.faults y.answer
+    breaks F.Store y = rose_later m.faults k.faults n.faults x.only.later.faults y.answer
     breaks F.Memory y = tt
 
     pub open_breaks : {A : Type 0} (Done : A → Type 0) (e : OpenFault) → ReadsRoot h rows ty id (block_in d) keep k (Err e) n → Opens Done h rows ty id m (Err e) n
-    open_breaks Done e reads = record { answer = breaks e (own (Err e) reads); only = only_then m k n x.only (own (Err e) reads).only; gets = gets (Err e) reads }
+    open_breaks Done e reads = record { answer = breaks e (own (Err e) reads); only = only_trans m k n x.only (own (Err e) reads).only; gets = gets (Err e) reads }
 
 -- ---- what the callers ask for
 

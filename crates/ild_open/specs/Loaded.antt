@@ -1,29 +1,25 @@
 -- What loading a view answers: the value at it, all of whose HAMTs the store holds, or the block for which there is none.
-use Rattle.std.specs.Prelude.{◌≡◌, ◌⊎◌, ℕ, ◌+◌, ◌≤◌, List, length, Option, Some, Result, Ok, Err}
+use Rattle.std.specs.Prelude.{◌≡◌, ℕ, ◌+◌, ◌≤◌, List, length, Option, Some, Result, Ok, Err}
 use Rattle.ild_cbor.specs.Nodes.{block_of}
 use Rattle.ild_cbor.specs.declared.piece.Piece.{Piece}
 use Rattle.ild_cbor.specs.declared.piece.Piece.TheVariants as P
 use Rattle.ild_cbor.specs.declared.why.BlockWhy.{BlockWhy}
-use Rattle.ild_cbor.specs.declared.why.BlockWhy.TheVariants as B
-use Rattle.ild_cbor.specs.declared.why.Why.{Why}
 use Rattle.ild_data.specs.Data.{Data}
 use Rattle.ild_data.specs.Spell.{id_of}
 use Rattle.ild_edges.specs.Count.{Rose}
 use Rattle.ild_edges.specs.Store.{Moment, block_at}
 use Rattle.ild_schema.specs.Value.{Value}
 use Rattle.ild_schema.specs.ValueSeen.{value_of}
-use Rattle.ild_schema.specs.declared.number.TypeNo.{TypeNo}
 use Rattle.ild_schema.specs.declared.val.Val.{Val}
 use Rattle.ild_typed.specs.Blocks.{nodes}
 use Rattle.ild_view.specs.Body.{BodyStands}
 use Rattle.ild_view.specs.View.{body_of, piece_of, slot_of, table_of}
 use Rattle.ild_view.specs.declared.view.View.{View}
-use Rattle.ild_walk.specs.Checks.{IsRefusal}
 use Rattle.ild_held.specs.Held.{IsHeld}
-use Rattle.ild_read.specs.Broken.{IsBroken}
 use Rattle.ild_read.specs.Reads.{OnlyReads}
 use Rattle.ild_read.specs.declared.fault.OpenFault.{OpenFault}
 use Rattle.ild_read.specs.declared.fault.OpenFault.TheVariants as F
+use Rattle.ild_open.specs.Item.{IsStopped}
 
 -- the value at the view that these data represent, where a store holds these blocks
 abbrev pub IsValueAt : (List ℕ → List ℕ) → List (List ℕ) → View → Data → Value → Type 0
@@ -35,19 +31,10 @@ IsInBlock (Some (P.Node n)) at = at ≡ id_of (block_of n)
 IsInBlock (Some (P.Inline n u)) at = at ≡ id_of (block_of n)
 IsInBlock p at = ⊥
 
--- the data need more room than there is
-pub record IsTooDeep (view : View) (t : Data) (at id : List ℕ) (why : BlockWhy) : Type 0 where
-  pub type : TypeNo
-  pub cause : Why
-  pub told_is : why ≡ B.Shape cause
-  pub here : id ≡ at
-  pub refusal : IsRefusal (table_of view) 96 (slot_of view) t type cause
-
 -- why a block is refused: the value nests too deep at the view, or something is wrong with a HAMT in it
 abbrev pub IsRefusedAt : (List ℕ → List ℕ) → View → Moment → Data → List ℕ → BlockWhy → Moment → Type 0
 IsRefusedAt h view m t id why n =
-    (at : List ℕ) × IsInBlock (piece_of view) at
-    × (IsTooDeep view t at id why ⊎ IsBroken h (table_of view) m.blocks m.lacks n.lacks at 96 (slot_of view) t id why)
+    (at : List ℕ) × IsInBlock (piece_of view) at × IsStopped h (table_of view) (slot_of view) at t m n id why
 
 abbrev pub LoadAnswer : (List ℕ → List ℕ) → View → Moment → Data → Result Val OpenFault → Moment → Type 0
 LoadAnswer h view m t (Ok val) n = (held : List (List ℕ)) → m.blocks ≡ Some held → IsValueAt h held view t (value_of val)
