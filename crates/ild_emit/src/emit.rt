@@ -1,5 +1,5 @@
 //! A buffer of spellings.
-ghost use Rattle.std.specs.Prelude.{◌≡◌, ◌++◌, ◌<◌, [], length, OnOk, OnErr};
+ghost use Rattle.std.specs.Prelude.{◌≡◌, ◌++◌, ◌<◌, [], length, IfOk, OnOk, OnErr};
 ghost use Rattle.ild_cbor.specs.Nodes.{Stands};
 ghost use Rattle.ild_data.specs.Data.{Data};
 ghost use Rattle.ild_data.specs.Spell.{head, spell, spell_int, spell_text, spell_bytes, spell_link, cid_of};
@@ -39,6 +39,15 @@ impl Emit {
         }
     }
 
+    /// Nothing yet, with room for so many bytes.
+    pub fn with_room(alloc: Global, room: usize) -> Result<Emit, AllocError>
+        ensures { IfOk result (λ out. out ≡ []) }
+    {
+        let mut out = Vec::new(alloc);
+        out.reserve(room)?;
+        Ok(Emit { out })
+    }
+
     /// How many bytes were written.
     pub fn len(&self) -> usize
         ensures { result ≡ length self.now }
@@ -56,6 +65,7 @@ impl Emit {
     }
 
     /// Appends an integer, or leaves the buffer unchanged.
+    #[inline(always)]
     pub fn int(&mut self, n: Int) -> Result<(), AllocError>
         ensures ok { OnOk result (self.new ≡ self.old ++ spell_int n) }
         ensures err { OnErr result (self.new ≡ self.old) }

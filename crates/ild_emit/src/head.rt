@@ -1,7 +1,8 @@
 //! The heads of items (RFC 8949, section 3).
-ghost use Rattle.std.specs.Prelude.{◌≡◌, ◌++◌, ◌<◌, ◌≤◌, length, OnOk, OnErr};
+ghost use Rattle.std.specs.Prelude.{◌≡◌, ◌++◌, ◌<◌, length, OnOk, OnErr};
 ghost use Rattle.ild_data.specs.Spell.{head};
 
+use crate::argument::behind_and_low;
 use std::alloc::AllocError;
 
 /// Appends the shortest head, or leaves the buffer unchanged.
@@ -22,27 +23,26 @@ pub fn add_head(out: &mut Vec<u8>, major: u8, n: u64) -> Result<(), AllocError>
 // Appends a head of more than one byte, or leaves the buffer unchanged.
 #[inline(never)]
 fn add_long_head(out: &mut Vec<u8>, major: u8, n: u64) -> Result<(), AllocError>
-    requires major { major < 6 }
-    requires long { 24 ≤ n }
+    requires { major < 6 }
     ensures ok { OnOk result (out.new.items ≡ out.old.items ++ head major n) }
     ensures err { OnErr result (out.new.items ≡ out.old.items) }
 {
-    let first = 32 * major;
-    if n < 0x100 {
-        out.extend_from_slice(&[first + 24, n as u8])?;
-    } else if n < 0x1_0000 {
-        let mut piece = [first + 25; 3];
-        piece[1..].copy_from_slice(&(n as u16).to_be_bytes());
-        out.extend_from_slice(&piece)?;
-    } else if n < 0x1_0000_0000 {
-        let mut piece = [first + 26; 5];
-        piece[1..].copy_from_slice(&(n as u32).to_be_bytes());
-        out.extend_from_slice(&piece)?;
-    } else {
-        let mut piece = [first + 27; 9];
-        piece[1..].copy_from_slice(&n.to_be_bytes());
-        out.extend_from_slice(&piece)?;
-    }
+    add_head_at_once(out, major, n)
+}
+
+/// Appends the shortest head, or leaves the buffer unchanged, with no branch on its length: nine bytes go in, and those behind the head are cut off.
+#[inline(always)]
+pub fn add_head_at_once(out: &mut Vec<u8>, major: u8, n: u64) -> Result<(), AllocError>
+    requires { major < 6 }
+    ensures ok { OnOk result (out.new.items ≡ out.old.items ++ head major n) }
+    ensures err { OnErr result (out.new.items ≡ out.old.items) }
+{
+    let before = out.len();
+    let (behind, low) = behind_and_low(n);
+    let mut piece = [32 * major + low; 9];
+    piece[1..].copy_from_slice(&(n << ((64 - 8 * behind) % 64)).to_be_bytes());
+    out.extend_from_slice(&piece)?;
+    out.truncate(before + 1 + behind);
     Ok(())
 }
 

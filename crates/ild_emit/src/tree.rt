@@ -1,12 +1,12 @@
 //! Whole trees, and the links in them.
-ghost use Rattle.std.specs.Prelude.{◌≡◌, ◌++◌, ◌∷◌, [], OnOk, OnErr};
-ghost use Rattle.ild_data.specs.Spell.{spell, spell_int, spell_link};
+ghost use Rattle.std.specs.Prelude.{◌≡◌, ◌++◌, ◌∷◌, ◌<◌, [], OnOk, OnErr};
+ghost use Rattle.ild_data.specs.Spell.{head, spell, spell_int, spell_link};
 ghost use Rattle.ild_data.specs.Data.{list, map};
 ghost use Rattle.ild_data.specs.Seen.{data_of};
 ghost use Rattle.ild_emit.specs.Grown.{IsGrown};
 ghost use Rattle.ild_emit.specs.Simple.{simple_data};
 
-use crate::head::{add_head, add_string};
+use crate::head::{add_head, add_head_at_once, add_string};
 use ild_data::{Entries, Int, Tree, Trees};
 use std::alloc::AllocError;
 
@@ -30,17 +30,28 @@ pub fn add_simple(out: &mut Vec<u8>, b: Option<bool>) -> Result<(), AllocError>
     Ok(())
 }
 
+// The major type and the argument of an integer.
+#[inline(always)]
+fn major_and_argument(n: Int) -> (u8, u64)
+    ensures low { result.0 < 6 }
+    ensures same { head result.0 result.1 ≡ spell_int n }
+{
+    let n = n.get();
+    if n >= 0 {
+        (0, n as u64)
+    } else {
+        (1, (-1 - n) as u64)
+    }
+}
+
 /// Appends an integer, or leaves the buffer unchanged.
+#[inline(always)]
 pub fn add_int(out: &mut Vec<u8>, n: Int) -> Result<(), AllocError>
     ensures ok { OnOk result (out.new.items ≡ out.old.items ++ spell_int n) }
     ensures err { OnErr result (out.new.items ≡ out.old.items) }
 {
-    let n = n.get();
-    if n >= 0 {
-        add_head(out, 0, n as u64)
-    } else {
-        add_head(out, 1, (-1 - n) as u64)
-    }
+    let (major, argument) = major_and_argument(n);
+    add_head_at_once(out, major, argument)
 }
 
 /// Appends a link to a binary CID, or leaves the buffer unchanged.

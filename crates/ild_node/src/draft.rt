@@ -7,7 +7,7 @@ ghost use Rattle.ild_node.specs.Hashed.{AreHashed};
 
 use crate::hashed::HashedEntry;
 use crate::slots::MOST_SLOTS;
-use crate::write::{are_bytes, begin, count_of};
+use crate::write::{are_bytes, begin_for, count_of};
 use ild_data::{BlockId, Octets};
 use ild_emit::Emit;
 use std::alloc::{AllocError, Global};
@@ -39,14 +39,14 @@ impl Draft {
     ghost use Rattle.ild_node.specs.Hashed.{AreHashed};
     ghost use Rattle.ild_node.specs.Written.{IsNodeBlock};
 
-    /// No slot yet.
-    pub fn new(alloc: Global) -> Draft
-        ensures { HasWritten result [] }
+    /// No slot yet, with room for so many bytes of elements.
+    pub fn with_room(alloc: Global, room: usize) -> Result<Draft, AllocError>
+        ensures { IfOk result (λ draft. HasWritten draft []) }
     {
-        Draft {
+        Ok(Draft {
             used: [false; MOST_SLOTS],
-            elements: Emit::new(alloc),
-        }
+            elements: Emit::with_room(alloc, room)?,
+        })
     }
 
     /// Appends the link to the block of a child, at the index behind those of the slots so far. (An index that is passed over
@@ -74,7 +74,8 @@ impl Draft {
     pub fn finish(self, alloc: Global) -> Result<Octets, AllocError>
         ensures { (slots : List TrieSlot) → HasWritten self slots → length slots ≡ 2 ^ usual.width → IfOk result (IsNodeBlock usual slots) }
     {
-        let mut out = begin(alloc, &self.used, count_of(&self.used))?;
+        let room = self.elements.len();
+        let mut out = begin_for(alloc, &self.used, count_of(&self.used), room)?;
         out.spelled(self.elements.finish().as_slice())?;
         Ok(out.finish())
     }
