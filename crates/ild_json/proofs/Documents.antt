@@ -1,15 +1,11 @@
 -- A JSON document in which nothing is at fault, part by part, and the data that it means.
-use Rattle.std.proofs.Common.{◌≡◌, ℕ, zero, suc, ◌+◌, ◌^◌, ◌<◌, ◌≤◌, ℤ, pos, negsuc, int_lt, SFits, w64, decimal, get_or, Ordering, Less, Equal, Greater, List, [], ◌∷◌, ◌++◌}
+use Rattle.std.proofs.Common.{◌≡◌, ℕ, zero, suc, ◌<◌, ◌≤◌, ℤ, pos, negsuc, get_or, List, [], ◌∷◌, ◌++◌}
 use Rattle.std.proofs.Common.{length, map, Bool, true, false, if◌then◌else◌, Option, Some, None, option_map, option_and_then, Result, Ok, Err, nat_cmp, IsPermutation, refl, sym, ap, ◌∙◌, subst, arith, rules, Bor, Vec}
 use Rattle.std.proofs.lemmas.List.{map-append}
 use Rattle.std.proofs.lemmas.List.Elements.{All-from_recursion, recursion_from_All}
 use Rattle.std.proofs.lemmas.List.Sorted.{All-permutation, IsPermutation-map, IsPermutation-sym}
 use Rattle.std.specs.Cmp.Lexicographic.{slice_cmp}
-use Rattle.std.specs.Bool.{OnTrue}
-use Rattle.std.specs.Fmt.{signed_decimal}
-use Rattle.std.specs.List.{AllByRecursion, AllAdjacentBelow, IsAllAdjacentAnswer}
-use Rattle.std.specs.Ordering.{is_lt}
-use Rattle.std.specs.Cmp.Lexicographic.{same_text as text_same}
+use Rattle.std.specs.List.{AllByRecursion}
 use Rattle.std.specs.declared.alloc.Global.{Global}
 use Rattle.json.specs.Tree as tree
 use Rattle.json.specs.Find.{as_str}
@@ -28,9 +24,9 @@ use Rattle.json.specs.Value.{value_view, items_view, members_view}
 use Rattle.serde_json.specs.Data as json
 use Rattle.serde_json.specs.Read.{read, number_of, of_json, of_items, of_members}
 use Rattle.serde_json.specs.Find.{of_integer, as_str as json_str}
-use Rattle.serde_json.proofs.Numbers.{number_of-decimal, number_of-negative}
 use Rattle.ild_data.specs.Data.{Data, null, boolean, integer, text, list, map as map_of, Items, items_list, Members, no_members, member, members_of, members_list}
-use Rattle.ild_data.specs.Key.{key_cmp, key_less, same_text, Rises}
+use Rattle.ild_data.specs.Key.{same_text, Rises}
+use Rattle.ild_order.specs.Keys.{under_keys}
 use Rattle.ild_data.proofs.Lists.{items_of-items_list, members_of-members_list}
 use Rattle.ild_json.specs.Printing.{is_slash_alone}
 use Rattle.ild_json.specs.Reading.{and_others, number_read, link_read, bytes_read, bytes_form, data_read, items_read, members_read, object_read, list_or_fault, map_or_fault, put_all, json_read}
@@ -245,37 +241,14 @@ member_depth ms es i m moved lt is =
     each [] n le = tt
     each (k ∷ ns) n le = (omega (arith, le), each ns n (omega (arith, le)))
 
-less_first : (o : Ordering) → true ≡ is_lt o → o ≡ Less
-less_first Less e = refl
-less_first Equal e = absurd cc
-less_first Greater e = absurd cc
+-- members whose keys rise, with their values seen as documents
+members_rise : (ms : List Member) → Rises (under_keys (λ (m : Member). m.0.now) ms) → Rises (members_seen ms)
+members_rise [] up = tt
+members_rise (m ∷ []) up = (tt, tt)
+members_rise (m ∷ n ∷ ms) up = (up.0, members_rise (n ∷ ms) up.1)
 
-rising : (ms : List Member) → AllAdjacentBelow (λ (m n : Member). true ≡ key_less m.0.now n.0.now) ms (length ms) → Rises (members_seen ms)
-rising [] all = tt
-rising (m ∷ []) all = (tt, tt)
-rising (m ∷ n ∷ ms) all = (
-  less_first (key_cmp m.0.now n.0.now) (all 0 m (omega arith)),
-  rising (n ∷ ms) (λ k d lt. let next : suc k + 1 ≡ suc (k + 1) = omega arith in
-      subst (λ (j : ℕ). true ≡ key_less (get_or (n ∷ ms) k d).0.now (get_or (m ∷ n ∷ ms) j d).0.now) next (all (suc k) d (omega (arith, lt)))),
-)
-
-pub rising_if : (r : Bool) (ms : List Member) → IsAllAdjacentAnswer (λ (m n : Member) b. b ≡ key_less m.0.now n.0.now) ms r → OnTrue r (Rises (members_seen ms))
-rising_if true ms all = rising ms all
-rising_if false ms all = tt
-
--- ---- numbers
-
-pub decimal_told : (r : Bool) (t s : List ℕ) (n : ℕ) → r ≡ same_text t s → t ≡ decimal n → n < 2 ^ 64 → OnTrue r (number_of s ≡ Some (json.unsigned n))
-decimal_told true t s n told is small = ap number_of (sym (text_same t s told) ∙ is) ∙ number_of-decimal n small
-decimal_told false t s n told is small = tt
-
-negative_read : (z : ℤ) → int_lt z (pos 0) ≡ true → SFits w64 z → number_of (signed_decimal z) ≡ Some (of_integer z)
-negative_read (pos n) e fits = absurd (grind arith)
-negative_read (negsuc n) e fits = number_of-negative n (grind arith)
-
-pub negative_told : (r : Bool) (t s : List ℕ) (z : ℤ) → r ≡ same_text t s → t ≡ signed_decimal z → int_lt z (pos 0) ≡ true → SFits w64 z → OnTrue r (number_of s ≡ Some (of_integer z))
-negative_told true t s z told is below fits = ap number_of (sym (text_same t s told) ∙ is) ∙ negative_read z below fits
-negative_told false t s z told is below fits = tt
+pub sorted_members : (ms es : List Member) → IsPermutation ms es → Rises (under_keys (λ (m : Member). m.0.now) es) → InKeyOrder ms es
+sorted_members ms es moved up = record { same = moved; rises = members_rise es up }
 
 -- ---- what stands under `/`
 

@@ -10,3 +10,4 @@ pub mod Back
 pub mod Documents
 pub mod Depths
 pub mod Meaning
+mod Numbers

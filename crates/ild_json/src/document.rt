@@ -1,20 +1,19 @@
 //! From a JSON document in which nothing is at fault to its tree. Where something is, `None` is the answer, and the walk of
 //! `tree_of` tells the first fault.
 ghost use Rattle.std.specs.Prelude.{◌≡◌, Some, IfSome};
-ghost use Rattle.std.specs.Bool.{OnTrue};
 ghost use Rattle.json.specs.Json.{array, object, member, no_members};
 ghost use Rattle.json.specs.Value.{value_view, items_view, members_view};
-ghost use Rattle.serde_json.specs.Data.{unsigned};
 ghost use Rattle.serde_json.specs.Find.{of_integer};
 ghost use Rattle.serde_json.specs.Read.{number_of};
 ghost use Rattle.ild_data.specs.Data.{list, map};
-ghost use Rattle.ild_data.specs.Key.{Rises};
 ghost use Rattle.ild_data.specs.Seen.{data_of};
-ghost use Rattle.ild_json.specs.Sound.{Means, MeansReserved, InKeyOrder, members_seen};
+ghost use Rattle.ild_json.specs.Sound.{Means, MeansReserved, InKeyOrder};
 
+use crate::decimal::{below_zero, natural};
 use crate::object::{BYTES, SLASH, bytes, link};
 use crate::show::is_slash_alone;
-use ild_data::{Entries, Int, Tree, Trees, Txt, key_less, key_order};
+use ild_data::{Entries, Int, Tree, Trees, Txt};
+use ild_order::sort_by_key;
 use json::Value;
 use std::alloc::Global;
 
@@ -44,36 +43,10 @@ fn text_of(alloc: Global, text: &str) -> Option<Txt>
 fn integer(text: &str) -> Option<Int>
     ensures { IfSome result (λ n. number_of text.now ≡ Some (of_integer n)) }
 {
-    match text.parse::<u64>() {
-        Ok(n) if is_natural(n, text) => Int::new(n as i128),
-        _ => negative(text),
+    match natural(text) {
+        Some(n) => Int::new(n as i128),
+        None => Int::new(below_zero(text)? as i128),
     }
-}
-
-/// The integer below 0 whose decimal a number is.
-fn negative(text: &str) -> Option<Int>
-    ensures { IfSome result (λ n. number_of text.now ≡ Some (of_integer n)) }
-{
-    match text.parse::<i64>() {
-        Ok(n) if is_negative(n, text) => Int::new(n as i128),
-        _ => None,
-    }
-}
-
-/// Whether a text is this number's decimal.
-fn is_natural(n: u64, text: &str) -> bool
-    ensures { OnTrue result (number_of text.now ≡ Some (unsigned n)) }
-{
-    let mut buffer = itoa::Buffer::new();
-    buffer.format(n) == text
-}
-
-/// Whether a text is this number's decimal, and it is below 0.
-fn is_negative(n: i64, text: &str) -> bool
-    ensures { OnTrue result (number_of text.now ≡ Some (of_integer n)) }
-{
-    let mut buffer = itoa::Buffer::new();
-    n < 0 && buffer.format(n) == text
 }
 
 /// The items of a list, in order.
@@ -125,7 +98,7 @@ fn reserved_of(alloc: Global, value: &Value<'_>) -> Option<Tree>
 fn entries_of<'a>(alloc: Global, members: Vec<(&'a str, Value<'a>)>) -> Option<Entries>
     ensures { IfSome result (λ t. Means (object (members_view members.entry.items)) (map t)) }
 {
-    let sorted = in_key_order(members)?;
+    let sorted = in_key_order(alloc, members)?;
     let mut pairs = Vec::with_capacity(alloc, sorted.len()).ok()?;
     for (key, member) in sorted {
         let tree = tree_of(alloc, member)?;
@@ -139,22 +112,17 @@ fn entries_of<'a>(alloc: Global, members: Vec<(&'a str, Value<'a>)>) -> Option<E
     Some(entries)
 }
 
-/// The members in the key order, or `None` where a key comes twice or memory is wanting.
-fn in_key_order<'a>(members: Vec<(&'a str, Value<'a>)>) -> Option<Vec<(&'a str, Value<'a>)>>
+/// The members in the key order, or `None` where a key comes twice.
+fn in_key_order<'a>(
+    alloc: Global,
+    members: Vec<(&'a str, Value<'a>)>,
+) -> Option<Vec<(&'a str, Value<'a>)>>
     ensures { IfSome result (λ v. InKeyOrder members.entry.items v.items) }
 {
     let mut sorted = members;
-    sorted.sort_by(|a, b| key_order(a.0, b.0)).ok()?;
-    if are_rising(&sorted) {
+    if sort_by_key(alloc, &mut sorted) {
         Some(sorted)
     } else {
         None
     }
-}
-
-/// Whether each key comes before the next.
-fn are_rising<'a>(members: &[(&'a str, Value<'a>)]) -> bool
-    ensures { OnTrue result (Rises (members_seen members.now)) }
-{
-    members.is_sorted_by(|a, b| key_less(a.0, b.0))
 }

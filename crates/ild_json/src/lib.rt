@@ -1,6 +1,7 @@
 //! DAG-JSON both ways: trees of the data model from JSON texts, and their one text.
 #![tactic(auto)]
 
+mod decimal;
 mod document;
 mod error;
 mod law;

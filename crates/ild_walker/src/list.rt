@@ -8,17 +8,19 @@ ghost use Rattle.ild_walker.specs.Checked.{InKeyOrder, Walks};
 
 use crate::row::Row;
 use crate::walker::Walker;
-use ild_data::{BlockId, KeyHash, key_order};
+use ild_data::{BlockId, KeyHash};
 use ild_edges::Store;
 use ild_node::{HamtFault, NodeView};
+use ild_order::sort_by_key;
 use std::alloc::Global;
 
 // Brings rows into the order of keys.
-fn sort_rows(rows: &mut Vec<Row>)
+fn sort_rows(alloc: Global, rows: &mut Vec<Row>)
     ensures same { IsPermutation rows.old.items rows.new.items }
     ensures order { InKeyOrder rows.new.items }
 {
-    rows.sort_unstable_by(|a, b| key_order(a.key.as_str(), b.key.as_str()));
+    // That no two are alike is known of the entries of a HAMT.
+    let _apart = sort_by_key(alloc, rows);
 }
 
 /// All entries beneath a root, which stands in the block of this id, in the order of their keys: the shorter first, then bytewise.
@@ -37,6 +39,6 @@ pub fn walk<K: Store, H: KeyHash>(
     while let Some(row) = walker.next(keys, store)? {
         rows.push(row)?;
     }
-    sort_rows(&mut rows);
+    sort_rows(alloc, &mut rows);
     Ok(rows)
 }
