@@ -1,5 +1,5 @@
 -- Hashed entries: parts of them by index are those of parts of the entries.
-use Rattle.std.proofs.Common.{◌≡◌, ◌<◌, ◌==◌, ℕ, Bool, true, false, cond, length, get_or, List, [], ◌∷◌, refl, sym, ap, ◌∙◌, subst, filter}
+use Rattle.std.proofs.Common.{◌≡◌, ◌<◌, ◌^◌, ◌==◌, ℕ, Bool, true, false, cond, length, get_or, List, [], ◌∷◌, refl, sym, ap, ◌∙◌, subst, filter}
 use Rattle.std.specs.Prelude.{IsUtf8}
 use Rattle.std.specs.List.{AllByRecursion}
 use Rattle.std.specs.Global.{Vec}
@@ -11,7 +11,7 @@ use Rattle.ild_typed.specs.Nested.{TreeIn}
 use Rattle.ild_node.specs.Hashed.{AreHashed}
 use Rattle.ild_node.specs.Rows.{AreRows, deepest_value}
 use Rattle.ild_node.specs.declared.hashed.HashedEntry.{HashedEntry}
-use Rattle.ild_bulk.specs.Keyed.{Parted, hashed_index, hashed_part}
+use Rattle.ild_bulk.specs.Keyed.{HasParts, Parted, hashed_index, hashed_part}
 
 -- those of one index
 pub hashed-part : (h : List ℕ → List ℕ) (p : TrieShape) (depth : ℕ) (es : List (List ℕ × Data)) (ks : List HashedEntry) (i : ℕ) → AreHashed h es ks → AreHashed h (part (at_depth h p depth) es i) (hashed_part p depth ks i)
@@ -41,6 +41,11 @@ pub hashed-in : (h : List ℕ → List ℕ) (p : TrieShape) (depth count : ℕ) 
     → Parted (hashed_index p depth) count ks parts → i < count → v ≡ get_or parts i v → AreHashed h (part (at_depth h p depth) es i) v.items
 hashed-in h p depth count es ks parts i v are parted lt is =
     subst (λ (js : List HashedEntry). AreHashed h (part (at_depth h p depth) es i) js) (sym (ap (λ (w : Vec HashedEntry). w.items) is ∙ parted.each i v lt)) (hashed-part h p depth es ks i are)
+
+-- parts of pieces
+pub parted-has : (h : List ℕ → List ℕ) (p : TrieShape) (depth : ℕ) (es : List (List ℕ × Data)) (ks : List HashedEntry) (parts ps : List (Vec HashedEntry)) → AreHashed h es ks → Parted (hashed_index p depth) (2 ^ p.width) ks parts → ps ≡ parts
+    → HasParts h p depth es ps
+parted-has h p depth es ks parts ps are parted same = record { pieces = ks; are = are; parted = subst (λ (qs : List (Vec HashedEntry)). Parted (hashed_index p depth) (2 ^ p.width) ks qs) (sym same) parted }
 
 all_part : {X : Type 0} (P : X → Type 0) (f : X → Bool) (xs : List X) → AllByRecursion P xs → AllByRecursion P (filter f xs)
 all_part P f [] all = tt

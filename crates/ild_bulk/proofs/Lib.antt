@@ -1,6 +1,7 @@
 pub mod Parting
 pub mod Keys
 pub mod Marking
+pub mod Apart
 pub mod Childs
 pub mod Building
 pub mod Puts

@@ -1,11 +1,12 @@
 -- Rows with the hashes of their keys, and their spellings in one buffer.
-use Rattle.std.specs.Prelude.{◌≡◌, ◌<◌, ℕ, ◌==◌, List, [], ◌∷◌, length, slice_index_or}
+use Rattle.std.specs.Prelude.{◌≡◌, ◌<◌, ◌^◌, ℕ, ◌==◌, List, [], ◌∷◌, length, slice_index_or}
 use Rattle.std.specs.List.{AllByRecursion, filter, flat_map}
 use Rattle.std.specs.Global.{Vec}
 use Rattle.ild_data.specs.Data.{Data}
 use Rattle.ild_data.specs.Spell.{spell}
 use Rattle.ild_data.specs.Trie.{entry_data}
 use Rattle.ild_data.specs.TrieShape.{TrieShape, index}
+use Rattle.ild_node.specs.Hashed.{AreHashed}
 use Rattle.ild_node.specs.Keyed.{keyed_seen}
 use Rattle.ild_node.specs.declared.keyed.Keyed.{Keyed}
 use Rattle.ild_node.specs.declared.hashed.HashedEntry.{HashedEntry}
@@ -54,6 +55,12 @@ hashed_part p depth ks i = filter (λ k. hashed_index p depth k == i) ks
 pub record Parted (at : HashedEntry → ℕ) (count : ℕ) (ks : List HashedEntry) (parts : List (Vec HashedEntry)) : Type 0 where
   pub many : length parts ≡ count
   pub each : (i : ℕ) (z : Vec HashedEntry) → i < count → (slice_index_or parts i z).items ≡ filter (λ k. at k == i) ks
+
+-- the pieces of entries stand in their parts
+pub record HasParts (h : List ℕ → List ℕ) (p : TrieShape) (depth : ℕ) (es : List (List ℕ × Data)) (parts : List (Vec HashedEntry)) : Type 0 where
+  pub pieces : List HashedEntry
+  pub are : AreHashed h es pieces
+  pub parted : Parted (hashed_index p depth) (2 ^ p.width) pieces parts
 
 -- vectors without entries
 pub record AreEmpty (count : ℕ) (parts : List (Vec HashedEntry)) : Type 0 where

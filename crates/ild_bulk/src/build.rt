@@ -10,8 +10,8 @@ ghost use Rattle.ild_bulk.specs.Build.{Builds, is_long, any_long, plan_of};
 ghost use Rattle.ild_bulk.specs.Children.{AddsWhole};
 ghost use Rattle.ild_bulk.specs.Planned.{PlansNode};
 
-use crate::entries::{entries_of, pieces};
-use crate::plan::plan_node;
+use crate::entries::entries_of;
+use crate::plan::plan_marked;
 use crate::planned::PlannedBlock;
 use crate::put::put_all;
 use ild_data::{KeyHash, LONGEST_BLOCK, Octets};
@@ -49,9 +49,7 @@ pub fn plan_rows<H: KeyHash>(
 {
     let spelled = entries_of(alloc, entries.as_slice(), keys)?;
     let bytes = spelled.out.finish();
-    let pieces = pieces(alloc, bytes.as_slice(), &spelled.marks)?;
-    let mut spare = Vec::new(alloc);
-    plan_node(alloc, &pieces, 0, &mut spare, blocks)
+    plan_marked(alloc, bytes.as_slice(), &spelled.marks, blocks)
 }
 
 /// The root node of the HAMT of these entries. The blocks beneath it are put, each behind those beneath it; the root isn't

@@ -11,6 +11,9 @@ use ild_emit::Emit;
 use ild_node::{HashedEntry, Keyed, Row, add_entry};
 use std::alloc::{AllocError, Global};
 
+/// For each of many entries so many bytes are taken at once.
+const USUAL_ENTRY: usize = 16;
+
 /// The hash of an entry's key, and how many bytes the entry takes.
 #[derive(Clone, Copy)]
 pub(crate) struct Mark {
@@ -32,7 +35,7 @@ fn none_yet(alloc: Global, count: usize) -> Result<Entries, AllocError>
     let mut marks = Vec::new(alloc);
     marks.reserve(count)?;
     Ok(Entries {
-        out: Emit::new(alloc),
+        out: Emit::with_room(alloc, count.saturating_mul(USUAL_ENTRY))?,
         marks,
     })
 }

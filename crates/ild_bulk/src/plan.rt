@@ -10,10 +10,10 @@ ghost use Rattle.ild_node.specs.Hashed.{AreHashed};
 ghost use Rattle.ild_node.specs.Keyed.{keyed_rows};
 ghost use Rattle.ild_node.specs.NewSlots.{IsFilledSlot};
 ghost use Rattle.ild_node.specs.Rows.{AreRows};
-ghost use Rattle.ild_bulk.specs.Keyed.{AreEmpty, AreKeyed, Parted, hashed_index, hashed_part};
+ghost use Rattle.ild_bulk.specs.Keyed.{AreEmpty, AreKeyed, AreMarked, HasParts, Parted, entries_spelled, hashed_index, hashed_part};
 ghost use Rattle.ild_bulk.specs.Planned.{PlansInto, PlansNode, PlansSlot};
 
-use crate::entries::{entries_with, pieces};
+use crate::entries::{Mark, entries_with, pieces};
 use crate::planned::PlannedBlock;
 use ild_data::Octets;
 use ild_node::{
@@ -24,11 +24,53 @@ use std::alloc::{AllocError, Global};
 /// So many entries at most are looked through for each index that they have.
 const FEW: usize = 24;
 
+/// The number of many entries, divided by this, is seldom less than that of those with the same index.
+const USUAL_SHARE: usize = 208;
+
+/// How many bytes the link to a child takes.
+const LINK_ROOM: usize = 41;
+
 /// The entries of a node by the index of their keys.
 type Parts<'r> = Vec<Vec<HashedEntry<'r>>>;
 
-// As many empty vectors as a node has slots. Those of a node that is done are taken again.
-fn emptied<'r>(alloc: Global, spare: Option<Parts<'r>>) -> Result<Parts<'r>, AllocError>
+// How many bytes the elements of a node take, or a few more. Entries of one node stand far apart in their buffer, so the ends of each
+// are looked at here: these loads don't wait for one another, and find the entries before they are copied one by one.
+fn room_of(entries: &[HashedEntry<'_>]) -> usize {
+    if entries.len() > SLOTS * BUCKET_SIZE {
+        return SLOTS * LINK_ROOM;
+    }
+    let mut room: usize = 0;
+    let mut seen: u8 = 0;
+    for hashed in entries {
+        room = room.saturating_add(hashed.entry.len().saturating_add(2));
+        seen |= end_bytes(hashed.entry);
+    }
+    room.saturating_add(seen as usize)
+}
+
+// The bits that the first or the last of some bytes has.
+fn end_bytes(bytes: &[u8]) -> u8 {
+    match (bytes.first(), bytes.last()) {
+        (Some(first), Some(last)) => *first | *last,
+        _ => 0,
+    }
+}
+
+// An empty vector with room for so many entries.
+fn part_for<'r>(alloc: Global, room: usize) -> Result<Vec<HashedEntry<'r>>, AllocError>
+    ensures { IfOk result (λ part. part.items ≡ []) }
+{
+    let mut part = Vec::new(alloc);
+    part.reserve(room)?;
+    Ok(part)
+}
+
+// As many empty vectors as a node has slots, new ones with room for so many entries. Those of a node that is done are taken again.
+fn emptied<'r>(
+    alloc: Global,
+    spare: Option<Parts<'r>>,
+    room: usize,
+) -> Result<Parts<'r>, AllocError>
     ensures { IfOk result (λ parts. AreEmpty (2 ^ usual.width) parts.items) }
 {
     let mut parts = match spare {
@@ -40,7 +82,7 @@ fn emptied<'r>(alloc: Global, spare: Option<Parts<'r>>) -> Result<Parts<'r>, All
         if i < parts.len() {
             parts[i].clear();
         } else {
-            parts.push(Vec::new(alloc))?;
+            parts.push(part_for(alloc, room)?)?;
         }
     }
     Ok(parts)
@@ -56,10 +98,35 @@ fn parted<'r>(
     requires { depth < trie_levels usual }
     ensures { IfOk result (λ parts. Parted (hashed_index usual depth) (2 ^ usual.width) entries.now parts.items) }
 {
-    let mut parts = emptied(alloc, spare)?;
+    let mut parts = emptied(alloc, spare, entries.len() / USUAL_SHARE)?;
     for entry in entries {
         let index = index_of(&entry.hash, depth);
         parts[index as usize].push(*entry)?;
+    }
+    Ok(parts)
+}
+
+// The entries of marks, cut out of their bytes, by the index of their keys at a depth.
+fn cut_apart<'r>(
+    alloc: Global,
+    bytes: &'r [u8],
+    marks: &[Mark],
+    depth: u32,
+) -> Result<Parts<'r>, AllocError>
+    requires { depth < trie_levels usual }
+    ensures many { IfOk result (λ parts. length parts.items ≡ 2 ^ usual.width) }
+    ensures parts { (h : List ℕ → List ℕ) (es : List (List ℕ × Data)) → AreMarked h es marks.now → bytes.now ≡ entries_spelled es → IfOk result (λ parts. HasParts h usual depth es parts.items) }
+{
+    let mut parts = emptied(alloc, None, marks.len() / USUAL_SHARE)?;
+    let mut rest = bytes;
+    for mark in marks {
+        let (entry, more) = rest.split_at(mark.len.min(rest.len()));
+        let index = index_of(&mark.hash, depth);
+        parts[index as usize].push(HashedEntry {
+            hash: mark.hash,
+            entry,
+        })?;
+        rest = more;
     }
     Ok(parts)
 }
@@ -110,6 +177,25 @@ fn next_index(entries: &[HashedEntry<'_>], depth: u32, from: usize) -> usize
     least
 }
 
+/// The block of the root node of entries that are marked in their bytes. The blocks beneath it are appended, each behind those beneath it.
+pub(crate) fn plan_marked(
+    alloc: Global,
+    bytes: &[u8],
+    marks: &[Mark],
+    blocks: &mut Vec<PlannedBlock>,
+) -> Result<Octets, HamtFault>
+    ensures { (h : List ℕ → List ℕ) (es : List (List ℕ × Data)) → AreMarked h es marks.now → bytes.now ≡ entries_spelled es → AreRows es
+        → PlansNode h usual (trie_levels usual - 0) 0 es result blocks.old.items blocks.new.items }
+{
+    let mut spare = Vec::new(alloc);
+    if marks.len() <= SLOTS * BUCKET_SIZE {
+        let pieces = pieces(alloc, bytes, marks)?;
+        return plan_node(alloc, &pieces, 0, &mut spare, blocks);
+    }
+    let parts = cut_apart(alloc, bytes, marks, 0)?;
+    plan_parts(alloc, &parts, 0, SLOTS * LINK_ROOM, &mut spare, blocks)
+}
+
 // The rows of a bucket, made anew.
 fn bucket_of(alloc: Global, rows: &[Keyed<'_>]) -> Result<Rows, AllocError>
     requires { AreRows (keyed_rows rows.now) }
@@ -158,7 +244,27 @@ fn plan_many<'r>(
         → PlansNode h usual (trie_levels usual - depth) depth es result blocks.old.items blocks.new.items }
 {
     let parts = parted(alloc, entries, depth, spare.pop())?;
-    let mut draft = Draft::new(alloc);
+    let block = plan_parts(alloc, &parts, depth, room_of(entries), spare, blocks)?;
+    spare.push(parts)?;
+    Ok(block)
+}
+
+/// The same of entries that stand in their parts already, with room for so many bytes of elements.
+#[cycle(plan)]
+pub(crate) fn plan_parts<'r>(
+    alloc: Global,
+    parts: &[Vec<HashedEntry<'r>>],
+    depth: u32,
+    room: usize,
+    spare: &mut Vec<Parts<'r>>,
+    blocks: &mut Vec<PlannedBlock>,
+) -> Result<Octets, HamtFault>
+    requires depth { depth < trie_levels usual }
+    requires many { length parts.now ≡ 2 ^ usual.width }
+    ensures { (h : List ℕ → List ℕ) (es : List (List ℕ × Data)) → HasParts h usual depth es parts.now → AreRows es
+        → PlansNode h usual (trie_levels usual - depth) depth es result blocks.old.items blocks.new.items }
+{
+    let mut draft = Draft::with_room(alloc, room)?;
     for i in 0..SLOTS {
         plan_part(
             alloc,
@@ -170,7 +276,6 @@ fn plan_many<'r>(
             blocks,
         )?;
     }
-    spare.push(parts)?;
     Ok(draft.finish(alloc)?)
 }
 
@@ -187,8 +292,8 @@ fn plan_few<'r>(
     ensures { (h : List ℕ → List ℕ) (es : List (List ℕ × Data)) → AreHashed h es entries.now → AreRows es
         → PlansNode h usual (trie_levels usual - depth) depth es result blocks.old.items blocks.new.items }
 {
-    let mut draft = Draft::new(alloc);
-    let mut part = Vec::new(alloc);
+    let mut draft = Draft::with_room(alloc, room_of(entries))?;
+    let mut part = part_for(alloc, entries.len())?;
     let mut i = next_index(entries, depth, 0);
     while i < SLOTS {
         part_of(entries, depth, i, &mut part)?;

@@ -7,34 +7,42 @@ use Rattle.ild_node.specs.Hashed.{AreHashed}
 use Rattle.ild_node.specs.declared.hashed.HashedEntry.{HashedEntry}
 use Rattle.ild_node.proofs.Drafting.{hashed-many, written-skip}
 use Rattle.ild_bulk.proofs.Building.{plans-exhausted, plans-first, plans-step, plans-skip, plans-stop, plans-done, into-empty, into-few, into-many, into-stop, fills}
-use Rattle.ild_bulk.proofs.Keys.{hashed-part, hashed-in, rows-part}
+use Rattle.ild_bulk.proofs.Keys.{hashed-part, hashed-in, parted-has, rows-part}
 use Rattle.ild_bulk.proofs.plan.+plan.Goals as goal
 
 pub plan_node-returns-then-depth-ge-LEVELS : goal.plan_node-returns-then-depth-ge-LEVELS
 plan_node-returns-then-depth-ge-LEVELS t c = λ h es are rows. plans-exhausted h usual c.args.depth es (omega arith)
 
-pub plan_many-loop-i-init : goal.plan_many-loop-i-init
-plan_many-loop-i-init t c = λ h es are rows. plans-first h usual c.args.depth es _ _ c.new-draft.ensures
+pub plan_many-returns : goal.plan_many-returns
+plan_many-returns t c = λ h es are rows. c.in_ok-block.ensures h es (parted-has h usual c.args.depth es c.args.entries.now _ _ are c.in_ok-parts.ensures c.deref.ensures.value) rows
 
-pub plan_many-loop-i-preserved : goal.plan_many-loop-i-preserved
-plan_many-loop-i-preserved t c = λ h es are rows.
+pub plan_many-returns-in_err-block : goal.plan_many-returns-in_err-block
+plan_many-returns-in_err-block t c = λ h es are rows.
+    let p = err_from_is_err_and c.from_residual-in_err-block.result c.from_residual-in_err-block.ensures.1 in
+    rw (p.1, p.2) (c.in_err-block.ensures h es (parted-has h usual c.args.depth es c.args.entries.now _ _ are c.in_ok-parts.ensures c.deref.ensures.value) rows)
+
+pub plan_parts-loop-i-init : goal.plan_parts-loop-i-init
+plan_parts-loop-i-init t c = λ h es are rows. plans-first h usual c.args.depth es _ _ c.in_ok-draft.ensures
+
+pub plan_parts-loop-i-preserved : goal.plan_parts-loop-i-preserved
+plan_parts-loop-i-preserved t c = λ h es are rows.
     let was = c.loop-i.invariant h es are rows in
-    let here = hashed-in h usual c.args.depth (2 ^ usual.width) es c.args.entries.now c.in_ok-parts.parts.items c.loop-i.i c.index.result.now are c.in_ok-parts.ensures (omega arith) c.index.ensures in
+    let here = hashed-in h usual c.args.depth (2 ^ usual.width) es are.pieces c.args.parts.now c.loop-i.i c.index-parts-i.result are.are are.parted (omega arith) c.index-parts-i.is in
     plans-step h usual c.args.depth es c.loop-i.i c.loop-i.draft c.plan_part.new.draft c.args.blocks.now.items c.loop-i.blocks.items c.plan_part.new.blocks.items was
     (c.in_ok-plan_part.ensures h (part (at_depth h usual c.args.depth) es c.loop-i.i) (subst (λ (ks : List HashedEntry). AreHashed h (part (at_depth h usual c.args.depth) es c.loop-i.i) ks) (sym c.deref.ensures.value) here)
     (rows-part (at_depth h usual c.args.depth) es c.loop-i.i rows) was.slots was.written was.many)
 
-pub plan_many-returns-in_err-plan_part : goal.plan_many-returns-in_err-plan_part
-plan_many-returns-in_err-plan_part t c = λ h es are rows.
+pub plan_parts-returns-in_err-plan_part : goal.plan_parts-returns-in_err-plan_part
+plan_parts-returns-in_err-plan_part t c = λ h es are rows.
     let p = err_from_is_err_and c.from_residual-in_err-plan_part.result c.from_residual-in_err-plan_part.ensures.1 in
     let was = c.loop-i.invariant h es are rows in
-    let here = hashed-in h usual c.args.depth (2 ^ usual.width) es c.args.entries.now c.in_ok-parts.parts.items c.loop-i.i c.index.result.now are c.in_ok-parts.ensures (omega arith) c.index.ensures in
+    let here = hashed-in h usual c.args.depth (2 ^ usual.width) es are.pieces c.args.parts.now c.loop-i.i c.index-parts-i.result are.are are.parted (omega arith) c.index-parts-i.is in
     rw (p.1, p.2) (plans-stop h usual c.args.depth es c.loop-i.i c.in_err-plan_part.field-0.0 c.args.blocks.now.items c.plan_part.new.blocks.items c.loop-i.blocks.items c.plan_part.new.blocks.items (omega arith) (omega arith) was.slots c.plan_part.new.draft
     (c.in_err-plan_part.ensures h (part (at_depth h usual c.args.depth) es c.loop-i.i) (subst (λ (ks : List HashedEntry). AreHashed h (part (at_depth h usual c.args.depth) es c.loop-i.i) ks) (sym c.deref.ensures.value) here)
     (rows-part (at_depth h usual c.args.depth) es c.loop-i.i rows) was.slots was.written was.many))
 
-pub plan_many-returns : goal.plan_many-returns
-plan_many-returns t c = λ h es are rows.
+pub plan_parts-returns : goal.plan_parts-returns
+plan_parts-returns t c = λ h es are rows.
     let was = c.loop-i.invariant h es are rows in
     let many = was.many in
     let written = c.in_ok-finish.ensures was.slots was.written (omega (arith, many)) in
@@ -44,7 +52,7 @@ pub plan_few-loop-i-init : goal.plan_few-loop-i-init
 plan_few-loop-i-init t c = record {
   most = c.next_index-i.ensures.most;
   plans = λ h es are rows.
-      plans-skip h usual c.args.depth es c.args.entries.now 0 c.next_index-i.result c.new-draft.result c.args.blocks.now.items c.args.blocks.now.items are (plans-first h usual c.args.depth es _ _ c.new-draft.ensures) (omega arith)
+      plans-skip h usual c.args.depth es c.args.entries.now 0 c.next_index-i.result c.in_ok-draft.draft c.args.blocks.now.items c.args.blocks.now.items are (plans-first h usual c.args.depth es _ _ c.in_ok-draft.ensures) (omega arith)
       c.next_index-i.ensures.most c.next_index-i.ensures.none;
 }
 
