@@ -32,18 +32,13 @@ pub(crate) fn is_hex(text: &[u8]) -> bool
     ensures { result ≡ is_some (bytes_of_hex text.now) }
 {
     let mut rest = text;
-    loop {
-        match rest {
-            [] => return true,
-            [_] => return false,
-            [a, b, more @ ..] => {
-                if hex_byte(*a, *b).is_none() {
-                    return false;
-                }
-                rest = more;
-            }
+    while let [a, b, more @ ..] = rest {
+        if hex_byte(*a, *b).is_none() {
+            return false;
         }
+        rest = more;
     }
+    rest.is_empty()
 }
 
 /// The bytes of a text in hexadecimal, if it is one.

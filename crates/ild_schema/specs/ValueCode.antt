@@ -1,10 +1,18 @@
 -- Values as a tree of numbers, by which a proof tells two of them apart.
-use Rattle.std.specs.Prelude.{◌≡◌, refl}
+use Rattle.std.specs.Prelude.{◌≡◌, refl, ℕ}
 use Rattle.std.specs.Coded.{Coded, coded_ℕ, coded_ℤ, coded_bool}
 use Rattle.std.proofs.Common.{ap}
+use Rattle.std.proofs.Math.Dec.{eqb}
+use Rattle.std.proofs.lemmas.Bool.{true≢false}
 use base.Stored.{Gv, gnil, gnum, gcons}
 use Rattle.ild_data.specs.DataCode.{head, tail, bytes_code, data_code, data_inj}
 use Rattle.ild_schema.specs.Value.{Value, null, boolean, integer, text, bytes, link, list, map, struct, union, enum, unit, any, hamt, Values, no_values, value, Pairs, no_pairs, pair, Optionals, no_optionals, absent, present}
+
+-- the number with which a tree begins
+abbrev mark : Gv → ℕ
+mark gnil = 0
+mark (gnum n) = n
+mark (gcons a b) = mark a
 
 abbrev mutual
   pub value_gv : Value → Gv
@@ -53,7 +61,7 @@ mutual
   value_inj unit unit p = refl
   value_inj (any a) (any b) p = ap any (data_inj a b (ap tail p))
   value_inj (hamt a) (hamt b) p = ap hamt (data_inj a b (ap tail p))
-  value_inj x y p = absurd cc
+  value_inj x y p = absurd (true≢false (ap (λ g. eqb (mark (value_gv x)) (mark g)) p))
 
   pub values_inj : (x y : Values) → values_gv x ≡ values_gv y → x ≡ y
   values_inj no_values no_values p = refl

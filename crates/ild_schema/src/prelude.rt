@@ -1,6 +1,8 @@
 //! The prelude (IPLD Schemas, "Schema Prelude").
 ghost use Rattle.std.specs.Prelude.{◌≡◌, ◌++◌, ◌∷◌, [], IfOk, OnOk};
-ghost use Rattle.ild_schema.specs.Prelude.{given, prelude, with_others, with_scalars};
+ghost use Rattle.ild_schema.specs.Prelude.{anything, given, number, prelude, with_others, with_scalars};
+ghost use Rattle.ild_schema.specs.declared.def.MapForm.TheVariants as M;
+ghost use Rattle.ild_schema.specs.declared.def.TypeDef.TheVariants as D;
 
 use crate::{MapForm, Origin, Row, Slot, TypeDef, TypeNo};
 use ild_data::Txt;
@@ -36,24 +38,36 @@ fn push_scalars(rows: &mut Vec<Row>) -> Result<(), AllocError>
     push_given(rows, "Int", TypeDef::Int)
 }
 
-/// Appends `Link`, `List`, `Map` and `String`.
-fn push_others(rows: &mut Vec<Row>) -> Result<(), AllocError>
-    ensures { OnOk result (rows.new.items ≡ with_others rows.old.items) }
+/// `List`: any values, and null among them.
+fn list() -> TypeDef
+    ensures { result ≡ D.List anything 0 }
 {
-    let list = TypeDef::List {
+    TypeDef::List {
         elem: ANYTHING,
         at: 0,
-    };
-    let map = TypeDef::Map {
+    }
+}
+
+/// `Map`: from texts to any values, and null among them.
+fn map() -> TypeDef
+    ensures { result ≡ D.Map (number 7) 0 anything 0 M.Map }
+{
+    TypeDef::Map {
         key: TypeNo(7),
         key_at: 0,
         value: ANYTHING,
         at: 0,
         form: MapForm::Map,
-    };
+    }
+}
+
+/// Appends `Link`, `List`, `Map` and `String`.
+fn push_others(rows: &mut Vec<Row>) -> Result<(), AllocError>
+    ensures { OnOk result (rows.new.items ≡ with_others rows.old.items) }
+{
     push_given(rows, "Link", TypeDef::Link(TypeNo(0)))?;
-    push_given(rows, "List", list)?;
-    push_given(rows, "Map", map)?;
+    push_given(rows, "List", list())?;
+    push_given(rows, "Map", map())?;
     push_given(rows, "String", TypeDef::Text)
 }
 
