@@ -11,4 +11,5 @@ pub mod Presenting
 pub mod Splitting
 pub mod Stepping
 pub mod Surveying
+pub mod Telling
 pub mod Writing

@@ -6,3 +6,4 @@ pub mod Reading
 pub mod Source
 pub mod Present
 pub mod Stepping
+pub mod Told

@@ -1,5 +1,5 @@
 -- What a struct's layer hands out: what stands for each of its fields (IPLD Schemas, "Struct Representation Strategies").
-use Rattle.std.specs.Prelude.{◌≡◌, ℕ, true, List, Option, Some, None, slice_get}
+use Rattle.std.specs.Prelude.{◌≡◌, ℕ, Bool, true, List, Option, Some, None, slice_get}
 use Rattle.ild_data.specs.Data as T
 use Rattle.ild_data.specs.Data.{Data}
 use Rattle.ild_schema.specs.Kinds.{meant}
@@ -12,6 +12,7 @@ use Rattle.ild_typed.specs.Layer as L
 use Rattle.ild_piece.specs.Answers.{Layered}
 use Rattle.ild_piece.specs.Pieces.{IsNumbered, StandsFor}
 use Rattle.ild_struct.specs.Source.{Shows}
+use Rattle.ild_struct.specs.Told.{AreTold}
 use Rattle.ild_struct.specs.declared.part.Part.{Part}
 use Rattle.ild_struct.specs.declared.part.Part.TheVariants as P
 use Rattle.ild_struct.specs.declared.parts.StructParts.{StructParts}
@@ -49,12 +50,17 @@ HasNumber rows part = Unit {0}
 abbrev pub fields_of : StructParts → List Field
 fields_of parts = parts.fields.def.now.fields
 
+-- whether a kind told of each part that is written that it is a value of its field
+abbrev pub is_told : StructParts → Bool
+is_told parts = parts.told
+
 -- these data are the parts, one for each field
 pub record ArePartsOf (rows : List Row) (ty : ℕ) (t : Data) (os : List (Option Data)) (parts : StructParts) : Type 0 where
   pub table : parts.fields.acc.now ≡ rows
   pub struct : IsStruct rows ty parts.fields.def.now
   pub shows : Shows rows parts.fields.def.now.form parts.source t
   pub layered : Layered rows ty t (L.struct os)
+  pub told : is_told parts ≡ true → AreTold rows parts.fields.def.now.fields os
 
 -- there are such data
 abbrev pub HasParts : List Row → ℕ → Data → StructParts → Type 0

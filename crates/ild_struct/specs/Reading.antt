@@ -1,5 +1,5 @@
 -- What a reader of one form answers: where the parts are looked up, or the first cause why the data are no struct's.
-use Rattle.std.specs.Prelude.{◌≡◌, ℕ, true, cond, List, Option, Some, None, Result, Ok, Err, length}
+use Rattle.std.specs.Prelude.{◌≡◌, ℕ, Bool, true, cond, List, Option, Some, None, Result, Ok, Err, length}
 use Rattle.ild_data.specs.Data.{Data}
 use Rattle.ild_cbor.specs.Nodes.{Stands}
 use Rattle.ild_cbor.specs.declared.node.Node.{Node}
@@ -16,6 +16,11 @@ use Rattle.ild_struct.specs.declared.source.Source.{Source}
 abbrev pub Answers : List Row → StructForm → List Field → Data → Result Source Why → Type 0
 Answers rows form fs t (Ok source) = (struct_why form fs t ≡ None) × Shows rows form source t
 Answers rows form fs t (Err why) = struct_why form fs t ≡ Some (told why)
+
+-- the same, where it is told as well whether kinds tell that all values are those of their fields
+abbrev pub AnswersFound : List Row → StructForm → List Field → Data → Result (Source × Bool) Why → Type 0
+AnswersFound rows form fs t (Ok x) = Answers rows form fs t (Ok x.0)
+AnswersFound rows form fs t (Err why) = Answers rows form fs t (Err why)
 
 -- a node that is a list, and how many items it has
 abbrev pub IsList : Option (List Data) → Data → Option (Node × ℕ) → Type 0

@@ -17,6 +17,7 @@ mod read;
 mod source;
 mod step;
 mod texts;
+mod told;
 mod tuple;
 mod written;
 

@@ -9,5 +9,6 @@ use crate::source::Source;
 pub struct StructParts<'b> {
     pub(crate) fields: Fields<'b>,
     pub(crate) source: Source<'b>,
+    pub(crate) told: bool,
     ghost sourced: { IsSourced fields.acc.now source },
 }

@@ -1,5 +1,8 @@
 //! The layer of a struct.
-ghost use Rattle.std.specs.Prelude.{◌≡◌, ◌<◌, IfOk, IfErr, List, length, Some};
+ghost use Rattle.std.specs.Prelude.{◌≡◌, ◌<◌, IfOk, IfErr, List, length, Some, true, false};
+ghost use Rattle.ild_schema.specs.declared.def.Field.{Field};
+ghost use Rattle.ild_schema.specs.declared.def.StructForm.{StructForm as Form};
+ghost use Rattle.ild_schema.specs.declared.row.Row.{Row};
 ghost use Rattle.ild_data.specs.Data.{Data};
 ghost use Rattle.ild_piece.specs.Answers.{Refused};
 ghost use Rattle.ild_piece.specs.Pieces.{IsNumbered, StandsFor};
@@ -7,8 +10,9 @@ ghost use Rattle.ild_schema.specs.Clear.{ClearStruct};
 ghost use Rattle.ild_schema.specs.Delims.{HasDelims};
 ghost use Rattle.ild_schema.specs.declared.def.StructDef.{StructDef as Struct};
 ghost use Rattle.ild_struct.specs.Parts.{HasParts, IsStruct, fields_of};
-ghost use Rattle.ild_struct.specs.Reading.{Answers};
+ghost use Rattle.ild_struct.specs.Reading.{Answers, AnswersFound};
 ghost use Rattle.ild_struct.specs.Source.{IsSourced};
+ghost use Rattle.ild_struct.specs.Told.{IsSurveyed};
 
 use crate::fields::Fields;
 use crate::map::map_source;
@@ -20,24 +24,42 @@ use crate::tuple::tuple_source;
 use ild_cbor::{Piece, Why};
 use ild_schema::{Accepted, StructForm, TypeDef, TypeNo};
 
-// Where the fields are looked up, by the form of the struct.
-fn source_of<'b>(fields: &Fields<'b>, piece: Piece<'b>) -> Result<Source<'b>, Why>
+// A source of whose values no kind tells anything.
+fn untold(found: Result<Source<'_>, Why>) -> Result<(Source<'_>, bool), Why>
+    ensures answers { (rows : List Row) (form : Form) (fs : List Field) (t : Data) → Answers rows form fs t found.entry → AnswersFound rows form fs t result }
+    ensures sourced { (rows : List Row) → IfOk found.entry (IsSourced rows) → IfOk result (λ x. IsSourced rows x.0) }
+    ensures told { IfOk result (λ x. x.1 ≡ false) }
+{
+    match found {
+        Ok(source) => Ok((source, false)),
+        Err(why) => Err(why),
+    }
+}
+
+// Where the fields are looked up, by the form of the struct, and whether kinds tell that all values are those of their fields.
+fn source_of<'b>(fields: &Fields<'b>, piece: Piece<'b>) -> Result<(Source<'b>, bool), Why>
     requires numbered { IsNumbered fields.now.acc.now piece }
     requires clear { ClearStruct fields.now.def.now.form fields.now.def.now.fields }
     requires delims { HasDelims fields.now.def.now.form fields.now.def.now.fields }
-    ensures answers { (t : Data) → StandsFor fields.now.acc.now piece.entry t → Answers fields.now.acc.now fields.now.def.now.form fields.now.def.now.fields t result }
-    ensures sourced { IfOk result (IsSourced fields.now.acc.now) }
+    ensures answers { (t : Data) → StandsFor fields.now.acc.now piece.entry t → AnswersFound fields.now.acc.now fields.now.def.now.form fields.now.def.now.fields t result }
+    ensures sourced { IfOk result (λ x. IsSourced fields.now.acc.now x.0) }
+    ensures told { IfOk result (λ x. x.1 ≡ true → IsSurveyed fields.now.acc.now fields.now.def.now.fields x.0) }
 {
     match &fields.def.form {
         StructForm::Map => map_source(fields, piece),
-        StructForm::Tuple => tuple_source(fields.def.fields.as_slice(), &piece),
-        StructForm::ListPairs => listpairs_source(fields, &piece),
-        StructForm::StringPairs(inner, entry) => {
-            stringpairs_source(fields, inner.as_str(), entry.as_str(), &piece)
-        }
-        StructForm::StringJoin(delim) => {
-            stringjoin_source(delim.as_str(), fields.def.fields.len(), &piece)
-        }
+        StructForm::Tuple => untold(tuple_source(fields.def.fields.as_slice(), &piece)),
+        StructForm::ListPairs => untold(listpairs_source(fields, &piece)),
+        StructForm::StringPairs(inner, entry) => untold(stringpairs_source(
+            fields,
+            inner.as_str(),
+            entry.as_str(),
+            &piece,
+        )),
+        StructForm::StringJoin(delim) => untold(stringjoin_source(
+            delim.as_str(),
+            fields.def.fields.len(),
+            &piece,
+        )),
     }
 }
 
@@ -57,7 +79,11 @@ pub fn layer<'b>(acc: &'b Accepted, ty: TypeNo, piece: Piece<'b>) -> Result<Stru
         TypeDef::Struct(def) => {
             let fields = Fields { acc, base, def };
             match source_of(&fields, piece) {
-                Ok(source) => Ok(StructParts { fields, source }),
+                Ok(found) => Ok(StructParts {
+                    fields,
+                    source: found.0,
+                    told: found.1,
+                }),
                 Err(why) => Err(why),
             }
         }

@@ -2,7 +2,7 @@
 ghost use Rattle.std.specs.Prelude.{◌≡◌, ◌<◌, ℕ, List, Option};
 ghost use Rattle.ild_data.specs.Data.{Data};
 ghost use Rattle.ild_schema.specs.declared.row.Row.{Row};
-ghost use Rattle.ild_struct.specs.Parts.{ArePartsOf, fields_of};
+ghost use Rattle.ild_struct.specs.Parts.{ArePartsOf, fields_of, is_told};
 ghost use Rattle.ild_struct.specs.Present.{IsWritten};
 ghost use Rattle.ild_struct.specs.Stepping.{Starts};
 
@@ -32,6 +32,14 @@ impl<'b> StructParts<'b> {
             Source::StringPairs(split) => Left::StringPairs(*split),
             Source::StringJoin(split) => Left::StringJoin(Some(*split)),
         }
+    }
+
+    /// Whether a kind told of each part that is written that it is a value of its field, and no part has parts: so it may be, of a
+    /// map, where all fields are scalars.
+    pub fn are_told(&self) -> bool
+        ensures { result ≡ is_told self.now }
+    {
+        self.told
     }
 
     /// The parts that are written, one after another, each with the number of its field: a pass over the data. Absent fields

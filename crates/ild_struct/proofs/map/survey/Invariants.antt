@@ -3,8 +3,10 @@ use Rattle.ild_data.specs.Data.{Data}
 use Rattle.ild_schema.specs.Clear.{AreNamesApart}
 use Rattle.ild_piece.specs.Entries.{HasLeft}
 use Rattle.ild_struct.proofs.Surveying.{Surveying}
+use Rattle.ild_struct.proofs.Telling.{Telling}
 use Rattle.ild_struct.proofs.map.survey.Given as goal
 
 abbrev pub invariant-loop-name : goal.invariant-loop-name
 invariant-loop-name l =
-    AreNamesApart l.fields.def.now.fields → (es : List (List ℕ × Data)) → HasLeft l.entries es → Surveying l.fields.def.now.fields es l.left l.notes
+    (AreNamesApart l.fields.def.now.fields → (es : List (List ℕ × Data)) → HasLeft l.entries es → Surveying l.fields.def.now.fields es l.left l.notes)
+    × (AreNamesApart l.fields.def.now.fields → (es : List (List ℕ × Data)) → HasLeft l.entries es → Telling l.fields.acc.now l.fields.def.now.fields es l.left l.told)

@@ -13,4 +13,4 @@ pub returns-in-Ok-clause-parts : goal.returns-in-Ok-clause-parts
 returns-in-Ok-clause-parts c = λ t stands.
     let is = struct_of c.args.acc.now c.args.ty.0 c.base-base.result.0 c.def.result.now c.in-Struct.def c.base-base.ensures.same c.def.ensures.same c.in-Struct.is in
     let answer = c.in-Ok.ensures.answers t stands in
-    parts_of c.args.ty.0 c.args.piece t _ c.types.ensures.legible is stands answer.0 answer.1
+    parts_of c.args.ty.0 c.args.piece t _ c.types.ensures.legible is stands answer.0 answer.1 c.in-Ok.ensures.told
