@@ -1,0 +1,5 @@
+pub mod Composing
+pub mod Ending
+pub mod Inlining
+pub mod Placing
+pub mod Refusing
