@@ -57,13 +57,15 @@ use Rattle.ild_data.proofs.Lists.{members_of-members_list}
 use Rattle.ild_typed.proofs.CleanTypes.{layer_or_why}
 use Rattle.ild_union.specs.Forms.{IsPassedBy, passes_over}
 use Rattle.ild_walk.specs.declared.part.Part.{Part}
-use Rattle.ild_walk.specs.declared.way.Way.{Way}
+use Rattle.ild_places.specs.declared.way.Way.{Way}
 use Rattle.ild_walk.specs.Part.{IsSpotted}
 use Rattle.ild_walk.specs.Ready.{IsInlined, is_struct}
 use Rattle.ild_walk.specs.declared.parts.Parts.TheVariants as P
 use Rattle.ild_walk.specs.Opens.{HasOpened}
-use Rattle.ild_walk.specs.Scalars.{scalar_kind}
+use Rattle.ild_struct.specs.Told.{scalar_kind}
 use Rattle.ild_walk.proofs.Asking.{own_at, deep_at, none_at}
+use Rattle.ild_walk.proofs.Leading.{few_items}
+use Rattle.ild_places.specs.Places.{steps_of}
 
 -- ---- lists
 
@@ -87,7 +89,7 @@ list_opens rows room left elem at (T.list ds) s h sum =
       spots = element_spots elem 0 (T.items_list ds);
       parts = (L.list (T.items_list ds), ap (λ es. Some (T.list es)) same, refl);
       room_is = sum;
-      left = record { items = ds; left = subst (HasItems s) same h; at = 0; is = refl };
+      left = let has = subst (HasItems s) same h in record { items = ds; left = has; few = let few = few_items s ds has in omega (arith, few); is = refl };
     }
 list_opens rows room left elem at t s h sum = absurd h
 
@@ -238,16 +240,16 @@ module _ (rows : List Row) (legible : IsLegible rows) (ty room : ℕ) (u : Union
   pub union_deep : room < 1 → IsWhy room (D.Union u) t W.Depth
   union_deep less = inl (deep_at room (D.Union u) t (layered_own rows legible ty (D.Union u) p t (L.union n d) is stands union_made) refl less)
 
-  pub union_opens : (left : ℕ) (m : Member) (x : Part) (part : Piece) (way : Way) → left + 1 ≡ room → slice_get u.members n ≡ Some m → StandsFor rows part d
+  pub union_opens : (left : ℕ) (m : Member) (x : Part) (part : Piece) (way : Way) → left + 1 ≡ room → slice_get u.members n ≡ Some m → StandsFor rows part d → steps_of way ≡ member_steps u.form m
       → x ≡ record { slot = plainly m.ty; piece = part; is_key = false; way = way } → HasOpened rows room (D.Union u) t (record { parts = P.Member x; room = left })
-  union_opens left m x part way sum got inside same =
+  union_opens left m x part way sum got inside leads same =
       let spot : Spot = value_spot (slot_of m) d (member_steps u.form m) in
       record {
         none = none_at room (D.Union u) t (layered_own rows legible ty (D.Union u) p t (L.union n d) is stands union_made) refl (omega (arith, sum)) refl;
         spots = spot ∷ [];
         parts = (L.union n d, union_made, sym (ap (λ o. option_map_or (member_spots u.form d) o []) got));
         room_is = sum;
-        left = record { first = spot; is = refl; spotted = subst (λ y. IsSpotted rows y spot) (sym same) (record { slot = refl; key = refl; stands = inside }) };
+        left = (record { first = spot; is = refl; spotted = subst (λ y. IsSpotted rows y spot) (sym same) (record { slot = refl; key = refl; stands = inside }) }, ap (λ (y : Part). steps_of y.way) same ∙ leads);
       }
 
 -- the type of a member is in the table

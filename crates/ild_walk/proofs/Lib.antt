@@ -1,4 +1,5 @@
 pub mod Asking
+pub mod Leading
 pub mod Finding
 pub mod Nesting
 pub mod Rooting
@@ -10,9 +11,11 @@ pub mod Texting
 pub mod Stepping
 pub mod Structing
 pub mod Walking
+pub mod Telling
 pub mod Passing
 pub mod Digesting
 pub mod Sweeping
+pub mod ToldFields
 pub mod Flatness
 pub mod Spreading
 pub mod Stacking

@@ -1,5 +1,5 @@
 -- The pairs of a list, one after another, and what is found of such a map by itself.
-use Rattle.std.proofs.Common.{◌≡◌, ℕ, zero, suc, ◌+◌, ◌<◌, ◌≤◌, List, [], ◌∷◌, ◌++◌, append_assoc, map, Bool, true, false, cond, not, ◌||◌, Some, None, refl, sym, ◌∙◌, ap, subst, arith, inl, inr}
+use Rattle.std.proofs.Common.{◌≡◌, ℕ, zero, suc, ◌+◌, ◌-◌, ◌^◌, ◌<◌, ◌≤◌, min, List, [], ◌∷◌, ◌++◌, length, append_assoc, map, Bool, true, false, cond, not, ◌||◌, Some, None, refl, sym, ◌∙◌, ap, subst, arith, inl, inr}
 use Rattle.std.specs.Borrow.{Bor}
 use Rattle.std.specs.BTreeSet.{BTreeSet}
 use Rattle.std.specs.List.{list_any}
@@ -39,11 +39,16 @@ use Rattle.ild_typed.proofs.CleanTypes.{layer_or_why}
 use Rattle.ild_walk.specs.declared.pair_entries.PairEntries.{PairEntries}
 use Rattle.ild_walk.specs.declared.part.Part.{Part}
 use Rattle.ild_walk.specs.declared.parts.Parts.TheVariants as P
-use Rattle.ild_walk.specs.declared.way.Way.{Way}
+use Rattle.ild_places.specs.declared.way.Way.{Way}
 use Rattle.ild_walk.specs.Judged.{IsJudged, cause_of, is_miscounted, is_odd}
 use Rattle.ild_walk.specs.Keys.{texts}
 use Rattle.ild_walk.specs.Opens.{HasOpened}
 use Rattle.ild_walk.specs.PairEntries.{HasPairs, IsPairHeld}
+use Rattle.ild_walk.specs.Entries.{held_count}
+use Rattle.ild_walk.specs.Ways.{LeadsFirst}
+use Rattle.ild_walk.proofs.Leading.{few_pairs, goes_up, leads_there}
+use Rattle.ild_places.specs.Places.{steps_of}
+use Rattle.ild_data.specs.Limits.{longest_block}
 use Rattle.ild_walk.specs.Part.{IsSpotted, Takes}
 use Rattle.ild_walk.proofs.Meeting.{same_swap}
 use Rattle.ild_walk.proofs.Asking.{deep_at, keys_at, none_at, own_at}
@@ -63,23 +68,39 @@ pair_same e f h = (cc, cc)
 
 module _ (s : PairEntries) (ps : List Spot) (h : HasPairs s ps) where
   pub pair_value : (rows : List Row) (x : Node) (r : Part) (way : Way) → s.held ≡ Some x → r ≡ record { slot = s.value; piece = Q.Node x; is_key = false; way = way }
-      → (rest : PairEntries) → rest ≡ record { key = s.key; value = s.value; items = s.items; held = None } → (others : List Spot) × Takes rows ps others r × HasPairs rest others
-  pair_value rows x r way held same rest is =
-      let behind : List Spot = entry_spots MF.ListPairs s.key s.value h.at h.entries in
-      let k = subst (λ o. IsPairHeld s o behind ps) held h.is in
-      let spot : Spot = value_spot s.value k.0 k.1 in (
+      → (next : ℕ) → next ≡ min (s.place + 1) (2 ^ 64 - 1) → (rest : PairEntries) → rest ≡ record { key = s.key; value = s.value; items = s.items; place = next; held = None }
+      → (others : List Spot) × Takes rows ps others r × HasPairs rest others
+  pair_value rows x r way held same next up rest is =
+      let k = subst (λ o. IsPairHeld s o h.entries ps) held h.is in
+      let one : held_count s.held ≡ 1 = ap held_count held in
+      let few = h.few in
+      let here : next ≡ s.place + 1 = goes_up s.place next (omega (arith, few, one)) up in
+      let behind : List Spot = entry_spots MF.ListPairs s.key s.value (s.place + 1) h.entries in
+      let spot : Spot = value_spot s.value k.0 (item s.place ∷ item 1 ∷ []) in (
         behind,
-        record { first = spot; is = k.3; spotted = subst (λ y. IsSpotted rows y spot) (sym same) (record { slot = refl; key = refl; stands = k.2 }) },
-        subst (λ z. HasPairs z behind) (sym is) (record { entries = h.entries; left = h.left; at = h.at; is = refl }),
+        record { first = spot; is = k.2; spotted = subst (λ y. IsSpotted rows y spot) (sym same) (record { slot = refl; key = refl; stands = k.1 }) },
+        subst (λ z. HasPairs z behind) (sym is) (subst (λ n. HasPairs (record { key = s.key; value = s.value; items = s.items; place = n; held = None }) behind) (sym here)
+            (record { entries = h.entries; left = h.left; few = omega (arith, few, one); is = refl })),
       )
 
+  pub pair_value_way : (x : Node) → s.held ≡ Some x → (r : Part) → steps_of r.way ≡ item s.place ∷ item 1 ∷ [] → LeadsFirst r ps
+  pair_value_way x held r way =
+      let k = subst (λ o. IsPairHeld s o h.entries ps) held h.is in
+      leads_there r ps (value_spot s.value k.0 (item s.place ∷ item 1 ∷ [])) (entry_spots MF.ListPairs s.key s.value (s.place + 1) h.entries) k.2 way
+
   module _ (free : s.held ≡ None) where
-    all_left : ps ≡ entry_spots MF.ListPairs s.key s.value h.at h.entries
-    all_left = subst (λ o. IsPairHeld s o (entry_spots MF.ListPairs s.key s.value h.at h.entries) ps) free h.is
+    all_left : ps ≡ entry_spots MF.ListPairs s.key s.value s.place h.entries
+    all_left = subst (λ o. IsPairHeld s o h.entries ps) free h.is
+
+    pub pair_key_way : (r : Part) → steps_of r.way ≡ item s.place ∷ item 0 ∷ [] → LeadsFirst r ps
+    pair_key_way r way = subst (LeadsFirst r) (sym all_left) (by h.entries) where
+      by : (es : List (List ℕ × Data)) → LeadsFirst r (entry_spots MF.ListPairs s.key s.value s.place es)
+      by [] = tt
+      by (e ∷ es) = way
 
     pub pair_end : (after : Items) → ItemsGive s.items None after → ps ≡ []
     pair_end after gives = by h.entries h.left all_left where
-      by : (es : List (List ℕ × Data)) → HasItems s.items (T.items_of (map pair_data es)) → ps ≡ entry_spots MF.ListPairs s.key s.value h.at es → ps ≡ []
+      by : (es : List (List ℕ × Data)) → HasItems s.items (T.items_of (map pair_data es)) → ps ≡ entry_spots MF.ListPairs s.key s.value s.place es → ps ≡ []
       by [] left is = is
       by (e ∷ es) left is = absurd (gives (T.items_of (map pair_data (e ∷ es))) left)
 
@@ -96,19 +117,19 @@ module _ (s : PairEntries) (ps : List Spot) (h : HasPairs s ps) where
         by (e ∷ es) left = absurd (none e (odd (pair_data e) (gives (T.items_of (map pair_data (e ∷ es))) left).stands))
 
       pub pair_key : (rows : List Row) (k : Bor (List ℕ)) (v : Node) (r : Part) (way : Way) → r ≡ record { slot = plainly s.key; piece = Q.Text k; is_key = true; way = way }
-          → ((d : Data) → Stands n d → (e : Data) × (d ≡ pair_data (k.now, e)) × Stands v e) → (rest : PairEntries) → rest ≡ record { key = s.key; value = s.value; items = after; held = Some v }
+          → ((d : Data) → Stands n d → (e : Data) × (d ≡ pair_data (k.now, e)) × Stands v e) → (rest : PairEntries) → rest ≡ record { key = s.key; value = s.value; items = after; place = s.place; held = Some v }
           → (others : List Spot) × Takes rows ps others r × HasPairs rest others
-      pair_key rows k v r way same shape rest is = by h.entries h.left all_left where
-        by : (es : List (List ℕ × Data)) → HasItems s.items (T.items_of (map pair_data es)) → ps ≡ entry_spots MF.ListPairs s.key s.value h.at es
-            → (others : List Spot) × Takes rows ps others r × HasPairs rest others
-        by [] left all = absurd (gives T.no_items left)
-        by (e ∷ es) left all =
+      pair_key rows k v r way same shape rest is = by h.entries h.left h.few all_left where
+        by : (es : List (List ℕ × Data)) → HasItems s.items (T.items_of (map pair_data es)) → s.place + held_count s.held + length es ≤ longest_block
+            → ps ≡ entry_spots MF.ListPairs s.key s.value s.place es → (others : List Spot) × Takes rows ps others r × HasPairs rest others
+        by [] left few all = absurd (gives T.no_items left)
+        by (e ∷ es) left few all =
             let x = gives (T.items_of (map pair_data (e ∷ es))) left in
             let y = shape (pair_data e) x.stands in
             let parts = pair_same e (k.now, y.0) y.1 in
-            let spot : Spot = key_spot s.key e.0 (item h.at ∷ item 0 ∷ []) in
-            let behind : List Spot = entry_spots MF.ListPairs s.key s.value (h.at + 1) es in
-            let others : List Spot = value_spot s.value e.1 (item h.at ∷ item 1 ∷ []) ∷ behind in (
+            let spot : Spot = key_spot s.key e.0 (item s.place ∷ item 0 ∷ []) in
+            let behind : List Spot = entry_spots MF.ListPairs s.key s.value (s.place + 1) es in
+            let others : List Spot = value_spot s.value e.1 (item s.place ∷ item 1 ∷ []) ∷ behind in (
               others,
               record {
                 first = spot;
@@ -118,8 +139,8 @@ module _ (s : PairEntries) (ps : List Spot) (h : HasPairs s ps) where
               subst (λ z. HasPairs z others) (sym is) (record {
                 entries = es;
                 left = x.left;
-                at = h.at + 1;
-                is = (e.1, item h.at ∷ item 1 ∷ [], subst (Stands v) (sym parts.1) y.2, refl);
+                few = omega (arith, few);
+                is = (e.1, subst (Stands v) (sym parts.1) y.2, refl);
               }),
             )
 
@@ -314,7 +335,7 @@ module _ (room : ℕ) (key : TypeNo) (key_at : ℕ) (value : Slot) (at : ℕ) (t
     pairs_deep less = inl (deep_at room (D.Map key key_at value at MF.ListPairs) t own no_keys less)
 
     pub pairs_open : (rows : List Row) (left : ℕ) → left + 2 ≡ room
-        → HasOpened rows room (D.Map key key_at value at MF.ListPairs) t (record { parts = P.Pairs (record { key = key; value = value; items = s; held = None }); room = left })
+        → HasOpened rows room (D.Map key key_at value at MF.ListPairs) t (record { parts = P.Pairs (record { key = key; value = value; items = s; place = 0; held = None }); room = left })
     pairs_open rows left sum =
         let rise : KeysRise t = subst KeysRise (sym all.is) tt in
         let x = (layer_or_why (D.Map key key_at value at MF.ListPairs) tt tt t rise).0 own in
@@ -326,7 +347,7 @@ module _ (room : ℕ) (key : TypeNo) (key_at : ℕ) (value : Slot) (at : ℕ) (t
           spots = entry_spots MF.ListPairs key value 0 y.item;
           parts = (L.map y.item, y.made, refl);
           room_is = sum;
-          left = record { entries = y.item; left = subst (HasItems s) (sym same) listed; at = 0; is = refl };
+          left = let has = subst (HasItems s) (sym same) listed in record { entries = y.item; left = has; few = let few = few_pairs s y.item has in omega (arith, few); is = refl };
         }
       where
         list_same : (a b : T.Items) → T.list a ≡ T.list b → a ≡ b

@@ -1,5 +1,5 @@
 -- Parts that are passed over, since their kind alone tells that they are values.
-use Rattle.std.proofs.Common.{◌≡◌, ◌<◌, ◌++◌, ℕ, ◌+◌, length, List, [], ◌∷◌, map, Some, None, refl, sym, ◌∙◌, ap, subst}
+use Rattle.std.proofs.Common.{◌≡◌, ◌<◌, ◌++◌, ℕ, ◌+◌, ◌-◌, ◌^◌, min, arith, length, List, [], ◌∷◌, map, Some, None, refl, sym, ◌∙◌, ap, subst}
 use Rattle.std.specs.Borrow.{Bor}
 use Rattle.ild_data.specs.Data as T
 use Rattle.ild_data.specs.Data.{Data, Items, items_list, items_of}
@@ -28,13 +28,14 @@ use Rattle.ild_walk.specs.declared.pair_entries.PairEntries.{PairEntries}
 use Rattle.ild_walk.specs.declared.parts.Parts.{Parts}
 use Rattle.ild_walk.specs.Apart.{IsNamed}
 use Rattle.ild_walk.specs.Elements.{HasElements}
-use Rattle.ild_walk.specs.Entries.{HasEntries, IsHeld}
+use Rattle.ild_walk.specs.Entries.{HasEntries, IsHeld, held_count}
 use Rattle.ild_walk.specs.Leaf.{FitsOfKind, IsBehindEntry, IsBehindItem, IsBehindPair, Passes}
 use Rattle.ild_walk.specs.PairEntries.{HasPairs, IsPairHeld}
 use Rattle.ild_walk.specs.Part.{FitsAnywhere}
 use Rattle.ild_walk.specs.Parts.{HasLeft as PartsLeft, SplitsOff}
-use Rattle.ild_walk.specs.Scalars.{scalar_kind}
+use Rattle.ild_struct.specs.Told.{scalar_kind}
 use Rattle.ild_walk.proofs.Finding.{scalar_plain}
+use Rattle.ild_walk.proofs.Leading.{goes_up}
 use Rattle.ild_walk.proofs.Paired.{pair_same}
 use Rattle.ild_walk.proofs.Walking.{all_join, plain_shows}
 
@@ -66,16 +67,19 @@ pub item_behind : (s : ItemsLeft) (n : Node) (t : ItemsLeft) (k : Kind) → Item
 item_behind s n t k gives kind T.no_items h = absurd (gives T.no_items h)
 item_behind s n t k gives kind (T.item d ds) h = let x = gives (T.item d ds) h in record { first = d; rest = ds; is = refl; kind = kind d x.stands; left = x.left }
 
-pub element_passes : (rows : List Row) (slot : Slot) (k : Kind) → FitsOfKind rows slot k → (s t : ItemsLeft) (at next : ℕ) → ((ds : Items) → HasItems s ds → IsBehindItem k ds t) → (ps : List Spot)
+pub element_passes : (rows : List Row) (slot : Slot) (k : Kind) → FitsOfKind rows slot k → (s t : ItemsLeft) (at next : ℕ) → next ≡ min (at + 1) (2 ^ 64 - 1) → ((ds : Items) → HasItems s ds → IsBehindItem k ds t) → (ps : List Spot)
     → HasElements (record { slot = slot; items = s; place = at }) ps → Passes rows ps (HasElements (record { slot = slot; items = t; place = next }))
-element_passes rows slot k fits s t at next behind ps h =
+element_passes rows slot k fits s t at next up behind ps h =
     let x = behind h.items h.left in
+    let long = ap (λ ds. length (items_list ds)) x.is in
+    let few = h.few in
+    let here : next ≡ at + 1 = goes_up at next (omega (arith, few, long)) up in
     record {
-      taken = value_spot slot x.first (item h.at ∷ []) ∷ [];
-      others = element_spots slot (h.at + 1) (items_list x.rest);
-      is = h.is ∙ ap (λ ds. element_spots slot h.at (items_list ds)) x.is;
+      taken = value_spot slot x.first (item at ∷ []) ∷ [];
+      others = element_spots slot (at + 1) (items_list x.rest);
+      is = h.is ∙ ap (λ ds. element_spots slot at (items_list ds)) x.is;
       fit = ((λ tree room. fits x.first x.kind tree room), tt);
-      left = record { items = x.rest; left = x.left; at = h.at + 1; is = refl };
+      left = subst (λ n. HasElements (record { slot = slot; items = t; place = n }) (element_spots slot (at + 1) (items_list x.rest))) (sym here) (record { items = x.rest; left = x.left; few = omega (arith, few, long); is = refl });
     }
 
 -- ---- the entries of a map
@@ -125,21 +129,26 @@ pair_behind s name v t k named kind (e ∷ es) h =
     item_same : (d f : Data) (ds fs : Items) → T.item d ds ≡ T.item f fs → (d ≡ f) × (ds ≡ fs)
     item_same d f ds fs is = (cc, cc)
 
-abbrev pub From : PairEntries → ItemsLeft → PairEntries
-From s left = record { key = s.key; value = s.value; items = left; held = None }
+abbrev pub From : PairEntries → ItemsLeft → ℕ → PairEntries
+From s left place = record { key = s.key; value = s.value; items = left; place = place; held = None }
 
-pub pairs_begin : (s : PairEntries) (ps : List Spot) → s.held ≡ None → HasPairs s ps → HasPairs (From s s.items) ps
+pub pairs_begin : (s : PairEntries) (ps : List Spot) → s.held ≡ None → HasPairs s ps → HasPairs (From s s.items s.place) ps
 pairs_begin s ps free h =
-    record { entries = h.entries; left = h.left; at = h.at; is = subst (λ o. IsPairHeld s o (entry_spots MF.ListPairs s.key s.value h.at h.entries) ps) free h.is }
+    let none : held_count s.held ≡ 0 = ap held_count free in
+    let few = h.few in
+    record { entries = h.entries; left = h.left; few = omega (arith, few, none); is = subst (λ o. IsPairHeld s o h.entries ps) free h.is }
 
-pub pair_passes : (rows : List Row) (s : PairEntries) (k : Kind) → FitsOfKind rows (plainly s.key) K.Text → FitsOfKind rows s.value k → (left t : ItemsLeft)
-    → ((es : List (List ℕ × Data)) → HasItems left (items_of (map pair_data es)) → IsBehindPair k es t) → (ps : List Spot) → HasPairs (From s left) ps → Passes rows ps (HasPairs (From s t))
-pair_passes rows s k keys fits left t behind ps h =
+pub pair_passes : (rows : List Row) (s : PairEntries) (k : Kind) → FitsOfKind rows (plainly s.key) K.Text → FitsOfKind rows s.value k → (left t : ItemsLeft) (at next : ℕ) → next ≡ min (at + 1) (2 ^ 64 - 1)
+    → ((es : List (List ℕ × Data)) → HasItems left (items_of (map pair_data es)) → IsBehindPair k es t) → (ps : List Spot) → HasPairs (From s left at) ps → Passes rows ps (HasPairs (From s t next))
+pair_passes rows s k keys fits left t at next up behind ps h =
     let x = behind h.entries h.left in
+    let long = ap (λ (es : List (List ℕ × Data)). length es) x.is in
+    let few = h.few in
+    let here : next ≡ at + 1 = goes_up at next (omega (arith, few, long)) up in
     record {
-      taken = key_spot s.key x.key (item h.at ∷ item 0 ∷ []) ∷ value_spot s.value x.first (item h.at ∷ item 1 ∷ []) ∷ [];
-      others = entry_spots MF.ListPairs s.key s.value (h.at + 1) x.rest;
-      is = h.is ∙ ap (entry_spots MF.ListPairs s.key s.value h.at) x.is;
+      taken = key_spot s.key x.key (item at ∷ item 0 ∷ []) ∷ value_spot s.value x.first (item at ∷ item 1 ∷ []) ∷ [];
+      others = entry_spots MF.ListPairs s.key s.value (at + 1) x.rest;
+      is = h.is ∙ ap (entry_spots MF.ListPairs s.key s.value at) x.is;
       fit = ((λ tree room. keys (T.text x.key) refl tree room), ((λ tree room. fits x.first x.kind tree room), tt));
-      left = record { entries = x.rest; left = x.left; at = h.at + 1; is = refl };
+      left = subst (λ n. HasPairs (From s t n) (entry_spots MF.ListPairs s.key s.value (at + 1) x.rest)) (sym here) (record { entries = x.rest; left = x.left; few = omega (arith, few, long); is = refl });
     }

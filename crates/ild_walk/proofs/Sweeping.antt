@@ -1,5 +1,5 @@
 -- The written fields of a struct in one pass, of which those in front of a number are values.
-use Rattle.std.proofs.Common.{◌≡◌, ◌<◌, ◌≤◌, ℕ, zero, suc, ◌+◌, List, [], ◌∷◌, ◌++◌, drop, Bool, true, false, cond, Option, Some, None, refl, sym, ◌∙◌, ap, subst, arith}
+use Rattle.std.proofs.Common.{◌≡◌, ◌<◌, ◌≤◌, ℕ, zero, suc, ◌+◌, List, [], ◌∷◌, ◌++◌, drop, Bool, true, false, cond, not, Option, Some, None, refl, sym, ◌∙◌, ap, subst, arith}
 use Rattle.std.specs.Prelude.{slice_get}
 use Rattle.std.specs.List.{AllByRecursion}
 use Rattle.ild_data.specs.Data.{Data}
@@ -16,7 +16,7 @@ use Rattle.ild_struct.specs.Parts.{fields_of}
 use Rattle.ild_struct.specs.Present.{ArePresent, HasPresent, PresentGives}
 use Rattle.ild_typed.specs.Fields.{is_implicit}
 use Rattle.ild_typed.specs.Spots.{Spot, field_spots, field_steps, value_spot}
-use Rattle.ild_walk.specs.Fields.{FieldsLeft}
+use Rattle.ild_walk.specs.Fields.{FieldsLeft, is_there, written_in}
 use Rattle.ild_walk.specs.Leaf.{IsFitAt, Passes}
 use Rattle.ild_walk.specs.Part.{FitsAnywhere}
 use Rattle.ild_walk.proofs.Structing.{all_got, implicit_fits}
@@ -66,9 +66,8 @@ sweep_ends rows fs all first s t w gives = by w.left w.is w.has where
 
 -- ---- the spots of the fields in front of a number
 
-pub record SpotsBehind (rows : List Row) (form : StructForm) (fs : List Field) (os : List (Option Data)) (ps : List Spot) : Type 0 where
+pub record SpotsBehind (rows : List Row) (form : StructForm) (at : ℕ) (fs : List Field) (os : List (Option Data)) (ps : List Spot) : Type 0 where
   pub taken : List Spot
-  pub at : ℕ
   pub is : ps ≡ taken ++ field_spots form at fs os
   pub fit : AllByRecursion (FitsAnywhere rows) taken
 
@@ -77,49 +76,54 @@ no_data form at [] = refl
 no_data form at (f ∷ fs) = refl
 
 -- one more field in front
-spots_one : (rows : List Row) (form : StructForm) (at : ℕ) (f : Field) (d : Data) (fs gs : List Field) (os qs : List (Option Data)) → FitsAnywhere rows (value_spot f.slot d []) → SpotsBehind rows form gs qs (field_spots form at fs os)
-    → SpotsBehind rows form gs qs (field_spots form (at + 1) fs os) → SpotsBehind rows form gs qs (field_spots form at (f ∷ fs) (Some d ∷ os))
-spots_one rows form at f d fs gs os qs own same more = by (is_implicit f.implicit d) refl where
-  by : (b : Bool) → is_implicit f.implicit d ≡ b → SpotsBehind rows form gs qs (field_spots form at (f ∷ fs) (Some d ∷ os))
-  by true e = record {
-    taken = value_spot f.slot d [] ∷ same.taken;
-    at = same.at;
-    is = ap (λ b. cond b (value_spot f.slot d [] ∷ field_spots form at fs os) (value_spot f.slot d (field_steps form f at) ∷ field_spots form (at + 1) fs os)) e ∙ ap (λ ps. value_spot f.slot d [] ∷ ps) same.is;
-    fit = ((λ tree room. own tree room), same.fit);
-  }
-  by false e = record {
-    taken = value_spot f.slot d (field_steps form f at) ∷ more.taken;
-    at = more.at;
-    is = ap (λ b. cond b (value_spot f.slot d [] ∷ field_spots form at fs os) (value_spot f.slot d (field_steps form f at) ∷ field_spots form (at + 1) fs os)) e
-        ∙ ap (λ ps. value_spot f.slot d (field_steps form f at) ∷ ps) more.is;
-    fit = ((λ tree room. own tree room), more.fit);
-  }
+spots_one : (rows : List Row) (form : StructForm) (at n : ℕ) (f : Field) (d : Data) (fs gs : List Field) (os qs : List (Option Data)) → FitsAnywhere rows (value_spot f.slot d [])
+    → SpotsBehind rows form (at + n) gs qs (field_spots form at fs os) → SpotsBehind rows form (at + 1 + n) gs qs (field_spots form (at + 1) fs os)
+    → SpotsBehind rows form (at + (cond (is_there f (Some d)) 1 0 + n)) gs qs (field_spots form at (f ∷ fs) (Some d ∷ os))
+spots_one rows form at n f d fs gs os qs own same more = by (is_implicit f.implicit d) refl where
+  by : (b : Bool) → is_implicit f.implicit d ≡ b → SpotsBehind rows form (at + (cond (is_there f (Some d)) 1 0 + n)) gs qs (field_spots form at (f ∷ fs) (Some d ∷ os))
+  by true e =
+      let count : at + n ≡ at + (cond (not true) 1 0 + n) = omega arith in
+      subst (λ k. SpotsBehind rows form k gs qs (field_spots form at (f ∷ fs) (Some d ∷ os))) (count ∙ ap (λ b. at + (cond (not b) 1 0 + n)) (sym e)) (record {
+        taken = value_spot f.slot d [] ∷ same.taken;
+        is = ap (λ b. cond b (value_spot f.slot d [] ∷ field_spots form at fs os) (value_spot f.slot d (field_steps form f at) ∷ field_spots form (at + 1) fs os)) e ∙ ap (λ ps. value_spot f.slot d [] ∷ ps) same.is;
+        fit = ((λ tree room. own tree room), same.fit);
+      })
+  by false e =
+      let count : at + 1 + n ≡ at + (cond (not false) 1 0 + n) = omega arith in
+      subst (λ k. SpotsBehind rows form k gs qs (field_spots form at (f ∷ fs) (Some d ∷ os))) (count ∙ ap (λ b. at + (cond (not b) 1 0 + n)) (sym e)) (record {
+        taken = value_spot f.slot d (field_steps form f at) ∷ more.taken;
+        is = ap (λ b. cond b (value_spot f.slot d [] ∷ field_spots form at fs os) (value_spot f.slot d (field_steps form f at) ∷ field_spots form (at + 1) fs os)) e
+            ∙ ap (λ ps. value_spot f.slot d (field_steps form f at) ∷ ps) more.is;
+        fit = ((λ tree room. own tree room), more.fit);
+      })
 
 spots_behind : (rows : List Row) (form : StructForm) (at n : ℕ) (fs : List Field) (os : List (Option Data)) → ((i : ℕ) (f : Field) (d : Data) → i < n → slice_get fs i ≡ Some f → slice_get os i ≡ Some (Some d) → FitsAnywhere rows (value_spot f.slot d []))
-    → SpotsBehind rows form (drop n fs) (drop n os) (field_spots form at fs os)
-spots_behind rows form at zero fs os all = record { taken = []; at = at; is = refl; fit = tt }
-spots_behind rows form at (suc n) [] os all = record { taken = []; at = at; is = refl; fit = tt }
-spots_behind rows form at (suc n) (f ∷ fs) [] all = record { taken = []; at = at; is = sym (no_data form at (drop n fs)); fit = tt }
+    → SpotsBehind rows form (at + written_in n fs os) (drop n fs) (drop n os) (field_spots form at fs os)
+spots_behind rows form at zero fs os all = let same : at ≡ at + 0 = omega arith in record { taken = []; is = ap (λ k. field_spots form k fs os) same; fit = tt }
+spots_behind rows form at (suc n) [] os all = record { taken = []; is = refl; fit = tt }
+spots_behind rows form at (suc n) (f ∷ fs) [] all = record { taken = []; is = sym (no_data form (at + 0) (drop n fs)); fit = tt }
 spots_behind rows form at (suc n) (f ∷ fs) (None ∷ os) all =
     let x = spots_behind rows form at n fs os (λ i g d low known held. all (suc i) g d (omega (arith, low)) known held) in
-    record { taken = x.taken; at = x.at; is = x.is; fit = x.fit }
+    let same : at + written_in n fs os ≡ at + (0 + written_in n fs os) = omega arith in
+    subst (λ k. SpotsBehind rows form k (drop n fs) (drop n os) (field_spots form at fs os)) same x
 spots_behind rows form at (suc n) (f ∷ fs) (Some d ∷ os) all =
     let later : (i : ℕ) (g : Field) (u : Data) → i < n → slice_get fs i ≡ Some g → slice_get os i ≡ Some (Some u) → FitsAnywhere rows (value_spot g.slot u []) =
     λ i g u low known held. all (suc i) g u (omega (arith, low)) known held in
-    spots_one rows form at f d fs (drop n fs) os (drop n os) (all 0 f d (omega arith) refl refl) (spots_behind rows form at n fs os later) (spots_behind rows form (at + 1) n fs os later)
+    spots_one rows form at (written_in n fs os) f d fs (drop n fs) os (drop n os) (all 0 f d (omega arith) refl refl) (spots_behind rows form at n fs os later) (spots_behind rows form (at + 1) n fs os later)
 
 -- where all written fields in front of a number are values, all fields there are passed over
 pub fields_pass : (rows : List Row) (def : StructDef) (parts : StructParts) (next : ℕ) → next ≡ 0 → (first : ℕ) (ps : List Spot) (h : FieldsLeft rows def parts next ps) (all : List (ℕ × Data)) → ArePresent (fields_of parts) h.held all
     → AllByRecursion (FitBefore rows def.fields first) all → Passes rows ps (FieldsLeft rows def parts first)
 fields_pass rows def parts next begun first ps h all present fit =
-    let x = spots_behind rows def.form h.at first def.fields h.held (λ i f d low known held. own i f d low known held (is_implicit f.implicit d) refl) in
-    let begin : ps ≡ field_spots def.form h.at def.fields h.held = h.is ∙ ap (λ n. field_spots def.form h.at (drop n def.fields) (drop n h.held)) begun in
+    let x = spots_behind rows def.form 0 first def.fields h.held (λ i f d low known held. own i f d low known held (is_implicit f.implicit d) refl) in
+    let begin : ps ≡ field_spots def.form 0 def.fields h.held = h.is ∙ ap (λ n. field_spots def.form (written_in n def.fields h.held) (drop n def.fields) (drop n h.held)) begun in
+    let count : 0 + written_in first def.fields h.held ≡ written_in first def.fields h.held = omega arith in
     record {
       taken = x.taken;
-      others = field_spots def.form x.at (drop first def.fields) (drop first h.held);
+      others = field_spots def.form (0 + written_in first def.fields h.held) (drop first def.fields) (drop first h.held);
       is = begin ∙ x.is;
       fit = x.fit;
-      left = record { legible = h.legible; fitting = h.fitting; ty = h.ty; tree = h.tree; held = h.held; are = h.are; same = h.same; at = x.at; is = refl };
+      left = record { legible = h.legible; fitting = h.fitting; ty = h.ty; tree = h.tree; held = h.held; are = h.are; same = h.same; is = ap (λ k. field_spots def.form k (drop first def.fields) (drop first h.held)) count };
     }
   where
     own : (i : ℕ) (f : Field) (d : Data) → i < first → slice_get def.fields i ≡ Some f → slice_get h.held i ≡ Some (Some d) → (b : Bool) → is_implicit f.implicit d ≡ b → FitsAnywhere rows (value_spot f.slot d [])

@@ -34,11 +34,14 @@ use Rattle.ild_typed.proofs.JoinLaws.{pairs_are_pairs}
 use Rattle.ild_walk.specs.declared.part.Part.{Part}
 use Rattle.ild_walk.specs.declared.parts.Parts.TheVariants as P
 use Rattle.ild_walk.specs.declared.text_entries.TextEntries.{TextEntries}
-use Rattle.ild_walk.specs.declared.way.Way.{Way}
+use Rattle.ild_places.specs.declared.way.Way.{Way}
 use Rattle.ild_walk.specs.Opens.{HasOpened}
 use Rattle.ild_walk.specs.Part.{IsSpotted, Takes}
 use Rattle.ild_walk.specs.Texts.{HasTexts, IsTextHeld}
+use Rattle.ild_walk.specs.Ways.{LeadsFirst}
 use Rattle.ild_walk.proofs.Asking.{deep_at, keys_at, none_at, own_at}
+use Rattle.ild_walk.proofs.Leading.{leads_there}
+use Rattle.ild_places.specs.Places.{steps_of}
 
 -- ---- one step
 
@@ -53,12 +56,23 @@ module _ (s : TextEntries) (ps : List Spot) (h : HasTexts s ps) where
         subst (λ z. HasTexts z behind) (sym is) (record { inner = h.inner; entry = h.entry; at = h.at; is = refl }),
       )
 
+  pub text_value_way : (x : Bor (List ℕ)) → s.held ≡ Some x → (r : Part) → steps_of r.way ≡ [] → LeadsFirst r ps
+  text_value_way x held r way =
+      let behind : List Spot = entry_spots (MF.StringPairs h.inner h.entry) s.key s.value h.at (text_entries (pairs_in s.split)) in
+      leads_there r ps (value_spot s.value (T.text x.now) []) behind (subst (λ o. IsTextHeld s o behind ps) held h.is) way
+
   module _ (free : s.held ≡ None) where
     all_left : ps ≡ entry_spots (MF.StringPairs h.inner h.entry) s.key s.value h.at (text_entries (pairs_in s.split))
     all_left = subst (λ o. IsTextHeld s o (entry_spots (MF.StringPairs h.inner h.entry) s.key s.value h.at (text_entries (pairs_in s.split))) ps) free h.is
 
     pub text_end : pairs_in s.split ≡ [] → ps ≡ []
     text_end none = all_left ∙ ap (λ qs. entry_spots (MF.StringPairs h.inner h.entry) s.key s.value h.at (text_entries qs)) none
+
+    pub text_key_way : (r : Part) → steps_of r.way ≡ [] → LeadsFirst r ps
+    text_key_way r way = subst (LeadsFirst r) (sym all_left) (by (text_entries (pairs_in s.split))) where
+      by : (es : List (List ℕ × Data)) → LeadsFirst r (entry_spots (MF.StringPairs h.inner h.entry) s.key s.value h.at es)
+      by [] = tt
+      by (e ∷ es) = way
 
     pub text_key : (rows : List Row) (k v : Bor (List ℕ)) (split : PairParts) (r : Part) (way : Way) → r ≡ record { slot = plainly s.key; piece = Q.Text k; is_key = true; way = way }
         → pairs_in s.split ≡ (k.now, v.now) ∷ pairs_in split → (rest : TextEntries) → rest ≡ record { key = s.key; value = s.value; split = split; held = Some v }

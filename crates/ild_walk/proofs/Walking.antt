@@ -189,13 +189,13 @@ module _ (rows : List Row) (room : ℕ) (s : Slot) (t : Data) (left : ℕ) (part
       shown (x ∷ xs) all trees = (all.0 trees.0 left, shown xs all.1 trees.1)
 
   module _ (schema : IsSchema rows) (tree : IsTree t) (x : Part) (behind : Parts) (gives : (ps : List Spot) → HasLeft rows parts ps → SplitsOff rows ps (Some x) behind) where
-    split : SplitsOff rows w.rest (Some x) behind
+    pub split : SplitsOff rows w.rest (Some x) behind
     split = gives w.rest w.has
 
-    at_part : AreParts w.type t (w.done ++ split.first.0 ∷ split.others)
+    pub at_part : AreParts w.type t (w.done ++ split.first.0 ∷ split.others)
     at_part = subst (λ ps. AreParts w.type t (w.done ++ ps)) (split.is ∙ ap (λ ps. ps ++ split.others) split.first.1) w.are
 
-    part_tree : IsTree split.first.0.tree
+    pub part_tree : IsTree split.first.0.tree
     part_tree = behind_all w.done (table_parts rows schema s w.type w.form t (w.done ++ split.first.0 ∷ split.others) tree at_part) where
       behind_all : (done : List Spot) → AllByRecursion (λ p. IsTree p.tree) (done ++ split.first.0 ∷ split.others) → IsTree split.first.0.tree
       behind_all [] all = all.0

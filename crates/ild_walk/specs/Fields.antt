@@ -1,5 +1,5 @@
 -- The fields of a struct that are left.
-use Rattle.std.specs.Prelude.{◌≡◌, ℕ, ◌-◌, ◌++◌, true, List, [], Option, Some, None, drop, length}
+use Rattle.std.specs.Prelude.{◌≡◌, ℕ, zero, suc, ◌+◌, ◌-◌, ◌++◌, Bool, true, false, cond, not, List, [], ◌∷◌, Option, Some, None, drop, length, slice_get}
 use Rattle.std.specs.List.{AllByRecursion}
 use Rattle.ild_data.specs.Data.{Data}
 use Rattle.ild_cbor.specs.declared.piece.Piece.{Piece}
@@ -20,6 +20,21 @@ use Rattle.ild_walk.specs.Part.{IsFirst}
 abbrev pub fields_left : Fields → ℕ
 fields_left s = length s.def.now.fields - s.next
 
+-- whether a field stands in the data
+abbrev pub is_there : Field → Option Data → Bool
+is_there f None = false
+is_there f (Some d) = not (is_implicit f.implicit d)
+
+abbrev pub count_there : Field → Option Data → ℕ
+count_there f o = cond (is_there f o) 1 0
+
+-- how many of the first fields do
+abbrev pub written_in : ℕ → List Field → List (Option Data) → ℕ
+written_in zero fs os = 0
+written_in (suc n) [] os = 0
+written_in (suc n) (f ∷ fs) [] = 0
+written_in (suc n) (f ∷ fs) (o ∷ os) = count_there f o + written_in n fs os
+
 pub record FieldsLeft (rows : List Row) (def : StructDef) (parts : StructParts) (next : ℕ) (ps : List Spot) : Type 0 where
   pub legible : IsLegible rows
   pub fitting : AllByRecursion (ImplicitFits rows) def.fields
@@ -28,11 +43,14 @@ pub record FieldsLeft (rows : List Row) (def : StructDef) (parts : StructParts) 
   pub held : List (Option Data)
   pub are : ArePartsOf rows ty tree held parts
   pub same : fields_of parts ≡ def.fields
-  pub at : ℕ
-  pub is : ps ≡ field_spots def.form at (drop next def.fields) (drop next held)
+  pub is : ps ≡ field_spots def.form (written_in next def.fields held) (drop next def.fields) (drop next held)
 
 abbrev pub HasFields : List Row → Fields → List Spot → Type 0
 HasFields rows s ps = FieldsLeft rows s.def.now s.parts s.next ps
+
+-- the first field that is left has data
+abbrev pub IsFieldThere : List Row → Fields → List Spot → Type 0
+IsFieldThere rows s ps = (h : HasFields rows s ps) → (d : Data) × (slice_get h.held s.next ≡ Some (Some d))
 
 -- a piece for a field with these data: none where it is absent, or left out as implicit
 abbrev pub Handed : List Row → Field → Option Data → Option Piece → Type 0

@@ -1,5 +1,7 @@
 pub mod Checks
+pub mod Told
 pub mod Part
+pub mod Ways
 pub mod Elements
 pub mod Entries
 pub mod Fields
@@ -14,5 +16,4 @@ pub mod Ready
 pub mod Leaf
 pub mod Apart
 pub mod Opens
-pub mod Scalars
 pub mod Stacked

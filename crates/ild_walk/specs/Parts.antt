@@ -2,16 +2,18 @@
 use Rattle.std.specs.Prelude.{◌≡◌, ℕ, List, [], ◌++◌, Option, Some, None}
 use Rattle.ild_schema.specs.declared.row.Row.{Row}
 use Rattle.ild_typed.specs.Spots.{Spot}
+use Rattle.ild_walk.specs.declared.fields.Fields.{Fields}
 use Rattle.ild_walk.specs.declared.part.Part.{Part}
 use Rattle.ild_walk.specs.declared.parts.Parts.{Parts}
 use Rattle.ild_walk.specs.declared.parts.Parts.TheVariants as P
 use Rattle.ild_walk.specs.Elements.{HasElements, elements_left}
 use Rattle.ild_walk.specs.Entries.{HasEntries, entries_left}
-use Rattle.ild_walk.specs.Fields.{HasFields, fields_left}
+use Rattle.ild_walk.specs.Fields.{HasFields, IsFieldThere, fields_left}
 use Rattle.ild_walk.specs.Texts.{HasTexts, texts_left}
 use Rattle.ild_walk.specs.PairEntries.{HasPairs, pairs_left}
 use Rattle.ild_walk.specs.Root.{HasRoot, root_left}
 use Rattle.ild_walk.specs.Part.{IsFirst, Takes}
+use Rattle.ild_walk.specs.Ways.{LeadsFirst, LeadsTo}
 
 abbrev pub parts_left : Parts → ℕ
 parts_left P.Nothing = 0
@@ -29,7 +31,7 @@ HasLeft rows (P.List s) ps = HasElements s ps
 HasLeft rows (P.Map s) ps = HasEntries s ps
 HasLeft rows (P.Root s) ps = HasRoot s ps
 HasLeft rows (P.Struct s) ps = HasFields rows s ps
-HasLeft rows (P.Member x) ps = Takes rows ps [] x
+HasLeft rows (P.Member x) ps = Takes rows ps [] x × LeadsFirst x ps
 HasLeft rows (P.Texts s) ps = HasTexts s ps
 HasLeft rows (P.Pairs s) ps = HasPairs s ps
 
@@ -43,3 +45,12 @@ pub record SplitsOff (rows : List Row) (ps : List Spot) (o : Option Part) (rest 
 abbrev pub Splits : List Row → List Spot → Option (Option Part × Parts) → Type 0
 Splits rows ps None = ps ≡ []
 Splits rows ps (Some r) = SplitsOff rows ps r.0 r.1
+
+-- its way is that of the first spot; fields tell theirs once they are asked
+abbrev pub FieldLeads : List Row → Fields → Option Part → List Spot → Type 0
+FieldLeads rows s None ps = Unit {0}
+FieldLeads rows s (Some x) ps = IsFieldThere rows s ps
+
+abbrev pub LeadsOn : List Row → Parts → Option Part → List Spot → Type 0
+LeadsOn rows (P.Struct s) o ps = FieldLeads rows s o ps
+LeadsOn rows parts o ps = LeadsTo o ps

@@ -11,8 +11,8 @@ use Rattle.ild_node.specs.declared.bucket.Bucket.{Bucket}
 use Rattle.ild_node.specs.declared.view.NodeView.{NodeView}
 use Rattle.ild_schema.specs.declared.row.Row.{Row}
 use Rattle.ild_typed.specs.Composed.{usual}
-use Rattle.ild_typed.specs.RootSpots.{bucket_spots, root_spots}
-use Rattle.ild_typed.specs.Spots.{Spot, Step, value_spot}
+use Rattle.ild_typed.specs.RootSpots.{bucket_spots, in_node, root_spots}
+use Rattle.ild_typed.specs.Spots.{Spot, value_spot}
 use Rattle.ild_walk.specs.declared.part.Part.{Part}
 use Rattle.ild_walk.specs.declared.root.RootEntries.{RootEntries}
 use Rattle.ild_walk.specs.Part.{IsFirst}
@@ -29,13 +29,13 @@ root_left s = 8 * (8 * length s.slots.map.now - s.slots.next) + bucket_left s.bu
 -- the value whose key was handed out goes first
 abbrev pub IsRootHeld : RootEntries → Option (Bor (List ℕ) × Node) → List Spot → List Spot → Type 0
 IsRootHeld s None rest ps = ps ≡ rest
-IsRootHeld s (Some x) rest ps = (d : Data) × (steps : List Step) × Stands x.1 d × (ps ≡ value_spot s.value d steps ∷ rest)
+IsRootHeld s (Some x) rest ps = (d : Data) × (i : ℕ) × (s.entry ≡ i + 1) × Stands x.1 d × (ps ≡ value_spot s.value d (in_node s.element i 1) ∷ rest)
 
 -- then the bucket, and the slots behind it
-abbrev pub IsBucketLeft : RootEntries → Option Bucket → ℕ → List TrieSlot → List Spot → Type 0
-IsBucketLeft s None element slots ps = ps ≡ root_spots s.key s.value element slots
-IsBucketLeft s (Some b) element slots ps =
-    (es : List (List ℕ × Data)) × (i : ℕ) × HasEntries b es × (length es ≤ 3) × (ps ≡ bucket_spots s.key s.value element i (drop s.entry es) ++ root_spots s.key s.value (element + 1) slots)
+abbrev pub IsBucketLeft : RootEntries → Option Bucket → List TrieSlot → List Spot → Type 0
+IsBucketLeft s None slots ps = ps ≡ root_spots s.key s.value s.element slots
+IsBucketLeft s (Some b) slots ps =
+    (es : List (List ℕ × Data)) × HasEntries b es × (length es ≤ 3) × (ps ≡ bucket_spots s.key s.value s.element s.entry (drop s.entry es) ++ root_spots s.key s.value (s.element + 1) slots)
 
 pub record HasRoot (s : RootEntries) (ps : List Spot) : Type 0 where
   pub view : NodeView
@@ -43,10 +43,11 @@ pub record HasRoot (s : RootEntries) (ps : List Spot) : Type 0 where
   pub has : HasSlots usual view slots
   pub at : ℕ
   pub left : IsAtSlot view slots at s.slots
-  pub element : ℕ
+  pub within : at ≤ length slots
+  pub few : s.element + held_count s.bucket ≤ at
   pub rest : List Spot
   pub held : IsRootHeld s s.held rest ps
-  pub bucket : IsBucketLeft s s.bucket element (drop at slots) rest
+  pub bucket : IsBucketLeft s s.bucket (drop at slots) rest
 
 pub record SplitsRootOff (rows : List Row) (ps : List Spot) (o : Option Part) (rest : RootEntries) : Type 0 where
   pub taken : List Spot

@@ -112,13 +112,16 @@ fn behind_pairs<'b>(pairs: PairEntries<'b>, wanted: Kind) -> PairEntries<'b>
     ensures value { result.value ≡ pairs.entry.value }
 {
     let mut items = pairs.items;
+    let mut place = pairs.place;
     while let Some(behind) = behind_pair(&items, wanted) {
         items = behind;
+        place = place.saturating_add(1);
     }
     PairEntries {
         key: pairs.key,
         value: pairs.value,
         items,
+        place,
         held: None,
     }
 }

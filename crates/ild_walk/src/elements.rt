@@ -3,11 +3,12 @@ ghost use Rattle.std.specs.Prelude.{◌≡◌, ◌<◌, List, IfSome, length};
 ghost use Rattle.ild_schema.specs.declared.row.Row.{Row};
 ghost use Rattle.ild_typed.specs.Spots.{Spot};
 ghost use Rattle.ild_walk.specs.Elements.{HasElements, SplitsElements, elements_left};
+ghost use Rattle.ild_walk.specs.Ways.{LeadsFirst};
 ghost use Rattle.ild_walk.specs.Ready.{IsReady, IsIn};
 
 use crate::part::{Part, value_part};
-use crate::way::Way;
 use ild_cbor::{Items, Piece};
+use ild_places::Way;
 use ild_schema::Slot;
 
 /// The elements of a list that are left, of which so many went before.
@@ -22,6 +23,7 @@ impl<'b> Elements<'b> {
     /// The first element, and those behind it.
     pub(crate) fn split_first(&self) -> Option<(Part<'b>, Elements<'b>)>
         ensures step { (rows : List Row) (ps : List Spot) → HasElements self.now ps → SplitsElements rows ps result }
+        ensures way { (ps : List Spot) → HasElements self.now ps → IfSome result (λ r. LeadsFirst r.0 ps) }
         ensures fewer { IfSome result (λ r. elements_left r.1 < elements_left self.now) }
         ensures ready { (rows : List Row) → IsIn rows self.now.slot → IfSome result (λ r. IsReady rows r.0 × IsIn rows r.1.slot) }
     {

@@ -4,12 +4,13 @@ ghost use Rattle.ild_schema.specs.declared.row.Row.{Row};
 ghost use Rattle.ild_typed.specs.Spots.{Spot};
 ghost use Rattle.ild_walk.specs.Entries.{HasEntries, SplitsEntries, entries_left};
 ghost use Rattle.ild_walk.specs.Ready.{IsIn, IsReady};
+ghost use Rattle.ild_walk.specs.Ways.{LeadsFirst};
 ghost use Rattle.ild_schema.specs.Slots.{plainly};
 
 use crate::part::{Part, key_part, value_part};
-use crate::way::Way;
 use ild_cbor::{Node, Piece};
 use ild_piece::MapEntries;
+use ild_places::Way;
 use ild_schema::{Slot, TypeNo};
 
 /// The entries of a map that are left. Of one the key may have been handed out, and not its value.
@@ -25,6 +26,7 @@ impl<'b> Entries<'b> {
     /// The first key or value, and what is behind it.
     pub(crate) fn split_first(&self) -> Option<(Part<'b>, Entries<'b>)>
         ensures step { (rows : List Row) (ps : List Spot) → HasEntries self.now ps → SplitsEntries rows ps result }
+        ensures way { (ps : List Spot) → HasEntries self.now ps → IfSome result (λ r. LeadsFirst r.0 ps) }
         ensures fewer { IfSome result (λ r. entries_left r.1 < entries_left self.now) }
         ensures ready { (rows : List Row) → IsIn rows (plainly self.now.key) → IsIn rows self.now.value → IfSome result (λ r. IsReady rows r.0 × IsIn rows (plainly r.1.key) × IsIn rows r.1.value) }
     {

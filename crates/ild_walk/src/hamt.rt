@@ -33,6 +33,7 @@ fn entries_of<'b>(key: TypeNo, value: Slot, view: &NodeView<'b>) -> RootEntries<
         key,
         value,
         slots: view.slots(),
+        element: 0,
         bucket: None,
         entry: 0,
         held: None,

@@ -9,8 +9,8 @@ use crate::fault::ViewErr;
 use crate::part::value_part;
 use crate::stack::all_open;
 use crate::walk::check_piece;
-use crate::way::Way;
 use ild_cbor::Piece;
+use ild_places::Way;
 use ild_schema::{Accepted, Slot, TypeNo};
 use std::alloc::{AllocError, Global};
 

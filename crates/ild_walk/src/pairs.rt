@@ -93,6 +93,7 @@ pub(crate) fn open_listpairs<'b>(
         key,
         value,
         items,
+        place: 0,
         held: None,
     };
     Ok(Some(Opening {

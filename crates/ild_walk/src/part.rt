@@ -3,8 +3,8 @@ ghost use Rattle.std.specs.Prelude.{◌≡◌, false, true};
 ghost use Rattle.ild_schema.specs.Slots.{plainly};
 ghost use Rattle.ild_cbor.specs.declared.piece.Piece.TheVariants.{Text};
 
-use crate::way::Way;
 use ild_cbor::Piece;
+use ild_places::Way;
 use ild_schema::{Slot, TypeNo};
 
 /// A part of a piece: the slot that the type gives it, what stands for it, and where.

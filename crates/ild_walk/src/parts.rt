@@ -1,9 +1,10 @@
 //! The parts of a piece, one after another.
-ghost use Rattle.std.specs.Prelude.{◌≡◌, ◌<◌, ℕ, List, IfSome};
+ghost use Rattle.std.specs.Prelude.{◌≡◌, ◌<◌, ℕ, List, IfSome, Some};
 ghost use Rattle.ild_schema.specs.declared.row.Row.{Row};
 ghost use Rattle.ild_typed.specs.Spots.{Spot};
-ghost use Rattle.ild_walk.specs.Parts.{HasLeft, Splits, parts_left};
+ghost use Rattle.ild_walk.specs.Parts.{HasLeft, LeadsOn, Splits, parts_left};
 ghost use Rattle.ild_walk.specs.Ready.{AreReady, AreReadyBoth};
+ghost use Rattle.ild_walk.specs.Ways.{LeadsWay};
 
 use crate::elements::Elements;
 use crate::entries::Entries;
@@ -12,6 +13,7 @@ use crate::pair_entries::PairEntries;
 use crate::part::Part;
 use crate::root::RootEntries;
 use crate::text_entries::TextEntries;
+use ild_places::Way;
 
 /// The parts of a piece that are left, in the order in which they are checked.
 #[derive(Clone, Copy)]
@@ -31,6 +33,7 @@ impl<'b> Parts<'b> {
     #[inline(always)]
     pub(crate) fn split_first(&self) -> Option<(Option<Part<'b>>, Parts<'b>)>
         ensures step { (rows : List Row) (ps : List Spot) → HasLeft rows self.now ps → Splits rows ps result }
+        ensures way { (rows : List Row) (ps : List Spot) → HasLeft rows self.now ps → IfSome result (λ r. LeadsOn rows self.now r.0 ps) }
         ensures fewer { IfSome result (λ r. parts_left r.1 < parts_left self.now) }
         ensures ready { (rows : List Row) → AreReady rows self.now → IfSome result (λ r. AreReadyBoth rows r.0 r.1) }
     {
@@ -61,6 +64,15 @@ impl<'b> Parts<'b> {
                 Some((part, behind)) => Some((Some(part), Parts::Pairs(behind))),
                 None => None,
             },
+        }
+    }
+    /// Where the part stands that is handed out first.
+    pub(crate) fn way(&self, part: &Part<'b>) -> Way<'b>
+        ensures { (rows : List Row) (ps : List Spot) → HasLeft rows self.now ps → LeadsOn rows self.now (Some part.now) ps → LeadsWay result ps }
+    {
+        match self {
+            Parts::Struct(fields) => fields.way(),
+            _ => part.way,
         }
     }
 }

@@ -2,7 +2,10 @@
 ghost use Rattle.std.specs.Prelude.{◌≡◌, ℕ, List};
 ghost use Rattle.ild_data.specs.Data.{Data};
 ghost use Rattle.ild_schema.specs.declared.row.Row.{Row};
+ghost use Rattle.ild_cbor.specs.declared.piece.Piece.{Piece};
+ghost use Rattle.ild_typed.specs.Schema.{IsSchema};
 ghost use Rattle.ild_typed.specs.Spots.{Spot};
+ghost use Rattle.ild_walk.specs.Told.{IsPlacedBy, TellsPlaceIn};
 ghost use Rattle.ild_walk.specs.Checks.{Faults, PartFaults, is_depth};
 ghost use Rattle.ild_walk.specs.Opens.{IsStopped};
 ghost use Rattle.ild_walk.specs.Part.{IsSpotted};
@@ -24,7 +27,8 @@ fn is_depth(why: Why) -> bool
 
 /// The refusal of a piece by itself.
 pub(crate) fn own_refusal(slot: Slot, stop: Stop) -> ViewErr
-    ensures { (rows : List Row) (room : ℕ) (t : Data) → IsStopped rows room slot t stop → Faults rows room slot t result }
+    ensures faults { (rows : List Row) (room : ℕ) (t : Data) → IsStopped rows room slot t stop → Faults rows room slot t result }
+    ensures place { (rows : List Row) (room : ℕ) (t : Data) (y : Piece) → IsSchema rows → IsStopped rows room slot t stop → TellsPlaceIn rows room slot y t result }
 {
     match stop {
         Stop::Why(why) => ViewErr::Shape {
@@ -39,7 +43,8 @@ pub(crate) fn own_refusal(slot: Slot, stop: Stop) -> ViewErr
 /// The refusal of a part, as that of the whole, where the part begins at a place. A key that is no text of its type is
 /// refused as such; only too little room is told of it as of any piece.
 pub(crate) fn part_refusal(part: &Part<'_>, place: usize, fault: ViewErr) -> ViewErr
-    ensures { (rows : List Row) (room : ℕ) (p : Spot) → IsSpotted rows part.now p → Faults rows room p.slot p.tree fault → PartFaults rows room p result }
+    ensures faults { (rows : List Row) (room : ℕ) (p : Spot) → IsSpotted rows part.now p → Faults rows room p.slot p.tree fault → PartFaults rows room p result }
+    ensures place { IsPlacedBy part.now place fault result }
 {
     match fault {
         ViewErr::Shape { ty, why, at } => {

@@ -7,7 +7,7 @@ ghost use Rattle.ild_schema.specs.declared.def.TypeDef.{TypeDef as Def};
 ghost use Rattle.ild_schema.specs.declared.row.Row.{Row};
 ghost use Rattle.ild_enum.specs.Forms.{IsEnumType, IsUnitType};
 ghost use Rattle.ild_walk.specs.Opens.{IsOpening, Opens};
-ghost use Rattle.ild_walk.specs.Scalars.{scalar_kind};
+ghost use Rattle.ild_struct.specs.Told.{scalar_kind};
 
 use crate::opening::{Opening, Stop};
 use ild_cbor::{Kind, Piece, Why};

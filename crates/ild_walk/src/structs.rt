@@ -13,6 +13,7 @@ ghost use Rattle.ild_typed.specs.Spots.{Spot};
 ghost use Rattle.ild_union.specs.Forms.{passes_over};
 ghost use Rattle.ild_walk.specs.Fields.{Handed, HasFields, SplitsFields, fields_left};
 ghost use Rattle.ild_walk.specs.Opens.{IsOpening, Opens};
+ghost use Rattle.ild_walk.specs.Parts.{FieldLeads};
 ghost use Rattle.ild_walk.specs.Ready.{AreIn, IsPartReady};
 
 use crate::fields::Fields;
@@ -20,10 +21,9 @@ use crate::null::null_item;
 use crate::opening::{Opening, Stop};
 use crate::part::{Part, value_part};
 use crate::parts::Parts;
-use crate::place::at_item;
-use crate::way::Way;
 use ild_cbor::{Piece, Why};
-use ild_schema::{Accepted, Field, StructDef, StructForm, TypeNo};
+use ild_places::Way;
+use ild_schema::{Accepted, StructDef, StructForm, TypeNo};
 use ild_struct::{Part as Held, layer};
 
 // The piece that stands for a field, where one does.
@@ -38,32 +38,11 @@ fn piece_of(held: Held<'_>) -> Option<Piece<'_>>
     }
 }
 
-// Where the part of a field stands.
-fn way_of<'b>(form: &StructForm, field: &'b Field, i: usize, held: &Held<'b>) -> Way<'b> {
-    match held {
-        Held::Held(Piece::Node(item)) => return at_item(item),
-        _ => {}
-    }
-    match form {
-        StructForm::Map => Way::Under(text_of(field)),
-        StructForm::Tuple => Way::Item(i as u64),
-        StructForm::ListPairs => Way::Named(text_of(field)),
-        StructForm::StringPairs(_, _) | StructForm::StringJoin(_) => Way::Here,
-    }
-}
-
-// The name of a field in a block.
-fn text_of(field: &Field) -> &str {
-    match &field.rename {
-        Some(rename) => rename.as_str(),
-        None => field.name.as_str(),
-    }
-}
-
 impl<'b> Fields<'b> {
-    /// The first field, where a piece stands for it, and the fields behind it.
+    /// The first field, where a piece stands for it, and the fields behind it. The part doesn't tell its way: `way` does.
     pub(crate) fn split_first(&self) -> Option<(Option<Part<'b>>, Fields<'b>)>
         ensures step { (rows : List Row) (ps : List Spot) → HasFields rows self.now ps → SplitsFields rows ps result }
+        ensures way { (rows : List Row) (ps : List Spot) → HasFields rows self.now ps → IfSome result (λ r. FieldLeads rows self.now r.0 ps) }
         ensures fewer { IfSome result (λ r. fields_left r.1 < fields_left self.now) }
         ensures ready { (rows : List Row) → AreIn rows self.now.def.now.fields → IfSome result (λ r. IsPartReady rows r.0 × AreIn rows r.1.def.now.fields) }
     {
@@ -77,9 +56,8 @@ impl<'b> Fields<'b> {
             next: self.next + 1,
         };
         let held = self.parts.field(self.next);
-        let way = way_of(&self.def.form, field, self.next, &held);
         match piece_of(held) {
-            Some(piece) => Some((Some(value_part(field.slot, piece, way)), behind)),
+            Some(piece) => Some((Some(value_part(field.slot, piece, Way::Here)), behind)),
             None => Some((None, behind)),
         }
     }

@@ -5,10 +5,11 @@ ghost use Rattle.ild_schema.specs.declared.row.Row.{Row};
 ghost use Rattle.ild_typed.specs.Spots.{Spot};
 ghost use Rattle.ild_walk.specs.Ready.{IsIn, IsReady};
 ghost use Rattle.ild_walk.specs.Texts.{HasTexts, SplitsTexts, texts_left};
+ghost use Rattle.ild_walk.specs.Ways.{LeadsFirst};
 
 use crate::part::{Part, key_part, value_part};
-use crate::way::Way;
 use ild_cbor::Piece;
+use ild_places::Way;
 use ild_schema::{Slot, TypeNo};
 use ild_text::PairParts;
 
@@ -36,6 +37,7 @@ impl<'b> TextEntries<'b> {
     /// The first key or value, and what is behind it.
     pub(crate) fn split_first(&self) -> Option<(Part<'b>, TextEntries<'b>)>
         ensures step { (rows : List Row) (ps : List Spot) → HasTexts self.now ps → SplitsTexts rows ps result }
+        ensures way { (ps : List Spot) → HasTexts self.now ps → IfSome result (λ r. LeadsFirst r.0 ps) }
         ensures fewer { IfSome result (λ r. texts_left r.1 < texts_left self.now) }
         ensures ready { (rows : List Row) → IsIn rows (plainly self.now.key) → IsIn rows self.now.value → IfSome result (λ r. IsReady rows r.0 × IsIn rows (plainly r.1.key) × IsIn rows r.1.value) }
     {

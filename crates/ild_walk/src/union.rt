@@ -2,22 +2,26 @@
 ghost use Rattle.std.specs.Prelude.{◌≡◌, ◌<◌, Some, false, length};
 ghost use Rattle.ild_data.specs.Data.{Data};
 ghost use Rattle.ild_piece.specs.Pieces.{IsNumbered, StandsFor};
+ghost use Rattle.ild_places.specs.Places.{steps_of};
 ghost use Rattle.ild_schema.specs.Kinds.{meant};
 ghost use Rattle.ild_schema.specs.Table.{IsWithin as IsTypeWithin};
 ghost use Rattle.ild_schema.specs.declared.def.TypeDef.TheVariants as D;
+ghost use Rattle.ild_typed.specs.Spots.{member_steps};
 ghost use Rattle.ild_union.specs.Forms.{passes_over};
 ghost use Rattle.ild_walk.specs.Opens.{IsOpening, Opens};
 
 use crate::opening::{Opening, Stop};
 use crate::part::value_part;
 use crate::parts::Parts;
-use crate::way::Way;
 use ild_cbor::{Piece, Why};
+use ild_places::Way;
 use ild_schema::{Accepted, Mark, Member, Slot, TypeNo, UnionDef, UnionForm};
 use ild_union::layer;
 
 // Where the member of a union stands.
-fn way_of<'b>(form: &'b UnionForm, member: &'b Member) -> Way<'b> {
+fn way_of<'b>(form: &'b UnionForm, member: &'b Member) -> Way<'b>
+    ensures { steps_of result ≡ member_steps form.now member.now }
+{
     match form {
         UnionForm::Keyed => match &member.mark {
             Mark::Text(name) => Way::Under(name.as_str()),

@@ -19,13 +19,13 @@ use crate::list::open_list;
 use crate::map::open_map;
 use crate::opening::{Opening, Stop};
 use crate::pairs::{open_listpairs, open_stringpairs};
-use crate::place::place_of;
 use crate::refusal::{own_refusal, part_refusal};
 use crate::scalar::{open_enum, open_scalar, open_unit};
 use crate::structs::open_struct;
 use crate::union::open_union;
 use ild_cbor::{Kind, Piece};
 use ild_piece::is_null;
+use ild_places::place_of;
 use ild_schema::{Accepted, MapForm, Slot, TypeDef};
 use std::alloc::Global;
 
@@ -115,7 +115,7 @@ pub(crate) fn check_piece<'b>(
     while let Some((part, behind)) = parts.split_first() {
         if let Some(part) = part {
             if let Err(fault) = check_piece(alloc, acc, part.slot, &part.piece, opening.room) {
-                return Err(part_refusal(&part, place_of(piece, &part.way), fault));
+                return Err(part_refusal(&part, place_of(piece, &parts.way(&part)), fault));
             }
         }
         parts = behind;

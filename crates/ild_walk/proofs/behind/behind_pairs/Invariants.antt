@@ -10,7 +10,7 @@ use Rattle.ild_walk.proofs.behind.behind_pairs.Given as goal
 
 abbrev pub invariant-loop-behind : goal.invariant-loop-behind
 invariant-loop-behind l =
-    (rows : List Row) (ps : List Spot) → FitsOfKind rows (plainly l.fn.pairs.key) K.Text → FitsOfKind rows l.fn.pairs.value l.fn.wanted → HasPairs l.fn.pairs ps → Passes rows ps (HasPairs (From l.fn.pairs l.items))
+    (rows : List Row) (ps : List Spot) → FitsOfKind rows (plainly l.fn.pairs.key) K.Text → FitsOfKind rows l.fn.pairs.value l.fn.wanted → HasPairs l.fn.pairs ps → Passes rows ps (HasPairs (From l.fn.pairs l.items l.place))
 
 abbrev pub decreases-loop-behind : goal.decreases-loop-behind
 decreases-loop-behind l = l.items.left

@@ -23,7 +23,7 @@ pub returns-clause-opens : goal.returns-clause-opens
 returns-clause-opens c = λ t stands.
     let x = c.in-Ok.ensures.answer t stands in
     union_opens c.args.acc.now c.types-types.ensures.legible c.args.ty.0 c.args.room c.args.def.now c.requires.known c.args.piece.now t stands c.in-Ok.found.0 x.0 x.2
-    c.in-Some.room c.index-as_slice-number.result c.value_part.result c.in-Ok.found.1 c.way_of.result (omega (arith, c.in-Some.ensures)) (got c) x.1 c.value_part.ensures
+    c.in-Some.room c.index-as_slice-number.result c.value_part.result c.in-Ok.found.1 c.way_of.result (omega (arith, c.in-Some.ensures)) (got c) x.1 c.way_of.ensures c.value_part.ensures
 
 pub returns-clause-ready : goal.returns-clause-ready
 returns-clause-ready c =

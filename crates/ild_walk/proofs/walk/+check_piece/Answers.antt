@@ -15,7 +15,7 @@ pub returns-in-Err : goal.returns-in-Err
 returns-in-Err m c = λ t stands tree.
     let rows : List Row = c.args.acc.now in
     let schema : IsSchema rows = record { table = c.types-types.ensures.table; accepted = c.types-types.ensures.accepted } in
-    c.own_refusal.ensures rows c.args.room t
+    c.own_refusal.ensures.faults rows c.args.room t
     (refused_by_itself rows schema c.args.room c.args.slot c.requires.within t c.in-Err.stop (sym (c.is_null_there.ensures rows t stands) ∙ c.if-is_null_there.false) (λ d is. c.in-Err.ensures.opens d t stands is))
 
 pub returns-in_default : goal.returns-in_default
@@ -56,7 +56,7 @@ returns-in-Err-check_piece m c = λ t stands tree.
     at_refused rows c.args.room c.args.slot t left c.loop-part.parts (c.loop-part.invariant.2 t stands tree) schema tree c.in-Some-part.part c.in-Some-split_first.behind
     (λ ps h. subst (λ o. SplitsOff rows ps o c.in-Some-split_first.behind) c.in-Some-part.is (c.in-Some-split_first.ensures.step rows ps h))
     (sym (c.is_null_there.ensures rows t stands) ∙ c.if-is_null_there.false) c.loop-part.invariant.1 c.in-Err-check_piece.fault c.part_refusal.result
-    (λ u a b. c.in-Err-check_piece.ensures u a b) (λ p sp f. c.part_refusal.ensures rows left p sp f)
+    (λ u a b. c.in-Err-check_piece.ensures u a b) (λ p sp f. c.part_refusal.ensures.faults rows left p sp f)
 
 pub loop-part-preserved-in_default-check_piece : goal.loop-part-preserved-in_default-check_piece
 loop-part-preserved-in_default-check_piece m c =

@@ -3,7 +3,7 @@ use Rattle.std.specs.Prelude.{slice_get}
 use Rattle.ild_schema.specs.declared.def.Field.{Field}
 use Rattle.ild_walk.specs.Ready.{IsReady}
 use Rattle.ild_walk.proofs.Finding.{got_at}
-use Rattle.ild_walk.proofs.Structing.{field_given, field_low, field_passed, field_there, plain_numbered}
+use Rattle.ild_walk.proofs.Structing.{field_found, field_given, field_low, field_passed, field_there, plain_numbered}
 use Rattle.ild_walk.proofs.fields.Fields.split_first.Goals as goal
 
 pub returns-in-Some-clause-step : goal.returns-in-Some-clause-step
@@ -43,3 +43,13 @@ returns-in-None-clause-step c = λ rows ps h.
     let x = field_there rows s.def.now s.parts s.next ps h f known c.field-held.result (c.field-held.ensures.part rows h.ty h.tree h.held h.are) in
     let g = field_passed rows s.def.now s.parts s.next ps h f x.content known x.at (c.in-None.ensures.part rows f x.content x.is) in
     record { taken = g.taken; others = g.others; is = g.is; first = g.fit; left = g.left }
+
+pub returns-in-Some-clause-way : goal.returns-in-Some-clause-way
+returns-in-Some-clause-way c = λ rows ps left h.
+    let s = c.args.self.now in
+    let fs : List Field = s.def.now.fields in
+    let f : Field = c.index-as_slice-self.result in
+    let is : f ≡ get_or fs s.next f = c.index-as_slice-self.is ∙ ap (λ (gs : List Field). get_or gs s.next f) c.as_slice.ensures in
+    let known : slice_get fs s.next ≡ Some f = got_at fs s.next f (omega (arith, c.if-self-len.false, c.len.ensures)) is in
+    let x = field_there rows s.def.now s.parts s.next ps h f known c.field-held.result (c.field-held.ensures.part rows h.ty h.tree h.held h.are) in
+    field_found rows s.def.now s.parts s.next ps h f x.content known x.at c.in-Some.piece (c.in-Some.ensures.part rows f x.content x.is)

@@ -1,7 +1,7 @@
-use Rattle.std.proofs.Common.{refl, subst}
+use Rattle.std.proofs.Common.{Some, refl, subst}
 use Rattle.ild_walk.specs.declared.parts.Parts.TheVariants as P
 use Rattle.ild_walk.specs.Ready.{AreReady}
-use Rattle.ild_walk.proofs.Stepping.{takes_off, left_as}
+use Rattle.ild_walk.proofs.Stepping.{takes_off, leads_as, left_as}
 use Rattle.ild_walk.proofs.parts.Parts.split_first.Goals as goal
 
 pub returns-in-Some-clause-step : goal.returns-in-Some-clause-step
@@ -21,7 +21,7 @@ pub returns-in-None-split_first-clause-step : goal.returns-in-None-split_first-c
 returns-in-None-split_first-clause-step c = λ rows ps h. c.in-None-split_first.ensures.step rows ps (left_as rows c.args.self.now (P.Map c.in-Map.entries) ps c.in-Map.is h)
 
 pub returns-in-Member-clause-step : goal.returns-in-Member-clause-step
-returns-in-Member-clause-step c = λ rows ps h. takes_off rows ps _ c.in-Member.part P.Nothing (left_as rows c.args.self.now (P.Member c.in-Member.part) ps c.in-Member.is h) refl
+returns-in-Member-clause-step c = λ rows ps h. takes_off rows ps _ c.in-Member.part P.Nothing (left_as rows c.args.self.now (P.Member c.in-Member.part) ps c.in-Member.is h).0 refl
 
 pub returns-in-Some-split_first-2-clause-step : goal.returns-in-Some-split_first-2-clause-step
 returns-in-Some-split_first-2-clause-step c = λ rows ps h.
@@ -80,3 +80,31 @@ returns-in-Some-split_first-5-clause-ready c = λ rows all.
 pub returns-in-None-split_first-5-clause-step : goal.returns-in-None-split_first-5-clause-step
 returns-in-None-split_first-5-clause-step c = λ rows ps h.
     c.in-None-split_first-5.ensures.step rows ps (left_as rows c.args.self.now (P.Pairs c.in-Pairs.entries) ps c.in-Pairs.is h)
+
+pub returns-in-Some-clause-way : goal.returns-in-Some-clause-way
+returns-in-Some-clause-way c = λ rows ps h.
+    leads_as rows c.args.self.now (P.List c.in-List.elements) (Some c.in-Some.part) ps c.in-List.is (c.in-Some.ensures.way ps (left_as rows c.args.self.now (P.List c.in-List.elements) ps c.in-List.is h))
+
+pub returns-in-Some-split_first-clause-way : goal.returns-in-Some-split_first-clause-way
+returns-in-Some-split_first-clause-way c = λ rows ps h.
+    leads_as rows c.args.self.now (P.Map c.in-Map.entries) (Some c.in-Some-split_first.part) ps c.in-Map.is (c.in-Some-split_first.ensures.way ps (left_as rows c.args.self.now (P.Map c.in-Map.entries) ps c.in-Map.is h))
+
+pub returns-in-Some-split_first-2-clause-way : goal.returns-in-Some-split_first-2-clause-way
+returns-in-Some-split_first-2-clause-way c = λ rows ps h.
+    leads_as rows c.args.self.now (P.Root c.in-Root.entries) c.in-Some-split_first-2.part ps c.in-Root.is (c.in-Some-split_first-2.ensures.way ps (left_as rows c.args.self.now (P.Root c.in-Root.entries) ps c.in-Root.is h))
+
+pub returns-in-Some-split_first-4-clause-way : goal.returns-in-Some-split_first-4-clause-way
+returns-in-Some-split_first-4-clause-way c = λ rows ps h.
+    leads_as rows c.args.self.now (P.Texts c.in-Texts.entries) (Some c.in-Some-split_first-4.part) ps c.in-Texts.is (c.in-Some-split_first-4.ensures.way ps (left_as rows c.args.self.now (P.Texts c.in-Texts.entries) ps c.in-Texts.is h))
+
+pub returns-in-Some-split_first-5-clause-way : goal.returns-in-Some-split_first-5-clause-way
+returns-in-Some-split_first-5-clause-way c = λ rows ps h.
+    leads_as rows c.args.self.now (P.Pairs c.in-Pairs.entries) (Some c.in-Some-split_first-5.part) ps c.in-Pairs.is (c.in-Some-split_first-5.ensures.way ps (left_as rows c.args.self.now (P.Pairs c.in-Pairs.entries) ps c.in-Pairs.is h))
+
+pub returns-in-Member-clause-way : goal.returns-in-Member-clause-way
+returns-in-Member-clause-way c = λ rows ps h.
+    leads_as rows c.args.self.now (P.Member c.in-Member.part) (Some c.in-Member.part) ps c.in-Member.is (left_as rows c.args.self.now (P.Member c.in-Member.part) ps c.in-Member.is h).1
+
+pub returns-in-Some-split_first-3-clause-way : goal.returns-in-Some-split_first-3-clause-way
+returns-in-Some-split_first-3-clause-way c = λ rows ps h. leads_as rows c.args.self.now (P.Struct c.in-Struct.fields) c.in-Some-split_first-3.part ps c.in-Struct.is
+    (c.in-Some-split_first-3.ensures.way rows ps (left_as rows c.args.self.now (P.Struct c.in-Struct.fields) ps c.in-Struct.is h))
