@@ -9,6 +9,7 @@ import subprocess
 
 import edges
 import new_cases
+import tables
 import values
 
 
@@ -174,6 +175,29 @@ def big_values_are_shown(program, place):
         yield from (f"{name}: {wrong}" for wrong in edges.differs(run, text.encode(), status))
 
 
+def big_data(program, place):
+    """An object of over a megabyte, of 1,200 keys, each with a list of one text of a thousand letters."""
+    text = "{%s}" % ",".join(f'"k{n}":["{"abcdefghij" * 100}"]' for n in range(1_000, 2_200))
+    _, _, (block,) = values.answer(b"", "Any", text.encode())
+    # Behind the head b9 04 b0 each entry has 6 + 1 + 3 + 1,000 bytes.
+    if len(block) != 1_212_003 or not block.startswith(b"\xb9\x04\xb0\x65k1000\x81\x79\x03\xe8a"):
+        yield "the object has another block than was told by hand"
+    yield from asked(program, place, "", "Any", text)
+    run = edges.start(program, place, ["show", "s", "Any", values.cid_text(block)])
+    yield from edges.differs(run, f"ok {text}\n".encode(), 0)
+
+
+def each_front_of_a_block(program, place):
+    """A block that is cut off at any byte is none."""
+    give(place, "", "")
+    (place / "blocks").mkdir()
+    for length in range(len(tables.ALL)):
+        cid = values.cid_text(tables.ALL[:length])
+        (place / "blocks" / cid).write_bytes(tables.ALL[:length])
+        run = edges.start(program, place, ["show", "s", "Any", cid])
+        yield from (f"{length}: {wrong}" for wrong in edges.differs(run, f"fault 4 root cbor {cid}\n".encode(), 4))
+
+
 def big_values(program, place):
     """Above the sizes at which a call that always gave memory up could be told from one that works."""
     numbers = ",".join(str(n * 4093) for n in range(100_000))
@@ -207,6 +231,8 @@ TESTS = (
     standard_output_that_fails,
     two_runs_side_by_side,
     big_values,
+    big_data,
+    each_front_of_a_block,
     a_hamt_with_a_node_above_a_block,
     a_file_that_is_not_its_block,
     roots_without_a_folder,

@@ -25,46 +25,21 @@ fn refused(rt: &impl Abort, bytes: &[u8], kind: CborKind, at: usize) {
     );
 }
 
-/// Blocks that are refused, each with its first fault.
-const FAULTS: [(&[u8], CborKind, usize); 26] = [
-    (&[], Short, 0),
+/// Blocks that are refused, each with its first fault: one for each kind. More of them are cases of `show` (`NO_BLOCKS` of
+/// tests/conformance/tables.py), and so is each front of that block.
+const FAULTS: [(&[u8], CborKind, usize); 12] = [
     (&[0xa1, 0x61, 0x61], Short, 3),
-    (
-        &[0x9b, 0xff, 0xff, 0xff, 0xff, 0xff, 0xff, 0xff, 0xff],
-        Short,
-        9,
-    ),
-    (
-        &[0xbb, 0xff, 0xff, 0xff, 0xff, 0xff, 0xff, 0xff, 0xff],
-        Short,
-        9,
-    ),
-    (
-        &[0x5b, 0xff, 0xff, 0xff, 0xff, 0xff, 0xff, 0xff, 0xff],
-        Short,
-        9,
-    ),
     (&[0xf6, 0xf6], Rest, 1),
-    (&[0x18, 0x17], Head, 0),
-    (&[0x19, 0x00, 0xff], Head, 0),
-    (&[0x1a, 0x00, 0x00, 0xff, 0xff], Head, 0),
-    (&[0x1b, 0, 0, 0, 0, 0xff, 0xff, 0xff, 0xff], Head, 0),
-    (&[0x81, 0x1c], Head, 1),
-    (&[0x9f, 0xff], Head, 0),
-    (&[0xa1, 0x7f], Head, 1),
-    (&[0xd8, 42, 0x5f], Head, 2),
+    (&[0x81, 0x18, 0x17], Head, 1),
     (&[0xa1, 0xff], KeyKind, 1),
-    (&[0xa2, 0x62, 0x61, 0x61, 2, 0x61, 0x62, 1], KeyOrder, 5),
     (&[0xa2, 0x61, 0x61, 2, 0x61, 0x61, 1], KeyOrder, 4),
     (&[0xd8, 43, 0x40], Tag, 0),
     (&[0xd8, 42, 0x40], Link, 0),
-    (&[0xd8, 42, 0x61, 0x00], Link, 0),
     (&[0x81, 0x62, 0xc3, 0x28], Utf8, 1),
-    (&[0xa1, 0x61, 0xff, 0xf6], Utf8, 1),
     (&[0xf9, 0x3c, 0x00], Float, 0),
     (&[0xf7], Simple, 0),
-    (&[0xfc], Simple, 0),
     (&[0x3b, 0x80, 0, 0, 0, 0, 0, 0, 0], Range, 0),
+    (&[0x81; 97], Depth, 96),
 ];
 
 #[test]
@@ -72,34 +47,6 @@ fn faults(rt: HostRuntime) {
     for (bytes, kind, at) in &FAULTS {
         refused(&rt, bytes, *kind, *at);
     }
-}
-
-#[test]
-fn lengths(rt: HostRuntime) {
-    assert!(rt; check(&ALL).is_ok());
-    for n in 0..ALL.len() {
-        refused(&rt, &ALL[..n], Short, n);
-    }
-}
-
-#[test]
-fn depths(rt: HostRuntime) {
-    let mut lists = [0x81; 97];
-    lists[95] = 0x80;
-    assert!(rt; check(&lists[..96]).is_ok());
-    lists[95] = 0x81;
-    lists[96] = 0x80;
-    refused(&rt, &lists, Depth, 96);
-}
-
-#[test]
-fn links(rt: HostRuntime) {
-    let mut link = [0; 41];
-    link[..9].copy_from_slice(&[0xd8, 42, 0x58, 0x25, 0, 1, 0x71, 0x12, 0x20]);
-    assert!(rt; check(&link).is_ok());
-    link[3] = 0x24;
-    link[4..8].copy_from_slice(&[1, 0x71, 0x12, 0x20]);
-    refused(&rt, &link[..40], Link, 0);
 }
 
 /// An entry of a block.

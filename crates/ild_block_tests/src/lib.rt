@@ -1,10 +1,12 @@
-//! Tests of public calls on data, blocks and their texts, a file a subject, beside blocks of another tool.
+//! Tests of public calls on data, blocks and their texts, a file a subject: an example of each answer, and what no command shows.
 #![tactic(auto)]
 
 #[cfg(test)]
 mod blocks;
 #[cfg(test)]
 mod cbor;
+#[cfg(test)]
+mod cids;
 #[cfg(test)]
 mod data;
 #[cfg(test)]
@@ -13,5 +15,3 @@ mod json;
 mod keys;
 #[cfg(test)]
 mod large;
-#[cfg(test)]
-mod trees;
