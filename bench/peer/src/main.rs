@@ -77,6 +77,14 @@ fn main() {
                 sum += out.len() as u64;
             }
         }
+        "write-list" => {
+            let integers = typed::integers(json::read(&bytes).expect("JSON of a value")).expect("integers");
+            for _ in 0..times {
+                let mut out = Vec::new();
+                typed::write_integers(&mut out, black_box(&integers));
+                sum += out.len() as u64;
+            }
+        }
         "compile" => {
             for _ in 0..times {
                 sum += schema::compile(black_box(&bytes)).expect("a schema") as u64;

@@ -76,3 +76,28 @@ pub fn write(out: &mut Vec<u8>, people: &[Person]) {
         write_person(out, person);
     }
 }
+
+fn integer_of(tree: Tree) -> Option<i64> {
+    match tree {
+        Tree::Int(n) => i64::try_from(n).ok(),
+        _ => None,
+    }
+}
+
+pub fn integers(tree: Tree) -> Option<Vec<i64>> {
+    match tree {
+        Tree::List(trees) => trees.into_iter().map(integer_of).collect(),
+        _ => None,
+    }
+}
+
+fn add_integer(out: &mut Vec<u8>, n: i64) {
+    if n >= 0 { add_head(out, 0, n as u64) } else { add_head(out, 1, (-1 - n) as u64) }
+}
+
+pub fn write_integers(out: &mut Vec<u8>, integers: &[i64]) {
+    add_head(out, 4, integers.len() as u64);
+    for n in integers {
+        add_integer(out, *n);
+    }
+}

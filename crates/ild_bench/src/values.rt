@@ -14,9 +14,9 @@ use ild_value::from_shown;
 use ild_write::build;
 use std::alloc::Global;
 
-/// A list of structs, whose names don't rise in the key order.
+/// A list of structs, whose names don't rise in the key order, and a list of integers.
 const SCHEMA: &str =
-    "type People [Person] type Person struct { age Int mail String name String tags [String] ok Bool }";
+    "type People [Person] type Person struct { age Int mail String name String tags [String] ok Bool } type Ints [Int]";
 
 /// The value of a slot that a JSON text means.
 fn given(alloc: Global, acc: &Accepted, slot: Slot, bytes: &[u8]) -> Option<Val>
@@ -48,10 +48,10 @@ fn write_times(alloc: Global, acc: &Accepted, slot: Slot, val: &Val, times: u32)
     Some(sum)
 }
 
-/// The JSON is read as a value once, which is written so many times.
-pub(crate) fn write_all(alloc: Global, bytes: &[u8], times: u32) -> Option<u64> {
+/// The JSON is read as a value of a type once, which is written so many times.
+pub(crate) fn write_all(alloc: Global, bytes: &[u8], times: u32, name: &str) -> Option<u64> {
     let acc = compile(alloc, SCHEMA.as_bytes()).ok()?;
-    let ty = acc.type_named("People")?;
+    let ty = acc.type_named(name)?;
     if ty.0 >= acc.types() {
         return None;
     }
