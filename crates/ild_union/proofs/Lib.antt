@@ -6,3 +6,4 @@ mod Kinding
 mod Marking
 mod Order
 mod Prefixing
+mod Forming

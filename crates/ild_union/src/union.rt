@@ -10,7 +10,7 @@ ghost use Rattle.ild_schema.specs.Table.{IsWithin};
 ghost use Rattle.ild_schema.specs.declared.def.TypeDef.TheVariants as D;
 ghost use Rattle.ild_typed.specs.Layer as L;
 ghost use Rattle.ild_union.specs.Answers.{UnionAnswer};
-ghost use Rattle.ild_union.specs.Forms.{IsPassedBy, IsPassedOnce, IsUnionType};
+ghost use Rattle.ild_union.specs.Forms.{IsInlineOf, IsPassedBy, IsPassedOnce, IsUnionType};
 
 use crate::envelope::envelope;
 use crate::inline::inline;
@@ -38,6 +38,7 @@ fn of_form<'b>(
     ensures within { IfOk result (λ p. IsPartOf acc.now ty.0 p.0) }
     ensures numbered { IfOk result (λ p. IsNumbered acc.now p.1) }
     ensures passed { IfOk result (λ p. IsPassedBy acc.now own.0 piece.now p.1) }
+    ensures inlined { IfOk result (λ p. IsInlineOf acc.now own.0 piece.now p.1) }
 {
     match &def.form {
         UnionForm::Keyed => keyed(acc, ty, piece),
@@ -71,6 +72,7 @@ pub fn layer<'b>(acc: &'b Accepted, ty: TypeNo, piece: Piece<'b>) -> Result<(u32
     ensures within { IfOk result (λ p. IsPartOf acc.now (base acc.now ty.0) p.0) }
     ensures numbered { IfOk result (λ p. IsNumbered acc.now p.1) }
     ensures passed { IfOk result (λ p. IsPassedBy acc.now ty.0 piece.entry p.1) }
+    ensures inlined { IfOk result (λ p. IsInlineOf acc.now ty.0 piece.entry p.1) }
 {
     let base = acc.base(ty);
     match acc.def(base) {

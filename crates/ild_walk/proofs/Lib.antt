@@ -11,6 +11,7 @@ pub mod Texting
 pub mod Stepping
 pub mod Structing
 pub mod Walking
+pub mod Inside
 pub mod Telling
 pub mod Passing
 pub mod Digesting

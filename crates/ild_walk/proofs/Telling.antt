@@ -1,36 +1,47 @@
 -- The offset that is told of a refusal.
-use Rattle.std.proofs.Common.{◌≡◌, ℕ, ◌+◌, ◌≤◌, ◌<◌, ◌&&◌, List, [], ◌++◌, Bool, true, false, cond, not, Some, Err, refl, sym, ◌∙◌, ap, subst, arith}
+use Rattle.std.proofs.Common.{◌≡◌, ℕ, ◌+◌, ◌-◌, ◌^◌, ◌≤◌, ◌<◌, ◌&&◌, min, List, [], ◌∷◌, ◌++◌, length, Bool, true, false, cond, not, Some, Err, refl, sym, ◌∙◌, ap, subst, arith}
 use Rattle.ild_data.specs.Data.{Data}
+use Rattle.ild_data.specs.Spell.{spell}
 use Rattle.ild_data.specs.Limits.{longest_block}
 use Rattle.ild_data.specs.Tree.{IsTree}
+use Rattle.ild_cbor.specs.Nodes.{Stands, start_of}
+use Rattle.ild_cbor.specs.declared.node.Node.{Node}
 use Rattle.ild_cbor.specs.declared.piece.Piece.{Piece}
 use Rattle.ild_cbor.specs.declared.piece.Piece.TheVariants as P
 use Rattle.ild_cbor.specs.declared.why.Why.{Why}
 use Rattle.ild_cbor.specs.declared.why.Why.TheVariants as Y
 use Rattle.ild_piece.specs.Answers.{told}
 use Rattle.ild_piece.specs.Pieces.{StandsFor}
-use Rattle.ild_places.specs.Places.{LeadsIn, PlacedAt}
+use Rattle.ild_places.specs.Places.{BeginsAt, LeadsIn, PlacedAt, steps_of}
+use Rattle.ild_places.specs.declared.way.Way.{Way}
 use Rattle.ild_places.specs.Refusing.{IsInside, IsPartPlaced, IsPassing}
 use Rattle.ild_places.proofs.Composing.{placed_short}
+use Rattle.ild_places.proofs.Placing.{length_both}
 use Rattle.ild_places.proofs.Refusing.{refusals_are_placed}
 use Rattle.ild_schema.proofs.Legibly.{legible}
 use Rattle.ild_schema.specs.declared.number.Slot.{Slot}
+use Rattle.ild_schema.specs.declared.number.TypeNo.{TypeNo}
 use Rattle.ild_schema.specs.declared.row.Row.{Row}
 use Rattle.ild_typed.specs.Pieces.{is_null_there}
 use Rattle.ild_typed.specs.Refused.{Refusal, Refused, key_refusal, part_refusal}
 use Rattle.ild_typed.specs.Schema.{IsSchema}
 use Rattle.ild_typed.specs.Spots.{Spot, Step}
 use Rattle.ild_typed.proofs.WalkOne.{refused_one}
+use Rattle.ild_typed.proofs.Leading.{ways_lead}
 use Rattle.ild_walk.specs.declared.fault.ViewErr.{ViewErr}
 use Rattle.ild_walk.specs.declared.fault.ViewErr.TheVariants as E
 use Rattle.ild_walk.specs.declared.opening.Stop.TheVariants as S
 use Rattle.ild_walk.specs.declared.part.Part.{Part}
 use Rattle.ild_walk.specs.declared.parts.Parts.{Parts}
 use Rattle.ild_walk.specs.Checks.{Checks, Faults, is_depth}
+use Rattle.ild_walk.specs.Inside.{IsPieceOf}
 use Rattle.ild_walk.specs.Opens.{IsStopped}
 use Rattle.ild_walk.specs.Part.{IsSpotted}
-use Rattle.ild_walk.specs.Parts.{SplitsOff, HasLeft}
-use Rattle.ild_walk.specs.Told.{IsPlacedBy, TellsPlaceIn}
+use Rattle.ild_walk.specs.Parts.{HasLeft, LeadsOn, SplitsOff}
+use Rattle.ild_walk.specs.Ready.{IsInlined}
+use Rattle.ild_walk.specs.Told.{IsPlacedBy, TellsPlace, TellsPlaceIn}
+use Rattle.ild_walk.specs.Ways.{LeadsWay}
+use Rattle.ild_walk.proofs.Inside.{part_inside, type_passing}
 use Rattle.ild_walk.proofs.Walking.{Walking, at_part, part_refused, part_tree, split, why_refused}
 
 one : (rows : List Row) → IsSchema rows → (room : ℕ) (s : Slot) (t : Data) (q r : Refusal) → Refused rows room s t q → Refused rows room s t r → q ≡ r
@@ -49,6 +60,23 @@ stopped_place rows schema room s t y why h = λ r refused.
     let own = why_refused rows room s t h.type (told why) h.there h.form h.opens in
     let same = one rows schema room s t (record { ty = s.ty; why = told why; at = [] }) r own refused in
     subst (λ (q : Refusal). PlacedAt y q.at 0) same (begins y)
+
+-- ---- that of a whole item, in its block
+
+pub told_in_block : (rows : List Row) (room : ℕ) (s : Slot) (n : Node) (t : Data) (ty : TypeNo) (why : Why) (j at : ℕ) → Stands n t → n.to < 2 ^ 64
+    → TellsPlaceIn rows room s (P.Node n) t (E.Shape ty why j) → (from : ℕ) → from ≡ start_of n → at ≡ min (from + j) (2 ^ 64 - 1) → TellsPlace rows room s n t (E.Shape ty why at)
+told_in_block rows room s n t ty why j at stands bound tells from first sum = λ r refused.
+    let here : BeginsAt r.at t j = tells r refused t stands in
+    let inside : j ≤ length (spell t) = begins_inside r.at t j here in
+    let end : n.from + length (spell t) ≡ n.to = stands.end in
+    (j, here, omega (arith, first, sum, inside, end, bound))
+  where
+    begins_inside : (way : List Step) (w : Data) (k : ℕ) → BeginsAt way w k → k ≤ length (spell w)
+    begins_inside way w k (d, e) =
+        let found = ways_lead way w (k, d) e in
+        let long : length (spell w) ≡ length found.front + length (spell d ++ found.back) = ap length found.is ∙ length_both found.front (spell d ++ found.back) in
+        let place = found.place in
+        omega (arith, long, place)
 
 -- ---- that of a part
 
@@ -147,3 +175,15 @@ module _ (rows : List Row) (room : ℕ) (s : Slot) (t : Data) (left : ℕ) (part
               let capped = k.1 e in
               let sum : at ≡ place + j = omega (arith, capped, short) in
               at_part_of y p q why is at (subst (λ a. (a && not (is_depth why)) ≡ false) key e) (subst (PlacedAt y (p.at ++ q.at)) (sym sum) further)
+
+  -- where the part is handed out, and its way is looked for
+  pub refused_place : is_null_there s t ≡ false → left < room → (y : Piece) → StandsFor rows y t → IsInlined rows s y → IsPieceOf rows s.ty.0 y x → (way : Way)
+      → ((ps : List Spot) → HasLeft rows parts ps → LeadsOn rows parts (Some x) ps → LeadsWay way ps) → ((ps : List Spot) → HasLeft rows parts ps → LeadsOn rows parts (Some x) ps) → (place : ℕ)
+      → (LeadsIn y (steps_of way) → PlacedAt y (steps_of way) place) → (e f : ViewErr) → ((u : Data) → StandsFor rows x.piece u → IsTree u → Checks rows left x.slot u (Err e))
+      → ((u : Data) → StandsFor rows x.piece u → IsTree u → TellsPlaceIn rows left x.slot x.piece u e) → IsPlacedBy x place e f → TellsPlaceIn rows room s y t f
+  refused_place there less y stands inlined own way finds leads place placed e f checked tells placed_by =
+      let cut = split rows room s t left parts w schema tree x behind gives in
+      let are = at_part rows room s t left parts w schema tree x behind gives in
+      let way_is : steps_of way ≡ cut.first.0.at = subst (LeadsWay way) (cut.is ∙ ap (λ ps. ps ++ cut.others) cut.first.1) (finds w.rest w.has (leads w.rest w.has)) in
+      at_placed there less y stands (type_passing rows s w.type w.form y inlined) (part_inside rows s w.type w.form y t w.done cut.first.0 cut.others are x own) (steps_of way) way_is place placed e f
+      checked tells placed_by

@@ -16,4 +16,5 @@ pub mod Ready
 pub mod Leaf
 pub mod Apart
 pub mod Opens
+pub mod Inside
 pub mod Stacked

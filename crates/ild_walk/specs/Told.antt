@@ -3,7 +3,9 @@
 use Rattle.std.specs.Prelude.{◌≡◌, ◌&&◌, ◌+◌, ◌-◌, ◌^◌, ℕ, true, false, not, min, List}
 use Rattle.ild_data.specs.Data.{Data}
 use Rattle.ild_cbor.specs.declared.piece.Piece.{Piece}
-use Rattle.ild_places.specs.Places.{PlacedAt}
+use Rattle.ild_cbor.specs.declared.node.Node.{Node}
+use Rattle.ild_cbor.specs.Nodes.{start_of}
+use Rattle.ild_places.specs.Places.{BeginsAt, PlacedAt}
 use Rattle.ild_schema.specs.declared.number.Slot.{Slot}
 use Rattle.ild_schema.specs.declared.row.Row.{Row}
 use Rattle.ild_typed.specs.Refused.{Refusal, Refused}
@@ -15,6 +17,11 @@ use Rattle.ild_walk.specs.declared.part.Part.{Part}
 abbrev pub TellsPlaceIn : List Row → ℕ → Slot → Piece → Data → ViewErr → Type 0
 TellsPlaceIn rows room s y t (E.Shape ty why at) = (r : Refusal) → Refused rows room s t r → PlacedAt y r.at at
 TellsPlaceIn rows room s y t E.Memory = Unit {0}
+
+-- the same in the block of an item
+abbrev pub TellsPlace : List Row → ℕ → Slot → Node → Data → ViewErr → Type 0
+TellsPlace rows room s n t (E.Shape ty why at) = (r : Refusal) → Refused rows room s t r → (place : ℕ) × BeginsAt r.at t place × (at ≡ start_of n + place)
+TellsPlace rows room s n t E.Memory = Unit {0}
 
 -- the offset of a part's refusal, where the part begins at a place: a key that is no text of its type is refused itself
 abbrev pub IsPlacedBy : Part → ℕ → ViewErr → ViewErr → Type 0

@@ -6,6 +6,7 @@ ghost use Rattle.ild_piece.specs.Pieces.{StandsFor};
 ghost use Rattle.ild_schema.specs.declared.def.TypeDef.TheVariants as D;
 ghost use Rattle.ild_schema.specs.declared.row.Row.{Row};
 ghost use Rattle.ild_union.specs.Forms.{passes_over};
+ghost use Rattle.ild_walk.specs.Inside.{OpensMany};
 ghost use Rattle.ild_walk.specs.Opens.{IsOpening, Opens};
 
 use crate::opening::{Opening, Stop};
@@ -47,6 +48,7 @@ pub(crate) fn open_any<'b>(piece: &Piece<'b>, room: u32) -> Result<Option<Openin
     requires { passes_over piece.now ≡ false }
     ensures opens { (rows : List Row) (t : Data) → StandsFor rows piece.now t → Opens rows room D.Any t result }
     ensures ready { (rows : List Row) → IsOpening rows room result }
+    ensures many { OpensMany result }
 {
     match piece {
         Piece::Node(node) => match node.kind() {

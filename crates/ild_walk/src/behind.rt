@@ -2,6 +2,7 @@
 ghost use Rattle.std.specs.Prelude.{◌≡◌, ◌<◌, ℕ, IfSome, List, None, map};
 ghost use Rattle.ild_cbor.specs.Steps.{HasItems};
 ghost use Rattle.ild_cbor.specs.declared.kind.Kind.TheVariants as K;
+ghost use Rattle.ild_cbor.specs.declared.piece.Piece.{Piece};
 ghost use Rattle.ild_data.specs.Data.{Data, Items as Parts, items_of};
 ghost use Rattle.ild_piece.specs.Entries.{HasLeft as EntriesLeft};
 ghost use Rattle.ild_schema.specs.Slots.{plainly};
@@ -10,6 +11,7 @@ ghost use Rattle.ild_typed.specs.Spots.{Spot};
 ghost use Rattle.ild_typed.specs.Strings.{pair_data};
 ghost use Rattle.ild_walk.specs.Elements.{HasElements};
 ghost use Rattle.ild_walk.specs.Entries.{HasEntries};
+ghost use Rattle.ild_walk.specs.Inside.{AreInside};
 ghost use Rattle.ild_walk.specs.Leaf.{BehindEntry, BehindItem, BehindPair, FitsOfKind, Passes};
 ghost use Rattle.ild_walk.specs.PairEntries.{HasPairs};
 ghost use Rattle.ild_walk.specs.Parts.{HasLeft, SplitsOff};
@@ -196,6 +198,7 @@ pub(crate) fn behind_leaves<'b>(acc: &'b Accepted, parts: Left<'b>) -> Left<'b>
     requires { AreReady acc.now parts }
     ensures passes { (ps : List Spot) → HasLeft acc.now parts.entry ps → SplitsOff acc.now ps None result }
     ensures ready { AreReady acc.now result }
+    ensures inside { (ty : ℕ) (y : Piece) → AreInside acc.now ty y parts.entry → AreInside acc.now ty y result }
 {
     match parts {
         Left::List(elements) => Left::List(past_elements(acc, elements)),

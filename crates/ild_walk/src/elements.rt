@@ -4,6 +4,7 @@ ghost use Rattle.ild_schema.specs.declared.row.Row.{Row};
 ghost use Rattle.ild_typed.specs.Spots.{Spot};
 ghost use Rattle.ild_walk.specs.Elements.{HasElements, SplitsElements, elements_left};
 ghost use Rattle.ild_walk.specs.Ways.{LeadsFirst};
+ghost use Rattle.ild_walk.specs.Inside.{IsWhole};
 ghost use Rattle.ild_walk.specs.Ready.{IsReady, IsIn};
 
 use crate::part::{Part, value_part};
@@ -26,6 +27,7 @@ impl<'b> Elements<'b> {
         ensures way { (ps : List Spot) → HasElements self.now ps → IfSome result (λ r. LeadsFirst r.0 ps) }
         ensures fewer { IfSome result (λ r. elements_left r.1 < elements_left self.now) }
         ensures ready { (rows : List Row) → IsIn rows self.now.slot → IfSome result (λ r. IsReady rows r.0 × IsIn rows r.1.slot) }
+        ensures whole { IfSome result (λ r. IsWhole r.0) }
     {
         let mut items = self.items;
         let item = items.next()?;

@@ -3,6 +3,7 @@ ghost use Rattle.std.specs.Prelude.{◌≡◌, ◌<◌, List, IfSome};
 ghost use Rattle.ild_schema.specs.declared.row.Row.{Row};
 ghost use Rattle.ild_typed.specs.Spots.{Spot};
 ghost use Rattle.ild_walk.specs.Entries.{HasEntries, SplitsEntries, entries_left};
+ghost use Rattle.ild_walk.specs.Inside.{IsWhole};
 ghost use Rattle.ild_walk.specs.Ready.{IsIn, IsReady};
 ghost use Rattle.ild_walk.specs.Ways.{LeadsFirst};
 ghost use Rattle.ild_schema.specs.Slots.{plainly};
@@ -29,6 +30,7 @@ impl<'b> Entries<'b> {
         ensures way { (ps : List Spot) → HasEntries self.now ps → IfSome result (λ r. LeadsFirst r.0 ps) }
         ensures fewer { IfSome result (λ r. entries_left r.1 < entries_left self.now) }
         ensures ready { (rows : List Row) → IsIn rows (plainly self.now.key) → IsIn rows self.now.value → IfSome result (λ r. IsReady rows r.0 × IsIn rows (plainly r.1.key) × IsIn rows r.1.value) }
+        ensures whole { IfSome result (λ r. IsWhole r.0) }
     {
         let mut left = self.left;
         match self.held {

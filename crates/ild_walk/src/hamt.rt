@@ -13,6 +13,7 @@ ghost use Rattle.ild_schema.specs.declared.def.MapForm.TheVariants as MF;
 ghost use Rattle.ild_schema.specs.declared.def.TypeDef.TheVariants as D;
 ghost use Rattle.ild_schema.specs.declared.row.Row.{Row};
 ghost use Rattle.ild_union.specs.Forms.{passes_over};
+ghost use Rattle.ild_walk.specs.Inside.{OpensMany};
 ghost use Rattle.ild_walk.specs.Opens.{IsOpening, Opens};
 ghost use Rattle.ild_walk.specs.Ready.{IsIn};
 
@@ -50,6 +51,7 @@ pub(crate) fn open_hamt<'b>(
     requires { passes_over piece.now ≡ false }
     ensures opens { (rows : List Row) (key_at at : ℕ) (t : Data) → StandsFor rows piece.now t → Opens rows room (D.Map key key_at value at MF.Hamt) t result }
     ensures ready { (rows : List Row) → IsIn rows (plainly key) → IsIn rows value → IsOpening rows room result }
+    ensures many { OpensMany result }
 {
     match piece {
         Piece::Node(node) => open_root(key, value, *node, room),
@@ -68,6 +70,7 @@ fn open_root<'b>(
 ) -> Result<Option<Opening<'b>>, Stop>
     ensures opens { (rows : List Row) (key_at at : ℕ) (t : Data) → Stands node.entry t → Opens rows room (D.Map key key_at value at MF.Hamt) t result }
     ensures ready { (rows : List Row) → IsIn rows (plainly key) → IsIn rows value → IsOpening rows room result }
+    ensures many { OpensMany result }
 {
     match node.kind() {
         Kind::Map => {}

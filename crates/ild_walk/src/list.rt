@@ -4,6 +4,7 @@ ghost use Rattle.ild_data.specs.Data.{Data};
 ghost use Rattle.ild_piece.specs.Pieces.{StandsFor};
 ghost use Rattle.ild_schema.specs.declared.def.TypeDef.TheVariants as D;
 ghost use Rattle.ild_schema.specs.declared.row.Row.{Row};
+ghost use Rattle.ild_walk.specs.Inside.{OpensMany};
 ghost use Rattle.ild_walk.specs.Opens.{IsOpening, Opens};
 ghost use Rattle.ild_walk.specs.Ready.{IsIn};
 
@@ -22,6 +23,7 @@ pub(crate) fn open_list<'b>(
 ) -> Result<Option<Opening<'b>>, Stop>
     ensures opens { (rows : List Row) (at : ℕ) (t : Data) → StandsFor rows piece.now t → Opens rows room (D.List elem at) t result }
     ensures ready { (rows : List Row) → IsIn rows elem → IsOpening rows room result }
+    ensures many { OpensMany result }
 {
     let Some(items) = items(piece) else {
         return Err(Stop::Why(Why::Kind));

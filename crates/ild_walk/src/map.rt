@@ -6,6 +6,7 @@ ghost use Rattle.ild_schema.specs.Slots.{plainly};
 ghost use Rattle.ild_schema.specs.declared.def.MapForm.TheVariants as MF;
 ghost use Rattle.ild_schema.specs.declared.def.TypeDef.TheVariants as D;
 ghost use Rattle.ild_typed.specs.WhyLaws.{KeysRise};
+ghost use Rattle.ild_walk.specs.Inside.{OpensMany};
 ghost use Rattle.ild_walk.specs.Opens.{IsOpening, Opens};
 ghost use Rattle.ild_walk.specs.Ready.{IsIn};
 
@@ -27,6 +28,7 @@ pub(crate) fn open_map<'b>(
     requires numbered { IsNumbered acc.now piece.now }
     ensures opens { (key_at at : ℕ) (t : Data) → StandsFor acc.now piece.now t → KeysRise t → Opens acc.now room (D.Map key key_at value at MF.Map) t result }
     ensures ready { IsIn acc.now (plainly key) → IsIn acc.now value → IsOpening acc.now room result }
+    ensures many { OpensMany result }
 {
     let Some(left) = entries(acc, piece) else {
         return Err(Stop::Why(Why::Kind));

@@ -4,6 +4,7 @@ ghost use Rattle.ild_schema.specs.Slots.{plainly};
 ghost use Rattle.ild_schema.specs.declared.row.Row.{Row};
 ghost use Rattle.ild_typed.specs.Spots.{Spot};
 ghost use Rattle.ild_walk.specs.PairEntries.{HasPairs, SplitsPairs, pairs_left};
+ghost use Rattle.ild_walk.specs.Inside.{IsWhole};
 ghost use Rattle.ild_walk.specs.Ready.{IsIn, IsReady};
 ghost use Rattle.ild_walk.specs.Ways.{LeadsFirst};
 
@@ -43,6 +44,7 @@ impl<'b> PairEntries<'b> {
         ensures way { (ps : List Spot) → HasPairs self.now ps → IfSome result (λ r. LeadsFirst r.0 ps) }
         ensures fewer { IfSome result (λ r. pairs_left r.1 < pairs_left self.now) }
         ensures ready { (rows : List Row) → IsIn rows (plainly self.now.key) → IsIn rows self.now.value → IfSome result (λ r. IsReady rows r.0 × IsIn rows (plainly r.1.key) × IsIn rows r.1.value) }
+        ensures whole { IfSome result (λ r. IsWhole r.0) }
     {
         let mut items = self.items;
         if let Some(value) = self.held {

@@ -6,6 +6,7 @@ ghost use Rattle.ild_schema.specs.Slots.{plainly};
 ghost use Rattle.ild_schema.specs.declared.def.MapForm.TheVariants as MF;
 ghost use Rattle.ild_schema.specs.declared.def.TypeDef.TheVariants as D;
 ghost use Rattle.ild_schema.specs.declared.row.Row.{Row};
+ghost use Rattle.ild_walk.specs.Inside.{OpensMany};
 ghost use Rattle.ild_walk.specs.Opens.{IsOpening, Opens};
 ghost use Rattle.ild_walk.specs.Ready.{IsIn};
 
@@ -35,6 +36,7 @@ pub(crate) fn open_stringpairs<'b>(
     requires entry_some { 0 < length entry.now }
     ensures opens { (rows : List Row) (key_at at : ℕ) (t : Data) → StandsFor rows piece.now t → Opens rows room (D.Map key key_at value at (MF.StringPairs inner.entry.now entry.entry.now)) t result }
     ensures ready { (rows : List Row) → IsIn rows (plainly key) → IsIn rows value → IsOpening rows room result }
+    ensures many { OpensMany result }
 {
     let Some(whole) = text(piece) else {
         return Err(Stop::Why(Why::Kind));
@@ -75,6 +77,7 @@ pub(crate) fn open_listpairs<'b>(
 ) -> Result<Option<Opening<'b>>, Stop>
     ensures opens { (rows : List Row) (key_at at : ℕ) (t : Data) → StandsFor rows piece.now t → Opens rows room (D.Map key key_at value at MF.ListPairs) t result }
     ensures ready { (rows : List Row) → IsIn rows (plainly key) → IsIn rows value → IsOpening rows room result }
+    ensures many { OpensMany result }
 {
     let Some(items) = items(piece) else {
         return Err(Stop::Why(Why::Kind));

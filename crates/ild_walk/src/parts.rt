@@ -1,7 +1,9 @@
 //! The parts of a piece, one after another.
 ghost use Rattle.std.specs.Prelude.{◌≡◌, ◌<◌, ℕ, List, IfSome, Some};
+ghost use Rattle.ild_cbor.specs.declared.piece.Piece.{Piece};
 ghost use Rattle.ild_schema.specs.declared.row.Row.{Row};
 ghost use Rattle.ild_typed.specs.Spots.{Spot};
+ghost use Rattle.ild_walk.specs.Inside.{AreInside, AreInsideBoth};
 ghost use Rattle.ild_walk.specs.Parts.{HasLeft, LeadsOn, Splits, parts_left};
 ghost use Rattle.ild_walk.specs.Ready.{AreReady, AreReadyBoth};
 ghost use Rattle.ild_walk.specs.Ways.{LeadsWay};
@@ -36,6 +38,7 @@ impl<'b> Parts<'b> {
         ensures way { (rows : List Row) (ps : List Spot) → HasLeft rows self.now ps → IfSome result (λ r. LeadsOn rows self.now r.0 ps) }
         ensures fewer { IfSome result (λ r. parts_left r.1 < parts_left self.now) }
         ensures ready { (rows : List Row) → AreReady rows self.now → IfSome result (λ r. AreReadyBoth rows r.0 r.1) }
+        ensures inside { (rows : List Row) (ty : ℕ) (y : Piece) → AreInside rows ty y self.now → IfSome result (λ r. AreInsideBoth rows ty y r.0 r.1) }
     {
         match self {
             Parts::Nothing => None,

@@ -5,6 +5,7 @@ ghost use Rattle.ild_node.specs.Views.{EntryIs, HasEntries};
 ghost use Rattle.ild_schema.specs.Slots.{plainly};
 ghost use Rattle.ild_schema.specs.declared.row.Row.{Row};
 ghost use Rattle.ild_typed.specs.Spots.{Spot};
+ghost use Rattle.ild_walk.specs.Inside.{IsWhole};
 ghost use Rattle.ild_walk.specs.Ready.{IsIn, IsPartReady};
 ghost use Rattle.ild_walk.specs.Root.{HasRoot, SplitsRoot, root_left};
 ghost use Rattle.ild_walk.specs.Ways.{LeadsTo};
@@ -87,6 +88,7 @@ impl<'b> RootEntries<'b> {
         ensures way { (ps : List Spot) → HasRoot self.now ps → IfSome result (λ r. LeadsTo r.0 ps) }
         ensures fewer { IfSome result (λ r. root_left r.1 < root_left self.now) }
         ensures ready { (rows : List Row) → IsIn rows (plainly self.now.key) → IsIn rows self.now.value → IfSome result (λ r. IsPartReady rows r.0 × IsIn rows (plainly r.1.key) × IsIn rows r.1.value) }
+        ensures whole { IfSome result (λ r. IfSome r.0 (λ x. IsWhole x)) }
     {
         if let Some((_, node)) = self.held {
             let way = Way::ValueInNode(self.element, (self.entry as u64).saturating_sub(1));

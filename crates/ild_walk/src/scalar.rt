@@ -6,6 +6,7 @@ ghost use Rattle.ild_schema.specs.Kinds.{meant};
 ghost use Rattle.ild_schema.specs.declared.def.TypeDef.{TypeDef as Def};
 ghost use Rattle.ild_schema.specs.declared.row.Row.{Row};
 ghost use Rattle.ild_enum.specs.Forms.{IsEnumType, IsUnitType};
+ghost use Rattle.ild_walk.specs.Inside.{OpensMany};
 ghost use Rattle.ild_walk.specs.Opens.{IsOpening, Opens};
 ghost use Rattle.ild_struct.specs.Told.{scalar_kind};
 
@@ -23,6 +24,7 @@ pub(crate) fn open_scalar<'b>(
 ) -> Result<Option<Opening<'b>>, Stop>
     ensures opens { (rows : List Row) (d : Def) (t : Data) → StandsFor rows piece.now t → scalar_kind d ≡ Some wanted → Opens rows room d t result }
     ensures ready { (rows : List Row) → IsOpening rows room result }
+    ensures many { OpensMany result }
 {
     let _room = room;
     if kind(piece) == wanted {
@@ -43,6 +45,7 @@ pub(crate) fn open_enum<'b>(
     requires form { IsEnumType acc.now ty.0 }
     ensures opens { (d : Def) (t : Data) → StandsFor acc.now piece.now t → meant acc.now ty.0 ≡ Some d → Opens acc.now room d t result }
     ensures ready { IsOpening acc.now room result }
+    ensures many { OpensMany result }
 {
     let _room = room;
     let _types = acc.types();
@@ -64,6 +67,7 @@ pub(crate) fn open_unit<'b>(
     requires numbered { IsNumbered acc.now piece.now }
     ensures opens { (d : Def) (t : Data) → StandsFor acc.now piece.now t → meant acc.now ty.0 ≡ Some d → Opens acc.now room d t result }
     ensures ready { IsOpening acc.now room result }
+    ensures many { OpensMany result }
 {
     let _types = acc.types();
     match unit(acc, ty, *piece) {

@@ -12,6 +12,7 @@ ghost use Rattle.ild_typed.specs.Levels.{struct_levels};
 ghost use Rattle.ild_typed.specs.Spots.{Spot};
 ghost use Rattle.ild_union.specs.Forms.{passes_over};
 ghost use Rattle.ild_walk.specs.Fields.{Handed, HasFields, SplitsFields, fields_left};
+ghost use Rattle.ild_walk.specs.Inside.{IsWhole, OpensMany};
 ghost use Rattle.ild_walk.specs.Opens.{IsOpening, Opens};
 ghost use Rattle.ild_walk.specs.Parts.{FieldLeads};
 ghost use Rattle.ild_walk.specs.Ready.{AreIn, IsPartReady};
@@ -45,6 +46,7 @@ impl<'b> Fields<'b> {
         ensures way { (rows : List Row) (ps : List Spot) → HasFields rows self.now ps → IfSome result (λ r. FieldLeads rows self.now r.0 ps) }
         ensures fewer { IfSome result (λ r. fields_left r.1 < fields_left self.now) }
         ensures ready { (rows : List Row) → AreIn rows self.now.def.now.fields → IfSome result (λ r. IsPartReady rows r.0 × AreIn rows r.1.def.now.fields) }
+        ensures whole { IfSome result (λ r. IfSome r.0 (λ x. IsWhole x)) }
     {
         if self.next >= self.def.fields.len() {
             return None;
@@ -91,6 +93,7 @@ pub(crate) fn open_struct<'b>(
     requires numbered { IsNumbered acc.now piece.now }
     ensures opens { (t : Data) → StandsFor acc.now piece.now t → Opens acc.now room (D.Struct def.now) t result }
     ensures ready { IsOpening acc.now room result }
+    ensures many { OpensMany result }
 {
     // It does no work: its clauses say what acceptance says of the struct.
     let _types = acc.types();

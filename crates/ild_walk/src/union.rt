@@ -8,6 +8,7 @@ ghost use Rattle.ild_schema.specs.Table.{IsWithin as IsTypeWithin};
 ghost use Rattle.ild_schema.specs.declared.def.TypeDef.TheVariants as D;
 ghost use Rattle.ild_typed.specs.Spots.{member_steps};
 ghost use Rattle.ild_union.specs.Forms.{passes_over};
+ghost use Rattle.ild_walk.specs.Inside.{IsOpenInside};
 ghost use Rattle.ild_walk.specs.Opens.{IsOpening, Opens};
 
 use crate::opening::{Opening, Stop};
@@ -50,6 +51,7 @@ pub(crate) fn open_union<'b>(
     requires plain { passes_over piece.now ≡ false }
     ensures opens { (t : Data) → StandsFor acc.now piece.now t → Opens acc.now room (D.Union def.now) t result }
     ensures ready { IsOpening acc.now room result }
+    ensures inside { IsOpenInside acc.now ty.0 piece.now result }
 {
     // It does no work: its clauses say what acceptance says of the union.
     let _types = acc.types();

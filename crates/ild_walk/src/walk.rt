@@ -1,5 +1,5 @@
 //! The walk over a piece and its parts.
-ghost use Rattle.std.specs.Prelude.{◌≡◌, ◌<◌, List, Some, length};
+ghost use Rattle.std.specs.Prelude.{◌≡◌, ◌<◌, IfErr, List, Some, length};
 ghost use Rattle.ild_data.specs.Data.{Data};
 ghost use Rattle.ild_data.specs.Tree.{IsTree};
 ghost use Rattle.ild_piece.specs.Pieces.{IsNumbered, StandsFor};
@@ -8,8 +8,10 @@ ghost use Rattle.ild_schema.specs.declared.def.TypeDef.{TypeDef as Def};
 ghost use Rattle.ild_schema.specs.declared.row.Row.{Row};
 ghost use Rattle.ild_typed.specs.Pieces.{is_null_there};
 ghost use Rattle.ild_walk.specs.Checks.{Checks};
+ghost use Rattle.ild_walk.specs.Inside.{IsOpenInside};
 ghost use Rattle.ild_walk.specs.Opens.{IsOpening, Opens};
 ghost use Rattle.ild_walk.specs.Ready.{IsIn, IsInlined};
+ghost use Rattle.ild_walk.specs.Told.{TellsPlaceIn};
 
 use crate::any::open_any;
 use crate::behind::behind_leaves;
@@ -48,6 +50,7 @@ pub(crate) fn open_piece<'b>(
     requires inlined { IsInlined acc.now slot piece.now }
     ensures opens { (d : Def) (t : Data) → StandsFor acc.now piece.now t → meant acc.now slot.ty.0 ≡ Some d → Opens acc.now room d t result }
     ensures ready { IsOpening acc.now room result }
+    ensures inside { IsOpenInside acc.now slot.ty.0 piece.now result }
 {
     // It does no work: its clauses say what acceptance says of the table.
     let _types = acc.types();
@@ -97,7 +100,8 @@ pub(crate) fn check_piece<'b>(
     requires within { IsIn acc.now slot }
     requires numbered { IsNumbered acc.now piece.now }
     requires inlined { IsInlined acc.now slot piece.now }
-    ensures { (t : Data) → StandsFor acc.now piece.now t → IsTree t → Checks acc.now room slot t result }
+    ensures checks { (t : Data) → StandsFor acc.now piece.now t → IsTree t → Checks acc.now room slot t result }
+    ensures place { (t : Data) → StandsFor acc.now piece.now t → IsTree t → IfErr result (TellsPlaceIn acc.now room slot piece.now t) }
 {
     // It does no work: its clauses say what acceptance says of the table.
     let _types = acc.types();

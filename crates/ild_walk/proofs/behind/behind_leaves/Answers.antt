@@ -1,6 +1,7 @@
 use Rattle.std.proofs.Common.{List, subst}
 use Rattle.ild_schema.specs.declared.row.Row.{Row}
 use Rattle.ild_walk.specs.declared.parts.Parts.TheVariants as P
+use Rattle.ild_walk.specs.Inside.{AreInside}
 use Rattle.ild_walk.specs.Parts.{HasLeft}
 use Rattle.ild_walk.specs.Ready.{AreReady}
 use Rattle.ild_walk.proofs.Passing.{passed_off, passes_none}
@@ -34,3 +35,15 @@ pub returns-in-Pairs-clause-passes : goal.returns-in-Pairs-clause-passes
 returns-in-Pairs-clause-passes c = λ ps h.
     let rows : List Row = c.args.acc.now in
     passed_off rows ps (P.Pairs c.past_pairs.result) (c.past_pairs.ensures.passes ps (left_as rows c.args.parts (P.Pairs c.in-Pairs.pairs) ps c.in-Pairs.is h))
+
+pub returns-in-List-clause-inside : goal.returns-in-List-clause-inside
+returns-in-List-clause-inside c = λ ty y h. subst (AreInside c.args.acc.now ty y) c.in-List.is h
+
+pub returns-in-Map-clause-inside : goal.returns-in-Map-clause-inside
+returns-in-Map-clause-inside c = λ ty y h. subst (AreInside c.args.acc.now ty y) c.in-Map.is h
+
+pub returns-in-Struct-clause-inside : goal.returns-in-Struct-clause-inside
+returns-in-Struct-clause-inside c = λ ty y h. subst (AreInside c.args.acc.now ty y) c.in-Struct.is h
+
+pub returns-in-Pairs-clause-inside : goal.returns-in-Pairs-clause-inside
+returns-in-Pairs-clause-inside c = λ ty y h. subst (AreInside c.args.acc.now ty y) c.in-Pairs.is h

@@ -12,7 +12,7 @@ returns-in-Err-Shape c =
     let rows : List Row = c.args.acc.now in
     let legible = c.types-types.ensures.legible in
     let h : IsRefusal rows c.args.room (plainly c.args.ty) (T.text c.args.text.now) c.in-Err-Shape.field-0-0 c.in-Err-Shape.field-0-1 =
-    subst (Faults rows c.args.room (plainly c.args.ty) (T.text c.args.text.now)) c.in-Err-Shape.field-0-is (c.in-Err-Shape.ensures (T.text c.args.text.now) refl c.utf8.text) in (
+    subst (Faults rows c.args.room (plainly c.args.ty) (T.text c.args.text.now)) c.in-Err-Shape.field-0-is (c.in-Err-Shape.ensures.checks (T.text c.args.text.now) refl c.utf8.text) in (
       (λ e. absurd (never e)),
       (λ shows. absurd (refused_sound rows legible.clear legible.delims c.args.room 0 (plainly c.args.ty) (plain_safe rows (plainly c.args.ty) refl) (T.text c.args.text.now) h.refusal h.refused shows)),
     )

@@ -3,8 +3,10 @@ use Rattle.std.specs.Prelude.{slice_get}
 use Rattle.ild_schema.specs.Copies.{base}
 use Rattle.ild_schema.specs.declared.def.Member.{Member}
 use Rattle.ild_schema.specs.declared.row.Row.{Row}
+use Rattle.ild_walk.specs.declared.part.Part.{Part}
 use Rattle.ild_walk.specs.Ready.{IsReady}
 use Rattle.ild_walk.proofs.Finding.{got_at, member_inlined, member_low, under_one, union_deep, union_opens, union_part}
+use Rattle.ild_walk.proofs.Inside.{member_piece}
 use Rattle.ild_walk.proofs.union.open_union.Goals as goal
 
 pub returns-in_default-clause-opens : goal.returns-in_default-clause-opens
@@ -37,3 +39,8 @@ returns-clause-ready c =
       }),
       less,
     )
+
+pub returns-clause-inside : goal.returns-clause-inside
+returns-clause-inside c =
+    member_piece c.args.acc.now c.args.ty.0 c.args.piece.now c.value_part.result c.in-Ok.found.1 (ap (λ (x : Part). x.piece) c.value_part.ensures) c.requires.plain c.in-Ok.ensures.inlined
+    c.in-Ok.ensures.passed

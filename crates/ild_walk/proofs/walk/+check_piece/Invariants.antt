@@ -2,6 +2,7 @@ use Rattle.std.proofs.Common.{◌<◌}
 use Rattle.ild_data.specs.Data.{Data}
 use Rattle.ild_data.specs.Tree.{IsTree}
 use Rattle.ild_piece.specs.Pieces.{StandsFor}
+use Rattle.ild_walk.specs.Inside.{AreInside}
 use Rattle.ild_walk.specs.Parts.{parts_left}
 use Rattle.ild_walk.specs.Ready.{AreReady}
 use Rattle.ild_walk.proofs.Walking.{Walking}
@@ -12,7 +13,7 @@ decreases-check_piece l = l.room
 
 abbrev pub invariant-loop-part : goal.invariant-loop-part
 invariant-loop-part l =
-    AreReady l.acc l.parts × (l.opening.room < l.room) × ((t : Data) → StandsFor l.acc l.piece t → IsTree t → Walking l.acc l.room l.fn.slot t l.opening.room l.parts)
+    AreReady l.acc l.parts × (l.opening.room < l.room) × ((t : Data) → StandsFor l.acc l.piece t → IsTree t → Walking l.acc l.room l.fn.slot t l.opening.room l.parts) × AreInside l.acc l.fn.slot.ty.0 l.piece l.parts
 
 abbrev pub decreases-loop-part : goal.decreases-loop-part
 decreases-loop-part l = parts_left l.parts

@@ -1,4 +1,4 @@
-use Rattle.std.proofs.Common.{◌≡◌, ◌<◌, length, ℕ, List, sym, ◌∙◌, ap, subst}
+use Rattle.std.proofs.Common.{◌≡◌, ◌<◌, length, ℕ, List, refl, sym, ◌∙◌, ap, subst}
 use Rattle.ild_schema.specs.declared.def.TypeDef.{TypeDef}
 use Rattle.ild_schema.specs.declared.def.TypeDef.TheVariants as D
 use Rattle.ild_schema.specs.declared.def.MapForm.{MapForm}
@@ -7,6 +7,7 @@ use Rattle.ild_piece.proofs.Stand.{piece_rises}
 use Rattle.ild_walk.specs.Opens.{Opens}
 use Rattle.ild_struct.specs.Told.{scalar_kind}
 use Rattle.ild_walk.proofs.Finding.{map_low, pairs_given, type_is}
+use Rattle.ild_walk.proofs.Inside.{no_inline, opens_inside}
 use Rattle.ild_walk.proofs.walk.open_piece.Goals as goal
 
 pub returns-in-Bool-clause-opens : goal.returns-in-Bool-clause-opens
@@ -109,3 +110,73 @@ pub returns-in-ListPairs-clause-ready : goal.returns-in-ListPairs-clause-ready
 returns-in-ListPairs-clause-ready c =
     let low = map_low c.args.acc.now c.def.result.now c.in-Map.key c.in-Map.key_at c.in-Map.value c.in-Map.at c.in-Map.form c.in-Map.is c.def.ensures.within in
     c.open_listpairs.ensures.ready c.args.acc.now low.0 low.1
+
+pub returns-in-Bool-clause-inside : goal.returns-in-Bool-clause-inside
+returns-in-Bool-clause-inside c =
+    opens_inside c.args.acc.now c.args.slot.ty.0 c.args.piece.now
+    (no_inline c.args.acc.now c.args.slot.ty.0 c.base.result.0 c.def.result.now _ c.base.ensures.same c.def.ensures.same c.in-Bool.is refl) c.open_scalar.result c.open_scalar.ensures.many
+
+pub returns-in-Text-clause-inside : goal.returns-in-Text-clause-inside
+returns-in-Text-clause-inside c =
+    opens_inside c.args.acc.now c.args.slot.ty.0 c.args.piece.now
+    (no_inline c.args.acc.now c.args.slot.ty.0 c.base.result.0 c.def.result.now _ c.base.ensures.same c.def.ensures.same c.in-Text.is refl) c.open_scalar-in-Text.result c.open_scalar-in-Text.ensures.many
+
+pub returns-in-Bytes-clause-inside : goal.returns-in-Bytes-clause-inside
+returns-in-Bytes-clause-inside c =
+    opens_inside c.args.acc.now c.args.slot.ty.0 c.args.piece.now
+    (no_inline c.args.acc.now c.args.slot.ty.0 c.base.result.0 c.def.result.now _ c.base.ensures.same c.def.ensures.same c.in-Bytes.is refl) c.open_scalar-in-Bytes.result c.open_scalar-in-Bytes.ensures.many
+
+pub returns-in-Int-clause-inside : goal.returns-in-Int-clause-inside
+returns-in-Int-clause-inside c =
+    opens_inside c.args.acc.now c.args.slot.ty.0 c.args.piece.now
+    (no_inline c.args.acc.now c.args.slot.ty.0 c.base.result.0 c.def.result.now _ c.base.ensures.same c.def.ensures.same c.in-Int.is refl) c.open_scalar-in-Int.result c.open_scalar-in-Int.ensures.many
+
+pub returns-in-Link-clause-inside : goal.returns-in-Link-clause-inside
+returns-in-Link-clause-inside c =
+    opens_inside c.args.acc.now c.args.slot.ty.0 c.args.piece.now
+    (no_inline c.args.acc.now c.args.slot.ty.0 c.base.result.0 c.def.result.now _ c.base.ensures.same c.def.ensures.same c.in-Link.is refl) c.open_scalar-in-Link.result c.open_scalar-in-Link.ensures.many
+
+pub returns-in-Any-clause-inside : goal.returns-in-Any-clause-inside
+returns-in-Any-clause-inside c =
+    opens_inside c.args.acc.now c.args.slot.ty.0 c.args.piece.now
+    (no_inline c.args.acc.now c.args.slot.ty.0 c.base.result.0 c.def.result.now _ c.base.ensures.same c.def.ensures.same c.in-Any.is refl) c.open_any.result c.open_any.ensures.many
+
+pub returns-in-Unit-clause-inside : goal.returns-in-Unit-clause-inside
+returns-in-Unit-clause-inside c =
+    opens_inside c.args.acc.now c.args.slot.ty.0 c.args.piece.now
+    (no_inline c.args.acc.now c.args.slot.ty.0 c.base.result.0 c.def.result.now _ c.base.ensures.same c.def.ensures.same c.in-Unit.is refl) c.open_unit.result c.open_unit.ensures.many
+
+pub returns-in-List-clause-inside : goal.returns-in-List-clause-inside
+returns-in-List-clause-inside c =
+    opens_inside c.args.acc.now c.args.slot.ty.0 c.args.piece.now
+    (no_inline c.args.acc.now c.args.slot.ty.0 c.base.result.0 c.def.result.now _ c.base.ensures.same c.def.ensures.same c.in-List.is refl) c.open_list.result c.open_list.ensures.many
+
+pub returns-in-Map-form-clause-inside : goal.returns-in-Map-form-clause-inside
+returns-in-Map-form-clause-inside c =
+    opens_inside c.args.acc.now c.args.slot.ty.0 c.args.piece.now
+    (no_inline c.args.acc.now c.args.slot.ty.0 c.base.result.0 c.def.result.now _ c.base.ensures.same c.def.ensures.same c.in-Map.is refl) c.open_map.result c.open_map.ensures.many
+
+pub returns-in-Hamt-clause-inside : goal.returns-in-Hamt-clause-inside
+returns-in-Hamt-clause-inside c =
+    opens_inside c.args.acc.now c.args.slot.ty.0 c.args.piece.now
+    (no_inline c.args.acc.now c.args.slot.ty.0 c.base.result.0 c.def.result.now _ c.base.ensures.same c.def.ensures.same c.in-Map.is refl) c.open_hamt.result c.open_hamt.ensures.many
+
+pub returns-in-StringPairs-clause-inside : goal.returns-in-StringPairs-clause-inside
+returns-in-StringPairs-clause-inside c =
+    opens_inside c.args.acc.now c.args.slot.ty.0 c.args.piece.now
+    (no_inline c.args.acc.now c.args.slot.ty.0 c.base.result.0 c.def.result.now _ c.base.ensures.same c.def.ensures.same c.in-Map.is refl) c.open_stringpairs.result c.open_stringpairs.ensures.many
+
+pub returns-in-ListPairs-clause-inside : goal.returns-in-ListPairs-clause-inside
+returns-in-ListPairs-clause-inside c =
+    opens_inside c.args.acc.now c.args.slot.ty.0 c.args.piece.now
+    (no_inline c.args.acc.now c.args.slot.ty.0 c.base.result.0 c.def.result.now _ c.base.ensures.same c.def.ensures.same c.in-Map.is refl) c.open_listpairs.result c.open_listpairs.ensures.many
+
+pub returns-in-Struct-clause-inside : goal.returns-in-Struct-clause-inside
+returns-in-Struct-clause-inside c =
+    opens_inside c.args.acc.now c.args.slot.ty.0 c.args.piece.now
+    (no_inline c.args.acc.now c.args.slot.ty.0 c.base.result.0 c.def.result.now _ c.base.ensures.same c.def.ensures.same c.in-Struct.is refl) c.open_struct.result c.open_struct.ensures.many
+
+pub returns-in-Enum-clause-inside : goal.returns-in-Enum-clause-inside
+returns-in-Enum-clause-inside c =
+    opens_inside c.args.acc.now c.args.slot.ty.0 c.args.piece.now
+    (no_inline c.args.acc.now c.args.slot.ty.0 c.base.result.0 c.def.result.now _ c.base.ensures.same c.def.ensures.same c.in-Enum.is refl) c.open_enum.result c.open_enum.ensures.many

@@ -1,6 +1,8 @@
 use Rattle.std.proofs.Common.{◌≡◌, List, [], ◌∷◌, get_or, length, Some, refl, sym, ◌∙◌, ap, subst, arith}
 use Rattle.std.specs.Prelude.{slice_get}
 use Rattle.ild_schema.specs.declared.def.Field.{Field}
+use Rattle.ild_union.specs.Forms.{passes_over}
+use Rattle.ild_walk.specs.declared.part.Part.{Part}
 use Rattle.ild_walk.specs.Ready.{IsReady}
 use Rattle.ild_walk.proofs.Finding.{got_at}
 use Rattle.ild_walk.proofs.Structing.{field_found, field_given, field_low, field_passed, field_there, plain_numbered}
@@ -53,3 +55,6 @@ returns-in-Some-clause-way c = λ rows ps left h.
     let known : slice_get fs s.next ≡ Some f = got_at fs s.next f (omega (arith, c.if-self-len.false, c.len.ensures)) is in
     let x = field_there rows s.def.now s.parts s.next ps h f known c.field-held.result (c.field-held.ensures.part rows h.ty h.tree h.held h.are) in
     field_found rows s.def.now s.parts s.next ps h f x.content known x.at c.in-Some.piece (c.in-Some.ensures.part rows f x.content x.is)
+
+pub returns-in-Some-clause-whole : goal.returns-in-Some-clause-whole
+returns-in-Some-clause-whole c = ap (λ (x : Part). passes_over x.piece) c.value_part.ensures ∙ c.in-Some.ensures.plain (c.field-held.ensures.numbered [])

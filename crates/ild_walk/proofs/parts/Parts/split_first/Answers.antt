@@ -1,6 +1,8 @@
 use Rattle.std.proofs.Common.{Some, refl, subst}
 use Rattle.ild_walk.specs.declared.parts.Parts.TheVariants as P
 use Rattle.ild_walk.specs.Ready.{AreReady}
+use Rattle.ild_walk.specs.Inside.{AreInside}
+use Rattle.ild_walk.proofs.Inside.{whole_piece, whole_pieces}
 use Rattle.ild_walk.proofs.Stepping.{takes_off, leads_as, left_as}
 use Rattle.ild_walk.proofs.parts.Parts.split_first.Goals as goal
 
@@ -108,3 +110,36 @@ returns-in-Member-clause-way c = λ rows ps h.
 pub returns-in-Some-split_first-3-clause-way : goal.returns-in-Some-split_first-3-clause-way
 returns-in-Some-split_first-3-clause-way c = λ rows ps h. leads_as rows c.args.self.now (P.Struct c.in-Struct.fields) c.in-Some-split_first-3.part ps c.in-Struct.is
     (c.in-Some-split_first-3.ensures.way rows ps (left_as rows c.args.self.now (P.Struct c.in-Struct.fields) ps c.in-Struct.is h))
+
+pub returns-in-Some-clause-inside : goal.returns-in-Some-clause-inside
+returns-in-Some-clause-inside c = λ rows ty y h.
+    let none = subst (AreInside rows ty y) c.in-List.is h in
+    (whole_piece rows ty y none c.in-Some.part c.in-Some.ensures.whole, none)
+
+pub returns-in-Some-split_first-clause-inside : goal.returns-in-Some-split_first-clause-inside
+returns-in-Some-split_first-clause-inside c = λ rows ty y h.
+    let none = subst (AreInside rows ty y) c.in-Map.is h in
+    (whole_piece rows ty y none c.in-Some-split_first.part c.in-Some-split_first.ensures.whole, none)
+
+pub returns-in-Some-split_first-4-clause-inside : goal.returns-in-Some-split_first-4-clause-inside
+returns-in-Some-split_first-4-clause-inside c = λ rows ty y h.
+    let none = subst (AreInside rows ty y) c.in-Texts.is h in
+    (whole_piece rows ty y none c.in-Some-split_first-4.part c.in-Some-split_first-4.ensures.whole, none)
+
+pub returns-in-Some-split_first-5-clause-inside : goal.returns-in-Some-split_first-5-clause-inside
+returns-in-Some-split_first-5-clause-inside c = λ rows ty y h.
+    let none = subst (AreInside rows ty y) c.in-Pairs.is h in
+    (whole_piece rows ty y none c.in-Some-split_first-5.part c.in-Some-split_first-5.ensures.whole, none)
+
+pub returns-in-Some-split_first-2-clause-inside : goal.returns-in-Some-split_first-2-clause-inside
+returns-in-Some-split_first-2-clause-inside c = λ rows ty y h.
+    let none = subst (AreInside rows ty y) c.in-Root.is h in
+    (whole_pieces rows ty y none c.in-Some-split_first-2.part c.in-Some-split_first-2.ensures.whole, none)
+
+pub returns-in-Some-split_first-3-clause-inside : goal.returns-in-Some-split_first-3-clause-inside
+returns-in-Some-split_first-3-clause-inside c = λ rows ty y h.
+    let none = subst (AreInside rows ty y) c.in-Struct.is h in
+    (whole_pieces rows ty y none c.in-Some-split_first-3.part c.in-Some-split_first-3.ensures.whole, none)
+
+pub returns-in-Member-clause-inside : goal.returns-in-Member-clause-inside
+returns-in-Member-clause-inside c = λ rows ty y h. (subst (AreInside rows ty y) c.in-Member.is h, tt)
