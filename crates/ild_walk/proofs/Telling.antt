@@ -1,5 +1,5 @@
 -- The offset that is told of a refusal.
-use Rattle.std.proofs.Common.{◌≡◌, ℕ, ◌+◌, ◌-◌, ◌^◌, ◌≤◌, ◌<◌, ◌&&◌, min, List, [], ◌∷◌, ◌++◌, length, Bool, true, false, cond, not, Some, Err, refl, sym, ◌∙◌, ap, subst, arith}
+use Rattle.std.proofs.Common.{◌≡◌, ℕ, ◌+◌, ◌-◌, ◌^◌, ◌≤◌, ◌<◌, ◌&&◌, min, List, [], ◌++◌, length, Bool, true, false, cond, not, Some, Err, refl, sym, ◌∙◌, ap, subst, arith}
 use Rattle.ild_data.specs.Data.{Data}
 use Rattle.ild_data.specs.Spell.{spell}
 use Rattle.ild_data.specs.Limits.{longest_block}

@@ -3,11 +3,9 @@ use Rattle.std.proofs.Common.{◌≡◌, ℕ, List, [], ◌∷◌, true, refl, s
 use Rattle.std.specs.List.{AllByRecursion}
 use Rattle.ild_data.specs.Data.{Data}
 use Rattle.ild_cbor.specs.Scalar.{kind_of}
-use Rattle.ild_schema.specs.Kinds.{meant}
 use Rattle.ild_schema.specs.Legible.{IsLegible}
 use Rattle.ild_schema.specs.declared.def.Field.{Field}
 use Rattle.ild_schema.specs.declared.def.StructDef.{StructDef}
-use Rattle.ild_schema.specs.declared.def.TypeDef.{TypeDef}
 use Rattle.ild_schema.specs.declared.row.Row.{Row}
 use Rattle.ild_struct.specs.Parts.{fields_of, is_told}
 use Rattle.ild_struct.specs.Told.{AreTold, IsToldAt, scalar_kind}

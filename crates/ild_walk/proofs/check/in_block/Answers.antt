@@ -1,4 +1,4 @@
-use Rattle.std.proofs.Common.{◌≡◌, ◌<◌, ◌+◌, ◌-◌, ◌^◌, min, arith, rules, subst}
+use Rattle.std.proofs.Common.{◌<◌, ◌^◌, arith, rules, subst}
 use Rattle.ild_cbor.specs.declared.piece.Piece.TheVariants as P
 use Rattle.ild_walk.specs.Told.{TellsPlaceIn}
 use Rattle.ild_walk.proofs.Telling.{told_in_block}
