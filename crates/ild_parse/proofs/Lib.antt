@@ -3,3 +3,4 @@ pub mod Inputs
 pub mod Values
 pub mod Many
 pub mod Derived
+pub mod Rules

@@ -1,3 +1,4 @@
 pub mod Wrong
 pub mod Seen
 pub mod Ends
+pub mod Rules

@@ -1,9 +1,10 @@
 //! Bodies of types.
 ghost use Rattle.ild_parse.specs.Seen.{stream_of, Gives};
+ghost use Rattle.ild_parse.specs.Rules.{worded_body_at};
 ghost use Rattle.ild_grammar.proofs.Grammar.{map_at, struct_at, union_at, enum_at, unit_at, list_at, scalar_at, body_at};
 
 use crate::input::Input;
-use crate::nested::read_ref;
+use crate::nested::{read_element, read_pair};
 use crate::part::DEEPEST;
 use crate::rule::{braced, needed_form, optional_form};
 use crate::terminal::read_type_name;
@@ -11,15 +12,11 @@ use crate::{Body, EnumBody, MapBody, ParseErr, StructBody, UnionBody, UnitForm};
 use std::alloc::Global;
 
 /// map = "{" Type ":" ref "}" [ "representation" form ]
-#[tactic(auto, unfolding(ild_grammar::proofs::Grammar::map_at))]
+#[tactic(auto, using(crate::proofs::Rules::map_body_by_pair))]
 fn read_map_body(alloc: Global, input: Input<'_>) -> Result<(MapBody, Input<'_>), ParseErr>
     ensures { Gives (λ x. (x.0, stream_of x.1)) result (map_at (stream_of input.entry)) }
 {
-    let input = input.after("{")?;
-    let (key, input) = read_type_name(alloc, input)?;
-    let input = input.after(":")?;
-    let (value, input) = read_ref(alloc, DEEPEST, input)?;
-    let input = input.after("}")?;
+    let ((key, value), input) = read_pair(alloc, DEEPEST, input)?;
     let (form, input) = optional_form(alloc, input)?;
     Ok((MapBody { key, value, form }, input))
 }
@@ -62,13 +59,11 @@ fn read_unit(alloc: Global, input: Input<'_>) -> Result<(UnitForm, Input<'_>), P
     needed_form(alloc, input)
 }
 
-#[tactic(auto, unfolding(ild_grammar::proofs::Grammar::list_at))]
+#[tactic(auto, using(crate::proofs::Rules::list_body_by_element))]
 fn read_list_body(alloc: Global, input: Input<'_>) -> Result<(Body, Input<'_>), ParseErr>
     ensures { Gives (λ x. (x.0, stream_of x.1)) result (list_at (stream_of input.entry)) }
 {
-    let input = input.after("[")?;
-    let (element, input) = read_ref(alloc, DEEPEST, input)?;
-    let input = input.after("]")?;
+    let (element, input) = read_element(alloc, DEEPEST, input)?;
     Ok((Body::List(element), input))
 }
 
@@ -97,8 +92,32 @@ fn read_scalar(input: Input<'_>) -> Result<(Body, Input<'_>), ParseErr>
     Err(input.fault())
 }
 
+/// The bodies that begin with a word.
+#[tactic(auto, unfolding(crate::specs::Rules::worded_body_at))]
+fn read_worded_body(alloc: Global, input: Input<'_>) -> Result<(Body, Input<'_>), ParseErr>
+    ensures { Gives (λ x. (x.0, stream_of x.1)) result (worded_body_at (stream_of input.entry)) }
+{
+    if input.is("struct") {
+        let (body, input) = read_struct(alloc, input)?;
+        return Ok((Body::Struct(body), input));
+    }
+    if input.is("union") {
+        let (body, input) = read_union(alloc, input)?;
+        return Ok((Body::Union(body), input));
+    }
+    if input.is("enum") {
+        let (body, input) = read_enum(alloc, input)?;
+        return Ok((Body::Enum(body), input));
+    }
+    if input.is("unit") {
+        let (form, input) = read_unit(alloc, input)?;
+        return Ok((Body::Unit(form), input));
+    }
+    read_scalar(input)
+}
+
 /// body
-#[tactic(auto, unfolding(ild_grammar::proofs::Grammar::body_at))]
+#[tactic(auto, unfolding(ild_grammar::proofs::Grammar::body_at, crate::specs::Rules::worded_body_at))]
 pub(crate) fn read_body(alloc: Global, input: Input<'_>) -> Result<(Body, Input<'_>), ParseErr>
     ensures { Gives (λ x. (x.0, stream_of x.1)) result (body_at (stream_of input.entry)) }
 {
@@ -117,21 +136,5 @@ pub(crate) fn read_body(alloc: Global, input: Input<'_>) -> Result<(Body, Input<
         let (map, input) = read_map_body(alloc, input)?;
         return Ok((Body::Map(map), input));
     }
-    if input.is("struct") {
-        let (body, input) = read_struct(alloc, input)?;
-        return Ok((Body::Struct(body), input));
-    }
-    if input.is("union") {
-        let (body, input) = read_union(alloc, input)?;
-        return Ok((Body::Union(body), input));
-    }
-    if input.is("enum") {
-        let (body, input) = read_enum(alloc, input)?;
-        return Ok((Body::Enum(body), input));
-    }
-    if input.is("unit") {
-        let (form, input) = read_unit(alloc, input)?;
-        return Ok((Body::Unit(form), input));
-    }
-    read_scalar(input)
+    read_worded_body(alloc, input)
 }

@@ -1,5 +1,6 @@
 //! Representations.
 ghost use Rattle.ild_parse.specs.Seen.{stream_of, Gives};
+ghost use Rattle.ild_parse.specs.Rules.{union_settings_at};
 ghost use Rattle.ild_grammar.proofs.Form.{pairs_at, map_form_at, struct_form_at, envelope_at, union_form_at, enum_form_at, unit_form_at};
 
 use crate::input::Input;
@@ -85,10 +86,26 @@ fn read_envelope(alloc: Global, input: Input<'_>) -> Result<(Envelope, Input<'_>
     ))
 }
 
+/// The representations of unions that have settings.
+#[tactic(auto, unfolding(crate::specs::Rules::union_settings_at))]
+fn read_union_settings(alloc: Global, input: Input<'_>) -> Result<(UnionForm, Input<'_>), ParseErr>
+    ensures { Gives (λ x. (x.0, stream_of x.1)) result (union_settings_at (stream_of input.entry)) }
+{
+    if input.is("envelope") {
+        let (envelope, input) = read_envelope(alloc, input.rest())?;
+        return Ok((UnionForm::Envelope(envelope), input));
+    }
+    if input.is("inline") {
+        let (text, input) = one_setting(alloc, "discriminantKey", input.rest())?;
+        return Ok((UnionForm::Inline(text), input));
+    }
+    Err(input.fault())
+}
+
 impl Rule for UnionForm {
     ghost reading = { union_form_at };
 
-    #[tactic(auto, unfolding(ild_grammar::proofs::Form::union_form_at))]
+    #[tactic(auto, unfolding(ild_grammar::proofs::Form::union_form_at, crate::specs::Rules::union_settings_at))]
     fn read<'s>(alloc: Global, input: Input<'s>) -> Result<(UnionForm, Input<'s>), ParseErr> {
         if input.is("keyed") {
             return Ok((UnionForm::Keyed, input.rest()));
@@ -102,15 +119,7 @@ impl Rule for UnionForm {
         if input.is("bytesprefix") {
             return Ok((UnionForm::BytesPrefix, input.rest()));
         }
-        if input.is("envelope") {
-            let (envelope, input) = read_envelope(alloc, input.rest())?;
-            return Ok((UnionForm::Envelope(envelope), input));
-        }
-        if input.is("inline") {
-            let (text, input) = one_setting(alloc, "discriminantKey", input.rest())?;
-            return Ok((UnionForm::Inline(text), input));
-        }
-        Err(input.fault())
+        read_union_settings(alloc, input)
     }
 }
 

@@ -1,11 +1,12 @@
 //! References to types: the one rule of the grammar that nests.
 ghost use Rattle.ild_parse.specs.Seen.{stream_of, Gives};
 ghost use Rattle.ild_grammar.specs.ReferenceSeen.{refers_of};
+ghost use Rattle.ild_parse.specs.Rules.{key_at, pair_at, element_at};
 ghost use Rattle.ild_grammar.proofs.Refer.{inline_at, ref_with, list_with, map_with, named_at, link_at};
 
 use crate::input::Input;
 use crate::terminal::read_type_name;
-use crate::{Inline, ParseErr, Ref};
+use crate::{Inline, ParseErr, Ref, TypeName};
 use std::alloc::Global;
 
 #[tactic(auto, unfolding(ild_grammar::proofs::Refer::named_at))]
@@ -27,27 +28,59 @@ fn read_link(alloc: Global, input: Input<'_>) -> Result<(Inline, Input<'_>), Par
 
 /// "[" ref "]"
 #[cycle(nested)]
-#[tactic(auto, unfolding(ild_grammar::proofs::Refer::list_with))]
-fn read_list(alloc: Global, room: u32, input: Input<'_>) -> Result<(Inline, Input<'_>), ParseErr>
-    ensures { Gives (λ x. (refers_of x.0, stream_of x.1)) result (list_with (inline_at room) (stream_of input.entry)) }
+#[tactic(auto, unfolding(crate::specs::Rules::element_at))]
+pub(crate) fn read_element(
+    alloc: Global,
+    room: u32,
+    input: Input<'_>,
+) -> Result<(Ref, Input<'_>), ParseErr>
+    ensures { Gives (λ x. (x.0, stream_of x.1)) result (element_at room (stream_of input.entry)) }
 {
     let input = input.after("[")?;
     let (element, input) = read_ref(alloc, room, input)?;
-    let input = input.after("]")?;
+    Ok((element, input.after("]")?))
+}
+
+#[cycle(nested)]
+#[tactic(auto, using(crate::proofs::Rules::list_by_element))]
+fn read_list(alloc: Global, room: u32, input: Input<'_>) -> Result<(Inline, Input<'_>), ParseErr>
+    ensures { Gives (λ x. (refers_of x.0, stream_of x.1)) result (list_with (inline_at room) (stream_of input.entry)) }
+{
+    let (element, input) = read_element(alloc, room, input)?;
     Ok((Inline::List(Box::new(alloc, element)?), input))
+}
+
+/// "{" Type ":"
+#[tactic(auto, unfolding(crate::specs::Rules::key_at))]
+fn read_key(alloc: Global, input: Input<'_>) -> Result<(TypeName, Input<'_>), ParseErr>
+    ensures { Gives (λ x. (x.0, stream_of x.1)) result (key_at (stream_of input.entry)) }
+{
+    let input = input.after("{")?;
+    let (key, input) = read_type_name(alloc, input)?;
+    Ok((key, input.after(":")?))
 }
 
 /// "{" Type ":" ref "}"
 #[cycle(nested)]
-#[tactic(auto, unfolding(ild_grammar::proofs::Refer::map_with))]
+#[tactic(auto, unfolding(crate::specs::Rules::pair_at))]
+pub(crate) fn read_pair(
+    alloc: Global,
+    room: u32,
+    input: Input<'_>,
+) -> Result<((TypeName, Ref), Input<'_>), ParseErr>
+    ensures { Gives (λ x. (x.0, stream_of x.1)) result (pair_at room (stream_of input.entry)) }
+{
+    let (key, input) = read_key(alloc, input)?;
+    let (value, input) = read_ref(alloc, room, input)?;
+    Ok(((key, value), input.after("}")?))
+}
+
+#[cycle(nested)]
+#[tactic(auto, using(crate::proofs::Rules::map_by_pair))]
 fn read_map(alloc: Global, room: u32, input: Input<'_>) -> Result<(Inline, Input<'_>), ParseErr>
     ensures { Gives (λ x. (refers_of x.0, stream_of x.1)) result (map_with (inline_at room) (stream_of input.entry)) }
 {
-    let input = input.after("{")?;
-    let (key, input) = read_type_name(alloc, input)?;
-    let input = input.after(":")?;
-    let (value, input) = read_ref(alloc, room, input)?;
-    let input = input.after("}")?;
+    let ((key, value), input) = read_pair(alloc, room, input)?;
     Ok((Inline::Map(key, Box::new(alloc, value)?), input))
 }
 

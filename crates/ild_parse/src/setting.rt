@@ -1,5 +1,6 @@
 //! Settings in braces.
 ghost use Rattle.ild_parse.specs.Seen.{stream_of, Gives};
+ghost use Rattle.ild_parse.specs.Rules.{ordered_settings_at};
 ghost use Rattle.ild_grammar.proofs.Read.{setting_at, one_setting_at, both_settings_at, two_settings_at};
 
 use crate::input::Input;
@@ -29,7 +30,22 @@ pub(crate) fn one_setting<'s>(
     Ok((text, input.after("}")?))
 }
 
-#[tactic(auto, unfolding(ild_grammar::proofs::Read::both_settings_at))]
+/// a Text b Text
+#[tactic(auto, unfolding(crate::specs::Rules::ordered_settings_at))]
+fn ordered_settings<'s>(
+    alloc: Global,
+    a: &str,
+    b: &str,
+    input: Input<'s>,
+) -> Result<((Text, Text), Input<'s>), ParseErr>
+    ensures { Gives (λ x. (x.0, stream_of x.1)) result (ordered_settings_at a.now b.now (stream_of input.entry)) }
+{
+    let (first, input) = setting(alloc, a, input)?;
+    let (second, input) = setting(alloc, b, input)?;
+    Ok(((first, second), input))
+}
+
+#[tactic(auto, using(crate::proofs::Rules::both_by_order))]
 fn both_settings<'s>(
     alloc: Global,
     a: &str,
@@ -39,12 +55,9 @@ fn both_settings<'s>(
     ensures { Gives (λ x. (x.0, stream_of x.1)) result (both_settings_at a.now b.now (stream_of input.entry)) }
 {
     if input.is(a) {
-        let (first, input) = setting(alloc, a, input)?;
-        let (second, input) = setting(alloc, b, input)?;
-        return Ok(((first, second), input));
+        return ordered_settings(alloc, a, b, input);
     }
-    let (second, input) = setting(alloc, b, input)?;
-    let (first, input) = setting(alloc, a, input)?;
+    let ((second, first), input) = ordered_settings(alloc, b, a, input)?;
     Ok(((first, second), input))
 }
 

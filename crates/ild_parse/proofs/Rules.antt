@@ -1,0 +1,63 @@
+-- Rules by the parts that two of them share.
+use Rattle.std.proofs.Common.{◌≡◌, ◌∙◌, ℕ, List, refl, ap, Result, Ok, Err}
+use Rattle.std.specs.Prelude.{codes, if◌then◌else◌}
+use Rattle.ild_grammar.specs.declared.ast.TypeName.{TypeName}
+use Rattle.ild_grammar.specs.Derive.{deepest}
+use Rattle.ild_grammar.specs.Reference.{Reference, list, map}
+use Rattle.ild_grammar.specs.declared.ast.Body.TheVariants as B
+use Rattle.ild_grammar.specs.declared.ast.Text.{Text}
+use Rattle.ild_grammar.proofs.Stream.{Stream, next_is}
+use Rattle.ild_grammar.proofs.Read.{◌>>=◌, literal_at, type_name_at, setting_at, both_settings_at}
+use Rattle.ild_grammar.proofs.Refer.{ref_at, inline_at, list_with, map_with}
+use Rattle.ild_grammar.proofs.Form.{map_form_at, optional_form_at}
+use Rattle.ild_grammar.proofs.Grammar.{map_at, list_at}
+use Rattle.ild_parse.specs.Rules.{key_at, pair_at, element_at, ordered_settings_at}
+
+-- a step behind the last of two, or of three, is a step of the whole
+step : {A B C : Type 0} (m : Result A ℕ) (f : A → B) (g : B → Result C ℕ) → (m >>= λ x. g (f x)) ≡ ((m >>= λ x. Ok (f x)) >>= g)
+step (Ok x) f g = refl
+step (Err e) f g = refl
+
+two_steps : {A B C D : Type 0} (m : Result A ℕ) (n : A → Result B ℕ) (f : A → B → C) (g : C → Result D ℕ) → (m >>= λ x. n x >>= λ y. g (f x y)) ≡ ((m >>= λ x. n x >>= λ y. Ok (f x y)) >>= g)
+two_steps (Ok x) n f g = step (n x) (f x) g
+two_steps (Err e) n f g = refl
+
+three_steps : {A B C D E : Type 0} (m : Result A ℕ) (n : A → Result B ℕ) (o : A → B → Result C ℕ) (f : A → B → C → D) (g : D → Result E ℕ) → (m >>= λ x. n x >>= λ y. o x y >>= λ z. g (f x y z)) ≡ ((m >>= λ x. n x >>= λ y. o x y >>= λ z. Ok (f x y z)) >>= g)
+three_steps (Ok x) n o f g = two_steps (n x) (o x) (f x) g
+three_steps (Err e) n o f g = refl
+
+-- what is done with a pair is done behind its parts
+by_pair : {A : Type 0} (room : ℕ) (s : Stream) (g : (TypeName × Reference) × Stream → Result A ℕ)
+    → (literal_at (codes "{") s >>= λ t. type_name_at t >>= λ k. literal_at (codes ":") k.1 >>= λ u. ref_at room u >>= λ v. literal_at (codes "}") v.1 >>= λ w. g ((k.0, v.0), w))
+    ≡ (pair_at room s >>= g)
+unfolding pair_at key_at
+by_pair room s g =
+    three_steps (literal_at (codes "{") s) (λ t. type_name_at t) (λ t k. literal_at (codes ":") k.1) (λ t k u. (k.0, u)) (λ k. ref_at room k.1 >>= λ v. literal_at (codes "}") v.1 >>= λ w. g ((k.0, v.0), w))
+    ∙ three_steps (key_at s) (λ k. ref_at room k.1) (λ k v. literal_at (codes "}") v.1) (λ k v w. ((k.0, v.0), w)) g
+
+by_element : {A : Type 0} (room : ℕ) (s : Stream) (g : Reference × Stream → Result A ℕ)
+    → (literal_at (codes "[") s >>= λ t. ref_at room t >>= λ r. literal_at (codes "]") r.1 >>= λ u. g (r.0, u)) ≡ (element_at room s >>= g)
+unfolding element_at
+by_element room s g = three_steps (literal_at (codes "[") s) (λ t. ref_at room t) (λ t r. literal_at (codes "]") r.1) (λ t r u. (r.0, u)) g
+
+pub map_by_pair : (room : ℕ) (s : Stream) → map_with (inline_at room) s ≡ (pair_at room s >>= λ p. Ok (map p.0.0 p.0.1, p.1))
+unfolding map_with
+map_by_pair room s = by_pair room s (λ p. Ok (map p.0.0 p.0.1, p.1))
+
+pub map_body_by_pair : (s : Stream) → map_at s ≡ (pair_at deepest s >>= λ p. optional_form_at map_form_at p.1 >>= λ f. Ok (record { key = p.0.0; value = p.0.1; form = f.0 }, f.1))
+unfolding map_at
+map_body_by_pair s = by_pair deepest s (λ p. optional_form_at map_form_at p.1 >>= λ f. Ok (record { key = p.0.0; value = p.0.1; form = f.0 }, f.1))
+
+pub list_by_element : (room : ℕ) (s : Stream) → list_with (inline_at room) s ≡ (element_at room s >>= λ r. Ok (list r.0, r.1))
+unfolding list_with
+list_by_element room s = by_element room s (λ r. Ok (list r.0, r.1))
+
+pub list_body_by_element : (s : Stream) → list_at s ≡ (element_at deepest s >>= λ r. Ok (B.List r.0, r.1))
+unfolding list_at
+list_body_by_element s = by_element deepest s (λ r. Ok (B.List r.0, r.1))
+
+pub both_by_order : (a b : List ℕ) (s : Stream) → both_settings_at a b s ≡ (if next_is a s then ordered_settings_at a b s else (ordered_settings_at b a s >>= λ p. Ok ((p.0.1, p.0.0), p.1)))
+unfolding both_settings_at ordered_settings_at
+both_by_order a b s =
+    ap (λ (r : Result ((Text × Text) × Stream) ℕ). if next_is a s then ordered_settings_at a b s else r)
+    (two_steps (setting_at b s) (λ y. setting_at a y.1) (λ y x. ((y.0, x.0), x.1)) (λ p. Ok ((p.0.1, p.0.0), p.1)))
