@@ -1,17 +1,19 @@
 -- Rules by the parts that two of them share.
-use Rattle.std.proofs.Common.{◌≡◌, ◌∙◌, ℕ, List, refl, ap, Result, Ok, Err}
+use Rattle.std.proofs.Common.{◌≡◌, ◌∙◌, ℕ, Bool, true, false, List, refl, ap, Result, Ok, Err}
 use Rattle.std.specs.Prelude.{codes, if◌then◌else◌}
 use Rattle.ild_grammar.specs.declared.ast.TypeName.{TypeName}
 use Rattle.ild_grammar.specs.Derive.{deepest}
 use Rattle.ild_grammar.specs.Reference.{Reference, list, map}
+use Rattle.ild_grammar.specs.declared.ast.Body.{Body}
 use Rattle.ild_grammar.specs.declared.ast.Body.TheVariants as B
 use Rattle.ild_grammar.specs.declared.ast.Text.{Text}
-use Rattle.ild_grammar.proofs.Stream.{Stream, next_is}
+use Rattle.ild_grammar.proofs.Stream.{Stream, place, next_is, rest_of}
 use Rattle.ild_grammar.proofs.Read.{◌>>=◌, literal_at, type_name_at, setting_at, both_settings_at}
 use Rattle.ild_grammar.proofs.Refer.{ref_at, inline_at, list_with, map_with}
-use Rattle.ild_grammar.proofs.Form.{map_form_at, optional_form_at}
-use Rattle.ild_grammar.proofs.Grammar.{map_at, list_at}
-use Rattle.ild_parse.specs.Rules.{key_at, pair_at, element_at, ordered_settings_at}
+use Rattle.ild_grammar.proofs.Form.{map_form_at, struct_form_at, union_form_at, enum_form_at, unit_form_at, optional_form_at, needed_form_at}
+use Rattle.ild_grammar.proofs.Part.{field_at, member_at, enum_member_at}
+use Rattle.ild_grammar.proofs.Grammar.{map_at, list_at, braced_at, struct_at, union_at, enum_at, unit_at, scalar_at, body_at}
+use Rattle.ild_parse.specs.Rules.{key_at, pair_at, element_at, ordered_settings_at, struct_behind, union_behind, enum_behind, worded_body_at}
 
 -- a step behind the last of two, or of three, is a step of the whole
 step : {A B C : Type 0} (m : Result A ℕ) (f : A → B) (g : B → Result C ℕ) → (m >>= λ x. g (f x)) ≡ ((m >>= λ x. Ok (f x)) >>= g)
@@ -61,3 +63,41 @@ unfolding both_settings_at ordered_settings_at
 both_by_order a b s =
     ap (λ (r : Result ((Text × Text) × Stream) ℕ). if next_is a s then ordered_settings_at a b s else r)
     (two_steps (setting_at b s) (λ y. setting_at a y.1) (λ y x. ((y.0, x.0), x.1)) (λ p. Ok ((p.0.1, p.0.0), p.1)))
+
+-- a rule that begins with a word, where that word was seen
+seen : {A B C : Type 0} (b : Bool) (next : A) (at : ℕ) (f : A → Result B ℕ) (g : B → Result C ℕ) (m n : Result C ℕ) → m ≡ n
+    → (if b then (((if b then Ok next else Err at) >>= f) >>= g) else m) ≡ (if b then (f next >>= g) else n)
+seen true next at f g m n e = refl
+seen false next at f g m n e = e
+
+body_word : {B : Type 0} (word : List ℕ) (f : Stream → Result (B × Stream) ℕ) (g : B → Body) (s : Stream) (m n : Result (Body × Stream) ℕ) → m ≡ n
+    → (if next_is word s then ((literal_at word s >>= f) >>= λ b. Ok (g b.0, b.1)) else m) ≡ (if next_is word s then (f (rest_of s) >>= λ b. Ok (g b.0, b.1)) else n)
+unfolding literal_at
+body_word word f g s m n e = seen (next_is word s) (rest_of s) (place s) f (λ b. Ok (g b.0, b.1)) m n e
+
+worded : (s : Stream) →
+    (if next_is (codes "struct") s then (struct_at s >>= λ b. Ok (B.Struct b.0, b.1))
+    else if next_is (codes "union") s then (union_at s >>= λ b. Ok (B.Union b.0, b.1))
+    else if next_is (codes "enum") s then (enum_at s >>= λ b. Ok (B.Enum b.0, b.1))
+    else if next_is (codes "unit") s then (unit_at s >>= λ b. Ok (B.Unit b.0, b.1))
+    else scalar_at s) ≡ worded_body_at s
+unfolding struct_at union_at enum_at unit_at struct_behind union_behind enum_behind worded_body_at
+worded s =
+    body_word (codes "struct") (λ t. struct_behind t) (λ b. B.Struct b) s _ _
+    (body_word (codes "union") (λ t. union_behind t) (λ b. B.Union b) s _ _
+    (body_word (codes "enum") (λ t. enum_behind t) (λ b. B.Enum b) s _ _
+    (body_word (codes "unit") (λ t. needed_form_at unit_form_at t) (λ b. B.Unit b) s (scalar_at s) (scalar_at s) refl)))
+
+pub body_by_words : (s : Stream) → body_at s ≡ (
+    if next_is (codes "=") s then (type_name_at (rest_of s) >>= λ n. Ok (B.Copy n.0, n.1))
+    else if next_is (codes "&") s then (type_name_at (rest_of s) >>= λ n. Ok (B.Link n.0, n.1))
+    else if next_is (codes "[") s then list_at s
+    else if next_is (codes "{") s then (map_at s >>= λ m. Ok (B.Map m.0, m.1))
+    else worded_body_at s)
+unfolding body_at
+body_by_words s = ap (λ (r : Result (Body × Stream) ℕ).
+    if next_is (codes "=") s then (type_name_at (rest_of s) >>= λ n. Ok (B.Copy n.0, n.1))
+    else if next_is (codes "&") s then (type_name_at (rest_of s) >>= λ n. Ok (B.Link n.0, n.1))
+    else if next_is (codes "[") s then list_at s
+    else if next_is (codes "{") s then (map_at s >>= λ m. Ok (B.Map m.0, m.1))
+    else r) (worded s)

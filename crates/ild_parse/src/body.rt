@@ -1,14 +1,14 @@
 //! Bodies of types.
 ghost use Rattle.ild_parse.specs.Seen.{stream_of, Gives};
-ghost use Rattle.ild_parse.specs.Rules.{worded_body_at};
-ghost use Rattle.ild_grammar.proofs.Grammar.{map_at, struct_at, union_at, enum_at, unit_at, list_at, scalar_at, body_at};
+ghost use Rattle.ild_parse.specs.Rules.{struct_behind, union_behind, enum_behind, worded_body_at};
+ghost use Rattle.ild_grammar.proofs.Grammar.{map_at, list_at, scalar_at, body_at};
 
 use crate::input::Input;
 use crate::nested::{read_element, read_pair};
 use crate::part::DEEPEST;
 use crate::rule::{braced, needed_form, optional_form};
 use crate::terminal::read_type_name;
-use crate::{Body, EnumBody, MapBody, ParseErr, StructBody, UnionBody, UnitForm};
+use crate::{Body, EnumBody, MapBody, ParseErr, StructBody, UnionBody};
 use std::alloc::Global;
 
 /// map = "{" Type ":" ref "}" [ "representation" form ]
@@ -21,42 +21,34 @@ fn read_map_body(alloc: Global, input: Input<'_>) -> Result<(MapBody, Input<'_>)
     Ok((MapBody { key, value, form }, input))
 }
 
-#[tactic(auto, unfolding(ild_grammar::proofs::Grammar::struct_at))]
+/// What stands behind `struct`.
+#[tactic(auto, unfolding(crate::specs::Rules::struct_behind))]
 fn read_struct(alloc: Global, input: Input<'_>) -> Result<(StructBody, Input<'_>), ParseErr>
-    ensures { Gives (λ x. (x.0, stream_of x.1)) result (struct_at (stream_of input.entry)) }
+    ensures { Gives (λ x. (x.0, stream_of x.1)) result (struct_behind (stream_of input.entry)) }
 {
-    let input = input.after("struct")?;
     let (fields, input) = braced(alloc, input)?;
     let (form, input) = optional_form(alloc, input)?;
     Ok((StructBody { fields, form }, input))
 }
 
-#[tactic(auto, unfolding(ild_grammar::proofs::Grammar::union_at))]
+/// What stands behind `union`.
+#[tactic(auto, unfolding(crate::specs::Rules::union_behind))]
 fn read_union(alloc: Global, input: Input<'_>) -> Result<(UnionBody, Input<'_>), ParseErr>
-    ensures { Gives (λ x. (x.0, stream_of x.1)) result (union_at (stream_of input.entry)) }
+    ensures { Gives (λ x. (x.0, stream_of x.1)) result (union_behind (stream_of input.entry)) }
 {
-    let input = input.after("union")?;
     let (members, input) = braced(alloc, input)?;
     let (form, input) = needed_form(alloc, input)?;
     Ok((UnionBody { members, form }, input))
 }
 
-#[tactic(auto, unfolding(ild_grammar::proofs::Grammar::enum_at))]
+/// What stands behind `enum`.
+#[tactic(auto, unfolding(crate::specs::Rules::enum_behind))]
 fn read_enum(alloc: Global, input: Input<'_>) -> Result<(EnumBody, Input<'_>), ParseErr>
-    ensures { Gives (λ x. (x.0, stream_of x.1)) result (enum_at (stream_of input.entry)) }
+    ensures { Gives (λ x. (x.0, stream_of x.1)) result (enum_behind (stream_of input.entry)) }
 {
-    let input = input.after("enum")?;
     let (members, input) = braced(alloc, input)?;
     let (form, input) = optional_form(alloc, input)?;
     Ok((EnumBody { members, form }, input))
-}
-
-#[tactic(auto, unfolding(ild_grammar::proofs::Grammar::unit_at))]
-fn read_unit(alloc: Global, input: Input<'_>) -> Result<(UnitForm, Input<'_>), ParseErr>
-    ensures { Gives (λ x. (x.0, stream_of x.1)) result (unit_at (stream_of input.entry)) }
-{
-    let input = input.after("unit")?;
-    needed_form(alloc, input)
 }
 
 #[tactic(auto, using(crate::proofs::Rules::list_body_by_element))]
@@ -98,26 +90,26 @@ fn read_worded_body(alloc: Global, input: Input<'_>) -> Result<(Body, Input<'_>)
     ensures { Gives (λ x. (x.0, stream_of x.1)) result (worded_body_at (stream_of input.entry)) }
 {
     if input.is("struct") {
-        let (body, input) = read_struct(alloc, input)?;
+        let (body, input) = read_struct(alloc, input.rest())?;
         return Ok((Body::Struct(body), input));
     }
     if input.is("union") {
-        let (body, input) = read_union(alloc, input)?;
+        let (body, input) = read_union(alloc, input.rest())?;
         return Ok((Body::Union(body), input));
     }
     if input.is("enum") {
-        let (body, input) = read_enum(alloc, input)?;
+        let (body, input) = read_enum(alloc, input.rest())?;
         return Ok((Body::Enum(body), input));
     }
     if input.is("unit") {
-        let (form, input) = read_unit(alloc, input)?;
+        let (form, input) = needed_form(alloc, input.rest())?;
         return Ok((Body::Unit(form), input));
     }
     read_scalar(input)
 }
 
 /// body
-#[tactic(auto, unfolding(ild_grammar::proofs::Grammar::body_at, crate::specs::Rules::worded_body_at))]
+#[tactic(auto, using(crate::proofs::Rules::body_by_words))]
 pub(crate) fn read_body(alloc: Global, input: Input<'_>) -> Result<(Body, Input<'_>), ParseErr>
     ensures { Gives (λ x. (x.0, stream_of x.1)) result (body_at (stream_of input.entry)) }
 {

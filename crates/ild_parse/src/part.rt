@@ -84,16 +84,12 @@ fn more_opts(
 ) -> Result<(List<Opt>, Input<'_>), ParseErr>
     ensures { Gives (λ x. (x.0, stream_of x.1)) result (opts_behind first (stream_of input.entry)) }
 {
-    let mut opts = Vec::new(alloc);
     if input.is(")") {
-        opts.push(first)?;
-        return Ok((List::from_vec(opts), input.rest()));
+        return Ok((List::from_vec(vec![in alloc; first]?), input.rest()));
     }
     let (second, input) = other_opt(alloc, &first, input)?;
     let input = input.after(")")?;
-    opts.push(first)?;
-    opts.push(second)?;
-    Ok((List::from_vec(opts), input))
+    Ok((List::from_vec(vec![in alloc; first, second]?), input))
 }
 
 #[tactic(auto, unfolding(ild_grammar::proofs::Part::opts_at))]
