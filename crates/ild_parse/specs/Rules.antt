@@ -2,20 +2,20 @@
 use Rattle.std.specs.Prelude.{ℕ, List, codes, Result, Ok, Err, if◌then◌else◌}
 use Rattle.ild_grammar.specs.declared.ast.Body.{Body}
 use Rattle.ild_grammar.specs.declared.ast.Body.TheVariants as B
-use Rattle.ild_grammar.specs.declared.ast.StructBody.{StructBody}
-use Rattle.ild_grammar.specs.declared.ast.UnionBody.{UnionBody}
-use Rattle.ild_grammar.specs.declared.ast.EnumBody.{EnumBody}
 use Rattle.ild_grammar.specs.declared.ast.Text.{Text}
 use Rattle.ild_grammar.specs.declared.ast.TypeName.{TypeName}
 use Rattle.ild_grammar.specs.declared.ast.UnionForm.{UnionForm}
 use Rattle.ild_grammar.specs.declared.ast.UnionForm.TheVariants as U
+use Rattle.ild_grammar.specs.declared.ast.Decl.{Decl}
+use Rattle.ild_grammar.specs.declared.ast.Decl.TheVariants as D
+use Rattle.ild_grammar.specs.Derive.{deepest}
 use Rattle.ild_grammar.specs.Reference.{Reference}
 use Rattle.ild_grammar.proofs.Stream.{Stream, place, next_is, rest_of}
 use Rattle.ild_grammar.proofs.Read.{◌>>=◌, literal_at, type_name_at, setting_at, one_setting_at}
 use Rattle.ild_grammar.proofs.Refer.{ref_at}
-use Rattle.ild_grammar.proofs.Form.{envelope_at, struct_form_at, union_form_at, enum_form_at, unit_form_at, optional_form_at, needed_form_at}
+use Rattle.ild_grammar.proofs.Form.{envelope_at, map_form_at, struct_form_at, union_form_at, enum_form_at, unit_form_at, optional_form_at, needed_form_at}
 use Rattle.ild_grammar.proofs.Part.{field_at, member_at, enum_member_at}
-use Rattle.ild_grammar.proofs.Grammar.{braced_at, scalar_at}
+use Rattle.ild_grammar.proofs.Grammar.{braced_at, scalar_at, body_at}
 
 -- "{" Type ":"
 unfoldable pub key_at : Stream → Result (TypeName × Stream) ℕ
@@ -55,30 +55,45 @@ union_settings_at s =
     else if next_is (codes "inline") s then (one_setting_at (codes "discriminantKey") (rest_of s) >>= λ t. Ok (U.Inline t.0, t.1))
     else Err (place s)
 
--- what stands behind `struct`, `union` and `enum`
-unfoldable pub struct_behind : Stream → Result (StructBody × Stream) ℕ
+-- the body that a map is
+unfoldable pub map_body_at : Stream → Result (Body × Stream) ℕ
+map_body_at s = do
+  p ← pair_at deepest s
+  f ← optional_form_at map_form_at p.1
+  Ok (B.Map (record { key = p.0.0; value = p.0.1; form = f.0 }), f.1)
+
+-- the bodies behind `struct`, `union` and `enum`
+unfoldable pub struct_behind : Stream → Result (Body × Stream) ℕ
 struct_behind s = do
   fs ← braced_at field_at s
   f ← optional_form_at struct_form_at fs.1
-  Ok (record { fields = fs.0; form = f.0 }, f.1)
+  Ok (B.Struct (record { fields = fs.0; form = f.0 }), f.1)
 
-unfoldable pub union_behind : Stream → Result (UnionBody × Stream) ℕ
+unfoldable pub union_behind : Stream → Result (Body × Stream) ℕ
 union_behind s = do
   ms ← braced_at member_at s
   f ← needed_form_at union_form_at ms.1
-  Ok (record { members = ms.0; form = f.0 }, f.1)
+  Ok (B.Union (record { members = ms.0; form = f.0 }), f.1)
 
-unfoldable pub enum_behind : Stream → Result (EnumBody × Stream) ℕ
+unfoldable pub enum_behind : Stream → Result (Body × Stream) ℕ
 enum_behind s = do
   ms ← braced_at enum_member_at s
   f ← optional_form_at enum_form_at ms.1
-  Ok (record { members = ms.0; form = f.0 }, f.1)
+  Ok (B.Enum (record { members = ms.0; form = f.0 }), f.1)
 
 -- the bodies that begin with a word
 unfoldable pub worded_body_at : Stream → Result (Body × Stream) ℕ
 worded_body_at s =
-    if next_is (codes "struct") s then (struct_behind (rest_of s) >>= λ b. Ok (B.Struct b.0, b.1))
-    else if next_is (codes "union") s then (union_behind (rest_of s) >>= λ b. Ok (B.Union b.0, b.1))
-    else if next_is (codes "enum") s then (enum_behind (rest_of s) >>= λ b. Ok (B.Enum b.0, b.1))
-    else if next_is (codes "unit") s then (needed_form_at unit_form_at (rest_of s) >>= λ b. Ok (B.Unit b.0, b.1))
+    if next_is (codes "struct") s then struct_behind (rest_of s)
+    else if next_is (codes "union") s then union_behind (rest_of s)
+    else if next_is (codes "enum") s then enum_behind (rest_of s)
+    else if next_is (codes "unit") s then (needed_form_at unit_form_at (rest_of s) >>= λ f. Ok (B.Unit f.0, f.1))
     else scalar_at s
+
+-- the declaration that begins with `type`
+unfoldable pub type_at : Stream → Result (Decl × Stream) ℕ
+type_at s = do
+  t ← literal_at (codes "type") s
+  n ← type_name_at t
+  b ← body_at n.1
+  Ok (D.Type (record { name = n.0; body = b.0 }), b.1)

@@ -1,7 +1,7 @@
 //! Bodies of types.
 ghost use Rattle.ild_parse.specs.Seen.{stream_of, Gives};
-ghost use Rattle.ild_parse.specs.Rules.{struct_behind, union_behind, enum_behind, worded_body_at};
-ghost use Rattle.ild_grammar.proofs.Grammar.{map_at, list_at, scalar_at, body_at};
+ghost use Rattle.ild_parse.specs.Rules.{map_body_at, struct_behind, union_behind, enum_behind, worded_body_at};
+ghost use Rattle.ild_grammar.proofs.Grammar.{list_at, scalar_at, body_at};
 
 use crate::input::Input;
 use crate::nested::{read_element, read_pair};
@@ -12,43 +12,43 @@ use crate::{Body, EnumBody, MapBody, ParseErr, StructBody, UnionBody};
 use std::alloc::Global;
 
 /// map = "{" Type ":" ref "}" [ "representation" form ]
-#[tactic(auto, using(crate::proofs::Rules::map_body_by_pair))]
-fn read_map_body(alloc: Global, input: Input<'_>) -> Result<(MapBody, Input<'_>), ParseErr>
-    ensures { Gives (λ x. (x.0, stream_of x.1)) result (map_at (stream_of input.entry)) }
+#[tactic(auto, unfolding(crate::specs::Rules::map_body_at))]
+fn read_map_body(alloc: Global, input: Input<'_>) -> Result<(Body, Input<'_>), ParseErr>
+    ensures { Gives (λ x. (x.0, stream_of x.1)) result (map_body_at (stream_of input.entry)) }
 {
     let ((key, value), input) = read_pair(alloc, DEEPEST, input)?;
     let (form, input) = optional_form(alloc, input)?;
-    Ok((MapBody { key, value, form }, input))
+    Ok((Body::Map(MapBody { key, value, form }), input))
 }
 
-/// What stands behind `struct`.
+/// The body behind `struct`.
 #[tactic(auto, unfolding(crate::specs::Rules::struct_behind))]
-fn read_struct(alloc: Global, input: Input<'_>) -> Result<(StructBody, Input<'_>), ParseErr>
+fn read_struct(alloc: Global, input: Input<'_>) -> Result<(Body, Input<'_>), ParseErr>
     ensures { Gives (λ x. (x.0, stream_of x.1)) result (struct_behind (stream_of input.entry)) }
 {
     let (fields, input) = braced(alloc, input)?;
     let (form, input) = optional_form(alloc, input)?;
-    Ok((StructBody { fields, form }, input))
+    Ok((Body::Struct(StructBody { fields, form }), input))
 }
 
-/// What stands behind `union`.
+/// The body behind `union`.
 #[tactic(auto, unfolding(crate::specs::Rules::union_behind))]
-fn read_union(alloc: Global, input: Input<'_>) -> Result<(UnionBody, Input<'_>), ParseErr>
+fn read_union(alloc: Global, input: Input<'_>) -> Result<(Body, Input<'_>), ParseErr>
     ensures { Gives (λ x. (x.0, stream_of x.1)) result (union_behind (stream_of input.entry)) }
 {
     let (members, input) = braced(alloc, input)?;
     let (form, input) = needed_form(alloc, input)?;
-    Ok((UnionBody { members, form }, input))
+    Ok((Body::Union(UnionBody { members, form }), input))
 }
 
-/// What stands behind `enum`.
+/// The body behind `enum`.
 #[tactic(auto, unfolding(crate::specs::Rules::enum_behind))]
-fn read_enum(alloc: Global, input: Input<'_>) -> Result<(EnumBody, Input<'_>), ParseErr>
+fn read_enum(alloc: Global, input: Input<'_>) -> Result<(Body, Input<'_>), ParseErr>
     ensures { Gives (λ x. (x.0, stream_of x.1)) result (enum_behind (stream_of input.entry)) }
 {
     let (members, input) = braced(alloc, input)?;
     let (form, input) = optional_form(alloc, input)?;
-    Ok((EnumBody { members, form }, input))
+    Ok((Body::Enum(EnumBody { members, form }), input))
 }
 
 #[tactic(auto, using(crate::proofs::Rules::list_body_by_element))]
@@ -90,16 +90,13 @@ fn read_worded_body(alloc: Global, input: Input<'_>) -> Result<(Body, Input<'_>)
     ensures { Gives (λ x. (x.0, stream_of x.1)) result (worded_body_at (stream_of input.entry)) }
 {
     if input.is("struct") {
-        let (body, input) = read_struct(alloc, input.rest())?;
-        return Ok((Body::Struct(body), input));
+        return read_struct(alloc, input.rest());
     }
     if input.is("union") {
-        let (body, input) = read_union(alloc, input.rest())?;
-        return Ok((Body::Union(body), input));
+        return read_union(alloc, input.rest());
     }
     if input.is("enum") {
-        let (body, input) = read_enum(alloc, input.rest())?;
-        return Ok((Body::Enum(body), input));
+        return read_enum(alloc, input.rest());
     }
     if input.is("unit") {
         let (form, input) = needed_form(alloc, input.rest())?;
@@ -125,8 +122,7 @@ pub(crate) fn read_body(alloc: Global, input: Input<'_>) -> Result<(Body, Input<
         return read_list_body(alloc, input);
     }
     if input.is("{") {
-        let (map, input) = read_map_body(alloc, input)?;
-        return Ok((Body::Map(map), input));
+        return read_map_body(alloc, input);
     }
     read_worded_body(alloc, input)
 }

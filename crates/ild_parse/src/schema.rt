@@ -4,7 +4,8 @@ ghost use Rattle.ild_lex.specs.Lex.{AreTokens};
 ghost use Rattle.ild_grammar.specs.DerivePart.{Derives};
 ghost use Rattle.ild_parse.specs.Wrong.{IsWrong};
 ghost use Rattle.ild_parse.specs.Seen.{stream_of, Gives};
-ghost use Rattle.ild_grammar.proofs.Grammar.{type_decl_at, decl_at, schema_at};
+ghost use Rattle.ild_parse.specs.Rules.{type_at};
+ghost use Rattle.ild_grammar.proofs.Grammar.{decl_at, schema_at};
 
 use crate::body::read_body;
 use crate::input::Input;
@@ -14,27 +15,27 @@ use crate::{Ast, Decl, ParseErr, TypeDecl};
 use ild_lex::Tokens;
 use std::alloc::Global;
 
-#[tactic(auto, unfolding(ild_grammar::proofs::Grammar::type_decl_at))]
-fn read_type_decl(alloc: Global, input: Input<'_>) -> Result<(TypeDecl, Input<'_>), ParseErr>
-    ensures { Gives (λ x. (x.0, stream_of x.1)) result (type_decl_at (stream_of input.entry)) }
+/// "type" Type body
+#[tactic(auto, unfolding(crate::specs::Rules::type_at))]
+fn read_type_decl(alloc: Global, input: Input<'_>) -> Result<(Decl, Input<'_>), ParseErr>
+    ensures { Gives (λ x. (x.0, stream_of x.1)) result (type_at (stream_of input.entry)) }
 {
     let input = input.after("type")?;
     let (name, input) = read_type_name(alloc, input)?;
     let (body, input) = read_body(alloc, input)?;
-    Ok((TypeDecl { name, body }, input))
+    Ok((Decl::Type(TypeDecl { name, body }), input))
 }
 
 impl Rule for Decl {
     ghost reading = { decl_at };
 
-    #[tactic(auto, unfolding(ild_grammar::proofs::Grammar::decl_at))]
+    #[tactic(auto, using(crate::proofs::Rules::decl_by_type))]
     fn read<'s>(alloc: Global, input: Input<'s>) -> Result<(Decl, Input<'s>), ParseErr> {
         if input.is("advanced") {
             let (name, input) = read_type_name(alloc, input.rest())?;
             return Ok((Decl::Advanced(name), input));
         }
-        let (decl, input) = read_type_decl(alloc, input)?;
-        Ok((Decl::Type(decl), input))
+        read_type_decl(alloc, input)
     }
 }
 
