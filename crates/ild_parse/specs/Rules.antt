@@ -17,6 +17,12 @@ use Rattle.ild_grammar.proofs.Form.{envelope_at, map_form_at, struct_form_at, un
 use Rattle.ild_grammar.proofs.Part.{field_at, member_at, enum_member_at}
 use Rattle.ild_grammar.proofs.Grammar.{braced_at, scalar_at, body_at}
 
+-- a part that was read, where this mark follows it
+abbrev pub followed_at : {A : Type 0} → List ℕ → A → Stream → Result (A × Stream) ℕ
+followed_at mark part s = do
+  t ← literal_at mark s
+  Ok (part, t)
+
 -- "{" Type ":"
 unfoldable pub key_at : Stream → Result (TypeName × Stream) ℕ
 key_at s = do

@@ -5,6 +5,7 @@ ghost use Rattle.ild_parse.specs.Rules.{key_at, pair_at, element_at};
 ghost use Rattle.ild_grammar.proofs.Refer.{inline_at, ref_with, list_with, map_with, named_at, link_at};
 
 use crate::input::Input;
+use crate::rule::followed;
 use crate::terminal::read_type_name;
 use crate::{Inline, ParseErr, Ref, TypeName};
 use std::alloc::Global;
@@ -38,7 +39,7 @@ pub(crate) fn read_element(
 {
     let input = input.after("[")?;
     let (element, input) = read_ref(alloc, room, input)?;
-    Ok((element, input.after("]")?))
+    followed(element, "]", input)
 }
 
 #[cycle(nested)]
@@ -57,7 +58,7 @@ fn read_key(alloc: Global, input: Input<'_>) -> Result<(TypeName, Input<'_>), Pa
 {
     let input = input.after("{")?;
     let (key, input) = read_type_name(alloc, input)?;
-    Ok((key, input.after(":")?))
+    followed(key, ":", input)
 }
 
 /// "{" Type ":" ref "}"
@@ -72,7 +73,7 @@ pub(crate) fn read_pair(
 {
     let (key, input) = read_key(alloc, input)?;
     let (value, input) = read_ref(alloc, room, input)?;
-    Ok(((key, value), input.after("}")?))
+    followed((key, value), "}", input)
 }
 
 #[cycle(nested)]

@@ -5,7 +5,7 @@ ghost use Rattle.ild_grammar.proofs.Part.{implicit_at, rename_opt_at, implicit_o
 
 use crate::input::Input;
 use crate::nested::read_ref;
-use crate::rule::Rule;
+use crate::rule::{Rule, followed};
 use crate::terminal::{read_name, read_number, read_text, read_type_name};
 use crate::{
     EnumMember, Field, Implicit, KindWord, List, Mark, Member, Opt, ParseErr, Target, Text,
@@ -203,8 +203,7 @@ fn read_quoted(alloc: Global, input: Input<'_>) -> Result<(Option<Text>, Input<'
         return Ok((None, input));
     }
     let (text, input) = read_text(alloc, input.rest())?;
-    let input = input.after(")")?;
-    Ok((Some(text), input))
+    followed(Some(text), ")", input)
 }
 
 impl Rule for EnumMember {

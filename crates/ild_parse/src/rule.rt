@@ -6,6 +6,7 @@ ghost use Rattle.ild_grammar.proofs.Form.{optional_form_at, needed_form_at};
 ghost use Rattle.ild_grammar.proofs.Grammar.{braced_at};
 ghost use Rattle.ild_parse.specs.Seen.{stream_of, Gives};
 ghost use Rattle.ild_parse.specs.Ends.{ends_by};
+ghost use Rattle.ild_parse.specs.Rules.{followed_at};
 
 use crate::input::Input;
 use crate::{List, ParseErr};
@@ -56,6 +57,18 @@ pub(crate) fn parts<P: Rule>(
     Err(rest.fault())
 }
 
+/// A part that was read, where this mark follows it.
+pub(crate) fn followed<'s, T: Drop>(
+    part: T,
+    mark: &str,
+    input: Input<'s>,
+) -> Result<(T, Input<'s>), ParseErr>
+    ensures { Gives (λ x. (x.0, stream_of x.1)) result (followed_at mark.now part (stream_of input.entry)) }
+{
+    let input = input.after(mark)?;
+    Ok((part, input))
+}
+
 /// "{" { part } "}"
 #[tactic(auto, unfolding(ild_grammar::proofs::Grammar::braced_at))]
 pub(crate) fn braced<P: Rule>(
@@ -66,8 +79,7 @@ pub(crate) fn braced<P: Rule>(
 {
     let input = input.after("{")?;
     let (parts, input) = parts::<P>(alloc, Ending::Brace, input)?;
-    let input = input.after("}")?;
-    Ok((parts, input))
+    followed(parts, "}", input)
 }
 
 /// [ "representation" form ]

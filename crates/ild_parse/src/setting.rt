@@ -4,6 +4,7 @@ ghost use Rattle.ild_parse.specs.Rules.{ordered_settings_at};
 ghost use Rattle.ild_grammar.proofs.Read.{setting_at, one_setting_at, both_settings_at, two_settings_at};
 
 use crate::input::Input;
+use crate::rule::followed;
 use crate::terminal::read_text;
 use crate::{ParseErr, Text};
 use std::alloc::Global;
@@ -27,7 +28,7 @@ pub(crate) fn one_setting<'s>(
 {
     let input = input.after("{")?;
     let (text, input) = setting(alloc, key, input)?;
-    Ok((text, input.after("}")?))
+    followed(text, "}", input)
 }
 
 /// a Text b Text
@@ -73,5 +74,5 @@ pub(crate) fn two_settings<'s>(
 {
     let input = input.after("{")?;
     let (texts, input) = both_settings(alloc, a, b, input)?;
-    Ok((texts, input.after("}")?))
+    followed(texts, "}", input)
 }
