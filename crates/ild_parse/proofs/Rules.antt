@@ -1,5 +1,5 @@
 -- Rules by the parts that two of them share.
-use Rattle.std.proofs.Common.{◌≡◌, ◌∙◌, ℕ, Bool, true, false, List, refl, sym, ap, Result, Ok, Err}
+use Rattle.std.proofs.Common.{◌≡◌, ◌∙◌, ℕ, Bool, true, false, List, Option, Some, None, refl, sym, ap, Result, Ok, Err}
 use Rattle.std.specs.Prelude.{codes, if◌then◌else◌}
 use Rattle.ild_grammar.specs.declared.ast.TypeName.{TypeName}
 use Rattle.ild_grammar.specs.Derive.{deepest}
@@ -19,7 +19,7 @@ use Rattle.ild_grammar.proofs.Refer.{ref_at, inline_at, list_with, map_with}
 use Rattle.ild_grammar.proofs.Form.{map_form_at, struct_form_at, union_form_at, enum_form_at, unit_form_at, optional_form_at, needed_form_at}
 use Rattle.ild_grammar.proofs.Part.{field_at, member_at, enum_member_at}
 use Rattle.ild_grammar.proofs.Grammar.{braced_at, map_at, list_at, struct_at, union_at, enum_at, unit_at, scalar_at, body_at, type_decl_at, decl_at}
-use Rattle.ild_parse.specs.Rules.{key_at, pair_at, element_at, ordered_settings_at, struct_behind, union_behind, enum_behind, worded_body_at, map_body_at, type_at}
+use Rattle.ild_parse.specs.Rules.{key_at, pair_at, element_at, ordered_settings_at, struct_behind, union_behind, enum_behind, worded_body_at, scalar_of, scalar_here, map_body_at, type_at}
 
 -- a step behind the last of two, or of three, is a step of the whole
 step : {A B C : Type 0} (m : Result A ℕ) (f : A → B) (g : B → Result C ℕ) → (m >>= λ x. g (f x)) ≡ ((m >>= λ x. Ok (f x)) >>= g)
@@ -152,3 +152,19 @@ unfolding decl_at type_decl_at type_at
 decl_by_type s =
     ap (λ (r : Result (Decl × Stream) ℕ). if next_is (codes "advanced") s then (type_name_at (rest_of s) >>= λ n. Ok (D.Advanced n.0, n.1)) else r)
     (sym (three_steps (literal_at (codes "type") s) (λ t. type_name_at t) (λ t n. body_at n.1) (λ t n b. (record { name = n.0; body = b.0 }, b.1)) (λ t. Ok (D.Type t.0, t.1))))
+
+-- a word that names a body by itself
+names : (b : Bool) (s : Stream) (body : Body) (o : Option Body) (r : Result (Body × Stream) ℕ) → r ≡ scalar_here s o
+    → (if b then Ok (body, rest_of s) else r) ≡ scalar_here s (if b then Some body else o)
+names true s body o r e = refl
+names false s body o r e = e
+
+pub scalar_by_word : (s : Stream) → scalar_at s ≡ scalar_here s (scalar_of s)
+unfolding scalar_at scalar_of
+scalar_by_word s =
+    names (next_is (codes "bool") s) s B.Bool _ _
+    (names (next_is (codes "string") s) s B.String _ _
+    (names (next_is (codes "bytes") s) s B.Bytes _ _
+    (names (next_is (codes "int") s) s B.Int _ _
+    (names (next_is (codes "float") s) s (B.Float (place s)) _ _
+    (names (next_is (codes "any") s) s B.Any None (Err (place s)) refl)))))

@@ -1,5 +1,5 @@
 -- Rules that two readers share, and what is left of a rule behind its first alternatives. No public call cites them.
-use Rattle.std.specs.Prelude.{ℕ, List, codes, Result, Ok, Err, if◌then◌else◌}
+use Rattle.std.specs.Prelude.{ℕ, List, codes, Option, Some, None, Result, Ok, Err, if◌then◌else◌}
 use Rattle.ild_grammar.specs.declared.ast.Body.{Body}
 use Rattle.ild_grammar.specs.declared.ast.Body.TheVariants as B
 use Rattle.ild_grammar.specs.declared.ast.Text.{Text}
@@ -86,6 +86,21 @@ enum_behind s = do
   ms ← braced_at enum_member_at s
   f ← optional_form_at enum_form_at ms.1
   Ok (B.Enum (record { members = ms.0; form = f.0 }), f.1)
+
+-- the body that the next token names by itself
+unfoldable pub scalar_of : Stream → Option Body
+scalar_of s =
+    if next_is (codes "bool") s then Some B.Bool
+    else if next_is (codes "string") s then Some B.String
+    else if next_is (codes "bytes") s then Some B.Bytes
+    else if next_is (codes "int") s then Some B.Int
+    else if next_is (codes "float") s then Some (B.Float (place s))
+    else if next_is (codes "any") s then Some B.Any
+    else None
+
+abbrev pub scalar_here : Stream → Option Body → Result (Body × Stream) ℕ
+scalar_here s None = Err (place s)
+scalar_here s (Some b) = Ok (b, rest_of s)
 
 -- the bodies that begin with a word
 unfoldable pub worded_body_at : Stream → Result (Body × Stream) ℕ

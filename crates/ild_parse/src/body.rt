@@ -1,6 +1,7 @@
 //! Bodies of types.
+ghost use Rattle.std.specs.Prelude.{◌≡◌};
 ghost use Rattle.ild_parse.specs.Seen.{stream_of, Gives};
-ghost use Rattle.ild_parse.specs.Rules.{map_body_at, struct_behind, union_behind, enum_behind, worded_body_at};
+ghost use Rattle.ild_parse.specs.Rules.{scalar_of, map_body_at, struct_behind, union_behind, enum_behind, worded_body_at};
 ghost use Rattle.ild_grammar.proofs.Grammar.{list_at, scalar_at, body_at};
 
 use crate::input::Input;
@@ -59,29 +60,40 @@ fn read_list_body(alloc: Global, input: Input<'_>) -> Result<(Body, Input<'_>), 
     Ok((Body::List(element), input))
 }
 
-#[tactic(auto, unfolding(ild_grammar::proofs::Grammar::scalar_at))]
+/// The body that the next token names by itself.
+#[tactic(auto, unfolding(crate::specs::Rules::scalar_of))]
+fn scalar_of(input: Input<'_>) -> Option<Body>
+    ensures { result ≡ scalar_of (stream_of input.entry) }
+{
+    if input.is("bool") {
+        return Some(Body::Bool);
+    }
+    if input.is("string") {
+        return Some(Body::String);
+    }
+    if input.is("bytes") {
+        return Some(Body::Bytes);
+    }
+    if input.is("int") {
+        return Some(Body::Int);
+    }
+    if input.is("float") {
+        return Some(Body::Float(input.place()));
+    }
+    if input.is("any") {
+        return Some(Body::Any);
+    }
+    None
+}
+
+#[tactic(auto, using(crate::proofs::Rules::scalar_by_word))]
 fn read_scalar(input: Input<'_>) -> Result<(Body, Input<'_>), ParseErr>
     ensures { Gives (λ x. (x.0, stream_of x.1)) result (scalar_at (stream_of input.entry)) }
 {
-    if input.is("bool") {
-        return Ok((Body::Bool, input.rest()));
+    match scalar_of(input) {
+        None => Err(input.fault()),
+        Some(body) => Ok((body, input.rest())),
     }
-    if input.is("string") {
-        return Ok((Body::String, input.rest()));
-    }
-    if input.is("bytes") {
-        return Ok((Body::Bytes, input.rest()));
-    }
-    if input.is("int") {
-        return Ok((Body::Int, input.rest()));
-    }
-    if input.is("float") {
-        return Ok((Body::Float(input.place()), input.rest()));
-    }
-    if input.is("any") {
-        return Ok((Body::Any, input.rest()));
-    }
-    Err(input.fault())
 }
 
 /// The bodies that begin with a word.

@@ -1,5 +1,5 @@
 //! Fields of structs, and members of unions and enums.
-ghost use Rattle.std.specs.Prelude.{◌≡◌};
+ghost use Rattle.std.specs.Prelude.{◌≡◌, IfOk, [], ◌∷◌};
 ghost use Rattle.ild_parse.specs.Seen.{stream_of, Gives};
 ghost use Rattle.ild_grammar.proofs.Part.{implicit_at, rename_opt_at, implicit_opt_at, opt_at, other_opt_at, opts_behind, opts_at, field_at, target_at, kind_of, mark_at, member_at, quoted_at, enum_member_at};
 
@@ -10,7 +10,7 @@ use crate::terminal::{read_name, read_number, read_text, read_type_name};
 use crate::{
     EnumMember, Field, Implicit, KindWord, List, Mark, Member, Opt, ParseErr, Target, Text,
 };
-use std::alloc::Global;
+use std::alloc::{AllocError, Global};
 
 /// How deep inline types nest.
 pub(crate) const DEEPEST: u32 = 32;
@@ -76,6 +76,18 @@ fn other_opt<'s>(alloc: Global, first: &Opt, input: Input<'s>) -> Result<(Opt, I
     }
 }
 
+fn one_opt(alloc: Global, opt: Opt) -> Result<List<Opt>, AllocError>
+    ensures { IfOk result (λ opts. opts ≡ opt ∷ []) }
+{
+    Ok(List::from_vec(vec![in alloc; opt]?))
+}
+
+fn two_opts(alloc: Global, first: Opt, second: Opt) -> Result<List<Opt>, AllocError>
+    ensures { IfOk result (λ opts. opts ≡ first ∷ second ∷ []) }
+{
+    Ok(List::from_vec(vec![in alloc; first, second]?))
+}
+
 #[tactic(auto, unfolding(ild_grammar::proofs::Part::opts_behind))]
 fn more_opts(
     alloc: Global,
@@ -85,11 +97,10 @@ fn more_opts(
     ensures { Gives (λ x. (x.0, stream_of x.1)) result (opts_behind first (stream_of input.entry)) }
 {
     if input.is(")") {
-        return Ok((List::from_vec(vec![in alloc; first]?), input.rest()));
+        return Ok((one_opt(alloc, first)?, input.rest()));
     }
     let (second, input) = other_opt(alloc, &first, input)?;
-    let input = input.after(")")?;
-    Ok((List::from_vec(vec![in alloc; first, second]?), input))
+    followed(two_opts(alloc, first, second)?, ")", input)
 }
 
 #[tactic(auto, unfolding(ild_grammar::proofs::Part::opts_at))]
