@@ -9,6 +9,7 @@ pub mod Pushing
 pub mod Rooting
 pub mod Writing
 pub mod Drafting
+pub mod Bits
 pub mod Nodes
 pub mod Linking
 pub mod Counts

@@ -1,17 +1,23 @@
 -- A node that is written slot by slot.
-use Rattle.std.specs.Prelude.{◌≡◌, ◌≤◌, ◌-◌, ◌^◌, ◌++◌, ℕ, false, List, length, map, replicate}
-use Rattle.std.specs.List.{AllByRecursion, flat_map}
+use Rattle.std.specs.Prelude.{◌≡◌, ◌≤◌, ◌*◌, ◌/◌, ◌^◌, ℕ, Bool, List, length, map, take, drop}
+use Rattle.std.specs.List.{AllByRecursion, flat_map, range_with_len}
 use Rattle.ild_data.specs.Data.{Data}
-use Rattle.ild_data.specs.Trie.{TrieSlot, is_used, elements_of}
+use Rattle.ild_data.specs.Trie.{TrieSlot, byte_of, is_used, elements_of}
 use Rattle.ild_typed.specs.Composed.{usual}
 use Rattle.ild_node.specs.Rows.{AreRows}
 use Rattle.ild_node.specs.Written.{IsSound, spelled}
 use Rattle.ild_node.specs.declared.draft.Draft.{Draft}
 
+-- the bytes of a whole map that begins with these bits, and has no other that is set
+unfoldable pub map_so_far : List Bool → List ℕ
+map_so_far bits = map (λ j. byte_of (take 8 (drop (8 * j) bits))) (range_with_len 0 (2 ^ usual.width / 8))
+
 -- the slots written so far, from the first index on
 pub record HasWritten (d : Draft) (slots : List TrieSlot) : Type 0 where
   pub within : length slots ≤ 2 ^ usual.width
-  pub used : d.used ≡ map is_used slots ++ replicate (2 ^ usual.width - length slots) false
+  pub bits : d.map ≡ map_so_far (map is_used slots)
+  pub count : d.count ≡ length (flat_map elements_of slots)
+  pub few : d.count ≤ length slots
   pub elements : d.elements ≡ spelled (flat_map elements_of slots)
   pub sound : AllByRecursion (IsSound usual) slots
 

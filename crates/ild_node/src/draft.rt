@@ -1,22 +1,34 @@
 //! A node that is written slot by slot.
-ghost use Rattle.std.specs.Prelude.{◌≡◌, ◌++◌, ℕ, List, OnOk};
+ghost use Rattle.std.specs.Prelude.{◌≡◌, ◌++◌, ◌∷◌, [], true, Bool, ℕ, List, OnOk, length};
 ghost use Rattle.ild_data.specs.Data.{Data};
 ghost use Rattle.ild_data.specs.Spell.{spell};
+ghost use Rattle.ild_node.specs.Drafts.{map_so_far};
 ghost use Rattle.ild_node.specs.Form.{bucket_data};
 ghost use Rattle.ild_node.specs.Hashed.{AreHashed};
 
 use crate::hashed::HashedEntry;
 use crate::slots::MOST_SLOTS;
-use crate::write::{are_bytes, begin_for, count_of};
+use crate::write::{are_bytes, begin_with};
 use ild_data::{BlockId, Octets};
 use ild_emit::Emit;
 use std::alloc::{AllocError, Global};
 
-/// The front of a node: which of its slots are used, and the elements of those.
+/// How many bytes the map of a node has.
+const MAP_BYTES: usize = MOST_SLOTS / 8;
+
+/// The front of a node: the map of its slots so far, how many of those are used, and their elements.
 #[derive(Drop)]
 pub struct Draft {
-    pub(crate) used: [bool; MOST_SLOTS],
+    pub(crate) map: [u8; MAP_BYTES],
+    pub(crate) count: u64,
     pub(crate) elements: Emit,
+}
+
+// Sets the bit of an index behind those of the slots so far.
+fn set_bit(map: &mut [u8; MAP_BYTES], i: u8)
+    ensures { (bits : List Bool) → length bits ≡ i → map.old ≡ map_so_far bits → map.new ≡ map_so_far (bits ++ true ∷ []) }
+{
+    map[i as usize / 8] |= 1 << (i % 8);
 }
 
 // Appends the bucket of entries. An error may leave the front of it.
@@ -44,7 +56,8 @@ impl Draft {
         ensures { IfOk result (λ draft. HasWritten draft []) }
     {
         Ok(Draft {
-            used: [false; MOST_SLOTS],
+            map: [0; MAP_BYTES],
+            count: 0,
             elements: Emit::with_room(alloc, room)?,
         })
     }
@@ -56,7 +69,8 @@ impl Draft {
     {
         are_bytes(&id.0);
         self.elements.block_link(id)?;
-        self.used[i as usize] = true;
+        set_bit(&mut self.map, i);
+        self.count = self.count.saturating_add(1);
         Ok(())
     }
 
@@ -66,7 +80,8 @@ impl Draft {
             → (slots : List TrieSlot) → HasWritten self.old slots → length slots ≡ i → OnOk result (HasWritten self.new (slots ++ bucket es ∷ [])) }
     {
         add_entries(&mut self.elements, entries)?;
-        self.used[i as usize] = true;
+        set_bit(&mut self.map, i);
+        self.count = self.count.saturating_add(1);
         Ok(())
     }
 
@@ -75,7 +90,7 @@ impl Draft {
         ensures { (slots : List TrieSlot) → HasWritten self slots → length slots ≡ 2 ^ usual.width → IfOk result (IsNodeBlock usual slots) }
     {
         let room = self.elements.len();
-        let mut out = begin_for(alloc, &self.used, count_of(&self.used), room)?;
+        let mut out = begin_with(alloc, &self.map, self.count, room)?;
         out.spelled(self.elements.finish().as_slice())?;
         Ok(out.finish())
     }

@@ -112,18 +112,18 @@ pub(crate) fn count_of(used: &[bool]) -> u64
 /// Room for the beginning of a node.
 const FRONT_ROOM: usize = 40;
 
-/// The beginning of a node, up to its elements, with room for so many bytes behind it.
-pub(crate) fn begin_for(
+/// The beginning of a node with this map, up to its elements, with room for so many bytes behind it.
+pub(crate) fn begin_with(
     alloc: Global,
-    used: &[bool],
+    map: &[u8],
     elements: u64,
     room: usize,
 ) -> Result<Emit, AllocError>
-    ensures { IfOk result (λ out. out ≡ head 4 2 ++ spell_bytes (bytes_of_bits used.now) ++ head 4 elements) }
+    ensures { IfOk result (λ out. out ≡ head 4 2 ++ spell_bytes map.now ++ head 4 elements) }
 {
     let mut out = Emit::with_room(alloc, room.saturating_add(FRONT_ROOM))?;
     out.head(4, 2)?;
-    out.bytes(&map_of(alloc, used)?)?;
+    out.bytes(map)?;
     out.head(4, elements)?;
     Ok(out)
 }
@@ -132,7 +132,7 @@ pub(crate) fn begin_for(
 pub(crate) fn begin(alloc: Global, used: &[bool], elements: u64) -> Result<Emit, AllocError>
     ensures { IfOk result (λ out. out ≡ head 4 2 ++ spell_bytes (bytes_of_bits used.now) ++ head 4 elements) }
 {
-    begin_for(alloc, used, elements, 0)
+    begin_with(alloc, &map_of(alloc, used)?, elements, 0)
 }
 
 /// Appends an entry of a bucket. An error may leave the front of it.
