@@ -2,6 +2,7 @@
 #![tactic(auto)]
 
 mod blocks;
+mod bulk;
 mod given;
 mod hamt;
 mod layers;
@@ -44,6 +45,8 @@ fn main(rt: HostRuntime) -> io::Result<ExitCode> {
         "write-list" => values::write_all(alloc, &bytes, times, "Ints"),
         "compile" => whole::compile_all(alloc, &bytes, times),
         "hamt" => hamt::edit_all(alloc, &bytes, times),
+        "bulk" => bulk::plan_all(alloc, &bytes, times),
+        "bulk-hashes" => bulk::hash_all(alloc, &bytes, times),
         "script" => whole::answer_all_of(alloc, &bytes, times),
         _ => None,
     };

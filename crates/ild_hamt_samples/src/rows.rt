@@ -18,7 +18,8 @@ fn is_less(a: &str, b: &str) -> bool
     a < b
 }
 
-fn is_above(rows: &Rows, key: &str) -> bool
+/// Whether a key is greater than those of all rows.
+pub fn is_above(rows: &Rows, key: &str) -> bool
     ensures { IsTrue result → IsAbove key.now rows.now }
 {
     match rows.len() {
