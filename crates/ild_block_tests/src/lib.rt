@@ -15,3 +15,5 @@ mod json;
 mod keys;
 #[cfg(test)]
 mod large;
+#[cfg(test)]
+mod splice;

@@ -1,0 +1,7 @@
+pub mod Joining
+pub mod Keyed
+pub mod Listed
+pub mod Mapped
+pub mod Placed
+pub mod Searching
+pub mod Staying

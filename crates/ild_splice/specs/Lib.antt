@@ -1,0 +1,4 @@
+pub mod Around
+pub mod Laws
+pub mod Made
+pub mod Splices

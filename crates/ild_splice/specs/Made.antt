@@ -1,0 +1,32 @@
+-- The bytes of a changed block, and what a call answers that is to make them.
+use Rattle.std.specs.Borrow.{Bor}
+use Rattle.std.specs.Prelude.{◌≡◌, ◌<◌, ◌≤◌, ℕ, List, [], ◌++◌, length, Option, Some, None, Result, Ok, Err}
+use Rattle.ild_data.specs.Limits.{longest_block}
+use Rattle.ild_data.specs.Spell.{head, spell_text}
+use Rattle.ild_splice.specs.declared.error.SpliceErr.{SpliceErr}
+use Rattle.ild_splice.specs.declared.error.SpliceErr.TheVariants.{Size, Memory}
+use Rattle.ild_splice.specs.declared.piece.NewHead.{NewHead}
+use Rattle.ild_splice.specs.declared.piece.NewHead.TheVariants as H
+use Rattle.ild_splice.specs.declared.piece.Pieces.{Pieces}
+
+abbrev pub head_bytes : NewHead → List ℕ
+head_bytes H.Same = []
+head_bytes (H.List n) = head 4 n
+head_bytes (H.Map n) = head 5 n
+
+abbrev pub key_bytes : Option (Bor (List ℕ)) → List ℕ
+key_bytes None = []
+key_bytes (Some k) = spell_text k.now
+
+-- what stands in place of the item that is changed
+abbrev pub inner_of : Pieces → List ℕ
+inner_of p = head_bytes p.head ++ (p.before.now ++ (key_bytes p.key ++ (p.new.now ++ p.after.now)))
+
+abbrev pub bytes_of : Pieces → List ℕ
+bytes_of p = p.front.now ++ (inner_of p ++ p.behind.now)
+
+-- the block is these bytes, and they are refused exactly where they are more than a block may have; else only memory may be wanting
+abbrev pub Makes : List ℕ → Result (List ℕ) SpliceErr → Type 0
+Makes bytes (Ok b) = (b ≡ bytes) × (length bytes ≤ longest_block)
+Makes bytes (Err Size) = longest_block < length bytes
+Makes bytes (Err Memory) = length bytes ≤ longest_block

@@ -1,0 +1,140 @@
+//! The five changes. Each call takes a node of a block of DAG-CBOR, and answers the block whose tree has that part changed: the
+//! spelling of it, byte for byte, made from slices of the old block. DAG-CBOR counts items and not bytes, so nothing but the span
+//! of that part is another, and what stands before and behind it is copied as it is. Where the new block would have more than 4,194,304 bytes, and only
+//! there, the answer is `SpliceErr::Size`. How deep the tree nests is for the caller to see to (`changes_stay_within`).
+ghost use Rattle.std.specs.Prelude.{◌≡◌, ◌≤◌, ◌<◌, ℕ, true, is_some, Some, None};
+ghost use Rattle.ild_cbor.specs.Nodes.{Stands};
+ghost use Rattle.ild_cbor.specs.Scalar.{kind_of, count_of};
+ghost use Rattle.ild_cbor.specs.Span.{entry_of};
+ghost use Rattle.ild_cbor.specs.declared.kind.Kind.TheVariants as K;
+ghost use Rattle.ild_change.specs.TreeChange.{replace, insert_item, insert_entry, remove_item, remove_entry};
+ghost use Rattle.ild_data.specs.Data.{Data};
+ghost use Rattle.ild_splice.specs.Splices.{Splices};
+
+use crate::cut::{around, part_count};
+use crate::entry::entries_around;
+use crate::error::SpliceErr;
+use crate::piece::{NewHead, Pieces};
+use crate::write::made;
+use ild_cbor::Node;
+use ild_data::Octets;
+use std::alloc::Global;
+
+/// The block in which an item stands, with another item in its place, which is copied from its own block.
+pub fn replace(alloc: Global, part: &Node<'_>, new: &Node<'_>) -> Result<Octets, SpliceErr>
+    ensures { (e : Data) → Stands new.now e → Splices part.now (replace e) result }
+{
+    let (front, behind) = around(part);
+    made(
+        alloc,
+        &Pieces {
+            front,
+            head: NewHead::Same,
+            before: &[],
+            key: None,
+            new: new.spelling(),
+            after: &[],
+            behind,
+        },
+    )
+}
+
+/// The block in which a list stands, with one more item at this place of the list, or behind its last. The items before that place
+/// are passed over by their heads.
+pub fn insert_item(
+    alloc: Global,
+    list: &Node<'_>,
+    at: u64,
+    new: &Node<'_>,
+) -> Result<Octets, SpliceErr>
+    requires list { (d : Data) → Stands list.now d → kind_of d ≡ K.List }
+    requires place { (d : Data) (n : ℕ) → Stands list.now d → count_of d ≡ Some n → at ≤ n }
+    ensures { (e : Data) → Stands new.now e → Splices list.now (insert_item at e) result }
+{
+    let (front, behind) = around(list);
+    let (before, after) = list.items_around(at, 0);
+    made(
+        alloc,
+        &Pieces {
+            front,
+            head: NewHead::List(part_count(list).saturating_add(1)),
+            before,
+            key: None,
+            new: new.spelling(),
+            after,
+            behind,
+        },
+    )
+}
+
+/// The block in which a map stands, with one more entry, whose key the map doesn't have, at its place in the order of keys (DAG-CBOR,
+/// "Map Keys"). The entries before that place are passed over by their keys and heads.
+pub fn insert_entry(
+    alloc: Global,
+    map: &Node<'_>,
+    key: &str,
+    new: &Node<'_>,
+) -> Result<Octets, SpliceErr>
+    requires map { (d : Data) → Stands map.now d → kind_of d ≡ K.Map }
+    requires absent { (d : Data) → Stands map.now d → entry_of d key.now ≡ None }
+    ensures { (e : Data) → Stands new.now e → Splices map.now (insert_entry key.now e) result }
+{
+    let (front, behind) = around(map);
+    let (before, after) = entries_around(map, key);
+    made(
+        alloc,
+        &Pieces {
+            front,
+            head: NewHead::Map(part_count(map).saturating_add(1)),
+            before,
+            key: Some(key),
+            new: new.spelling(),
+            after,
+            behind,
+        },
+    )
+}
+
+/// The block in which a list stands, without the item at this place of the list.
+pub fn remove_item(alloc: Global, list: &Node<'_>, at: u64) -> Result<Octets, SpliceErr>
+    requires list { (d : Data) → Stands list.now d → kind_of d ≡ K.List }
+    requires place { (d : Data) (n : ℕ) → Stands list.now d → count_of d ≡ Some n → at < n }
+    ensures { Splices list.now (remove_item at) result }
+{
+    let (front, behind) = around(list);
+    let (before, after) = list.items_around(at, 1);
+    made(
+        alloc,
+        &Pieces {
+            front,
+            head: NewHead::List(part_count(list).saturating_sub(1)),
+            before,
+            key: None,
+            new: &[],
+            after,
+            behind,
+        },
+    )
+}
+
+/// The block in which a map stands, without the entry at this key.
+pub fn remove_entry(alloc: Global, map: &Node<'_>, key: &str) -> Result<Octets, SpliceErr>
+    requires map { (d : Data) → Stands map.now d → kind_of d ≡ K.Map }
+    requires there { (d : Data) → Stands map.now d → is_some (entry_of d key.now) ≡ true }
+    ensures { Splices map.now (remove_entry key.now) result }
+{
+    let (front, behind) = around(map);
+    let (before, after) = entries_around(map, key);
+    made(
+        alloc,
+        &Pieces {
+            front,
+            head: NewHead::Map(part_count(map).saturating_sub(1)),
+            before,
+            key: None,
+            new: &[],
+            after,
+            behind,
+        },
+    )
+}

@@ -1,0 +1,62 @@
+//! How many bytes a changed block has.
+ghost use Rattle.std.specs.Prelude.{◌≡◌, ◌≤◌, ℕ, length};
+ghost use Rattle.ild_data.specs.Spell.{head, spell_text};
+ghost use Rattle.ild_splice.specs.Made.{bytes_of, head_bytes, key_bytes};
+
+use crate::piece::{NewHead, Pieces};
+
+/// How many bytes the shortest head has (RFC 8949, section 3).
+pub(crate) fn head_size(n: u64) -> usize
+    ensures size { (major : ℕ) → result ≡ length (head major n) }
+    ensures few { result ≤ 9 }
+{
+    if n < 24 {
+        1
+    } else if n < 0x100 {
+        2
+    } else if n < 0x1_0000 {
+        3
+    } else if n < 0x1_0000_0000 {
+        5
+    } else {
+        9
+    }
+}
+
+/// How many bytes a text is spelled in.
+pub(crate) fn text_size(text: &str) -> u128
+    ensures size { result ≡ length (spell_text text.now) }
+    ensures few { result ≤ 0x1_0000_0000_0000_0008 }
+{
+    head_size(text.len() as u64) as u128 + text.len() as u128
+}
+
+fn new_head_size(head: NewHead) -> u128
+    ensures size { result ≡ length (head_bytes head) }
+    ensures few { result ≤ 9 }
+{
+    match head {
+        NewHead::Same => 0,
+        NewHead::List(n) => head_size(n) as u128,
+        NewHead::Map(n) => head_size(n) as u128,
+    }
+}
+
+fn key_size(key: Option<&str>) -> u128
+    ensures size { result ≡ length (key_bytes key.entry) }
+    ensures few { result ≤ 0x1_0000_0000_0000_0008 }
+{
+    match key {
+        Some(key) => text_size(key),
+        None => 0,
+    }
+}
+
+/// How many bytes the pieces have together.
+pub(crate) fn size_of(pieces: &Pieces<'_, '_, '_>) -> u128
+    ensures { result ≡ length (bytes_of pieces.now) }
+{
+    let around = pieces.front.len() as u128 + pieces.behind.len() as u128;
+    let parts = pieces.before.len() as u128 + pieces.after.len() as u128;
+    around + parts + new_head_size(pieces.head) + key_size(pieces.key) + pieces.new.len() as u128
+}
