@@ -6,6 +6,7 @@ ghost use Rattle.ild_typed.specs.Fits.{Fits, IsTextOf};
 ghost use Rattle.ild_typed.specs.Layers.{Shows};
 
 use crate::fault::ViewErr;
+use crate::leaf::is_leaf;
 use crate::part::value_part;
 use crate::stack::all_open;
 use crate::walk::check_piece;
@@ -34,7 +35,11 @@ pub fn fits_text(
         ty,
         nullable: false,
     };
-    match check_piece(alloc, acc, slot, &Piece::Text(text), room) {
+    let piece = Piece::Text(text);
+    if is_leaf(acc, slot, &piece) {
+        return Ok(true);
+    }
+    match check_piece(alloc, acc, slot, &piece, room) {
         Ok(()) => Ok(true),
         Err(ViewErr::Shape { .. }) => Ok(false),
         Err(ViewErr::Memory) => Err(AllocError),

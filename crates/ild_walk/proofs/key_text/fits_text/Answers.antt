@@ -7,6 +7,12 @@ use Rattle.ild_typed.proofs.WalkSound.{refused_sound}
 use Rattle.ild_walk.specs.Checks.{Faults, IsRefusal}
 use Rattle.ild_walk.proofs.key_text.fits_text.Goals as goal
 
+pub returns-then-is_leaf : goal.returns-then-is_leaf
+returns-then-is_leaf c = (λ e. c.is_leaf.ensures c.if-is_leaf.true (T.text c.args.text.now) refl c.utf8.text c.args.room, λ shows. refl)
+
+pub returns-in-Ok : goal.returns-in-Ok
+returns-in-Ok c = (λ e. c.in-Ok.ensures.checks (T.text c.args.text.now) refl c.utf8.text, λ shows. refl)
+
 pub returns-in-Err-Shape : goal.returns-in-Err-Shape
 returns-in-Err-Shape c =
     let rows : List Row = c.args.acc.now in
