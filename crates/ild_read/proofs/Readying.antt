@@ -20,9 +20,9 @@ use Rattle.ild_schema.specs.declared.number.TypeNo.{TypeNo}
 use Rattle.ild_schema.specs.declared.row.Row.{Row}
 use Rattle.ild_struct.proofs.Splitting.{given_some}
 use Rattle.ild_typed.specs.Levels.{map_levels}
-use Rattle.ild_walk.proofs.Finding.{got_at}
+use Rattle.ild_parts.proofs.Lists.{got_at}
 use Rattle.ild_union.specs.Forms.{passes_over}
-use Rattle.ild_walk.specs.Ready.{IsInlined, is_struct}
+use Rattle.ild_parts.specs.Ready.{IsInlined, is_struct}
 use Rattle.ild_read.specs.Ready.{HasDelims}
 
 pub got : {A : Type 0} (xs ys : List A) (i : ℕ) (x : A) → xs ≡ ys → i < length xs → x ≡ get_or xs i x → slice_get ys i ≡ Some x

@@ -6,7 +6,7 @@ ghost use Rattle.ild_schema.specs.Table.{IsWithin};
 ghost use Rattle.ild_schema.specs.declared.def.TypeDef.TheVariants as D;
 ghost use Rattle.ild_struct.specs.Parts.{HasNumber};
 ghost use Rattle.ild_union.specs.Forms.{passes_over};
-ghost use Rattle.ild_walk.specs.Ready.{IsInlined};
+ghost use Rattle.ild_parts.specs.Ready.{IsInlined};
 ghost use Rattle.ild_read.specs.Hamts.{ReadsHamt, ReadsListed};
 ghost use Rattle.ild_read.specs.Parts.{ReadsElements, ReadsFields, ReadsForm, ReadsListPairs, ReadsMap, ReadsMember, ReadsPart, ReadsSlot, ReadsStringPairs};
 ghost use Rattle.ild_read.specs.Ready.{HasDelims};

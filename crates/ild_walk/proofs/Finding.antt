@@ -1,5 +1,5 @@
 -- What is found of data of each form by themselves.
-use Rattle.std.proofs.Common.{◌≡◌, ℕ, zero, suc, ◌+◌, ◌<◌, ◌≤◌, List, [], ◌∷◌, length, get_or, map, Bool, true, false, ◌||◌, Some, None, refl, sym, ◌∙◌, ap, subst, arith, inl}
+use Rattle.std.proofs.Common.{◌≡◌, ℕ, zero, suc, ◌+◌, ◌<◌, ◌≤◌, List, [], ◌∷◌, length, map, Bool, true, false, ◌||◌, Some, None, refl, sym, ◌∙◌, ap, subst, arith, inl}
 use Rattle.std.specs.Prelude.{is_some, slice_get, IfSome}
 use Rattle.std.specs.List.{All, AllByRecursion}
 use Rattle.std.specs.Option.{option_and_then, option_map_or}
@@ -16,7 +16,7 @@ use Rattle.ild_cbor.specs.declared.piece.Piece.{Piece}
 use Rattle.ild_cbor.specs.declared.why.Why.{Why}
 use Rattle.ild_enum.specs.Forms.{IsEnumType, IsUnitType, is_enum, is_unit}
 use Rattle.ild_piece.specs.Answers.{Layered, Refused, told}
-use Rattle.ild_piece.specs.Entries.{Lists, Maps}
+use Rattle.ild_piece.specs.Entries.{HasLeft, Lists, Maps}
 use Rattle.ild_piece.specs.declared.walk.MapEntries.{MapEntries}
 use Rattle.ild_piece.specs.Pieces.{StandsFor, form_key, inline_key, passed_key}
 use Rattle.ild_piece.proofs.Stand.{piece_rises}
@@ -47,8 +47,7 @@ use Rattle.ild_typed.specs.Hamt.{alone}
 use Rattle.ild_typed.specs.Layer as L
 use Rattle.ild_typed.specs.Layer.{Layer}
 use Rattle.ild_typed.specs.Named.{items_in}
-use Rattle.ild_typed.specs.Pieces.{IsWhy, why_at}
-use Rattle.ild_typed.specs.Refused.{AreParts}
+use Rattle.ild_typed.specs.Pieces.{IsWhy}
 use Rattle.ild_typed.specs.Slots.{slot_of}
 use Rattle.ild_typed.specs.Spots.{Spot, element_spots, entry_spots, member_spots, member_steps, value_spot}
 use Rattle.ild_typed.specs.Strings.{members_in}
@@ -56,16 +55,20 @@ use Rattle.ild_typed.specs.Why as W
 use Rattle.ild_data.proofs.Lists.{members_of-members_list}
 use Rattle.ild_typed.proofs.CleanTypes.{layer_or_why}
 use Rattle.ild_union.specs.Forms.{IsPassedBy, passes_over}
-use Rattle.ild_walk.specs.declared.part.Part.{Part}
+use Rattle.ild_parts.specs.declared.part.Part.{Part}
 use Rattle.ild_places.specs.declared.way.Way.{Way}
-use Rattle.ild_walk.specs.Part.{IsSpotted}
-use Rattle.ild_walk.specs.Ready.{IsInlined, is_struct}
-use Rattle.ild_walk.specs.declared.parts.Parts.TheVariants as P
+use Rattle.ild_parts.specs.Part.{IsSpotted}
+use Rattle.ild_parts.specs.Ready.{IsInlined, is_struct}
+use Rattle.ild_parts.specs.declared.parts.Parts.TheVariants as P
 use Rattle.ild_walk.specs.Opens.{HasOpened}
 use Rattle.ild_struct.specs.Told.{scalar_kind}
-use Rattle.ild_walk.proofs.Asking.{own_at, deep_at, none_at}
-use Rattle.ild_walk.proofs.Leading.{few_items}
+use Rattle.ild_parts.proofs.Asking.{own_at, deep_at, none_at}
+use Rattle.ild_parts.specs.Elements.{HasElements}
+use Rattle.ild_parts.specs.Entries.{HasEntries}
+use Rattle.ild_parts.specs.declared.elements.Elements.{Elements}
+use Rattle.ild_parts.specs.declared.entries.Entries.{Entries}
 use Rattle.ild_places.specs.Places.{steps_of}
+use Rattle.ild_parts.proofs.Scalars.{Plain}
 
 -- ---- lists
 
@@ -81,17 +84,17 @@ pub list_deep : (room : ℕ) (elem : Slot) (at : ℕ) (t : Data) (s : Items) →
 list_deep room elem at t s h less = inl (deep_at room (D.List elem at) t (list_own elem at t s h) refl less)
 
 pub list_opens : (rows : List Row) (room left : ℕ) (elem : Slot) (at : ℕ) (t : Data) (s : Items) → Lists (items_in t) (Some s) → left + 1 ≡ room
-    → HasOpened rows room (D.List elem at) t (record { parts = P.List (record { slot = elem; items = s; place = 0 }); room = left })
-list_opens rows room left elem at (T.list ds) s h sum =
+    → (x : Elements) → ((ds : T.Items) → HasItems s ds → HasElements x (element_spots elem 0 (T.items_list ds))) → HasOpened rows room (D.List elem at) t (record { parts = P.List x; room = left })
+list_opens rows room left elem at (T.list ds) s h sum x has =
     let same : T.items_of (T.items_list ds) ≡ ds = items_of-items_list ds in
     record {
       none = none_at room (D.List elem at) (T.list ds) refl refl (omega (arith, sum)) refl;
       spots = element_spots elem 0 (T.items_list ds);
       parts = (L.list (T.items_list ds), ap (λ es. Some (T.list es)) same, refl);
       room_is = sum;
-      left = let has = subst (HasItems s) same h in record { items = ds; left = has; few = let few = few_items s ds has in omega (arith, few); is = refl };
+      left = has ds (subst (HasItems s) same h);
     }
-list_opens rows room left elem at t s h sum = absurd h
+list_opens rows room left elem at t s h sum x has = absurd h
 
 -- ---- maps
 
@@ -108,48 +111,17 @@ pub map_deep : (room : ℕ) (key : TypeNo) (key_at : ℕ) (value : Slot) (at : �
 map_deep room key key_at value at t s h less = inl (deep_at room (D.Map key key_at value at MF.Map) t (map_own key key_at value at t s h) refl less)
 
 pub map_opens : (rows : List Row) (room left : ℕ) (key : TypeNo) (key_at : ℕ) (value : Slot) (at : ℕ) (t : Data) (s : MapEntries) → Maps (members_in t) (Some s) → left + 1 ≡ room
-    → HasOpened rows room (D.Map key key_at value at MF.Map) t (record { parts = P.Map (record { key = key; value = value; left = s; held = None }); room = left })
-map_opens rows room left key key_at value at (T.map ms) s h sum = record {
+    → (x : Entries) → ((es : List (List ℕ × Data)) → HasLeft s es → HasEntries x (entry_spots MF.Map key value 0 es)) → HasOpened rows room (D.Map key key_at value at MF.Map) t (record { parts = P.Map x; room = left })
+map_opens rows room left key key_at value at (T.map ms) s h sum x has = record {
   none = none_at room (D.Map key key_at value at MF.Map) (T.map ms) refl refl (omega (arith, sum)) refl;
   spots = entry_spots MF.Map key value 0 (T.members_list ms);
   parts = (L.map (T.members_list ms), ap (λ es. Some (T.map es)) (members_of-members_list ms), refl);
   room_is = sum;
-  left = record { entries = T.members_list ms; left = h; at = 0; is = refl };
+  left = has (T.members_list ms) h;
 }
-map_opens rows room left key key_at value at t s h sum = absurd h
+map_opens rows room left key key_at value at t s h sum x has = absurd h
 
 -- ---- scalars
-
-abbrev pub Plain : ℕ → TypeDef → Data → Type 0
-Plain room d t = (why_at room d t ≡ None) × AreParts d t []
-
-pub bool_plain : (room : ℕ) (t : Data) → kind_of t ≡ K.Bool → Plain room D.Bool t
-bool_plain room (T.boolean b) e = (none_at room D.Bool (T.boolean b) refl refl (omega arith) refl, (L.boolean b, refl, refl))
-bool_plain room t e = absurd cc
-
-pub text_plain : (room : ℕ) (t : Data) → kind_of t ≡ K.Text → Plain room D.Text t
-text_plain room (T.text s) e = (none_at room D.Text (T.text s) refl refl (omega arith) refl, (L.text s, refl, refl))
-text_plain room t e = absurd cc
-
-bytes_plain : (room : ℕ) (t : Data) → kind_of t ≡ K.Bytes → Plain room D.Bytes t
-bytes_plain room (T.bytes s) e = (none_at room D.Bytes (T.bytes s) refl refl (omega arith) refl, (L.bytes s, refl, refl))
-bytes_plain room t e = absurd cc
-
-pub int_plain : (room : ℕ) (t : Data) → kind_of t ≡ K.Int → Plain room D.Int t
-int_plain room (T.integer n) e = (none_at room D.Int (T.integer n) refl refl (omega arith) refl, (L.integer n, refl, refl))
-int_plain room t e = absurd cc
-
-link_plain : (room : ℕ) (target : TypeNo) (t : Data) → kind_of t ≡ K.Link → Plain room (D.Link target) t
-link_plain room target (T.link s) e = (none_at room (D.Link target) (T.link s) refl refl (omega arith) refl, (L.link s, refl, refl))
-link_plain room target t e = absurd cc
-
-pub scalar_plain : (room : ℕ) (d : TypeDef) (t : Data) (k : Kind) → scalar_kind d ≡ Some k → kind_of t ≡ k → Plain room d t
-scalar_plain room D.Bool t k e is = bool_plain room t (is ∙ sym (same_Some K.Bool k e))
-scalar_plain room D.Text t k e is = text_plain room t (is ∙ sym (same_Some K.Text k e))
-scalar_plain room D.Bytes t k e is = bytes_plain room t (is ∙ sym (same_Some K.Bytes k e))
-scalar_plain room D.Int t k e is = int_plain room t (is ∙ sym (same_Some K.Int k e))
-scalar_plain room (D.Link target) t k e is = link_plain room target t (is ∙ sym (same_Some K.Link k e))
-scalar_plain room d t k e is = absurd (none-some k e)
 
 bool_kind : (t : Data) → (kind_of t ≡ K.Bool → ⊥) → why_of D.Bool t ≡ Some W.Kind
 bool_kind (T.boolean b) h = absurd (h refl)
@@ -227,11 +199,6 @@ unit_deep rows legible ty room d p t is form stands less layered =
 
 -- ---- unions
 
-pub got_at : {A : Type 0} (xs : List A) (n : ℕ) (x : A) → n < length xs → x ≡ get_or xs n x → slice_get xs n ≡ Some x
-got_at [] n x less is = absurd (omega (arith, less))
-got_at (y ∷ ys) zero x less is = ap Some (sym is)
-got_at (y ∷ ys) (suc n) x less is = got_at ys n x (omega (arith, less)) is
-
 module _ (rows : List Row) (legible : IsLegible rows) (ty room : ℕ) (u : UnionDef) (is : meant rows ty ≡ Some (D.Union u)) (p : Piece) (t : Data) (stands : StandsFor rows p t)
     (n : ℕ) (d : Data) (layered : Layered rows ty t (L.union n d)) where
   union_made : composed alone (D.Union u) (L.union n d) ≡ Some t
@@ -282,10 +249,6 @@ union_part rows n i u is h = subst (λ o. IfSome o (λ d. i < parts_of d)) is h
 pub under_one : (room : ℕ) → (1 ≤ room → ⊥) → room < 1
 under_one zero h = omega arith
 under_one (suc room) h = absurd (h (omega arith))
-
--- the type that was found in the table
-pub type_is : (rows : List Row) (ty n : ℕ) (found known d : TypeDef) → n ≡ base rows ty → def_at rows n ≡ Some found → found ≡ known → meant rows ty ≡ Some d → d ≡ known
-type_is rows ty n found known d at there same is = sym (same_Some found d (sym there ∙ ap (def_at rows) at ∙ is)) ∙ same
 
 -- the types of a map's keys and values are in the table
 pub map_low : (rows : List Row) (found : TypeDef) (key : TypeNo) (key_at : ℕ) (value : Slot) (at : ℕ) (form : MapForm) → found ≡ D.Map key key_at value at form → IsWithin (length rows) found

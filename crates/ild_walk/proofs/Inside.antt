@@ -1,5 +1,5 @@
 -- The item in which the piece of a part stands.
-use Rattle.std.proofs.Common.{◌≡◌, ℕ, List, [], ◌∷◌, ◌++◌, ◌||◌, Bool, true, false, Option, Some, None, is_some, IfSome, Result, Ok, Err, refl, sym, ◌∙◌, ap, subst}
+use Rattle.std.proofs.Common.{◌≡◌, ℕ, List, [], ◌∷◌, ◌++◌, Bool, true, false, ◌||◌, Option, Some, None, is_some, Result, Ok, Err, refl, sym, ◌∙◌, ap, subst}
 use Rattle.std.specs.Prelude.{slice_get}
 use Rattle.std.specs.Option.{option_and_then, option_map_or}
 use Rattle.std.specs.List.{AllByRecursion}
@@ -29,14 +29,12 @@ use Rattle.ild_typed.specs.Spots.{Spot, member_spots, member_steps, spots_of}
 use Rattle.ild_union.specs.Forms.{IsInlineOf, IsPassedBy, passes_over}
 use Rattle.ild_walk.specs.declared.opening.Opening.{Opening}
 use Rattle.ild_walk.specs.declared.opening.Stop.{Stop}
-use Rattle.ild_walk.specs.declared.part.Part.{Part}
-use Rattle.ild_walk.specs.declared.parts.Parts.{Parts}
-use Rattle.ild_walk.specs.declared.parts.Parts.TheVariants as PS
-use Rattle.ild_walk.specs.Inside.{AreInside, IsOpenInside, IsPieceOf, IsWhole, OpensMany, is_many}
-use Rattle.ild_walk.specs.Ready.{IsInlined, is_struct}
-
-not_both : {A : Type 0} (b : Bool) → b ≡ true → b ≡ false → A
-not_both b there none = absurd (cc (sym there ∙ none))
+use Rattle.ild_parts.specs.declared.part.Part.{Part}
+use Rattle.ild_parts.specs.declared.parts.Parts.{Parts}
+use Rattle.ild_parts.specs.declared.parts.Parts.TheVariants as PS
+use Rattle.ild_parts.specs.Inside.{AreInside, IsPieceOf}
+use Rattle.ild_walk.specs.Inside.{IsOpenInside, OpensMany, is_many}
+use Rattle.ild_parts.specs.Ready.{IsInlined, is_struct}
 
 -- ---- where no discriminant stands inline
 
@@ -45,16 +43,6 @@ no_inline rows ty n found known at there same none =
     ap (λ k. is_some (option_and_then inline_key (def_at rows k))) (sym at) ∙ ap (λ o. is_some (option_and_then inline_key o)) (there ∙ ap Some same) ∙ ap is_some none
 
 module _ (rows : List Row) (ty : ℕ) (y : Piece) (none : is_some (passed_key rows ty) ≡ false) where
-  pub whole_piece : (x : Part) → IsWhole x → IsPieceOf rows ty y x
-  whole_piece x whole = record {
-    inline = λ e. not_both (is_some (passed_key rows ty)) e none;
-    passed = λ e. not_both (passes_over x.piece) e whole;
-  }
-
-  pub whole_pieces : (o : Option Part) → IfSome o IsWhole → IfSome o (IsPieceOf rows ty y)
-  whole_pieces None whole = tt
-  whole_pieces (Some x) whole = whole_piece x whole
-
   many_inside : (parts : Parts) → is_many parts ≡ true → AreInside rows ty y parts
   many_inside PS.Nothing e = tt
   many_inside (PS.List s) e = none

@@ -18,7 +18,7 @@ use Rattle.ild_typed.specs.Causes.{why_of}
 use Rattle.ild_typed.specs.Pieces.{IsWhy, why_at}
 use Rattle.ild_typed.specs.Refused.{AreParts}
 use Rattle.ild_typed.specs.Why as W
-use Rattle.ild_walk.proofs.Asking.{deep_at, none_at}
+use Rattle.ild_parts.proofs.Asking.{deep_at, none_at}
 
 max_within : (a b r : ℕ) → nat_le a r ≡ true → nat_le (max a b) r ≡ nat_le b r
 max_within a b r h = grind (arith, nat_tests)

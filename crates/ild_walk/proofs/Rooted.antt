@@ -31,11 +31,11 @@ use Rattle.ild_typed.specs.Node.{IsRoot}
 use Rattle.ild_typed.specs.Pieces.{IsWhy, has_odd, is_odd, root_why, why_at}
 use Rattle.ild_typed.specs.RootSpots.{root_spots}
 use Rattle.ild_typed.specs.Why as W
-use Rattle.ild_walk.specs.declared.parts.Parts.TheVariants as P
-use Rattle.ild_walk.specs.declared.root.RootEntries.{RootEntries}
+use Rattle.ild_parts.specs.declared.parts.Parts.TheVariants as P
+use Rattle.ild_parts.specs.declared.root.RootEntries.{RootEntries}
 use Rattle.ild_walk.specs.Opens.{HasOpened}
-use Rattle.ild_walk.specs.Root.{HasRoot}
-use Rattle.ild_walk.proofs.Asking.{deep_at, past_room}
+use Rattle.ild_parts.specs.Root.{HasRoot}
+use Rattle.ild_parts.proofs.Asking.{deep_at, past_room}
 
 -- ---- an integer that is another
 

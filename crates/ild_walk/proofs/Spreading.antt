@@ -24,9 +24,10 @@ use Rattle.ild_typed.proofs.Rooms.{all_more, fits_more, shows_more}
 use Rattle.ild_typed.proofs.WalkForms.{table_parts, table_walk}
 use Rattle.ild_typed.proofs.WalkSound.{refused_sound}
 use Rattle.ild_typed.proofs.WalkTotal.{parts_fit}
-use Rattle.ild_walk.specs.Ready.{IsIn}
+use Rattle.ild_parts.specs.Ready.{IsIn}
 use Rattle.ild_walk.specs.Stacked.{AreSifted, IsShown}
-use Rattle.ild_walk.proofs.Walking.{all_join, part_refused, why_refused}
+use Rattle.ild_parts.proofs.Lists.{all_join}
+use Rattle.ild_walk.proofs.Walking.{part_refused, why_refused}
 
 -- ---- rooms that are wide enough tell the same causes
 

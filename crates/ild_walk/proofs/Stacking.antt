@@ -26,16 +26,17 @@ use Rattle.ild_cbor.specs.declared.piece.Piece.TheVariants as P
 use Rattle.ild_schema.specs.declared.number.TypeNo.{TypeNo}
 use Rattle.ild_walk.specs.declared.opening.Opening.{Opening}
 use Rattle.ild_walk.specs.declared.opening.Stop.TheVariants as S
-use Rattle.ild_walk.specs.declared.part.Part.{Part}
-use Rattle.ild_walk.specs.declared.parts.Parts.{Parts}
+use Rattle.ild_parts.specs.declared.part.Part.{Part}
+use Rattle.ild_parts.specs.declared.parts.Parts.{Parts}
 use Rattle.ild_walk.specs.Opens.{HasOpened, Opens}
-use Rattle.ild_walk.specs.Part.{FitsAnywhere, IsSpotted}
-use Rattle.ild_walk.specs.Parts.{HasLeft, SplitsOff}
-use Rattle.ild_walk.specs.Ready.{AreReady, AreReadyBoth, IsIn, IsInlined, IsReady}
+use Rattle.ild_parts.specs.Part.{FitsAnywhere, IsSpotted}
+use Rattle.ild_parts.specs.Parts.{HasLeft, SplitsOff}
+use Rattle.ild_parts.specs.Ready.{AreReady, AreReadyBoth, IsIn, IsInlined, IsReady}
 use Rattle.ild_walk.specs.Stacked.{Adds, AreHeld, AreSifted, IsHeld, IsPlain, IsShown, Replaces}
 use Rattle.ild_walk.proofs.Flatness.{IsFine, few_levels, parts_fine}
 use Rattle.ild_walk.proofs.Spreading.{never_shown, shown_back, shown_onward}
-use Rattle.ild_walk.proofs.Walking.{all_join, form_of_slot, null_checks, plain_shows}
+use Rattle.ild_parts.proofs.Lists.{all_join}
+use Rattle.ild_parts.proofs.Showing.{form_of_slot, null_checks, plain_shows}
 
 -- ---- lists of spots
 

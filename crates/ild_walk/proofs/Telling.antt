@@ -31,16 +31,16 @@ use Rattle.ild_typed.proofs.Leading.{ways_lead}
 use Rattle.ild_walk.specs.declared.fault.ViewErr.{ViewErr}
 use Rattle.ild_walk.specs.declared.fault.ViewErr.TheVariants as E
 use Rattle.ild_walk.specs.declared.opening.Stop.TheVariants as S
-use Rattle.ild_walk.specs.declared.part.Part.{Part}
-use Rattle.ild_walk.specs.declared.parts.Parts.{Parts}
+use Rattle.ild_parts.specs.declared.part.Part.{Part}
+use Rattle.ild_parts.specs.declared.parts.Parts.{Parts}
 use Rattle.ild_walk.specs.Checks.{Checks, Faults, is_depth}
-use Rattle.ild_walk.specs.Inside.{IsPieceOf}
+use Rattle.ild_parts.specs.Inside.{IsPieceOf}
 use Rattle.ild_walk.specs.Opens.{IsStopped}
-use Rattle.ild_walk.specs.Part.{IsSpotted}
-use Rattle.ild_walk.specs.Parts.{HasLeft, LeadsOn, SplitsOff}
-use Rattle.ild_walk.specs.Ready.{IsInlined}
+use Rattle.ild_parts.specs.Part.{IsSpotted}
+use Rattle.ild_parts.specs.Parts.{HasLeft, LeadsOn, SplitsOff}
+use Rattle.ild_parts.specs.Ready.{IsInlined}
 use Rattle.ild_walk.specs.Told.{IsPlacedBy, TellsPlace, TellsPlaceIn}
-use Rattle.ild_walk.specs.Ways.{LeadsWay}
+use Rattle.ild_parts.specs.Ways.{LeadsWay}
 use Rattle.ild_walk.proofs.Inside.{part_inside, type_passing}
 use Rattle.ild_walk.proofs.Walking.{Walking, at_part, part_refused, part_tree, split, why_refused}
 

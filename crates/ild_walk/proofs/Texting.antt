@@ -1,13 +1,10 @@
--- The pairs of a text, one after another, and what is found of such a map by itself.
+-- What is found of a map as the pairs of a text by itself.
 use Rattle.std.proofs.Common.{◌≡◌, ℕ, ◌+◌, ◌<◌, List, [], ◌∷◌, length, Bool, true, false, cond, not, option_map, Some, None, refl, sym, ◌∙◌, ap, subst, arith, inl}
-use Rattle.std.specs.Borrow.{Bor}
 use Rattle.std.specs.Option.{option_and_then}
 use Rattle.std.proofs.lemmas.Option.{none-some, same_Some}
 use Rattle.ild_data.specs.Data as T
 use Rattle.ild_data.specs.Data.{Data}
-use Rattle.ild_cbor.specs.declared.piece.Piece.TheVariants as Q
 use Rattle.ild_schema.specs.Joins.{IsPairs}
-use Rattle.ild_schema.specs.Slots.{plainly}
 use Rattle.ild_schema.specs.declared.def.MapForm.TheVariants as MF
 use Rattle.ild_schema.specs.declared.def.TypeDef.{TypeDef}
 use Rattle.ild_schema.specs.declared.def.TypeDef.TheVariants as D
@@ -16,80 +13,24 @@ use Rattle.ild_schema.specs.declared.number.TypeNo.{TypeNo}
 use Rattle.ild_schema.specs.declared.row.Row.{Row}
 use Rattle.ild_struct.specs.Source.{text_entries}
 use Rattle.ild_struct.proofs.Splitting.{split_there}
-use Rattle.ild_text.specs.Parts.{pairs_in}
-use Rattle.ild_text.specs.declared.parts.PairParts.{PairParts}
 use Rattle.ild_typed.specs.Causes.{why_of}
 use Rattle.ild_typed.specs.Cuts as Cuts
 use Rattle.ild_typed.specs.Cuts.{is_split_pairs}
 use Rattle.ild_typed.specs.Layer as L
 use Rattle.ild_typed.specs.Named.{has_twice, names, split_entries, where_some}
 use Rattle.ild_typed.specs.Pieces.{IsWhy, keys_why, repeats_key}
-use Rattle.ild_typed.specs.Spots.{Spot, entry_spots, key_spot, value_spot}
+use Rattle.ild_typed.specs.Spots.{entry_spots}
 use Rattle.ild_typed.specs.Strings.{text_in, text_pairs}
 use Rattle.ild_typed.specs.Texts.{join_pairs}
 use Rattle.ild_typed.specs.Why as W
 use Rattle.ild_typed.proofs.Basics.{true_from}
 use Rattle.ild_typed.proofs.CleanTexts.{given_by}
 use Rattle.ild_typed.proofs.JoinLaws.{pairs_are_pairs}
-use Rattle.ild_walk.specs.declared.part.Part.{Part}
-use Rattle.ild_walk.specs.declared.parts.Parts.TheVariants as P
-use Rattle.ild_walk.specs.declared.text_entries.TextEntries.{TextEntries}
-use Rattle.ild_places.specs.declared.way.Way.{Way}
+use Rattle.ild_parts.specs.declared.parts.Parts.TheVariants as P
+use Rattle.ild_parts.specs.declared.text_entries.TextEntries.{TextEntries}
 use Rattle.ild_walk.specs.Opens.{HasOpened}
-use Rattle.ild_walk.specs.Part.{IsSpotted, Takes}
-use Rattle.ild_walk.specs.Texts.{HasTexts, IsTextHeld}
-use Rattle.ild_walk.specs.Ways.{LeadsFirst}
-use Rattle.ild_walk.proofs.Asking.{deep_at, keys_at, none_at, own_at}
-use Rattle.ild_walk.proofs.Leading.{leads_there}
-use Rattle.ild_places.specs.Places.{steps_of}
-
--- ---- one step
-
-module _ (s : TextEntries) (ps : List Spot) (h : HasTexts s ps) where
-  pub text_value : (rows : List Row) (x : Bor (List ℕ)) (r : Part) (way : Way) → s.held ≡ Some x → r ≡ record { slot = s.value; piece = Q.Text x; is_key = false; way = way }
-      → (rest : TextEntries) → rest ≡ record { key = s.key; value = s.value; split = s.split; held = None } → (others : List Spot) × Takes rows ps others r × HasTexts rest others
-  text_value rows x r way held same rest is =
-      let behind : List Spot = entry_spots (MF.StringPairs h.inner h.entry) s.key s.value h.at (text_entries (pairs_in s.split)) in
-      let spot : Spot = value_spot s.value (T.text x.now) [] in (
-        behind,
-        record { first = spot; is = subst (λ o. IsTextHeld s o behind ps) held h.is; spotted = subst (λ y. IsSpotted rows y spot) (sym same) (record { slot = refl; key = refl; stands = refl }) },
-        subst (λ z. HasTexts z behind) (sym is) (record { inner = h.inner; entry = h.entry; at = h.at; is = refl }),
-      )
-
-  pub text_value_way : (x : Bor (List ℕ)) → s.held ≡ Some x → (r : Part) → steps_of r.way ≡ [] → LeadsFirst r ps
-  text_value_way x held r way =
-      let behind : List Spot = entry_spots (MF.StringPairs h.inner h.entry) s.key s.value h.at (text_entries (pairs_in s.split)) in
-      leads_there r ps (value_spot s.value (T.text x.now) []) behind (subst (λ o. IsTextHeld s o behind ps) held h.is) way
-
-  module _ (free : s.held ≡ None) where
-    all_left : ps ≡ entry_spots (MF.StringPairs h.inner h.entry) s.key s.value h.at (text_entries (pairs_in s.split))
-    all_left = subst (λ o. IsTextHeld s o (entry_spots (MF.StringPairs h.inner h.entry) s.key s.value h.at (text_entries (pairs_in s.split))) ps) free h.is
-
-    pub text_end : pairs_in s.split ≡ [] → ps ≡ []
-    text_end none = all_left ∙ ap (λ qs. entry_spots (MF.StringPairs h.inner h.entry) s.key s.value h.at (text_entries qs)) none
-
-    pub text_key_way : (r : Part) → steps_of r.way ≡ [] → LeadsFirst r ps
-    text_key_way r way = subst (LeadsFirst r) (sym all_left) (by (text_entries (pairs_in s.split))) where
-      by : (es : List (List ℕ × Data)) → LeadsFirst r (entry_spots (MF.StringPairs h.inner h.entry) s.key s.value h.at es)
-      by [] = tt
-      by (e ∷ es) = way
-
-    pub text_key : (rows : List Row) (k v : Bor (List ℕ)) (split : PairParts) (r : Part) (way : Way) → r ≡ record { slot = plainly s.key; piece = Q.Text k; is_key = true; way = way }
-        → pairs_in s.split ≡ (k.now, v.now) ∷ pairs_in split → (rest : TextEntries) → rest ≡ record { key = s.key; value = s.value; split = split; held = Some v }
-        → (others : List Spot) × Takes rows ps others r × HasTexts rest others
-    text_key rows k v split r way same first rest is =
-        let behind : List Spot = entry_spots (MF.StringPairs h.inner h.entry) s.key s.value (h.at + 1) (text_entries (pairs_in split)) in
-        let spot : Spot = key_spot s.key k.now [] in (
-          value_spot s.value (T.text v.now) [] ∷ behind,
-          record {
-            first = spot;
-            is = all_left ∙ ap (λ qs. entry_spots (MF.StringPairs h.inner h.entry) s.key s.value h.at (text_entries qs)) first;
-            spotted = subst (λ y. IsSpotted rows y spot) (sym same) (record { slot = refl; key = refl; stands = refl });
-          },
-          subst (λ z. HasTexts z (value_spot s.value (T.text v.now) [] ∷ behind)) (sym is) (record { inner = h.inner; entry = h.entry; at = h.at + 1; is = refl }),
-        )
-
--- ---- such a map by itself
+use Rattle.ild_parts.specs.Texts.{HasTexts}
+use Rattle.ild_parts.proofs.Asking.{deep_at, keys_at, none_at, own_at}
 
 pub no_text : (key : TypeNo) (key_at : ℕ) (value : Slot) (at : ℕ) (inner entry : List ℕ) (t : Data) → None ≡ text_in t → why_of (D.Map key key_at value at (MF.StringPairs inner entry)) t ≡ Some W.Kind
 no_text key key_at value at inner entry (T.text s) e = absurd (none-some s e)

@@ -24,19 +24,21 @@ use Rattle.ild_typed.specs.Schema.{IsSchema}
 use Rattle.ild_typed.specs.Spots.{Spot}
 use Rattle.ild_typed.specs.Why as W
 use Rattle.ild_typed.proofs.Rooms.{all_more, shows_more}
-use Rattle.ild_typed.proofs.WalkForms.{form_there, table_parts}
-use Rattle.ild_typed.proofs.WalkTotal.{null_fits, parts_fit, past_fits, plain_fits}
+use Rattle.ild_typed.proofs.WalkForms.{table_parts}
+use Rattle.ild_typed.proofs.WalkTotal.{parts_fit, past_fits}
 use Rattle.ild_walk.specs.declared.fault.ViewErr.{ViewErr}
 use Rattle.ild_walk.specs.declared.fault.ViewErr.TheVariants as E
 use Rattle.ild_walk.specs.declared.opening.Opening.{Opening}
 use Rattle.ild_walk.specs.declared.opening.Stop.{Stop}
 use Rattle.ild_walk.specs.declared.opening.Stop.TheVariants as S
-use Rattle.ild_walk.specs.declared.part.Part.{Part}
-use Rattle.ild_walk.specs.declared.parts.Parts.{Parts}
+use Rattle.ild_parts.specs.declared.part.Part.{Part}
+use Rattle.ild_parts.specs.declared.parts.Parts.{Parts}
 use Rattle.ild_walk.specs.Checks.{Checks, Faults, IsPartRefusal, IsRefusal, PartFaults, is_depth}
 use Rattle.ild_walk.specs.Opens.{HasOpened, IsStopped, Opens}
-use Rattle.ild_walk.specs.Part.{FitsAnywhere, IsSpotted}
-use Rattle.ild_walk.specs.Parts.{HasLeft, SplitsOff}
+use Rattle.ild_parts.specs.Part.{FitsAnywhere, IsSpotted}
+use Rattle.ild_parts.specs.Parts.{HasLeft, SplitsOff}
+use Rattle.ild_parts.proofs.Lists.{all_join}
+use Rattle.ild_parts.proofs.Showing.{form_of_slot}
 
 -- ---- the refusal of a piece by itself
 
@@ -149,10 +151,6 @@ pub walk_begins : (rows : List Row) (room : ℕ) (s : Slot) (t : Data) (d : Type
 walk_begins rows room s t d x is h =
     record { type = d; form = is; none = h.none; done = []; rest = h.spots; are = h.parts; room_is = h.room_is; shown = tt; has = h.left }
 
-pub all_join : {A : Type 0} (P : A → Type 0) (xs ys : List A) → AllByRecursion P xs → AllByRecursion P ys → AllByRecursion P (xs ++ ys)
-all_join P [] ys a b = b
-all_join P (x ∷ xs) ys a b = (a.0, all_join P xs ys a.1 b)
-
 module _ (rows : List Row) (room : ℕ) (s : Slot) (t : Data) (left : ℕ) (parts : Parts) (w : Walking rows room s t left parts) where
   -- the parts that are taken show
   goes_on : (behind : Parts) (taken others : List Spot) → w.rest ≡ taken ++ others → HasLeft rows behind others → AllByRecursion (λ p. Shows (Fits rows left) rows p.slot p.tree) taken
@@ -236,16 +234,7 @@ module _ (rows : List Row) (room : ℕ) (s : Slot) (t : Data) (left : ℕ) (part
 
 -- ---- a piece without parts
 
-pub plain_checks : (rows : List Row) → IsLegible rows → (room : ℕ) (s : Slot) (t : Data) → IsTree t → (d : TypeDef) → form_of rows s ≡ Some d → (why_at room d t ≡ None) × AreParts d t [] → Shows (Fits rows room) rows s t
-plain_checks rows legible room s t tree d is plain = plain_fits rows s t tree legible.clear legible.delims d is room plain.0 plain.1
-
-pub null_checks : (rows : List Row) (room : ℕ) (s : Slot) (t : Data) → IsTree t → is_null_there s t ≡ true → Shows (Fits rows room) rows s t
-null_checks rows room s t tree e = null_fits rows s t tree room e
-
 -- ---- what is asked of a piece by itself
-
-pub form_of_slot : (rows : List Row) → IsSchema rows → (s : Slot) → s.ty.0 < length rows → (d : TypeDef) × (form_of rows s ≡ Some d)
-form_of_slot rows schema s low = form_there rows schema.table.within s low
 
 -- the piece is refused
 pub refused_by_itself : (rows : List Row) → IsSchema rows → (room : ℕ) (s : Slot) → s.ty.0 < length rows → (t : Data) (stop : Stop) → is_null_there s t ≡ false
@@ -257,7 +246,3 @@ refused_by_itself rows schema room s low t stop there opens =
 pub opened_begins : (rows : List Row) → IsSchema rows → (room : ℕ) (s : Slot) → s.ty.0 < length rows → (t : Data) (x : Opening) → ((d : TypeDef) → meant rows s.ty.0 ≡ Some d → HasOpened rows room d t x)
     → Walking rows room s t x.room x.parts
 opened_begins rows schema room s low t x opens = let f = form_of_slot rows schema s low in walk_begins rows room s t f.0 x f.1 (opens f.0 f.1)
-
-pub plain_shows : (rows : List Row) → IsSchema rows → IsLegible rows → (room : ℕ) (s : Slot) → s.ty.0 < length rows → (t : Data) → IsTree t
-    → ((d : TypeDef) → meant rows s.ty.0 ≡ Some d → (why_at room d t ≡ None) × AreParts d t []) → Shows (Fits rows room) rows s t
-plain_shows rows schema legible room s low t tree opens = let f = form_of_slot rows schema s low in plain_checks rows legible room s t tree f.0 f.1 (opens f.0 f.1)

@@ -12,8 +12,8 @@ use Rattle.ild_typed.specs.Spots.{Spot}
 use Rattle.ild_walk.specs.declared.opening.Opening.{Opening}
 use Rattle.ild_walk.specs.declared.opening.Stop.{Stop}
 use Rattle.ild_walk.specs.declared.opening.Stop.TheVariants as S
-use Rattle.ild_walk.specs.Parts.{HasLeft}
-use Rattle.ild_walk.specs.Ready.{AreReady}
+use Rattle.ild_parts.specs.Parts.{HasLeft}
+use Rattle.ild_parts.specs.Ready.{AreReady}
 
 pub record HasOpened (rows : List Row) (room : ℕ) (d : TypeDef) (t : Data) (x : Opening) : Type 0 where
   pub none : why_at room d t ≡ None

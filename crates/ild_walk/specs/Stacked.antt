@@ -8,9 +8,9 @@ use Rattle.ild_schema.specs.declared.row.Row.{Row}
 use Rattle.ild_typed.specs.Fits.{Fits}
 use Rattle.ild_typed.specs.Layers.{Shows}
 use Rattle.ild_typed.specs.Spots.{Spot}
-use Rattle.ild_walk.specs.declared.part.Part.{Part}
-use Rattle.ild_walk.specs.Part.{FitsAnywhere, IsSpotted}
-use Rattle.ild_walk.specs.Ready.{IsReady}
+use Rattle.ild_parts.specs.declared.part.Part.{Part}
+use Rattle.ild_parts.specs.Part.{FitsAnywhere, IsSpotted}
+use Rattle.ild_parts.specs.Ready.{IsReady}
 
 -- a value of the slot stands there, however deep it nests
 abbrev pub IsShown : List Row → Spot → Type 0

@@ -12,7 +12,7 @@ use Rattle.ild_typed.specs.Refused.{Refusal, Refused}
 use Rattle.ild_walk.specs.Checks.{is_depth}
 use Rattle.ild_walk.specs.declared.fault.ViewErr.{ViewErr}
 use Rattle.ild_walk.specs.declared.fault.ViewErr.TheVariants as E
-use Rattle.ild_walk.specs.declared.part.Part.{Part}
+use Rattle.ild_parts.specs.declared.part.Part.{Part}
 
 abbrev pub TellsPlaceIn : List Row → ℕ → Slot → Piece → Data → ViewErr → Type 0
 TellsPlaceIn rows room s y t (E.Shape ty why at) = (r : Refusal) → Refused rows room s t r → PlacedAt y r.at at

@@ -1,12 +1,7 @@
 //! Maps as HAMTs.
 ghost use Rattle.std.specs.Prelude.{◌≡◌, ℕ, List, false};
 ghost use Rattle.ild_data.specs.Data.{Data};
-ghost use Rattle.ild_data.specs.Trie.{TrieSlot};
 ghost use Rattle.ild_cbor.specs.Nodes.{Stands};
-ghost use Rattle.ild_node.specs.Views.{HasSlots};
-ghost use Rattle.ild_typed.specs.Composed.{usual};
-ghost use Rattle.ild_typed.specs.RootSpots.{root_spots};
-ghost use Rattle.ild_walk.specs.Root.{HasRoot};
 ghost use Rattle.ild_piece.specs.Pieces.{StandsFor};
 ghost use Rattle.ild_schema.specs.Slots.{plainly};
 ghost use Rattle.ild_schema.specs.declared.def.MapForm.TheVariants as MF;
@@ -15,31 +10,13 @@ ghost use Rattle.ild_schema.specs.declared.row.Row.{Row};
 ghost use Rattle.ild_union.specs.Forms.{passes_over};
 ghost use Rattle.ild_walk.specs.Inside.{OpensMany};
 ghost use Rattle.ild_walk.specs.Opens.{IsOpening, Opens};
-ghost use Rattle.ild_walk.specs.Ready.{IsIn};
+ghost use Rattle.ild_parts.specs.Ready.{IsIn};
 
 use crate::opening::{Opening, Stop};
-use crate::parts::Parts;
-use crate::root::RootEntries;
 use ild_cbor::{Kind, Node, Piece, Why};
-use ild_node::{NodeView, root_of};
+use ild_node::root_of;
+use ild_parts::{Parts, RootEntries};
 use ild_schema::{Slot, TypeNo};
-
-// The entries of the root's node.
-fn entries_of<'b>(key: TypeNo, value: Slot, view: &NodeView<'b>) -> RootEntries<'b>
-    ensures has { (slots : List TrieSlot) → HasSlots usual view.now slots → HasRoot result (root_spots key value 0 slots) }
-    ensures key { result.key ≡ key }
-    ensures value { result.value ≡ value }
-{
-    RootEntries {
-        key,
-        value,
-        slots: view.slots(),
-        element: 0,
-        bucket: None,
-        entry: 0,
-        held: None,
-    }
-}
 
 /// The entries in the block of a HAMT's root.
 pub(crate) fn open_hamt<'b>(
@@ -81,7 +58,7 @@ fn open_root<'b>(
     };
     match root_of(node) {
         Ok(view) => Ok(Some(Opening {
-            parts: Parts::Root(entries_of(key, value, &view)),
+            parts: Parts::Root(RootEntries::of(key, value, &view)),
             room,
         })),
         Err(why) => Err(Stop::Why(why)),

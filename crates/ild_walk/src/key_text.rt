@@ -6,11 +6,10 @@ ghost use Rattle.ild_typed.specs.Fits.{Fits, IsTextOf};
 ghost use Rattle.ild_typed.specs.Layers.{Shows};
 
 use crate::fault::ViewErr;
-use crate::leaf::is_leaf;
-use crate::part::value_part;
 use crate::stack::all_open;
 use crate::walk::check_piece;
 use ild_cbor::Piece;
+use ild_parts::{is_leaf, value_part};
 use ild_places::Way;
 use ild_schema::{Accepted, Slot, TypeNo};
 use std::alloc::{AllocError, Global};

@@ -1,17 +1,16 @@
 //! Lists.
-ghost use Rattle.std.specs.Prelude.{◌≡◌, ℕ, List};
+ghost use Rattle.std.specs.Prelude.{ℕ, List};
 ghost use Rattle.ild_data.specs.Data.{Data};
 ghost use Rattle.ild_piece.specs.Pieces.{StandsFor};
 ghost use Rattle.ild_schema.specs.declared.def.TypeDef.TheVariants as D;
 ghost use Rattle.ild_schema.specs.declared.row.Row.{Row};
 ghost use Rattle.ild_walk.specs.Inside.{OpensMany};
 ghost use Rattle.ild_walk.specs.Opens.{IsOpening, Opens};
-ghost use Rattle.ild_walk.specs.Ready.{IsIn};
+ghost use Rattle.ild_parts.specs.Ready.{IsIn};
 
-use crate::elements::Elements;
 use crate::opening::{Opening, Stop};
-use crate::parts::Parts;
 use ild_cbor::{Piece, Why};
+use ild_parts::{Elements, Parts};
 use ild_piece::items;
 use ild_schema::Slot;
 
@@ -31,13 +30,8 @@ pub(crate) fn open_list<'b>(
     let Some(room) = room.checked_sub(1) else {
         return Err(Stop::Why(Why::Depth));
     };
-    let elements = Elements {
-        slot: elem,
-        items,
-        place: 0,
-    };
     Ok(Some(Opening {
-        parts: Parts::List(elements),
+        parts: Parts::List(Elements::of(elem, items)),
         room,
     }))
 }

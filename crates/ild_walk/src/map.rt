@@ -1,5 +1,5 @@
 //! Maps as maps.
-ghost use Rattle.std.specs.Prelude.{◌≡◌, ℕ, List};
+ghost use Rattle.std.specs.Prelude.{ℕ};
 ghost use Rattle.ild_data.specs.Data.{Data};
 ghost use Rattle.ild_piece.specs.Pieces.{IsNumbered, StandsFor};
 ghost use Rattle.ild_schema.specs.Slots.{plainly};
@@ -8,12 +8,11 @@ ghost use Rattle.ild_schema.specs.declared.def.TypeDef.TheVariants as D;
 ghost use Rattle.ild_typed.specs.WhyLaws.{KeysRise};
 ghost use Rattle.ild_walk.specs.Inside.{OpensMany};
 ghost use Rattle.ild_walk.specs.Opens.{IsOpening, Opens};
-ghost use Rattle.ild_walk.specs.Ready.{IsIn};
+ghost use Rattle.ild_parts.specs.Ready.{IsIn};
 
-use crate::entries::Entries;
 use crate::opening::{Opening, Stop};
-use crate::parts::Parts;
 use ild_cbor::{Piece, Why};
+use ild_parts::{Entries, Parts};
 use ild_piece::entries;
 use ild_schema::{Accepted, Slot, TypeNo};
 
@@ -36,14 +35,8 @@ pub(crate) fn open_map<'b>(
     let Some(room) = room.checked_sub(1) else {
         return Err(Stop::Why(Why::Depth));
     };
-    let parts = Entries {
-        key,
-        value,
-        left,
-        held: None,
-    };
     Ok(Some(Opening {
-        parts: Parts::Map(parts),
+        parts: Parts::Map(Entries::of(key, value, left)),
         room,
     }))
 }

@@ -1,6 +1,6 @@
 //! What is found of a piece by itself.
-use crate::parts::Parts;
 use ild_cbor::Why;
+use ild_parts::Parts;
 
 /// The parts of a piece, and how deep they may nest.
 #[derive(Clone, Copy)]

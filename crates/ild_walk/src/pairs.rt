@@ -1,5 +1,5 @@
 //! Maps as the pairs of a text, and as pairs in a list.
-ghost use Rattle.std.specs.Prelude.{◌≡◌, ◌<◌, ℕ, List, length};
+ghost use Rattle.std.specs.Prelude.{◌<◌, ℕ, List, length};
 ghost use Rattle.ild_data.specs.Data.{Data};
 ghost use Rattle.ild_piece.specs.Pieces.{StandsFor};
 ghost use Rattle.ild_schema.specs.Slots.{plainly};
@@ -8,15 +8,12 @@ ghost use Rattle.ild_schema.specs.declared.def.TypeDef.TheVariants as D;
 ghost use Rattle.ild_schema.specs.declared.row.Row.{Row};
 ghost use Rattle.ild_walk.specs.Inside.{OpensMany};
 ghost use Rattle.ild_walk.specs.Opens.{IsOpening, Opens};
-ghost use Rattle.ild_walk.specs.Ready.{IsIn};
+ghost use Rattle.ild_parts.specs.Ready.{IsIn};
 
-use crate::judge::pairs_cause;
-use crate::keys::repeats_text;
 use crate::opening::{Opening, Stop};
-use crate::pair_entries::PairEntries;
-use crate::parts::Parts;
-use crate::text_entries::TextEntries;
 use ild_cbor::{Piece, Why};
+use ild_pairs::{pairs_cause, repeats_text};
+use ild_parts::{PairEntries, Parts, TextEntries};
 use ild_piece::{items, text};
 use ild_schema::{Slot, TypeNo};
 use ild_text::pairs;
@@ -55,14 +52,8 @@ pub(crate) fn open_stringpairs<'b>(
     let Some(room) = room.checked_sub(1) else {
         return Err(Stop::Why(Why::Depth));
     };
-    let entries = TextEntries {
-        key,
-        value,
-        split,
-        held: None,
-    };
     Ok(Some(Opening {
-        parts: Parts::Texts(entries),
+        parts: Parts::Texts(TextEntries::of(key, value, split)),
         room,
     }))
 }
@@ -92,15 +83,8 @@ pub(crate) fn open_listpairs<'b>(
     let Some(room) = room.checked_sub(2) else {
         return Err(Stop::Why(Why::Depth));
     };
-    let entries = PairEntries {
-        key,
-        value,
-        items,
-        place: 0,
-        held: None,
-    };
     Ok(Some(Opening {
-        parts: Parts::Pairs(entries),
+        parts: Parts::Pairs(PairEntries::of(key, value, items)),
         room,
     }))
 }

@@ -8,12 +8,12 @@ ghost use Rattle.ild_typed.specs.Spots.{Spot};
 ghost use Rattle.ild_walk.specs.Told.{IsPlacedBy, TellsPlaceIn};
 ghost use Rattle.ild_walk.specs.Checks.{Faults, PartFaults, is_depth};
 ghost use Rattle.ild_walk.specs.Opens.{IsStopped};
-ghost use Rattle.ild_walk.specs.Part.{IsSpotted};
+ghost use Rattle.ild_parts.specs.Part.{IsSpotted};
 
 use crate::fault::ViewErr;
 use crate::opening::Stop;
-use crate::part::Part;
 use ild_cbor::Why;
+use ild_parts::Part;
 use ild_schema::Slot;
 
 fn is_depth(why: Why) -> bool

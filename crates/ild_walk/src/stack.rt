@@ -4,15 +4,14 @@ ghost use Rattle.std.specs.List.{AllByRecursion};
 ghost use Rattle.ild_piece.specs.Pieces.{IsNumbered};
 ghost use Rattle.ild_schema.specs.declared.row.Row.{Row};
 ghost use Rattle.ild_typed.specs.Spots.{Spot};
-ghost use Rattle.ild_walk.specs.Part.{IsSpotted};
-ghost use Rattle.ild_walk.specs.Parts.{HasLeft};
-ghost use Rattle.ild_walk.specs.Ready.{AreReady, IsIn, IsInlined, IsReady};
+ghost use Rattle.ild_parts.specs.Part.{IsSpotted};
+ghost use Rattle.ild_parts.specs.Parts.{HasLeft};
+ghost use Rattle.ild_parts.specs.Ready.{AreReady, IsIn, IsInlined, IsReady};
 ghost use Rattle.ild_walk.specs.Stacked.{Adds, AreHeld, IsPlain, IsShown, Spreads};
 
 use crate::opening::Stop;
-use crate::part::Part;
-use crate::parts::Parts;
-use crate::walk::{is_null_there, open_piece};
+use crate::walk::open_piece;
+use ild_parts::{Part, Parts, is_null_there};
 use ild_schema::Accepted;
 use std::alloc::{AllocError, Global};
 

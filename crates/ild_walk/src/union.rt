@@ -12,9 +12,8 @@ ghost use Rattle.ild_walk.specs.Inside.{IsOpenInside};
 ghost use Rattle.ild_walk.specs.Opens.{IsOpening, Opens};
 
 use crate::opening::{Opening, Stop};
-use crate::part::value_part;
-use crate::parts::Parts;
 use ild_cbor::{Piece, Why};
+use ild_parts::{Parts, value_part};
 use ild_places::Way;
 use ild_schema::{Accepted, Mark, Member, Slot, TypeNo, UnionDef, UnionForm};
 use ild_union::layer;

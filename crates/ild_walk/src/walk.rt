@@ -6,15 +6,13 @@ ghost use Rattle.ild_piece.specs.Pieces.{IsNumbered, StandsFor};
 ghost use Rattle.ild_schema.specs.Kinds.{meant};
 ghost use Rattle.ild_schema.specs.declared.def.TypeDef.{TypeDef as Def};
 ghost use Rattle.ild_schema.specs.declared.row.Row.{Row};
-ghost use Rattle.ild_typed.specs.Pieces.{is_null_there};
 ghost use Rattle.ild_walk.specs.Checks.{Checks};
 ghost use Rattle.ild_walk.specs.Inside.{IsOpenInside};
 ghost use Rattle.ild_walk.specs.Opens.{IsOpening, Opens};
-ghost use Rattle.ild_walk.specs.Ready.{IsIn, IsInlined};
+ghost use Rattle.ild_parts.specs.Ready.{IsIn, IsInlined};
 ghost use Rattle.ild_walk.specs.Told.{TellsPlaceIn};
 
 use crate::any::open_any;
-use crate::behind::behind_leaves;
 use crate::fault::ViewErr;
 use crate::hamt::open_hamt;
 use crate::list::open_list;
@@ -26,16 +24,10 @@ use crate::scalar::{open_enum, open_scalar, open_unit};
 use crate::structs::open_struct;
 use crate::union::open_union;
 use ild_cbor::{Kind, Piece};
-use ild_piece::is_null;
+use ild_parts::{behind_leaves, is_null_there};
 use ild_places::place_of;
 use ild_schema::{Accepted, MapForm, Slot, TypeDef};
 use std::alloc::Global;
-
-pub(crate) fn is_null_there(slot: Slot, piece: &Piece<'_>) -> bool
-    ensures { (rows : List Row) (t : Data) → StandsFor rows piece.now t → result ≡ is_null_there slot t }
-{
-    slot.nullable && is_null(piece)
-}
 
 // What is found of a piece by itself.
 pub(crate) fn open_piece<'b>(

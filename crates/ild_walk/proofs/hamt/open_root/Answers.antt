@@ -9,7 +9,7 @@ pub returns-in-Ok-clause-opens : goal.returns-in-Ok-clause-opens
 returns-in-Ok-clause-opens c = λ rows key_at at t stands.
     let map : kind_of t ≡ K.Map = sym (c.kind.ensures t stands) ∙ c.in-Map.is in
     let x = c.in-Ok.ensures.found t stands in
-    hamt_opens rows c.args.room c.in-Some.room c.args.key key_at c.args.value at t map (omega (arith, c.in-Some.ensures)) x.0 x.1 c.entries_of.result (c.entries_of.ensures.has x.0 x.2)
+    hamt_opens rows c.args.room c.in-Some.room c.args.key key_at c.args.value at t map (omega (arith, c.in-Some.ensures)) x.0 x.1 c.of.result (c.of.ensures.has x.0 x.2)
 
 pub returns-in-Err-clause-opens : goal.returns-in-Err-clause-opens
 returns-in-Err-clause-opens c = λ rows key_at at t stands.

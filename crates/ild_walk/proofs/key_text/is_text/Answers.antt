@@ -4,7 +4,7 @@ use Rattle.ild_schema.specs.Slots.{plainly}
 use Rattle.ild_schema.specs.declared.row.Row.{Row}
 use Rattle.ild_typed.specs.Spots.{Spot, value_spot}
 use Rattle.ild_typed.proofs.OneValue.{plain_safe}
-use Rattle.ild_walk.specs.declared.part.Part.{Part}
+use Rattle.ild_parts.specs.declared.part.Part.{Part}
 use Rattle.ild_walk.proofs.Stacking.{one_held, text_held}
 use Rattle.ild_walk.proofs.key_text.is_text.Goals as goal
 

@@ -5,3 +5,4 @@ use Rattle.ild_walk.proofs.list.open_list.Goals as goal
 pub returns-clause-opens : goal.returns-clause-opens
 returns-clause-opens c = λ rows at t stands.
     list_opens rows c.args.room c.in-Some-checked_sub.room c.args.elem at t c.in-Some.items (c.in-Some.ensures rows t stands) (omega (arith, c.in-Some-checked_sub.ensures))
+    c.of.result c.of.ensures.has

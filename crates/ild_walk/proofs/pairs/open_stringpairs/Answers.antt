@@ -1,4 +1,4 @@
-use Rattle.std.proofs.Common.{sym, ◌∙◌, refl, arith}
+use Rattle.std.proofs.Common.{sym, ◌∙◌, arith}
 use Rattle.ild_text.specs.Parts.{pairs_in}
 use Rattle.ild_walk.proofs.Finding.{under_one}
 use Rattle.ild_walk.proofs.Texting.{text_deep, text_opens, text_repeats, text_unsplit, split_never}
@@ -22,5 +22,5 @@ returns-in_default-checked_sub-clause-opens c = λ rows key_at at t stands.
 pub returns-clause-opens : goal.returns-clause-opens
 returns-clause-opens c = λ rows key_at at t stands.
     text_opens c.args.room c.args.key key_at c.args.value at c.args.inner.now c.args.entry.now c.in-Some.whole.now c.requires.inner_some c.requires.entry_some t (c.in-Some.ensures rows t stands)
-    (pairs_in c.in-Ok.split) c.in-Ok.ensures.pairs (sym c.if-twice.false ∙ c.in-Ok-repeats_text.ensures) rows c.in-Some-checked_sub.room _ (omega (arith, c.in-Some-checked_sub.ensures))
-    (record { inner = c.args.inner.now; entry = c.args.entry.now; at = 0; is = refl })
+    (pairs_in c.in-Ok.split) c.in-Ok.ensures.pairs (sym c.if-twice.false ∙ c.in-Ok-repeats_text.ensures) rows c.in-Some-checked_sub.room c.of.result (omega (arith, c.in-Some-checked_sub.ensures))
+    (c.of.ensures.has c.args.inner.now c.args.entry.now)

@@ -1,7 +1,7 @@
 use Rattle.std.proofs.Common.{◌≡◌, sym, ◌∙◌, rules}
 use denote.Enum.Bare.{same_true}
 use Rattle.ild_cbor.specs.contracts.kind.Kind.{the_type}
-use Rattle.ild_walk.proofs.Finding.{scalar_plain}
+use Rattle.ild_parts.proofs.Scalars.{scalar_plain}
 use Rattle.ild_walk.proofs.scalar.open_scalar.Goals as goal
 
 pub returns-then-eq-clause-opens : goal.returns-then-eq-clause-opens

@@ -1,7 +1,7 @@
 use Rattle.std.proofs.Common.{List}
 use Rattle.std.specs.List.{AllByRecursion}
 use Rattle.ild_typed.specs.Spots.{Spot}
-use Rattle.ild_walk.specs.Ready.{IsReady}
+use Rattle.ild_parts.specs.Ready.{IsReady}
 use Rattle.ild_walk.specs.Stacked.{AreHeld, IsPlain}
 use Rattle.ild_walk.proofs.Stacking.{Going}
 use Rattle.ild_walk.proofs.stack.all_open.Given as goal

@@ -1,6 +1,6 @@
 use Rattle.std.proofs.Common.{subst}
-use Rattle.ild_walk.specs.Parts.{SplitsOff}
-use Rattle.ild_walk.specs.Ready.{AreReadyBoth}
+use Rattle.ild_parts.specs.Parts.{SplitsOff}
+use Rattle.ild_parts.specs.Ready.{AreReadyBoth}
 use Rattle.ild_walk.proofs.Stacking.{adding_nothing, adding_part, ready_more}
 use Rattle.ild_walk.proofs.stack.push_parts.Goals as goal
 

@@ -2,8 +2,8 @@ use Rattle.std.proofs.Common.{List}
 use Rattle.std.specs.List.{AllByRecursion}
 use Rattle.ild_schema.specs.declared.row.Row.{Row}
 use Rattle.ild_typed.specs.Spots.{Spot}
-use Rattle.ild_walk.specs.Parts.{HasLeft, parts_left}
-use Rattle.ild_walk.specs.Ready.{AreReady, IsReady}
+use Rattle.ild_parts.specs.Parts.{HasLeft, parts_left}
+use Rattle.ild_parts.specs.Ready.{AreReady, IsReady}
 use Rattle.ild_walk.proofs.Stacking.{Adding}
 use Rattle.ild_walk.proofs.stack.push_parts.Given as goal
 

@@ -1,11 +1,13 @@
 use Rattle.std.proofs.Common.{List, IfSome, Some, Ok, sym, ◌∙◌, subst, arith}
 use Rattle.ild_schema.specs.declared.row.Row.{Row}
 use Rattle.ild_typed.specs.Schema.{IsSchema}
-use Rattle.ild_walk.specs.Inside.{IsOpenInside, IsPieceOf}
+use Rattle.ild_walk.specs.Inside.{IsOpenInside}
+use Rattle.ild_parts.specs.Inside.{IsPieceOf}
 use Rattle.ild_walk.specs.Opens.{IsOpening, Opens}
-use Rattle.ild_walk.specs.Parts.{LeadsOn, SplitsOff}
-use Rattle.ild_walk.specs.Ready.{IsPartReady}
-use Rattle.ild_walk.proofs.Walking.{null_checks, opened_begins, past_nothing, past_part, plain_shows, refused_by_itself, at_refused, walk_ends}
+use Rattle.ild_parts.specs.Parts.{LeadsOn, SplitsOff}
+use Rattle.ild_parts.specs.Ready.{IsPartReady}
+use Rattle.ild_parts.proofs.Showing.{null_checks, plain_shows}
+use Rattle.ild_walk.proofs.Walking.{opened_begins, past_nothing, past_part, refused_by_itself, at_refused, walk_ends}
 use Rattle.ild_walk.proofs.Telling.{refused_place}
 use Rattle.ild_walk.proofs.walk.+check_piece.Goals as goal
 

@@ -2,9 +2,9 @@ use Rattle.std.proofs.Common.{◌<◌}
 use Rattle.ild_data.specs.Data.{Data}
 use Rattle.ild_data.specs.Tree.{IsTree}
 use Rattle.ild_piece.specs.Pieces.{StandsFor}
-use Rattle.ild_walk.specs.Inside.{AreInside}
-use Rattle.ild_walk.specs.Parts.{parts_left}
-use Rattle.ild_walk.specs.Ready.{AreReady}
+use Rattle.ild_parts.specs.Inside.{AreInside}
+use Rattle.ild_parts.specs.Parts.{parts_left}
+use Rattle.ild_parts.specs.Ready.{AreReady}
 use Rattle.ild_walk.proofs.Walking.{Walking}
 use Rattle.ild_walk.proofs.walk.+check_piece.Given as goal
 

@@ -1,0 +1,4 @@
+pub mod Meeting
+pub mod Keyed
+pub mod Judging
+pub mod Digesting

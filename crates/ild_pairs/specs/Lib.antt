@@ -1,0 +1,4 @@
+pub mod Shape
+pub mod Judged
+pub mod Keys
+pub mod Apart

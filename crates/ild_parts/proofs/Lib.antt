@@ -1,0 +1,14 @@
+pub mod Asking
+pub mod Lists
+pub mod Leading
+pub mod Scalars
+pub mod Showing
+pub mod Whole
+pub mod Stepping
+pub mod Rooting
+pub mod PairSteps
+pub mod TextSteps
+pub mod FieldSteps
+pub mod Passing
+pub mod Sweeping
+pub mod ToldFields

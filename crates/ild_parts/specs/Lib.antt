@@ -1,0 +1,12 @@
+pub mod Part
+pub mod Ways
+pub mod Elements
+pub mod Entries
+pub mod Fields
+pub mod Root
+pub mod PairEntries
+pub mod Texts
+pub mod Parts
+pub mod Ready
+pub mod Leaf
+pub mod Inside
