@@ -1,35 +1,67 @@
 -- Entries in one buffer, and the pieces of it.
-use Rattle.std.proofs.Common.{◌≡◌, ℕ, zero, suc, ◌+◌, ◌-◌, ◌≤◌, ◌<◌, List, [], ◌∷◌, ◌++◌, length, take, drop, get_or, refl, sym, ap, ◌∙◌, subst, arith, flat_map, append_assoc, append-nil}
-use Rattle.std.proofs.lemmas.Grind.{flat_map-append}
-use Rattle.std.proofs.lemmas.List.{take_more, map-append, take_at, drop_at, drop_all, at_drop_more, length-append}
+use Rattle.std.proofs.Common.{◌≡◌, ℕ, zero, suc, ◌+◌, ◌-◌, ◌≤◌, ◌<◌, List, [], ◌∷◌, ◌++◌, length, take, drop, get_or, refl, sym, ap, ◌∙◌, subst, arith}
+use Rattle.std.proofs.lemmas.List.{take_more, take_all, map-append, drop_at, take-append-le, drop-append-le, length-append, length-drop}
 use Rattle.ild_data.specs.Data.{Data}
 use Rattle.ild_node.specs.Hashed.{IsHashed, AreHashed}
 use Rattle.ild_node.specs.declared.hashed.HashedEntry.{HashedEntry}
 use Rattle.ild_node.specs.Keyed.{keyed_seen, keyed_rows}
 use Rattle.ild_node.specs.declared.keyed.Keyed.{Keyed}
-use Rattle.ild_bulk.specs.Keyed.{entry_spelled, entries_spelled, IsMarked, AreMarked, HasEntries}
+use Rattle.ild_bulk.specs.Keyed.{entry_spelled, IsMarked, AreMarked, HasEntries}
 use Rattle.ild_bulk.specs.declared.entries.Mark.{Mark}
 use Rattle.ild_bulk.specs.declared.entries.Entries.{Entries}
 
-spelled-push : (es : List (List ℕ × Data)) (e : List ℕ × Data) → entries_spelled (es ++ e ∷ []) ≡ entries_spelled es ++ entry_spelled e
-spelled-push es e = flat_map-append entry_spelled es (e ∷ []) ∙ ap (λ s. entries_spelled es ++ s) (append-nil (entry_spelled e))
+-- ---- marks
 
-marked-push : (h : List ℕ → List ℕ) (es : List (List ℕ × Data)) (ms : List Mark) (e : List ℕ × Data) (m : Mark) → AreMarked h es ms → IsMarked h e m → AreMarked h (es ++ e ∷ []) (ms ++ m ∷ [])
-marked-push h [] [] e m are is = (is, tt)
-marked-push h [] (n ∷ ms) e m are is = absurd are
-marked-push h (f ∷ es) [] e m are is = absurd are
-marked-push h (f ∷ es) (n ∷ ms) e m are is = (are.0, marked-push h es ms e m are.1 is)
+-- the last entry of a buffer
+pub marked-last : (h : List ℕ → List ℕ) (e : List ℕ × Data) (front b : List ℕ) (m : Mark) → b ≡ front ++ entry_spelled e → m.from ≡ length front → m.hash ≡ h e.0 → m.len ≡ length b - m.from → IsMarked h b e m
+marked-last h e front b m is from hash len =
+    let long = ap length is ∙ length-append front (entry_spelled e) in
+    let all : length (entry_spelled e) ≡ m.len = omega (arith, long, from, len) in
+    record {
+      hash = hash;
+      within = omega (arith, long, from, all);
+      spelled = ap (take m.len) (ap (drop m.from) is ∙ drop_at front (entry_spelled e) m.from (sym from)) ∙ take_all m.len (entry_spelled e) (omega (arith, all));
+    }
 
-pub entries-none : (h : List ℕ → List ℕ) (w : Entries) → w.out ≡ [] → w.marks.items ≡ [] → HasEntries h [] w
-entries-none h w out marks = record { out = out; marks = subst (λ (ms : List Mark). AreMarked h [] ms) (sym marks) tt }
+marked_grown : (h : List ℕ → List ℕ) (e : List ℕ × Data) (b more : List ℕ) (m : Mark) → IsMarked h b e m → IsMarked h (b ++ more) e m
+marked_grown h e b more m is =
+    let within = is.within in
+    let long = length-append b more in
+    let rest = length-drop m.from b in
+    record {
+      hash = is.hash;
+      within = omega (arith, within, long);
+      spelled = ap (take m.len) (drop-append-le m.from b more (omega (arith, within))) ∙ take-append-le m.len (drop m.from b) more (omega (arith, within, rest)) ∙ is.spelled;
+    }
+
+-- they stand where bytes are appended
+pub marks-grown : (h : List ℕ → List ℕ) (b more : List ℕ) (es : List (List ℕ × Data)) (ms : List Mark) → AreMarked h b es ms → AreMarked h (b ++ more) es ms
+marks-grown h b more [] [] are = tt
+marks-grown h b more [] (m ∷ ms) are = absurd are
+marks-grown h b more (e ∷ es) [] are = absurd are
+marks-grown h b more (e ∷ es) (m ∷ ms) are = (marked_grown h e b more m are.0, marks-grown h b more es ms are.1)
+
+pub marked-push : (h : List ℕ → List ℕ) (b : List ℕ) (es : List (List ℕ × Data)) (ms : List Mark) (e : List ℕ × Data) (m : Mark) → AreMarked h b es ms → IsMarked h b e m → AreMarked h b (es ++ e ∷ []) (ms ++ m ∷ [])
+marked-push h b [] [] e m are is = (is, tt)
+marked-push h b [] (n ∷ ms) e m are is = absurd are
+marked-push h b (f ∷ es) [] e m are is = absurd are
+marked-push h b (f ∷ es) (n ∷ ms) e m are is = (are.0, marked-push h b es ms e m are.1 is)
+
+pub marked-many : (h : List ℕ → List ℕ) (b : List ℕ) (es : List (List ℕ × Data)) (ms : List Mark) → AreMarked h b es ms → length es ≡ length ms
+marked-many h b [] [] are = refl
+marked-many h b [] (m ∷ ms) are = absurd are
+marked-many h b (e ∷ es) [] are = absurd are
+marked-many h b (e ∷ es) (m ∷ ms) are = ap suc (marked-many h b es ms are.1)
+
+pub entries-none : (h : List ℕ → List ℕ) (w : Entries) → w.marks.items ≡ [] → HasEntries h [] w
+entries-none h w marks = record { marks = subst (λ (ms : List Mark). AreMarked h w.out [] ms) (sym marks) tt }
 
 -- one entry more
-pub entries-more : (h : List ℕ → List ℕ) (es : List (List ℕ × Data)) (was now : Entries) (e : List ℕ × Data) (m : Mark) → HasEntries h es was → now.out ≡ was.out ++ entry_spelled e → now.marks.items ≡ was.marks.items ++ m ∷ [] → m.hash ≡ h e.0
-    → m.len ≡ length now.out - length was.out → HasEntries h (es ++ e ∷ []) now
-entries-more h es was now e m has grows pushes hash len = record {
-  out = grows ∙ ap (λ s. s ++ entry_spelled e) has.out ∙ sym (spelled-push es e);
-  marks = subst (λ (ms : List Mark). AreMarked h (es ++ e ∷ []) ms) (sym pushes)
-      (marked-push h es was.marks.items e m has.marks (record { hash = hash; len = let long = ap length grows ∙ length-append was.out (entry_spelled e) in omega (arith, long, len) }));
+pub entries-more : (h : List ℕ → List ℕ) (es : List (List ℕ × Data)) (was now : Entries) (e : List ℕ × Data) (m : Mark) → HasEntries h es was → now.out ≡ was.out ++ entry_spelled e → now.marks.items ≡ was.marks.items ++ m ∷ []
+    → IsMarked h now.out e m → HasEntries h (es ++ e ∷ []) now
+entries-more h es was now e m has grows pushes is = record {
+  marks = subst (λ (ms : List Mark). AreMarked h now.out (es ++ e ∷ []) ms) (sym pushes)
+      (marked-push h now.out es was.marks.items e m (subst (λ b. AreMarked h b es was.marks.items) (sym grows) (marks-grown h was.out (entry_spelled e) es was.marks.items has.marks)) is);
 }
 
 -- the next of rows with their hashes
@@ -39,54 +71,32 @@ keyed-next h ks i k w lt is has =
 
 -- ---- the pieces
 
-pub record CutSoFar (h : List ℕ → List ℕ) (es : List (List ℕ × Data)) (marks : List Mark) (i : ℕ) (rest : List ℕ) (ks : List HashedEntry) : Type 0 where
-  pub front : List (List ℕ × Data)
-  pub back : List (List ℕ × Data)
-  pub all : es ≡ front ++ back
-  pub done : AreHashed h front ks
-  pub left : AreMarked h back (drop i marks)
-  pub bytes : rest ≡ entries_spelled back
-
-pub cut-none : (h : List ℕ → List ℕ) (es : List (List ℕ × Data)) (marks : List Mark) (bytes : List ℕ) (ks : List HashedEntry) → ks ≡ [] → AreMarked h es marks → bytes ≡ entries_spelled es → CutSoFar h es marks 0 bytes ks
-cut-none h es marks bytes ks none are is = record { front = []; back = es; all = refl; done = subst (λ (js : List HashedEntry). AreHashed h [] js) (sym none) tt; left = are; bytes = is }
-
 hashed-push : (h : List ℕ → List ℕ) (es : List (List ℕ × Data)) (ks : List HashedEntry) (e : List ℕ × Data) (k : HashedEntry) → AreHashed h es ks → IsHashed h e k → AreHashed h (es ++ e ∷ []) (ks ++ k ∷ [])
 hashed-push h [] [] e k are is = (is, tt)
 hashed-push h [] (j ∷ ks) e k are is = absurd are
 hashed-push h (f ∷ es) [] e k are is = absurd are
 hashed-push h (f ∷ es) (j ∷ ks) e k are is = (are.0, hashed-push h es ks e k are.1 is)
 
-drop_next : (marks : List Mark) (i : ℕ) (d : Mark) → i < length marks → drop i marks ≡ get_or marks i d ∷ drop (i + 1) marks
-drop_next marks i d lt = at_drop_more (λ ms. ms) marks i d lt
+pub pieces-none : (h : List ℕ → List ℕ) (ks : List HashedEntry) → ks ≡ [] → AreHashed h [] ks
+pieces-none h ks none = subst (λ (js : List HashedEntry). AreHashed h [] js) (sym none) tt
 
-cut_next : (h : List ℕ → List ℕ) (front back : List (List ℕ × Data)) (es : List (List ℕ × Data)) (marks : List Mark) (i : ℕ) (m : Mark) (rest more : List ℕ) (ks : List HashedEntry) (k : HashedEntry) → es ≡ front ++ back → AreHashed h front ks
-    → AreMarked h back (m ∷ drop (i + 1) marks) → rest ≡ entries_spelled back → k.hash ≡ m.hash → (m.len ≤ length rest → k.entry.now ≡ take m.len rest) → (m.len ≤ length rest → more ≡ drop m.len rest)
-    → CutSoFar h es marks (i + 1) more (ks ++ k ∷ [])
-cut_next h front [] es marks i m rest more ks k all done left bytes hash here behind = absurd left
-cut_next h front (e ∷ back) es marks i m rest more ks k all done left bytes hash here behind =
-    let len = left.0.len in
-    let within : m.len ≤ length rest = omega (arith, len, ap length bytes, length-append (entry_spelled e) (entries_spelled back)) in
-    record {
-      front = front ++ e ∷ [];
-      back = back;
-      all = all ∙ sym (append_assoc front (e ∷ []) back);
-      done = hashed-push h front ks e k done
-          (record { hash = hash ∙ left.0.hash; spelled = here within ∙ ap (take m.len) bytes ∙ take_at (entry_spelled e) (entries_spelled back) m.len (sym len) });
-      left = left.1;
-      bytes = behind within ∙ ap (drop m.len) bytes ∙ drop_at (entry_spelled e) (entries_spelled back) m.len (sym len);
-    }
+-- the entry of a mark
+marked_here : (h : List ℕ → List ℕ) (b : List ℕ) (es : List (List ℕ × Data)) (ms : List Mark) (i : ℕ) (d : Mark) → AreMarked h b es ms → i < length ms
+    → (e : List ℕ × Data) × IsMarked h b e (get_or ms i d) × (take (suc i) es ≡ take i es ++ e ∷ [])
+marked_here h b [] [] i d are lt = absurd (omega arith)
+marked_here h b [] (m ∷ ms) i d are lt = absurd are
+marked_here h b (e ∷ es) [] i d are lt = absurd are
+marked_here h b (e ∷ es) (m ∷ ms) zero d are lt = (e, are.0, refl)
+marked_here h b (e ∷ es) (m ∷ ms) (suc i) d are lt = let x = marked_here h b es ms i d are.1 (omega arith) in (x.0, x.1, ap (λ fs. e ∷ fs) x.2)
 
-pub cut-more : (h : List ℕ → List ℕ) (es : List (List ℕ × Data)) (marks : List Mark) (i : ℕ) (d : Mark) (rest more : List ℕ) (ks : List HashedEntry) (k : HashedEntry) → CutSoFar h es marks i rest ks → i < length marks
-    → k.hash ≡ (get_or marks i d).hash → ((get_or marks i d).len ≤ length rest → k.entry.now ≡ take (get_or marks i d).len rest) → ((get_or marks i d).len ≤ length rest → more ≡ drop (get_or marks i d).len rest)
-    → CutSoFar h es marks (i + 1) more (ks ++ k ∷ [])
-cut-more h es marks i d rest more ks k was lt hash here behind =
-    cut_next h was.front was.back es marks i (get_or marks i d) rest more ks k was.all was.done (subst (λ (ms : List Mark). AreMarked h was.back ms) (drop_next marks i d lt) was.left) was.bytes hash here behind
+pub pieces-more : (h : List ℕ → List ℕ) (b : List ℕ) (es : List (List ℕ × Data)) (ms : List Mark) (i : ℕ) (d : Mark) (ks : List HashedEntry) (k : HashedEntry) → AreMarked h b es ms → AreHashed h (take i es) ks → i < length ms
+    → k.hash ≡ (get_or ms i d).hash → ((get_or ms i d).from + (get_or ms i d).len ≤ length b → k.entry.now ≡ take (get_or ms i d).len (drop (get_or ms i d).from b)) → AreHashed h (take (i + 1) es) (ks ++ k ∷ [])
+pieces-more h b es ms i d ks k are was lt hash here =
+    let x = marked_here h b es ms i d are lt in
+    let next : i + 1 ≡ suc i = omega arith in
+    subst (λ (fs : List (List ℕ × Data)). AreHashed h fs (ks ++ k ∷ [])) (sym (ap (λ n. take n es) next ∙ x.2))
+    (hashed-push h (take i es) ks x.0 k was (record { hash = hash ∙ x.1.hash; spelled = here x.1.within ∙ x.1.spelled }))
 
-none_left : (h : List ℕ → List ℕ) (es : List (List ℕ × Data)) → AreMarked h es [] → es ≡ []
-none_left h [] are = refl
-none_left h (e ∷ es) are = absurd are
-
-pub cut-done : (h : List ℕ → List ℕ) (es : List (List ℕ × Data)) (marks : List Mark) (i : ℕ) (rest : List ℕ) (ks : List HashedEntry) → CutSoFar h es marks i rest ks → length marks ≤ i → AreHashed h es ks
-cut-done h es marks i rest ks was le =
-    let none = none_left h was.back (subst (λ (ms : List Mark). AreMarked h was.back ms) (drop_all i marks le) was.left) in
-    subst (λ (fs : List (List ℕ × Data)). AreHashed h fs ks) (sym (was.all ∙ ap (λ b. was.front ++ b) none ∙ append-nil was.front)) was.done
+-- all entries are taken
+pub all-taken : (h : List ℕ → List ℕ) (b : List ℕ) (es : List (List ℕ × Data)) (ms : List Mark) (i : ℕ) → AreMarked h b es ms → length ms ≤ i → take i es ≡ es
+all-taken h b es ms i are le = let many = marked-many h b es ms are in take_all i es (omega (arith, many, le))

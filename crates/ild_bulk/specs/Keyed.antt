@@ -1,9 +1,9 @@
 -- Rows with the hashes of their keys, and their spellings in one buffer.
-use Rattle.std.specs.Prelude.{◌≡◌, ◌<◌, ◌^◌, ℕ, ◌==◌, List, [], ◌∷◌, length, slice_index_or}
-use Rattle.std.specs.List.{AllByRecursion, filter, flat_map}
+use Rattle.std.specs.Prelude.{◌≡◌, ◌<◌, ◌≤◌, ◌+◌, ◌^◌, ℕ, ◌==◌, List, [], ◌∷◌, ◌++◌, drop, length, slice_index_or, take}
+use Rattle.std.specs.List.{AllByRecursion, filter}
 use Rattle.std.specs.Global.{Vec}
 use Rattle.ild_data.specs.Data.{Data}
-use Rattle.ild_data.specs.Spell.{spell}
+use Rattle.ild_data.specs.Spell.{head, spell, spell_bytes}
 use Rattle.ild_data.specs.Trie.{entry_data}
 use Rattle.ild_data.specs.TrieShape.{TrieShape, index}
 use Rattle.ild_node.specs.Hashed.{AreHashed}
@@ -22,25 +22,25 @@ AreKeyed h ks = AllByRecursion (λ k. k.hash ≡ h (keyed_seen k).0) ks
 abbrev pub entry_spelled : List ℕ × Data → List ℕ
 entry_spelled e = spell (entry_data e)
 
--- the spellings of entries, one behind the other
-abbrev pub entries_spelled : List (List ℕ × Data) → List ℕ
-entries_spelled es = flat_map entry_spelled es
+-- what stands before the value of an entry
+abbrev pub entry_front : List ℕ → List ℕ
+entry_front k = head 4 2 ++ spell_bytes k
 
--- the hash of an entry's key, and the length of its spelling
-pub record IsMarked (h : List ℕ → List ℕ) (e : List ℕ × Data) (m : Mark) : Type 0 where
+-- the hash of an entry's key, and where its spelling stands in these bytes
+pub record IsMarked (h : List ℕ → List ℕ) (b : List ℕ) (e : List ℕ × Data) (m : Mark) : Type 0 where
   pub hash : m.hash ≡ h e.0
-  pub len : m.len ≡ length (entry_spelled e)
+  pub within : m.from + m.len ≤ length b
+  pub spelled : take m.len (drop m.from b) ≡ entry_spelled e
 
-abbrev pub AreMarked : (List ℕ → List ℕ) → List (List ℕ × Data) → List Mark → Type 0
-AreMarked h [] [] = Unit {0}
-AreMarked h [] (m ∷ ms) = ⊥
-AreMarked h (e ∷ es) [] = ⊥
-AreMarked h (e ∷ es) (m ∷ ms) = IsMarked h e m × AreMarked h es ms
+abbrev pub AreMarked : (List ℕ → List ℕ) → List ℕ → List (List ℕ × Data) → List Mark → Type 0
+AreMarked h b [] [] = Unit {0}
+AreMarked h b [] (m ∷ ms) = ⊥
+AreMarked h b (e ∷ es) [] = ⊥
+AreMarked h b (e ∷ es) (m ∷ ms) = IsMarked h b e m × AreMarked h b es ms
 
 -- what is written of entries
 pub record HasEntries (h : List ℕ → List ℕ) (es : List (List ℕ × Data)) (w : Entries) : Type 0 where
-  pub out : w.out ≡ entries_spelled es
-  pub marks : AreMarked h es w.marks.items
+  pub marks : AreMarked h w.out es w.marks.items
 
 -- ---- their parts by index
 

@@ -1,10 +1,10 @@
 //! Entries in one buffer: each is spelled once, while its key is hashed, so that a bucket takes it in one piece.
-ghost use Rattle.std.specs.Prelude.{◌≡◌, ◌++◌, ◌∷◌, [], ℕ, List, IfOk, OnOk};
+ghost use Rattle.std.specs.Prelude.{◌≡◌, ◌++◌, ◌∷◌, ◌+◌, ◌≤◌, [], ℕ, List, IfOk, OnOk, drop, length, take};
 ghost use Rattle.ild_data.specs.Data.{Data};
 ghost use Rattle.ild_node.specs.Hashed.{AreHashed};
 ghost use Rattle.ild_node.specs.Keyed.{keyed_rows};
 ghost use Rattle.ild_node.specs.Rows.{row_seen, rows_seen};
-ghost use Rattle.ild_bulk.specs.Keyed.{AreKeyed, AreMarked, HasEntries, entries_spelled};
+ghost use Rattle.ild_bulk.specs.Keyed.{AreKeyed, AreMarked, HasEntries, IsMarked, entry_front, entry_spelled};
 
 use ild_data::KeyHash;
 use ild_emit::Emit;
@@ -14,18 +14,38 @@ use std::alloc::{AllocError, Global};
 /// For each of many entries so many bytes are taken at once.
 const USUAL_ENTRY: usize = 16;
 
-/// The hash of an entry's key, and how many bytes the entry takes.
+/// Where an entry stands in a buffer, and the hash of its key.
 #[derive(Clone, Copy)]
-pub(crate) struct Mark {
-    pub(crate) hash: [u8; 32],
-    pub(crate) len: usize,
+pub struct Mark {
+    pub hash: [u8; 32],
+    pub from: usize,
+    pub len: usize,
 }
 
-/// Entries that are spelled one behind the other, with a mark for each.
+/// Entries that are spelled in one buffer, with a mark for each.
 #[derive(Drop)]
 pub(crate) struct Entries {
     pub(crate) out: Emit,
     pub(crate) marks: Vec<Mark>,
+}
+
+/// Appends what stands before the value of an entry. An error may leave the front of it.
+pub fn begin_entry(out: &mut Emit, key: &str) -> Result<(), AllocError>
+    ensures { OnOk result (out.new ≡ out.old ++ entry_front key.now) }
+{
+    out.head(4, 2)?;
+    out.bytes(key.as_bytes())
+}
+
+/// The mark of the last entry of a buffer, which stands behind so many bytes.
+pub fn mark_of(out: &Emit, from: usize, hash: [u8; 32]) -> Mark
+    ensures { (h : List ℕ → List ℕ) (e : List ℕ × Data) (front : List ℕ) → out.now ≡ front ++ entry_spelled e → from ≡ length front → hash ≡ h e.0 → IsMarked h out.now e result }
+{
+    Mark {
+        hash,
+        from,
+        len: out.len().saturating_sub(from),
+    }
 }
 
 // No entry yet, with room for the marks of so many.
@@ -47,8 +67,7 @@ fn add(entries: &mut Entries, row: &Row, hash: [u8; 32]) -> Result<(), AllocErro
 {
     let from = entries.out.len();
     add_entry(&mut entries.out, row)?;
-    let len = entries.out.len().saturating_sub(from);
-    entries.marks.push(Mark { hash, len })?;
+    entries.marks.push(mark_of(&entries.out, from, hash))?;
     Ok(())
 }
 
@@ -79,24 +98,30 @@ pub(crate) fn entries_with(alloc: Global, rows: &[Keyed<'_>]) -> Result<Entries,
     Ok(entries)
 }
 
+/// The entry that stands at a mark.
+pub(crate) fn entry_at<'b>(bytes: &'b [u8], mark: &Mark) -> &'b [u8]
+    ensures { mark.now.from + mark.now.len ≤ length bytes.now → result.now ≡ take mark.now.len (drop mark.now.from bytes.now) }
+{
+    let (_, rest) = bytes.split_at(mark.from.min(bytes.len()));
+    let (entry, _) = rest.split_at(mark.len.min(rest.len()));
+    entry
+}
+
 /// The entries as pieces of the buffer in which they are spelled.
 pub(crate) fn pieces<'b>(
     alloc: Global,
     bytes: &'b [u8],
     marks: &[Mark],
 ) -> Result<Vec<HashedEntry<'b>>, AllocError>
-    ensures { (h : List ℕ → List ℕ) (es : List (List ℕ × Data)) → AreMarked h es marks.now → bytes.now ≡ entries_spelled es → IfOk result (λ ks. AreHashed h es ks.items) }
+    ensures { (h : List ℕ → List ℕ) (es : List (List ℕ × Data)) → AreMarked h bytes.now es marks.now → IfOk result (λ ks. AreHashed h es ks.items) }
 {
     let mut pieces = Vec::new(alloc);
     pieces.reserve(marks.len())?;
-    let mut rest = bytes;
     for mark in marks {
-        let (entry, more) = rest.split_at(mark.len.min(rest.len()));
         pieces.push(HashedEntry {
             hash: mark.hash,
-            entry,
+            entry: entry_at(bytes, mark),
         })?;
-        rest = more;
     }
     Ok(pieces)
 }

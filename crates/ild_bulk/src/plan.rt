@@ -10,10 +10,10 @@ ghost use Rattle.ild_node.specs.Hashed.{AreHashed};
 ghost use Rattle.ild_node.specs.Keyed.{keyed_rows};
 ghost use Rattle.ild_node.specs.NewSlots.{IsFilledSlot};
 ghost use Rattle.ild_node.specs.Rows.{AreRows};
-ghost use Rattle.ild_bulk.specs.Keyed.{AreEmpty, AreKeyed, AreMarked, HasParts, Parted, entries_spelled, hashed_index, hashed_part};
+ghost use Rattle.ild_bulk.specs.Keyed.{AreEmpty, AreKeyed, AreMarked, HasParts, Parted, hashed_index, hashed_part};
 ghost use Rattle.ild_bulk.specs.Planned.{PlansInto, PlansNode, PlansSlot};
 
-use crate::entries::{Mark, entries_with, pieces};
+use crate::entries::{Mark, entries_with, entry_at, pieces};
 use crate::planned::PlannedBlock;
 use ild_data::Octets;
 use ild_node::{
@@ -115,18 +115,16 @@ fn cut_apart<'r>(
 ) -> Result<Parts<'r>, AllocError>
     requires { depth < trie_levels usual }
     ensures many { IfOk result (λ parts. length parts.items ≡ 2 ^ usual.width) }
-    ensures parts { (h : List ℕ → List ℕ) (es : List (List ℕ × Data)) → AreMarked h es marks.now → bytes.now ≡ entries_spelled es → IfOk result (λ parts. HasParts h usual depth es parts.items) }
+    ensures parts { (h : List ℕ → List ℕ) (es : List (List ℕ × Data)) → AreMarked h bytes.now es marks.now → IfOk result (λ parts. HasParts h usual depth es parts.items) }
 {
     let mut parts = emptied(alloc, None, marks.len() / USUAL_SHARE)?;
-    let mut rest = bytes;
     for mark in marks {
-        let (entry, more) = rest.split_at(mark.len.min(rest.len()));
+        let entry = entry_at(bytes, mark);
         let index = index_of(&mark.hash, depth);
         parts[index as usize].push(HashedEntry {
             hash: mark.hash,
             entry,
         })?;
-        rest = more;
     }
     Ok(parts)
 }
@@ -177,14 +175,15 @@ fn next_index(entries: &[HashedEntry<'_>], depth: u32, from: usize) -> usize
     least
 }
 
-/// The block of the root node of entries that are marked in their bytes. The blocks beneath it are appended, each behind those beneath it.
-pub(crate) fn plan_marked(
+/// The block of the root node of entries that are marked in their bytes, in the bytewise order of their keys. The blocks beneath it
+/// are appended, each behind those beneath it.
+pub fn plan_marked(
     alloc: Global,
     bytes: &[u8],
     marks: &[Mark],
     blocks: &mut Vec<PlannedBlock>,
 ) -> Result<Octets, HamtFault>
-    ensures { (h : List ℕ → List ℕ) (es : List (List ℕ × Data)) → AreMarked h es marks.now → bytes.now ≡ entries_spelled es → AreRows es
+    ensures { (h : List ℕ → List ℕ) (es : List (List ℕ × Data)) → AreMarked h bytes.now es marks.now → AreRows es
         → PlansNode h usual (trie_levels usual - 0) 0 es result blocks.old.items blocks.new.items }
 {
     let mut spare = Vec::new(alloc);
