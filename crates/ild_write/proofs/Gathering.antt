@@ -1,8 +1,8 @@
 -- Entries of a HAMT, gathered one after another.
-use Rattle.std.proofs.Common.{◌≡◌, ⊎_elim, ℕ, ◌+◌, ◌≤◌, Bool, true, false, cond, nat_lt, List, [], ◌∷◌, ◌++◌, length, Some, option_map, refl, sym, ap, ◌∙◌, subst, arith, append_assoc, append-nil}
+use Rattle.std.proofs.Common.{◌≡◌, inl, inr, Option, ⊎_elim, ℕ, ◌+◌, ◌≤◌, Bool, true, false, cond, nat_lt, List, [], ◌∷◌, ◌++◌, length, Some, option_map, refl, sym, ap, ◌∙◌, subst, arith, append_assoc, append-nil}
 use Rattle.std.specs.List.{AllByRecursion, sum_by}
 use Rattle.std.proofs.lemmas.Bool.Decides.{nat_tests}
-use Rattle.std.proofs.lemmas.List.{map-append}
+use Rattle.std.proofs.lemmas.List.{append_cancel_left, map-append}
 use Rattle.std.proofs.lemmas.List.Sums.{sum_by-append}
 use Rattle.std.proofs.lemmas.Option.{same_Some}
 use Rattle.ild_bulk.specs.Children.{Follows}
@@ -11,8 +11,7 @@ use Rattle.ild_data.specs.Data as T
 use Rattle.ild_data.specs.Data.{Data, depth}
 use Rattle.ild_data.specs.Limits.{longest_block}
 use Rattle.ild_data.specs.Spell.{spell}
-use Rattle.ild_node.specs.Rows.{AreShallow, deepest_value, rows_seen}
-use Rattle.ild_node.specs.declared.row.Row as R
+use Rattle.ild_node.specs.Rows.{AreShallow, deepest_value}
 use Rattle.ild_schema.specs.declared.number.Slot.{Slot}
 use Rattle.ild_schema.specs.declared.row.Row.{Row}
 use Rattle.ild_schema.specs.Made.{IsMade}
@@ -26,11 +25,12 @@ use Rattle.ild_typed.proofs.Basics.{map_from}
 use Rattle.ild_typed.proofs.Entries.{both_from}
 use Rattle.ild_typed.proofs.Treed.{all_append}
 use Rattle.ild_typed.proofs.TreeValues.{whole_past}
-use Rattle.ild_write.specs.Entries.{AddsRow}
+use Rattle.ild_write.specs.Entries.{AddsEntry}
 use Rattle.ild_write.specs.Fitting.{HamtEntry}
 use Rattle.ild_write.specs.Made.{made}
 use Rattle.ild_write.specs.Weights.{Weight, bare_keys, beneath, crowded, entries_weight, over, weigh}
 use Rattle.ild_write.specs.Writes.{SetWhere, IsFine, Exact, TooLong, Writes}
+use Rattle.ild_write.specs.declared.hamt.MarkedEntries.{MarkedEntries}
 use Rattle.ild_write.specs.declared.nodes.Nodes.{Nodes}
 use Rattle.ild_write.proofs.Crowds.{nulls}
 use Rattle.ild_write.proofs.Flags.{by_flag, true_false, unlong, unset}
@@ -46,6 +46,22 @@ over_none b low = by (nat_lt longest_block (length b)) refl
     by : (c : Bool) → nat_lt longest_block (length b) ≡ c → over b ≡ 0
     by false e = ap (λ x. cond x 1 0) e
     by true e = absurd (grind (arith, nat_tests, e, low))
+
+-- what was written behind other bytes, by itself
+pub written_behind : (h : List ℕ → List ℕ) (rows : List Row) (made_of : Option (List ℕ)) (weight : Weight → ℕ) (old more : List ℕ) (was now : Nodes) → Writes h rows made_of weight old (old ++ more) was now
+    → Writes h rows made_of weight [] more was now
+written_behind h rows made_of weight old more was now w = record {
+  grown = record { more = more; is = refl };
+  added = w.added;
+  blocks = w.blocks;
+  follows = w.follows;
+  exhausted = w.exhausted;
+  stays = w.stays;
+  exact = λ fine s is. ⊎_elim
+      (λ (x : Exact h rows weight s old (old ++ more) w.added now). inl (record { spelled = append_cancel_left old more s x.spelled; blocks = x.blocks; fine = x.fine }))
+      (λ (x : TooLong h rows weight s now.long). inr x)
+      (w.exact fine s is);
+}
 
 module _ (h : List ℕ → List ℕ) (rows : List Row) (u : Slot) where
   -- ---- entries and their data
@@ -162,19 +178,19 @@ module _ (h : List ℕ → List ℕ) (rows : List Row) (u : Slot) where
     pub value_block : (out : List ℕ) (was now : Nodes) → Writes h rows (made (whole h) rows u p.1) (λ μ. weigh μ rows u p.1) [] out was now → IsFine now → BlockIn deepest_value out
     value_block out was now w fine = let x = (value_there out was now w fine).0 in record { of = x.tree; is = x.spells; fits = x.fits }
 
-    module _ (ps : List (List ℕ × Value)) (old new : List R.Row) (was mid then now : Nodes) (out : List ℕ) (g : Gathered ps (rows_seen old) was mid)
-        (w : Writes h rows (made (whole h) rows u p.1) (λ μ. weigh μ rows u p.1) [] out mid then) (a : AddsRow p.0 out then now old new) where
+    module _ (ps : List (List ℕ × Value)) (es : List (List ℕ × Data)) (old new : MarkedEntries) (was mid then now : Nodes) (out : List ℕ) (g : Gathered ps es was mid)
+        (w : Writes h rows (made (whole h) rows u p.1) (λ μ. weigh μ rows u p.1) [] out mid then) (a : AddsEntry h p.0 out then now old new) where
       fine_then : IsFine now → IsFine then
       fine_then fine = record { exhausted = sym a.exhausted ∙ fine.exhausted; long = unlong then.long now.long a.stays fine.long }
 
       fine_mid : IsFine now → IsFine mid
       fine_mid fine = fine_before out mid then w (fine_then fine)
 
-      data_now : IsFine now → AreData (ps ++ p ∷ []) (rows_seen new)
+      data_now : IsFine now → AreData (ps ++ p ∷ []) (es ++ (p.0, a.of) ∷ [])
       data_now fine =
           let x = (value_there out mid then w (fine_then fine)).0 in
-          subst (λ ds. AreData (ps ++ p ∷ []) ds) (ap (λ d. rows_seen old ++ (p.0, d) ∷ []) (sym (a.exact fine x.tree x.fits x.spells)) ∙ sym a.rows)
-          (data_more ps (rows_seen old) p x.tree (g.are (fine_mid fine)) x.is)
+          subst (λ ds. AreData (ps ++ p ∷ []) ds) (ap (λ d. es ++ (p.0, d) ∷ []) (sym (a.exact fine x.tree x.fits x.spells)))
+          (data_more ps es p x.tree (g.are (fine_mid fine)) x.is)
 
       sums_now : IsFine now → (f : List ℕ → ℕ) → sum_by f (g.added ++ w.added) ≡ entries_weight (beneath h rows f) rows u (ps ++ p ∷ [])
       sums_now fine f =
@@ -204,11 +220,11 @@ module _ (h : List ℕ → List ℕ) (rows : List Row) (u : Slot) where
           (λ k. let some = g.long fine (unset mid.exhausted then.exhausted (weigh (crowded h) rows u p.1) w.exhausted full_then).0 k x.front x.are s.0 in omega (arith, some, sum))
           (λ k. let some = long_last fine full_then long x.last x.is s.1 k in omega (arith, some, sum))
 
-      pub gathered_more : Gathered (ps ++ p ∷ []) (rows_seen new) was now
+      pub gathered_more : Gathered (ps ++ p ∷ []) (es ++ (p.0, a.of) ∷ []) was now
       gathered_more = record {
-        keys = ap nulls a.rows ∙ map-append (λ (e : List ℕ × Data). (e.0, T.null)) (rows_seen old) ((p.0, a.of) ∷ []) ∙ ap (λ es. es ++ (p.0, T.null) ∷ []) g.keys
+        keys = map-append (λ (e : List ℕ × Data). (e.0, T.null)) es ((p.0, a.of) ∷ []) ∙ ap (λ fs. fs ++ (p.0, T.null) ∷ []) g.keys
             ∙ sym (map-append (λ (q : List ℕ × Value). (q.0, T.null)) ps (p ∷ []));
-        shallow = subst AreShallow (sym a.rows) (all_append (λ (e : List ℕ × Data). TreeIn deepest_value e.1) (rows_seen old) ((p.0, a.of) ∷ []) g.shallow (a.shallow, tt));
+        shallow = all_append (λ (e : List ℕ × Data). TreeIn deepest_value e.1) es ((p.0, a.of) ∷ []) g.shallow (a.shallow, tt);
         added = g.added ++ w.added;
         blocks = a.blocks ∙ w.blocks ∙ ap (λ bs. bs ++ w.added) g.blocks ∙ append_assoc was.blocks.items g.added w.added;
         follows = λ before. follows-append before g.added w.added (g.follows before) (w.follows (before ++ g.added));

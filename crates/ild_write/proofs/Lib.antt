@@ -33,4 +33,4 @@ mod Verdict
 mod Longs
 mod Gathering
 mod Rooting
-mod RowOrder
+mod EntryOrder

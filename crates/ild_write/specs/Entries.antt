@@ -2,6 +2,8 @@
 use Rattle.std.specs.Prelude.{◌≡◌, ℕ, ◌≤◌, true, false, cond, is_none, List, [], ◌∷◌, ◌++◌, length, Some}
 use Rattle.std.specs.List.{sum_by}
 use Rattle.ild_bulk.specs.Children.{Follows}
+use Rattle.ild_bulk.specs.Keyed.{IsMarked, entry_spelled}
+use Rattle.ild_bulk.specs.declared.entries.Mark.{Mark}
 use Rattle.ild_data.specs.ByteOrder.{in_byte_order}
 use Rattle.ild_data.specs.Data.{Data}
 use Rattle.ild_data.specs.Limits.{longest_block}
@@ -10,13 +12,14 @@ use Rattle.ild_data.specs.Trie.{trie}
 use Rattle.ild_data.specs.TrieBlocks.{nodes_beneath}
 use Rattle.ild_data.specs.TrieShape.{trie_levels}
 use Rattle.ild_emit.specs.Grown.{IsGrown}
-use Rattle.ild_node.specs.Rows.{deepest_value, rows_seen}
-use Rattle.ild_node.specs.declared.row.Row.{Row}
+use Rattle.ild_node.specs.Rows.{deepest_value}
 use Rattle.ild_typed.specs.Composed.{usual}
 use Rattle.ild_typed.specs.Hamt.{root_map}
 use Rattle.ild_typed.specs.Nested.{BlockIn, TreeIn}
 use Rattle.ild_write.specs.Weights.{over}
 use Rattle.ild_write.specs.Writes.{IsFine, SetWhere}
+use Rattle.ild_write.specs.declared.hamt.KeyedMark.{KeyedMark}
+use Rattle.ild_write.specs.declared.hamt.MarkedEntries.{MarkedEntries}
 use Rattle.ild_write.specs.declared.nodes.Nodes.{Nodes}
 
 -- a value that an entry can hold
@@ -24,10 +27,37 @@ pub record FitsEntry (b : List ℕ) : Type 0 where
   pub block : BlockIn deepest_value b
   pub sized : length b ≤ longest_block
 
--- An entry was appended. Where nothing stands against the value, it is the value of these bytes.
-pub record AddsRow (key value : List ℕ) (was now : Nodes) (old new : List Row) : Type 0 where
+abbrev pub mark_in : KeyedMark → Mark
+mark_in k = k.mark
+
+-- the key of an entry, and its mark in these bytes
+pub record IsKeyedMark (h : List ℕ → List ℕ) (b : List ℕ) (e : List ℕ × Data) (k : KeyedMark) : Type 0 where
+  pub key : k.key.now ≡ e.0
+  pub mark : IsMarked h b e k.mark
+
+abbrev pub AreKeyedMarks : (List ℕ → List ℕ) → List ℕ → List (List ℕ × Data) → List KeyedMark → Type 0
+AreKeyedMarks h b [] [] = Unit {0}
+AreKeyedMarks h b [] (k ∷ ks) = ⊥
+AreKeyedMarks h b (e ∷ es) [] = ⊥
+AreKeyedMarks h b (e ∷ es) (k ∷ ks) = IsKeyedMark h b e k × AreKeyedMarks h b es ks
+
+-- The last entry of a buffer, behind so many bytes. Where nothing stands against the value, it is the value of these bytes.
+pub record EndsEntry (key value : List ℕ) (nodes : Nodes) (old new : List ℕ) (from : ℕ) : Type 0 where
   pub of : Data
-  pub rows : rows_seen new ≡ rows_seen old ++ (key, of) ∷ []
+  pub front : List ℕ
+  pub is : new ≡ front ++ entry_spelled (key, of)
+  pub at : from ≡ length front
+  pub grown : IsGrown old new
+  pub shallow : TreeIn deepest_value of
+  pub exact : IsFine nodes → (t : Data) → TreeIn deepest_value t → value ≡ spell t → of ≡ t
+
+-- An entry was appended. Where nothing stands against the value, it is the value of these bytes.
+pub record AddsEntry (h : List ℕ → List ℕ) (key value : List ℕ) (was now : Nodes) (old new : MarkedEntries) : Type 0 where
+  pub of : Data
+  pub last : KeyedMark
+  pub marks : new.marks.items ≡ old.marks.items ++ last ∷ []
+  pub marked : IsKeyedMark h new.out (key, of) last
+  pub grown : IsGrown old.out new.out
   pub shallow : TreeIn deepest_value of
   pub blocks : now.blocks.items ≡ was.blocks.items
   pub exhausted : now.exhausted ≡ was.exhausted

@@ -1,73 +1,116 @@
 //! HAMTs (IPLD HashMap): their entries, and the root maps over them.
-ghost use Rattle.std.specs.Prelude.{◌≡◌, ◌++◌, IfOk, IsPermutation, OnErr, OnOk, true};
+ghost use Rattle.std.specs.Prelude.{◌≡◌, ◌+◌, ◌++◌, [], ℕ, List, IfOk, IsPermutation, OnErr, OnOk, length, map, true};
 ghost use Rattle.std.specs.List.Sorted.{IsSortedByKey};
+ghost use Rattle.ild_bulk.specs.Build.{is_long};
+ghost use Rattle.ild_bulk.specs.Keyed.{entry_front};
 ghost use Rattle.ild_data.specs.ByteOrder.{bytewise, no_key_twice};
-ghost use Rattle.ild_data.specs.Data as T;
 ghost use Rattle.ild_data.specs.Data.{Data};
 ghost use Rattle.ild_data.specs.Spell.{spell};
 ghost use Rattle.ild_emit.specs.Grown.{IsGrown};
 ghost use Rattle.ild_node.specs.Form.{AreTexts};
-ghost use Rattle.ild_node.specs.Rows.{AreShallow, deepest_value, rows_seen};
-ghost use Rattle.ild_node.specs.declared.row.Row.{Row};
+ghost use Rattle.ild_node.specs.Rows.{AreShallow, deepest_value};
 ghost use Rattle.ild_typed.specs.Composed.{usual};
 ghost use Rattle.ild_typed.specs.Hamt.{root_map};
-ghost use Rattle.ild_typed.specs.Nested.{BlockIn, TreeIn};
-ghost use Rattle.ild_write.specs.Entries.{AddsRoot, AddsRow, FitsEntry};
+ghost use Rattle.ild_typed.specs.Nested.{BlockIn};
+ghost use Rattle.ild_write.specs.Entries.{AddsEntry, AddsRoot, AreKeyedMarks, EndsEntry, FitsEntry, mark_in};
 ghost use Rattle.ild_write.specs.Writes.{IsFine};
 
 use crate::nodes::Nodes;
-use ild_bulk::{is_long, plan_rows};
-use ild_data::{KeyHash, Octets, Txt};
+use ild_bulk::{Mark, begin_entry, mark_of, plan_marked};
+use ild_data::{KeyHash, LONGEST_BLOCK};
 use ild_emit::Emit;
-use ild_node::{BUCKET_SIZE, HamtFault, Row, Rows, Spelled};
+use ild_node::{BUCKET_SIZE, HamtFault};
 use std::alloc::{AllocError, Global};
 
-// Null, in place of a value that is not to be linked.
-fn null_value(alloc: Global) -> Result<Spelled, AllocError>
-    ensures { IfOk result (λ s. s ≡ T.null) }
-{
-    let mut out = Emit::new(alloc);
-    out.simple(None)?;
-    Ok(Spelled::known(out.finish()))
+/// For each of many entries so many bytes are taken at once.
+const USUAL_ENTRY: usize = 16;
+
+/// The mark of an entry, and its key.
+#[derive(Clone, Copy)]
+pub(crate) struct KeyedMark<'k> {
+    pub(crate) key: &'k str,
+    pub(crate) mark: Mark,
 }
 
-// The value, or null where something stands against it.
-fn value_or_null(alloc: Global, value: Octets, nodes: &Nodes) -> Result<Spelled, AllocError>
-    requires { IsFine nodes.now → FitsEntry value }
-    ensures shallow { IfOk result (λ s. TreeIn deepest_value s) }
-    ensures exact { IfOk result (λ s. IsFine nodes.now → (t : Data) → TreeIn deepest_value t → value ≡ spell t → s ≡ t) }
+/// Entries that are spelled into one buffer as they come, with a mark for each.
+#[derive(Drop)]
+pub(crate) struct MarkedEntries<'k> {
+    pub(crate) out: Emit,
+    pub(crate) marks: Vec<KeyedMark<'k>>,
+}
+
+/// No entry yet, with room for so many.
+pub(crate) fn no_entries<'k>(alloc: Global, count: usize) -> Result<MarkedEntries<'k>, AllocError>
+    ensures { IfOk result (λ entries. entries.marks.items ≡ []) }
+{
+    let mut marks = Vec::new(alloc);
+    marks.reserve(count)?;
+    Ok(MarkedEntries {
+        out: Emit::with_room(alloc, count.saturating_mul(USUAL_ENTRY))?,
+        marks,
+    })
+}
+
+// Whether the last value of a buffer, which stands behind so many bytes, is longer than a block.
+fn is_value_long(out: &Emit, from: usize) -> bool
+    ensures { (front value : List ℕ) → out.now ≡ front ++ value → from ≡ length front → result ≡ is_long value }
+{
+    out.len().saturating_sub(from) > LONGEST_BLOCK
+}
+
+// How many bytes stand before the last entry, whose value is written already. Where something stands against that, the key is
+// written again, over null.
+fn end_of_entry(out: &mut Emit, key: &str, from: usize, nodes: &Nodes) -> Result<usize, AllocError>
+    ensures { (before value : List ℕ) → out.old ≡ before ++ (entry_front key.now ++ value) → from ≡ length before → (IsFine nodes.now → FitsEntry value)
+        → IfOk result (EndsEntry key.now value nodes.now out.old out.new) }
 {
     if nodes.exhausted | nodes.long {
-        null_value(alloc)
-    } else {
-        Ok(Spelled::known(value))
+        let again = out.len();
+        begin_entry(out, key)?;
+        out.simple(None)?;
+        return Ok(again);
     }
+    Ok(from)
 }
 
-/// Appends an entry. Where something stands against the value, or it is longer than a block, its key alone is kept.
-pub(crate) fn add_row(
-    alloc: Global,
-    key: &str,
-    value: Octets,
+/// Ends an entry whose key and value are written: so many bytes stand before it, and so many before its value. Where something
+/// stands against the value, or it is longer than a block, the key alone counts.
+pub(crate) fn end_entry<'k, H: KeyHash>(
+    keys: &H,
+    key: &'k str,
+    from: usize,
+    value_from: usize,
     nodes: &mut Nodes,
-    rows: &mut Vec<Row>,
+    entries: &mut MarkedEntries<'k>,
 ) -> Result<(), AllocError>
-    requires { IsFine nodes.old → BlockIn deepest_value value }
-    ensures { OnOk result (AddsRow key.now value nodes.old nodes.new rows.old.items rows.new.items) }
+    ensures { (before value : List ℕ) → entries.old.out ≡ before ++ (entry_front key.now ++ value) → from ≡ length before → value_from ≡ length before + length (entry_front key.now)
+        → (IsFine nodes.old → BlockIn deepest_value value) → OnOk result (AddsEntry H.hash_of key.now value nodes.old nodes.new entries.old entries.new) }
 {
-    nodes.long |= is_long(&value);
-    let value = value_or_null(alloc, value, nodes)?;
-    let key = Txt::of(alloc, key)?;
-    rows.push(Row { key, value })?;
+    nodes.long |= is_value_long(&entries.out, value_from);
+    let from = end_of_entry(&mut entries.out, key, from, nodes)?;
+    let mark = mark_of(&entries.out, from, keys.hash(key.as_bytes()));
+    entries.marks.push(KeyedMark { key, mark })?;
     Ok(())
 }
 
-// Brings rows into the order of a bucket.
-fn sort_rows(rows: &mut Vec<Row>)
-    ensures same { IsPermutation rows.old.items rows.new.items }
-    ensures order { IsSortedByKey (λ (r : Row). r.key) bytewise rows.new.items }
+// Brings marks into the order of a bucket.
+fn sort_marks(marks: &mut Vec<KeyedMark<'_>>)
+    ensures same { IsPermutation marks.old.items marks.new.items }
+    ensures order { IsSortedByKey (λ (k : KeyedMark). k.key.now) bytewise marks.new.items }
 {
-    rows.sort_unstable_by(|a, b| a.key.as_str().cmp(b.key.as_str()));
+    marks.sort_unstable_by(|a, b| a.key.cmp(b.key));
+}
+
+// The marks without their keys.
+fn bare_marks(alloc: Global, keyed: &[KeyedMark<'_>]) -> Result<Vec<Mark>, AllocError>
+    ensures { IfOk result (λ marks. marks.items ≡ map mark_in keyed.now) }
+{
+    let mut marks = Vec::new(alloc);
+    marks.reserve(keyed.len())?;
+    for each in keyed {
+        marks.push(each.mark)?;
+    }
+    Ok(marks)
 }
 
 // Appends the root map over a root node.
@@ -85,24 +128,22 @@ fn add_root_map(out: &mut Emit, root: &[u8]) -> Result<(), AllocError>
 }
 
 /// Appends the root map of the HAMT of these entries. The blocks beneath its root go to the others.
-pub(crate) fn add_root<H: KeyHash>(
+pub(crate) fn add_root(
     alloc: Global,
-    keys: &H,
-    rows: Vec<Row>,
+    entries: MarkedEntries<'_>,
     nodes: &mut Nodes,
     out: &mut Emit,
 ) -> Result<(), AllocError>
-    requires apart { no_key_twice (rows_seen rows.items) ≡ true }
-    requires texts { AreTexts (rows_seen rows.items) }
-    requires shallow { AreShallow (rows_seen rows.items) }
-    ensures ok { OnOk result (AddsRoot H.hash_of (rows_seen rows.items) out.old out.new nodes.old nodes.new) }
+    ensures ok { (h : List ℕ → List ℕ) (es : List (List ℕ × Data)) → AreKeyedMarks h entries.entry.out es entries.entry.marks.items → no_key_twice es ≡ true → AreTexts es → AreShallow es
+        → OnOk result (AddsRoot h es out.old out.new nodes.old nodes.new) }
     ensures err { OnErr result (IsGrown out.old out.new) }
 {
-    let mut rows = rows;
-    sort_rows(&mut rows);
-    let rows = Rows::known(rows);
+    let mut entries = entries;
+    sort_marks(&mut entries.marks);
+    let marks = bare_marks(alloc, &entries.marks)?;
+    let bytes = entries.out.finish();
     let mut blocks = Vec::new(alloc);
-    match plan_rows(alloc, &rows, keys, &mut blocks) {
+    match plan_marked(alloc, bytes.as_slice(), &marks, &mut blocks) {
         Ok(root) => {
             nodes.blocks.append(&mut blocks)?;
             add_root_map(out, root.as_slice())

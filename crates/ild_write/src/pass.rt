@@ -21,12 +21,13 @@ ghost use Rattle.ild_write.specs.Fitting.{EntriesFit, FitsIn, HamtFits, IsApartF
 ghost use Rattle.ild_write.specs.Weights.{entries_weight, fields_weight, hamt_made, items_weight, places_weight, weigh};
 ghost use Rattle.ild_write.specs.Writes.{Writes};
 
-use crate::hamt::{add_root, add_row};
+use crate::hamt::{add_root, end_entry, no_entries};
 use crate::hex::{add_hex, behind_head};
 use crate::leaf::{Tag, add_as_text, add_count, add_key, add_leaf, add_tag};
 use crate::nodes::Nodes;
 use crate::order::{count_before, kept_at, present, written};
 use ild_build::{field_at, form_of, text_of_field};
+use ild_bulk::begin_entry;
 use ild_data::{KeyHash, key_less};
 use ild_emit::Emit;
 use ild_schema::{
@@ -192,16 +193,19 @@ fn add_hamt<H: KeyHash>(
     ensures err { OnErr result (IsGrown out.old out.new) }
 {
     let _legible = acc.types();
-    let mut rows = Vec::new(alloc);
+    let mut entries = no_entries(alloc, pairs.len())?;
     for i in 0..pairs.len() {
         let Some(pair) = pairs.get(i) else {
             return Ok(());
         };
-        let mut part = Emit::new(alloc);
-        add(alloc, acc, keys, value, &pair.1, nodes, &mut part)?;
-        add_row(alloc, pair.0.as_str(), part.finish(), nodes, &mut rows)?;
+        let key = pair.0.as_str();
+        let from = entries.out.len();
+        begin_entry(&mut entries.out, key)?;
+        let value_from = entries.out.len();
+        add(alloc, acc, keys, value, &pair.1, nodes, &mut entries.out)?;
+        end_entry(keys, key, from, value_from, nodes, &mut entries)?;
     }
-    add_root(alloc, keys, rows, nodes, out)
+    add_root(alloc, entries, nodes, out)
 }
 
 // Appends a key and its value, as an entry of a map or as a pair.

@@ -1,5 +1,5 @@
 use Rattle.std.proofs.Common.{◌++◌, ◌∙◌, ap}
-use Rattle.ild_write.proofs.RowOrder.{root_behind}
+use Rattle.ild_write.proofs.EntryOrder.{root_behind}
 use Rattle.ild_write.proofs.Writing.{on_ok}
 use Rattle.ild_write.proofs.hamt.add_root_map.Goals as goal
 

@@ -47,12 +47,11 @@ use Rattle.ild_write.proofs.Writing.{grown_on, on_err, on_ok, wrote_none, none_p
 use Rattle.std.proofs.Common.{take}
 use Rattle.std.proofs.lemmas.List.{take_all}
 use Rattle.ild_emit.proofs.Growing.{grown_same, on_err_always}
-use Rattle.ild_node.specs.Rows.{deepest_value, rows_seen}
 use Rattle.ild_typed.specs.Nested.{BlockIn}
 use Rattle.ild_write.specs.Weights.{bare_keys}
-use Rattle.ild_write.proofs.Gathering.{Gathered, gathered_more, none_gathered, value_block}
+use Rattle.ild_write.proofs.Gathering.{Gathered}
 use Rattle.ild_write.proofs.Rooting.{hamt_written, once_by_keys}
-use Rattle.ild_write.proofs.RowOrder.{taken_got, texts_by_keys}
+use Rattle.ild_write.proofs.EntryOrder.{MarkedSoFar, marked_more, none_marked, taken_got, texts_by_keys}
 use Rattle.ild_write.proofs.pass.+pass.Goals as goal
 
 -- ---- values
@@ -685,12 +684,16 @@ add-returns-in-Union-clause-ok g t c =
 -- ---- HAMTs
 
 pub add_hamt-loop-i-init : goal.add_hamt-loop-i-init
-add_hamt-loop-i-init g t c =
-    let h = g.H.KeyHash.hash_of in
-    subst (λ rs. Gathered h c.args.acc.now c.args.value [] (rows_seen rs) c.args.nodes.now c.args.nodes.now) (sym c.new-rows.ensures.items) (none_gathered h c.args.acc.now c.args.value c.args.nodes.now)
+add_hamt-loop-i-init g t c = none_marked g.H.KeyHash.hash_of c.args.acc.now c.args.value c.in_ok-entries.entries c.args.nodes.now c.in_ok-entries.ensures
+
+pub add_hamt-returns-in_err-entries-clause-err : goal.add_hamt-returns-in_err-entries-clause-err
+add_hamt-returns-in_err-entries-clause-err g t c = on_err_always c.from_residual.result _ (grown_same c.args.out.now c.args.out.now refl)
 
 pub add_hamt-returns-in_default-clause-ok : goal.add_hamt-returns-in_default-clause-ok
 add_hamt-returns-in_default-clause-ok g t c = absurd (none_past (pairs_list c.args.pairs.now) c.loop-i.i (sym c.in_default.ensures) (omega arith))
+
+pub add_hamt-returns-in_err-begin_entry-clause-err : goal.add_hamt-returns-in_err-begin_entry-clause-err
+add_hamt-returns-in_err-begin_entry-clause-err g t c = on_err_always c.from_residual-in_err-begin_entry.result _ (grown_same c.args.out.now c.args.out.now refl)
 
 pub add_hamt-add-requires : goal.add_hamt-add-requires
 add_hamt-add-requires g t c = λ κs le.
@@ -699,21 +702,10 @@ add_hamt-add-requires g t c = λ κs le.
     (omega arith, (le, (c.requires.within, (c.requires.fits.each c.loop-i.i p (sym c.in-Some.ensures)).part)))
 
 pub add_hamt-returns-in_err-add-clause-err : goal.add_hamt-returns-in_err-add-clause-err
-add_hamt-returns-in_err-add-clause-err g t c = on_err_always c.from_residual.result _ (grown_same c.args.out.now c.args.out.now refl)
+add_hamt-returns-in_err-add-clause-err g t c = on_err_always c.from_residual-in_err-add.result _ (grown_same c.args.out.now c.args.out.now refl)
 
-pub add_hamt-add_row-requires : goal.add_hamt-add_row-requires
-add_hamt-add_row-requires g t c = λ fine.
-    let h = g.H.KeyHash.hash_of in
-    let rows = c.args.acc.now in
-    let v = value_of c.in-Some.pair.now.1 in
-    let p : List ℕ × Value = (c.as_str.result.now, v) in
-    let at = sym c.in-Some.ensures ∙ ap (λ k. Some (k, v)) (sym c.as_str.ensures.same) in
-    let w = subst (λ old. Writes h rows (made (whole h) rows c.args.value v) (λ μ. weigh μ rows c.args.value v) old c.add.new.out c.loop-i.nodes c.add.new.nodes) c.new-part.ensures c.in_ok-add.ensures.ok in
-    subst (λ b. BlockIn deepest_value b) (sym c.finish.ensures)
-    (value_block h rows c.args.value c.types-legible.ensures.legible.made c.types-legible.ensures.table.texts.spelled p (c.requires.fits.each c.loop-i.i p at) c.add.new.out c.loop-i.nodes c.add.new.nodes w fine)
-
-pub add_hamt-returns-in_err-add_row-clause-err : goal.add_hamt-returns-in_err-add_row-clause-err
-add_hamt-returns-in_err-add_row-clause-err g t c = on_err_always c.from_residual-in_err-add_row.result _ (grown_same c.args.out.now c.args.out.now refl)
+pub add_hamt-returns-in_err-end_entry-clause-err : goal.add_hamt-returns-in_err-end_entry-clause-err
+add_hamt-returns-in_err-end_entry-clause-err g t c = on_err_always c.from_residual-in_err-end_entry.result _ (grown_same c.args.out.now c.args.out.now refl)
 
 pub add_hamt-loop-i-preserved : goal.add_hamt-loop-i-preserved
 add_hamt-loop-i-preserved g t c =
@@ -721,29 +713,21 @@ add_hamt-loop-i-preserved g t c =
     let rows = c.args.acc.now in
     let ps = pairs_list c.args.pairs.now in
     let v = value_of c.in-Some.pair.now.1 in
-    let p : List ℕ × Value = (c.as_str.result.now, v) in
-    let at = sym c.in-Some.ensures ∙ ap (λ k. Some (k, v)) (sym c.as_str.ensures.same) in
-    let w = subst (λ old. Writes h rows (made (whole h) rows c.args.value v) (λ μ. weigh μ rows c.args.value v) old c.add.new.out c.loop-i.nodes c.add.new.nodes) c.new-part.ensures c.in_ok-add.ensures.ok in
-    let u = subst (λ b. Writes h rows (made (whole h) rows c.args.value v) (λ μ. weigh μ rows c.args.value v) [] b c.loop-i.nodes c.add.new.nodes) (sym c.finish.ensures) w in
-    subst (λ xs. Gathered h rows c.args.value xs (rows_seen c.add_row.new.rows.items) c.args.nodes.now c.add_row.new.nodes) (sym (taken_got {X = List ℕ × Value} ps c.loop-i.i p at))
-    (gathered_more h rows c.args.value c.types-legible.ensures.legible.made c.types-legible.ensures.table.texts.spelled p (c.requires.fits.each c.loop-i.i p at) (take c.loop-i.i ps) c.loop-i.rows.items c.add_row.new.rows.items c.args.nodes.now c.loop-i.nodes c.add.new.nodes
-    c.add_row.new.nodes c.finish.result c.loop-i.invariant u c.in_ok-add_row.ensures)
-
-pub add_hamt-add_root-requires-clause-apart : goal.add_hamt-add_root-requires-clause-apart
-add_hamt-add_root-requires-clause-apart g t c =
-    let ps = pairs_list c.args.pairs.now in
-    once_by_keys g.H.KeyHash.hash_of ps (rows_seen c.loop-i.rows.items) (c.loop-i.invariant.keys ∙ ap bare_keys (take_all c.loop-i.i ps (omega arith))) c.requires.fits.rises
-
-pub add_hamt-add_root-requires-clause-texts : goal.add_hamt-add_root-requires-clause-texts
-add_hamt-add_root-requires-clause-texts g t c =
-    let ps = pairs_list c.args.pairs.now in
-    texts_by_keys ps (rows_seen c.loop-i.rows.items) (c.loop-i.invariant.keys ∙ ap bare_keys (take_all c.loop-i.i ps (omega arith))) (λ i p e. (c.requires.fits.each i p e).text)
+    let p : List ℕ × Value = (c.as_str-key.result.now, v) in
+    let at = sym c.in-Some.ensures ∙ ap (λ k. Some (k, v)) (sym c.as_str-key.ensures.same) in
+    subst (λ xs. MarkedSoFar h rows c.args.value xs c.end_entry.new.entries c.args.nodes.now c.end_entry.new.nodes) (sym (taken_got {X = List ℕ × Value} ps c.loop-i.i p at))
+    (marked_more h rows c.args.value c.types-legible.ensures.legible.made c.types-legible.ensures.table.texts.spelled p (c.requires.fits.each c.loop-i.i p at) (take c.loop-i.i ps) c.loop-i.entries _ c.end_entry.new.entries c.args.nodes.now c.loop-i.nodes c.add.new.nodes
+    c.end_entry.new.nodes c.begin_entry.new.out c.len-from.result c.len-value_from.result c.loop-i.invariant c.in_ok-begin_entry.ensures refl c.in_ok-add.ensures.ok c.len-from.ensures c.len-value_from.ensures c.in_ok-end_entry.ensures)
 
 pub add_hamt-returns-clause-ok : goal.add_hamt-returns-clause-ok
 add_hamt-returns-clause-ok g t c =
     let h = g.H.KeyHash.hash_of in
     let rows = c.args.acc.now in
     let ps = pairs_list c.args.pairs.now in
+    let m = c.loop-i.invariant in
+    let all = take_all c.loop-i.i ps (omega arith) in
+    let keys = m.gathered.keys ∙ ap bare_keys all in
     on_ok c.add_root.result _ _
-    (λ r. hamt_written h rows c.args.value c.args.pairs.now (rows_seen c.loop-i.rows.items) c.args.out.now c.add_root.new.out c.args.nodes.now c.loop-i.nodes c.add_root.new.nodes
-    (subst (λ xs. Gathered h rows c.args.value xs (rows_seen c.loop-i.rows.items) c.args.nodes.now c.loop-i.nodes) (take_all c.loop-i.i ps (omega arith)) c.loop-i.invariant) r) c.add_root.ensures.ok
+    (λ r. hamt_written h rows c.args.value c.args.pairs.now m.es c.args.out.now c.add_root.new.out c.args.nodes.now c.loop-i.nodes c.add_root.new.nodes
+    (subst (λ xs. Gathered h rows c.args.value xs m.es c.args.nodes.now c.loop-i.nodes) all m.gathered) r)
+    (c.add_root.ensures.ok h m.es m.marked (once_by_keys h ps m.es keys c.requires.fits.rises) (texts_by_keys ps m.es keys (λ i p e. (c.requires.fits.each i p e).text)) m.gathered.shallow)

@@ -6,8 +6,7 @@ use Rattle.ild_write.specs.Places.{count_present, count_written, named, places_m
 use Rattle.ild_typed.specs.Hamt.{whole}
 use Rattle.ild_write.specs.Weights.{entries_weight, fields_weight, items_weight, places_weight}
 use Rattle.ild_write.proofs.Flow.{ToGo}
-use Rattle.ild_write.proofs.Gathering.{Gathered}
-use Rattle.ild_node.specs.Rows.{rows_seen}
+use Rattle.ild_write.proofs.EntryOrder.{MarkedSoFar}
 use Rattle.ild_write.proofs.pass.+pass.Given as goal
 
 abbrev pub invariant-add_items-loop-i : goal.invariant-add_items-loop-i
@@ -92,4 +91,4 @@ abbrev pub decreases-add_hamt : goal.decreases-add_hamt
 decreases-add_hamt g l = 8 * pairs_height l.pairs.now + 5
 
 abbrev pub invariant-add_hamt-loop-i : goal.invariant-add_hamt-loop-i
-invariant-add_hamt-loop-i g l = Gathered g.H.KeyHash.hash_of l.acc l.value (take l.i (pairs_list l.pairs)) (rows_seen l.rows.items) l.fn.nodes l.nodes
+invariant-add_hamt-loop-i g l = MarkedSoFar g.H.KeyHash.hash_of l.acc l.value (take l.i (pairs_list l.pairs)) l.entries l.fn.nodes l.nodes
