@@ -503,6 +503,9 @@ WORDS = {
     "inline-type": ("type A [[Int]]\n", ""),
     "member-that-is-a-link": ('type A union { | &A "a" } representation keyed\n', "&A"),
     "lower-case": ("type A int\n", "a"),
+    "float": ("type A int\n", "Float"),
+    "layout": ("type A int advanced HAMT\n", "HAMT"),
+    "inline-list": ("type A [[Int]]\n", "[Int]"),
 }
 
 

@@ -3,6 +3,34 @@
 All places were counted in the texts by hand, in bytes; `schema.py` works them out as well, and `write_cases` asks that both agree.
 """
 GIVEN = ["Any", "Bool", "Bytes", "Int", "Link", "List", "Map", "String", "Float"]
+MOST_PARTS = 1024
+
+# types of parts: what stands before the parts, a part, what ends the type, and how far the name of a part stands behind its beginning
+OF_PARTS = [
+    ("type S struct { ", "f Int ", "}", 0),
+    ("type E enum { ", "| M ", "}", 2),
+    ("type U union { ", '| Int "i" ', "} representation keyed", 2),
+    ("type V union { ", '| &Int "i" ', "} representation keyed", 2),
+]
+
+
+def with_parts(count):
+    """A type of each kind with so many parts."""
+    return [front + part * count + end for front, part, end, _ in OF_PARTS]
+
+
+def behind_most():
+    """Where the name of the first part too many stands, in a type of each kind."""
+    return [len(front) + MOST_PARTS * len(part) + name for front, part, _, name in OF_PARTS]
+
+
+def with_second_marked(count):
+    """A type of each kind with so many parts of one name, with a caret before the second name."""
+    return [front + part + part[:name] + "^" + part[name:] + part * (count - 2) + end for front, part, end, name in OF_PARTS]
+
+
+# a fault of each other kind that the resolver tells, and then a struct of as many fields as there may be
+FAULTS_BEFORE_PARTS = "type Int = Nope advanced Other type F float type S struct { " + "f Nope " * MOST_PARTS
 
 # what is told of the schema, and for each place the schemas that have their first fault there
 FAULTS = {
@@ -115,6 +143,11 @@ FAULTS = {
         (44, "type A {String:Int} representation advanced Float"),
         (9, "advanced Other type A = B"),
         (20, "type A = A advanced Other"),
+    ],
+    "resolve 6 many": [
+        *zip(behind_most(), with_parts(MOST_PARTS + 1)),
+        *zip(behind_most(), with_parts(MOST_PARTS + 2)),
+        (len(FAULTS_BEFORE_PARTS), FAULTS_BEFORE_PARTS + "f Nope }"),
     ],
     "resolve 4 copycycle": [
         (5, "type A = A"),
@@ -292,6 +325,7 @@ MARKED = {
         'type U union { | ^A "k" } representation inline { discriminantKey "k" } type A struct { k Int }',
         'type U union { | ^A "k" } representation inline { discriminantKey "k" } type A struct { a Int (rename "k") }',
         'type U union { | ^A "a" } representation inline { discriminantKey "k" } type A struct { k Int } representation tuple',
+        *with_second_marked(MOST_PARTS),
     ],
     "accept 10 inlinemember": [
         'type U union { | ^A "k" } representation inline { discriminantKey "t" } type A struct { k Int } representation tuple',

@@ -172,6 +172,57 @@ type Q {{String:String}}{PAIRS}type P {{String:String}} representation stringpai
 type D {{String:String}} representation stringpairs {{ innerDelim "=" entryDelim "&&" }}
 type N struct {{ a String b Q }} representation stringjoin {{ join "aa" }}
 """
+# a link inside a union, a list inside a list, and a layout
+NAMES = 'type U union { | &B "b" } representation keyed\ntype B [[Int]]\nadvanced HAMT\n'
+CLUB = """# members of a club
+type Club struct {
+  name String
+  users Users
+  motto optional String
+}
+type Users {String:User} representation advanced HAMT
+type User struct {
+  mail String
+  role Role
+  age nullable Int
+  nick optional String
+  avatar optional Bytes
+  contact Contact
+}
+type Role enum {
+  | Admin ("a")
+  | Guest ("g")
+}
+type Contact union {
+  | Phone "phone"
+  | Room "room"
+} representation keyed
+type Phone string
+type Room struct {
+  floor Int
+  door Int
+} representation tuple
+"""
+# settings in either order, and a member for each kind
+SETTINGS = r"""type M1 {String:Int} representation listpairs
+type M2 {String:String} representation stringpairs { entryDelim "&" innerDelim "=" }
+type S1 struct { a Int (rename "b" implicit -3) c Bool (implicit true) }
+type S2 struct { d optional nullable String e String (implicit "x\"y" rename "f") }
+type S3 struct {} representation listpairs
+type S4 struct { a String (rename "b" implicit "-3") } representation stringpairs { entryDelim "&" innerDelim "=" }
+type S5 struct { d String e String } representation stringjoin { join ":" }
+type S bool
+type Box struct { w Int }
+type Nil unit representation null
+type U1 union { | S "s" } representation envelope { contentKey "body" discriminantKey "tag" }
+type U2 union { | Box "s" } representation inline { discriminantKey "tag" }
+type U3 union { | String "p:" } representation stringprefix
+type U4 union { | Bytes "00" } representation bytesprefix
+type U5 union { | Nil null | S bool | Int int | String string | Bytes bytes | List list | Map map | &S link } representation kinded
+type E1 enum { | Ann ("a") | Bob }
+type E2 enum { | One ("1") } representation int
+type E3 enum { | Ann } representation string
+"""
 
 
 def text(written):
@@ -186,6 +237,77 @@ SHOWN = {
     "data": ("", DATA),
     "no-block": ("", NO_BLOCKS),
     "link": ("", LINKS),
+    "name": (NAMES, [
+        ("Any", b"\x82\x01\xf6", "[1,null]"),
+        ("Any", b"\x61a", '"a"'),
+        ("Bool", b"\xf5", "true"),
+        ("Bool", b"\x01", SHAPE),
+        ("Bytes", b"\x41a", '{"/":{"bytes":"YQ"}}'),
+        ("Bytes", b"\x61a", SHAPE),
+        ("Int", b"\x01", "1"),
+        ("Int", b"\xf5", SHAPE),
+        ("Link", ZERO, ZERO_TEXT),
+        ("Link", b"\x41a", SHAPE),
+        ("List", b"\x82\x01\xf6", "[1,null]"),
+        ("List", b"\xa0", SHAPE),
+        ("Map", b"\xa1\x61a\xf6", '{"a":null}'),
+        ("Map", b"\x80", SHAPE),
+        ("String", b"\x61a", '"a"'),
+        ("String", b"\x41a", SHAPE),
+        ("U", b"\xa1\x61b" + ZERO, '{"&B":%s}' % ZERO_TEXT),
+        ("U", b"\xa1\x61b\x80", SHAPE),
+        ("B", b"\x82\x80\x81\x01", "[[],[1]]"),
+        ("B", b"\x81\x01", SHAPE),
+    ]),
+    "club": (CLUB, [
+        ("Club", b"\xa2\x64name\x61c\x65users" + hamt(bytes(32), b"\x80"), '{"name":"c","users":{}}'),
+        ("Users", hamt(bytes(32), b"\x80"), "{}"),
+        (
+            "User",
+            b"\xa5\x63age\xf6\x64mail\x61m\x64role\x61a\x66avatar\x41a\x67contact\xa1\x65phone\x6212",
+            '{"age":null,"avatar":{"/":{"bytes":"YQ"}},"contact":{"Phone":"12"},"mail":"m","role":"Admin"}',
+        ),
+        ("User", b"\xa5\x63age\x01\x64mail\x61m\x64nick\xf6\x64role\x61g\x67contact\xa1\x65phone\x60", SHAPE),
+        ("Role", text("g"), '"Guest"'),
+        ("Role", text("Guest"), SHAPE),
+        ("Contact", b"\xa1\x64room\x82\x02\x07", '{"Room":{"door":7,"floor":2}}'),
+        ("Phone", text("12"), '"12"'),
+        ("Room", b"\x82\x02\x07", '{"door":7,"floor":2}'),
+        ("Room", b"\x81\x02", SHAPE),
+    ]),
+    "setting": (SETTINGS, [
+        ("M1", b"\x82\x82\x61a\x01\x82\x61b\x02", '{"a":1,"b":2}'),
+        ("M2", text("a=1&b="), '{"a":"1","b":""}'),
+        ("S1", b"\xa0", '{"a":-3,"c":true}'),
+        ("S1", b"\xa2\x61b\x01\x61c\xf4", '{"a":1,"c":false}'),
+        ("S1", b"\xa1\x61a\x01", SHAPE),
+        ("S1", b"\xa1\x61b\x22", SHAPE),
+        ("S1", b"\xa1\x61c\xf5", SHAPE),
+        ("S2", b"\xa0", r'{"e":"x\"y"}'),
+        ("S2", b"\xa2\x61d\xf6\x61f\x61z", '{"d":null,"e":"z"}'),
+        ("S2", b"\xa1\x61f\x63x\"y", SHAPE),
+        ("S3", b"\x80", "{}"),
+        ("S4", text(""), '{"a":"-3"}'),
+        ("S4", text("b=1"), '{"a":"1"}'),
+        ("S5", text("x:y"), '{"d":"x","e":"y"}'),
+        ("U1", b"\xa2\x63tag\x61s\x64body\xf5", '{"S":true}'),
+        ("U2", b"\xa2\x61w\x01\x63tag\x61s", '{"Box":{"w":1}}'),
+        ("U3", text("p:x"), '{"String":"x"}'),
+        ("U4", b"\x42\x00\x01", '{"Bytes":{"/":{"bytes":"AQ"}}}'),
+        ("U5", b"\xf6", '{"Nil":{}}'),
+        ("U5", b"\xf4", '{"S":false}'),
+        ("U5", b"\x20", '{"Int":-1}'),
+        ("U5", b"\x61x", '{"String":"x"}'),
+        ("U5", b"\x41a", '{"Bytes":{"/":{"bytes":"YQ"}}}'),
+        ("U5", b"\x81\x01", '{"List":[1]}'),
+        ("U5", b"\xa1\x61a\x01", '{"Map":{"a":1}}'),
+        ("U5", ZERO, '{"&S":%s}' % ZERO_TEXT),
+        ("E1", text("a"), '"Ann"'),
+        ("E1", text("Bob"), '"Bob"'),
+        ("E1", text("Ann"), SHAPE),
+        ("E2", b"\x01", '"One"'),
+        ("E3", text("Ann"), '"Ann"'),
+    ]),
     "enum": (ENUMS, [
         ("E", b"\x63Yes", '"Yes"'),
         ("E", b"\x61n", '"No"'),

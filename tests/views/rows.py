@@ -109,8 +109,8 @@ for name, rows in ROWS.items():
         blocks[-1][2].append((path, want))
     print("const %s: [Row; %d] = [" % (name, len(blocks)))
     for ty, block, parts in blocks:
-        print('    (\n        "%s",\n        %s,\n        &[' % (ty, literal(block)))
+        print('    (\n        "%s",\n        %s,\n        Asked::Paths(&[' % (ty, literal(block)))
         for path, want in parts:
             print("            (&[%s], Seen::%s)," % (", ".join('"%s"' % p for p in path), want))
-        print("        ],\n    ),")
+        print("        ]),\n    ),")
     print("];\n")
