@@ -4,6 +4,8 @@ mod Finding
 mod Handing
 mod Mapped
 mod Placing
+mod Nulling
+mod Implying
 mod Reading
 mod Fielding
 mod Reaching

@@ -1,6 +1,6 @@
 -- Paths in a view: one segment, and then all.
 use Rattle.std.proofs.Common.{◌≡◌, ◌<◌, ◌≤◌, ◌+◌, ◌^◌, ℕ, zero, suc, List, [], ◌∷◌, Bool, true, false, cond, length, length-append, drop, get_or, Option, Some, None, option_map, refl, sym, ◌∙◌, ap, subst, arith}
-use Rattle.std.specs.Prelude.{option_and_then, slice_get, Ok, Err}
+use Rattle.std.specs.Prelude.{option_and_then, slice_get, Result, Ok, Err}
 use Rattle.std.specs.Option.{option_map_or}
 use Rattle.std.specs.Borrow.{Bor}
 use Rattle.std.proofs.lemmas.Option.{none-some}
@@ -43,6 +43,8 @@ use Rattle.ild_view.specs.Safe.{is_safe}
 use Rattle.ild_view.specs.View.{IsView, slot_of, table_of}
 use Rattle.ild_view.specs.declared.body.Body.{Body}
 use Rattle.ild_view.specs.declared.body.Body.TheVariants as B
+use Rattle.ild_view.specs.declared.step.NoPath.{NoPath}
+use Rattle.ild_view.specs.declared.step.Step.{Step}
 use Rattle.ild_view.specs.declared.step.Step.TheVariants as S
 use Rattle.ild_view.specs.declared.view.View.{View}
 
@@ -225,19 +227,17 @@ module _ (rows : List Row) (from k : ℕ) (p : InSlot) (path : List (List ℕ)) 
       stays : reached rows from p (drop from path) ≡ or_enter k w.to.0 w.to.1
       stays = on ∙ ap Next (not_given rows (part (seen rows w.to) x) (moved rows w.to v x None w.view all))
 
-      enters : (g : Value) (node : NodeView) → RootIs (root_in g) (Some node) → (d : Data) × (g ≡ V.hamt d)
-      enters (V.hamt d) node h = (d, refl)
-      enters g node h = absurd h
+      pub walked_stops : (r : Result Step NoPath) → ((f : Value) → IsView v f → Reaches (table_of v) (or_enter k (slot_of v) f) r) → Reaches rows (reached rows from p (drop from path)) r
+      walked_stops r stop =
+          subst (λ z. Reaches rows z r) (sym stays)
+          (subst (λ (u : Slot). Reaches rows (or_enter k u w.to.1) r) w.view.slot (subst (λ (rs : List Row). Reaches rs (or_enter k (slot_of v) w.to.1) r) w.view.table (stop w.to.1 w.view.view)))
 
-      pub walked_enters : (node : NodeView) → ((f : Value) → IsView v f → RootIs (root_in f) (Some node)) → Reaches rows (reached rows from p (drop from path)) (Ok (S.Enter v k))
-      walked_enters node root =
-          let g = enters w.to.1 node (root w.to.1 w.view.view) in
-          let same : reached rows from p (drop from path) ≡ enter (w.to.0, V.hamt g.0) k = stays ∙ ap (or_enter k w.to.0) g.1 in
-          subst (λ r. Reaches rows r (Ok (S.Enter v k))) (sym same) (subst (λ (z : Value). IsPartView rows (w.to.0, z) v) g.1 w.view, refl)
+-- ---- where it stops
 
-      nowhere : (g : Value) → RootIs (root_in g) None → or_enter k w.to.0 g ≡ no_path k
-      nowhere (V.hamt d) h = absurd h
-      nowhere g h = refl
+pub stop_enters : (v : View) (k : ℕ) (f : Value) (node : NodeView) → IsView v f → RootIs (root_in f) (Some node) → Reaches (table_of v) (or_enter k (slot_of v) f) (Ok (S.Enter v k))
+stop_enters v k (V.hamt d) node is h = (record { table = refl; slot = refl; view = is }, refl)
+stop_enters v k f node is h = absurd h
 
-      pub walked_nowhere : ((f : Value) → IsView v f → RootIs (root_in f) None) → Reaches rows (reached rows from p (drop from path)) (Err (record { k = k }))
-      walked_nowhere root = subst (λ r. Reaches rows r (Err (record { k = k }))) (sym (stays ∙ nowhere w.to.1 (root w.to.1 w.view.view))) refl
+pub stop_nowhere : (v : View) (k : ℕ) (f : Value) → RootIs (root_in f) None → Reaches (table_of v) (or_enter k (slot_of v) f) (Err (record { k = k }))
+stop_nowhere v k (V.hamt d) h = absurd h
+stop_nowhere v k f h = refl

@@ -2,7 +2,7 @@
 ghost use Rattle.std.specs.Prelude.{◌≡◌, drop};
 ghost use Rattle.ild_data.specs.Key.{same_text};
 ghost use Rattle.ild_schema.specs.Value.{Value};
-ghost use Rattle.ild_typed.specs.At.{reached, seen};
+ghost use Rattle.ild_typed.specs.At.{or_enter, reached, seen};
 ghost use Rattle.ild_typed.specs.Segment.{part};
 
 use crate::index::index;
@@ -47,6 +47,17 @@ impl<'b> View<'b> {
         }
     }
 
+    // Where a path stops that has no part for its segment with this number: at the root of a HAMT, which has to be entered, or
+    // nowhere.
+    fn stop(&self, k: usize) -> Result<Step<'b>, NoPath>
+        ensures { (f : Value) → IsView self.now f → Reaches (table_of self.now) (or_enter k (slot_of self.now) f) result }
+    {
+        match self.hamt() {
+            Some(_) => Ok(Step::Enter(*self, k)),
+            None => Err(NoPath { k }),
+        }
+    }
+
     /// The part to which the segments of a path lead, from a segment on, or the root of a HAMT that has to be entered, with the
     /// segment that is its key. A link leads nowhere.
     pub fn at(&self, path: &Path, from: usize) -> Result<Step<'b>, NoPath>
@@ -60,12 +71,7 @@ impl<'b> View<'b> {
                 Some(part) => {
                     view = part;
                 }
-                None => {
-                    return match view.hamt() {
-                        Some(_) => Ok(Step::Enter(view, k)),
-                        None => Err(NoPath { k }),
-                    };
-                }
+                None => return view.stop(k),
             }
             k += 1;
         }
