@@ -1,5 +1,5 @@
 -- Hashed entries: parts of them by index are those of parts of the entries.
-use Rattle.std.proofs.Common.{◌≡◌, ◌<◌, ◌^◌, ◌==◌, ℕ, Bool, true, false, cond, length, get_or, List, [], ◌∷◌, refl, sym, ap, ◌∙◌, subst, filter}
+use Rattle.std.proofs.Common.{◌≡◌, ◌<◌, ◌^◌, ◌==◌, ℕ, Bool, true, false, cond, get_or, List, [], ◌∷◌, refl, sym, ap, ◌∙◌, subst, filter}
 use Rattle.std.specs.Prelude.{IsUtf8}
 use Rattle.std.specs.List.{AllByRecursion}
 use Rattle.std.specs.Global.{Vec}

@@ -53,9 +53,6 @@ marked-many h b [] (m ∷ ms) are = absurd are
 marked-many h b (e ∷ es) [] are = absurd are
 marked-many h b (e ∷ es) (m ∷ ms) are = ap suc (marked-many h b es ms are.1)
 
-pub entries-none : (h : List ℕ → List ℕ) (w : Entries) → w.marks.items ≡ [] → HasEntries h [] w
-entries-none h w marks = record { marks = subst (λ (ms : List Mark). AreMarked h w.out [] ms) (sym marks) tt }
-
 -- one entry more
 pub entries-more : (h : List ℕ → List ℕ) (es : List (List ℕ × Data)) (was now : Entries) (e : List ℕ × Data) (m : Mark) → HasEntries h es was → now.out ≡ was.out ++ entry_spelled e → now.marks.items ≡ was.marks.items ++ m ∷ []
     → IsMarked h now.out e m → HasEntries h (es ++ e ∷ []) now

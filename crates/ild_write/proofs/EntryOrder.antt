@@ -11,10 +11,10 @@ use Rattle.std.proofs.lemmas.Option.{same_Some, none-some}
 use Rattle.ild_bulk.specs.Build.{is_long}
 use Rattle.ild_bulk.specs.Keyed.{AreMarked, IsMarked, entry_front, entry_spelled}
 use Rattle.ild_bulk.proofs.Marking.{marks-grown}
-use Rattle.ild_data.specs.ByteOrder.{bytewise, in_byte_order, no_key_twice, IsInOrder}
+use Rattle.ild_data.specs.ByteOrder.{bytewise, in_byte_order, no_key_twice}
 use Rattle.ild_data.specs.Data as D
 use Rattle.ild_data.specs.Data.{Data, depth}
-use Rattle.ild_data.specs.Limits.{IsWithin, longest_block}
+use Rattle.ild_data.specs.Limits.{longest_block}
 use Rattle.ild_data.specs.Spell.{head, spell, spell_bytes, spell_text}
 use Rattle.ild_data.proofs.Apart.{one_meaning}
 use Rattle.ild_emit.proofs.Growing.{appended, grown_then}

@@ -1,4 +1,4 @@
-use Rattle.std.proofs.Common.{◌+◌, ℕ, List, [], arith, refl, rules, subst, sym, take}
+use Rattle.std.proofs.Common.{◌+◌, ℕ, List, arith, refl, rules, subst, sym, take}
 use Rattle.ild_data.specs.Data.{Data}
 use Rattle.ild_node.specs.Hashed.{AreHashed}
 use Rattle.ild_node.specs.declared.hashed.HashedEntry.{HashedEntry}

@@ -1,4 +1,4 @@
-use Rattle.std.proofs.Common.{rules, List, ◌≡◌, ◌<◌, ◌-◌, ◌+◌, ◌^◌, ◌∙◌, length, arith, sym, subst, Ok, Err}
+use Rattle.std.proofs.Common.{rules, List, ◌-◌, ◌+◌, ◌^◌, ◌∙◌, arith, sym, subst}
 use Rattle.std.proofs.lemmas.Result.{err_from_is_err_and}
 use Rattle.ild_data.specs.Trie.{at_depth, part}
 use Rattle.ild_data.specs.TrieShape.{trie_levels}

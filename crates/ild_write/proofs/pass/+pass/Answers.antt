@@ -47,7 +47,6 @@ use Rattle.ild_write.proofs.Writing.{grown_on, on_err, on_ok, wrote_none, none_p
 use Rattle.std.proofs.Common.{take}
 use Rattle.std.proofs.lemmas.List.{take_all}
 use Rattle.ild_emit.proofs.Growing.{grown_same, on_err_always}
-use Rattle.ild_typed.specs.Nested.{BlockIn}
 use Rattle.ild_write.specs.Weights.{bare_keys}
 use Rattle.ild_write.proofs.Gathering.{Gathered}
 use Rattle.ild_write.proofs.Rooting.{hamt_written, once_by_keys}
