@@ -1,7 +1,6 @@
 //! Enums and units: each form, with the blocks of its members and one for each cause of a refusal.
 use crate::said::{Row, all_said};
 use ild_cbor::Why::{Count, Kind, Member};
-use ild_compile::compile;
 use std::test::Fail;
 
 const SRC: &str =
@@ -39,7 +38,10 @@ const UNITS: [Row; 11] = [
 
 #[test]
 fn enums(rt: HostRuntime) -> Result<(), Fail> {
-    let acc = compile(rt.alloc(), SRC.as_bytes()).ok().ok_or("a schema")?;
-    all_said(&rt, &acc, &ENUMS)?;
-    all_said(&rt, &acc, &UNITS)
+    all_said(&rt, rt.alloc(), SRC, &ENUMS)
+}
+
+#[test]
+fn units(rt: HostRuntime) -> Result<(), Fail> {
+    all_said(&rt, rt.alloc(), SRC, &UNITS)
 }

@@ -2,6 +2,8 @@
 #![tactic(auto)]
 
 #[cfg(test)]
+mod asked;
+#[cfg(test)]
 mod enums;
 #[cfg(test)]
 mod said;
@@ -17,3 +19,5 @@ mod views;
 mod views_at;
 #[cfg(test)]
 mod views_in_order;
+#[cfg(test)]
+mod views_worked;

@@ -1,6 +1,4 @@
-//! What a view shows of a value, in a word.
-ghost use Rattle.std.specs.Prelude.{◌≡◌, ◌<◌, IfOk, false, length};
-
+//! What a view shows of a value, and where paths lead in it.
 use ild_cbor::{Node, check};
 use ild_data::{Path, Txt};
 use ild_schema::{Accepted, Slot};
@@ -8,7 +6,7 @@ use ild_view::{Step, View};
 use std::alloc::Global;
 
 /// What a view shows.
-#[derive(Clone, Copy, Debug, PartialEq, Eq)]
+#[derive(Clone, Copy)]
 pub enum Seen<'b> {
     Null,
     Bool(bool),
@@ -31,46 +29,69 @@ pub enum Seen<'b> {
     Unit,
 }
 
-// What a scalar shows.
-fn scalar<'b>(view: &View<'b>) -> Option<Seen<'b>> {
-    if view.is_null() {
-        return Some(Seen::Null);
-    }
-    if let Some(b) = view.boolean() {
-        return Some(Seen::Bool(b));
-    }
-    if let Some(n) = view.int() {
-        return Some(Seen::Int(n.get()));
-    }
-    if let Some(text) = view.text() {
-        return Some(Seen::Text(text));
-    }
-    if let Some(bytes) = view.bytes() {
-        return Some(Seen::Bytes(bytes));
-    }
-    match view.link() {
-        Some(cid) => Some(Seen::Link(cid.whole())),
-        None => None,
+/// How many of its accessors tell something of a view, and whether it is null.
+fn told_scalars(view: &View<'_>) -> u8 {
+    u8::from(view.is_null())
+        + u8::from(view.boolean().is_some())
+        + u8::from(view.int().is_some())
+        + u8::from(view.text().is_some())
+        + u8::from(view.bytes().is_some())
+        + u8::from(view.link().is_some())
+}
+
+fn told_others(view: &View<'_>) -> u8 {
+    u8::from(view.enum_name().is_some())
+        + u8::from(view.member().is_some())
+        + u8::from(view.len().is_some())
+        + u8::from(view.hamt().is_some())
+}
+
+fn shows_scalar(view: &View<'_>, want: Seen<'_>) -> bool {
+    match want {
+        Seen::Null => view.is_null(),
+        Seen::Bool(b) => view.boolean() == Some(b),
+        Seen::Int(n) => match view.int() {
+            Some(found) => found.get() == n,
+            None => false,
+        },
+        Seen::Text(text) => view.text() == Some(text),
+        Seen::Bytes(bytes) => view.bytes() == Some(bytes),
+        Seen::Link(cid) => match view.link() {
+            Some(found) => found.whole() == cid,
+            None => false,
+        },
+        _ => false,
     }
 }
 
-/// What a view shows.
-pub(crate) fn shown<'b>(view: &View<'b>) -> Seen<'b> {
-    if let Some(seen) = scalar(view) {
-        return seen;
+fn shows_other(view: &View<'_>, want: Seen<'_>) -> bool {
+    match want {
+        Seen::Enum(name) => view.enum_name() == Some(name),
+        Seen::Union(name) => match view.member() {
+            Some((found, _)) => found == name,
+            None => false,
+        },
+        Seen::Parts(count) => view.len() == Some(count),
+        Seen::Hamt => view.hamt().is_some(),
+        _ => false,
     }
-    if let Some(name) = view.enum_name() {
-        return Seen::Enum(name);
+}
+
+/// Whether a view shows this, and nothing else.
+pub(crate) fn shows(view: &View<'_>, want: Seen<'_>) -> bool {
+    let told = (told_scalars(view), told_others(view));
+    match want {
+        Seen::Unit => told == (0, 0),
+        _ => (told == (1, 0) && shows_scalar(view, want))
+            || (told == (0, 1) && shows_other(view, want)),
     }
-    if let Some((name, _)) = view.member() {
-        return Seen::Union(name);
-    }
-    if let Some(count) = view.len() {
-        return Seen::Parts(count);
-    }
-    match view.hamt() {
-        Some(_) => Seen::Hamt,
-        None => Seen::Unit,
+}
+
+/// Whether there is a view, and it shows this.
+pub(crate) fn is_shown(found: Option<View<'_>>, want: Seen<'_>) -> bool {
+    match found {
+        Some(part) => shows(&part, want),
+        None => false,
     }
 }
 
@@ -105,11 +126,12 @@ pub(crate) fn path_of(alloc: Global, segments: &[&str]) -> Result<Path, &'static
     Ok(path)
 }
 
-/// What stands where a path leads.
-pub(crate) fn shown_at<'b>(view: &View<'b>, path: &Path) -> Seen<'b> {
-    match view.at(path, 0) {
-        Ok(Step::Here(part)) => shown(&part),
-        Ok(Step::Enter(_, k)) => Seen::Enter(k),
-        Err(none) => Seen::Nowhere(none.k),
+/// Whether this stands where a path leads.
+pub(crate) fn leads(view: &View<'_>, path: &Path, want: Seen<'_>) -> bool {
+    match (view.at(path, 0), want) {
+        (Ok(Step::Here(part)), _) => shows(&part, want),
+        (Ok(Step::Enter(_, k)), Seen::Enter(wanted)) => k == wanted,
+        (Err(none), Seen::Nowhere(wanted)) => none.k == wanted,
+        _ => false,
     }
 }

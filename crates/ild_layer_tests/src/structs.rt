@@ -1,14 +1,14 @@
-//! Structs: each form, with blocks of its fields and one for each cause of a refusal.
+//! Structs: each form, with blocks of its fields and one for each cause of a refusal. The letters of fields are those of held, absent, null
+//! and implicit ones.
 ghost use Rattle.std.specs.Prelude.{◌≤◌, length};
 ghost use Rattle.ild_struct.specs.Parts.{fields_of};
 
+use crate::said::{Row, Said, all_said};
+use ild_cbor::Piece;
 use ild_cbor::Why::{Count, Delimiter, Implicit, Kind, Missing, Name, Order, Repeat};
-use ild_cbor::{Piece, Why, check};
-use ild_compile::compile;
 use ild_piece::is_null;
-use ild_schema::{Accepted, TypeDef};
+use ild_schema::{Accepted, TypeDef, TypeNo};
 use ild_struct::{Part, StructParts, layer};
-use std::process::Abort;
 use std::test::Fail;
 
 const SRC: &str =
@@ -18,13 +18,10 @@ const SRC: &str =
      b optional String m String (implicit \"i\") } representation stringpairs { innerDelim \"=\" entryDelim \
      \"&\" } type J struct { a String b String } representation stringjoin { join \":\" }";
 
-/// A type, a block, and what is said: a letter a field (held, absent, null, implicit), or the cause of the refusal.
-type Row = (&'static str, &'static [u8], Result<&'static str, Why>);
-
 const MAPS: [Row; 10] = [
-    ("M", b"\xa3am\x01an\xf6ax\x01", Ok("HANH")),
-    ("M", b"\xa2an\x01ax\x01", Ok("HAHI")),
-    ("I", b"\xa0", Ok("I")),
+    ("M", b"\xa3am\x01an\xf6ax\x01", Ok((3, b"HANH"))),
+    ("M", b"\xa2an\x01ax\x01", Ok((2, b"HAHI"))),
+    ("I", b"\xa0", Ok((0, b"I"))),
     ("I", b"\xa1an\x00", Err(Implicit)),
     ("M", b"\x80", Err(Kind)),
     ("M", b"\xa3aa\x01an\x01ax\x01", Err(Name)),
@@ -35,16 +32,16 @@ const MAPS: [Row; 10] = [
 ];
 
 const TUPLES: [Row; 5] = [
-    ("T", b"\x81\x01", Ok("HAA")),
-    ("T", b"\x83\x01\x02\x03", Ok("HHH")),
+    ("T", b"\x81\x01", Ok((1, b"HAA"))),
+    ("T", b"\x83\x01\x02\x03", Ok((3, b"HHH"))),
     ("T", b"\x80", Err(Count)),
     ("T", b"\x84\x01\x02\x03\x04", Err(Count)),
     ("T", b"\xa0", Err(Kind)),
 ];
 
 const LISTS: [Row; 9] = [
-    ("L", b"\x81\x82aa\x01", Ok("HAI")),
-    ("L", b"\x83\x82aa\x01\x82ab\x02\x82am\x05", Ok("HHH")),
+    ("L", b"\x81\x82aa\x01", Ok((1, b"HAI"))),
+    ("L", b"\x83\x82aa\x01\x82ab\x02\x82am\x05", Ok((3, b"HHH"))),
     ("L", b"\xa0", Err(Kind)),
     ("L", b"\x81\x01", Err(Kind)),
     ("L", b"\x81\x82\x01\x01", Err(Kind)),
@@ -66,8 +63,8 @@ const MORE_LISTS: [Row; 8] = [
 ];
 
 const PAIRS: [Row; 6] = [
-    ("P", b"ca=1", Ok("HAI")),
-    ("P", b"ka=1&b=2&m=3", Ok("HHH")),
+    ("P", b"ca=1", Ok((1, b"HAI"))),
+    ("P", b"ka=1&b=2&m=3", Ok((3, b"HHH"))),
     ("P", b"\x80", Err(Kind)),
     ("P", b"aa", Err(Delimiter)),
     ("P", b"ez=1&a", Err(Delimiter)),
@@ -80,12 +77,12 @@ const MORE_PAIRS: [Row; 6] = [
     ("P", b"gb=1&a=1", Err(Order)),
     ("P", b"ga=1&a=2", Err(Repeat)),
     ("P", b"ga=1&m=i", Err(Implicit)),
-    ("P", b"fa==&b=", Ok("HHI")),
+    ("P", b"fa==&b=", Ok((2, b"HHI"))),
 ];
 
 const JOINED: [Row; 6] = [
-    ("J", b"cx:y", Ok("HH")),
-    ("J", b"a:", Ok("HH")),
+    ("J", b"cx:y", Ok((2, b"HH"))),
+    ("J", b"a:", Ok((2, b"HH"))),
     ("J", b"\x01", Err(Kind)),
     ("J", b"ax", Err(Delimiter)),
     ("J", b"ex:y:z", Err(Delimiter)),
@@ -112,84 +109,73 @@ fn are_said(parts: &StructParts<'_>, count: usize, letters: &[u8]) -> bool
     same
 }
 
-/// Whether the parts that are written are those of the letters, each once.
-fn are_written(parts: &StructParts<'_>, letters: &[u8]) -> bool {
-    let mut same = true;
-    let mut count: usize = 0;
+/// How many parts are written, if each is that of its letter.
+fn written(parts: &StructParts<'_>, letters: &[u8]) -> Option<u32> {
+    let mut count: u32 = 0;
     let mut present = parts.present();
     while let Some((i, piece)) = present.next() {
         count = count.saturating_add(1);
-        same &= match letters.get(i) {
-            Some(b'H') => !is_null(&piece),
-            Some(b'N') => is_null(&piece),
-            _ => false,
-        };
+        let letter = if is_null(&piece) { b'N' } else { b'H' };
+        if letters.get(i) != Some(&letter) {
+            return None;
+        }
     }
-    same && count
-        == letters
-            .iter()
-            .filter(|letter| matches!(**letter, b'H' | b'N'))
-            .count()
+    Some(count)
 }
 
-/// Whether a row is said.
-fn is_said(acc: &Accepted, row: &Row) -> Result<bool, &'static str> {
-    let ty = acc.type_named(row.0).ok_or("a type")?;
-    let root = Piece::Node(check(row.1).ok().ok_or("a block")?);
+/// Whether this is said of the layer of a struct.
+pub(crate) fn is_said(
+    acc: &Accepted,
+    ty: TypeNo,
+    root: Piece<'_>,
+    want: Said,
+) -> Result<bool, &'static str> {
     if ty.0 >= acc.types() {
         return Err("a type of the table");
     }
     let TypeDef::Struct(def) = acc.def(acc.base(ty)) else {
-        return Err("a struct");
+        return Err("a union, an enum, a unit or a struct");
     };
-    match (layer(acc, ty, root), row.2) {
-        (Ok(parts), Ok(letters)) => {
-            let letters = letters.as_bytes();
-            Ok(are_said(&parts, def.fields.len(), letters) && are_written(&parts, letters))
-        }
+    match (layer(acc, ty, root), want) {
+        (Ok(parts), Ok((count, letters))) => Ok(
+            are_said(&parts, def.fields.len(), letters) && written(&parts, letters) == Some(count),
+        ),
         (Err(found), Err(wanted)) => Ok(found == wanted),
         _ => Ok(false),
     }
 }
 
-fn all_said(rt: &impl Abort, acc: &Accepted, table: &[Row]) -> Result<(), Fail> {
-    for row in table {
-        assert!(rt; is_said(acc, row)?, "{} {:?}", row.0, row.1);
-    }
-    Ok(())
-}
-
 #[test]
 fn maps(rt: HostRuntime) -> Result<(), Fail> {
-    all_said(&rt, &compile(rt.alloc(), SRC.as_bytes())?, &MAPS)
+    all_said(&rt, rt.alloc(), SRC, &MAPS)
 }
 
 #[test]
 fn tuples(rt: HostRuntime) -> Result<(), Fail> {
-    all_said(&rt, &compile(rt.alloc(), SRC.as_bytes())?, &TUPLES)
+    all_said(&rt, rt.alloc(), SRC, &TUPLES)
 }
 
 #[test]
 fn pairs_of_lists(rt: HostRuntime) -> Result<(), Fail> {
-    all_said(&rt, &compile(rt.alloc(), SRC.as_bytes())?, &LISTS)
+    all_said(&rt, rt.alloc(), SRC, &LISTS)
 }
 
 #[test]
 fn more_pairs_of_lists(rt: HostRuntime) -> Result<(), Fail> {
-    all_said(&rt, &compile(rt.alloc(), SRC.as_bytes())?, &MORE_LISTS)
+    all_said(&rt, rt.alloc(), SRC, &MORE_LISTS)
 }
 
 #[test]
 fn pairs_of_texts(rt: HostRuntime) -> Result<(), Fail> {
-    all_said(&rt, &compile(rt.alloc(), SRC.as_bytes())?, &PAIRS)
+    all_said(&rt, rt.alloc(), SRC, &PAIRS)
 }
 
 #[test]
 fn more_pairs_of_texts(rt: HostRuntime) -> Result<(), Fail> {
-    all_said(&rt, &compile(rt.alloc(), SRC.as_bytes())?, &MORE_PAIRS)
+    all_said(&rt, rt.alloc(), SRC, &MORE_PAIRS)
 }
 
 #[test]
 fn joined_texts(rt: HostRuntime) -> Result<(), Fail> {
-    all_said(&rt, &compile(rt.alloc(), SRC.as_bytes())?, &JOINED)
+    all_said(&rt, rt.alloc(), SRC, &JOINED)
 }

@@ -1,194 +1,173 @@
 //! The parts of views one after another, the data of a view, and root blocks with their types. What is wanted was worked out by hand.
-use crate::seen::{Seen, path_of, shown, view_of};
+use crate::asked::{Asked, Row, all_so};
+use crate::said::number;
+use crate::seen::{Seen, shows, view_of};
 use crate::views_at::SRC;
 use ild_cbor::Why;
 use ild_compile::compile;
-use ild_data::{Octets, Txt};
+use ild_data::Octets;
 use ild_doc::{Doc, DocErr};
-use ild_json::print;
 use ild_schema::Accepted;
-use ild_view::{Step, View};
 use std::alloc::Global;
-use std::process::Abort;
 use std::test::Fail;
 
-/// A type, a block, and its elements in order.
-type List = (&'static str, &'static [u8], &'static [Seen<'static>]);
-
-/// A type, a block, and its keys with their values in order.
-type Map = (
-    &'static str,
-    &'static [u8],
-    &'static [(&'static str, Seen<'static>)],
-);
-
-/// A type, a block, a path and the DAG-JSON of the data there.
-type Data = (
-    &'static str,
-    &'static [u8],
-    &'static [&'static str],
-    &'static str,
-);
-
-const LISTS: [List; 3] = [
+const LISTS: [Row; 3] = [
     (
         "L",
         b"\x83\x01\xf6\x18\x20",
-        &[Seen::Int(1), Seen::Null, Seen::Int(32)],
+        Asked::Items(&[Seen::Int(1), Seen::Null, Seen::Int(32)]),
     ),
-    ("L", b"\x80", &[]),
-    ("A", b"\x82\xf6\x81ax", &[Seen::Null, Seen::Parts(1)]),
+    ("L", b"\x80", Asked::Items(&[])),
+    (
+        "A",
+        b"\x82\xf6\x81ax",
+        Asked::Items(&[Seen::Null, Seen::Parts(1)]),
+    ),
 ];
 
-const MAPS: [Map; 6] = [
+const MAPS: [Row; 6] = [
     (
         "M",
         b"\xa2ab\x80baa\x81\x01",
-        &[("b", Seen::Parts(0)), ("aa", Seen::Parts(1))],
+        Asked::Entries(&[("b", Seen::Parts(0)), ("aa", Seen::Parts(1))]),
     ),
-    ("M", b"\xa0", &[]),
+    ("M", b"\xa0", Asked::Entries(&[])),
     (
         "P",
         b"\x82\x82ab\x01\x82aa\x02",
-        &[("b", Seen::Int(1)), ("a", Seen::Int(2))],
+        Asked::Entries(&[("b", Seen::Int(1)), ("a", Seen::Int(2))]),
     ),
     (
         "Q",
         b"fb=1&a=",
-        &[("b", Seen::Text("1")), ("a", Seen::Text(""))],
+        Asked::Entries(&[("b", Seen::Text("1")), ("a", Seen::Text(""))]),
     ),
-    ("Q", b"\x60", &[]),
-    ("A", b"\xa1ax\xf6", &[("x", Seen::Null)]),
+    ("Q", b"\x60", Asked::Entries(&[])),
+    ("A", b"\xa1ax\xf6", Asked::Entries(&[("x", Seen::Null)])),
 ];
 
-const DATA: [Data; 9] = [
-    ("L", b"\x82\x01\xf6", &[], "[1,null]"),
-    ("M", b"\xa2ab\x80baa\x81\x01", &[], "{\"aa\":[1],\"b\":[]}"),
-    ("P", b"\x82\x82ab\x01\x82aa\x02", &["a"], "2"),
-    ("Q", b"fb=1&a=", &["b"], "\"1\""),
-    ("K", b"ca=1", &["d"], "\"x\""),
-    ("V", b"\xa2akaian\x02", &["I"], "{\"n\":2}"),
-    ("J", b"ewhy:z", &["a"], "\"why\""),
+const DATA: [Row; 9] = [
+    ("L", b"\x82\x01\xf6", Asked::Json(&[], "[1,null]")),
+    (
+        "M",
+        b"\xa2ab\x80baa\x81\x01",
+        Asked::Json(&[], "{\"aa\":[1],\"b\":[]}"),
+    ),
+    ("P", b"\x82\x82ab\x01\x82aa\x02", Asked::Json(&["a"], "2")),
+    ("Q", b"fb=1&a=", Asked::Json(&["b"], "\"1\"")),
+    ("K", b"ca=1", Asked::Json(&["d"], "\"x\"")),
+    ("V", b"\xa2akaian\x02", Asked::Json(&["I"], "{\"n\":2}")),
+    ("J", b"ewhy:z", Asked::Json(&["a"], "\"why\"")),
     (
         "A",
         b"\x83\xf5CabcaA",
-        &[],
-        "[true,{\"/\":{\"bytes\":\"YWJj\"}},\"A\"]",
+        Asked::Json(&[], "[true,{\"/\":{\"bytes\":\"YWJj\"}},\"A\"]"),
     ),
     (
         "H",
         b"\xa3dhamt\x82X \0\0\0\0\0\0\0\0\0\0\0\0\0\0\0\0\0\0\0\0\0\0\0\0\0\0\0\0\0\0\0\0\x80ghashAlg\x12jbucketSize\x03",
-        &[],
-        "{\"bucketSize\":3,\"hamt\":[{\"/\":{\"bytes\":\"AAAAAAAAAAAAAAAAAAAAAAAAAAAAAAAAAAAAAAAAAAA\"}},[]],\"hashAlg\":18}",
+        Asked::Json(
+            &[],
+            "{\"bucketSize\":3,\"hamt\":[{\"/\":{\"bytes\":\"AAAAAAAAAAAAAAAAAAAAAAAAAAAAAAAAAAAAAAAAAAA\"}},[]],\"hashAlg\":18}",
+        ),
     ),
 ];
 
-fn schema(alloc: Global) -> Result<Accepted, &'static str> {
-    compile(alloc, SRC.as_bytes()).ok().ok_or("a schema")
-}
-
-/// The elements are these, one after another.
-fn are_items(rt: &impl Abort, view: &View<'_>, wants: &[Seen<'_>]) -> Result<(), Fail> {
-    let mut left = view.items().ok_or("a list")?;
-    for want in wants {
-        let part = left.next().ok_or("an element")?;
-        assert_eq!(rt; shown(&part), *want);
-    }
-    assert!(rt; left.next().is_none());
-    Ok(())
-}
-
-/// The entries are these, one after another, and each is the one at its key.
-fn are_entries(rt: &impl Abort, view: &View<'_>, wants: &[(&str, Seen<'_>)]) -> Result<(), Fail> {
-    let mut left = view.entries().ok_or("a map")?;
-    for (name, want) in wants {
-        let (key, part) = left.next().ok_or("an entry")?;
-        assert_eq!(rt; key, *name);
-        assert_eq!(rt; shown(&part), *want);
-        let found = view.entry(name).ok_or("a value")?;
-        assert_eq!(rt; shown(&found), *want);
-    }
-    assert!(rt; left.next().is_none());
-    Ok(())
-}
+const FIELDS: [Row; 3] = [
+    (
+        "R",
+        b"\x81\x82aa\x01",
+        Asked::Fields(&[("a", Seen::Int(1)), ("b", Seen::Int(1))]),
+    ),
+    (
+        "T",
+        b"\x83\x01\x02\x80",
+        Asked::Fields(&[("b", Seen::Int(2)), ("c", Seen::Parts(0))]),
+    ),
+    (
+        "J",
+        b"ewhy:z",
+        Asked::Fields(&[("b", Seen::Text("z")), ("a", Seen::Enum("y"))]),
+    ),
+];
 
 #[test]
 fn elements(rt: HostRuntime) -> Result<(), Fail> {
-    let alloc = rt.alloc();
-    let acc = schema(alloc)?;
-    for (name, block, wants) in &LISTS {
-        are_items(&rt, &view_of(alloc, &acc, name, block)?, wants)?;
-    }
-    Ok(())
+    all_so(&rt, rt.alloc(), SRC, &LISTS)
 }
 
 #[test]
 fn entries(rt: HostRuntime) -> Result<(), Fail> {
-    let alloc = rt.alloc();
-    let acc = schema(alloc)?;
-    for (name, block, wants) in &MAPS {
-        are_entries(&rt, &view_of(alloc, &acc, name, block)?, wants)?;
-    }
-    Ok(())
+    all_so(&rt, rt.alloc(), SRC, &MAPS)
 }
 
-/// The DAG-JSON of the data at a path is this.
-fn is_json(rt: &impl Abort, alloc: Global, acc: &Accepted, row: &Data) -> Result<(), Fail> {
-    let view = view_of(alloc, acc, row.0, row.1)?;
-    let path = path_of(alloc, row.2)?;
-    let Ok(Step::Here(part)) = view.at(&path, 0) else {
-        return Err("a part".into());
-    };
-    let tree = part.rep(alloc).ok().ok_or("memory")?;
-    let json = print(alloc, &tree).ok().ok_or("a text")?;
-    assert_eq!(rt; json.as_str(), row.3);
-    Ok(())
+#[test]
+fn fields(rt: HostRuntime) -> Result<(), Fail> {
+    all_so(&rt, rt.alloc(), SRC, &FIELDS)
 }
 
 #[test]
 fn data(rt: HostRuntime) -> Result<(), Fail> {
-    let acc = schema(rt.alloc())?;
-    for row in &DATA {
-        is_json(&rt, rt.alloc(), &acc, row)?;
-    }
+    all_so(&rt, rt.alloc(), SRC, &DATA)
+}
+
+/// Whether an element of a list has the slot of elements, the schema of the list, and a piece of the block.
+fn is_an_element(alloc: Global, acc: &Accepted) -> Result<bool, &'static str> {
+    let view = view_of(alloc, acc, "L", b"\x82\x01\xf6")?;
+    let part = view.item(1).ok_or("an element")?;
+    let slot = part.slot();
+    Ok(
+        slot.nullable
+            && slot.ty == number(acc, "Int")?
+            && part.schema().types() == acc.types()
+            && part.piece().is_some(),
+    )
+}
+
+#[test]
+fn slots(rt: HostRuntime) -> Result<(), Fail> {
+    let acc = compile(rt.alloc(), SRC.as_bytes()).ok().ok_or("a schema")?;
+    assert!(rt; is_an_element(rt.alloc(), &acc)?);
     Ok(())
 }
 
-/// What the view of a root block shows, with its id in text, or a word for why bytes are no root block of the type.
-fn opened<'a>(
-    alloc: Global,
-    acc: &'a Accepted,
-    name: &str,
-    bytes: &[u8],
-) -> Result<Result<(Doc<'a>, Txt), &'static str>, Fail> {
-    let ty = acc.type_named(name).ok_or("a type")?;
+/// Bytes, and the text of the id of the list that they are, or what is wrong with them: no block, or the cause why they are no list.
+type Root = (&'static [u8], Result<&'static str, Option<Why>>);
+
+const ROOTS: [Root; 3] = [
+    (
+        b"\x82\x01\xf6",
+        Ok("bafyreidkordfmpj7aoqd4chjc63crb3tl5qx7c4bpddyrmvdwciubxphem"),
+    ),
+    (b"\x82\x01", Err(None)),
+    (b"\x01", Err(Some(Why::Kind))),
+];
+
+/// Whether a root block has this id, is these bytes, and shows two elements.
+fn is_list(alloc: Global, doc: &Doc<'_>, bytes: &[u8], id: &str) -> Result<bool, &'static str> {
+    let text = doc.root().text(alloc).ok().ok_or("memory")?;
+    Ok(text.as_str() == id && doc.block() == bytes && shows(&doc.view(), Seen::Parts(2)))
+}
+
+fn is_root(alloc: Global, acc: &Accepted, row: &Root) -> Result<bool, &'static str> {
+    let ty = number(acc, "L")?;
     if ty.0 >= acc.types() {
-        return Err("a type of the table".into());
+        return Err("a type of the table");
     }
-    match Doc::of(alloc, acc, ty, Octets::of(alloc, bytes)?) {
-        Ok(doc) => {
-            let text = doc.root().text(alloc)?;
-            Ok(Ok((doc, text)))
-        }
-        Err(DocErr::Cbor(_)) => Ok(Err("no block")),
-        Err(DocErr::Shape(Why::Kind)) => Ok(Err("of another kind")),
-        Err(_) => Ok(Err("for another cause")),
+    let block = Octets::of(alloc, row.0).ok().ok_or("memory")?;
+    match (Doc::of(alloc, acc, ty, block), row.1) {
+        (Ok(doc), Ok(id)) => is_list(alloc, &doc, row.0, id),
+        (Err(DocErr::Cbor(_)), Err(None)) => Ok(true),
+        (Err(DocErr::Shape(why)), Err(Some(wanted))) => Ok(why == wanted),
+        _ => Ok(false),
     }
 }
 
 #[test]
 fn roots(rt: HostRuntime) -> Result<(), Fail> {
-    let acc = schema(rt.alloc())?;
-    let (doc, id) = opened(rt.alloc(), &acc, "L", b"\x82\x01\xf6")??;
-    assert_eq!(rt;
-        id.as_str(),
-        "bafyreidkordfmpj7aoqd4chjc63crb3tl5qx7c4bpddyrmvdwciubxphem"
-    );
-    assert_eq!(rt; doc.block(), b"\x82\x01\xf6".as_slice());
-    assert_eq!(rt; shown(&doc.view()), Seen::Parts(2));
-    let none = opened(rt.alloc(), &acc, "L", b"\x82\x01")?.err();
-    assert_eq!(rt; none, Some("no block"));
-    let none = opened(rt.alloc(), &acc, "L", b"\x01")?.err();
-    assert_eq!(rt; none, Some("of another kind"));
+    let acc = compile(rt.alloc(), SRC.as_bytes()).ok().ok_or("a schema")?;
+    for row in &ROOTS {
+        assert!(rt; is_root(rt.alloc(), &acc, row)?, "{:?}", row.0);
+    }
     Ok(())
 }
