@@ -33,13 +33,13 @@ use Rattle.ild_typed.specs.Stands.{Stands, bare, blocks_of}
 use Rattle.ild_held.proofs.Roots.{held_stand, standing_are_held}
 use Rattle.ild_held.specs.Held.{IsHeld}
 use Rattle.ild_held.specs.Roots.{IsRooted}
-use Rattle.ild_read.specs.Broken.{IsBroken}
+use Rattle.ild_read.specs.Broken.{HasBrokenBlock}
 use Rattle.ild_read.specs.Reads.{Reads}
 use Rattle.ild_read.specs.declared.fault.OpenFault.{OpenFault}
 use Rattle.ild_read.specs.declared.fault.OpenFault.TheVariants as F
 use Rattle.ild_open.specs.Broken.{IsWrongRoot}
 use Rattle.ild_open.specs.Found.{FindAnswer, Finds, HasKept, ReadsRoot}
-use Rattle.ild_open.specs.Opened.{HasOpened, HasValue, IsRootOf, NoneStands, OpenStops, Opens}
+use Rattle.ild_open.specs.Opened.{HasOpened, HasValue, StandsInBlock, NoneStands, OpenStops, Opens}
 use Rattle.ild_read.proofs.Breaking.{broken_earlier, rose_later}
 use Rattle.ild_read.proofs.Turning.{only_trans}
 
@@ -69,7 +69,7 @@ module _ (rows : List Row) (schema : IsSchema rows) (h : List ℕ → List ℕ) 
   is_held held v st b t there x = subst (λ u. IsHeld (block_at held) h rows deepest (plainly ty) u v) (same_tree b st.tree t (is_block held v st b there) x) (rooted held v st).held
 
   -- and a value that they represent stands there
-  root_stands : (held : List (List ℕ)) (b : List ℕ) (t : Data) → id_of b ≡ id → block_at held id ≡ Some b → IsBlockOf b t → (v : Value) → IsHeld (block_at held) h rows deepest (plainly ty) t v → IsRootOf h rows ty id held b v
+  root_stands : (held : List (List ℕ)) (b : List ℕ) (t : Data) → id_of b ≡ id → block_at held id ≡ Some b → IsBlockOf b t → (v : Value) → IsHeld (block_at held) h rows deepest (plainly ty) t v → StandsInBlock h rows ty id held b v
   root_stands held b t named there x v has =
       let same : id_of (spell t) ≡ id = ap id_of (sym x.spelled) ∙ named in
       let here : block_at held (id_of (spell t)) ≡ Some (spell t) = ap (block_at held) same ∙ there ∙ ap Some x.spelled in
@@ -144,7 +144,7 @@ module _ (rows : List Row) (schema : IsSchema rows) (h : List ℕ → List ℕ) 
       gets = gets (Ok val) reads;
     }
 
-    broken : (at : List ℕ) (why : BlockWhy) → IsBroken h rows k.blocks k.lacks n.lacks id 96 (plainly ty) t at why → IsBroken h rows m.blocks m.lacks n.lacks id 96 (plainly ty) t at why
+    broken : (at : List ℕ) (why : BlockWhy) → HasBrokenBlock h rows k.blocks k.lacks n.lacks id 96 (plainly ty) t at why → HasBrokenBlock h rows m.blocks m.lacks n.lacks id 96 (plainly ty) t at why
     broken at why b = broken_earlier h id rows 96 (plainly ty, t) m k n at why x.only b
 
     breaks : (e : OpenFault) → Reads h id rows 96 (plainly ty, t) keep k (Err e) n → OpenStops h rows ty id m e n
@@ -176,7 +176,7 @@ module _ (h : List ℕ → List ℕ) (rows : List Row) (ty : TypeNo) (id : List 
       table = x.answer.table;
       type = x.answer.type;
       root = x.answer.root;
-      value = λ held told. let a = x.answer.value held told in subst (λ v. IsRootOf h rows ty id held (block_in p.0) v) (sym (a.kept refl)) a.is;
+      value = λ held told. let a = x.answer.value held told in subst (λ v. StandsInBlock h rows ty id held (block_in p.0) v) (sym (a.kept refl)) a.is;
     };
     only = x.only;
     gets = x.gets;

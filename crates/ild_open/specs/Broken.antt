@@ -13,7 +13,7 @@ use Rattle.ild_schema.specs.Slots.{plainly}
 use Rattle.ild_schema.specs.declared.number.TypeNo.{TypeNo}
 use Rattle.ild_schema.specs.declared.row.Row.{Row}
 use Rattle.ild_walker.specs.OnTree.{IsAt}
-use Rattle.ild_read.specs.Broken.{IsBroken}
+use Rattle.ild_read.specs.Broken.{HasBrokenBlock}
 
 -- it isn't held; it is no block; or its tree has no front of the type
 abbrev pub IsWrongRoot : List Row → Option (List (List ℕ)) → ℕ → ℕ → TypeNo → List ℕ → BlockWhy → Type 0
@@ -27,7 +27,7 @@ pub record IsWrongInRoot (h : List ℕ → List ℕ) (rows : List Row) (told : O
   pub at : IsAt told root block
   pub tree : Data
   pub is : IsBlockOf block tree
-  pub wrong : IsBroken h rows told before now root 96 (plainly ty) tree id why
+  pub wrong : HasBrokenBlock h rows told before now root 96 (plainly ty) tree id why
 
 -- a block of the tree of blocks of a value of a type, from the root block's id on, is refused for a cause that holds
 abbrev pub IsRefused : (List ℕ → List ℕ) → List Row → Option (List (List ℕ)) → ℕ → ℕ → TypeNo → List ℕ → List ℕ → BlockWhy → Type 0

@@ -23,7 +23,7 @@ use Rattle.ild_read.specs.Reads.{OnlyReads, Reads}
 use Rattle.ild_read.specs.declared.fault.OpenFault.{OpenFault}
 use Rattle.ild_read.specs.declared.fault.OpenFault.TheVariants as F
 use Rattle.ild_open.specs.Broken.{IsWrongRoot}
-use Rattle.ild_open.specs.Opened.{IsRootOf}
+use Rattle.ild_open.specs.Opened.{StandsInBlock}
 
 -- ---- the block of a root
 
@@ -67,7 +67,7 @@ ReadsRoot h rows ty id b keep m r n = (t : Data) → IsBlockOf b t → HasFront 
 -- the value that stands there, which is kept where it is to be
 pub record IsKept (h : List ℕ → List ℕ) (rows : List Row) (ty : TypeNo) (id : List ℕ) (held : List (List ℕ)) (block : List ℕ) (keep : Bool) (val : Val) : Type 0 where
   pub value : Value
-  pub is : IsRootOf h rows ty id held block value
+  pub is : StandsInBlock h rows ty id held block value
   pub kept : keep ≡ true → value_of val ≡ value
 
 pub record HasKept (h : List ℕ → List ℕ) (rows : List Row) (ty : TypeNo) (id : List ℕ) (m : Moment) (keep : Bool) (result : Doc × Val) : Type 0 where

@@ -21,7 +21,7 @@ use Rattle.ild_schema.specs.declared.val.Val.{Val}
 use Rattle.ild_typed.specs.Blocks.{nodes}
 use Rattle.ild_walk.specs.Checks.{IsRefusal}
 use Rattle.ild_held.specs.Held.{IsHeld}
-use Rattle.ild_read.specs.Broken.{IsBroken}
+use Rattle.ild_read.specs.Broken.{HasBrokenBlock}
 use Rattle.ild_read.specs.Reads.{NoValue, OnlyReads, Stops}
 use Rattle.ild_read.specs.declared.fault.OpenFault.{OpenFault}
 
@@ -36,7 +36,7 @@ pub record IsDeep (rows : List Row) (s : Slot) (t : Data) (at id : List ℕ) (wh
 module _ (h : List ℕ → List ℕ) (rows : List Row) (s : Slot) where
   -- why a block is refused, where the data stand in the block `at`
   abbrev pub IsStopped : List ℕ → Data → Moment → Moment → List ℕ → BlockWhy → Type 0
-  IsStopped at t m n id why = IsDeep rows s t at id why ⊎ IsBroken h rows m.blocks m.lacks n.lacks at 96 s t id why
+  IsStopped at t m n id why = IsDeep rows s t at id why ⊎ HasBrokenBlock h rows m.blocks m.lacks n.lacks at 96 s t id why
 
   abbrev pub DataAnswer : (List ℕ → BlockWhy → Type 0) → Data → Moment → Result Val OpenFault → Moment → Type 0
   DataAnswer Stopped t m (Ok val) n = (held : List (List ℕ)) → m.blocks ≡ Some held → IsHeld (block_at held) h rows 96 s t (value_of val)

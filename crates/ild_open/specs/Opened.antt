@@ -17,7 +17,7 @@ use Rattle.ild_read.specs.declared.fault.OpenFault.TheVariants as F
 use Rattle.ild_open.specs.Broken.{IsRefused}
 
 -- the value stands under the id, and the block is that of its representation
-pub record IsRootOf (h : List ℕ → List ℕ) (rows : List Row) (ty : TypeNo) (id : List ℕ) (held : List (List ℕ)) (block : List ℕ) (v : Value) : Type 0 where
+pub record StandsInBlock (h : List ℕ → List ℕ) (rows : List Row) (ty : TypeNo) (id : List ℕ) (held : List (List ℕ)) (block : List ℕ) (v : Value) : Type 0 where
   pub stands : Stands bare (block_at held) h rows ty id v
   pub spelled : block ≡ spell stands.tree
 
@@ -26,14 +26,14 @@ pub record HasOpened (h : List ℕ → List ℕ) (rows : List Row) (ty : TypeNo)
   pub table : table_in d ≡ rows
   pub type : type_in d ≡ ty
   pub root : id_of (block_in d) ≡ id
-  pub value : (held : List (List ℕ)) → m.blocks ≡ Some held → (v : Value) × IsRootOf h rows ty id held (block_in d) v
+  pub value : (held : List (List ℕ)) → m.blocks ≡ Some held → (v : Value) × StandsInBlock h rows ty id held (block_in d) v
 
 -- with that value
 pub record HasValue (h : List ℕ → List ℕ) (rows : List Row) (ty : TypeNo) (id : List ℕ) (m : Moment) (result : Doc × Val) : Type 0 where
   pub table : table_in result.0 ≡ rows
   pub type : type_in result.0 ≡ ty
   pub root : id_of (block_in result.0) ≡ id
-  pub value : (held : List (List ℕ)) → m.blocks ≡ Some held → IsRootOf h rows ty id held (block_in result.0) (value_of result.1)
+  pub value : (held : List (List ℕ)) → m.blocks ≡ Some held → StandsInBlock h rows ty id held (block_in result.0) (value_of result.1)
 
 -- no value stands there, where the store tells what it holds
 abbrev pub NoneStands : (List ℕ → List ℕ) → List Row → TypeNo → List ℕ → Moment → Type 0

@@ -14,7 +14,7 @@ use Rattle.ild_typed.specs.Pieces.{needs}
 use Rattle.ild_walker.specs.OnTree.{IsWrong}
 use Rattle.ild_walker.specs.Standing.{IsWrongOnTree}
 use Rattle.ild_held.specs.Splits.{Part}
-use Rattle.ild_read.specs.Broken.{IsBroken, IsWrongAt, IsWrongBelow, IsWrongEntry, IsWrongIn}
+use Rattle.ild_read.specs.Broken.{HasBrokenBlock, IsWrongAt, IsWrongBelow, IsWrongEntry, IsWrongIn}
 use Rattle.ild_read.specs.Reads.{BrokenPart, BrokenParts, OnlyReads}
 use Rattle.ild_read.specs.Sites.{HasSite, IsPartOf, Site}
 
@@ -53,7 +53,7 @@ module _ (h : List ℕ → List ℕ) (rows : List Row) (told : Option (List (Lis
 pub broken_earlier : (h : List ℕ → List ℕ) (at : List ℕ) (rows : List Row) (room : ℕ) (p : Part) (m n o : Moment) (id : List ℕ) (why : BlockWhy) → OnlyReads m n → BrokenPart h at rows room p n o id why
     → BrokenPart h at rows room p m o id why
 broken_earlier h at rows room p m n o id why only x =
-    subst (λ told. IsBroken h rows told m.lacks o.lacks at room p.0 p.1 id why) only.blocks
+    subst (λ told. HasBrokenBlock h rows told m.lacks o.lacks at room p.0 p.1 id why) only.blocks
     (record { deep = x.deep; wrong = wrong_earlier h rows n.blocks m.lacks n.lacks o.lacks only.later.lacks id why x.deep at room p.0 p.1 x.wrong })
 
 -- ---- one step further
@@ -82,7 +82,7 @@ module _ (h : List ℕ → List ℕ) (rows : List Row) (told : Option (List (Lis
   wrong_whole zero w = absurd w
   wrong_whole (suc deep) w = at_whole (λ z b d. IsWrongIn deep h rows told before now b z.room z.value d id why) w
 
-  whole_wrong : IsBroken h rows told before now at less p.0 p.1 id why → IsBroken h rows told before now at room s t id why
+  whole_wrong : HasBrokenBlock h rows told before now at less p.0 p.1 id why → HasBrokenBlock h rows told before now at room s t id why
   whole_wrong x = record { deep = x.deep; wrong = wrong_whole x.deep x.wrong }
 
 pub whole_broken : (h : List ℕ → List ℕ) (at : List ℕ) (rows : List Row) (room less : ℕ) (s : Slot) (t : Data) (ps : List Part) (m n : Moment) (id : List ℕ) (why : BlockWhy) → AreParts rows room s t less ps

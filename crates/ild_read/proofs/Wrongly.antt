@@ -23,7 +23,7 @@ use Rattle.ild_walker.specs.OnTree.{HasNode}
 use Rattle.ild_walker.specs.Standing.{IsWrongOnTree, StandsThere}
 use Rattle.ild_walker.specs.declared.row.Row.{Row as Listed}
 use Rattle.ild_rooted.proofs.Trees.{IsTreed, IsTreedSlot, node_trees}
-use Rattle.ild_read.specs.Broken.{IsBroken, IsWrongBelow, IsWrongEntry, IsWrongIn, IsWrongPart}
+use Rattle.ild_read.specs.Broken.{HasBrokenBlock, IsWrongBelow, IsWrongEntry, IsWrongIn, IsWrongPart}
 use Rattle.ild_read.specs.Hamts.{BrokenRows, BrokenTree, HasBroken, IsWrongRow, RowsStand}
 use Rattle.ild_read.specs.Reads.{BrokenPart, OnlyReads}
 use Rattle.ild_read.specs.Sites.{HasEntry, Site}
@@ -53,7 +53,7 @@ module _ (h : List ℕ → List ℕ) (at : List ℕ) (rows : List Row) (room les
 
   module _ (told : Option (List (List ℕ))) (slots : List TrieSlot) (root : IsRoot usual slots t) (before now : ℕ) (id : List ℕ) (why : BlockWhy) where
     hamt_wrong : (deep : ℕ) → IsWrongOnTree h told slots at before now id why ⊎ IsWrongEntry rows told (site slots) id why ⊎ IsWrongBelow told (site slots) (λ b d. IsWrongIn deep h rows told before now b less u d id why)
-        → IsBroken h rows told before now at room s t id why
+        → HasBrokenBlock h rows told before now at room s t id why
     hamt_wrong deep w = record {
       deep = suc deep;
       wrong = record { steps = zero; site = site slots; has = record { key_at = key_at; at = place; form = form; root = root; left = left }; here = refl; wrong = w };
@@ -66,7 +66,7 @@ module _ (h : List ℕ → List ℕ) (at : List ℕ) (rows : List Row) (room les
       own_tree : (d : Data) → IsBlockOf row.value d → d ≡ x.value
       own_tree d spelled = same_tree d x.value row.value spelled x.spelled (row_treed told slots t root tree at row x)
 
-      row_wrong : id ≡ row.block.0 → IsWrongRow rows less key u row why → IsBroken h rows told before now at room s t id why
+      row_wrong : id ≡ row.block.0 → IsWrongRow rows less key u row why → HasBrokenBlock h rows told before now at room s t id why
       row_wrong same w = hamt_wrong zero (inr (inl (record {
         key = row.key;
         value = x.value;
@@ -76,7 +76,7 @@ module _ (h : List ℕ → List ℕ) (at : List ℕ) (rows : List Row) (room les
         wrong = subst (λ d. IsWrongPart rows less key u row.key d w.cause) (own_tree w.tree w.spelled) w.wrong;
       })))
 
-      row_broken : (d : Data) → IsBlockOf row.value d → IsBroken h rows told before now row.block.0 less u d id why → IsBroken h rows told before now at room s t id why
+      row_broken : (d : Data) → IsBlockOf row.value d → HasBrokenBlock h rows told before now row.block.0 less u d id why → HasBrokenBlock h rows told before now at room s t id why
       row_broken d spelled w = hamt_wrong w.deep (inr (inr (record {
         block = row.block.0;
         key = row.key;

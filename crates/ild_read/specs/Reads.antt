@@ -10,7 +10,7 @@ use Rattle.ild_schema.specs.declared.val.Val.{Val}
 use Rattle.ild_typed.specs.Blocks.{nodes}
 use Rattle.ild_held.specs.Held.{IsHeld}
 use Rattle.ild_held.specs.Splits.{AreHeld, Part, nodes_in}
-use Rattle.ild_read.specs.Broken.{IsBroken}
+use Rattle.ild_read.specs.Broken.{HasBrokenBlock}
 use Rattle.ild_read.specs.declared.fault.OpenFault.{OpenFault}
 use Rattle.ild_read.specs.declared.fault.OpenFault.TheVariants as F
 
@@ -40,7 +40,7 @@ NoValue h rows room p m = (held : List (List ℕ)) (v : Value) → m.blocks ≡ 
 
 -- something is wrong in the data, which stand in the block `at`
 abbrev pub BrokenPart : (List ℕ → List ℕ) → List ℕ → List Row → ℕ → Part → Moment → Moment → List ℕ → BlockWhy → Type 0
-BrokenPart h at rows room p m n id why = IsBroken h rows m.blocks m.lacks n.lacks at room p.0 p.1 id why
+BrokenPart h at rows room p m n id why = HasBrokenBlock h rows m.blocks m.lacks n.lacks at room p.0 p.1 id why
 
 abbrev pub ReadAnswer : (List ℕ → List ℕ) → List ℕ → List Row → ℕ → Part → Bool → Moment → Result Val OpenFault → Moment → Type 0
 ReadAnswer h at rows room p keep m (Ok val) n = (held : List (List ℕ)) → m.blocks ≡ Some held → HasValue h rows room p keep held val

@@ -19,7 +19,11 @@ fn walk_fault(fault: &HamtFault) -> OpenFault
     match fault {
         HamtFault::Block { id, why } => OpenFault::Block { id: *id, why: *why },
         HamtFault::Store => OpenFault::Store,
-        _ => OpenFault::Memory,
+        HamtFault::Exhausted
+        | HamtFault::Clash { .. }
+        | HamtFault::Size
+        | HamtFault::NoKey
+        | HamtFault::Memory => OpenFault::Memory,
     }
 }
 
