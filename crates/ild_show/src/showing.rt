@@ -14,7 +14,7 @@ use ild_edges::Store;
 use ild_json::{PrintErr, print};
 use ild_open::{OpenFault, open_value};
 use ild_schema::{Accepted, Slot, TypeNo, Val};
-use ild_value::shown;
+use ild_shown::shown;
 use std::alloc::Global;
 
 /// The JSON of a value of a type, in its shown form.

@@ -1,12 +1,7 @@
-pub mod Heights
-pub mod Fronts
 pub mod Leaves
 pub mod AllOf
 pub mod Shows
 pub mod Entries
 pub mod Taken
 pub mod Named
-pub mod Picked
-pub mod Orders
-pub mod Forms
 pub mod Exact

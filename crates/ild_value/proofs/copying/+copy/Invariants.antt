@@ -1,7 +1,7 @@
 use Rattle.std.proofs.Common.{◌≡◌, ◌+◌, ◌-◌, ◌*◌, length, take}
 use Rattle.ild_schema.specs.Value.{height, values_height, pairs_height, optionals_height, values_list, pairs_list, optionals_list}
 use Rattle.ild_schema.specs.ValueSeen.{optional_of, value_of}
-use Rattle.ild_value.proofs.Heights.{field_height}
+use Rattle.ild_shown.proofs.Heights.{field_height}
 use Rattle.ild_value.proofs.copying.+copy.Given as goal
 
 abbrev pub decreases-copy : goal.decreases-copy

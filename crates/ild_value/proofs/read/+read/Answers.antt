@@ -23,7 +23,7 @@ use Rattle.ild_value.specs.Readings.{Means, IsRefused}
 use Rattle.ild_value.proofs.AllOf.{all_of, all_next, all_step, all_whole}
 use Rattle.ild_value.proofs.Entries.{only_depth, rises_seen}
 use Rattle.ild_value.proofs.Taken.{found_depth, found_low, kept_first, kept_next}
-use Rattle.ild_value.proofs.Picked.{number_low, picked, if_ok}
+use Rattle.ild_shown.proofs.Picked.{number_low, picked, if_ok}
 use Rattle.ild_value.proofs.Shows.{read_item, read_pair, read_field, list_means, list_refused, map_means, map_refused, key_refused, key_read, struct_means, name_refused, field_refused, field_there, field_gone, union_means, union_refused, many_refused, stranger_refused}
 use Rattle.ild_value.proofs.read.+read.Goals as goal
 

@@ -16,8 +16,8 @@ use Rattle.ild_schema.specs.declared.def.TypeDef.TheVariants as T
 use Rattle.ild_schema.specs.declared.def.StructDef.{StructDef}
 use Rattle.ild_schema.specs.Table.{IsWithin}
 use Rattle.ild_typed.specs.Slots.{fields_of}
-use Rattle.ild_value.proofs.Fronts.{take_next, take_past}
-use Rattle.ild_value.proofs.Heights.{optional_height}
+use Rattle.ild_shown.proofs.Fronts.{take_next, take_past}
+use Rattle.ild_shown.proofs.Heights.{optional_height}
 
 -- ---- a list that is made of another, part by part
 

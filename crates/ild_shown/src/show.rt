@@ -1,10 +1,11 @@
 //! The shown form of values.
-ghost use Rattle.std.specs.Prelude.{◌≡◌, ◌<◌, ◌∷◌, [], IfOk, IfSome, length, map, option_map, slice_get};
+ghost use Rattle.std.specs.Prelude.{◌≡◌, ◌<◌, ◌∷◌, [], IfOk, IfSome, Some, length, map, option_map, slice_get};
 ghost use Rattle.std.specs.Option.{option_and_then, option_map_or};
 ghost use Rattle.ild_data.specs.Data.{members_list, members_of, no_items};
 ghost use Rattle.ild_data.specs.Seen.{data_of, pair_of};
 ghost use Rattle.std.specs.List.{All};
 ghost use Rattle.ild_schema.specs.Slots.{form_of};
+ghost use Rattle.ild_schema.specs.Table.{IsWithin};
 ghost use Rattle.ild_schema.specs.Value.{optionals_list};
 ghost use Rattle.ild_schema.specs.ValueSeen.{value_of};
 ghost use Rattle.ild_typed.specs.Shown.{shown, shown_fields, shown_pairs, shown_values};
@@ -12,7 +13,6 @@ ghost use Rattle.ild_typed.specs.Slots.{element_of, enum_member_at, fields_of, m
 ghost use Rattle.ild_typed.specs.Strings.{in_key_order};
 
 use crate::order::in_order;
-use crate::scalar::form;
 use ild_data::{Entries, Tree, Trees, Txt};
 use ild_schema::{Accepted, Field, Member, Slot, TypeDef, Val, ValFields, ValPairs, ValPart, Vals};
 use std::alloc::{AllocError, Global};
@@ -39,6 +39,15 @@ pub fn shown(alloc: Global, acc: &Accepted, slot: Slot, val: &Val) -> Result<Tre
         Val::Unit => Ok(Tree::Map(Entries::new(alloc))),
         Val::Any(tree) => Ok(tree.copy()?),
     }
+}
+
+// What the table says of a slot's type, copies followed.
+fn form(acc: &Accepted, slot: Slot) -> &TypeDef
+    requires { slot.ty.0 < length acc.now }
+    ensures form { form_of acc.now slot ≡ Some result.now }
+    ensures within { IsWithin (length acc.now) result.now }
+{
+    acc.def(acc.base(slot.ty))
 }
 
 // The slot of a list's elements, or of a map's values.

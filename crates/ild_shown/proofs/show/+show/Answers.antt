@@ -13,11 +13,11 @@ use Rattle.ild_schema.specs.ValueSeen.{value_of, pair_of as value_pair}
 use Rattle.ild_typed.specs.Shown.{shown, shown_values, shown_pairs, shown_fields}
 use Rattle.ild_typed.specs.Slots.{element_of, fields_of}
 use Rattle.ild_typed.specs.Strings.{in_key_order}
-use Rattle.ild_value.proofs.Forms.{made_none, made_more, made_all, shown_pair, values_shown, pairs_shown, fields_shown, present_shown, present_next, absent_next, field_height, fields_low, fields_are, drop_past}
-use Rattle.ild_value.proofs.Fronts.{front_less}
-use Rattle.ild_value.proofs.Heights.{element_height, entry_height}
-use Rattle.ild_value.proofs.Picked.{if_ok}
-use Rattle.ild_value.proofs.show.+show.Goals as goal
+use Rattle.ild_shown.proofs.Forms.{made_none, made_more, made_all, shown_pair, values_shown, pairs_shown, fields_shown, present_shown, present_next, absent_next, field_height, fields_low, fields_are, drop_past}
+use Rattle.ild_shown.proofs.Fronts.{front_less}
+use Rattle.ild_shown.proofs.Heights.{element_height, entry_height}
+use Rattle.ild_shown.proofs.Picked.{if_ok}
+use Rattle.ild_shown.proofs.show.+show.Goals as goal
 
 -- ---- lists
 

@@ -1,8 +1,8 @@
 use Rattle.std.proofs.Common.{length, subst, sym}
 use Rattle.ild_schema.specs.declared.def.Member.{Member}
 use Rattle.ild_schema.specs.Table.{IsWithin}
-use Rattle.ild_value.proofs.Picked.{number_low}
-use Rattle.ild_value.proofs.show.union_member.Goals as goal
+use Rattle.ild_shown.proofs.Picked.{number_low}
+use Rattle.ild_shown.proofs.show.union_member.Goals as goal
 
 pub returns-in-Some-clause-within : goal.returns-in-Some-clause-within
 returns-in-Some-clause-within c =

@@ -4,8 +4,8 @@ use Rattle.ild_data.specs.Seen.{pair_of}
 use Rattle.ild_schema.specs.Value.{height, values_height, pairs_height, optionals_height, values_list, pairs_list, optionals_list}
 use Rattle.ild_schema.specs.ValueSeen.{value_of}
 use Rattle.ild_typed.specs.Shown.{shown}
-use Rattle.ild_value.proofs.Forms.{shown_pair, present_shown}
-use Rattle.ild_value.proofs.show.+show.Given as goal
+use Rattle.ild_shown.proofs.Forms.{shown_pair, present_shown}
+use Rattle.ild_shown.proofs.show.+show.Given as goal
 
 abbrev pub decreases-shown : goal.decreases-shown
 decreases-shown l = 4 * height (value_of l.val.now)

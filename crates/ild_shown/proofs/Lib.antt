@@ -1,0 +1,5 @@
+pub mod Heights
+pub mod Fronts
+pub mod Picked
+pub mod Orders
+pub mod Forms
