@@ -4,7 +4,16 @@ use crate::seen::Seen;
 use std::test::Fail;
 
 const SRC: &str =
-    "type J struct { a String b String } representation stringjoin { join \":\" } type Q {String:String} representation stringpairs { innerDelim \"=\" entryDelim \"&\" } type P {String:Int} representation listpairs type R struct { a Int b String } representation listpairs type T struct { a Int b optional Int c optional Int } representation tuple type I struct { n Int (implicit 0) } type Dot struct { x Int } type Box struct { w Int h Int } type K union { | Dot \"dot\" | Box \"box\" } representation keyed type V union { | Dot \"dot\" | Box \"box\" } representation envelope { discriminantKey \"k\" contentKey \"c\" } type N union { | Dot \"dot\" | Box \"box\" } representation inline { discriminantKey \"k\" } type Raw bytes type X union { | Raw \"01\" } representation bytesprefix type E enum { | No (\"0\") | Yes (\"1\") } representation int type M unit representation emptymap";
+    "type J struct { a String b String } representation stringjoin { join \":\" } type Q \
+     {String:String} representation stringpairs { innerDelim \"=\" entryDelim \"&\" } type P \
+     {String:Int} representation listpairs type R struct { a Int b String } representation listpairs \
+     type T struct { a Int b optional Int c optional Int } representation tuple type I struct { n Int \
+     (implicit 0) } type Dot struct { x Int } type Box struct { w Int h Int } type K union { | Dot \
+     \"dot\" | Box \"box\" } representation keyed type V union { | Dot \"dot\" | Box \"box\" } \
+     representation envelope { discriminantKey \"k\" contentKey \"c\" } type N union { | Dot \"dot\" \
+     | Box \"box\" } representation inline { discriminantKey \"k\" } type Raw bytes type X union { | \
+     Raw \"01\" } representation bytesprefix type E enum { | No (\"0\") | Yes (\"1\") } \
+     representation int type M unit representation emptymap";
 
 const STRINGS: [Row; 4] = [
     (
