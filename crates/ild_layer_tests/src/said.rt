@@ -56,7 +56,8 @@ fn is_part(found: Result<(u32, Piece<'_>), Why>, want: Said) -> bool {
 /// Whether a row is said.
 fn is_said(acc: &Accepted, row: &Row) -> Result<bool, &'static str> {
     let ty = number(acc, row.0)?;
-    let root = Piece::Node(check(row.1).ok().ok_or("a block")?);
+    let node = check(row.1).ok().ok_or("a block")?;
+    let root = Piece::Node(node);
     if ty.0 >= acc.types() {
         return Err("a type of the table");
     }
@@ -64,7 +65,7 @@ fn is_said(acc: &Accepted, row: &Row) -> Result<bool, &'static str> {
         TypeDef::Unit(_) => Ok(is_unit(unit(acc, ty, root), row.2)),
         TypeDef::Enum(_) => Ok(is_member(ild_enum::layer(acc, ty, root), row.2)),
         TypeDef::Union(_) => Ok(is_part(ild_union::layer(acc, ty, root), row.2)),
-        _ => structs::is_said(acc, ty, root, row.2),
+        _ => structs::is_said(acc, ty, node, row.2),
     }
 }
 

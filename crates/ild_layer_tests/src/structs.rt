@@ -4,8 +4,8 @@ ghost use Rattle.std.specs.Prelude.{◌≤◌, length};
 ghost use Rattle.ild_struct.specs.Parts.{fields_of};
 
 use crate::said::{Row, Said, all_said};
-use ild_cbor::Piece;
 use ild_cbor::Why::{Count, Delimiter, Implicit, Kind, Missing, Name, Order, Repeat};
+use ild_cbor::{Node, Piece};
 use ild_piece::is_null;
 use ild_schema::{Accepted, TypeDef, TypeNo};
 use ild_struct::{Part, StructParts, layer};
@@ -127,7 +127,7 @@ fn written(parts: &StructParts<'_>, letters: &[u8]) -> Option<u32> {
 pub(crate) fn is_said(
     acc: &Accepted,
     ty: TypeNo,
-    root: Piece<'_>,
+    node: Node<'_>,
     want: Said,
 ) -> Result<bool, &'static str> {
     if ty.0 >= acc.types() {
@@ -136,7 +136,7 @@ pub(crate) fn is_said(
     let TypeDef::Struct(def) = acc.def(acc.base(ty)) else {
         return Err("a union, an enum, a unit or a struct");
     };
-    match (layer(acc, ty, root), want) {
+    match (layer(acc, ty, Piece::Node(node)), want) {
         (Ok(parts), Ok((count, letters))) => Ok(
             are_said(&parts, def.fields.len(), letters) && written(&parts, letters) == Some(count),
         ),
