@@ -5,6 +5,8 @@ which works the same out on plain values, is asked to agree.
 limits, or `shape` where they aren't one of the type. The value of such a JSON has that block, but for the rows of `OTHERWISE`, in which pairs stand
 in another order than that in which `new` writes them. `TYPED` has for each form a schema and what is asked of a type's JSON texts.
 """
+from new_cases import CLUB
+
 CBOR, SHAPE = "cbor", "shape"
 ZERO_CID = b"\x01\x71\x12\x20" + bytes(32)
 ZERO = b"\xd8\x2a\x58\x25\x00" + ZERO_CID
@@ -174,35 +176,6 @@ type N struct {{ a String b Q }} representation stringjoin {{ join "aa" }}
 """
 # a link inside a union, a list inside a list, and a layout
 NAMES = 'type U union { | &B "b" } representation keyed\ntype B [[Int]]\nadvanced HAMT\n'
-CLUB = """# members of a club
-type Club struct {
-  name String
-  users Users
-  motto optional String
-}
-type Users {String:User} representation advanced HAMT
-type User struct {
-  mail String
-  role Role
-  age nullable Int
-  nick optional String
-  avatar optional Bytes
-  contact Contact
-}
-type Role enum {
-  | Admin ("a")
-  | Guest ("g")
-}
-type Contact union {
-  | Phone "phone"
-  | Room "room"
-} representation keyed
-type Phone string
-type Room struct {
-  floor Int
-  door Int
-} representation tuple
-"""
 # settings in either order, and a member for each kind
 SETTINGS = r"""type M1 {String:Int} representation listpairs
 type M2 {String:String} representation stringpairs { entryDelim "&" innerDelim "=" }
