@@ -5,20 +5,27 @@ ghost use Rattle.ild_data.specs.Spell.{id_of};
 use crate::cause::cause;
 use crate::load::load;
 use crate::name::block_path;
-use crate::part::place;
+use crate::part::{Folder, place};
 use ild_data::{BlockId, LONGEST_BLOCK as LONGEST, Octets, block_id};
 use ild_edges::{EdgeErr, Store};
+use std::alloc::AllocError;
+use std::collections::BTreeSet;
 use std::io::ErrorKind;
 use std::rt::Files;
+
+/// The ids of all blocks that may stand in a folder, where that is known: the store made it, and put them.
+type OwnBlocks = Option<BTreeSet<[u8; 32]>>;
 
 /// A folder with one file a block, named by the text of the block's CID. It tells nothing of what there is.
 ///
 /// A file that doesn't hash to its name, or that is longer than a block may be, counts as not there. A block is written
-/// beside its name and then moved to it, so that no file under a block's name is ever a part of the block.
+/// beside its name and then moved to it, so that no file under a block's name is ever a part of the block. In a folder that
+/// this store made itself, a put looks for a file only where it put that block before.
 #[derive(Drop)]
 pub struct FolderStore<'r, R: Files + AllocGlobal> {
     rt: &'r R,
     folder: &'r str,
+    own: OwnBlocks,
     gets: u64,
     puts: u64,
     lacks: u64,
@@ -37,6 +44,7 @@ impl<'r, R: Files + AllocGlobal> FolderStore<'r, R> {
         FolderStore {
             rt,
             folder,
+            own: None,
             gets: 0,
             puts: 0,
             lacks: 0,
@@ -67,34 +75,69 @@ fn held<R: Files + AllocGlobal>(rt: &R, path: &str, id: &BlockId) -> Result<Opti
     }
 }
 
+/// What a put hands back where a file holds a block of the id already: the block, where its bytes are others.
+fn other(block: Octets, bytes: &[u8]) -> Option<Octets>
+    ensures other { IfSome result (λ b. b ≢ bytes.now) }
+    ensures same { IfSome result (λ b. b ≡ block) }
+{
+    if block.as_slice() == bytes {
+        None
+    } else {
+        Some(block)
+    }
+}
+
+/// Whether a file may stand under the name of a block. In a folder that the store made only those do that it put, and from here on
+/// this block is one of them.
+fn may_hold(own: &mut OwnBlocks, id: &BlockId) -> Result<bool, AllocError> {
+    match own {
+        Some(ids) => Ok(!ids.insert(id.0)?),
+        None => Ok(true),
+    }
+}
+
+/// Writes a block into its file. Where the folder had to be made, what is in it is known from here on.
+fn write<R: Files + AllocGlobal>(
+    rt: &R,
+    folder: &str,
+    own: &mut OwnBlocks,
+    path: &str,
+    id: &BlockId,
+    bytes: &[u8],
+) -> Result<(), EdgeErr> {
+    match place(rt, folder, path, bytes) {
+        Ok(Folder::Found) => Ok(()),
+        Ok(Folder::Made) => {
+            let mut ids = BTreeSet::new(rt.alloc());
+            ids.insert(id.0)?;
+            *own = Some(ids);
+            Ok(())
+        }
+        Err(error) => Err(cause(error)),
+    }
+}
+
 /// Puts a block into its file, unless the file holds a block of its id already: other bytes are handed back.
 fn keep<R: Files + AllocGlobal>(
     rt: &R,
     folder: &str,
+    own: &mut OwnBlocks,
     id: &BlockId,
     bytes: &[u8],
 ) -> Result<Option<Octets>, EdgeErr>
     ensures { IfOk result (λ kept. IfSome kept (λ b. (id_of b ≡ id.now.0) × (b ≢ bytes.now))) }
 {
     let path = block_path(rt.alloc(), folder, id)?;
-    match held(rt, path.as_str(), id)? {
-        None => {
-            if bytes.len() > LONGEST {
-                return Err(EdgeErr::Failed);
-            }
-            match place(rt, folder, path.as_str(), bytes) {
-                Ok(()) => Ok(None),
-                Err(error) => Err(cause(error)),
-            }
-        }
-        Some(block) => {
-            if block.as_slice() == bytes {
-                Ok(None)
-            } else {
-                Ok(Some(block))
-            }
+    if may_hold(own, id)? {
+        if let Some(block) = held(rt, path.as_str(), id)? {
+            return Ok(other(block, bytes));
         }
     }
+    if bytes.len() > LONGEST {
+        return Err(EdgeErr::Failed);
+    }
+    write(rt, folder, own, path.as_str(), id, bytes)?;
+    Ok(None)
 }
 
 impl<'r, R: Files + AllocGlobal> Store for FolderStore<'r, R> {
@@ -119,7 +162,7 @@ impl<'r, R: Files + AllocGlobal> Store for FolderStore<'r, R> {
 
     fn put(&mut self, id: &BlockId, bytes: &[u8]) -> Result<Option<Octets>, EdgeErr> {
         self.puts = self.puts.saturating_add(1);
-        match keep(self.rt, self.folder, id, bytes) {
+        match keep(self.rt, self.folder, &mut self.own, id, bytes) {
             Ok(kept) => Ok(kept),
             Err(EdgeErr::Failed) => {
                 self.faults = self.faults.saturating_add(1);

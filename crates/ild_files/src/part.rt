@@ -19,11 +19,21 @@ fn begin<R: Files + AllocGlobal>(rt: &R, path: &str) -> io::Result<(String, R::F
     Err(io::Error::from(ErrorKind::AlreadyExists))
 }
 
+/// Whose folder it is in which a file was put.
+#[derive(Clone, Copy)]
+pub(crate) enum Folder {
+    /// It was there.
+    Found,
+    /// It was made for this file, so nothing else stands in it.
+    Made,
+}
+
 /// Makes the folder, unless another run was faster.
-fn make_folder<R: Files>(rt: &R, folder: &str) -> io::Result<()> {
+fn make_folder<R: Files>(rt: &R, folder: &str) -> io::Result<Folder> {
     match fs::create_dir(rt, folder) {
-        Err(error) if error.kind() == ErrorKind::AlreadyExists => Ok(()),
-        made => made,
+        Err(error) if error.kind() == ErrorKind::AlreadyExists => Ok(Folder::Found),
+        Err(error) => Err(error),
+        Ok(()) => Ok(Folder::Made),
     }
 }
 
@@ -32,13 +42,15 @@ fn begin_in<R: Files + AllocGlobal>(
     rt: &R,
     folder: &str,
     path: &str,
-) -> io::Result<(String, R::File)> {
+) -> io::Result<(Folder, String, R::File)> {
     match begin(rt, path) {
         Err(error) if error.kind() == ErrorKind::NotFound => {
-            make_folder(rt, folder)?;
-            begin(rt, path)
+            let whose = make_folder(rt, folder)?;
+            let (part, file) = begin(rt, path)?;
+            Ok((whose, part, file))
         }
-        begun => begun,
+        Err(error) => Err(error),
+        Ok((part, file)) => Ok((Folder::Found, part, file)),
     }
 }
 
@@ -53,11 +65,13 @@ pub(crate) fn place<R: Files + AllocGlobal>(
     folder: &str,
     path: &str,
     bytes: &[u8],
-) -> io::Result<()> {
-    let (part, file) = begin_in(rt, folder, path)?;
-    let placed = fill(file, bytes).and_then(|()| fs::rename(rt, part.as_str(), path));
-    if placed.is_err() {
-        let _ = fs::remove_file(rt, part.as_str());
+) -> io::Result<Folder> {
+    let (whose, part, file) = begin_in(rt, folder, path)?;
+    match fill(file, bytes).and_then(|()| fs::rename(rt, part.as_str(), path)) {
+        Ok(()) => Ok(whose),
+        Err(error) => {
+            let _ = fs::remove_file(rt, part.as_str());
+            Err(error)
+        }
     }
-    placed
 }
