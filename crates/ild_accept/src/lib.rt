@@ -3,19 +3,12 @@
 
 mod accepting;
 mod beside;
-mod clash;
 mod cycle;
-mod decimal;
-mod delimiter;
 mod error;
-mod hex;
 mod kinds;
 mod laws;
 mod part;
-mod prefix;
 mod rank;
-mod seen;
-mod strategy;
 mod table;
 
 pub use accepting::accept;

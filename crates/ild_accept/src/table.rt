@@ -13,12 +13,9 @@ ghost use Rattle.ild_accept.specs.Held.{HoldsKinds};
 
 use crate::AcceptErr;
 use crate::beside::{kind_fault, optional_fault};
-use crate::clash::name_fault;
-use crate::delimiter::delim_fault;
 use crate::kinds::kinds_of_all;
 use crate::part::{implicit_fault, inline_fault, key_fault, null_fault, text_fault};
-use crate::prefix::prefix_fault;
-use crate::strategy::strategy_fault;
+use ild_clash::{delim_fault, name_fault, prefix_fault, strategy_fault};
 use ild_schema::{Kinds, Rule, Schema, TypeDef, TypeNo};
 use std::alloc::{AllocError, Global};
 

@@ -1,0 +1,16 @@
+//! The rules of accepted schemas on the texts of one type: the names and the values by which its parts are told apart, prefixes,
+//! delimiters, and what each representation asks of its parts.
+#![tactic(auto)]
+
+mod clash;
+mod decimal;
+mod delimiter;
+mod hex;
+mod prefix;
+mod seen;
+mod strategy;
+
+pub use clash::name_fault;
+pub use delimiter::delim_fault;
+pub use prefix::prefix_fault;
+pub use strategy::strategy_fault;
