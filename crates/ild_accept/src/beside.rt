@@ -50,10 +50,12 @@ fn bytes_member(schema: &Schema, kinds: &[Kinds], members: &[Member]) -> Option<
     requires { HoldsKinds schema.now kinds.now }
     ensures { result ≡ first_place (is_not_bytes schema.now) (λ m. m.at) members.now }
 {
-    let member = members
-        .iter()
-        .find(|member| is_not_bytes(schema, kinds, member))?;
-    Some(member.at)
+    for member in members {
+        if is_not_bytes(schema, kinds, member) {
+            return Some(member.at);
+        }
+    }
+    None
 }
 
 fn union_kind_fault(schema: &Schema, kinds: &[Kinds], def: &UnionDef) -> Option<usize>

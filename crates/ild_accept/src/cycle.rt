@@ -81,6 +81,21 @@ fn push_all(seen: &mut Vec<bool>, stack: &mut Vec<u32>, steps: &[u32]) -> Result
     Ok(())
 }
 
+/// Lets each type to which a type leads be looked at, where it wasn't seen.
+fn push_steps(
+    alloc: Global,
+    schema: &Schema,
+    seen: &mut Vec<bool>,
+    stack: &mut Vec<u32>,
+    n: u32,
+) -> Result<(), AllocError>
+    requires { length seen.old.items ≡ length schema.now }
+    ensures { OnOk result (Pushed (steps_at schema.now n) seen.old.items stack.old.items seen.new.items stack.new.items) }
+{
+    let steps = steps_at(alloc, schema, TypeNo(n))?;
+    push_all(seen, stack, &steps)
+}
+
 /// No type of a table is marked.
 fn unmarked(alloc: Global, schema: &Schema) -> Result<Vec<bool>, AllocError>
     ensures { IfOk result (λ marks. marks.items ≡ replicate (length schema.now) false) }
@@ -95,11 +110,9 @@ fn reaches_itself(alloc: Global, schema: &Schema, from: TypeNo) -> Result<bool, 
 {
     let mut seen = unmarked(alloc, schema)?;
     let mut stack = Vec::new(alloc);
-    let first = steps_at(alloc, schema, from)?;
-    push_all(&mut seen, &mut stack, &first)?;
+    push_steps(alloc, schema, &mut seen, &mut stack, from.0)?;
     while let Some(n) = stack.pop() {
-        let steps = steps_at(alloc, schema, TypeNo(n))?;
-        push_all(&mut seen, &mut stack, &steps)?;
+        push_steps(alloc, schema, &mut seen, &mut stack, n)?;
     }
     Ok(seen[from.0 as usize])
 }

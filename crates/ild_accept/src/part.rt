@@ -7,8 +7,8 @@ ghost use Rattle.ild_accept.specs.Held.{HoldsKinds};
 
 use crate::kinds::{has_text_form, kinds_at, meant};
 use ild_schema::{
-    Field, Kinds, MapForm, Scalar, Schema, Slot, StructDef, StructForm, TypeDef, TypeNo, UnionDef,
-    UnionForm,
+    Field, Kinds, MapForm, Member, Scalar, Schema, Slot, StructDef, StructForm, TypeDef, TypeNo,
+    UnionDef, UnionForm,
 };
 
 /// Whether what may be null has a value of its type that stands as null too.
@@ -23,12 +23,12 @@ fn null_field(schema: &Schema, kinds: &[Kinds], def: &StructDef) -> Option<usize
     requires { HoldsKinds schema.now kinds.now }
     ensures { result ≡ first_place (λ f. is_null_twice schema.now f.slot) (λ f. f.at) def.now.fields }
 {
-    let field = def
-        .fields
-        .as_slice()
-        .iter()
-        .find(|field| is_null_twice(schema, kinds, &field.slot))?;
-    Some(field.at)
+    for field in def.fields.as_slice() {
+        if is_null_twice(schema, kinds, &field.slot) {
+            return Some(field.at);
+        }
+    }
+    None
 }
 
 /// What may be null has no other value that stands as null.
@@ -73,24 +73,44 @@ fn is_text_union(form: &UnionForm) -> bool
     matches!(form, UnionForm::StringPrefix)
 }
 
+/// Whether a field of a struct in text form is no text.
+fn is_field_no_text(schema: &Schema, kinds: &[Kinds], form: &StructForm, field: &Field) -> bool
+    requires { HoldsKinds schema.now kinds.now }
+    ensures { result ≡ is_text_struct form.now && is_no_text schema.now field.now.slot }
+{
+    is_text_struct(form) && is_no_text(schema, kinds, &field.slot)
+}
+
 fn no_text_field(schema: &Schema, kinds: &[Kinds], def: &StructDef) -> Option<usize>
     requires { HoldsKinds schema.now kinds.now }
     ensures { result ≡ first_place (λ f. is_text_struct def.now.form && is_no_text schema.now f.slot) (λ f. f.at) def.now.fields }
 {
-    let field = def.fields.as_slice().iter().find(|field| {
-        is_text_struct(&def.form) && is_no_text(schema, kinds, &field.slot)
-    })?;
-    Some(field.at)
+    for field in def.fields.as_slice() {
+        if is_field_no_text(schema, kinds, &def.form, field) {
+            return Some(field.at);
+        }
+    }
+    None
+}
+
+/// Whether a member of a union in text form is no text.
+fn is_member_no_text(schema: &Schema, kinds: &[Kinds], form: &UnionForm, member: &Member) -> bool
+    requires { HoldsKinds schema.now kinds.now }
+    ensures { result ≡ is_text_union form.now && not (has_text_form schema.now member.now.ty.0) }
+{
+    is_text_union(form) && !has_text_form(schema, kinds, member.ty)
 }
 
 fn no_text_member(schema: &Schema, kinds: &[Kinds], def: &UnionDef) -> Option<usize>
     requires { HoldsKinds schema.now kinds.now }
     ensures { result ≡ first_place (λ m. is_text_union def.now.form && not (has_text_form schema.now m.ty.0)) (λ m. m.at) def.now.members }
 {
-    let member = def.members.as_slice().iter().find(|member| {
-        is_text_union(&def.form) && !has_text_form(schema, kinds, member.ty)
-    })?;
-    Some(member.at)
+    for member in def.members.as_slice() {
+        if is_member_no_text(schema, kinds, &def.form, member) {
+            return Some(member.at);
+        }
+    }
+    None
 }
 
 /// The parts of a text are texts.
@@ -145,12 +165,12 @@ fn is_implicit_wrong(schema: &Schema, field: &Field) -> bool
 fn implicit_field(schema: &Schema, def: &StructDef) -> Option<usize>
     ensures { result ≡ first_place (is_implicit_wrong schema.now) (λ f. f.at) def.now.fields }
 {
-    let field = def
-        .fields
-        .as_slice()
-        .iter()
-        .find(|field| is_implicit_wrong(schema, field))?;
-    Some(field.at)
+    for field in def.fields.as_slice() {
+        if is_implicit_wrong(schema, field) {
+            return Some(field.at);
+        }
+    }
+    None
 }
 
 /// A value that stands for a field left out is one of its type, and no longer than a block can hold.
@@ -179,13 +199,22 @@ fn is_inline(form: &UnionForm) -> bool
     matches!(form, UnionForm::Inline(_))
 }
 
+/// Whether a member of an inline union is no struct that stands as a map.
+fn is_inline_wrong(schema: &Schema, form: &UnionForm, member: &Member) -> bool
+    ensures { result ≡ is_inline form.now && not (is_map_struct (meant schema.now member.now.ty.0)) }
+{
+    is_inline(form) && !is_map_struct(schema, member.ty)
+}
+
 fn inline_member(schema: &Schema, def: &UnionDef) -> Option<usize>
     ensures { result ≡ first_place (λ m. is_inline def.now.form && not (is_map_struct (meant schema.now m.ty.0))) (λ m. m.at) def.now.members }
 {
-    let member = def.members.as_slice().iter().find(|member| {
-        is_inline(&def.form) && !is_map_struct(schema, member.ty)
-    })?;
-    Some(member.at)
+    for member in def.members.as_slice() {
+        if is_inline_wrong(schema, &def.form, member) {
+            return Some(member.at);
+        }
+    }
+    None
 }
 
 /// The members of an inline union are structs that stand as maps.
