@@ -9,6 +9,22 @@ use crate::table::judge_types;
 use ild_schema::{Accepted, Rule, Schema};
 use std::alloc::Global;
 
+/// Judges a schema: by the rule on cycles, and then by the others.
+fn judge(alloc: Global, schema: &Schema) -> Result<(), AcceptErr>
+    ensures accepted { IfOk result (λ _. IsAccepted schema.now) }
+    ensures fault { IfErr result (λ e. IsFaultOf schema.now e) }
+{
+    if let Some(ty) = first_cyclic(alloc, schema)? {
+        return Err(AcceptErr::Fault {
+            rule: Rule::Cycle,
+            ty,
+            at: schema.place(ty),
+        });
+    }
+    judge_types(alloc, schema)?;
+    Ok(())
+}
+
 /// Accepts a schema where no rule fails for any of its types; else tells the first that does: that on cycles for the
 /// first type in the order of the table, else the first other for the first type for which one fails.
 pub fn accept(alloc: Global, schema: Schema) -> Result<Accepted, AcceptErr>
@@ -16,13 +32,6 @@ pub fn accept(alloc: Global, schema: Schema) -> Result<Accepted, AcceptErr>
     ensures accepted { IfOk result (λ _. IsAccepted schema) }
     ensures fault { IfErr result (λ e. IsFaultOf schema e) }
 {
-    if let Some(ty) = first_cyclic(alloc, &schema)? {
-        return Err(AcceptErr::Fault {
-            rule: Rule::Cycle,
-            ty,
-            at: schema.place(ty),
-        });
-    }
-    judge_types(alloc, &schema)?;
+    judge(alloc, &schema)?;
     Ok(Accepted::of(schema))
 }
