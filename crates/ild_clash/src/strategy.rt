@@ -31,12 +31,12 @@ fn is_bare_join(def: &StructDef) -> bool
 fn wrong_field(def: &StructDef) -> Option<usize>
     ensures { result ≡ first_place (is_field_wrong def.now.form) (λ f. f.at) def.now.fields }
 {
-    let field = def
-        .fields
-        .as_slice()
-        .iter()
-        .find(|field| is_field_wrong(&def.form, field))?;
-    Some(field.at)
+    for field in def.fields.as_slice() {
+        if is_field_wrong(&def.form, field) {
+            return Some(field.at);
+        }
+    }
+    None
 }
 
 /// Whether a member lacks what its union asks for.
@@ -55,12 +55,12 @@ fn is_member_wrong(form: &UnionForm, member: &Member) -> bool
 fn wrong_member(def: &UnionDef) -> Option<usize>
     ensures { result ≡ first_place (is_member_wrong def.now.form) (λ m. m.at) def.now.members }
 {
-    let member = def
-        .members
-        .as_slice()
-        .iter()
-        .find(|member| is_member_wrong(&def.form, member))?;
-    Some(member.at)
+    for member in def.members.as_slice() {
+        if is_member_wrong(&def.form, member) {
+            return Some(member.at);
+        }
+    }
+    None
 }
 
 /// Whether a member of an enum of integers has no integer.
@@ -76,12 +76,12 @@ fn is_value_wrong(form: EnumForm, member: &EnumMember) -> bool
 fn wrong_value(def: &EnumDef) -> Option<usize>
     ensures { result ≡ first_place (is_value_wrong def.now.form) (λ m. m.at) def.now.members }
 {
-    let member = def
-        .members
-        .as_slice()
-        .iter()
-        .find(|member| is_value_wrong(def.form, member))?;
-    Some(member.at)
+    for member in def.members.as_slice() {
+        if is_value_wrong(def.form, member) {
+            return Some(member.at);
+        }
+    }
+    None
 }
 
 fn wrong_in_struct(at: usize, def: &StructDef) -> Option<usize>
