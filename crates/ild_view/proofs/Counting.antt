@@ -1,14 +1,14 @@
 -- How many parts a front has, beside those of its data.
 use Rattle.std.proofs.Common.{◌≡◌, ℕ, suc, ◌+◌, ◌<◌, ◌≤◌, ◌^◌, List, [], ◌∷◌, length, map, Bool, true, false, cond, Option, Some, None, option_map, refl, sym, ◌∙◌, ap, subst, arith}
-use Rattle.std.proofs.lemmas.Option.{same_Some, none-some}
+use Rattle.std.proofs.lemmas.Option.{same_Some}
 use Rattle.ild_cbor.specs.Scalar.{count_of}
 use Rattle.ild_cbor.specs.declared.piece.Piece.{Piece}
 use Rattle.ild_data.specs.Data as T
-use Rattle.ild_data.specs.Data.{Data, items_list, members_list}
+use Rattle.ild_data.specs.Data.{Data}
 use Rattle.ild_data.proofs.Lists.{length-items}
+use Rattle.ild_entries.specs.Forms.{FormCount}
 use Rattle.ild_piece.specs.Answers.{Layered}
 use Rattle.ild_schema.specs.Legible.{IsLegible}
-use Rattle.ild_schema.specs.Joins.{IsPairs}
 use Rattle.ild_schema.specs.Slots.{form_of}
 use Rattle.ild_schema.specs.Value as V
 use Rattle.ild_schema.specs.Value.{Optionals, Value, optionals_list, values_list}
@@ -21,7 +21,6 @@ use Rattle.ild_schema.specs.declared.number.Slot.{Slot}
 use Rattle.ild_schema.specs.declared.row.Row.{Row}
 use Rattle.ild_struct.specs.Parts.{fields_of}
 use Rattle.ild_struct.specs.Present.{HasPresent, IsWritten, PresentGives}
-use Rattle.ild_struct.specs.Source.{text_entries}
 use Rattle.ild_struct.specs.declared.parts.StructParts.{StructParts}
 use Rattle.ild_struct.specs.declared.present.Present.{Present}
 use Rattle.ild_typed.specs.At.{seen}
@@ -33,38 +32,17 @@ use Rattle.ild_typed.specs.Layers.{FieldsFit}
 use Rattle.ild_typed.specs.OfType.{OfType}
 use Rattle.ild_typed.specs.Pieces.{is_null_there}
 use Rattle.ild_typed.specs.Represented.{represented, represented_fields}
-use Rattle.ild_typed.specs.Strings.{listpairs, members_in, pair_data, stringpairs}
 use Rattle.ild_typed.proofs.Basics.{map_from}
 use Rattle.ild_typed.proofs.Entries.{both_from}
-use Rattle.ild_view.proofs.Mapped.{text_there}
 use Rattle.ild_view.proofs.Opening.{front_list, front_struct}
 use Rattle.ild_view.proofs.Ordering.{FormKeyed, elements_beside, beside_count}
 use Rattle.ild_view.proofs.Parting.{seen_by, seen_list, seen_struct}
 use Rattle.ild_view.proofs.Reading.{struct_same}
 use Rattle.ild_view.proofs.Tallying.{all_present, lack_length, present_most}
-use Rattle.ild_view.specs.Counted.{FormCount, MayLack, count_in, is_optional_at, optional_of, present_of, required_of}
+use Rattle.ild_view.specs.Counted.{MayLack, count_in, is_optional_at, optional_of, present_of, required_of}
 use Rattle.ild_view.specs.Safe.{is_safe}
 
 -- ---- data
-
-pub members_counted : (t : Data) (es : List (List ℕ × Data)) → members_in t ≡ Some es → count_of t ≡ Some (length es)
-members_counted (T.map ms) es e = ap (λ (xs : List (List ℕ × Data)). Some (length xs)) (same_Some (members_list ms) es e)
-members_counted t es e = absurd (none-some es e)
-
-map_length : (es : List (List ℕ × Data)) → length (map pair_data es) ≡ length es
-map_length [] = refl
-map_length (e ∷ es) = ap suc (map_length es)
-
-pub pairs_counted : (t : Data) (es : List (List ℕ × Data)) → t ≡ listpairs es → count_of t ≡ Some (length es)
-pairs_counted t es e = ap count_of e ∙ ap Some (length-items (map pair_data es) ∙ map_length es)
-
-text_length : (ps : List (List ℕ × List ℕ)) → length (text_entries ps) ≡ length ps
-text_length [] = refl
-text_length (p ∷ ps) = ap suc (text_length ps)
-
-pub text_counted : (inner entry : List ℕ) → 0 < length inner → 0 < length entry → (es : List (List ℕ × Data)) (t : Data) → stringpairs inner entry es ≡ Some t → (s : List ℕ) → t ≡ T.text s
-    → (ps : List (List ℕ × List ℕ)) → IsPairs inner entry ps s → length ps ≡ length es
-text_counted inner entry some more es t made s is ps are = sym (ap length (text_there inner entry some more es t made s is ps are) ∙ text_length ps)
 
 any_counted : (t : Data) → count_of t ≡ count_in (any_holder t)
 any_counted T.null = refl

@@ -1,6 +1,8 @@
 -- From data that were found for a part to a view that stands for it.
-use Rattle.std.proofs.Common.{◌≡◌, List, Option, Some, None, sym, ◌∙◌, subst}
+use Rattle.std.proofs.Common.{◌≡◌, List, Option, option_map, Some, None, sym, ◌∙◌, subst}
 use Rattle.ild_data.specs.Data.{Data}
+use Rattle.ild_cbor.specs.declared.piece.Piece.{Piece}
+use Rattle.ild_entries.specs.Found.{FindsPiece}
 use Rattle.ild_schema.specs.Value.{Value}
 use Rattle.ild_schema.specs.declared.number.Slot.{Slot}
 use Rattle.ild_schema.specs.declared.row.Row.{Row}
@@ -12,11 +14,19 @@ use Rattle.ild_view.specs.Itself.{Embodies}
 use Rattle.ild_view.specs.Parts.{HandsOut, IsPartView}
 use Rattle.ild_view.specs.View.{body_of, slot_of, table_of}
 use Rattle.ild_view.specs.declared.body.Body.{Body}
+use Rattle.ild_view.specs.declared.body.Body.TheVariants as B
 use Rattle.ild_view.specs.declared.view.View.{View}
 use Rattle.ild_view.proofs.Parting.{Beside, Fronts}
 
 fronted : (rows : List Row) (u : Slot) (w : Value) (x : Data) (p : Fronts rows u w x) → Front rows p.typed.0 u w x
 fronted rows u w x p = record { fits = p.typed.1; tree = p.tree }
+
+-- a piece that was found, as a body
+pub held_embodied : (rows : List Row) (o : Option Data) (r : Option Piece) → FindsPiece rows o r → Embodies rows o (option_map B.Held r)
+held_embodied rows None None h = tt
+held_embodied rows (Some d) (Some p) h = h
+held_embodied rows None (Some p) h = absurd h
+held_embodied rows (Some d) None h = absurd h
 
 module _ (rows : List Row) (u : Slot) where
   -- a body for the data is one for the part

@@ -1,5 +1,5 @@
 -- Iterators over the parts of a view: the first part that is left, and those behind it.
-use Rattle.std.proofs.Common.{◌≡◌, ℕ, List, [], ◌∷◌, map, Option, Some, None, refl, sym, ◌∙◌, subst}
+use Rattle.std.proofs.Common.{◌≡◌, ℕ, List, [], ◌∷◌, Option, Some, None, refl, sym, ◌∙◌, subst}
 use Rattle.std.specs.Borrow.{Bor}
 use Rattle.ild_data.specs.Data as T
 use Rattle.ild_data.specs.Data.{Data, Items, items_list}
@@ -10,9 +10,8 @@ use Rattle.ild_cbor.specs.declared.items.Items.{Items as ItemsLeft}
 use Rattle.ild_cbor.specs.declared.node.Node.{Node}
 use Rattle.ild_cbor.specs.declared.piece.Piece.{Piece}
 use Rattle.ild_cbor.specs.declared.piece.Piece.TheVariants as Q
-use Rattle.ild_piece.specs.Entries.{EntriesGive, HasLeft, Lists}
+use Rattle.ild_piece.specs.Entries.{Lists}
 use Rattle.ild_piece.specs.Pieces.{StandsFor}
-use Rattle.ild_piece.specs.declared.walk.MapEntries.{MapEntries}
 use Rattle.ild_schema.specs.declared.def.MapForm.{MapForm}
 use Rattle.ild_schema.specs.declared.def.MapForm.TheVariants as MF
 use Rattle.ild_schema.specs.declared.number.Slot.{Slot}
@@ -20,7 +19,6 @@ use Rattle.ild_schema.specs.declared.row.Row.{Row}
 use Rattle.ild_typed.specs.At.{InSlot}
 use Rattle.ild_typed.specs.Fits.{Front}
 use Rattle.ild_typed.specs.Holder.{Holder}
-use Rattle.ild_typed.specs.Strings.{pair_data}
 use Rattle.ild_view.proofs.Ordering.{FormKeyed, ListsBeside, MapsBeside}
 use Rattle.ild_view.specs.Beside.{AreBeside, AreKeyed, IsBeside}
 use Rattle.ild_view.specs.Body.{BodyStands}
@@ -29,14 +27,13 @@ use Rattle.ild_view.specs.Iterates.{EntriesStep, EntryFirst, FindsEntries, Finds
 use Rattle.ild_view.specs.Left.{HasElements, HasEntries, SomeElements, SomeEntries}
 use Rattle.ild_view.specs.Ordered.{entries_in}
 use Rattle.ild_view.specs.Parts.{IsPartView}
-use Rattle.ild_view.specs.Rest.{FindsRest, FormRest, HasRest, IsPairOf, RestStep}
+use Rattle.ild_entries.specs.Left.{AreLeft, FindsLeft, FirstStep, FormLeft}
 use Rattle.ild_view.specs.View.{body_of, slot_of, table_of}
 use Rattle.ild_view.specs.declared.body.Body.{Body}
 use Rattle.ild_view.specs.declared.body.Body.TheVariants as B
 use Rattle.ild_view.specs.declared.elements.ViewItems.{ViewItems}
 use Rattle.ild_view.specs.declared.entries.ViewEntries.{ViewEntries}
-use Rattle.ild_view.specs.declared.rest.Rest.{Rest}
-use Rattle.ild_view.specs.declared.rest.Rest.TheVariants as R
+use Rattle.ild_entries.specs.declared.left.EntriesLeft.{EntriesLeft}
 use Rattle.ild_view.specs.declared.view.View.{View}
 
 -- ---- a view of a part beside its data
@@ -125,37 +122,10 @@ module _ (rows : List Row) (u : Slot) where
 pub items_nothing : (rows : List Row) (o : Option (List InSlot)) → o ≡ None → FindsItems rows o None
 items_nothing rows o e = subst (λ p. FindsItems rows p None) (sym e) tt
 
--- ---- entries, form by form
-
-pub map_first : (s after : MapEntries) (k : Bor (List ℕ)) (n : Node) → EntriesGive s (Some (k, n)) after → (es : List (List ℕ × Data)) → HasLeft s es → RestStep es (Some (k, Q.Node n, R.Map after))
-map_first s after k n gives [] left = absurd (gives [] left)
-map_first s after k n gives (e ∷ es) left = let x = gives (e ∷ es) left in record { key = x.key_is; stands = λ rows. x.stands; left = x.left }
-
-pub map_none : (s after : MapEntries) → EntriesGive s None after → (es : List (List ℕ × Data)) → HasLeft s es → RestStep es None
-map_none s after gives [] left = tt
-map_none s after gives (e ∷ es) left = absurd (gives (e ∷ es) left)
-
-pub pair_first : (s after : ItemsLeft) (item : Node) (k : Bor (List ℕ)) (n : Node) → ItemsGive s (Some item) after → ((e : List ℕ × Data) → Stands item (pair_data e) → IsPairOf e (Some (k, n)))
-    → (es : List (List ℕ × Data)) → HasItems s (T.items_of (map pair_data es)) → RestStep es (Some (k, Q.Node n, R.ListPairs after))
-pair_first s after item k n gives read [] left = absurd (gives T.no_items left)
-pair_first s after item k n gives read (e ∷ es) left =
-    let x = gives (T.items_of (map pair_data (e ∷ es))) left in
-    let p = read e x.stands in
-    record { key = p.0; stands = λ rows. p.1; left = x.left }
-
-pub pair_odd : (s after : ItemsLeft) (item : Node) → ItemsGive s (Some item) after → ((e : List ℕ × Data) → Stands item (pair_data e) → IsPairOf e None)
-    → (es : List (List ℕ × Data)) → HasItems s (T.items_of (map pair_data es)) → RestStep es None
-pair_odd s after item gives read [] left = tt
-pair_odd s after item gives read (e ∷ es) left = absurd (read e (gives (T.items_of (map pair_data (e ∷ es))) left).stands)
-
-pub pair_none : (s after : ItemsLeft) → ItemsGive s None after → (es : List (List ℕ × Data)) → HasItems s (T.items_of (map pair_data es)) → RestStep es None
-pair_none s after gives [] left = tt
-pair_none s after gives (e ∷ es) left = absurd (gives (T.items_of (map pair_data (e ∷ es))) left)
-
 -- ---- entries
 
-module _ (rows : List Row) (u : Slot) (rest : Rest) where
-  module _ (k : Bor (List ℕ)) (p : Piece) (after : Rest) (step : (es : List (List ℕ × Data)) → HasRest rest es → RestStep es (Some (k, p, after))) where
+module _ (rows : List Row) (u : Slot) (rest : EntriesLeft) where
+  module _ (k : Bor (List ℕ)) (p : Piece) (after : EntriesLeft) (step : (es : List (List ℕ × Data)) → AreLeft rest es → FirstStep es (Some (k, p, after))) where
     record FirstKeyed (qs : List (List ℕ × InSlot)) : Type 0 where
       part : List ℕ × InSlot
       later : List (List ℕ × InSlot)
@@ -168,7 +138,7 @@ module _ (rows : List Row) (u : Slot) (rest : Rest) where
 
     first_keyed : (qs : List (List ℕ × InSlot)) → HasEntries rows u rest qs → FirstKeyed qs
     first_keyed qs h = by qs h.entries h.left h.beside where
-      by : (ps : List (List ℕ × InSlot)) (es : List (List ℕ × Data)) → HasRest rest es → AreKeyed rows u ps es → FirstKeyed ps
+      by : (ps : List (List ℕ × InSlot)) (es : List (List ℕ × Data)) → AreLeft rest es → AreKeyed rows u ps es → FirstKeyed ps
       by ps [] has beside = absurd (step [] has)
       by [] (e ∷ es) has beside = absurd beside
       by (q ∷ ps) (e ∷ es) has beside =
@@ -186,56 +156,56 @@ module _ (rows : List Row) (u : Slot) (rest : Rest) where
     pub keyed_behind : SomeEntries rows u rest → SomeEntries rows u after
     keyed_behind h = let x = first_keyed h.of h.has in record { of = x.later; has = x.left }
 
-  pub no_keyed_first : ((es : List (List ℕ × Data)) → HasRest rest es → RestStep es None) → (qs : List (List ℕ × InSlot)) → HasEntries rows u rest qs → EntryFirst rows u qs None
+  pub no_keyed_first : ((es : List (List ℕ × Data)) → AreLeft rest es → FirstStep es None) → (qs : List (List ℕ × InSlot)) → HasEntries rows u rest qs → EntryFirst rows u qs None
   no_keyed_first step qs h = by qs h.entries h.left h.beside where
-    by : (ps : List (List ℕ × InSlot)) (es : List (List ℕ × Data)) → HasRest rest es → AreKeyed rows u ps es → EntryFirst rows u ps None
+    by : (ps : List (List ℕ × InSlot)) (es : List (List ℕ × Data)) → AreLeft rest es → AreKeyed rows u ps es → EntryFirst rows u ps None
     by [] es has beside = tt
     by (q ∷ ps) [] has beside = absurd beside
     by (q ∷ ps) (e ∷ es) has beside = absurd (step (e ∷ es) has)
 
 -- those of a map that was found
 module _ (rows : List Row) (u : Slot) where
-  record KeyedBegun (o : Option (List (List ℕ × InSlot))) (r : Rest) : Type 0 where
+  record KeyedBegun (o : Option (List (List ℕ × InSlot))) (r : EntriesLeft) : Type 0 where
     parts : List (List ℕ × InSlot)
     is : o ≡ Some parts
     has : HasEntries rows u r parts
 
-  keyed_begun : (es : Option (List (List ℕ × Data))) (o : Option (List (List ℕ × InSlot))) (r : Rest) → MapsBeside rows u es o → FindsRest es (Some r) → KeyedBegun o r
+  keyed_begun : (es : Option (List (List ℕ × Data))) (o : Option (List (List ℕ × InSlot))) (r : EntriesLeft) → MapsBeside rows u es o → FindsLeft es (Some r) → KeyedBegun o r
   keyed_begun None o r beside found = absurd found
   keyed_begun (Some es) None r beside found = absurd beside
   keyed_begun (Some es) (Some qs) r beside found = record { parts = qs; is = refl; has = record { entries = es; left = found; beside = beside } }
 
-  pub entries_some : (es : Option (List (List ℕ × Data))) (o : Option (List (List ℕ × InSlot))) (r : Rest) → MapsBeside rows u es o → FindsRest es (Some r) → SomeEntries rows u r
+  pub entries_some : (es : Option (List (List ℕ × Data))) (o : Option (List (List ℕ × InSlot))) (r : EntriesLeft) → MapsBeside rows u es o → FindsLeft es (Some r) → SomeEntries rows u r
   entries_some es o r beside found = let x = keyed_begun es o r beside found in record { of = x.parts; has = x.has }
 
-  pub entries_found : (es : Option (List (List ℕ × Data))) (o : Option (List (List ℕ × InSlot))) (t : ViewEntries) → MapsBeside rows u es o → FindsRest es (Some t.rest) → t.acc.now ≡ rows → t.slot ≡ u
+  pub entries_found : (es : Option (List (List ℕ × Data))) (o : Option (List (List ℕ × InSlot))) (t : ViewEntries) → MapsBeside rows u es o → FindsLeft es (Some t.rest) → t.acc.now ≡ rows → t.slot ≡ u
       → FindsEntries rows o (Some t)
   entries_found es o t beside found table slot =
       let x = keyed_begun es o t.rest beside found in
       subst (λ p. FindsEntries rows p (Some t)) (sym x.is) (record { table = table; left = subst (λ (k : Slot). HasEntries rows k t.rest x.parts) (sym slot) x.has })
 
-  pub entries_none : (es : Option (List (List ℕ × Data))) (o : Option (List (List ℕ × InSlot))) → MapsBeside rows u es o → FindsRest es None → FindsEntries rows o None
+  pub entries_none : (es : Option (List (List ℕ × Data))) (o : Option (List (List ℕ × InSlot))) → MapsBeside rows u es o → FindsLeft es None → FindsEntries rows o None
   entries_none None None beside found = tt
   entries_none None (Some qs) beside found = absurd beside
   entries_none (Some es) o beside found = absurd found
 
   -- by the form of the map
-  form_keyed : (form : MapForm) (es : List (List ℕ × Data)) (h : Holder) (r : Rest) → FormKeyed rows u form es h → FormRest form es (Some r) → KeyedBegun (entries_in h) r
+  form_keyed : (form : MapForm) (es : List (List ℕ × Data)) (h : Holder) (r : EntriesLeft) → FormKeyed rows u form es h → FormLeft form es (Some r) → KeyedBegun (entries_in h) r
   form_keyed MF.Map es h r keyed found = keyed_begun (Some es) (entries_in h) r keyed.0 found
   form_keyed MF.ListPairs es h r keyed found = keyed_begun (Some es) (entries_in h) r keyed.0 found
   form_keyed (MF.StringPairs inner entry) es h r keyed found = keyed_begun (Some es) (entries_in h) r keyed.0 found
   form_keyed MF.Hamt es h r keyed found = absurd cc
 
-  pub form_some : (form : MapForm) (es : List (List ℕ × Data)) (h : Holder) (r : Rest) → FormKeyed rows u form es h → FormRest form es (Some r) → SomeEntries rows u r
+  pub form_some : (form : MapForm) (es : List (List ℕ × Data)) (h : Holder) (r : EntriesLeft) → FormKeyed rows u form es h → FormLeft form es (Some r) → SomeEntries rows u r
   form_some form es h r keyed found = let x = form_keyed form es h r keyed found in record { of = x.parts; has = x.has }
 
-  pub form_found : (form : MapForm) (es : List (List ℕ × Data)) (h : Holder) (t : ViewEntries) → FormKeyed rows u form es h → FormRest form es (Some t.rest) → t.acc.now ≡ rows → t.slot ≡ u
+  pub form_found : (form : MapForm) (es : List (List ℕ × Data)) (h : Holder) (t : ViewEntries) → FormKeyed rows u form es h → FormLeft form es (Some t.rest) → t.acc.now ≡ rows → t.slot ≡ u
       → FindsEntries rows (entries_in h) (Some t)
   form_found form es h t keyed found table slot =
       let x = form_keyed form es h t.rest keyed found in
       subst (λ p. FindsEntries rows p (Some t)) (sym x.is) (record { table = table; left = subst (λ (k : Slot). HasEntries rows k t.rest x.parts) (sym slot) x.has })
 
-  pub form_none : (form : MapForm) (es : List (List ℕ × Data)) (h : Holder) → FormKeyed rows u form es h → FormRest form es None → FindsEntries rows (entries_in h) None
+  pub form_none : (form : MapForm) (es : List (List ℕ × Data)) (h : Holder) → FormKeyed rows u form es h → FormLeft form es None → FindsEntries rows (entries_in h) None
   form_none MF.Map es h keyed found = entries_none (Some es) (entries_in h) keyed.0 found
   form_none MF.ListPairs es h keyed found = entries_none (Some es) (entries_in h) keyed.0 found
   form_none (MF.StringPairs inner entry) es h keyed found = entries_none (Some es) (entries_in h) keyed.0 found
@@ -272,7 +242,7 @@ items_stop rows s qs h step = by qs h (step qs (items_turn rows s qs h)) where
 entries_turn : (rows : List Row) (s : ViewEntries) (qs : List (List ℕ × InSlot)) → HasEntriesLeft rows s qs → HasEntries s.acc.now s.slot s.rest qs
 entries_turn rows s qs h = subst (λ (rs : List Row). HasEntries rs s.slot s.rest qs) (sym h.table) h.left
 
-pub entries_step : (rows : List Row) (s : ViewEntries) (k : Bor (List ℕ)) (v : View) (left : Rest) (t : ViewEntries) → t.acc.now ≡ s.acc.now → t.slot ≡ s.slot → t.rest ≡ left → (qs : List (List ℕ × InSlot))
+pub entries_step : (rows : List Row) (s : ViewEntries) (k : Bor (List ℕ)) (v : View) (left : EntriesLeft) (t : ViewEntries) → t.acc.now ≡ s.acc.now → t.slot ≡ s.slot → t.rest ≡ left → (qs : List (List ℕ × InSlot))
     → HasEntriesLeft rows s qs → ((ps : List (List ℕ × InSlot)) → HasEntries s.acc.now s.slot s.rest ps → EntryFirst s.acc.now s.slot ps (Some (k, v, left))) → EntriesStep rows qs (Some (k, v)) t
 entries_step rows s k v left t table slot rest qs h step = by qs (step qs (entries_turn rows s qs h)) where
   by : (ps : List (List ℕ × InSlot)) → EntryFirst s.acc.now s.slot ps (Some (k, v, left)) → EntriesStep rows ps (Some (k, v)) t
@@ -283,7 +253,7 @@ entries_step rows s k v left t table slot rest qs h step = by qs (step qs (entri
     record {
       table = table ∙ h.table;
       left = subst (λ (rs : List Row). HasEntries rs t.slot t.rest ps) h.table
-          (subst (λ (u : Slot). HasEntries s.acc.now u t.rest ps) (sym slot) (subst (λ (r : Rest). HasEntries s.acc.now s.slot r ps) (sym rest) x.2));
+          (subst (λ (u : Slot). HasEntries s.acc.now u t.rest ps) (sym slot) (subst (λ (r : EntriesLeft). HasEntries s.acc.now s.slot r ps) (sym rest) x.2));
     },
   )
 

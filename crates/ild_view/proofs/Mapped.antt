@@ -1,18 +1,13 @@
 -- The entries of a map, as its block shows them, and the value at a key.
-use Rattle.std.proofs.Common.{◌≡◌, ◌<◌, ℕ, List, [], ◌∷◌, true, false, length, arith, Option, option_map, Some, None, refl, sym, ◌∙◌, ap, subst}
-use Rattle.std.specs.Prelude.{option_and_then}
+use Rattle.std.proofs.Common.{◌≡◌, ℕ, List, [], true, false, Some, None, refl, sym, ◌∙◌, ap, subst}
 use Rattle.std.proofs.lemmas.Option.{same_Some}
-use Rattle.ild_cbor.specs.Nodes.{Finds}
-use Rattle.ild_cbor.specs.declared.node.Node.{Node}
-use Rattle.ild_data.specs.Data as T
 use Rattle.ild_data.specs.Data.{Data}
 use Rattle.ild_data.specs.Key.{value_at}
 use Rattle.ild_data.proofs.Lists.{members_list-members_of}
-use Rattle.ild_piece.specs.Entries.{Found}
-use Rattle.ild_schema.specs.Clear.{ClearMap, IsGiven}
+use Rattle.ild_entries.specs.Forms.{MapDelims, ShowsMap}
+use Rattle.ild_schema.specs.Clear.{ClearMap}
 use Rattle.ild_schema.specs.Copies.{base}
 use Rattle.ild_schema.specs.Delims.{MapDelims as Given}
-use Rattle.ild_schema.specs.Joins.{IsPairs}
 use Rattle.ild_schema.specs.Legible.{IsLegible}
 use Rattle.ild_schema.specs.Slots.{form_of}
 use Rattle.ild_schema.specs.Value.{Value}
@@ -22,31 +17,19 @@ use Rattle.ild_schema.specs.declared.def.TypeDef.TheVariants as D
 use Rattle.ild_schema.specs.declared.number.Slot.{Slot}
 use Rattle.ild_schema.specs.declared.number.TypeNo.{TypeNo}
 use Rattle.ild_schema.specs.declared.row.Row.{Row}
-use Rattle.ild_struct.proofs.Splitting.{given_some, pairs_shown, text_value_at}
-use Rattle.ild_struct.specs.Source.{text_entries}
+use Rattle.ild_struct.proofs.Splitting.{given_some}
 use Rattle.ild_typed.specs.At.{seen}
 use Rattle.ild_typed.specs.Composed.{map_form}
 use Rattle.ild_typed.specs.Fits.{Front}
 use Rattle.ild_typed.specs.Hamt.{alone}
 use Rattle.ild_typed.specs.Layer as L
 use Rattle.ild_typed.specs.Pieces.{is_null_there}
-use Rattle.ild_typed.specs.Strings.{listpairs, map_data, members_in, stringpairs, text_in, text_pairs}
-use Rattle.ild_typed.specs.Texts.{join_pairs}
-use Rattle.ild_typed.proofs.Basics.{map_from, then_from}
-use Rattle.ild_typed.proofs.JoinLaws.{pairs_are_pairs}
-use Rattle.ild_typed.proofs.CleanStructs.{split_of_pairs}
+use Rattle.ild_typed.specs.Strings.{listpairs, map_data, members_in}
 use Rattle.ild_view.proofs.Finding.{map_entry_there}
 use Rattle.ild_view.proofs.Opening.{front_map, is_hamt}
 use Rattle.ild_view.proofs.Parting.{Beside, no_entry, seen_by}
-use Rattle.ild_view.specs.Forms.{MapDelims, ShowsMap}
 use Rattle.ild_view.specs.Parts.{entry_at}
 use Rattle.ild_view.specs.Safe.{is_safe}
-
-pub finds_found : (n : Node) (place : ℕ) (o : Option Data) (r : Option Node) → Finds n place o r → Found o r
-finds_found n place (Some d) (Some m) h = h.stands
-finds_found n place None None h = tt
-finds_found n place (Some d) None h = h
-finds_found n place None (Some m) h = h
 
 pub shows_map : (form : MapForm) (es : List (List ℕ × Data)) (t : Data) → ClearMap form → Given form → is_hamt form ≡ false → map_form alone form (L.map es) ≡ Some t → ShowsMap form es t
 shows_map MF.Map es t clear given plain e = ap members_in (sym (same_Some (map_data es) t e)) ∙ ap Some (members_list-members_of es)
@@ -64,27 +47,6 @@ pub map_delims : (rows : List Row) → IsLegible rows → (s : Slot) (key : Type
 map_delims rows legible s key key_at value at form known =
     let d = D.Map key key_at value at form in
     given_delims form (legible.clear.types (base rows s.ty.0) d known) (legible.delims (base rows s.ty.0) d known)
-
-some_given : (s : List ℕ) → 0 < length s → IsGiven s
-some_given [] h = absurd (omega (arith, h))
-some_given (c ∷ s) h = tt
-
--- the pairs of a text are those of which it was made
-module _ (inner entry : List ℕ) (some : 0 < length inner) (more : 0 < length entry) (es : List (List ℕ × Data)) (t : Data) (made : stringpairs inner entry es ≡ Some t) (s : List ℕ) (is : t ≡ T.text s) where
-  pub text_there : (ps : List (List ℕ × List ℕ)) → IsPairs inner entry ps s → es ≡ text_entries ps
-  text_there ps are = same_Some es (text_entries ps) (sym (split_of_pairs inner entry (some_given inner some) (some_given entry more) es t made).entries ∙ pairs_shown inner entry s some more ps are t is)
-
-  pub text_value_there : (ps : List (List ℕ × List ℕ)) → IsPairs inner entry ps s → (key : List ℕ) → value_at key es ≡ option_map T.text (value_at key ps)
-  text_value_there ps are key = ap (value_at key) (text_there ps are) ∙ text_value_at key ps
-
-  pub text_split : ((ps : List (List ℕ × List ℕ)) → IsPairs inner entry ps s → false ≡ true) → ⊥
-  text_split none =
-      let x = map_from T.text (option_and_then (join_pairs inner entry) (text_pairs es)) t made in
-      let y = then_from (join_pairs inner entry) (text_pairs es) x.item x.there in
-      let same : T.text x.item ≡ T.text s = same_Some (T.text x.item) t x.made ∙ is in
-      let joined : join_pairs inner entry y.item ≡ Some s = y.made ∙ ap text_in same in
-      let e : false ≡ true = none y.item ((pairs_are_pairs inner entry y.item s some more).0 joined) in
-      cc
 
 -- the value at a key, beside what is there of a map that is shown
 pub record EntryAt (rows : List Row) (form : MapForm) (value : Slot) (t : Data) (k : List ℕ) (s : Slot) (f : Value) : Type 0 where

@@ -7,6 +7,7 @@ use Rattle.ild_data.specs.Data as T
 use Rattle.ild_data.specs.Data.{Data, Items, Members, items_list, members_list}
 use Rattle.ild_data.specs.Tree.{AreEntries, AreTrees, IsTree}
 use Rattle.ild_data.proofs.Lists.{items_list-items_of}
+use Rattle.ild_entries.specs.Forms.{ShowsMap}
 use Rattle.ild_piece.proofs.Searching.{all_then}
 use Rattle.ild_schema.specs.Clear.{IsClear}
 use Rattle.ild_schema.specs.Copies.{base}
@@ -40,7 +41,7 @@ use Rattle.ild_view.proofs.Opening.{front_list, front_map, is_hamt}
 use Rattle.ild_view.proofs.Parting.{Fronts, Seen, any_fronts, seen_by, seen_in_map, seen_list, seen_map}
 use Rattle.ild_view.specs.Beside.{AreBeside, AreKeyed, IsBeside}
 use Rattle.ild_view.specs.Counted.{count_in}
-use Rattle.ild_view.specs.Forms.{ShowsMap, element_slot, entry_slot}
+use Rattle.ild_view.specs.Forms.{element_slot, entry_slot}
 use Rattle.ild_view.specs.Ordered.{elements_in, entries_in, in_any, in_slot, keyed_any, keyed_in}
 use Rattle.ild_view.specs.Safe.{is_safe}
 

@@ -2,8 +2,6 @@
 use Rattle.std.specs.Prelude.{◌≡◌, ℕ, suc, Bool, true, false, cond, List, [], ◌∷◌, Option, Some, None, length, slice_get}
 use Rattle.ild_data.specs.Data.{Data}
 use Rattle.ild_schema.specs.declared.def.Field.{Field}
-use Rattle.ild_schema.specs.declared.def.MapForm.{MapForm}
-use Rattle.ild_schema.specs.declared.def.MapForm.TheVariants as MF
 use Rattle.ild_typed.specs.Holder.{Holder, any_elements, any_entries, elements, entries, fields}
 
 -- of so many parts some are there
@@ -44,9 +42,3 @@ MayLack [] (o ∷ os) = ⊥
 MayLack (f ∷ fs) [] = ⊥
 MayLack (f ∷ fs) (Some d ∷ os) = MayLack fs os
 MayLack (f ∷ fs) (None ∷ os) = (f.optional ≡ true) × MayLack fs os
-
--- ---- the entries of a map of a form: of a HAMT they aren't counted
-
-abbrev pub FormCount : MapForm → List (List ℕ × Data) → Option ℕ → Type 0
-FormCount MF.Hamt es r = r ≡ None
-FormCount form es r = r ≡ Some (length es)

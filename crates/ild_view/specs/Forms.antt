@@ -1,6 +1,5 @@
 -- What a type's form says of its parts.
-use Rattle.std.specs.Prelude.{◌≡◌, ◌<◌, ℕ, Bool, true, false, List, [], Option, Some, None, length}
-use Rattle.ild_data.specs.Data.{Data}
+use Rattle.std.specs.Prelude.{Bool, true, false, Option, Some, None}
 use Rattle.ild_schema.specs.Prelude.{anything}
 use Rattle.ild_schema.specs.declared.def.EnumDef.{EnumDef}
 use Rattle.ild_schema.specs.declared.def.MapForm.{MapForm}
@@ -10,7 +9,6 @@ use Rattle.ild_schema.specs.declared.def.TypeDef.{TypeDef}
 use Rattle.ild_schema.specs.declared.def.TypeDef.TheVariants as D
 use Rattle.ild_schema.specs.declared.def.UnionDef.{UnionDef}
 use Rattle.ild_schema.specs.declared.number.Slot.{Slot}
-use Rattle.ild_typed.specs.Strings.{listpairs, members_in, stringpairs}
 
 -- of the elements of a list
 abbrev pub element_slot : TypeDef → Option Slot
@@ -49,15 +47,3 @@ is_hamt_form form = false
 abbrev pub is_hamt : TypeDef → Bool
 is_hamt (D.Map key key_at value at form) = is_hamt_form form
 is_hamt d = false
-
--- the delimiters of pairs are given
-abbrev pub MapDelims : MapForm → Type 0
-MapDelims (MF.StringPairs inner entry) = (0 < length inner) × (0 < length entry)
-MapDelims form = Unit {0}
-
--- the entries that data show, in each form of a map: of a HAMT none are looked for
-abbrev pub ShowsMap : MapForm → List (List ℕ × Data) → Data → Type 0
-ShowsMap MF.Map es t = members_in t ≡ Some es
-ShowsMap MF.ListPairs es t = t ≡ listpairs es
-ShowsMap (MF.StringPairs inner entry) es t = stringpairs inner entry es ≡ Some t
-ShowsMap MF.Hamt es t = es ≡ []

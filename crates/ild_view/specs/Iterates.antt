@@ -2,12 +2,12 @@
 use Rattle.std.specs.Borrow.{Bor}
 use Rattle.std.specs.Prelude.{◌≡◌, ℕ, List, [], ◌∷◌, Option, Some, None}
 use Rattle.ild_cbor.specs.declared.items.Items.{Items}
+use Rattle.ild_entries.specs.declared.left.EntriesLeft.{EntriesLeft}
 use Rattle.ild_schema.specs.declared.number.Slot.{Slot}
 use Rattle.ild_schema.specs.declared.row.Row.{Row}
 use Rattle.ild_typed.specs.At.{InSlot}
 use Rattle.ild_view.specs.Left.{HasElements, HasEntries}
 use Rattle.ild_view.specs.Parts.{IsPartView}
-use Rattle.ild_view.specs.declared.rest.Rest.{Rest}
 use Rattle.ild_view.specs.declared.view.View.{View}
 use Rattle.ild_view.specs.declared.elements.ViewItems.{ViewItems}
 use Rattle.ild_view.specs.declared.entries.ViewEntries.{ViewEntries}
@@ -47,7 +47,7 @@ pub record HasEntriesLeft (rows : List Row) (s : ViewEntries) (qs : List (List �
   pub table : s.acc.now ≡ rows
   pub left : HasEntries rows s.slot s.rest qs
 
-abbrev pub EntryFirst : List Row → Slot → List (List ℕ × InSlot) → Option (Bor (List ℕ) × View × Rest) → Type 0
+abbrev pub EntryFirst : List Row → Slot → List (List ℕ × InSlot) → Option (Bor (List ℕ) × View × EntriesLeft) → Type 0
 EntryFirst rows u [] None = Unit {0}
 EntryFirst rows u [] (Some r) = ⊥
 EntryFirst rows u (q ∷ qs) None = ⊥

@@ -3,12 +3,12 @@ use Rattle.std.specs.Prelude.{ℕ, List}
 use Rattle.ild_data.specs.Data.{Data, Items, items_list}
 use Rattle.ild_cbor.specs.Steps.{HasItems}
 use Rattle.ild_cbor.specs.declared.items.Items.{Items as ItemsLeft}
+use Rattle.ild_entries.specs.Left.{AreLeft}
+use Rattle.ild_entries.specs.declared.left.EntriesLeft.{EntriesLeft}
 use Rattle.ild_schema.specs.declared.number.Slot.{Slot}
 use Rattle.ild_schema.specs.declared.row.Row.{Row}
 use Rattle.ild_typed.specs.At.{InSlot}
 use Rattle.ild_view.specs.Beside.{AreBeside, AreKeyed}
-use Rattle.ild_view.specs.Rest.{HasRest}
-use Rattle.ild_view.specs.declared.rest.Rest.{Rest}
 
 -- these elements of a slot
 pub record HasElements (rows : List Row) (u : Slot) (s : ItemsLeft) (qs : List InSlot) : Type 0 where
@@ -21,11 +21,11 @@ pub record SomeElements (rows : List Row) (u : Slot) (s : ItemsLeft) : Type 0 wh
   pub has : HasElements rows u s of
 
 -- these entries, whose values are of a slot
-pub record HasEntries (rows : List Row) (u : Slot) (r : Rest) (qs : List (List ℕ × InSlot)) : Type 0 where
+pub record HasEntries (rows : List Row) (u : Slot) (r : EntriesLeft) (qs : List (List ℕ × InSlot)) : Type 0 where
   pub entries : List (List ℕ × Data)
-  pub left : HasRest r entries
+  pub left : AreLeft r entries
   pub beside : AreKeyed rows u qs entries
 
-pub record SomeEntries (rows : List Row) (u : Slot) (r : Rest) : Type 0 where
+pub record SomeEntries (rows : List Row) (u : Slot) (r : EntriesLeft) : Type 0 where
   pub of : List (List ℕ × InSlot)
   pub has : HasEntries rows u r of

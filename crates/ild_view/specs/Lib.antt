@@ -10,7 +10,6 @@ pub mod Names
 pub mod Ordered
 pub mod Parts
 pub mod Reaches
-pub mod Rest
 pub mod Roots
 pub mod Safe
 pub mod View

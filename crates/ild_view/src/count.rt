@@ -2,24 +2,20 @@
 ghost use Rattle.std.specs.Prelude.{◌≡◌, ◌<◌, ◌≤◌, ◌^◌, List, Option, length, true, ℕ};
 ghost use Rattle.ild_cbor.specs.Scalar.{count_of};
 ghost use Rattle.ild_data.specs.Data.{Data};
-ghost use Rattle.ild_piece.specs.Pieces.{StandsFor};
+ghost use Rattle.ild_entries.specs.Forms.{FormCount, MapDelims, ShowsMap};
 ghost use Rattle.ild_schema.specs.Value.{Value};
 ghost use Rattle.ild_schema.specs.declared.row.Row.{Row};
 ghost use Rattle.ild_struct.specs.Parts.{ArePartsOf, fields_of};
 ghost use Rattle.ild_struct.specs.Present.{HasPresent};
 ghost use Rattle.ild_typed.specs.At.{seen};
 ghost use Rattle.ild_view.specs.Body.{BodyStands, is_free};
-ghost use Rattle.ild_view.specs.Counted.{FormCount, MayLack, count_in, is_optional_at, optional_of, present_of, required_of};
-ghost use Rattle.ild_view.specs.Forms.{MapDelims, ShowsMap};
-ghost use Rattle.ild_typed.specs.Strings.{stringpairs};
+ghost use Rattle.ild_view.specs.Counted.{MayLack, count_in, is_optional_at, optional_of, present_of, required_of};
 
 use crate::body::Body;
 use crate::view::View;
-use ild_cbor::Piece;
-use ild_piece::text;
+use ild_entries::{form_count, parts_count};
 use ild_schema::{Field, MapForm, TypeDef};
 use ild_struct::{Present, StructParts, layer};
-use ild_text::pairs;
 
 impl<'b> Body<'b> {
     /// How many parts a list or a map has, or `None` where it is something else.
@@ -27,27 +23,9 @@ impl<'b> Body<'b> {
         ensures { (rows : List Row) (t : Data) → is_free self.now ≡ true → BodyStands rows self.now t → result ≡ count_of t }
     {
         match self {
-            Body::Held(piece) => match piece {
-                Piece::Node(node) => node.count(),
-                Piece::Text(_) | Piece::Bytes(_) | Piece::Inline(_, _) => None,
-            },
+            Body::Held(piece) => parts_count(piece),
             Body::Implicit(_) => None,
         }
-    }
-}
-
-// How many pairs a text is.
-fn text_count<'b>(piece: &Piece<'b>, inner: &'b str, entry: &'b str) -> Option<u64>
-    requires inner_some { 0 < length inner.now }
-    requires entry_some { 0 < length entry.now }
-    ensures { (rows : List Row) (es : List (List ℕ × Data)) (t : Data) → StandsFor rows piece.now t → stringpairs inner.now entry.now es ≡ Some t → result ≡ Some (length es) }
-{
-    match text(piece) {
-        Some(whole) => match pairs(whole, inner, entry) {
-            Ok(split) => Some(split.len() as u64),
-            Err(_) => None,
-        },
-        None => None,
     }
 }
 
@@ -109,14 +87,9 @@ impl<'b> View<'b> {
         requires { MapDelims form.now }
         ensures { (t : Data) (es : List (List ℕ × Data)) → is_free (body_of self.now) ≡ true → BodyStands (table_of self.now) (body_of self.now) t → ShowsMap form.now es t → FormCount form.now es result }
     {
-        match form {
-            MapForm::Map => self.body.count(),
-            MapForm::ListPairs => self.body.count(),
-            MapForm::StringPairs(inner, entry) => match self.body {
-                Body::Held(piece) => text_count(&piece, inner.as_str(), entry.as_str()),
-                Body::Implicit(_) => None,
-            },
-            MapForm::Hamt => None,
+        match self.body {
+            Body::Held(piece) => form_count(form, &piece),
+            Body::Implicit(_) => None,
         }
     }
 

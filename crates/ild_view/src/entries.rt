@@ -3,7 +3,7 @@ ghost use Rattle.std.specs.Prelude.{◌≡◌, ◌<◌, length, true};
 ghost use Rattle.ild_view.specs.Left.{SomeEntries};
 ghost use Rattle.ild_view.specs.Safe.{is_safe};
 
-use crate::rest::Rest;
+use ild_entries::EntriesLeft;
 use ild_schema::{Accepted, Slot};
 
 /// An iterator over the entries of a map, each as its key and a view of its value, which walks the map once.
@@ -11,7 +11,7 @@ use ild_schema::{Accepted, Slot};
 pub struct ViewEntries<'b> {
     pub(crate) acc: &'b Accepted,
     pub(crate) slot: Slot,
-    pub(crate) rest: Rest<'b>,
+    pub(crate) rest: EntriesLeft<'b>,
     ghost within: { slot.ty.0 < length acc.now },
     ghost safe: { is_safe acc.now slot ≡ true },
     ghost stands: { ∥ SomeEntries acc.now slot rest ∥₁ },

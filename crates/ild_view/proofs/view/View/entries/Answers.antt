@@ -13,8 +13,8 @@ use Rattle.ild_view.specs.Ordered.{entries_in}
 use Rattle.ild_view.specs.declared.body.Body.{Body}
 use Rattle.ild_view.proofs.view.View.entries.Goals as goal
 
-pub rest_of-requires-clause-delims : goal.rest_of-requires-clause-delims
-rest_of-requires-clause-delims c =
+pub form_entries-requires-clause-delims : goal.form_entries-requires-clause-delims
+form_entries-requires-clause-delims c =
     map_delims c.args.self.now.acc.now c.types-types.ensures.legible c.args.self.now.slot c.in-Map.key c.in-Map.key_at c.in-Map.value c.in-Map.at c.in-Map.form (c.def.ensures.same ∙ ap Some c.in-Map.is)
 
 pub invariant_of-result-clause-safe : goal.invariant_of-result-clause-safe
@@ -29,14 +29,14 @@ invariant_of-result-clause-stands c = ∥∥₁_map c.args.self.now.stands (λ h
     let x = map_at s.acc.now c.types-types.ensures.legible s.slot s.safe h.room h.value h.tree h.front some c.in-Map.key c.in-Map.key_at c.in-Map.value c.in-Map.at c.in-Map.form (c.def.ensures.same ∙ ap Some c.in-Map.is) in
     form_some s.acc.now c.in-Map.value c.in-Map.form x.parts (seen s.acc.now (s.slot, h.value)) c.in-Some.rest x.keyed (c.in-Some.ensures h.tree x.parts stands x.shows))
 
-pub invariant_of-result-in-Some-map_rest-clause-stands : goal.invariant_of-result-in-Some-map_rest-clause-stands
-invariant_of-result-in-Some-map_rest-clause-stands c = ∥∥₁_map c.args.self.now.stands (λ h.
+pub invariant_of-result-in-Some-map_entries-clause-stands : goal.invariant_of-result-in-Some-map_entries-clause-stands
+invariant_of-result-in-Some-map_entries-clause-stands c = ∥∥₁_map c.args.self.now.stands (λ h.
     let s = c.args.self.now in
     let some = sym (c.is_null_there.ensures h.tree h.stands) ∙ c.if-is_null_there.false in
     let stands = subst (λ (b : Body). BodyStands s.acc.now b h.tree) c.in-Held.is h.stands in
-    entries_some s.acc.now anything (members_in h.tree) (entries_in (seen s.acc.now (s.slot, h.value))) c.in-Some-map_rest.rest
+    entries_some s.acc.now anything (members_in h.tree) (entries_in (seen s.acc.now (s.slot, h.value))) c.in-Some-map_entries.rest
     (any_map_beside s.acc.now c.types-types.ensures.legible s.slot s.safe h.room h.value h.tree h.front some (any_there s.acc.now c.types-types.ensures.table.prelude_first) (c.def.ensures.same ∙ ap Some c.in-Any.is))
-    (c.in-Some-map_rest.ensures h.tree stands))
+    (c.in-Some-map_entries.ensures h.tree stands))
 
 pub returns-in-Some : goal.returns-in-Some
 returns-in-Some c = λ f v.
@@ -54,11 +54,11 @@ returns-in-None c = λ f v.
     let x = map_at s.acc.now c.types-types.ensures.legible s.slot s.safe v.room f v.tree v.front some c.in-Map.key c.in-Map.key_at c.in-Map.value c.in-Map.at c.in-Map.form (c.def.ensures.same ∙ ap Some c.in-Map.is) in
     form_none s.acc.now c.in-Map.value c.in-Map.form x.parts (seen s.acc.now (s.slot, f)) x.keyed (c.in-None.ensures v.tree x.parts stands x.shows)
 
-pub returns-in-Some-map_rest : goal.returns-in-Some-map_rest
-returns-in-Some-map_rest c = λ f v.
+pub returns-in-Some-map_entries : goal.returns-in-Some-map_entries
+returns-in-Some-map_entries c = λ f v.
     let s = c.args.self.now in
     let some = sym (c.is_null_there.ensures v.tree v.stands) ∙ c.if-is_null_there.false in
     let stands = subst (λ (b : Body). BodyStands s.acc.now b v.tree) c.in-Held.is v.stands in
     entries_found s.acc.now anything (members_in v.tree) (entries_in (seen s.acc.now (s.slot, f))) _
     (any_map_beside s.acc.now c.types-types.ensures.legible s.slot s.safe v.room f v.tree v.front some (any_there s.acc.now c.types-types.ensures.table.prelude_first) (c.def.ensures.same ∙ ap Some c.in-Any.is))
-    (c.in-Some-map_rest.ensures v.tree stands) refl refl
+    (c.in-Some-map_entries.ensures v.tree stands) refl refl

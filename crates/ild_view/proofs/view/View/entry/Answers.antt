@@ -1,4 +1,4 @@
-use Rattle.std.proofs.Common.{Some, sym, ◌∙◌, ap, subst}
+use Rattle.std.proofs.Common.{Some, None, sym, ◌∙◌, ap, subst}
 use Rattle.std.specs.Prelude.{option_and_then}
 use Rattle.std.proofs.Math.Logic.{∥∥₁_map}
 use Rattle.ild_data.specs.Key.{value_at}
@@ -6,17 +6,18 @@ use Rattle.ild_schema.specs.Prelude.{anything}
 use Rattle.ild_typed.specs.At.{seen}
 use Rattle.ild_typed.specs.Strings.{members_in}
 use Rattle.ild_view.proofs.Finding.{any_entry_there}
-use Rattle.ild_view.proofs.Handing.{hands_none, hands_out, has_front}
+use Rattle.ild_view.proofs.Handing.{hands_none, hands_out, has_front, held_embodied}
 use Rattle.ild_view.proofs.Mapped.{entry_there, map_delims}
 use Rattle.ild_view.proofs.Parting.{any_there}
 use Rattle.ild_view.proofs.Placing.{value_is_safe}
 use Rattle.ild_view.specs.Body.{BodyStands}
 use Rattle.ild_view.specs.Parts.{entry_at}
 use Rattle.ild_view.specs.declared.body.Body.{Body}
+use Rattle.ild_view.specs.declared.body.Body.TheVariants as B
 use Rattle.ild_view.proofs.view.View.entry.Goals as goal
 
-pub entry_of-requires-clause-delims : goal.entry_of-requires-clause-delims
-entry_of-requires-clause-delims c =
+pub form_entry-requires-clause-delims : goal.form_entry-requires-clause-delims
+form_entry-requires-clause-delims c =
     map_delims c.args.self.now.acc.now c.types-types.ensures.legible c.args.self.now.slot c.in-Map.key c.in-Map.key_at c.in-Map.value c.in-Map.at c.in-Map.form (c.def.ensures.same ∙ ap Some c.in-Map.is)
 
 pub part-requires-clause-safe : goal.part-requires-clause-safe
@@ -29,14 +30,14 @@ part-requires-clause-front c = ∥∥₁_map c.args.self.now.stands (λ h.
     let some = sym (c.is_null_there.ensures h.tree h.stands) ∙ c.if-is_null_there.false in
     let stands = subst (λ (b : Body). BodyStands s.acc.now b h.tree) c.in-Held.is h.stands in
     let x = entry_there s.acc.now c.types-types.ensures.legible s.slot s.safe h.room h.value h.tree h.front some c.in-Map.key c.in-Map.key_at c.in-Map.value c.in-Map.at c.in-Map.form (c.def.ensures.same ∙ ap Some c.in-Map.is) c.args.key.now in
-    has_front s.acc.now c.in-Map.value (value_at c.args.key.now x.entries) (entry_at (seen s.acc.now (s.slot, h.value)) c.args.key.now) c.in-Some.body (c.in-Some.ensures.embodies h.tree x.entries stands x.shows) x.beside)
+    has_front s.acc.now c.in-Map.value (value_at c.args.key.now x.entries) (entry_at (seen s.acc.now (s.slot, h.value)) c.args.key.now) (B.Held c.in-Some.part) (held_embodied s.acc.now (value_at c.args.key.now x.entries) (Some c.in-Some.part) (c.in-Some.ensures.found h.tree x.entries stands x.shows)) x.beside)
 
 pub part-requires-in-Some-map_entry-clause-front : goal.part-requires-in-Some-map_entry-clause-front
 part-requires-in-Some-map_entry-clause-front c = ∥∥₁_map c.args.self.now.stands (λ h.
     let s = c.args.self.now in
     let some = sym (c.is_null_there.ensures h.tree h.stands) ∙ c.if-is_null_there.false in
     let stands = subst (λ (b : Body). BodyStands s.acc.now b h.tree) c.in-Held.is h.stands in
-    has_front s.acc.now anything (option_and_then (value_at c.args.key.now) (members_in h.tree)) (entry_at (seen s.acc.now (s.slot, h.value)) c.args.key.now) c.in-Some-map_entry.body (c.in-Some-map_entry.ensures.embodies h.tree stands)
+    has_front s.acc.now anything (option_and_then (value_at c.args.key.now) (members_in h.tree)) (entry_at (seen s.acc.now (s.slot, h.value)) c.args.key.now) (B.Held c.in-Some-map_entry.part) (held_embodied s.acc.now (option_and_then (value_at c.args.key.now) (members_in h.tree)) (Some c.in-Some-map_entry.part) (c.in-Some-map_entry.ensures.found h.tree stands))
     (any_entry_there s.acc.now c.types-types.ensures.legible.clear s.slot s.safe h.room h.value h.tree h.front some (any_there s.acc.now c.types-types.ensures.table.prelude_first) (c.def.ensures.same ∙ ap Some c.in-Any.is) c.args.key.now))
 
 pub returns-in-Some : goal.returns-in-Some
@@ -45,7 +46,7 @@ returns-in-Some c = λ f v.
     let some = sym (c.is_null_there.ensures v.tree v.stands) ∙ c.if-is_null_there.false in
     let stands = subst (λ (b : Body). BodyStands s.acc.now b v.tree) c.in-Held.is v.stands in
     let x = entry_there s.acc.now c.types-types.ensures.legible s.slot s.safe v.room f v.tree v.front some c.in-Map.key c.in-Map.key_at c.in-Map.value c.in-Map.at c.in-Map.form (c.def.ensures.same ∙ ap Some c.in-Map.is) c.args.key.now in
-    hands_out s.acc.now c.in-Map.value (value_at c.args.key.now x.entries) (entry_at (seen s.acc.now (s.slot, f)) c.args.key.now) c.in-Some.body c.part.result (c.in-Some.ensures.embodies v.tree x.entries stands x.shows) x.beside
+    hands_out s.acc.now c.in-Map.value (value_at c.args.key.now x.entries) (entry_at (seen s.acc.now (s.slot, f)) c.args.key.now) (B.Held c.in-Some.part) c.part.result (held_embodied s.acc.now (value_at c.args.key.now x.entries) (Some c.in-Some.part) (c.in-Some.ensures.found v.tree x.entries stands x.shows)) x.beside
     c.part.ensures.table c.part.ensures.slot c.part.ensures.body
 
 pub returns-in-None : goal.returns-in-None
@@ -54,14 +55,14 @@ returns-in-None c = λ f v.
     let some = sym (c.is_null_there.ensures v.tree v.stands) ∙ c.if-is_null_there.false in
     let stands = subst (λ (b : Body). BodyStands s.acc.now b v.tree) c.in-Held.is v.stands in
     let x = entry_there s.acc.now c.types-types.ensures.legible s.slot s.safe v.room f v.tree v.front some c.in-Map.key c.in-Map.key_at c.in-Map.value c.in-Map.at c.in-Map.form (c.def.ensures.same ∙ ap Some c.in-Map.is) c.args.key.now in
-    hands_none s.acc.now c.in-Map.value (value_at c.args.key.now x.entries) (entry_at (seen s.acc.now (s.slot, f)) c.args.key.now) (c.in-None.ensures.embodies v.tree x.entries stands x.shows) x.beside
+    hands_none s.acc.now c.in-Map.value (value_at c.args.key.now x.entries) (entry_at (seen s.acc.now (s.slot, f)) c.args.key.now) (held_embodied s.acc.now (value_at c.args.key.now x.entries) None (c.in-None.ensures.found v.tree x.entries stands x.shows)) x.beside
 
 pub returns-in-Some-map_entry : goal.returns-in-Some-map_entry
 returns-in-Some-map_entry c = λ f v.
     let s = c.args.self.now in
     let some = sym (c.is_null_there.ensures v.tree v.stands) ∙ c.if-is_null_there.false in
     let stands = subst (λ (b : Body). BodyStands s.acc.now b v.tree) c.in-Held.is v.stands in
-    hands_out s.acc.now anything (option_and_then (value_at c.args.key.now) (members_in v.tree)) (entry_at (seen s.acc.now (s.slot, f)) c.args.key.now) c.in-Some-map_entry.body c.part-in-Some-map_entry.result
-    (c.in-Some-map_entry.ensures.embodies v.tree stands)
+    hands_out s.acc.now anything (option_and_then (value_at c.args.key.now) (members_in v.tree)) (entry_at (seen s.acc.now (s.slot, f)) c.args.key.now) (B.Held c.in-Some-map_entry.part) c.part-in-Some-map_entry.result
+    (held_embodied s.acc.now (option_and_then (value_at c.args.key.now) (members_in v.tree)) (Some c.in-Some-map_entry.part) (c.in-Some-map_entry.ensures.found v.tree stands))
     (any_entry_there s.acc.now c.types-types.ensures.legible.clear s.slot s.safe v.room f v.tree v.front some (any_there s.acc.now c.types-types.ensures.table.prelude_first) (c.def.ensures.same ∙ ap Some c.in-Any.is) c.args.key.now)
     c.part-in-Some-map_entry.ensures.table c.part-in-Some-map_entry.ensures.slot c.part-in-Some-map_entry.ensures.body
