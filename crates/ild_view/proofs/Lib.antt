@@ -14,3 +14,4 @@ mod Ordering
 mod Tallying
 mod Iterating
 mod Counting
+mod Entering

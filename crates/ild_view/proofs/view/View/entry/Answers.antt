@@ -1,15 +1,16 @@
-use Rattle.std.proofs.Common.{Some, None, sym, ◌∙◌, ap, subst}
+use Rattle.std.proofs.Common.{length, Some, None, sym, ◌∙◌, ap, subst}
 use Rattle.std.specs.Prelude.{option_and_then}
 use Rattle.std.proofs.Math.Logic.{∥∥₁_map}
 use Rattle.ild_data.specs.Key.{value_at}
 use Rattle.ild_schema.specs.Prelude.{anything}
 use Rattle.ild_typed.specs.At.{seen}
 use Rattle.ild_typed.specs.Strings.{members_in}
+use Rattle.ild_view.proofs.Entering.{null_entry, other_entry, own_numbered, part_numbered, part_placed, scalar_entry, value_in}
 use Rattle.ild_view.proofs.Finding.{any_entry_there}
 use Rattle.ild_view.proofs.Handing.{hands_none, hands_out, has_front, held_embodied}
 use Rattle.ild_view.proofs.Mapped.{entry_there, map_delims}
-use Rattle.ild_view.proofs.Parting.{any_there}
-use Rattle.ild_view.proofs.Placing.{value_is_safe}
+use Rattle.ild_view.proofs.Parting.{any_low, any_there}
+use Rattle.ild_view.proofs.Placing.{anything_safe, value_is_safe}
 use Rattle.ild_view.specs.Body.{BodyStands}
 use Rattle.ild_view.specs.Parts.{entry_at}
 use Rattle.ild_view.specs.declared.body.Body.{Body}
@@ -66,3 +67,57 @@ returns-in-Some-map_entry c = λ f v.
     (held_embodied s.acc.now (option_and_then (value_at c.args.key.now) (members_in v.tree)) (Some c.in-Some-map_entry.part) (c.in-Some-map_entry.ensures.found v.tree stands))
     (any_entry_there s.acc.now c.types-types.ensures.legible.clear s.slot s.safe v.room f v.tree v.front some (any_there s.acc.now c.types-types.ensures.table.prelude_first) (c.def.ensures.same ∙ ap Some c.in-Any.is) c.args.key.now)
     c.part-in-Some-map_entry.ensures.table c.part-in-Some-map_entry.ensures.slot c.part-in-Some-map_entry.ensures.body
+
+pub form_entry-requires-clause-numbered : goal.form_entry-requires-clause-numbered
+form_entry-requires-clause-numbered c = own_numbered c.args.self.now.acc.now c.args.self.now.body c.in-Held.piece c.in-Held.is c.args.self.now.numbered
+
+pub map_entry-requires : goal.map_entry-requires
+map_entry-requires c = own_numbered c.args.self.now.acc.now c.args.self.now.body c.in-Held.piece c.in-Held.is c.args.self.now.numbered
+
+pub part-requires-clause-within : goal.part-requires-clause-within
+part-requires-clause-within c =
+    value_in (length c.args.self.now.acc.now) c.def.result.now c.in-Map.key c.in-Map.key_at c.in-Map.value c.in-Map.at c.in-Map.form c.in-Map.is c.def.ensures.within
+
+pub part-requires-clause-numbered : goal.part-requires-clause-numbered
+part-requires-clause-numbered c = part_numbered (length c.args.self.now.acc.now) c.in-Some.part c.in-Some.ensures.free
+
+pub part-requires-clause-placed : goal.part-requires-clause-placed
+part-requires-clause-placed c = part_placed c.args.self.now.acc.now c.in-Map.value c.in-Some.part c.in-Some.ensures.free
+
+pub part-requires-in-Some-map_entry-clause-within : goal.part-requires-in-Some-map_entry-clause-within
+part-requires-in-Some-map_entry-clause-within c = any_low c.args.self.now.acc.now c.types-types.ensures.table.prelude_first
+
+pub part-requires-in-Some-map_entry-clause-safe : goal.part-requires-in-Some-map_entry-clause-safe
+part-requires-in-Some-map_entry-clause-safe c = anything_safe c.args.self.now.acc.now c.types-types.ensures.table c.types-types.ensures.legible c.args.self.now.slot
+
+pub part-requires-in-Some-map_entry-clause-numbered : goal.part-requires-in-Some-map_entry-clause-numbered
+part-requires-in-Some-map_entry-clause-numbered c = part_numbered (length c.args.self.now.acc.now) c.in-Some-map_entry.part c.in-Some-map_entry.ensures.free
+
+pub part-requires-in-Some-map_entry-clause-placed : goal.part-requires-in-Some-map_entry-clause-placed
+part-requires-in-Some-map_entry-clause-placed c = part_placed c.args.self.now.acc.now anything c.in-Some-map_entry.part c.in-Some-map_entry.ensures.free
+
+pub returns-then-is_null_there : goal.returns-then-is_null_there
+returns-then-is_null_there c = λ f v.
+    let s = c.args.self.now in
+    null_entry s.acc.now c.types-types.ensures.legible s.slot s.safe v.room f v.tree v.front (sym (c.is_null_there.ensures v.tree v.stands) ∙ c.if-is_null_there.true) c.args.key.now
+
+pub returns-in_default : goal.returns-in_default
+returns-in_default c = λ f v.
+    let s = c.args.self.now in
+    let some = sym (c.is_null_there.ensures v.tree v.stands) ∙ c.if-is_null_there.false in
+    scalar_entry s.acc.now c.types-types.ensures.legible s.slot s.safe v.room f v.tree v.front some s.body s.placed c.in_default.not-Held c.args.key.now
+
+pub returns-in_default-def : goal.returns-in_default-def
+returns-in_default-def c = λ f v.
+    let s = c.args.self.now in
+    let some = sym (c.is_null_there.ensures v.tree v.stands) ∙ c.if-is_null_there.false in
+    other_entry s.acc.now c.types-types.ensures.legible s.slot s.safe v.room f v.tree v.front some c.def.result.now c.def.ensures.same c.in_default-def.not-Any c.in_default-def.not-Map c.args.key.now
+
+pub returns-in-None-map_entry : goal.returns-in-None-map_entry
+returns-in-None-map_entry c = λ f v.
+    let s = c.args.self.now in
+    let some = sym (c.is_null_there.ensures v.tree v.stands) ∙ c.if-is_null_there.false in
+    let stands = subst (λ (b : Body). BodyStands s.acc.now b v.tree) c.in-Held.is v.stands in
+    let o = option_and_then (value_at c.args.key.now) (members_in v.tree) in
+    hands_none s.acc.now anything o (entry_at (seen s.acc.now (s.slot, f)) c.args.key.now) (held_embodied s.acc.now o None (c.in-None-map_entry.ensures.found v.tree stands))
+    (any_entry_there s.acc.now c.types-types.ensures.legible.clear s.slot s.safe v.room f v.tree v.front some (any_there s.acc.now c.types-types.ensures.table.prelude_first) (c.def.ensures.same ∙ ap Some c.in-Any.is) c.args.key.now)

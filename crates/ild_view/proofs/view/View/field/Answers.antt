@@ -1,18 +1,20 @@
-use Rattle.std.proofs.Common.{◌≡◌, ℕ, length, Some, sym, ◌∙◌, ap, subst, arith}
+use Rattle.std.proofs.Common.{◌≡◌, ◌<◌, ℕ, true, List, length, Some, sym, ◌∙◌, ap, subst, arith}
 use Rattle.std.specs.Prelude.{[], option_and_then, slice_get}
 use Rattle.std.proofs.Math.Logic.{∥∥₁_map}
 use Rattle.ild_schema.specs.Parts.{part_named}
 use Rattle.ild_schema.specs.Rows.{def_at}
 use Rattle.ild_schema.specs.Slots.{form_of}
 use Rattle.ild_schema.specs.Table.{IsWithin}
+use Rattle.ild_schema.specs.declared.def.Field.{Field}
 use Rattle.ild_schema.specs.declared.def.TypeDef.{TypeDef}
 use Rattle.ild_schema.specs.declared.def.TypeDef.TheVariants as D
 use Rattle.ild_typed.specs.At.{seen}
-use Rattle.ild_view.proofs.Fielding.{field_found, field_indexed}
+use Rattle.ild_view.proofs.Entering.{null_field, own_numbered}
+use Rattle.ild_view.proofs.Fielding.{field_at_place, field_found, field_indexed}
 use Rattle.ild_view.proofs.Handing.{hands_none, hands_nothing, hands_out, has_front}
 use Rattle.ild_view.proofs.Placing.{field_implicit, field_in, field_is_safe}
-use Rattle.ild_view.proofs.Reading.{struct_is, struct_kept, struct_without}
-use Rattle.ild_view.specs.Body.{BodyStands}
+use Rattle.ild_view.proofs.Reading.{not_implicit, struct_is, struct_kept, struct_without}
+use Rattle.ild_view.specs.Body.{BodyStands, is_placed}
 use Rattle.ild_view.specs.Parts.{field_named}
 use Rattle.ild_view.specs.declared.body.Body.{Body}
 use Rattle.ild_view.proofs.view.View.field.Goals as goal
@@ -105,3 +107,32 @@ returns-in-None-number_of c = λ f v.
     let found = c.in-None-number_of.ensures.same ∙ ap (λ (k : ℕ). option_and_then (part_named c.args.name.now) (def_at s.acc.now k)) c.base.ensures.same in
     hands_nothing s.acc.now (field_named (seen s.acc.now (s.slot, f)) c.args.name.now)
     (struct_without s.acc.now c.types-types.ensures.legible s.slot s.safe v.room f v.tree v.front some c.in-Some.def.now form c.args.name.now found)
+
+pub base-requires : goal.base-requires
+base-requires c = c.args.self.now.within
+
+pub layer-requires-clause-within : goal.layer-requires-clause-within
+layer-requires-clause-within c = c.args.self.now.within
+
+pub layer-requires-clause-form : goal.layer-requires-clause-form
+layer-requires-clause-form c = (c.in-Some.def.now, c.def.ensures.same ∙ ap Some (struct_is c.def.result.now c.in-Some.def.now c.in-Some.ensures))
+
+pub layer-requires-clause-numbered : goal.layer-requires-clause-numbered
+layer-requires-clause-numbered c = own_numbered c.args.self.now.acc.now c.args.self.now.body c.in-Held.piece c.in-Held.is c.args.self.now.numbered
+
+pub bounds-as_slice-number : goal.bounds-as_slice-number
+bounds-as_slice-number c =
+    let form : form_of c.args.self.now.acc.now c.args.self.now.slot ≡ Some (D.Struct c.in-Some.def.now) = c.def.ensures.same ∙ ap Some (struct_is c.def.result.now c.in-Some.def.now c.in-Some.ensures) in
+    subst (λ (fs : List Field). c.in-Some-number_of.number < length fs) (sym c.as_slice.ensures)
+    (field_at_place c.args.self.now.acc.now c.args.self.now.slot c.in-Some.def.now form c.base.result.0 c.in-Some-number_of.number c.base.ensures.same c.in-Some-number_of.ensures.within)
+
+pub returns-then-is_null_there : goal.returns-then-is_null_there
+returns-then-is_null_there c = λ f v.
+    let s = c.args.self.now in
+    null_field s.acc.now c.types-types.ensures.legible s.slot s.safe v.room f v.tree v.front (sym (c.is_null_there.ensures v.tree v.stands) ∙ c.if-is_null_there.true) c.args.name.now
+
+pub returns-in-Implicit : goal.returns-in-Implicit
+returns-in-Implicit c = λ f v.
+    let s = c.args.self.now in
+    absurd (not_implicit c.in-Implicit.field-0.now s.acc.now s.slot c.in-Some.def.now (c.def.ensures.same ∙ ap Some (struct_is c.def.result.now c.in-Some.def.now c.in-Some.ensures))
+    (subst (λ (b : Body). is_placed s.acc.now s.slot b ≡ true) c.in-Implicit.is s.placed))
