@@ -1,5 +1,5 @@
 -- What has no entries, and what a view of an entry needs.
-use Rattle.std.proofs.Common.{◌≡◌, ◌<◌, ◌≤◌, ℕ, true, false, not, length, Option, Some, None, refl, sym, ◌∙◌, ap, subst, arith, List}
+use Rattle.std.proofs.Common.{◌≡◌, ◌<◌, ◌≤◌, ℕ, true, false, not, length, Option, Some, None, refl, ap, subst, arith, List}
 use Rattle.ild_cbor.specs.declared.piece.Piece.{Piece}
 use Rattle.ild_data.specs.Data.{Data}
 use Rattle.ild_piece.specs.Pieces.{IsNumbered}
@@ -9,7 +9,6 @@ use Rattle.ild_schema.specs.Slots.{form_of}
 use Rattle.ild_schema.specs.Table.{IsWithin}
 use Rattle.ild_schema.specs.Value.{Value}
 use Rattle.ild_schema.specs.declared.def.MapForm.{MapForm}
-use Rattle.ild_schema.specs.declared.def.MapForm.TheVariants as MF
 use Rattle.ild_schema.specs.declared.def.Scalar.{Scalar}
 use Rattle.ild_schema.specs.declared.def.Scalar.TheVariants as C
 use Rattle.ild_schema.specs.declared.def.TypeDef.{TypeDef}

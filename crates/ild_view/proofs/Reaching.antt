@@ -24,7 +24,7 @@ use Rattle.ild_schema.specs.declared.def.TypeDef.{TypeDef}
 use Rattle.ild_schema.specs.declared.def.TypeDef.TheVariants as D
 use Rattle.ild_schema.specs.declared.number.Slot.{Slot}
 use Rattle.ild_schema.specs.declared.row.Row.{Row}
-use Rattle.ild_typed.specs.At.{InSlot, Reach, enter, no_path, or_enter, reached, seen}
+use Rattle.ild_typed.specs.At.{InSlot, Reach, or_enter, reached, seen}
 use Rattle.ild_typed.specs.Fields.{is_scalar}
 use Rattle.ild_typed.specs.Fits.{Front}
 use Rattle.ild_typed.specs.Hamt.{alone}

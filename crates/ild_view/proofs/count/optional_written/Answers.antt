@@ -1,5 +1,5 @@
-use Rattle.std.proofs.Common.{◌≡◌, ◌+◌, sym, ◌∙◌, subst, arith, ℕ}
-use Rattle.ild_view.proofs.Counting.{Tallied, tally_begin, tally_end, tally_least, tally_on}
+use Rattle.std.proofs.Common.{◌≡◌, ◌+◌, ℕ, subst, arith}
+use Rattle.ild_view.proofs.Counting.{Tallied, tally_begin, tally_end, tally_on}
 use Rattle.ild_view.proofs.count.optional_written.Goals as goal
 
 pub loop-number-init : goal.loop-number-init
