@@ -1,4 +1,4 @@
--- What has no entries, and what a view of an entry needs.
+-- What has no entries, no elements and no fields, and what a view of an entry needs.
 use Rattle.std.proofs.Common.{◌≡◌, ◌<◌, ◌≤◌, ℕ, true, false, not, length, Option, Some, None, refl, ap, subst, arith, List}
 use Rattle.ild_cbor.specs.declared.piece.Piece.{Piece}
 use Rattle.ild_data.specs.Data.{Data}
@@ -22,15 +22,15 @@ use Rattle.ild_typed.specs.Fits.{Front}
 use Rattle.ild_typed.specs.Pieces.{is_null_there}
 use Rattle.ild_union.specs.Forms.{passes_over}
 use Rattle.ild_view.proofs.Handing.{hands_nothing}
-use Rattle.ild_view.proofs.Iterating.{entries_nothing}
-use Rattle.ild_view.proofs.Ordering.{no_entries}
-use Rattle.ild_view.proofs.Parting.{no_entry, seen_by, seen_null}
+use Rattle.ild_view.proofs.Iterating.{entries_nothing, items_nothing}
+use Rattle.ild_view.proofs.Ordering.{no_elements, no_entries}
+use Rattle.ild_view.proofs.Parting.{no_element, no_entry, seen_by, seen_null}
 use Rattle.ild_view.proofs.Placing.{free_numbered, free_placed, numbered_piece}
 use Rattle.ild_view.specs.Body.{body_types, is_placed}
-use Rattle.ild_view.specs.Forms.{entry_slot}
-use Rattle.ild_view.specs.Iterates.{FindsEntries}
-use Rattle.ild_view.specs.Ordered.{entries_in}
-use Rattle.ild_view.specs.Parts.{HandsOut, entry_at, field_named}
+use Rattle.ild_view.specs.Forms.{element_slot, entry_slot}
+use Rattle.ild_view.specs.Iterates.{FindsEntries, FindsItems}
+use Rattle.ild_view.specs.Ordered.{elements_in, entries_in}
+use Rattle.ild_view.specs.Parts.{HandsOut, element_at, entry_at, field_named}
 use Rattle.ild_view.specs.Safe.{is_safe}
 use Rattle.ild_view.specs.declared.body.Body.{Body}
 use Rattle.ild_view.specs.declared.body.Body.TheVariants as B
@@ -91,6 +91,12 @@ module _ (rows : List Row) (legible : IsLegible rows) (s : Slot) (safe : is_safe
   pub null_field : is_null_there s t ≡ true → (name : List ℕ) → HandsOut rows (field_named (seen rows (s, f)) name) None
   null_field is name = hands_nothing rows (field_named (seen rows (s, f)) name) (ap (λ h. field_named h name) (seen_null rows legible.clear s safe room f t front is))
 
+  pub null_element : is_null_there s t ≡ true → (i : ℕ) → HandsOut rows (element_at (seen rows (s, f)) i) None
+  null_element is i = hands_nothing rows (element_at (seen rows (s, f)) i) (ap (λ h. element_at h i) (seen_null rows legible.clear s safe room f t front is))
+
+  pub null_elements : is_null_there s t ≡ true → FindsItems rows (elements_in (seen rows (s, f))) None
+  null_elements is = items_nothing rows (elements_in (seen rows (s, f))) (ap elements_in (seen_null rows legible.clear s safe room f t front is))
+
   pub null_entries : is_null_there s t ≡ true → FindsEntries rows (entries_in (seen rows (s, f))) None
   null_entries is = entries_nothing rows (entries_in (seen rows (s, f))) (ap entries_in (seen_null rows legible.clear s safe room f t front is))
 
@@ -104,6 +110,14 @@ module _ (rows : List Row) (legible : IsLegible rows) (s : Slot) (safe : is_safe
         → ((key : TypeNo) (key_at : ℕ) (value : Slot) (at : ℕ) (form : MapForm) → d ≡ D.Map key key_at value at form → ⊥) → FindsEntries rows (entries_in (seen rows (s, f))) None
     other_entries d known any map =
         entries_nothing rows (entries_in (seen rows (s, f))) (no_entries rows legible s safe room f t front some d (seen_by rows legible.clear s safe room f t front some d known) (other_slot d any map))
+
+    pub other_element : (d : TypeDef) → form_of rows s ≡ Some d → element_slot d ≡ None → (i : ℕ) → HandsOut rows (element_at (seen rows (s, f)) i) None
+    other_element d known none i =
+        hands_nothing rows (element_at (seen rows (s, f)) i) (no_element rows legible.clear s safe room f t front d (seen_by rows legible.clear s safe room f t front some d known) none i)
+
+    pub other_elements : (d : TypeDef) → form_of rows s ≡ Some d → element_slot d ≡ None → FindsItems rows (elements_in (seen rows (s, f))) None
+    other_elements d known none =
+        items_nothing rows (elements_in (seen rows (s, f))) (no_elements rows legible.clear s safe room f t front some d (seen_by rows legible.clear s safe room f t front some d known) none)
 
     pub scalar_entry : (b : Body) → is_placed rows s b ≡ true → ((p : Piece) → b ≡ B.Held p → ⊥) → (k : List ℕ) → HandsOut rows (entry_at (seen rows (s, f)) k) None
     scalar_entry b placed other k =

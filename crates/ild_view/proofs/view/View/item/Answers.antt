@@ -1,11 +1,12 @@
-use Rattle.std.proofs.Common.{sym, ◌∙◌}
+use Rattle.std.proofs.Common.{length, sym, ◌∙◌}
 use Rattle.std.proofs.Math.Logic.{∥∥₁_map}
 use Rattle.ild_cbor.specs.Span.{item_of}
 use Rattle.ild_typed.specs.At.{seen}
+use Rattle.ild_view.proofs.Entering.{null_element, other_element}
 use Rattle.ild_view.proofs.Finding.{element_there}
 use Rattle.ild_view.proofs.Handing.{hands_none, hands_out, has_front}
 use Rattle.ild_view.proofs.Parting.{any_there}
-use Rattle.ild_view.proofs.Placing.{element_in, element_is_safe}
+use Rattle.ild_view.proofs.Placing.{element_in, element_is_safe, free_numbered, free_placed}
 use Rattle.ild_view.specs.Parts.{element_at}
 use Rattle.ild_view.proofs.view.View.item.Goals as goal
 
@@ -46,3 +47,20 @@ returns-in-None-of c = λ f v.
     (c.in-None-of.ensures.embodies s.acc.now (item_of v.tree c.args.i) (c.item.ensures s.acc.now v.tree v.stands))
     (element_there s.acc.now c.types-types.ensures.legible.clear s.slot s.safe v.room f v.tree v.front some (any_there s.acc.now c.types-types.ensures.table.prelude_first)
     c.def.result.now c.def.ensures.same c.in-Some.slot (sym c.in-Some.ensures) c.args.i)
+
+pub part-requires-clause-numbered : goal.part-requires-clause-numbered
+part-requires-clause-numbered c = free_numbered (length c.args.self.now.acc.now) c.in-Some-of.body c.in-Some-of.ensures.free
+
+pub part-requires-clause-placed : goal.part-requires-clause-placed
+part-requires-clause-placed c = free_placed c.args.self.now.acc.now c.in-Some.slot c.in-Some-of.body c.in-Some-of.ensures.free
+
+pub returns-then-is_null_there : goal.returns-then-is_null_there
+returns-then-is_null_there c = λ f v.
+    let s = c.args.self.now in
+    null_element s.acc.now c.types-types.ensures.legible s.slot s.safe v.room f v.tree v.front (sym (c.is_null_there.ensures v.tree v.stands) ∙ c.if-is_null_there.true) c.args.i
+
+pub returns-in-None : goal.returns-in-None
+returns-in-None c = λ f v.
+    let s = c.args.self.now in
+    let some = sym (c.is_null_there.ensures v.tree v.stands) ∙ c.if-is_null_there.false in
+    other_element s.acc.now c.types-types.ensures.legible s.slot s.safe v.room f v.tree v.front some c.def.result.now c.def.ensures.same (sym c.in-None.ensures) c.args.i

@@ -2,6 +2,7 @@ use Rattle.std.proofs.Common.{sym, ◌∙◌, refl}
 use Rattle.std.proofs.Math.Logic.{∥∥₁_map}
 use Rattle.ild_typed.specs.At.{seen}
 use Rattle.ild_typed.specs.Named.{items_in}
+use Rattle.ild_view.proofs.Entering.{null_elements, other_elements}
 use Rattle.ild_view.proofs.Iterating.{items_found, items_none, items_some}
 use Rattle.ild_view.proofs.Ordering.{elements_there}
 use Rattle.ild_view.proofs.Parting.{any_there}
@@ -42,3 +43,14 @@ returns-in-None-items c = λ f v.
     items_none s.acc.now c.in-Some.slot (items_in v.tree) (elements_in (seen s.acc.now (s.slot, f)))
     (elements_there s.acc.now c.types-types.ensures.legible.clear s.slot s.safe v.room f v.tree v.front some (any_there s.acc.now c.types-types.ensures.table.prelude_first) c.def.result.now c.def.ensures.same c.in-Some.slot (sym c.in-Some.ensures))
     (c.in-None-items.ensures s.acc.now v.tree v.stands)
+
+pub returns-then-is_null_there : goal.returns-then-is_null_there
+returns-then-is_null_there c = λ f v.
+    let s = c.args.self.now in
+    null_elements s.acc.now c.types-types.ensures.legible s.slot s.safe v.room f v.tree v.front (sym (c.is_null_there.ensures v.tree v.stands) ∙ c.if-is_null_there.true)
+
+pub returns-in-None : goal.returns-in-None
+returns-in-None c = λ f v.
+    let s = c.args.self.now in
+    let some = sym (c.is_null_there.ensures v.tree v.stands) ∙ c.if-is_null_there.false in
+    other_elements s.acc.now c.types-types.ensures.legible s.slot s.safe v.room f v.tree v.front some c.def.result.now c.def.ensures.same (sym c.in-None.ensures)
