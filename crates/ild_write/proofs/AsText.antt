@@ -29,10 +29,10 @@ use Rattle.ild_typed.proofs.OneLayer.{in_layer, of_layer}
 use Rattle.ild_build.specs.TextRep.{is_text_layer, text_rep}
 use Rattle.ild_build.proofs.PartFits.{text_layer}
 use Rattle.ild_write.specs.Fitting.{FitsIn}
-use Rattle.ild_write.specs.Made.{made}
+use Rattle.ild_leaf.specs.Made.{made}
 use Rattle.ild_write.specs.Weights.{Weight, weigh}
 use Rattle.ild_write.specs.Writes.{Writes}
-use Rattle.ild_write.specs.Wrote.{Wrote}
+use Rattle.ild_leaf.specs.Wrote.{Wrote}
 use Rattle.ild_write.specs.declared.nodes.Nodes.{Nodes}
 use Rattle.ild_write.proofs.Bare.{text_weight}
 use Rattle.ild_write.proofs.Flow.{leaf}

@@ -37,8 +37,8 @@ use Rattle.ild_build.specs.PartAt.{part_at}
 use Rattle.ild_build.specs.TextRep.{is_text_layer}
 use Rattle.ild_build.proofs.PartFits.{part_text, part_typed, only_of, text_layer}
 use Rattle.ild_build.proofs.PartTests.{part_lower, parts_none}
-use Rattle.ild_write.specs.Made.{IsLeaf, made}
-use Rattle.ild_write.specs.Wrote.{Wrote}
+use Rattle.ild_leaf.specs.Made.{IsLeaf, made}
+use Rattle.ild_leaf.specs.Wrote.{Wrote}
 use Rattle.ild_write.specs.Writes.{Writes}
 use Rattle.ild_write.specs.declared.nodes.Nodes.{Nodes}
 use Rattle.ild_write.proofs.Flow.{leaf}

@@ -33,7 +33,7 @@ use Rattle.ild_typed.specs.Hamt.{root_map, whole}
 use Rattle.ild_typed.specs.Nested.{BlockIn, TreeIn}
 use Rattle.ild_write.specs.Entries.{AddsEntry, AreKeyedMarks, EndsEntry, FitsEntry, IsKeyedMark, mark_in}
 use Rattle.ild_write.specs.Fitting.{HamtEntry}
-use Rattle.ild_write.specs.Made.{made}
+use Rattle.ild_leaf.specs.Made.{made}
 use Rattle.ild_write.specs.Weights.{bare_keys, weigh}
 use Rattle.ild_write.specs.Writes.{IsFine, Writes}
 use Rattle.ild_write.specs.declared.hamt.KeyedMark.{KeyedMark}

@@ -14,7 +14,7 @@ use Rattle.ild_schema.specs.declared.row.Row.{Row}
 use Rattle.ild_typed.proofs.Basics.{map_from}
 use Rattle.ild_write.specs.Made.{both}
 use Rattle.ild_write.specs.Weights.{Weight, beneath, crowded, over}
-use Rattle.ild_write.specs.Wrote.{Wrote}
+use Rattle.ild_leaf.specs.Wrote.{Wrote}
 use Rattle.ild_write.specs.Writes.{told, SetWhere, IsFine, Exact, TooLong, Writes}
 use Rattle.ild_write.specs.declared.nodes.Nodes.{Nodes}
 use Rattle.ild_write.proofs.Writing.{grown_on, both_from}

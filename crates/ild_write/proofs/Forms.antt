@@ -26,7 +26,8 @@ use Rattle.ild_typed.specs.Strings.{pair_data}
 use Rattle.ild_typed.proofs.Basics.{map_from}
 use Rattle.ild_typed.proofs.Entries.{both_from}
 use Rattle.ild_write.specs.Weights.{hamt_made}
-use Rattle.ild_write.specs.Made.{made, both, counted, items_made, entries_made}
+use Rattle.ild_leaf.specs.Made.{made}
+use Rattle.ild_write.specs.Made.{both, counted, items_made, entries_made}
 
 module _ (hash : List ℕ → List ℕ) (rows : List Row) where
   -- ---- lists

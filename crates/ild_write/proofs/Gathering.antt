@@ -27,7 +27,7 @@ use Rattle.ild_typed.proofs.Treed.{all_append}
 use Rattle.ild_typed.proofs.TreeValues.{whole_past}
 use Rattle.ild_write.specs.Entries.{AddsEntry}
 use Rattle.ild_write.specs.Fitting.{HamtEntry}
-use Rattle.ild_write.specs.Made.{made}
+use Rattle.ild_leaf.specs.Made.{made}
 use Rattle.ild_write.specs.Weights.{Weight, bare_keys, beneath, crowded, entries_weight, over, weigh}
 use Rattle.ild_write.specs.Writes.{SetWhere, IsFine, Exact, TooLong, Writes}
 use Rattle.ild_write.specs.declared.hamt.MarkedEntries.{MarkedEntries}

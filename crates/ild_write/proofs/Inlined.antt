@@ -18,7 +18,8 @@ use Rattle.ild_schema.specs.Value as V
 use Rattle.ild_schema.specs.Value.{Optionals, optionals_list}
 use Rattle.ild_typed.specs.Hamt.{whole}
 use Rattle.ild_write.specs.Made.{both, counted, marked_made}
-use Rattle.ild_write.specs.Places.{count_written, in_order, is_before, named, places_from, places_made, written_of}
+use Rattle.ild_leaf.specs.Kept.{count_written, is_before}
+use Rattle.ild_write.specs.Places.{in_order, named, places_from, places_made, written_of}
 use Rattle.ild_write.specs.Weights.{Weight, places_weight, weigh}
 use Rattle.ild_write.specs.Writes.{Writes}
 use Rattle.ild_write.specs.declared.nodes.Nodes.{Nodes}

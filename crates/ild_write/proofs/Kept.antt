@@ -20,10 +20,11 @@ use Rattle.ild_build.specs.LeftOut.{is_left_out}
 use Rattle.ild_build.specs.PartAt.{field_at}
 use Rattle.ild_build.proofs.EachKey.{one_of}
 use Rattle.ild_build.proofs.Texting.{drop_got, drop_all}
-use Rattle.ild_write.specs.Places.{in_order, is_before, is_written, kept_at, name_at, named, places_from, written_of}
+use Rattle.ild_leaf.specs.Kept.{is_before, kept_at}
+use Rattle.ild_write.specs.Places.{in_order, is_written, name_at, named, places_from, written_of}
 use Rattle.ild_write.proofs.Keyed.{below_some, kept_is as kept_are, keyed, texts_of}
-use Rattle.ild_write.proofs.Turns.{kept_is, kept_none}
-use Rattle.ild_write.proofs.Ordered.{got_at, less_is}
+use Rattle.ild_leaf.proofs.Turns.{kept_is, kept_none}
+use Rattle.ild_leaf.proofs.Ordered.{got_at, less_is}
 
 module _ (fs : List Field) (os : List (Option Value)) where
   -- ---- whether a field is written

@@ -1,13 +1,9 @@
 mod Leaving
-mod Digits
-mod Hexing
-mod Ordered
-mod Turns
 mod Writing
 mod Alike
 mod Forms
 mod StructForms
-mod Unions
+mod UnionForms
 mod Heights
 mod Loops
 mod AcceptedTables

@@ -11,9 +11,11 @@ use Rattle.ild_schema.specs.Value.{Value}
 use Rattle.ild_build.specs.LeftOut.{is_left_out}
 use Rattle.ild_build.specs.PartAt.{field_at}
 use Rattle.ild_build.proofs.Texting.{drop_got, drop_all}
-use Rattle.ild_write.specs.Made.{made, both, items_made, entry_made, entries_made, tuple_made, fields_made}
-use Rattle.ild_write.specs.Places.{kept_at, name_at, place_made, value_made}
-use Rattle.ild_write.proofs.Turns.{kept_is, kept_none, over_none, over_some}
+use Rattle.ild_leaf.specs.Made.{made}
+use Rattle.ild_write.specs.Made.{both, items_made, entry_made, entries_made, tuple_made, fields_made}
+use Rattle.ild_leaf.specs.Kept.{kept_at}
+use Rattle.ild_write.specs.Places.{name_at, place_made, value_made}
+use Rattle.ild_leaf.proofs.Turns.{kept_is, kept_none, over_none, over_some}
 use Rattle.ild_typed.specs.Hamt.{whole}
 
 module _ (hash : List ℕ → List ℕ) (rows : List Row) where

@@ -23,7 +23,7 @@ use Rattle.ild_typed.specs.Kinds.{kind_of}
 use Rattle.ild_typed.specs.Layer as L
 use Rattle.ild_typed.specs.Represented.{represented, layered}
 use Rattle.ild_typed.specs.Slots.{member_of, slot_of}
-use Rattle.ild_write.specs.Made.{made}
+use Rattle.ild_leaf.specs.Made.{made}
 
 pub union_is_made : (hash : List ℕ → List ℕ) (rows : List Row) (s : Slot) (ud : UnionDef) (n : ℕ) (m : Member) (v : Value) → form_of rows s ≡ Some (D.Union ud) → slice_get ud.members n ≡ Some m
     → made (whole hash) rows s (V.union n v) ≡ option_map spell (option_and_then (λ d. member_form ud.form d m) (represented (whole hash) rows (plainly m.ty) v))

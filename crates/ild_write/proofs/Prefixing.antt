@@ -11,12 +11,13 @@ use Rattle.ild_schema.specs.declared.row.Row.{Row}
 use Rattle.ild_schema.specs.Hex.{bytes_of_hex}
 use Rattle.ild_schema.specs.Value.{Value}
 use Rattle.ild_typed.specs.Hamt.{whole}
-use Rattle.ild_write.specs.Made.{made, marked_made}
+use Rattle.ild_leaf.specs.Made.{made}
+use Rattle.ild_write.specs.Made.{marked_made}
 use Rattle.ild_write.specs.Weights.{weigh}
 use Rattle.ild_write.specs.Writes.{Exact, TooLong, Writes}
 use Rattle.ild_write.specs.declared.nodes.Nodes.{Nodes}
 use Rattle.ild_write.proofs.Flow.{over_more}
-use Rattle.ild_write.proofs.Unions.{prefixed_from}
+use Rattle.ild_write.proofs.UnionForms.{prefixed_from}
 
 -- ---- the sizes of heads
 

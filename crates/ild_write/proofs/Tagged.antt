@@ -12,7 +12,8 @@ use Rattle.ild_schema.specs.Marks.{field_text}
 use Rattle.ild_schema.specs.Value.{Value}
 use Rattle.ild_typed.specs.Hamt.{whole}
 use Rattle.ild_write.specs.Made.{both, counted}
-use Rattle.ild_write.specs.Places.{count_written, is_written, map_made, name_at, named, place_made, places_made, written_of}
+use Rattle.ild_leaf.specs.Kept.{count_written}
+use Rattle.ild_write.specs.Places.{is_written, map_made, name_at, named, place_made, places_made, written_of}
 use Rattle.ild_write.specs.Weights.{Weight, places_weight}
 use Rattle.ild_write.specs.Writes.{Writes}
 use Rattle.ild_write.specs.declared.nodes.Nodes.{Nodes}

@@ -20,7 +20,7 @@ use Rattle.ild_typed.specs.Typed.{Typed}
 use Rattle.ild_typed.proofs.MakingValues.{typed_tree}
 use Rattle.ild_write.specs.Builds.{IsTooLong}
 use Rattle.ild_write.specs.Fitting.{FitsIn}
-use Rattle.ild_write.specs.Made.{made}
+use Rattle.ild_leaf.specs.Made.{made}
 use Rattle.ild_write.specs.Planned.{IsPlanned}
 use Rattle.ild_write.specs.Weights.{beneath, crowded, over, weigh}
 use Rattle.ild_write.specs.Writes.{told, IsFine, Exact, TooLong, Writes}

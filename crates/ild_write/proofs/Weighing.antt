@@ -21,8 +21,8 @@ use Rattle.ild_build.specs.LeftOut.{is_left_out}
 use Rattle.ild_build.specs.PartAt.{field_at}
 use Rattle.ild_build.proofs.Texting.{drop_got, drop_all}
 use Rattle.ild_write.specs.Weights.{Weight, weigh, weigh_values, weigh_pairs, weigh_fields, hamt_weight, items_weight, entries_weight, fields_weight, place_weight}
-use Rattle.ild_write.specs.Places.{kept_at}
-use Rattle.ild_write.proofs.Turns.{kept_none, over_none, over_some}
+use Rattle.ild_leaf.specs.Kept.{kept_at}
+use Rattle.ild_leaf.proofs.Turns.{kept_none, over_none, over_some}
 
 module _ (rows : List Row) (μ : Weight) where
   pub item_weight : (u : Slot) (vs : List Value) (i : ℕ) (v : Value) → slice_get vs i ≡ Some v → items_weight μ rows u (drop i vs) ≡ weigh μ rows u v + items_weight μ rows u (drop (i + 1) vs)

@@ -6,7 +6,7 @@ use Rattle.ild_emit.specs.Grown.{IsGrown}
 use Rattle.ild_emit.proofs.Growing.{grown_then}
 use Rattle.ild_typed.proofs.Basics.{map_from}
 use Rattle.ild_write.specs.Made.{both}
-use Rattle.ild_write.specs.Wrote.{Wrote}
+use Rattle.ild_leaf.specs.Wrote.{Wrote}
 
 pub grown_on : (old mid new : List ℕ) → IsGrown old mid → IsGrown mid new → IsGrown old new
 grown_on old mid new a b = grown_then old mid new a.more a.is b

@@ -1,4 +1,3 @@
-pub mod Wrote
 pub mod Made
 pub mod Places
 pub mod Weights

@@ -1,20 +1,16 @@
 -- The spelling of a value's representation, made of those of its parts in the order in which they are written.
-use Rattle.std.specs.Prelude.{ℕ, Bool, true, false, cond, List, [], ◌∷◌, ◌++◌, Option, Some, None, option_map, option_and_then}
+use Rattle.std.specs.Prelude.{ℕ, Bool, cond, List, [], ◌∷◌, ◌++◌, Option, Some, None, option_map, option_and_then}
 use Rattle.ild_data.specs.Spell.{head, spell, spell_text}
 use Rattle.ild_schema.specs.declared.number.Slot.{Slot}
 use Rattle.ild_schema.specs.declared.def.Field.{Field}
 use Rattle.ild_schema.specs.declared.def.UnionForm.{UnionForm}
 use Rattle.ild_schema.specs.declared.row.Row.{Row}
 use Rattle.ild_schema.specs.Marks.{field_text}
-use Rattle.ild_schema.specs.Value as V
 use Rattle.ild_schema.specs.Value.{Value}
 use Rattle.ild_typed.specs.Composed.{Hamts, marked_form}
 use Rattle.ild_typed.specs.Represented.{represented}
 use Rattle.ild_build.specs.LeftOut.{is_left_out}
-
--- of a value
-abbrev pub made : Hamts → List Row → Slot → Value → Option (List ℕ)
-made at rows s v = option_map spell (represented at rows s v)
+use Rattle.ild_leaf.specs.Made.{before_key, made}
 
 -- bytes, and others behind them
 abbrev pub both : Option (List ℕ) → Option (List ℕ) → Option (List ℕ)
@@ -28,15 +24,6 @@ counted major n more = option_map (λ t. head major n ++ t) more
 abbrev pub items_made : Hamts → List Row → Slot → List Value → Option (List ℕ)
 items_made at rows s [] = Some []
 items_made at rows s (v ∷ vs) = both (made at rows s v) (items_made at rows s vs)
-
--- what stands before a key: the head of a pair, or nothing in a map
-abbrev pub before_key : Bool → List ℕ
-before_key true = head 4 2
-before_key false = []
-
-abbrev pub entries_major : Bool → ℕ
-entries_major true = 4
-entries_major false = 5
 
 -- a key and a value
 abbrev pub entry_made : Hamts → List Row → Bool → List ℕ → Slot → Value → Option (List ℕ)
@@ -64,12 +51,3 @@ fields_made at rows paired (f ∷ fs) (None ∷ os) = fields_made at rows paired
 -- of a member of a union, where its mark has this text
 abbrev pub marked_made : Hamts → List Row → UnionForm → Slot → Value → List ℕ → Option (List ℕ)
 marked_made at rows form s v name = option_map spell (option_and_then (λ d. marked_form form d name) (represented at rows s v))
-
--- a value that has no parts, and is no root of a HAMT
-abbrev pub IsLeaf : Value → Type 0
-IsLeaf (V.list vs) = ⊥
-IsLeaf (V.map ps) = ⊥
-IsLeaf (V.struct os) = ⊥
-IsLeaf (V.union n v) = ⊥
-IsLeaf (V.hamt d) = ⊥
-IsLeaf v = Unit {0}

@@ -1,9 +1,9 @@
 -- The fields of a struct that are written, by their places: in the order of declaration, and in the key order of their names
 -- (DAG-CBOR, "Map Keys").
-use Rattle.std.specs.Prelude.{ℕ, suc, ◌++◌, length, cond, not, true, false, Bool, List, [], ◌∷◌, map, Option, Some, None, option_map, option_and_then, slice_get}
+use Rattle.std.specs.Prelude.{ℕ, suc, ◌++◌, length, cond, not, false, Bool, List, [], ◌∷◌, map, Option, Some, None, option_map, option_and_then, slice_get}
 use Rattle.std.specs.List.{filter}
 use Rattle.std.specs.Option.{option_map_or}
-use Rattle.ild_data.specs.Key.{key_less, put}
+use Rattle.ild_data.specs.Key.{put}
 use Rattle.ild_data.specs.Spell.{spell_text}
 use Rattle.ild_schema.specs.declared.def.Field.{Field}
 use Rattle.ild_schema.specs.declared.row.Row.{Row}
@@ -12,7 +12,8 @@ use Rattle.ild_schema.specs.Value.{Value}
 use Rattle.ild_typed.specs.Composed.{Hamts}
 use Rattle.ild_build.specs.LeftOut.{is_left_out}
 use Rattle.ild_build.specs.PartAt.{field_at}
-use Rattle.ild_write.specs.Made.{made, both, counted}
+use Rattle.ild_leaf.specs.Made.{made}
+use Rattle.ild_write.specs.Made.{both, counted}
 
 -- the places, counted from a number on
 abbrev pub places_from : ℕ → List Field → List (Option Value) → List ℕ
@@ -21,33 +22,13 @@ places_from n (f ∷ fs) [] = []
 places_from n (f ∷ fs) (Some v ∷ os) = cond (is_left_out f.implicit v) (places_from (suc n) fs os) (n ∷ places_from (suc n) fs os)
 places_from n (f ∷ fs) (None ∷ os) = places_from (suc n) fs os
 
--- the value of a field at a place, where it is written: one is there, and not left out
-abbrev pub kept_at : Field → List (Option Value) → ℕ → Option Value
-kept_at f os i = option_and_then (λ v. cond (is_left_out f.implicit v) None (Some v)) (field_at os i)
-
 -- whether a field stands at a place, and is there and not left out
 abbrev pub is_written : List Field → List (Option Value) → ℕ → Bool
 is_written fs os i = option_map_or (λ f. option_map_or (λ v. not (is_left_out f.implicit v)) (field_at os i) false) (slice_get fs i) false
 
--- whether the name at a place comes before a key; past the fields it does
-abbrev pub is_before : List Field → List ℕ → ℕ → Bool
-is_before fs key i = option_map_or (λ f. key_less (field_text f) key) (slice_get fs i) true
-
 -- those of these places
 abbrev pub written_of : List Field → List (Option Value) → List ℕ → List ℕ
 written_of fs os is = filter (is_written fs os) is
-
--- how many values are there, and how many of them are not left out
-abbrev pub count_present : List (Option Value) → ℕ
-count_present [] = 0
-count_present (Some v ∷ os) = suc (count_present os)
-count_present (None ∷ os) = count_present os
-
-abbrev pub count_written : List Field → List (Option Value) → ℕ
-count_written [] os = 0
-count_written (f ∷ fs) [] = 0
-count_written (f ∷ fs) (Some v ∷ os) = cond (is_left_out f.implicit v) (count_written fs os) (suc (count_written fs os))
-count_written (f ∷ fs) (None ∷ os) = count_written fs os
 
 -- the name at a place; a key of its own stands past the fields
 abbrev pub name_at : List Field → List ℕ → ℕ → List ℕ

@@ -2,16 +2,16 @@
 #![tactic(auto)]
 
 mod block;
-mod decimal;
 mod fault;
 mod hamt;
-mod hex;
-mod leaf;
+mod lists;
+mod maps;
 mod nodes;
-mod order;
 mod pass;
 mod plan;
 mod planned;
+mod structs;
+mod unions;
 
 pub use block::build;
 pub use fault::BuildFault;

@@ -1,0 +1,4 @@
+mod Digits
+mod Hexing
+pub mod Ordered
+pub mod Turns
