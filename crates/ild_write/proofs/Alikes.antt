@@ -8,7 +8,7 @@ use Rattle.ild_data.specs.Key.{same_text}
 use Rattle.ild_data.specs.Limits.{longest_block}
 use Rattle.ild_bulk.specs.Putting.{IsAmong}
 use Rattle.ild_write.specs.Planned.{AreAlike}
-use Rattle.ild_write.specs.Weights.{over}
+use Rattle.ild_hamt_entries.specs.Entries.{over}
 use Rattle.ild_write.proofs.Flow.{over_long, over_short}
 
 -- ---- members

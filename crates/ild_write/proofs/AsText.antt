@@ -33,7 +33,7 @@ use Rattle.ild_leaf.specs.Made.{made}
 use Rattle.ild_write.specs.Weights.{Weight, weigh}
 use Rattle.ild_write.specs.Writes.{Writes}
 use Rattle.ild_leaf.specs.Wrote.{Wrote}
-use Rattle.ild_write.specs.declared.nodes.Nodes.{Nodes}
+use Rattle.ild_hamt_entries.specs.declared.nodes.Nodes.{Nodes}
 use Rattle.ild_write.proofs.Bare.{text_weight}
 use Rattle.ild_write.proofs.Flow.{leaf}
 use Rattle.ild_write.proofs.Writing.{wrote_from}

@@ -40,7 +40,7 @@ use Rattle.ild_build.proofs.PartTests.{part_lower, parts_none}
 use Rattle.ild_leaf.specs.Made.{IsLeaf, made}
 use Rattle.ild_leaf.specs.Wrote.{Wrote}
 use Rattle.ild_write.specs.Writes.{Writes}
-use Rattle.ild_write.specs.declared.nodes.Nodes.{Nodes}
+use Rattle.ild_hamt_entries.specs.declared.nodes.Nodes.{Nodes}
 use Rattle.ild_write.proofs.Flow.{leaf}
 use Rattle.ild_write.proofs.Writing.{wrote_same}
 use Rattle.ild_write.specs.Weights.{Weight, weigh, weigh_values, weigh_pairs, weigh_fields, hamt_weight}

@@ -12,11 +12,14 @@ use Rattle.ild_emit.specs.Grown.{IsGrown}
 use Rattle.ild_emit.proofs.Growing.{grown_then}
 use Rattle.ild_schema.specs.declared.row.Row.{Row}
 use Rattle.ild_typed.proofs.Basics.{map_from}
+use Rattle.ild_hamt_entries.proofs.Flags.{set_none}
 use Rattle.ild_write.specs.Made.{both}
-use Rattle.ild_write.specs.Weights.{Weight, beneath, crowded, over}
+use Rattle.ild_hamt_entries.specs.Entries.{over}
+use Rattle.ild_write.specs.Weights.{Weight, beneath, crowded}
 use Rattle.ild_leaf.specs.Wrote.{Wrote}
-use Rattle.ild_write.specs.Writes.{told, SetWhere, IsFine, Exact, TooLong, Writes}
-use Rattle.ild_write.specs.declared.nodes.Nodes.{Nodes}
+use Rattle.ild_hamt_entries.specs.Fine.{told, SetWhere, IsFine}
+use Rattle.ild_write.specs.Writes.{Exact, TooLong, Writes}
+use Rattle.ild_hamt_entries.specs.declared.nodes.Nodes.{Nodes}
 use Rattle.ild_write.proofs.Writing.{grown_on, both_from}
 
 pub over_long : (b : List ℕ) → nat_lt longest_block (length b) ≡ true → longest_block < length b
@@ -34,9 +37,6 @@ over_more a b le = by (nat_lt longest_block (length a)) (nat_lt longest_block (l
     by true false p q = absurd (omega (arith, le, over_long a p, over_short b q))
 
 -- ---- flags
-
-pub set_none : (b : Bool) → SetWhere b 0 b
-set_none b = record { set = λ k. omega (arith, k); only = λ k. omega (arith, k) }
 
 none_or_some : (n : ℕ) → (n ≡ 0) ⊎ (1 ≤ n)
 none_or_some zero = inl refl

@@ -25,16 +25,19 @@ use Rattle.ild_typed.proofs.Basics.{map_from}
 use Rattle.ild_typed.proofs.Entries.{both_from}
 use Rattle.ild_typed.proofs.Treed.{all_append}
 use Rattle.ild_typed.proofs.TreeValues.{whole_past}
-use Rattle.ild_write.specs.Entries.{AddsEntry}
+use Rattle.ild_hamt_entries.specs.Entries.{AddsEntry}
 use Rattle.ild_write.specs.Fitting.{HamtEntry}
 use Rattle.ild_leaf.specs.Made.{made}
-use Rattle.ild_write.specs.Weights.{Weight, bare_keys, beneath, crowded, entries_weight, over, weigh}
-use Rattle.ild_write.specs.Writes.{SetWhere, IsFine, Exact, TooLong, Writes}
-use Rattle.ild_write.specs.declared.hamt.MarkedEntries.{MarkedEntries}
-use Rattle.ild_write.specs.declared.nodes.Nodes.{Nodes}
+use Rattle.ild_hamt_entries.specs.Entries.{over}
+use Rattle.ild_write.specs.Weights.{Weight, bare_keys, beneath, crowded, entries_weight, weigh}
+use Rattle.ild_hamt_entries.specs.Fine.{SetWhere, IsFine}
+use Rattle.ild_write.specs.Writes.{Exact, TooLong, Writes}
+use Rattle.ild_hamt_entries.specs.declared.hamt.MarkedEntries.{MarkedEntries}
+use Rattle.ild_hamt_entries.specs.declared.nodes.Nodes.{Nodes}
 use Rattle.ild_write.proofs.Crowds.{nulls}
-use Rattle.ild_write.proofs.Flags.{by_flag, true_false, unlong, unset}
-use Rattle.ild_write.proofs.Flow.{set_none, set_then}
+use Rattle.ild_hamt_entries.proofs.Flags.{by_flag, true_false, unlong, unset}
+use Rattle.ild_hamt_entries.proofs.Flags.{set_none}
+use Rattle.ild_write.proofs.Flow.{set_then}
 use Rattle.ild_write.proofs.Longs.{IsShort}
 use Rattle.ild_write.proofs.Verdict.{tree_there}
 

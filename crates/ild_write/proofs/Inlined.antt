@@ -22,7 +22,7 @@ use Rattle.ild_leaf.specs.Kept.{count_written, is_before}
 use Rattle.ild_write.specs.Places.{in_order, named, places_from, places_made, written_of}
 use Rattle.ild_write.specs.Weights.{Weight, places_weight, weigh}
 use Rattle.ild_write.specs.Writes.{Writes}
-use Rattle.ild_write.specs.declared.nodes.Nodes.{Nodes}
+use Rattle.ild_hamt_entries.specs.declared.nodes.Nodes.{Nodes}
 use Rattle.ild_write.proofs.Flow.{from}
 use Rattle.ild_write.proofs.Kept.{placed_between}
 use Rattle.ild_write.proofs.Keyed.{texts_of}

@@ -21,7 +21,6 @@ mod Prefixing
 mod Inlined
 mod Others
 mod Crowds
-mod Flags
 mod Judges
 mod Alikes
 mod Ending

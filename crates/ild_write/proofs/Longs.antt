@@ -18,7 +18,7 @@ use Rattle.ild_trie.proofs.Node.{no_node, slots-node}
 use Rattle.ild_trie.proofs.Slots.{all_some-cons}
 use Rattle.ild_typed.specs.Hamt.{root_map}
 use Rattle.ild_typed.proofs.TrieTells.{SlotWay, nothing, few, many, slot_way}
-use Rattle.ild_write.specs.Weights.{over}
+use Rattle.ild_hamt_entries.specs.Entries.{over}
 use Rattle.ild_write.proofs.Alikes.{short_of}
 
 abbrev pub IsShort : List ℕ × Data → Type 0

@@ -15,7 +15,7 @@ use Rattle.ild_leaf.specs.Made.{made}
 use Rattle.ild_write.specs.Made.{marked_made}
 use Rattle.ild_write.specs.Weights.{weigh}
 use Rattle.ild_write.specs.Writes.{Exact, TooLong, Writes}
-use Rattle.ild_write.specs.declared.nodes.Nodes.{Nodes}
+use Rattle.ild_hamt_entries.specs.declared.nodes.Nodes.{Nodes}
 use Rattle.ild_write.proofs.Flow.{over_more}
 use Rattle.ild_write.proofs.UnionForms.{prefixed_from}
 

@@ -16,7 +16,7 @@ use Rattle.ild_leaf.specs.Kept.{count_written}
 use Rattle.ild_write.specs.Places.{is_written, map_made, name_at, named, place_made, places_made, written_of}
 use Rattle.ild_write.specs.Weights.{Weight, places_weight}
 use Rattle.ild_write.specs.Writes.{Writes}
-use Rattle.ild_write.specs.declared.nodes.Nodes.{Nodes}
+use Rattle.ild_hamt_entries.specs.declared.nodes.Nodes.{Nodes}
 use Rattle.ild_write.proofs.Flow.{ends, goes, leaf, starts}
 use Rattle.ild_write.proofs.Kept.{stands}
 use Rattle.ild_write.proofs.Keyed.{keyed, texts_of}

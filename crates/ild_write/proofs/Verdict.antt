@@ -22,12 +22,14 @@ use Rattle.ild_write.specs.Builds.{IsTooLong}
 use Rattle.ild_write.specs.Fitting.{FitsIn}
 use Rattle.ild_leaf.specs.Made.{made}
 use Rattle.ild_write.specs.Planned.{IsPlanned}
-use Rattle.ild_write.specs.Weights.{beneath, crowded, over, weigh}
-use Rattle.ild_write.specs.Writes.{told, IsFine, Exact, TooLong, Writes}
-use Rattle.ild_write.specs.declared.nodes.Nodes.{Nodes}
+use Rattle.ild_hamt_entries.specs.Entries.{over}
+use Rattle.ild_write.specs.Weights.{beneath, crowded, weigh}
+use Rattle.ild_hamt_entries.specs.Fine.{told, IsFine}
+use Rattle.ild_write.specs.Writes.{Exact, TooLong, Writes}
+use Rattle.ild_hamt_entries.specs.declared.nodes.Nodes.{Nodes}
 use Rattle.ild_write.specs.declared.planned.Planned.{Planned}
 use Rattle.ild_write.proofs.Alikes.{all_short, contained, some_long}
-use Rattle.ild_write.proofs.Flags.{unset}
+use Rattle.ild_hamt_entries.proofs.Flags.{unset}
 use Rattle.ild_write.proofs.Judges.{full, nodes_weigh, uncrowded}
 
 -- ---- tests of lengths

@@ -5,4 +5,3 @@ pub mod Writes
 pub mod Fitting
 pub mod Builds
 pub mod Planned
-pub mod Entries

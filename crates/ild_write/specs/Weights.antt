@@ -1,11 +1,10 @@
 -- What the HAMTs in a value weigh together: each by itself, nested ones too (IPLD HashMap).
-use Rattle.std.specs.Prelude.{ℕ, ◌+◌, List, [], ◌∷◌, cond, nat_lt, length, map, is_none, is_some, Option, Some, None, slice_get, option_and_then, option_map}
+use Rattle.std.specs.Prelude.{ℕ, ◌+◌, List, [], ◌∷◌, cond, map, is_none, is_some, Option, Some, None, slice_get, option_and_then, option_map}
 use Rattle.std.specs.List.{sum_by}
 use Rattle.std.specs.Option.{option_map_or}
 use Rattle.ild_data.specs.ByteOrder.{in_byte_order}
 use Rattle.ild_data.specs.Data as T
 use Rattle.ild_data.specs.Data.{Data}
-use Rattle.ild_data.specs.Limits.{longest_block}
 use Rattle.ild_data.specs.Spell.{spell}
 use Rattle.ild_data.specs.Trie.{trie}
 use Rattle.ild_data.specs.TrieBlocks.{nodes_beneath}
@@ -99,10 +98,6 @@ bare_keys ps = map (λ (p : List ℕ × Value). (p.0, T.null)) ps
 -- one where there is no trie of the keys, whatever stands at them
 abbrev pub crowded : (List ℕ → List ℕ) → Weight
 crowded h value ps = cond (is_none (trie h usual (bare_keys (pairs_list ps)) 0)) 1 0
-
--- one of a block that is too long
-abbrev pub over : List ℕ → ℕ
-over b = cond (nat_lt longest_block (length b)) 1 0
 
 -- ---- the root map of a HAMT
 

@@ -1,25 +1,13 @@
 -- What writing a value leaves: its spelling behind the buffer, the blocks of its HAMTs behind those that were found, and what stands against them.
-use Rattle.std.specs.Prelude.{◌≡◌, ◌⊎◌, ℕ, ◌+◌, ◌≤◌, Bool, true, false, List, ◌++◌, Option, Some}
+use Rattle.std.specs.Prelude.{◌≡◌, ◌⊎◌, ℕ, ◌+◌, ◌≤◌, Bool, true, List, ◌++◌, Option, Some}
 use Rattle.std.specs.List.{sum_by}
 use Rattle.ild_bulk.specs.Children.{Follows}
 use Rattle.ild_emit.specs.Grown.{IsGrown}
 use Rattle.ild_schema.specs.declared.row.Row.{Row}
-use Rattle.ild_write.specs.Weights.{Weight, beneath, crowded, over}
-use Rattle.ild_write.specs.declared.nodes.Nodes.{Nodes}
-
-abbrev pub told : Bool → ℕ
-told true = 1
-told false = 0
-
--- the flag is set where it was, or where some are counted
-pub record SetWhere (was : Bool) (count : ℕ) (now : Bool) : Type 0 where
-  pub set : 1 ≤ told was + count → 1 ≤ told now
-  pub only : 1 ≤ told now → 1 ≤ told was + count
-
--- nothing stands against the value so far
-pub record IsFine (n : Nodes) : Type 0 where
-  pub exhausted : n.exhausted ≡ false
-  pub long : n.long ≡ false
+use Rattle.ild_hamt_entries.specs.Entries.{over}
+use Rattle.ild_hamt_entries.specs.Fine.{IsFine, SetWhere}
+use Rattle.ild_write.specs.Weights.{Weight, beneath, crowded}
+use Rattle.ild_hamt_entries.specs.declared.nodes.Nodes.{Nodes}
 
 -- the spelling and the blocks are those, and nothing stands against them
 pub record Exact (h : List ℕ → List ℕ) (rows : List Row) (weight : Weight → ℕ) (s : List ℕ) (old new : List ℕ) (added : List (List ℕ)) (now : Nodes) : Type 0 where

@@ -3,10 +3,8 @@
 
 mod block;
 mod fault;
-mod hamt;
 mod lists;
 mod maps;
-mod nodes;
 mod pass;
 mod plan;
 mod planned;

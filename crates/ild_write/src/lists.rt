@@ -10,11 +10,11 @@ ghost use Rattle.ild_write.specs.Fitting.{FitsIn, ItemsFit};
 ghost use Rattle.ild_write.specs.Weights.{items_weight, weigh};
 ghost use Rattle.ild_write.specs.Writes.{Writes};
 
-use crate::nodes::Nodes;
 use crate::pass::add;
 use ild_build::form_of;
 use ild_data::KeyHash;
 use ild_emit::Emit;
+use ild_hamt_entries::Nodes;
 use ild_schema::{Accepted, Slot, TypeDef, Vals};
 use std::alloc::{AllocError, Global};
 

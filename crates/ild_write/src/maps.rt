@@ -11,13 +11,12 @@ ghost use Rattle.ild_write.specs.Fitting.{EntriesFit, FitsIn, HamtFits};
 ghost use Rattle.ild_write.specs.Weights.{entries_weight, hamt_made, weigh};
 ghost use Rattle.ild_write.specs.Writes.{Writes};
 
-use crate::hamt::{add_root, end_entry, no_entries};
-use crate::nodes::Nodes;
 use crate::pass::add;
 use ild_build::form_of;
 use ild_bulk::begin_entry;
 use ild_data::KeyHash;
 use ild_emit::Emit;
+use ild_hamt_entries::{Nodes, add_root, end_entry, no_entries};
 use ild_leaf::{add_as_text, add_count, add_key};
 use ild_schema::{Accepted, MapForm, Slot, TypeDef, Val, ValPairs};
 use std::alloc::{AllocError, Global};

@@ -10,11 +10,11 @@ ghost use Rattle.ild_write.specs.Writes.{Writes};
 
 use crate::lists::add_list;
 use crate::maps::add_map;
-use crate::nodes::Nodes;
 use crate::structs::add_struct;
 use crate::unions::add_union;
 use ild_data::KeyHash;
 use ild_emit::Emit;
+use ild_hamt_entries::Nodes;
 use ild_leaf::add_leaf;
 use ild_schema::{Accepted, Slot, Val};
 use std::alloc::{AllocError, Global};

@@ -18,11 +18,11 @@ ghost use Rattle.ild_write.specs.Weights.{fields_weight, places_weight, weigh};
 ghost use Rattle.ild_write.specs.Writes.{Writes};
 
 use crate::maps::add_entry;
-use crate::nodes::Nodes;
 use crate::pass::add;
 use ild_build::{field_at, form_of, text_of_field};
 use ild_data::KeyHash;
 use ild_emit::Emit;
+use ild_hamt_entries::Nodes;
 use ild_leaf::{add_as_text, kept_at, present, written};
 use ild_schema::{Accepted, Slot, StructDef, StructForm, TypeDef, Val, ValFields};
 use std::alloc::{AllocError, Global};

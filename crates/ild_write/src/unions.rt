@@ -19,12 +19,12 @@ ghost use Rattle.ild_write.specs.Weights.{weigh};
 ghost use Rattle.ild_write.specs.Writes.{Writes};
 
 use crate::maps::add_entry;
-use crate::nodes::Nodes;
 use crate::pass::add;
 use crate::structs::add_places;
 use ild_build::form_of;
 use ild_data::{KeyHash, key_less};
 use ild_emit::Emit;
+use ild_hamt_entries::Nodes;
 use ild_leaf::{Tag, add_as_text, add_hex, add_tag, behind_head, count_before, written};
 use ild_schema::{Accepted, Mark, Member, Slot, TypeDef, UnionForm, Val, ValPart};
 use std::alloc::{AllocError, Global};

@@ -45,7 +45,8 @@ use Rattle.ild_write.proofs.Members.{kinded_from, marked_by, union_is_made}
 use Rattle.ild_write.proofs.Prefixing.{prefixed}
 use Rattle.ild_write.proofs.UnionForms.{keyed_made, envelope_less, envelope_more}
 use Rattle.ild_write.proofs.Weighing.{entries_weigh, entry_weight, field_passed, field_place, field_skip, field_weight, fields_weigh, hamt_weigh, item_weight, items_weigh, list_weight, map_weight, struct_weight, union_weight}
-use Rattle.ild_write.proofs.Writing.{grown_on, on_err, on_ok, wrote_none, none_past}
+use Rattle.ild_hamt_entries.proofs.Marked.{on_ok}
+use Rattle.ild_write.proofs.Writing.{grown_on, on_err, wrote_none, none_past}
 use Rattle.std.proofs.Common.{take}
 use Rattle.std.proofs.lemmas.List.{take_all}
 use Rattle.ild_emit.proofs.Growing.{grown_same, on_err_always}

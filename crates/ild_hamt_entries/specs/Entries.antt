@@ -1,5 +1,5 @@
 -- The entries of a HAMT with the spellings of their values, and the root map over them (IPLD HashMap).
-use Rattle.std.specs.Prelude.{◌≡◌, ℕ, ◌≤◌, true, false, cond, is_none, List, [], ◌∷◌, ◌++◌, length, Some}
+use Rattle.std.specs.Prelude.{◌≡◌, ℕ, ◌≤◌, true, false, cond, is_none, nat_lt, List, [], ◌∷◌, ◌++◌, length, Some}
 use Rattle.std.specs.List.{sum_by}
 use Rattle.ild_bulk.specs.Children.{Follows}
 use Rattle.ild_bulk.specs.Keyed.{IsMarked, entry_spelled}
@@ -16,11 +16,14 @@ use Rattle.ild_node.specs.Rows.{deepest_value}
 use Rattle.ild_typed.specs.Composed.{usual}
 use Rattle.ild_typed.specs.Hamt.{root_map}
 use Rattle.ild_typed.specs.Nested.{BlockIn, TreeIn}
-use Rattle.ild_write.specs.Weights.{over}
-use Rattle.ild_write.specs.Writes.{IsFine, SetWhere}
-use Rattle.ild_write.specs.declared.hamt.KeyedMark.{KeyedMark}
-use Rattle.ild_write.specs.declared.hamt.MarkedEntries.{MarkedEntries}
-use Rattle.ild_write.specs.declared.nodes.Nodes.{Nodes}
+use Rattle.ild_hamt_entries.specs.Fine.{IsFine, SetWhere}
+use Rattle.ild_hamt_entries.specs.declared.hamt.KeyedMark.{KeyedMark}
+use Rattle.ild_hamt_entries.specs.declared.hamt.MarkedEntries.{MarkedEntries}
+use Rattle.ild_hamt_entries.specs.declared.nodes.Nodes.{Nodes}
+
+-- one of a block that is too long
+abbrev pub over : List ℕ → ℕ
+over b = cond (nat_lt longest_block (length b)) 1 0
 
 -- a value that an entry can hold
 pub record FitsEntry (b : List ℕ) : Type 0 where

@@ -4,10 +4,10 @@ use ild_bulk::PlannedBlock;
 
 /// The blocks of the nodes, each behind its children, and what stands against them. Both are known only of the whole value.
 #[derive(Drop)]
-pub(crate) struct Nodes {
-    pub(crate) blocks: Vec<PlannedBlock>,
+pub struct Nodes {
+    pub blocks: Vec<PlannedBlock>,
     /// The entries of a HAMT have no trie.
-    pub(crate) exhausted: bool,
+    pub exhausted: bool,
     /// The value of an entry is longer than a block may be.
-    pub(crate) long: bool,
+    pub long: bool,
 }

@@ -1,6 +1,9 @@
 -- Flags that are set where some are counted.
 use Rattle.std.proofs.Common.{◌≡◌, ◌⊎◌, inl, inr, ⊎_elim, ℕ, zero, suc, ◌≤◌, Bool, true, false, refl, ap, arith}
-use Rattle.ild_write.specs.Writes.{told, SetWhere}
+use Rattle.ild_hamt_entries.specs.Fine.{told, SetWhere}
+
+pub set_none : (b : Bool) → SetWhere b 0 b
+set_none b = record { set = λ k. omega (arith, k); only = λ k. omega (arith, k) }
 
 none_or_some : (n : ℕ) → (n ≡ 0) ⊎ (1 ≤ n)
 none_or_some zero = inl refl

@@ -1,8 +1,8 @@
 use Rattle.std.proofs.Common.{◌++◌, ◌||◌, ◌∙◌, ap, append_assoc, refl, rules, sym}
 use Rattle.std.proofs.lemmas.List.{length-append}
 use Rattle.ild_bulk.specs.Keyed.{entry_front}
-use Rattle.ild_write.proofs.EntryOrder.{adds_entry, fits_entry}
-use Rattle.ild_write.proofs.hamt.end_entry.Goals as goal
+use Rattle.ild_hamt_entries.proofs.Marked.{adds_entry, fits_entry}
+use Rattle.ild_hamt_entries.proofs.hamt.end_entry.Goals as goal
 
 pub returns : goal.returns
 returns g c = λ before value is at value_at fits.

@@ -1,5 +1,5 @@
-use Rattle.ild_write.proofs.EntryOrder.{ends_null, ends_own, fine_of, not_fine}
-use Rattle.ild_write.proofs.hamt.end_of_entry.Goals as goal
+use Rattle.ild_hamt_entries.proofs.Marked.{ends_null, ends_own, fine_of, not_fine}
+use Rattle.ild_hamt_entries.proofs.hamt.end_of_entry.Goals as goal
 
 pub returns-then-nodes : goal.returns-then-nodes
 returns-then-nodes c = λ before value is at fits.

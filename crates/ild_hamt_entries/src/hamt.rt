@@ -12,8 +12,8 @@ ghost use Rattle.ild_node.specs.Rows.{AreShallow, deepest_value};
 ghost use Rattle.ild_typed.specs.Composed.{usual};
 ghost use Rattle.ild_typed.specs.Hamt.{root_map};
 ghost use Rattle.ild_typed.specs.Nested.{BlockIn};
-ghost use Rattle.ild_write.specs.Entries.{AddsEntry, AddsRoot, AreKeyedMarks, EndsEntry, FitsEntry, mark_in};
-ghost use Rattle.ild_write.specs.Writes.{IsFine};
+ghost use Rattle.ild_hamt_entries.specs.Entries.{AddsEntry, AddsRoot, AreKeyedMarks, EndsEntry, FitsEntry, mark_in};
+ghost use Rattle.ild_hamt_entries.specs.Fine.{IsFine};
 
 use crate::nodes::Nodes;
 use ild_bulk::{Mark, begin_entry, mark_of, plan_marked};
@@ -27,20 +27,20 @@ const USUAL_ENTRY: usize = 16;
 
 /// The mark of an entry, and its key.
 #[derive(Clone, Copy)]
-pub(crate) struct KeyedMark<'k> {
-    pub(crate) key: &'k str,
-    pub(crate) mark: Mark,
+pub struct KeyedMark<'k> {
+    pub key: &'k str,
+    pub mark: Mark,
 }
 
 /// Entries that are spelled into one buffer as they come, with a mark for each.
 #[derive(Drop)]
-pub(crate) struct MarkedEntries<'k> {
-    pub(crate) out: Emit,
-    pub(crate) marks: Vec<KeyedMark<'k>>,
+pub struct MarkedEntries<'k> {
+    pub out: Emit,
+    pub marks: Vec<KeyedMark<'k>>,
 }
 
 /// No entry yet, with room for so many.
-pub(crate) fn no_entries<'k>(alloc: Global, count: usize) -> Result<MarkedEntries<'k>, AllocError>
+pub fn no_entries<'k>(alloc: Global, count: usize) -> Result<MarkedEntries<'k>, AllocError>
     ensures { IfOk result (λ entries. entries.marks.items ≡ []) }
 {
     let mut marks = Vec::new(alloc);
@@ -75,7 +75,7 @@ fn end_of_entry(out: &mut Emit, key: &str, from: usize, nodes: &Nodes) -> Result
 
 /// Ends an entry whose key and value are written: so many bytes stand before it, and so many before its value. Where something
 /// stands against the value, or it is longer than a block, the key alone counts.
-pub(crate) fn end_entry<'k, H: KeyHash>(
+pub fn end_entry<'k, H: KeyHash>(
     keys: &H,
     key: &'k str,
     from: usize,
@@ -128,7 +128,7 @@ fn add_root_map(out: &mut Emit, root: &[u8]) -> Result<(), AllocError>
 }
 
 /// Appends the root map of the HAMT of these entries. The blocks beneath its root go to the others.
-pub(crate) fn add_root(
+pub fn add_root(
     alloc: Global,
     entries: MarkedEntries<'_>,
     nodes: &mut Nodes,

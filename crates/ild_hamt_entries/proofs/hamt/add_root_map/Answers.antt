@@ -1,7 +1,7 @@
 use Rattle.std.proofs.Common.{◌++◌, ◌∙◌, ap}
-use Rattle.ild_write.proofs.EntryOrder.{root_behind}
-use Rattle.ild_write.proofs.Writing.{on_ok}
-use Rattle.ild_write.proofs.hamt.add_root_map.Goals as goal
+use Rattle.ild_hamt_entries.proofs.Marked.{root_behind}
+use Rattle.ild_hamt_entries.proofs.Marked.{on_ok}
+use Rattle.ild_hamt_entries.proofs.hamt.add_root_map.Goals as goal
 
 pub returns-clause-ok : goal.returns-clause-ok
 returns-clause-ok c = λ node is.

@@ -4,10 +4,10 @@ use Rattle.ild_data.specs.Data.{Data}
 use Rattle.ild_data.specs.Spell.{spell}
 use Rattle.ild_typed.specs.Composed.{usual}
 use Rattle.ild_typed.specs.Hamt.{root_map}
-use Rattle.ild_write.specs.Entries.{mark_in}
-use Rattle.ild_write.proofs.Rooting.{root_added, root_missing}
-use Rattle.ild_write.proofs.EntryOrder.{in_order, ok_by}
-use Rattle.ild_write.proofs.hamt.add_root.Goals as goal
+use Rattle.ild_hamt_entries.specs.Entries.{mark_in}
+use Rattle.ild_hamt_entries.proofs.Roots.{root_added, root_missing}
+use Rattle.ild_hamt_entries.proofs.Marked.{in_order, ok_by}
+use Rattle.ild_hamt_entries.proofs.hamt.add_root.Goals as goal
 
 pub returns-in-Ok-clause-ok : goal.returns-in-Ok-clause-ok
 returns-in-Ok-clause-ok c = λ h es are one texts shallow.
