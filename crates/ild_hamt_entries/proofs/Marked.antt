@@ -22,7 +22,7 @@ use Rattle.ild_node.specs.Rows.{AreRows, AreShallow, deepest_value}
 use Rattle.ild_node.proofs.Writing.{root-done}
 use Rattle.ild_trie.proofs.Pairs.{find-permutation, in_order-from_sort, sorted-permutation}
 use Rattle.ild_typed.specs.Composed.{usual}
-use Rattle.ild_typed.specs.Hamt.{root_map, whole}
+use Rattle.ild_typed.specs.Hamt.{root_map}
 use Rattle.ild_typed.specs.Nested.{BlockIn, TreeIn}
 use Rattle.ild_hamt_entries.specs.Entries.{AddsEntry, AreKeyedMarks, EndsEntry, FitsEntry, IsKeyedMark, mark_in}
 use Rattle.ild_hamt_entries.specs.Fine.{IsFine}

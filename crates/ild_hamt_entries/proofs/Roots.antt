@@ -24,7 +24,6 @@ use Rattle.ild_typed.specs.Composed.{usual}
 use Rattle.ild_typed.specs.Hamt.{root_map}
 use Rattle.ild_typed.proofs.Basics.{if_from, map_from}
 use Rattle.ild_hamt_entries.specs.Entries.{AddsRoot, untried}
-use Rattle.ild_hamt_entries.specs.Entries.{over}
 use Rattle.ild_hamt_entries.specs.Fine.{told, SetWhere}
 use Rattle.ild_hamt_entries.specs.declared.nodes.Nodes.{Nodes}
 use Rattle.ild_hamt_entries.proofs.Flags.{set_none}

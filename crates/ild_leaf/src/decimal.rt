@@ -1,4 +1,4 @@
-//! The integers of an enum's members, in decimal. It is the reading of `ild_accept`, to which an accepted schema's texts were held.
+//! The integers of an enum's members, in decimal. It is the reading of `ild_clash`, to which the texts of an accepted schema were held.
 ghost use Rattle.std.specs.Prelude.{◌≡◌, ◌^◌, None, Some, IfSome, if◌then◌else◌, nat_lt, option_and_then};
 ghost use Rattle.std.specs.List.{list_all};
 ghost use Rattle.ild_data.specs.Integer.{IsInt};
