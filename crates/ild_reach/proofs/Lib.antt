@@ -1,0 +1,6 @@
+mod Finding
+mod Carrying
+mod Edits
+mod Standing
+mod Written
+mod Walking

@@ -1,0 +1,19 @@
+//! Laws of steps along a path.
+ghost use Rattle.ild_reach.specs.Along.{AlongIsLifted};
+ghost use Rattle.ild_reach.specs.Edits.{EditsAreCarried};
+ghost use Rattle.ild_reach.specs.Standing.{StepsStand};
+
+/// The change of the whole that is lifted from the last holder of a path is what the steps along the path make of it.
+pub fn along_is_lifted()
+    ensures { AlongIsLifted }
+{}
+
+/// So it is of each edit that the table allows, where the changed value stands in a block.
+pub fn edits_are_carried()
+    ensures { EditsAreCarried }
+{}
+
+/// The steps along a path lead to a part of the block's data, up to a holder that is replaced whatever changes in it.
+pub fn steps_stand()
+    ensures { StepsStand }
+{}

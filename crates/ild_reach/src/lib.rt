@@ -1,0 +1,11 @@
+//! Steps in a block along a path of views: where the change of a part is one change of the block.
+#![tactic(auto)]
+
+mod along;
+mod laws;
+mod next;
+mod part;
+
+pub use along::steps_along;
+pub use laws::{along_is_lifted, edits_are_carried, steps_stand};
+pub use part::part_steps;

@@ -1,0 +1,12 @@
+use Rattle.std.proofs.Common.{◌≡◌, ◌≤◌, List, Option, length}
+use Rattle.ild_change.specs.TreeChange.{Located}
+use Rattle.ild_data.specs.Data.{Data}
+use Rattle.ild_seen.specs.Seen.{AreThere, top_of, touched}
+use Rattle.ild_seen.proofs.Carrying.{Before, Seeing}
+use Rattle.ild_seen.proofs.along.replaced.Given as goal
+
+abbrev pub invariant-loop-k : goal.invariant-loop-k
+invariant-loop-k l = (l.k ≤ length l.steps) × Before l.steps l.k l.place × ((ws : List (Option Data)) (e : Located) → AreThere l.steps ws → top_of e ≡ touched l.last → Seeing l.steps ws e l.k l.touch l.place)
+
+abbrev pub decreases-loop-k : goal.decreases-loop-k
+decreases-loop-k l = l.k

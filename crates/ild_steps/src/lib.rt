@@ -1,0 +1,16 @@
+//! The steps from a holder's item in a block to the item of its part, form by form (IPLD Schemas, "Representations"): where the
+//! change of a part is one change of the block.
+#![tactic(auto)]
+
+mod any;
+mod map;
+mod pair;
+mod part;
+mod segment;
+mod steps;
+mod structs;
+mod union;
+
+pub use part::steps_to;
+pub use segment::index;
+pub use steps::PartSteps;
