@@ -1,12 +1,11 @@
 -- What the steps along a path do is the change that is lifted through the holders.
-use Rattle.std.proofs.Common.{◌≡◌, ℕ, List, [], ◌∷◌, Option, Some, None, refl, sym, ◌∙◌, ap, subst}
+use Rattle.std.proofs.Common.{◌≡◌, ℕ, List, [], ◌∷◌, Some, sym, ◌∙◌, ap}
 use Rattle.std.specs.Prelude.{option_and_then}
 use Rattle.std.specs.Option.{option_map_or}
-use Rattle.std.proofs.lemmas.Option.{same_Some, none-some}
+use Rattle.std.proofs.lemmas.Option.{same_Some}
 use Rattle.ild_change.specs.TreeChange.{Located, unchanged}
 use Rattle.ild_data.specs.Data.{Data}
 use Rattle.ild_lift.specs.Lift.{lift, lifted}
-use Rattle.ild_schema.specs.Value.{Value}
 use Rattle.ild_schema.specs.declared.row.Row.{Row}
 use Rattle.ild_steps.specs.Steps.{carried, carried_along}
 use Rattle.ild_steps.specs.declared.steps.PartSteps.{PartSteps}

@@ -1,5 +1,5 @@
 -- Where the changed value has data, each holder on the path becomes what has data.
-use Rattle.std.proofs.Common.{◌≡◌, ℕ, List, [], ◌∷◌, Bool, Option, Some, None, refl, sym, ◌∙◌, ap, subst}
+use Rattle.std.proofs.Common.{◌≡◌, ℕ, List, [], ◌∷◌, Bool, Some, refl, sym, ◌∙◌, ap}
 use Rattle.std.specs.Prelude.{option_and_then}
 use Rattle.std.specs.Option.{option_map_or}
 use Rattle.ild_data.specs.Data.{Data}
@@ -11,7 +11,7 @@ use Rattle.ild_lift.proofs.HaveTrees.{has_trees}
 use Rattle.ild_lift.proofs.Represented.{represents}
 use Rattle.ild_lift.proofs.Represents.{Represents}
 use Rattle.ild_lift.specs.LastLift.{LastEdit, deleting, inserting, last_seen, setting}
-use Rattle.ild_lift.specs.LiftLaws.{AreHamts, MayDelete, MayInsert, MaySet, of_fronts}
+use Rattle.ild_lift.specs.LiftLaws.{MayDelete, MayInsert, MaySet, of_fronts}
 use Rattle.ild_meant.proofs.Told.{told}
 use Rattle.ild_schema.proofs.Legibly.{legible}
 use Rattle.ild_schema.specs.Value.{Value}

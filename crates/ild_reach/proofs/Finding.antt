@@ -1,5 +1,5 @@
 -- A part to which a segment leads is a field, an entry, the member, or an element whose place a block has.
-use Rattle.std.proofs.Common.{◌≡◌, ◌<◌, ◌≤◌, ◌^◌, ℕ, List, true, Option, Some, None, length, refl, sym, ◌∙◌, ap, subst, arith}
+use Rattle.std.proofs.Common.{◌≡◌, ◌<◌, ◌≤◌, ◌^◌, ℕ, List, true, Some, None, length, refl, sym, ◌∙◌, ap, subst, arith}
 use Rattle.std.specs.Prelude.{option_and_then, option_map, slice_get}
 use Rattle.std.proofs.lemmas.Option.{none-some}
 use Rattle.ild_data.specs.Data as T
@@ -8,7 +8,6 @@ use Rattle.ild_data.proofs.Lists.{items_list-items_of}
 use Rattle.ild_edits.proofs.HeldTyped.{inside_any, with_slot}
 use Rattle.ild_lift.proofs.Lifting.{chained}
 use Rattle.ild_schema.specs.Slots.{form_of, plainly}
-use Rattle.ild_schema.specs.Value as V
 use Rattle.ild_schema.specs.Value.{Value}
 use Rattle.ild_schema.specs.declared.def.Member.{Member}
 use Rattle.ild_schema.specs.declared.def.Scalar.{Scalar}
@@ -22,7 +21,7 @@ use Rattle.ild_steps.proofs.Listing.{items_few, within_list}
 use Rattle.ild_typed.specs.At.{InSlot, seen}
 use Rattle.ild_typed.specs.Fields.{is_scalar}
 use Rattle.ild_typed.specs.Hamt.{alone}
-use Rattle.ild_typed.specs.Holder.{Holder, any_elements, any_entries, any_holder, elements, entries, fields, is_paired, member, nothing}
+use Rattle.ild_typed.specs.Holder.{Holder, any_holder, elements, entries, fields, is_paired, nothing}
 use Rattle.ild_typed.specs.Represented.{represented}
 use Rattle.ild_typed.specs.Segment.{index_of, part}
 use Rattle.ild_typed.proofs.OneValue.{Way, as_layer, as_null, way_of}

@@ -1,5 +1,5 @@
 -- Steps along a path, in the data of the first holder.
-use Rattle.std.proofs.Common.{◌≡◌, ◌≢◌, ℕ, zero, suc, List, [], ◌∷◌, ◌++◌, Bool, true, false, take, Option, Some, None, refl, sym, ◌∙◌, ap, subst}
+use Rattle.std.proofs.Common.{◌≡◌, ◌≢◌, ℕ, zero, suc, List, [], ◌∷◌, ◌++◌, false, take, Option, Some, None, refl, sym, ◌∙◌, ap}
 use Rattle.std.specs.Prelude.{option_and_then}
 use Rattle.std.proofs.lemmas.Option.{same_Some, none-some}
 use Rattle.ild_change.proofs.Maps.{put-other}
@@ -10,7 +10,7 @@ use Rattle.ild_data.specs.Key.{put, value_at}
 use Rattle.ild_data.proofs.Lists.{members_list-members_of}
 use Rattle.ild_lift.proofs.Lifting.{chained}
 use Rattle.ild_schema.specs.declared.row.Row.{Row}
-use Rattle.ild_seen.specs.Seen.{all_steps, has_whole, steps_before, tree_steps}
+use Rattle.ild_seen.specs.Seen.{all_steps, has_whole, tree_steps}
 use Rattle.ild_steps.specs.Steps.{IsBut, LeadsTo}
 use Rattle.ild_steps.specs.declared.steps.PartSteps.{PartSteps}
 use Rattle.ild_steps.specs.declared.steps.PartSteps.TheVariants as P

@@ -1,5 +1,5 @@
 -- The steps along a path: from each holder to that of the next segment, and what they do to the change of the last holder.
-use Rattle.std.specs.Prelude.{◌≡◌, ℕ, Bool, true, false, List, [], ◌∷◌, Option, Some, None, option_and_then}
+use Rattle.std.specs.Prelude.{◌≡◌, ℕ, Bool, true, false, List, [], ◌∷◌, Option, Some, option_and_then}
 use Rattle.std.specs.Option.{option_map_or}
 use Rattle.ild_change.specs.TreeChange.{Located}
 use Rattle.ild_data.specs.Data.{Data}

@@ -1,7 +1,6 @@
 -- What is seen of a change, holder by holder from the last.
-use Rattle.std.proofs.Common.{◌≡◌, ◌<◌, ◌≤◌, ◌+◌, ◌-◌, ℕ, zero, suc, List, [], ◌∷◌, ◌++◌, Bool, true, false, not, cond, drop, get_or, length, slice_get, take, Option, Some, None, option_map, refl, sym, ◌∙◌, ap, subst, arith}
+use Rattle.std.proofs.Common.{◌≡◌, ◌<◌, ◌≤◌, ◌+◌, ℕ, zero, suc, List, [], ◌∷◌, ◌++◌, false, drop, get_or, length, slice_get, take, Option, Some, None, option_map, refl, sym, ◌∙◌, ap, subst, arith}
 use Rattle.std.specs.Prelude.{option_and_then}
-use Rattle.std.proofs.lemmas.Option.{same_Some, none-some}
 use Rattle.ild_change.specs.TreeChange.{TreeStep, Located, unchanged, one}
 use Rattle.ild_data.specs.Data.{Data}
 use Rattle.ild_lift.specs.Lift.{lift_within, whole}

@@ -1,5 +1,5 @@
 -- What holds parts, by the form of its type, and what its data are.
-use Rattle.std.proofs.Common.{◌≡◌, ℕ, List, Option, Some, None, refl, sym, ◌∙◌, ap, subst}
+use Rattle.std.proofs.Common.{◌≡◌, ℕ, List, Option, Some, refl, sym, ◌∙◌, ap, subst}
 use Rattle.std.specs.Prelude.{option_and_then, slice_get}
 use Rattle.std.proofs.lemmas.Option.{same_Some, none-some}
 use Rattle.ild_data.specs.Data as T
@@ -23,7 +23,7 @@ use Rattle.ild_schema.specs.declared.number.TypeNo.{TypeNo}
 use Rattle.ild_schema.specs.declared.row.Row.{Row}
 use Rattle.ild_typed.specs.Composed.{any_data, composed, map_form, member_form, struct_form, union_form}
 use Rattle.ild_typed.specs.Hamt.{alone}
-use Rattle.ild_typed.specs.Holder.{Holder, any_elements, any_entries, any_holder, elements, entries, fields, holder_of, is_paired, list_holder, map_holder, member, nothing, struct_holder, union_holder}
+use Rattle.ild_typed.specs.Holder.{Holder, any_holder, elements, entries, fields, holder_of, is_paired, list_holder, map_holder, member, nothing, struct_holder, union_holder}
 use Rattle.ild_typed.specs.Layer as L
 use Rattle.ild_typed.specs.Represented.{layered, represented}
 

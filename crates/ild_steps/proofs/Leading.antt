@@ -1,5 +1,5 @@
 -- The steps to a part of a value, from those that are found by the form of its type.
-use Rattle.std.proofs.Common.{◌≡◌, ◌<◌, ◌+◌, ◌^◌, ℕ, zero, suc, List, [], ◌∷◌, Bool, true, false, cond, length, slice_get, Option, Some, None, refl, sym, ◌∙◌, ap, subst, arith}
+use Rattle.std.proofs.Common.{◌≡◌, ◌<◌, ◌+◌, ◌^◌, ℕ, suc, List, [], ◌∷◌, Bool, true, false, cond, length, slice_get, Option, Some, None, refl, sym, ◌∙◌, ap, subst, arith}
 use Rattle.std.specs.Prelude.{IsSomeAnd, bytes_eq, option_map, option_and_then}
 use Rattle.std.specs.List.{position_from}
 use Rattle.std.specs.Option.{option_map_or}
@@ -11,19 +11,19 @@ use Rattle.ild_data.specs.Data.{Data, items_list, items_of, members_list}
 use Rattle.ild_data.specs.Key.{same_text, value_at}
 use Rattle.ild_data.proofs.Lists.{items_list-items_of}
 use Rattle.ild_edits.proofs.HeldTyped.{held_is, inside_any, with_slot}
-use Rattle.ild_lift.proofs.Datas.{each, each_pair}
+use Rattle.ild_lift.proofs.Datas.{each}
 use Rattle.ild_lift.proofs.Each.{each-get, each_pair-at, joined}
 use Rattle.ild_lift.proofs.Lifting.{chained, field_data-each, place_same, present_field}
 use Rattle.ild_lift.proofs.Represented.{inside_data}
 use Rattle.ild_lift.specs.Lift.{lift_in, lift_map, lift_union, lift_within, map_lift, struct_lift, union_lift}
-use Rattle.ild_lift.specs.Places.{each_field, field_data, field_named, field_place, left_out, place_of}
+use Rattle.ild_lift.specs.Places.{field_data, field_named, field_place, left_out, place_of}
 use Rattle.ild_meant.proofs.Told.{AreToldApart}
 use Rattle.ild_piece.specs.Pieces.{StandsFor}
 use Rattle.ild_schema.specs.Clear.{IsClear}
 use Rattle.ild_schema.specs.Copies.{base}
 use Rattle.ild_schema.specs.Parts.{part_named}
 use Rattle.ild_schema.specs.Prelude.{anything}
-use Rattle.ild_schema.specs.Slots.{form_of, plainly}
+use Rattle.ild_schema.specs.Slots.{form_of}
 use Rattle.ild_schema.specs.Value as V
 use Rattle.ild_schema.specs.Value.{Value}
 use Rattle.ild_schema.specs.declared.def.Field.{Field}

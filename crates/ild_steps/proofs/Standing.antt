@@ -1,6 +1,6 @@
 -- Where parts stand in the data of their holders, form by form.
-use Rattle.std.proofs.Common.{◌≡◌, ◌≢◌, ◌⊎◌, inl, inr, ◌<◌, ◌+◌, ◌^◌, arith, get_or, ℕ, List, [], ◌∷◌, ◌++◌, Bool, true, false, cond, length, slice_get, Option, Some, None, refl, sym, ◌∙◌, ap, subst}
-use Rattle.std.specs.Prelude.{is_none, option_map, option_and_then}
+use Rattle.std.proofs.Common.{◌≡◌, ◌⊎◌, inl, inr, ◌<◌, ◌^◌, arith, get_or, ℕ, List, [], ◌∷◌, ◌++◌, Bool, true, false, cond, slice_get, Option, Some, None, refl, sym, ◌∙◌, ap, subst}
+use Rattle.std.specs.Prelude.{is_none, option_and_then}
 use Rattle.std.proofs.lemmas.Option.{same_Some, none-some}
 use Rattle.ild_change.proofs.Maps.{own_text, put-other}
 use Rattle.ild_change.specs.TreeChange.{key, nth, part_at}
@@ -12,12 +12,11 @@ use Rattle.ild_cbor.specs.Scalar.{kind_of as piece_kind}
 use Rattle.ild_cbor.specs.declared.kind.Kind.TheVariants as K
 use Rattle.ild_cbor.specs.declared.piece.Piece.{Piece}
 use Rattle.ild_edits.proofs.HeldTyped.{inside_any}
-use Rattle.ild_lift.proofs.Datas.{written_entries}
-use Rattle.ild_lift.proofs.Fields.{around, risen-at, written-at}
+use Rattle.ild_lift.proofs.Fields.{risen-at, written-at}
 use Rattle.ild_lift.proofs.Lifting.{chained, key_there, opened, pair_there, tuple_item, written_is}
 use Rattle.ild_lift.proofs.Others.{put_lasts}
 use Rattle.ild_lift.specs.Pairs.{pair_if}
-use Rattle.ild_lift.specs.Places.{field_data, field_named, field_place, left_out, place_of, written, written_before}
+use Rattle.ild_lift.specs.Places.{field_place, left_out, place_of, written}
 use Rattle.ild_piece.specs.Pieces.{StandsFor}
 use Rattle.ild_schema.specs.Clear.{ClearStruct, KeysApart}
 use Rattle.ild_schema.specs.Marks.{field_text, kind_of as mark_kind, text_of}
@@ -46,7 +45,7 @@ use Rattle.ild_typed.specs.Segment.{index_of, part}
 use Rattle.ild_typed.specs.Strings.{in_key_order, listpairs, map_data, members_in}
 use Rattle.ild_steps.proofs.Fielding.{got}
 use Rattle.ild_steps.proofs.Listing.{items_few, within_list}
-use Rattle.ild_steps.specs.Steps.{FoundLead, IsBut, IsField, LeadsTo}
+use Rattle.ild_steps.specs.Steps.{FoundLead, IsBut, IsField}
 use Rattle.ild_steps.specs.declared.steps.PartSteps.{PartSteps}
 use Rattle.ild_steps.specs.declared.steps.PartSteps.TheVariants as P
 

@@ -1,4 +1,4 @@
-use Rattle.std.proofs.Common.{◌≡◌, ◌<◌, ◌≤◌, ◌+◌, ◌-◌, length, refl, sym, ap, subst, arith}
+use Rattle.std.proofs.Common.{◌≡◌, ◌<◌, ◌≤◌, ◌+◌, ◌-◌, length, refl, ap, subst, arith}
 use Rattle.ild_schema.specs.Legible.{IsLegible}
 use Rattle.ild_view.specs.View.{table_of}
 use Rattle.ild_reach.proofs.Walking.{no_steps, no_view, segment_at, walked_begins, walked_ends, walked_on}

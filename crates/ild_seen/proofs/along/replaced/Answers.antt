@@ -1,4 +1,4 @@
-use Rattle.std.proofs.Common.{◌≡◌, ◌<◌, ◌≤◌, ◌+◌, ◌-◌, ℕ, length, refl, arith}
+use Rattle.std.proofs.Common.{◌≡◌, ◌<◌, ◌+◌, ◌-◌, length, refl, arith}
 use Rattle.ild_seen.proofs.Carrying.{before_begins, before_ends, before_goes, before_stops, begins, ends, goes_on, stops}
 use Rattle.ild_seen.proofs.along.replaced.Goals as goal
 

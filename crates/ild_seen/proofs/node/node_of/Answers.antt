@@ -1,4 +1,4 @@
-use Rattle.ild_seen.proofs.Noding.{entry_of_steps, item_of_steps, no_pair, pair_of_steps}
+use Rattle.ild_seen.proofs.Noding.{entry_of_steps, item_of_steps, pair_of_steps}
 use Rattle.ild_seen.proofs.node.node_of.Goals as goal
 
 pub returns-in-Item : goal.returns-in-Item

@@ -1,4 +1,4 @@
-use Rattle.std.proofs.Common.{List, map, subst, sym, ◌∙◌, ap, Some, None}
+use Rattle.std.proofs.Common.{List, map, subst, ap, Some}
 use Rattle.std.proofs.lemmas.Option.{same_Some, none-some}
 use Rattle.ild_cbor.specs.Steps.{HasItems}
 use Rattle.ild_data.specs.Data as T

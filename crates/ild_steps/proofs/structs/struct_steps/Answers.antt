@@ -1,4 +1,4 @@
-use Rattle.std.proofs.Common.{◌≡◌, sym, ◌∙◌, ap}
+use Rattle.std.proofs.Common.{sym, ◌∙◌, ap}
 use Rattle.ild_schema.specs.Marks.{field_text}
 use Rattle.ild_steps.proofs.Fielding.{field_is, struct_entry, struct_pairs}
 use Rattle.ild_steps.proofs.Standing.{field_leads, field_pair_leads, tuple_leads}
