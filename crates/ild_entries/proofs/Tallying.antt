@@ -7,7 +7,7 @@ use Rattle.ild_data.specs.Data.{Data, members_list}
 use Rattle.ild_data.proofs.Lists.{length-items}
 use Rattle.ild_entries.proofs.Texting.{text_there}
 use Rattle.ild_schema.specs.Joins.{IsPairs}
-use Rattle.ild_struct.specs.Source.{text_entries}
+use Rattle.ild_fields.specs.Entries.{text_entries}
 use Rattle.ild_typed.specs.Strings.{listpairs, members_in, pair_data, stringpairs}
 
 pub members_counted : (t : Data) (es : List (List ℕ × Data)) → members_in t ≡ Some es → count_of t ≡ Some (length es)

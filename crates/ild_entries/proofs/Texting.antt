@@ -8,7 +8,7 @@ use Rattle.ild_data.specs.Key.{value_at}
 use Rattle.ild_schema.specs.Clear.{IsGiven}
 use Rattle.ild_schema.specs.Joins.{IsPairs}
 use Rattle.ild_struct.proofs.Splitting.{pairs_shown, text_value_at}
-use Rattle.ild_struct.specs.Source.{text_entries}
+use Rattle.ild_fields.specs.Entries.{text_entries}
 use Rattle.ild_typed.specs.Strings.{stringpairs, text_in, text_pairs}
 use Rattle.ild_typed.specs.Texts.{join_pairs}
 use Rattle.ild_typed.proofs.Basics.{map_from, then_from}

@@ -11,7 +11,7 @@ use Rattle.ild_piece.specs.Pieces.{StandsFor}
 use Rattle.ild_schema.specs.declared.def.MapForm.{MapForm}
 use Rattle.ild_schema.specs.declared.def.MapForm.TheVariants as MF
 use Rattle.ild_schema.specs.declared.row.Row.{Row}
-use Rattle.ild_struct.specs.Source.{text_entries}
+use Rattle.ild_fields.specs.Entries.{text_entries}
 use Rattle.ild_text.specs.Parts.{pairs_in}
 use Rattle.ild_typed.specs.Strings.{pair_data}
 use Rattle.ild_entries.specs.declared.left.EntriesLeft.{EntriesLeft}

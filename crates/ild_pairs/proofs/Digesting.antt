@@ -16,7 +16,7 @@ use Rattle.ild_cbor.specs.Spelled.{SpellsSomeItems}
 use Rattle.ild_cbor.specs.Steps.{HasItems, ItemsGive, UnfoldFirst, Unfolded, Unfolds}
 use Rattle.ild_cbor.specs.declared.items.Items.{Items}
 use Rattle.ild_cbor.specs.declared.node.Node.{Node}
-use Rattle.ild_struct.proofs.Pairing.{item_end}
+use Rattle.ild_fields.proofs.Pairing.{item_end}
 use Rattle.ild_typed.specs.Named.{has_twice, is_among, pair_names}
 use Rattle.ild_typed.specs.Strings.{pair_data}
 use Rattle.ild_pairs.specs.Apart.{AreDigested, IsNamed, climbs, digest_of, follows}

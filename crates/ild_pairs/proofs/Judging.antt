@@ -10,7 +10,7 @@ use Rattle.ild_cbor.specs.declared.items.Items.{Items}
 use Rattle.ild_cbor.specs.declared.node.Node.{Node}
 use Rattle.ild_cbor.specs.Nodes.{Stands}
 use Rattle.ild_cbor.specs.Steps.{FindsItems, HasItems, ItemsGive, items_of}
-use Rattle.ild_struct.proofs.Pairing.{item_end, list_of}
+use Rattle.ild_fields.proofs.Pairing.{item_end, list_of}
 use Rattle.ild_typed.specs.Named.{has_twice, is_among, is_pair, is_two, items_or, name_of, pair_names}
 use Rattle.ild_typed.specs.Strings.{pair_data}
 use Rattle.ild_pairs.specs.Judged.{IsJudged, cause_of, is_miscounted, is_odd}

@@ -2,7 +2,7 @@
 ghost use Rattle.std.specs.Prelude.{◌≡◌, ◌||◌, ℕ, List, IfOk, OnOk, not};
 ghost use Rattle.ild_data.specs.Key.{same_text};
 ghost use Rattle.ild_typed.specs.Named.{has_twice, is_among, names};
-ghost use Rattle.ild_struct.specs.Source.{text_entries};
+ghost use Rattle.ild_fields.specs.Entries.{text_entries};
 ghost use Rattle.ild_text.specs.Parts.{pairs_in};
 ghost use Rattle.ild_pairs.specs.Keys.{texts};
 

@@ -33,7 +33,7 @@ use Rattle.ild_parts.specs.Leaf.{FitsOfKind, IsBehindEntry, IsBehindItem, IsBehi
 use Rattle.ild_parts.specs.PairEntries.{HasPairs, IsPairHeld}
 use Rattle.ild_parts.specs.Part.{FitsAnywhere}
 use Rattle.ild_parts.specs.Parts.{HasLeft as PartsLeft, SplitsOff}
-use Rattle.ild_struct.specs.Told.{scalar_kind}
+use Rattle.ild_fields.specs.Told.{scalar_kind}
 use Rattle.ild_parts.proofs.Scalars.{scalar_plain}
 use Rattle.ild_parts.proofs.Leading.{goes_up}
 use Rattle.ild_pairs.proofs.Judging.{pair_same}

@@ -16,7 +16,7 @@ use Rattle.ild_schema.specs.declared.row.Row.{Row}
 use Rattle.ild_typed.specs.Layer as L
 use Rattle.ild_typed.specs.Pieces.{why_at}
 use Rattle.ild_typed.specs.Refused.{AreParts}
-use Rattle.ild_struct.specs.Told.{scalar_kind}
+use Rattle.ild_fields.specs.Told.{scalar_kind}
 use Rattle.ild_parts.proofs.Asking.{none_at}
 
 abbrev pub Plain : ℕ → TypeDef → Data → Type 0

@@ -7,7 +7,7 @@ use Rattle.ild_cbor.specs.declared.piece.Piece.TheVariants as Q
 use Rattle.ild_schema.specs.Slots.{plainly}
 use Rattle.ild_schema.specs.declared.def.MapForm.TheVariants as MF
 use Rattle.ild_schema.specs.declared.row.Row.{Row}
-use Rattle.ild_struct.specs.Source.{text_entries}
+use Rattle.ild_fields.specs.Entries.{text_entries}
 use Rattle.ild_text.specs.Parts.{pairs_in}
 use Rattle.ild_text.specs.declared.parts.PairParts.{PairParts}
 use Rattle.ild_typed.specs.Spots.{Spot, entry_spots, key_spot, value_spot}

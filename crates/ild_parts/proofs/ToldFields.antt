@@ -8,7 +8,8 @@ use Rattle.ild_schema.specs.declared.def.Field.{Field}
 use Rattle.ild_schema.specs.declared.def.StructDef.{StructDef}
 use Rattle.ild_schema.specs.declared.row.Row.{Row}
 use Rattle.ild_struct.specs.Parts.{fields_of, is_told}
-use Rattle.ild_struct.specs.Told.{AreTold, IsToldAt, scalar_kind}
+use Rattle.ild_fields.specs.Told.{IsToldAt, scalar_kind}
+use Rattle.ild_struct.specs.Told.{AreTold}
 use Rattle.ild_struct.specs.declared.parts.StructParts.{StructParts}
 use Rattle.ild_typed.specs.Schema.{IsSchema}
 use Rattle.ild_typed.specs.Spots.{Spot}

@@ -4,7 +4,7 @@ use Rattle.std.specs.Borrow.{Bor}
 use Rattle.ild_data.specs.Data.{text}
 use Rattle.ild_schema.specs.declared.def.MapForm.TheVariants as MF
 use Rattle.ild_schema.specs.declared.row.Row.{Row}
-use Rattle.ild_struct.specs.Source.{text_entries}
+use Rattle.ild_fields.specs.Entries.{text_entries}
 use Rattle.ild_text.specs.Parts.{pairs_in}
 use Rattle.ild_typed.specs.Spots.{Spot, entry_spots, value_spot}
 use Rattle.ild_parts.specs.declared.part.Part.{Part}

@@ -3,7 +3,7 @@ ghost use Rattle.std.specs.Prelude.{◌≡◌, ◌<◌, ℕ, List, IfSome};
 ghost use Rattle.ild_schema.specs.Slots.{plainly};
 ghost use Rattle.ild_schema.specs.declared.def.MapForm.TheVariants as MF;
 ghost use Rattle.ild_schema.specs.declared.row.Row.{Row};
-ghost use Rattle.ild_struct.specs.Source.{text_entries};
+ghost use Rattle.ild_fields.specs.Entries.{text_entries};
 ghost use Rattle.ild_text.specs.Parts.{pairs_in};
 ghost use Rattle.ild_typed.specs.Spots.{Spot, entry_spots};
 ghost use Rattle.ild_parts.specs.Inside.{IsWhole};

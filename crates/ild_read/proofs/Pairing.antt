@@ -22,7 +22,7 @@ use Rattle.ild_schema.specs.ValueSeen.{value_of}
 use Rattle.ild_schema.specs.declared.number.Slot.{Slot}
 use Rattle.ild_schema.specs.declared.row.Row.{Row}
 use Rattle.ild_schema.specs.declared.val.Val.{Val}
-use Rattle.ild_struct.specs.Source.{text_entries}
+use Rattle.ild_fields.specs.Entries.{text_entries}
 use Rattle.ild_typed.specs.Named.{items_in}
 use Rattle.ild_typed.specs.Strings.{listpairs, pair_data, stringpairs, text_in, text_pairs}
 use Rattle.ild_typed.specs.Texts.{join_pairs}

@@ -15,7 +15,7 @@ use Rattle.ild_schema.specs.declared.def.TypeDef.TheVariants as D
 use Rattle.ild_schema.specs.declared.number.Slot.{Slot}
 use Rattle.ild_schema.specs.declared.number.TypeNo.{TypeNo}
 use Rattle.ild_schema.specs.declared.row.Row.{Row}
-use Rattle.ild_struct.proofs.Placing.{all_at}
+use Rattle.ild_fields.proofs.Placing.{all_at}
 use Rattle.ild_typed.specs.Composed.{usual}
 use Rattle.ild_typed.specs.Node.{IsRoot}
 use Rattle.ild_typed.proofs.Wholes.{one_within}

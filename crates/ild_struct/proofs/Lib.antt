@@ -1,15 +1,9 @@
-pub mod Causing
 pub mod Fielding
 pub mod Forms
 pub mod Layering
 pub mod Looking
-pub mod Marking
-pub mod Noting
-pub mod Pairing
-pub mod Placing
 pub mod Presenting
 pub mod Splitting
 pub mod Stepping
-pub mod Surveying
 pub mod Telling
 pub mod Writing

@@ -28,7 +28,7 @@ use Rattle.ild_piece.specs.Entries.{Found}
 use Rattle.ild_struct.specs.Parts.{IsPart}
 use Rattle.ild_struct.specs.Reading.{IsLookedUp, shown}
 use Rattle.ild_struct.specs.declared.part.Part.{Part}
-use Rattle.ild_struct.proofs.Placing.{all_at}
+use Rattle.ild_fields.proofs.Placing.{all_at}
 
 -- ---- by its name
 

@@ -14,13 +14,13 @@ use Rattle.ild_typed.specs.Strings.{pair_data}
 use Rattle.ild_typed.specs.StructWhy.{place_of}
 use Rattle.ild_piece.specs.Entries.{EntriesGive, HasLeft}
 use Rattle.ild_piece.specs.declared.walk.MapEntries.{MapEntries}
-use Rattle.ild_struct.specs.Pairs.{IsPairOf}
-use Rattle.ild_struct.specs.Present.{by_place}
+use Rattle.ild_fields.specs.Pairs.{IsPairOf}
+use Rattle.ild_fields.specs.Entries.{by_place}
 use Rattle.ild_struct.specs.Stepping.{Takes}
 use Rattle.ild_struct.specs.declared.left.Left.TheVariants as L
-use Rattle.ild_struct.specs.declared.pair.Pair.{Pair}
-use Rattle.ild_struct.specs.declared.pair.Pair.TheVariants as P
-use Rattle.ild_struct.proofs.Pairing.{pair_of, no_pair_of}
+use Rattle.ild_fields.specs.declared.pair.Pair.{Pair}
+use Rattle.ild_fields.specs.declared.pair.Pair.TheVariants as P
+use Rattle.ild_fields.proofs.Pairing.{pair_of, no_pair_of}
 
 -- ---- entries of a map
 

@@ -45,8 +45,10 @@ use Rattle.ild_piece.specs.Pieces.{StandsFor}
 use Rattle.ild_piece.specs.declared.walk.MapEntries.{MapEntries}
 use Rattle.ild_piece.proofs.Stand.{piece_rises}
 use Rattle.ild_struct.specs.Parts.{ArePartsOf}
-use Rattle.ild_struct.specs.Present.{by_place, numbered}
-use Rattle.ild_struct.specs.Source.{Shows, text_entries}
+use Rattle.ild_struct.specs.Present.{numbered}
+use Rattle.ild_fields.specs.Entries.{by_place}
+use Rattle.ild_struct.specs.Source.{Shows}
+use Rattle.ild_fields.specs.Entries.{text_entries}
 use Rattle.ild_struct.specs.Stepping.{Starts}
 use Rattle.ild_struct.specs.declared.left.Left.TheVariants as R
 use Rattle.ild_struct.specs.declared.parts.StructParts.{StructParts}

@@ -10,11 +10,10 @@ use Rattle.ild_schema.specs.declared.def.Field.{Field}
 use Rattle.ild_schema.specs.declared.row.Row.{Row}
 use Rattle.ild_text.specs.Parts.{pairs_in, parts_left}
 use Rattle.ild_typed.specs.Fields.{is_implicit}
-use Rattle.ild_typed.specs.StructWhy.{place_of}
 use Rattle.ild_typed.specs.Strings.{pair_data}
 use Rattle.ild_piece.specs.Entries.{HasLeft}
 use Rattle.ild_piece.specs.Pieces.{StandsFor}
-use Rattle.ild_struct.specs.Source.{text_entries}
+use Rattle.ild_fields.specs.Entries.{by_place, text_entries}
 use Rattle.ild_struct.specs.declared.left.Left.{Left}
 use Rattle.ild_struct.specs.declared.left.Left.TheVariants as L
 use Rattle.ild_struct.specs.declared.present.Present.{Present}
@@ -33,10 +32,6 @@ pub record ArePresent (fs : List Field) (os : List (Option Data)) (xs : List (�
   pub optional : (i : ℕ) (f : Field) (d : Data) → slice_get fs i ≡ Some f → slice_get os i ≡ Some (Some d) → f.optional ≡ true → (n : ℕ) × (slice_get xs n ≡ Some (i, d))
   -- each field comes once
   pub once : ComeOnce xs
-
--- names with values, by the places of their fields
-abbrev pub by_place : List Field → List (List ℕ × Data) → List (ℕ × Data)
-by_place fs es = map (λ (e : List ℕ × Data). (place_of fs e.0, e.1)) es
 
 -- values in the order of their fields, from the one with a number on
 abbrev pub numbered : ℕ → List Data → List (ℕ × Data)

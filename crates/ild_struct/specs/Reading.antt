@@ -9,7 +9,7 @@ use Rattle.ild_schema.specs.declared.def.StructForm.{StructForm}
 use Rattle.ild_schema.specs.declared.row.Row.{Row}
 use Rattle.ild_typed.specs.Fields.{is_implicit}
 use Rattle.ild_piece.specs.Answers.{told}
-use Rattle.ild_struct.specs.Causes.{struct_why}
+use Rattle.ild_fields.specs.Causes.{struct_why}
 use Rattle.ild_struct.specs.Source.{Shows}
 use Rattle.ild_struct.specs.declared.source.Source.{Source}
 

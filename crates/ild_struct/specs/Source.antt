@@ -1,5 +1,5 @@
 -- Where the parts of a struct are looked up, by the form of the struct (IPLD Schemas, "Struct Representation Strategies").
-use Rattle.std.specs.Prelude.{◌≡◌, ℕ, suc, ◌≤◌, List, length, map, Some}
+use Rattle.std.specs.Prelude.{◌≡◌, ℕ, suc, ◌≤◌, List, length, Some}
 use Rattle.ild_data.specs.Data as T
 use Rattle.ild_data.specs.Data.{Data, Items}
 use Rattle.ild_cbor.specs.Nodes.{Stands}
@@ -13,6 +13,7 @@ use Rattle.ild_text.specs.Parts.{parts, pairs_in}
 use Rattle.ild_typed.specs.Named.{split_entries}
 use Rattle.ild_typed.specs.Cuts.{parted}
 use Rattle.ild_piece.specs.Pieces.{StandsFor}
+use Rattle.ild_fields.specs.Entries.{text_entries}
 use Rattle.ild_struct.specs.declared.source.Source.{Source}
 use Rattle.ild_struct.specs.declared.source.Source.TheVariants as R
 
@@ -28,10 +29,6 @@ types_in source = 0
 -- the union is in the table
 abbrev pub IsSourced : List Row → Source → Type 0
 IsSourced rows source = types_in source ≤ length rows
-
--- names with the texts that are their values
-abbrev pub text_entries : List (List ℕ × List ℕ) → List (List ℕ × Data)
-text_entries ps = map {B = List ℕ × Data} (λ p. (p.0, T.text p.1)) ps
 
 -- the data there, in each form
 abbrev pub Shows : List Row → StructForm → Source → Data → Type 0

@@ -8,13 +8,13 @@ ghost use Rattle.ild_struct.specs.Parts.{ArePartsOf, HasNumber, IsFieldOf, IsPar
 ghost use Rattle.ild_piece.specs.Entries.{Found};
 ghost use Rattle.ild_struct.specs.Reading.{IsLookedUp, shown};
 
-use crate::fields::text_of_field;
 use crate::pairs::pair_value;
 use crate::part::Part;
 use crate::parts::StructParts;
 use crate::source::Source;
 use crate::texts::text_value;
 use ild_cbor::{Kind, Node, Piece};
+use ild_fields::text_of_field;
 use ild_piece::entry;
 use ild_schema::Field;
 

@@ -2,13 +2,9 @@
 //! Schemas, "Struct Representation Strategies"). No memory is taken.
 #![tactic(auto)]
 
-mod causes;
 mod field;
-mod fields;
 mod left;
 mod map;
-mod notes;
-mod pair;
 mod pairs;
 mod part;
 mod parts;
@@ -17,7 +13,6 @@ mod read;
 mod source;
 mod step;
 mod texts;
-mod told;
 mod tuple;
 mod written;
 

@@ -1,8 +1,8 @@
 //! The fields of a struct that were found in a block.
 ghost use Rattle.ild_struct.specs.Source.{IsSourced};
 
-use crate::fields::Fields;
 use crate::source::Source;
+use ild_fields::Fields;
 
 /// The fields of a struct in a block: borrows of the schema and of the block, with no memory of their own.
 #[derive(Clone, Copy)]

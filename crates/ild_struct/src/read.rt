@@ -14,7 +14,6 @@ ghost use Rattle.ild_struct.specs.Reading.{Answers, AnswersFound};
 ghost use Rattle.ild_struct.specs.Source.{IsSourced};
 ghost use Rattle.ild_struct.specs.Told.{IsSurveyed};
 
-use crate::fields::Fields;
 use crate::map::map_source;
 use crate::pairs::listpairs_source;
 use crate::parts::StructParts;
@@ -22,6 +21,7 @@ use crate::source::Source;
 use crate::texts::{stringjoin_source, stringpairs_source};
 use crate::tuple::tuple_source;
 use ild_cbor::{Piece, Why};
+use ild_fields::Fields;
 use ild_schema::{Accepted, StructForm, TypeDef, TypeNo};
 
 // A source of whose values no kind tells anything.

@@ -9,16 +9,15 @@ ghost use Rattle.ild_schema.specs.declared.def.Field.{Field};
 ghost use Rattle.ild_text.specs.Parts.{pairs_in, parts_left};
 ghost use Rattle.ild_typed.specs.Strings.{pair_data};
 ghost use Rattle.std.specs.Iterator.{at_most};
-ghost use Rattle.ild_struct.specs.Present.{HasPresent, PresentGives, count_left, by_place, numbered};
-ghost use Rattle.ild_struct.specs.Source.{text_entries};
+ghost use Rattle.ild_fields.specs.Entries.{by_place, text_entries};
+ghost use Rattle.ild_struct.specs.Present.{HasPresent, PresentGives, count_left, numbered};
 ghost use Rattle.ild_struct.specs.declared.left.Left.TheVariants as L;
 ghost use Rattle.ild_struct.specs.Stepping.{Takes};
 
-use crate::fields::Fields;
 use crate::left::Left;
-use crate::pair::Pair;
 use crate::present::Present;
 use ild_cbor::{Items, Piece};
+use ild_fields::{Fields, Pair};
 use ild_piece::MapEntries;
 use ild_text::{JoinParts, PairParts};
 

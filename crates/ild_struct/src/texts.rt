@@ -8,30 +8,14 @@ ghost use Rattle.ild_schema.specs.declared.def.Field.{Field as Schema};
 ghost use Rattle.ild_schema.specs.declared.def.StructForm.TheVariants as S;
 ghost use Rattle.ild_schema.specs.declared.row.Row.{Row};
 ghost use Rattle.ild_text.specs.Parts.{pairs_in};
-ghost use Rattle.ild_typed.specs.Named.{names};
-ghost use Rattle.ild_struct.specs.Causes.{Noted};
 ghost use Rattle.ild_struct.specs.Reading.{Answers};
-ghost use Rattle.ild_struct.specs.Source.{IsSourced, text_entries};
+ghost use Rattle.ild_struct.specs.Source.{IsSourced};
 
-use crate::fields::Fields;
-use crate::notes::Notes;
 use crate::source::Source;
 use ild_cbor::{Piece, Why};
+use ild_fields::{Fields, note_texts};
 use ild_piece::text;
 use ild_text::{PairParts, join_parts, pairs};
-
-// What one pass over the pairs of a text finds.
-fn survey(fields: &Fields<'_>, split: PairParts<'_>) -> Notes
-    ensures { AreNamesApart fields.now.def.now.fields → Noted fields.now.def.now.fields (names (text_entries (pairs_in split.entry))) (text_entries (pairs_in split.entry)) result }
-{
-    let mut notes = Notes::new();
-    let mut left = split;
-    while let Some(((name, value), behind)) = left.split_first() {
-        notes.note_entry(fields, name, &Piece::Text(value));
-        left = behind;
-    }
-    notes
-}
 
 /// A text of pairs in which the fields are looked up, or the first cause why the piece is no struct.
 pub(crate) fn stringpairs_source<'b>(
@@ -52,7 +36,7 @@ pub(crate) fn stringpairs_source<'b>(
         Ok(split) => split,
         Err(_) => return Err(Why::Delimiter),
     };
-    match survey(fields, split).first_cause(fields.def.fields.as_slice(), false, true) {
+    match note_texts(fields, split).first_cause(fields.def.fields.as_slice(), false, true) {
         Some(why) => Err(why),
         None => Ok(Source::StringPairs(split)),
     }

@@ -32,7 +32,7 @@ use Rattle.ild_schema.specs.declared.def.Member.{Member}
 use Rattle.ild_schema.specs.declared.def.UnionDef.{UnionDef}
 use Rattle.ild_schema.specs.declared.def.UnionForm.{UnionForm}
 use Rattle.ild_schema.specs.declared.def.UnionForm.TheVariants as UF
-use Rattle.ild_struct.proofs.Placing.{all_at}
+use Rattle.ild_fields.proofs.Placing.{all_at}
 use Rattle.ild_struct.proofs.Splitting.{given_some}
 use Rattle.ild_schema.specs.declared.def.TypeDef.{TypeDef}
 use Rattle.ild_schema.specs.declared.def.TypeDef.TheVariants as D
@@ -61,7 +61,7 @@ use Rattle.ild_parts.specs.Part.{IsSpotted}
 use Rattle.ild_parts.specs.Ready.{IsInlined, is_struct}
 use Rattle.ild_parts.specs.declared.parts.Parts.TheVariants as P
 use Rattle.ild_walk.specs.Opens.{HasOpened}
-use Rattle.ild_struct.specs.Told.{scalar_kind}
+use Rattle.ild_fields.specs.Told.{scalar_kind}
 use Rattle.ild_parts.proofs.Asking.{own_at, deep_at, none_at}
 use Rattle.ild_parts.specs.Elements.{HasElements}
 use Rattle.ild_parts.specs.Entries.{HasEntries}

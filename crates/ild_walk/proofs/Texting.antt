@@ -11,7 +11,7 @@ use Rattle.ild_schema.specs.declared.def.TypeDef.TheVariants as D
 use Rattle.ild_schema.specs.declared.number.Slot.{Slot}
 use Rattle.ild_schema.specs.declared.number.TypeNo.{TypeNo}
 use Rattle.ild_schema.specs.declared.row.Row.{Row}
-use Rattle.ild_struct.specs.Source.{text_entries}
+use Rattle.ild_fields.specs.Entries.{text_entries}
 use Rattle.ild_struct.proofs.Splitting.{split_there}
 use Rattle.ild_typed.specs.Causes.{why_of}
 use Rattle.ild_typed.specs.Cuts as Cuts

@@ -8,7 +8,7 @@ ghost use Rattle.ild_schema.specs.declared.row.Row.{Row};
 ghost use Rattle.ild_enum.specs.Forms.{IsEnumType, IsUnitType};
 ghost use Rattle.ild_walk.specs.Inside.{OpensMany};
 ghost use Rattle.ild_walk.specs.Opens.{IsOpening, Opens};
-ghost use Rattle.ild_struct.specs.Told.{scalar_kind};
+ghost use Rattle.ild_fields.specs.Told.{scalar_kind};
 
 use crate::opening::{Opening, Stop};
 use ild_cbor::{Kind, Piece, Why};

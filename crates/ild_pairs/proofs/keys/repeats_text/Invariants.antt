@@ -1,5 +1,5 @@
 use Rattle.std.proofs.Common.{length}
-use Rattle.ild_struct.specs.Source.{text_entries}
+use Rattle.ild_fields.specs.Entries.{text_entries}
 use Rattle.ild_text.specs.Parts.{pairs_in}
 use Rattle.ild_typed.specs.Named.{names}
 use Rattle.ild_pairs.proofs.Meeting.{Meeting}

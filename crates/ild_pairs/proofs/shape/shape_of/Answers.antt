@@ -1,4 +1,4 @@
-use Rattle.ild_struct.proofs.Pairing.{pair_alone, pair_whole, pair_long}
+use Rattle.ild_fields.proofs.Pairing.{pair_alone, pair_whole, pair_long}
 use Rattle.ild_pairs.proofs.Judging.{empty_list}
 use Rattle.ild_pairs.proofs.shape.shape_of.Goals as goal
 

@@ -3,7 +3,7 @@ use Rattle.ild_cbor.specs.declared.kind.Kind.TheVariants as K
 use Rattle.ild_schema.specs.declared.def.TypeDef.TheVariants as D
 use Rattle.ild_schema.specs.declared.row.Row.{Row}
 use Rattle.ild_typed.specs.Schema.{IsSchema}
-use Rattle.ild_struct.specs.Told.{scalar_kind}
+use Rattle.ild_fields.specs.Told.{scalar_kind}
 use Rattle.ild_parts.proofs.Scalars.{type_is}
 use Rattle.ild_parts.proofs.Passing.{kind_fits}
 use Rattle.ild_parts.proofs.leaf.leaf_kind.Goals as goal

@@ -1,4 +1,4 @@
-use Rattle.ild_struct.proofs.Pairing.{pair_whole}
+use Rattle.ild_fields.proofs.Pairing.{pair_whole}
 use Rattle.ild_read.proofs.pair.pair_of.Goals as goal
 
 pub returns-in-None : goal.returns-in-None

@@ -29,7 +29,7 @@ use Rattle.ild_read.proofs.Mapping.{Mapping, entries_there, mapping_begins, mapp
 use Rattle.std.proofs.lemmas.Option.{same_Some}
 use Rattle.ild_held.specs.Splits.{HasFront}
 use Rattle.ild_schema.specs.Fitting.{ImplicitFits}
-use Rattle.ild_struct.proofs.Placing.{all_at}
+use Rattle.ild_fields.proofs.Placing.{all_at}
 use Rattle.ild_read.proofs.Fielding.{Fielding, field_done, fielding_begins, fielding_ends, fielding_goes, fielding_stops, fielding_wants}
 use Rattle.ild_read.proofs.Forming.{listpairs_is, map_is, struct_many}
 use Rattle.ild_read.proofs.Handing.{field_at, implicit_part, member_same, null_part, parts_same}

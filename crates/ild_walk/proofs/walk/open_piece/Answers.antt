@@ -5,7 +5,7 @@ use Rattle.ild_schema.specs.declared.def.MapForm.{MapForm}
 use Rattle.ild_schema.specs.declared.def.MapForm.TheVariants as MF
 use Rattle.ild_piece.proofs.Stand.{piece_rises}
 use Rattle.ild_walk.specs.Opens.{Opens}
-use Rattle.ild_struct.specs.Told.{scalar_kind}
+use Rattle.ild_fields.specs.Told.{scalar_kind}
 use Rattle.ild_walk.proofs.Finding.{map_low, pairs_given}
 use Rattle.ild_parts.proofs.Scalars.{type_is}
 use Rattle.ild_walk.proofs.Inside.{no_inline, opens_inside}
