@@ -17,8 +17,8 @@ use Rattle.ild_trie.proofs.Slots.{some_cons}
 use Rattle.ild_trie.proofs.Node.{node-slots, no_node as none_left}
 use Rattle.ild_typed.specs.Composed.{usual}
 use Rattle.ild_node.specs.declared.hold.NewHold.TheVariants as N
-use Rattle.ild_node.specs.declared.fault.HamtFault.{HamtFault}
-use Rattle.ild_node.specs.declared.fault.HamtFault.TheVariants as F
+use Rattle.ild_slots.specs.declared.fault.HamtFault.{HamtFault}
+use Rattle.ild_slots.specs.declared.fault.HamtFault.TheVariants as F
 use Rattle.ild_node.specs.declared.hashed.HashedEntry.{HashedEntry}
 use Rattle.ild_node.specs.Hashed.{AreHashed}
 use Rattle.ild_node.specs.Rows.{AreRows}

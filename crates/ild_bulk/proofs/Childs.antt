@@ -13,7 +13,7 @@ use Rattle.ild_trie.proofs.Slots.{all_some-cons}
 use Rattle.ild_typed.proofs.TrieTells.{SlotWay, nothing, few, many, slot_way}
 use Rattle.ild_edges.specs.Store.{Moment, block_at}
 use Rattle.ild_edges.specs.Told.{BothTold}
-use Rattle.ild_node.specs.declared.fault.HamtFault.{HamtFault}
+use Rattle.ild_slots.specs.declared.fault.HamtFault.{HamtFault}
 use Rattle.ild_bulk.specs.Children.{IsIdAmong, ChildIn, IsNodeOver, Follows, AddsWhole}
 use Rattle.ild_bulk.specs.Planned.{planned, slot_plan}
 use Rattle.ild_bulk.specs.Putting.{AreHeld, IsAmong, PutsAll, StopsAfter}

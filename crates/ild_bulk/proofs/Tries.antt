@@ -19,8 +19,8 @@ use Rattle.ild_typed.proofs.NodeEntries.{less, true_of}
 use Rattle.ild_bulk.specs.Planned.{PlansNode, planned}
 use Rattle.ild_bulk.specs.Build.{plan_of, HasTrie, HasShortTrie, HasLongTrie, Stops, Builds, any_long, is_long}
 use Rattle.ild_bulk.specs.Putting.{PutsAll}
-use Rattle.ild_node.specs.declared.fault.HamtFault.{HamtFault}
-use Rattle.ild_node.specs.declared.fault.HamtFault.TheVariants as F
+use Rattle.ild_slots.specs.declared.fault.HamtFault.{HamtFault}
+use Rattle.ild_slots.specs.declared.fault.HamtFault.TheVariants as F
 use Rattle.ild_node.specs.declared.keyed.Keyed.{Keyed}
 use Rattle.ild_bulk.specs.Keyed.{AreKeyed}
 use Rattle.ild_node.specs.Keyed.{keyed_rows, keyed_seen}

@@ -18,10 +18,10 @@ use Rattle.ild_typed.specs.Nested.{TreeIn}
 use Rattle.ild_typed.proofs.Treed.{EntryIn}
 use Rattle.ild_typed.proofs.TreeNodes.{part_in}
 use Rattle.ild_node.proofs.Placing.{all-put}
-use Rattle.ild_node.specs.Views.{HasSlots}
-use Rattle.ild_node.specs.declared.view.NodeView.{NodeView}
-use Rattle.ild_node.specs.declared.fault.HamtFault.{HamtFault}
-use Rattle.ild_node.specs.declared.fault.HamtFault.TheVariants as F
+use Rattle.ild_slots.specs.Views.{HasSlots}
+use Rattle.ild_slots.specs.declared.view.NodeView.{NodeView}
+use Rattle.ild_slots.specs.declared.fault.HamtFault.{HamtFault}
+use Rattle.ild_slots.specs.declared.fault.HamtFault.TheVariants as F
 use Rattle.ild_bulk.specs.Build.{any_long}
 use Rattle.ild_bulk.specs.Children.{AddsWhole}
 use Rattle.ild_bulk.specs.Putting.{AddsOnly, AreHeld, PutsAll, StopsAfter}

@@ -19,11 +19,11 @@ use Rattle.ild_trie.proofs.Fold.{slot-few}
 use Rattle.std.proofs.lemmas.Option.{same_Some}
 use Rattle.ild_data.specs.declared.id.BlockId.{BlockId}
 use Rattle.ild_cbor.specs.declared.node.Node.{Node}
-use Rattle.ild_node.specs.declared.view.NodeView.{NodeView}
-use Rattle.ild_node.specs.declared.view.NodeSlot.{NodeSlot}
-use Rattle.ild_node.specs.declared.view.NodeSlot.TheVariants as S
-use Rattle.ild_node.specs.declared.bucket.Bucket.{Bucket}
-use Rattle.ild_node.specs.Views.{HasSlots, HasEntries, ValueIn, bucket_node}
+use Rattle.ild_slots.specs.declared.view.NodeView.{NodeView}
+use Rattle.ild_slots.specs.declared.view.NodeSlot.{NodeSlot}
+use Rattle.ild_slots.specs.declared.view.NodeSlot.TheVariants as S
+use Rattle.ild_slots.specs.declared.bucket.Bucket.{Bucket}
+use Rattle.ild_slots.specs.Views.{HasSlots, HasEntries, ValueIn, bucket_node}
 use Rattle.ild_hamt.proofs.Shown.{value-found}
 use Rattle.ild_hamt.specs.declared.trail.Trail.{Trail}
 use Rattle.ild_typed.specs.Composed.{usual}

@@ -17,16 +17,16 @@ use Rattle.ild_trie.proofs.Way.{way-ends, along-more}
 use Rattle.ild_trie.proofs.Node.{slot-held, few-held}
 use Rattle.ild_cbor.specs.declared.why.Why.TheVariants.{Trie}
 use Rattle.ild_data.specs.declared.id.BlockId.{BlockId}
-use Rattle.ild_node.specs.Views.{HasSlots}
-use Rattle.ild_node.specs.declared.view.NodeView.{NodeView}
-use Rattle.ild_node.specs.declared.view.NodeSlot.{NodeSlot}
+use Rattle.ild_slots.specs.Views.{HasSlots}
+use Rattle.ild_slots.specs.declared.view.NodeView.{NodeView}
+use Rattle.ild_slots.specs.declared.view.NodeSlot.{NodeSlot}
 use Rattle.ild_typed.specs.Composed.{usual}
 use Rattle.ild_hamt.specs.Seen.{Shows}
 use Rattle.ild_hamt.specs.Ends.{EndsAt, hashes_of, is_full}
 use Rattle.ild_cbor.specs.declared.why.BlockWhy.{BlockWhy}
 use Rattle.ild_cbor.specs.declared.why.BlockWhy.TheVariants.{Missing, Cbor, Shape as NoNode}
-use Rattle.ild_node.specs.declared.fault.HamtFault.{HamtFault}
-use Rattle.ild_node.specs.declared.fault.HamtFault.TheVariants.{Exhausted, Block, Store, Clash, Size, NoKey, Memory}
+use Rattle.ild_slots.specs.declared.fault.HamtFault.{HamtFault}
+use Rattle.ild_slots.specs.declared.fault.HamtFault.TheVariants.{Exhausted, Block, Store, Clash, Size, NoKey, Memory}
 use Rattle.ild_hamt.specs.declared.trail.Trail.{Trail}
 use Rattle.ild_hamt.specs.Fetching.{Fetches, BlockCause, IsBlockAt}
 use Rattle.ild_bulk.specs.Putting.{AreHeld}

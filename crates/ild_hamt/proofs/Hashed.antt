@@ -16,10 +16,10 @@ use Rattle.ild_node.specs.Keyed.{keyed_rows, keyed_seen}
 use Rattle.ild_node.specs.Rows.{row_seen, rows_seen}
 use Rattle.ild_data.specs.Trie.{TrieSlot, empty, bucket, child, bucket_entries}
 use Rattle.ild_data.specs.declared.id.BlockId.{BlockId}
-use Rattle.ild_node.specs.Views.{EntryIs, HasEntries, ValueIn, bucket_node}
-use Rattle.ild_node.specs.declared.view.NodeSlot.TheVariants as S
+use Rattle.ild_slots.specs.Views.{EntryIs, HasEntries, ValueIn, bucket_node}
+use Rattle.ild_slots.specs.declared.view.NodeSlot.TheVariants as S
 use Rattle.ild_hamt.specs.Seen.{Shows}
-use Rattle.ild_node.specs.declared.bucket.Bucket.{Bucket}
+use Rattle.ild_slots.specs.declared.bucket.Bucket.{Bucket}
 use Rattle.ild_node.specs.declared.keyed.Keyed.{Keyed}
 use Rattle.ild_node.specs.declared.row.Row.{Row}
 use Rattle.ild_hamt.specs.Ends.{agree, agreeing, agreeing_hashes, hashes_of, is_full}

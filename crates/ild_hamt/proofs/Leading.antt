@@ -14,7 +14,7 @@ use Rattle.ild_trie.proofs.Bits.{same_node}
 use Rattle.ild_trie.proofs.Slots.{all_some-length}
 use Rattle.ild_trie.proofs.Node.{slot-child, slots-node, no_node}
 use Rattle.ild_trie.proofs.Way.{way-child}
-use Rattle.ild_node.proofs.Fits.{whole_map}
+use Rattle.ild_slots.proofs.Fits.{whole_map}
 use Rattle.ild_hamt.specs.Ends.{EndsAt}
 use Rattle.ild_bulk.specs.Putting.{AreHeld}
 use Rattle.ild_walker.specs.Gives.{IsNodeOf}

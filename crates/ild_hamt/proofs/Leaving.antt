@@ -21,12 +21,12 @@ use Rattle.ild_bulk.specs.Build.{is_long, any_long}
 use Rattle.ild_bulk.specs.Planned.{PlansSlot, planned, slot_plan}
 use Rattle.ild_bulk.specs.Putting.{PutsAll}
 use Rattle.ild_node.specs.NewSlots.{slot_seen}
-use Rattle.ild_node.specs.Views.{HasEntries, ValueIn, bucket_node}
-use Rattle.ild_node.specs.declared.bucket.Bucket.{Bucket}
+use Rattle.ild_slots.specs.Views.{HasEntries, ValueIn, bucket_node}
+use Rattle.ild_slots.specs.declared.bucket.Bucket.{Bucket}
 use Rattle.ild_node.specs.declared.hold.NewHold.{NewHold}
-use Rattle.ild_node.specs.declared.view.NodeSlot.TheVariants as S
-use Rattle.ild_node.specs.declared.fault.HamtFault.{HamtFault}
-use Rattle.ild_node.specs.declared.fault.HamtFault.TheVariants as F
+use Rattle.ild_slots.specs.declared.view.NodeSlot.TheVariants as S
+use Rattle.ild_slots.specs.declared.fault.HamtFault.{HamtFault}
+use Rattle.ild_slots.specs.declared.fault.HamtFault.TheVariants as F
 use Rattle.ild_hamt.specs.Descending.{IsTrailOf, trail_blocks}
 use Rattle.ild_hamt.specs.Ends.{hashes_of}
 use Rattle.ild_hamt.proofs.Hashed.{others-put}

@@ -12,13 +12,13 @@ use Rattle.ild_cbor.specs.declared.node.Node.{Node}
 use Rattle.ild_cbor.proofs.Blocks.{one_tree_lem}
 use Rattle.ild_typed.specs.Composed.{usual}
 use Rattle.ild_typed.specs.Nested.{TreeIn}
-use Rattle.ild_node.specs.Form.{bucket_data}
+use Rattle.ild_slots.specs.Form.{bucket_data}
 use Rattle.ild_node.specs.Rows.{AreShallow, deepest_value}
-use Rattle.ild_node.specs.Views.{HasSlots, EntryIs, SlotIs}
-use Rattle.ild_node.specs.declared.bucket.Bucket.{Bucket}
-use Rattle.ild_node.specs.declared.view.NodeView.{NodeView}
-use Rattle.ild_node.specs.declared.view.NodeSlot.{NodeSlot}
-use Rattle.ild_node.specs.declared.view.NodeSlot.TheVariants as S
+use Rattle.ild_slots.specs.Views.{HasSlots, EntryIs, SlotIs}
+use Rattle.ild_slots.specs.declared.bucket.Bucket.{Bucket}
+use Rattle.ild_slots.specs.declared.view.NodeView.{NodeView}
+use Rattle.ild_slots.specs.declared.view.NodeSlot.{NodeSlot}
+use Rattle.ild_slots.specs.declared.view.NodeSlot.TheVariants as S
 use Rattle.ild_hamt.specs.Known.{SomeBucket, SomeSlot}
 use Rattle.ild_hamt.specs.Seen.{Shows}
 use Rattle.ild_hamt.proofs.Shown.{slot-shows}

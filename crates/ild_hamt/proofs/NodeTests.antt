@@ -11,10 +11,10 @@ use Rattle.ild_cbor.specs.declared.fault.CborFault.{CborFault}
 use Rattle.ild_typed.specs.Composed.{usual}
 use Rattle.ild_typed.specs.NodeReading.{node_fits}
 use Rattle.ild_typed.proofs.NodeRoots.{node-read, node-taken}
-use Rattle.ild_node.specs.Spelled.{tree_in}
-use Rattle.ild_node.proofs.Trees.{faultless, spelled-value, spelling-of}
-use Rattle.ild_node.specs.Views.{HasSlots}
-use Rattle.ild_node.specs.declared.view.NodeView.{NodeView}
+use Rattle.ild_slots.specs.Spelled.{tree_in}
+use Rattle.ild_slots.proofs.Trees.{faultless, spelled-value, spelling-of}
+use Rattle.ild_slots.specs.Views.{HasSlots}
+use Rattle.ild_slots.specs.declared.view.NodeView.{NodeView}
 use Rattle.ild_hamt.specs.Fetching.{IsNodeBlock}
 use Rattle.ild_hamt.specs.Known.{SomeNode}
 use Rattle.ild_hamt.specs.NodeBytes.{is_node_bytes}

@@ -4,8 +4,8 @@ use Rattle.std.specs.Prelude.{T, nat_lt, slice_get, OnOk, Result}
 use Rattle.std.specs.Borrow.{Bor}
 use Rattle.ild_cbor.specs.Nodes.{Stands}
 use Rattle.ild_cbor.specs.declared.node.Node.{Node}
-use Rattle.ild_node.specs.Views.{EntryIs}
-use Rattle.ild_node.specs.declared.bucket.Bucket.{Bucket}
+use Rattle.ild_slots.specs.Views.{EntryIs}
+use Rattle.ild_slots.specs.declared.bucket.Bucket.{Bucket}
 use Rattle.ild_hamt.proofs.Differing.{other-key}
 use Rattle.std.specs.Ordering.{eq_by_cmp, is_lt, is_eq}
 use Rattle.std.specs.declared.cmp.Ordering.{Ordering}

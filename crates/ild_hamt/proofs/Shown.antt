@@ -3,12 +3,12 @@ use Rattle.std.proofs.Common.{◌≡◌, ℕ, List, get_or, Option, Some, None, 
 use Rattle.ild_data.specs.Data.{Data}
 use Rattle.ild_data.specs.declared.id.BlockId.{BlockId}
 use Rattle.ild_cbor.specs.declared.node.Node.{Node}
-use Rattle.ild_node.specs.declared.bucket.Bucket.{Bucket}
+use Rattle.ild_slots.specs.declared.bucket.Bucket.{Bucket}
 use Rattle.ild_data.specs.Trie.{TrieSlot, empty, bucket, child}
-use Rattle.ild_node.specs.Views.{SlotIs, SlotHolds, ValueIn}
-use Rattle.ild_node.specs.declared.view.NodeView.{NodeView}
-use Rattle.ild_node.specs.declared.view.NodeSlot.{NodeSlot}
-use Rattle.ild_node.specs.declared.view.NodeSlot.TheVariants as S
+use Rattle.ild_slots.specs.Views.{SlotIs, SlotHolds, ValueIn}
+use Rattle.ild_slots.specs.declared.view.NodeView.{NodeView}
+use Rattle.ild_slots.specs.declared.view.NodeSlot.{NodeSlot}
+use Rattle.ild_slots.specs.declared.view.NodeSlot.TheVariants as S
 use Rattle.ild_hamt.specs.Seen.{Shows, ValueIs}
 use Rattle.ild_hamt.specs.Way.{child_id}
 

@@ -5,13 +5,13 @@ use Rattle.ild_data.specs.Data.{Data}
 use Rattle.ild_data.specs.Trie.{TrieSlot}
 use Rattle.ild_typed.specs.Composed.{usual}
 use Rattle.ild_node.specs.Rows.{AreShallow}
-use Rattle.ild_node.specs.Steps.{IsAtSlot}
-use Rattle.ild_node.specs.Views.{HasSlots, HasEntries}
-use Rattle.ild_node.specs.declared.bucket.Bucket.{Bucket}
-use Rattle.ild_node.specs.declared.slots.Slots.{Slots}
-use Rattle.ild_node.specs.declared.view.NodeView.{NodeView}
-use Rattle.ild_node.specs.declared.view.NodeSlot.{NodeSlot}
-use Rattle.ild_node.specs.declared.view.NodeSlot.TheVariants as S
+use Rattle.ild_slots.specs.Steps.{IsAtSlot}
+use Rattle.ild_slots.specs.Views.{HasSlots, HasEntries}
+use Rattle.ild_slots.specs.declared.bucket.Bucket.{Bucket}
+use Rattle.ild_slots.specs.declared.slots.Slots.{Slots}
+use Rattle.ild_slots.specs.declared.view.NodeView.{NodeView}
+use Rattle.ild_slots.specs.declared.view.NodeSlot.{NodeSlot}
+use Rattle.ild_slots.specs.declared.view.NodeSlot.TheVariants as S
 
 -- the view of a node
 pub record SomeNode (v : NodeView) : Type 0 where

@@ -6,8 +6,8 @@ use Rattle.ild_data.specs.Data.{Data}
 use Rattle.ild_data.specs.TrieShape.{TrieShape}
 use Rattle.ild_data.specs.ByteOrder.{bytewise, without}
 use Rattle.ild_edges.specs.Store.{Moment}
-use Rattle.ild_node.specs.declared.fault.HamtFault.{HamtFault}
-use Rattle.ild_node.specs.declared.fault.HamtFault.TheVariants.{NoKey}
+use Rattle.ild_slots.specs.declared.fault.HamtFault.{HamtFault}
+use Rattle.ild_slots.specs.declared.fault.HamtFault.TheVariants.{NoKey}
 use Rattle.ild_hamt.specs.Rewriting.{Rewrites}
 
 -- the key isn't there, and nothing is done; or the root of the trie without it, and the nodes on its way put, or why not

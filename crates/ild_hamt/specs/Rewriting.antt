@@ -16,10 +16,10 @@ use Rattle.ild_hamt.specs.declared.trail.Trail.{Trail}
 use Rattle.ild_bulk.specs.Build.{any_long}
 use Rattle.ild_bulk.specs.Children.{AddsWhole}
 use Rattle.ild_bulk.specs.Putting.{AddsOnly, PutsAll}
-use Rattle.ild_node.specs.Views.{HasSlots}
-use Rattle.ild_node.specs.declared.view.NodeView.{NodeView}
-use Rattle.ild_node.specs.declared.fault.HamtFault.{HamtFault}
-use Rattle.ild_node.specs.declared.fault.HamtFault.TheVariants.{Exhausted, Size, NoKey, Memory}
+use Rattle.ild_slots.specs.Views.{HasSlots}
+use Rattle.ild_slots.specs.declared.view.NodeView.{NodeView}
+use Rattle.ild_slots.specs.declared.fault.HamtFault.{HamtFault}
+use Rattle.ild_slots.specs.declared.fault.HamtFault.TheVariants.{Exhausted, Size, NoKey, Memory}
 
 -- the trail is the way of a key from this root, through the trie of these entries
 pub record IsTrailFrom (root : NodeView) (t : Trail) (h : List ℕ → List ℕ) (k : List ℕ) (slots : List TrieSlot) (es : List (List ℕ × Data)) : Type 0 where

@@ -4,9 +4,9 @@ use Rattle.ild_data.specs.Data.{Data}
 use Rattle.ild_data.specs.Trie.{TrieSlot, empty, bucket, child}
 use Rattle.ild_cbor.specs.Nodes.{Stands}
 use Rattle.ild_cbor.specs.declared.node.Node.{Node}
-use Rattle.ild_node.specs.Views.{HasEntries}
-use Rattle.ild_node.specs.declared.view.NodeSlot.{NodeSlot}
-use Rattle.ild_node.specs.declared.view.NodeSlot.TheVariants as S
+use Rattle.ild_slots.specs.Views.{HasEntries}
+use Rattle.ild_slots.specs.declared.view.NodeSlot.{NodeSlot}
+use Rattle.ild_slots.specs.declared.view.NodeSlot.TheVariants as S
 
 -- a node for data, or neither
 abbrev pub ValueIs : Option Data → Option Node → Type 0

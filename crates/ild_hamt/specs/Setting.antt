@@ -5,7 +5,7 @@ use Rattle.ild_data.specs.Data.{Data}
 use Rattle.ild_data.specs.TrieShape.{TrieShape}
 use Rattle.ild_data.specs.ByteOrder.{bytewise}
 use Rattle.ild_edges.specs.Store.{Moment}
-use Rattle.ild_node.specs.declared.fault.HamtFault.{HamtFault}
+use Rattle.ild_slots.specs.declared.fault.HamtFault.{HamtFault}
 use Rattle.ild_hamt.specs.Rewriting.{Rewrites}
 
 -- the root of the trie with the pair, and the nodes on the key's way in it put; or why not

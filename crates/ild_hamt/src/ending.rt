@@ -5,7 +5,7 @@ ghost use Rattle.ild_data.specs.ByteOrder.{bytewise, without};
 ghost use Rattle.ild_data.specs.Trie.{TrieSlot, bucket_entries};
 ghost use Rattle.ild_data.specs.TrieShape.{trie_levels, index};
 ghost use Rattle.ild_typed.specs.Composed.{usual};
-ghost use Rattle.ild_node.specs.Views.{HasSlots};
+ghost use Rattle.ild_slots.specs.Views.{HasSlots};
 ghost use Rattle.ild_hamt.specs.NodeBytes.{IsNodeBytes};
 ghost use Rattle.ild_hamt.specs.Seen.{Shows};
 ghost use Rattle.ild_hamt.specs.Way.{slot_for};

@@ -7,7 +7,7 @@ ghost use Rattle.ild_data.specs.TrieShape.{index, trie_levels};
 ghost use Rattle.ild_trie.specs.Collapse.{sized};
 ghost use Rattle.ild_typed.specs.Composed.{usual};
 ghost use Rattle.ild_node.specs.NewSlots.{IsFilledSlot, slot_seen};
-ghost use Rattle.ild_node.specs.Views.{HasSlots};
+ghost use Rattle.ild_slots.specs.Views.{HasSlots};
 ghost use Rattle.ild_hamt.specs.Known.{SomeNode};
 ghost use Rattle.ild_hamt.specs.NodeBytes.{IsNodeBytes};
 ghost use Rattle.ild_hamt.specs.Rewriting.{ClimbState, DiffersAt, HasRoot, Lifts, way_up};

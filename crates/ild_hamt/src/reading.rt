@@ -2,7 +2,7 @@
 ghost use Rattle.std.specs.Prelude.{List, IsSome, IfSome};
 ghost use Rattle.ild_data.specs.Trie.{TrieSlot};
 ghost use Rattle.ild_typed.specs.Composed.{usual};
-ghost use Rattle.ild_node.specs.Views.{HasSlots};
+ghost use Rattle.ild_slots.specs.Views.{HasSlots};
 ghost use Rattle.ild_hamt.specs.Fetching.{Judges};
 ghost use Rattle.ild_hamt.specs.Known.{SomeNode};
 ghost use Rattle.ild_hamt.specs.NodeBytes.{IsNodeBytes};

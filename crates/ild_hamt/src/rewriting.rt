@@ -6,7 +6,7 @@ ghost use Rattle.ild_data.specs.Trie.{TrieSlot};
 ghost use Rattle.ild_data.specs.TrieShape.{trie_levels};
 ghost use Rattle.ild_typed.specs.Composed.{usual};
 ghost use Rattle.ild_node.specs.NewSlots.{IsFilledSlot, slot_seen};
-ghost use Rattle.ild_node.specs.Views.{HasSlots};
+ghost use Rattle.ild_slots.specs.Views.{HasSlots};
 ghost use Rattle.ild_bulk.specs.Planned.{PlansSlot};
 ghost use Rattle.ild_hamt.specs.Descending.{trail_blocks};
 ghost use Rattle.ild_hamt.specs.Ends.{EndsAt, hashes_of};

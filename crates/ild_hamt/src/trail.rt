@@ -36,7 +36,7 @@ impl Trail {
     ghost use Rattle.ild_typed.specs.Composed.{usual};
     ghost use Rattle.ild_cbor.specs.Nodes.{Stands};
     ghost use Rattle.ild_node.specs.Rows.{NestsIn, deepest_value};
-    ghost use Rattle.ild_node.specs.Views.{HasSlots};
+    ghost use Rattle.ild_slots.specs.Views.{HasSlots};
     ghost use Rattle.ild_hamt.specs.Descending.{IsTrailOf, trail_blocks};
     ghost use Rattle.ild_hamt.specs.Removing.{Removes, RestIs};
     ghost use Rattle.ild_edges.specs.Told.{BothTold};

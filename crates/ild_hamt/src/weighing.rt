@@ -4,9 +4,9 @@ ghost use Rattle.ild_data.specs.Data.{Data};
 ghost use Rattle.ild_data.specs.Trie.{TrieSlot, empty, slots_at};
 ghost use Rattle.ild_typed.specs.Composed.{usual};
 ghost use Rattle.ild_node.specs.NewSlots.{slot_seen};
-ghost use Rattle.ild_node.specs.Steps.{IsAtSlot};
-ghost use Rattle.ild_node.specs.Views.{HasSlots};
-ghost use Rattle.ild_node.specs.declared.view.NodeView.{NodeView};
+ghost use Rattle.ild_slots.specs.Steps.{IsAtSlot};
+ghost use Rattle.ild_slots.specs.Views.{HasSlots};
+ghost use Rattle.ild_slots.specs.declared.view.NodeView.{NodeView};
 ghost use Rattle.ild_hamt.specs.Gathering.{weight};
 ghost use Rattle.ild_hamt.specs.Seen.{Shows};
 

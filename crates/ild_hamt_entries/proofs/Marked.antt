@@ -17,7 +17,7 @@ use Rattle.ild_data.specs.Spell.{head, spell, spell_bytes, spell_text}
 use Rattle.ild_data.proofs.Apart.{one_meaning}
 use Rattle.ild_emit.proofs.Growing.{appended}
 use Rattle.ild_emit.specs.Grown.{IsGrown}
-use Rattle.ild_node.specs.Form.{AreTexts}
+use Rattle.ild_slots.specs.Form.{AreTexts}
 use Rattle.ild_node.specs.Rows.{AreRows, AreShallow, deepest_value}
 use Rattle.ild_node.proofs.Writing.{root-done}
 use Rattle.ild_trie.proofs.Pairs.{find-permutation, in_order-from_sort, sorted-permutation}

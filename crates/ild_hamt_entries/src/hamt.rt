@@ -7,7 +7,7 @@ ghost use Rattle.ild_data.specs.ByteOrder.{bytewise, no_key_twice};
 ghost use Rattle.ild_data.specs.Data.{Data};
 ghost use Rattle.ild_data.specs.Spell.{spell};
 ghost use Rattle.ild_emit.specs.Grown.{IsGrown};
-ghost use Rattle.ild_node.specs.Form.{AreTexts};
+ghost use Rattle.ild_slots.specs.Form.{AreTexts};
 ghost use Rattle.ild_node.specs.Rows.{AreShallow, deepest_value};
 ghost use Rattle.ild_typed.specs.Composed.{usual};
 ghost use Rattle.ild_typed.specs.Hamt.{root_map};

@@ -1,26 +1,21 @@
 -- The steps of writing a node with another slot.
-use Rattle.std.proofs.Common.{◌≡◌, ◌≢◌, ℕ, ◌+◌, ◌%◌, ◌<◌, ◌≤◌, Bool, List, [], ◌∷◌, ◌++◌, length, map, take, set, get_or, sym, ap, ◌∙◌, arith}
+use Rattle.std.proofs.Common.{◌≡◌, ◌≢◌, ℕ, ◌+◌, ◌<◌, ◌≤◌, Bool, List, [], ◌∷◌, ◌++◌, length, map, take, set, get_or, sym, ap, ◌∙◌, arith}
 use Rattle.std.specs.Prelude.{Option, Some, None, is_some}
 use Rattle.std.proofs.lemmas.List.{take_more, take_all, length-map, length-set, get_or-map, get_or-set_same, get_or-set_other}
 use Rattle.ild_data.specs.Trie.{TrieSlot, empty, is_used}
 use Rattle.ild_typed.specs.Composed.{usual}
-use Rattle.ild_typed.specs.NodeReading.{map_bit}
-use Rattle.ild_typed.proofs.NodeMaps.{bit-read}
 use Rattle.ild_node.specs.NewSlots.{slot_seen}
 use Rattle.ild_node.specs.declared.hold.NewHold.{NewHold}
 use Rattle.ild_node.specs.declared.hold.NewHold.TheVariants as N
-use Rattle.ild_node.specs.Views.{HasSlots}
-use Rattle.ild_node.specs.declared.view.NodeView.{NodeView}
+use Rattle.ild_slots.specs.Views.{HasSlots}
+use Rattle.ild_slots.specs.declared.view.NodeView.{NodeView}
 
 pub on-here : (slots : List TrieSlot) (i j : ℕ) (s : TrieSlot) (on : Bool) → j ≡ i → j < length slots → on ≡ is_used s → on ≡ is_used (get_or (set slots i s) j empty)
 on-here slots i j s on same lt is =
     is ∙ ap is_used (sym (ap (λ n. get_or (set slots i s) n empty) same ∙ get_or-set_same slots i s empty (let e : i < length slots = omega (arith, same, lt) in e)))
 
-pub on-there : (v : NodeView) (slots : List TrieSlot) (i j : ℕ) (s : TrieSlot) (b : Bool) → HasSlots usual v slots → j ≢ i → j < length slots → b ≡ map_bit v.map.now j
-    → b ≡ is_used (get_or (set slots i s) j empty)
-on-there v slots i j s b has apart lt is =
-    let whole : length slots % 8 ≡ 0 = ap (λ n. n % 8) has.form.many in
-    is ∙ ap (λ m. map_bit m j) has.map ∙ bit-read slots j whole lt ∙ ap is_used (sym (get_or-set_other slots i j s empty apart))
+pub on-there : (slots : List TrieSlot) (i j : ℕ) (s : TrieSlot) (b : Bool) → j ≢ i → b ≡ is_used (get_or slots j empty) → b ≡ is_used (get_or (set slots i s) j empty)
+on-there slots i j s b apart is = is ∙ ap is_used (sym (get_or-set_other slots i j s empty apart))
 
 pub long-set : (v : NodeView) (slots : List TrieSlot) (i : ℕ) (s : TrieSlot) → HasSlots usual v slots → length (set slots i s) ≡ 256
 long-set v slots i s has = length-set slots i s ∙ has.form.many

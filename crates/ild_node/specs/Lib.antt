@@ -1,16 +1,6 @@
-pub mod Form
-pub mod Places
-pub mod Reading
-pub mod Parts
-pub mod Told
-pub mod Items
-pub mod Views
-pub mod Steps
-pub mod Spelled
 pub mod Rows
 pub mod Keyed
 pub mod NewSlots
-pub mod Roots
 pub mod Written
 pub mod Hashed
 pub mod Drafts

@@ -1,19 +1,15 @@
 //! Writing a node of which one slot is exchanged: the elements of the others are copied as they are spelled, in two pieces.
-ghost use Rattle.std.specs.Prelude.{◌≡◌, ◌<◌, suc, List, length, map, take, drop, slice_set, slice_index_or, IfOk};
-ghost use Rattle.std.specs.List.{flat_map};
+ghost use Rattle.std.specs.Prelude.{◌≡◌, ◌<◌, List, length, map, slice_set, slice_index_or, IfOk};
 ghost use Rattle.ild_data.specs.Spell.{spell};
-ghost use Rattle.ild_data.specs.Trie.{TrieSlot, empty, is_used, elements_of, node_data};
+ghost use Rattle.ild_data.specs.Trie.{TrieSlot, empty, is_used, node_data};
 ghost use Rattle.ild_typed.specs.Composed.{usual};
+ghost use Rattle.ild_slots.specs.Views.{HasSlots};
 ghost use Rattle.ild_node.specs.NewSlots.{IsFilledSlot, slot_seen};
-ghost use Rattle.ild_node.specs.Views.{HasSlots};
-ghost use Rattle.ild_node.specs.Written.{spelled};
 
 use crate::hold::NewHold;
-use crate::parts::{map_bit, ones_below};
-use crate::slots::MOST_SLOTS;
-use crate::view::NodeView;
-use crate::write::{add_slot, begin, bit, count_of};
+use crate::write::{add_slot, begin, count_of};
 use ild_data::Octets;
+use ild_slots::{NodeView, SLOTS};
 use std::alloc::{AllocError, Global};
 
 // Whether a slot is used, where slot i is exchanged for one that is used or not.
@@ -23,7 +19,7 @@ fn is_on(view: NodeView<'_>, j: usize, i: u8, on: bool) -> bool
     if j == i as usize {
         return on;
     }
-    map_bit(view.map, j)
+    view.is_used(j)
 }
 
 // Which slots are used then.
@@ -31,19 +27,10 @@ fn used_after(alloc: Global, view: NodeView<'_>, i: u8, on: bool) -> Result<Vec<
     ensures { (slots : List TrieSlot) (s : TrieSlot) → HasSlots usual view.entry slots → on ≡ is_used s → IfOk result (λ u. u.items ≡ map is_used (slice_set slots i s)) }
 {
     let mut used = Vec::new(alloc);
-    for j in 0..MOST_SLOTS {
+    for j in 0..SLOTS {
         used.push(is_on(view, j, i, on))?;
     }
     Ok(used)
-}
-
-// The elements before slot i and those behind its own, as they are spelled.
-fn around(view: NodeView<'_>, i: u8) -> (&[u8], &[u8])
-    ensures { (slots : List TrieSlot) → HasSlots usual view.entry slots → (result.0.now ≡ spelled (flat_map elements_of (take i slots))) × (result.1.now ≡ spelled (flat_map elements_of (drop (suc i) slots))) }
-{
-    let own = bit(map_bit(view.map, i as usize));
-    view.data
-        .items_around(ones_below(view.map, i as usize), own as u64)
 }
 
 /// The block of a node with another slot at an index. A bucket there has from 1 to 3 entries. The elements of the other slots are
@@ -59,7 +46,7 @@ pub fn write_changed(
 {
     let used = used_after(alloc, view, i, slot.is_some())?;
     let mut out = begin(alloc, &used, count_of(&used))?;
-    let (front, back) = around(view, i);
+    let (front, back) = view.around(i);
     out.spelled(front)?;
     add_slot(&mut out, slot)?;
     out.spelled(back)?;

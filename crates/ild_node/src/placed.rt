@@ -8,9 +8,9 @@ ghost use Rattle.ild_node.specs.Rows.{rows_seen, row_seen};
 
 use crate::row::Row;
 use crate::rows::Rows;
-use crate::spelled::Spelled;
 use ild_cbor::Node;
 use ild_data::Txt;
+use ild_slots::Spelled;
 use std::alloc::{AllocError, Global};
 use std::cmp::Ordering;
 

@@ -8,23 +8,22 @@ ghost use Rattle.ild_data.specs.Trie.{byte_of, is_used, elements_of, entry_data}
 ghost use Rattle.ild_cbor.specs.Nodes.{Stands};
 ghost use Rattle.ild_typed.specs.Composed.{usual};
 ghost use Rattle.ild_typed.specs.Hamt.{root_map};
-ghost use Rattle.ild_node.specs.Form.{bucket_data};
+ghost use Rattle.ild_slots.specs.Form.{bucket_data};
 ghost use Rattle.ild_node.specs.NewSlots.{IndicesRise, IsFilled, IsFilledSlot, hold_seen, slot_seen, slots_seen, spread, is_next};
 ghost use Rattle.std.specs.List.{count_by};
 ghost use Rattle.ild_node.specs.Rows.{AreRows, row_seen};
 ghost use Rattle.ild_node.specs.Written.{IsNodeBlock, IsSound, bytes_of_bits, spelled};
 
 use crate::hold::{NewHold, NewSlot};
-use crate::level::BUCKET_SIZE;
 use crate::row::Row;
 use crate::rows::Rows;
-use crate::shape::HamtShape;
 use ild_cbor::Node;
 use ild_data::Octets;
 use ild_emit::Emit;
+use ild_slots::{BUCKET_SIZE, SLOTS};
 use std::alloc::{AllocError, Global};
 
-pub(crate) fn bit(on: bool) -> u8
+fn bit(on: bool) -> u8
     ensures small { result ≤ 1 }
     ensures one { result ≡ cond on 1 0 }
 {
@@ -194,7 +193,7 @@ pub fn write_node(alloc: Global, slots: &[NewSlot]) -> Result<Octets, AllocError
     requires filled { AllByRecursion (λ s. IsFilled usual s.hold) slots.now }
     ensures { IfOk result (λ out. IsNodeBlock usual (slots_seen usual slots.now) out) }
 {
-    let used = used_at(alloc, slots, HamtShape::usual().slots())?;
+    let used = used_at(alloc, slots, SLOTS)?;
     let mut out = begin(alloc, &used, slots.len() as u64)?;
     for slot in slots {
         add_hold(&mut out, &slot.hold)?;

@@ -11,13 +11,13 @@ use Rattle.ild_data.specs.Trie.{TrieSlot}
 use Rattle.ild_data.specs.declared.id.BlockId.{BlockId}
 use Rattle.ild_cbor.specs.declared.node.Node.{Node}
 use Rattle.ild_cbor.specs.declared.piece.Piece.TheVariants as Q
-use Rattle.ild_node.specs.Steps.{IsAtSlot, SlotStep}
-use Rattle.ild_node.specs.Views.{EntryIs, HasEntries, HasSlots, SlotHolds}
-use Rattle.ild_node.specs.declared.bucket.Bucket.{Bucket}
-use Rattle.ild_node.specs.declared.slots.Slots.{Slots}
-use Rattle.ild_node.specs.declared.view.NodeSlot.{NodeSlot}
-use Rattle.ild_node.specs.declared.view.NodeSlot.TheVariants as S
-use Rattle.ild_node.specs.declared.view.NodeView.{NodeView}
+use Rattle.ild_slots.specs.Steps.{IsAtSlot, SlotStep}
+use Rattle.ild_slots.specs.Views.{EntryIs, HasEntries, HasSlots, SlotHolds}
+use Rattle.ild_slots.specs.declared.bucket.Bucket.{Bucket}
+use Rattle.ild_slots.specs.declared.slots.Slots.{Slots}
+use Rattle.ild_slots.specs.declared.view.NodeSlot.{NodeSlot}
+use Rattle.ild_slots.specs.declared.view.NodeSlot.TheVariants as S
+use Rattle.ild_slots.specs.declared.view.NodeView.{NodeView}
 use Rattle.ild_schema.specs.Slots.{plainly}
 use Rattle.ild_schema.specs.declared.number.Slot.{Slot}
 use Rattle.ild_schema.specs.declared.number.TypeNo.{TypeNo}

@@ -5,10 +5,10 @@ use Rattle.ild_data.specs.Data.{Data}
 use Rattle.ild_data.specs.Trie.{TrieSlot}
 use Rattle.ild_cbor.specs.declared.node.Node.{Node}
 use Rattle.ild_cbor.specs.Nodes.{Stands}
-use Rattle.ild_node.specs.Steps.{IsAtSlot}
-use Rattle.ild_node.specs.Views.{HasEntries, HasSlots}
-use Rattle.ild_node.specs.declared.bucket.Bucket.{Bucket}
-use Rattle.ild_node.specs.declared.view.NodeView.{NodeView}
+use Rattle.ild_slots.specs.Steps.{IsAtSlot}
+use Rattle.ild_slots.specs.Views.{HasEntries, HasSlots}
+use Rattle.ild_slots.specs.declared.bucket.Bucket.{Bucket}
+use Rattle.ild_slots.specs.declared.view.NodeView.{NodeView}
 use Rattle.ild_schema.specs.declared.row.Row.{Row}
 use Rattle.ild_typed.specs.Composed.{usual}
 use Rattle.ild_typed.specs.RootSpots.{bucket_spots, in_node, root_spots}

@@ -2,7 +2,7 @@
 ghost use Rattle.std.specs.Prelude.{◌≡◌, ◌<◌, ◌≤◌, ◌+◌, ◌-◌, ◌^◌, ℕ, List, IfSome, None, length, slice_get};
 ghost use Rattle.ild_data.specs.Data.{Data};
 ghost use Rattle.ild_data.specs.Trie.{TrieSlot};
-ghost use Rattle.ild_node.specs.Views.{EntryIs, HasEntries, HasSlots};
+ghost use Rattle.ild_slots.specs.Views.{EntryIs, HasEntries, HasSlots};
 ghost use Rattle.ild_schema.specs.Slots.{plainly};
 ghost use Rattle.ild_schema.specs.declared.row.Row.{Row};
 ghost use Rattle.ild_typed.specs.Composed.{usual};
@@ -16,9 +16,9 @@ ghost use Rattle.ild_parts.specs.Ways.{LeadsTo};
 
 use crate::part::{Part, key_part, value_part};
 use ild_cbor::{Node, Piece};
-use ild_node::{Bucket, NodeSlot, NodeView, Slots};
 use ild_places::Way;
 use ild_schema::{Slot, TypeNo};
+use ild_slots::{Bucket, NodeSlot, NodeView, Slots};
 
 /// How many entries a bucket has at most.
 const MOST_ENTRIES: usize = 3;

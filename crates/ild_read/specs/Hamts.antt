@@ -14,9 +14,9 @@ use Rattle.ild_data.specs.Limits.{deepest}
 use Rattle.ild_data.specs.Tree.{IsTree}
 use Rattle.ild_data.specs.Trie.{TrieSlot}
 use Rattle.ild_edges.specs.Store.{Moment, block_at}
-use Rattle.ild_node.specs.Form.{AreTexts}
-use Rattle.ild_node.specs.declared.fault.HamtFault.{HamtFault}
-use Rattle.ild_node.specs.declared.fault.HamtFault.TheVariants as H
+use Rattle.ild_slots.specs.Form.{AreTexts}
+use Rattle.ild_slots.specs.declared.fault.HamtFault.{HamtFault}
+use Rattle.ild_slots.specs.declared.fault.HamtFault.TheVariants as H
 use Rattle.ild_piece.specs.Pieces.{StandsFor}
 use Rattle.ild_schema.specs.Clear.{IsSafe}
 use Rattle.ild_schema.specs.Slots.{form_of}

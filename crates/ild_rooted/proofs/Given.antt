@@ -17,8 +17,8 @@ use Rattle.ild_data.specs.Trie.{TrieSlot, empty, bucket, all_some, at_depth, buc
 use Rattle.ild_data.specs.TrieBlocks.{nodes_beneath}
 use Rattle.ild_data.specs.TrieShape.{trie_levels}
 use Rattle.ild_edges.specs.Store.{block_at}
-use Rattle.ild_node.specs.Form.{AreTexts, IsNode}
-use Rattle.ild_node.proofs.Rooting.{root-same}
+use Rattle.ild_slots.specs.Form.{AreTexts, IsNode}
+use Rattle.ild_slots.proofs.Rooting.{root-same}
 use Rattle.ild_trie.specs.Walk.{in_trie_order}
 use Rattle.ild_trie.proofs.Node.{no_node, slots-node}
 use Rattle.ild_trie.proofs.Parts.{in_order-part, in_order-sorted}

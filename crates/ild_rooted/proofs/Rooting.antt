@@ -8,7 +8,7 @@ use Rattle.ild_data.specs.Tree.{IsTree}
 use Rattle.ild_data.specs.Trie.{at_depth, node_data, node_of, part, trie}
 use Rattle.ild_data.specs.TrieShape.{trie_levels}
 use Rattle.ild_edges.specs.Store.{block_at}
-use Rattle.ild_node.specs.Form.{IsNode}
+use Rattle.ild_slots.specs.Form.{IsNode}
 use Rattle.ild_trie.proofs.Node.{trie-sorted}
 use Rattle.ild_trie.proofs.Pairs.{find-permutation}
 use Rattle.ild_trie.proofs.Parts.{sorted_alike}

@@ -6,7 +6,7 @@ use Rattle.ild_data.specs.Tree.{IsTree}
 use Rattle.ild_data.specs.Trie.{TrieSlot}
 use Rattle.ild_data.specs.TrieShape.{trie_levels}
 use Rattle.ild_edges.specs.Store.{block_at}
-use Rattle.ild_node.specs.Form.{AreTexts}
+use Rattle.ild_slots.specs.Form.{AreTexts}
 use Rattle.ild_typed.specs.Composed.{usual}
 use Rattle.ild_typed.specs.Node.{IsRoot}
 use Rattle.ild_held.specs.Entries.{IsRootOf, beneath}

@@ -12,9 +12,9 @@ use Rattle.ild_cbor.specs.Span.{entry_of}
 use Rattle.ild_cbor.specs.declared.kind.Kind.TheVariants as K
 use Rattle.ild_cbor.specs.declared.why.Why.{Why}
 use Rattle.ild_cbor.specs.declared.why.Why.TheVariants as Y
-use Rattle.ild_node.specs.Form.{bucket_size, hash_alg}
-use Rattle.ild_node.specs.Roots.{HasOtherInt, IsRootWhy}
-use Rattle.ild_node.specs.declared.view.NodeView.{NodeView}
+use Rattle.ild_slots.specs.Form.{bucket_size, hash_alg}
+use Rattle.ild_slots.specs.Roots.{HasOtherInt, IsRootWhy}
+use Rattle.ild_slots.specs.declared.view.NodeView.{NodeView}
 use Rattle.ild_piece.specs.Answers.{told}
 use Rattle.ild_schema.specs.declared.def.MapForm.TheVariants as MF
 use Rattle.ild_schema.specs.declared.def.TypeDef.{TypeDef}

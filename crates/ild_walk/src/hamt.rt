@@ -14,9 +14,9 @@ ghost use Rattle.ild_parts.specs.Ready.{IsIn};
 
 use crate::opening::{Opening, Stop};
 use ild_cbor::{Kind, Node, Piece, Why};
-use ild_node::root_of;
 use ild_parts::{Parts, RootEntries};
 use ild_schema::{Slot, TypeNo};
+use ild_slots::root_of;
 
 /// The entries in the block of a HAMT's root.
 pub(crate) fn open_hamt<'b>(

@@ -19,11 +19,11 @@ use Rattle.ild_typed.specs.NodeReading.{entry_in, pair_in, rises, goes_on, are_e
 use Rattle.ild_typed.proofs.NodeElements.{id-read}
 use Rattle.ild_typed.proofs.NodeEntries.{entry-read}
 use Rattle.ild_typed.proofs.NodeMaps.{bits-read}
-use Rattle.ild_node.specs.Form.{IsNode}
-use Rattle.ild_node.specs.Told.{EntryTold, EntryNext}
-use Rattle.ild_node.proofs.Entries.{pair-found}
-use Rattle.ild_node.proofs.Fits.{parts-of, not-listed, whole_map}
-use Rattle.ild_node.proofs.Telling.{EntriesAhead, GivesEntry, entries-fall, entries-miss}
+use Rattle.ild_slots.specs.Form.{IsNode}
+use Rattle.ild_slots.specs.Told.{EntryTold, EntryNext}
+use Rattle.ild_slots.proofs.Entries.{pair-found}
+use Rattle.ild_slots.proofs.Fits.{parts-of, not-listed, whole_map}
+use Rattle.ild_slots.proofs.Telling.{EntriesAhead, GivesEntry, entries-fall, entries-miss}
 use Rattle.ild_walker.proofs.Stepping.{steps-turned}
 use Rattle.ild_walker.specs.Steps.{step_todo, steps_todo}
 use Rattle.ild_walker.specs.Todo.{Todo, give, node_todo}

@@ -13,8 +13,8 @@ use Rattle.ild_data.specs.TrieShape.{trie_levels}
 use Rattle.ild_edges.specs.Store.{Moment}
 use Rattle.ild_edges.proofs.Later.{Later-refl, Later-trans}
 use Rattle.ild_typed.specs.Composed.{usual}
-use Rattle.ild_node.specs.declared.fault.HamtFault.{HamtFault}
-use Rattle.ild_node.specs.declared.fault.HamtFault.TheVariants as F
+use Rattle.ild_slots.specs.declared.fault.HamtFault.{HamtFault}
+use Rattle.ild_slots.specs.declared.fault.HamtFault.TheVariants as F
 use Rattle.ild_walker.specs.Ahead.{Ahead, BeginsWith, IsNew, IsNewOn, IsNewLeft, NextAnswer, Nexts}
 use Rattle.ild_walker.specs.Checked.{ReadsTree, GivesNone, StopsWith, Checks, Walks, InKeyOrder, row_pair, spelled_pair, Behind, Walked, HasWalked, HasListed}
 use Rattle.ild_walker.specs.Gives.{RootGives}
@@ -22,7 +22,7 @@ use Rattle.ild_walker.specs.Reads.{LeftNodes, Spends}
 use Rattle.ild_walker.specs.Standing.{IsOn, IsBroken, StandsThere}
 use Rattle.ild_walker.specs.declared.row.Row.{Row}
 use Rattle.ild_walker.specs.declared.walker.Walker.{Walker}
-use Rattle.ild_node.specs.Form.{IsNode}
+use Rattle.ild_slots.specs.Form.{IsNode}
 use Rattle.ild_walker.proofs.Keeping.{broken-since}
 use Rattle.ild_walker.proofs.Listing.{rows-rise}
 use Rattle.ild_walker.proofs.Nexting.{rose-later, cause-later}

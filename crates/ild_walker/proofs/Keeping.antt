@@ -12,8 +12,8 @@ use Rattle.ild_data.specs.declared.id.BlockId.{BlockId}
 use Rattle.ild_edges.specs.Count.{Rose}
 use Rattle.ild_edges.specs.Store.{Moment}
 use Rattle.ild_typed.specs.Composed.{usual}
-use Rattle.ild_node.specs.declared.fault.HamtFault.{HamtFault}
-use Rattle.ild_node.specs.declared.fault.HamtFault.TheVariants as F
+use Rattle.ild_slots.specs.declared.fault.HamtFault.{HamtFault}
+use Rattle.ild_slots.specs.declared.fault.HamtFault.TheVariants as F
 use Rattle.ild_walker.specs.Ahead.{NextIs, walker_todo, walker_path, walker_here, IsTrieFault, IsFaultAt, IsEntered, IsUnchanged, IsTaken}
 use Rattle.ild_walker.specs.Fetching.{IsRefused, GotSteps}
 use Rattle.ild_walker.specs.OnTree.{HasNode, IsOnTree, IsWrong, IsWrongNode, SlotsMany, TreeMany}

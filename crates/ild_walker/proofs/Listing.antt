@@ -18,7 +18,7 @@ use Rattle.ild_data.specs.TrieShape.{trie_levels}
 use Rattle.ild_data.proofs.Rising.{key_cmp_total, key_exact}
 use Rattle.ild_trie.proofs.Parts.{total, key_itself}
 use Rattle.ild_typed.specs.Composed.{usual}
-use Rattle.ild_node.specs.Form.{IsNode}
+use Rattle.ild_slots.specs.Form.{IsNode}
 use Rattle.ild_walker.specs.Checked.{InKeyOrder, row_pair, spelled_pair}
 use Rattle.ild_walker.specs.Gives.{RootGives}
 use Rattle.ild_walker.specs.declared.row.Row.{Row}

@@ -9,8 +9,8 @@ use Rattle.ild_data.specs.Limits.{IsWithin}
 use Rattle.ild_cbor.specs.Block.{IsBlockOf}
 use Rattle.ild_cbor.specs.Nodes.{start_of}
 use Rattle.ild_cbor.specs.declared.node.Node.{Node}
-use Rattle.ild_node.specs.Spelled.{tree_in, IsFaultless}
-use Rattle.ild_node.proofs.Trees.{faultless, spelled-value}
+use Rattle.ild_slots.specs.Spelled.{tree_in, IsFaultless}
+use Rattle.ild_slots.proofs.Trees.{faultless, spelled-value}
 use Rattle.ild_walker.specs.Pieces.{piece}
 use Rattle.ild_walker.specs.Told.{Lies}
 

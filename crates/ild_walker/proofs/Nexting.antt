@@ -12,8 +12,8 @@ use Rattle.ild_edges.specs.Store.{Moment, Later, block_at}
 use Rattle.ild_edges.specs.Told.{IfTold}
 use Rattle.ild_edges.proofs.Later.{Later-refl, Later-trans}
 use Rattle.ild_typed.specs.Composed.{usual}
-use Rattle.ild_node.specs.declared.fault.HamtFault.{HamtFault}
-use Rattle.ild_node.specs.declared.fault.HamtFault.TheVariants as F
+use Rattle.ild_slots.specs.declared.fault.HamtFault.{HamtFault}
+use Rattle.ild_slots.specs.declared.fault.HamtFault.TheVariants as F
 use Rattle.std.proofs.lemmas.List.{length-map}
 use Rattle.ild_walker.specs.Fetching.{IsRefused, OnlyGets}
 use Rattle.ild_walker.specs.Todo.{Todo, give, enter, leave, node_todo, fits, StillGives}

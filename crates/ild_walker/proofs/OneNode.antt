@@ -5,7 +5,7 @@ use Rattle.ild_data.specs.Spell.{spell}
 use Rattle.ild_data.specs.Trie.{TrieSlot, node_data}
 use Rattle.ild_typed.specs.Composed.{usual}
 use Rattle.ild_trie.proofs.Bits.{same_node}
-use Rattle.ild_node.proofs.Fits.{whole_map}
+use Rattle.ild_slots.proofs.Fits.{whole_map}
 use Rattle.ild_walker.specs.Gives.{IsNodeOf}
 
 pub same-slots : (ss ts : List TrieSlot) (b : List ℕ) → IsNodeOf usual b ss → IsNodeOf usual b ts → ss ≡ ts

@@ -2,8 +2,8 @@
 use Rattle.std.proofs.Common.{◌≡◌, ℕ, true, List, ◌∷◌, Some, refl, sym, ap, ◌∙◌}
 use Rattle.std.specs.Prelude.{Result, Ok, Err, IfOk}
 use Rattle.ild_data.specs.Spell.{spell}
-use Rattle.ild_node.specs.declared.fault.HamtFault.{HamtFault}
-use Rattle.ild_node.specs.declared.fault.HamtFault.TheVariants as F
+use Rattle.ild_slots.specs.declared.fault.HamtFault.{HamtFault}
+use Rattle.ild_slots.specs.declared.fault.HamtFault.TheVariants as F
 use Rattle.ild_walker.specs.Ahead.{walker_todo, walker_here, GivesNext, IsTaken, Takes, IsNextRow, IsPassed, PassesStep, Gives, AnyRow, FitsNext}
 use Rattle.ild_walker.specs.Steps.{entry_key, entry_value, IsRowOf}
 use Rattle.ild_walker.specs.Todo.{Todo, give}

@@ -19,8 +19,8 @@ use Rattle.ild_trie.proofs.Node.{slots-node, no_node, trie-sorted}
 use Rattle.ild_trie.proofs.Parts.{total, in_order-sorted, in_order-part}
 use Rattle.ild_trie.proofs.Slots.{all_some-cons, all_some-length}
 use Rattle.ild_trie.proofs.Walk.{sorted-walk}
-use Rattle.ild_node.proofs.Fits.{whole_map}
-use Rattle.ild_node.specs.Form.{IsNode}
+use Rattle.ild_slots.proofs.Fits.{whole_map}
+use Rattle.ild_slots.specs.Form.{IsNode}
 use Rattle.ild_walker.specs.Gives.{SlotGives, AtIndex, SlotsGive, TreeGives, RootGives}
 use Rattle.ild_walker.specs.Trees.{IsHeldNode, HoldsBelow, IsTrieOf}
 use Rattle.ild_walker.proofs.Opening.{all-join}

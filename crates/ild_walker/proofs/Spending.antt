@@ -9,7 +9,7 @@ use Rattle.ild_data.specs.TrieShape.{trie_levels}
 use Rattle.ild_edges.specs.Told.{IfTold}
 use Rattle.ild_edges.specs.Store.{Moment, block_at}
 use Rattle.ild_typed.specs.Composed.{usual}
-use Rattle.ild_node.specs.declared.fault.HamtFault.{HamtFault}
+use Rattle.ild_slots.specs.declared.fault.HamtFault.{HamtFault}
 use Rattle.ild_walker.specs.Ahead.{NextIs, walker_todo, IsEntered, IsTaken}
 use Rattle.ild_walker.specs.Fetching.{GotSteps}
 use Rattle.ild_walker.specs.Gives.{IsNodeOf}

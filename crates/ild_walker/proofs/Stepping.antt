@@ -6,8 +6,8 @@ use Rattle.ild_data.specs.Data.{Data}
 use Rattle.std.specs.Global.{Vec}
 use Rattle.ild_cbor.specs.declared.why.BlockWhy.TheVariants.{Missing, Cbor, Shape as NoNode}
 use Rattle.ild_edges.specs.Store.{Moment}
-use Rattle.ild_node.specs.declared.fault.HamtFault.{HamtFault}
-use Rattle.ild_node.specs.declared.fault.HamtFault.TheVariants as F
+use Rattle.ild_slots.specs.declared.fault.HamtFault.{HamtFault}
+use Rattle.ild_slots.specs.declared.fault.HamtFault.TheVariants as F
 use Rattle.ild_walker.specs.Fetching.{ReadsBlock, IsBlockAt, OnlyGets, Fetches}
 use Rattle.ild_walker.specs.Steps.{step_todo, steps_todo, entry_key, entry_value}
 use Rattle.ild_walker.specs.Todo.{give}

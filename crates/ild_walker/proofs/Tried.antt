@@ -27,7 +27,7 @@ use Rattle.ild_trie.proofs.Gather.{StandApart, part-gathered, slots-gathered}
 use Rattle.ild_trie.proofs.Index.{index_below}
 use Rattle.ild_trie.proofs.Node.{node-slots, trie-sorted}
 use Rattle.ild_trie.proofs.Parts.{total, same_key, in_order-sorted, find-sorted, sorted_alike, sorted_in_order}
-use Rattle.ild_node.specs.Form.{IsNode, AreSlots}
+use Rattle.ild_slots.specs.Form.{IsNode, AreSlots}
 use Rattle.ild_walker.specs.Gives.{IsNodeOf, SlotGives, AtIndex, SlotsGive, NodeGives, TreeGives, RootGives}
 use Rattle.ild_walker.specs.Reads.{SlotNodes, SlotsNodes, TreeNodes, NodesBeneath}
 use Rattle.ild_walker.specs.Trees.{IsHeldNode, HoldsBelow, IsTrieOf}

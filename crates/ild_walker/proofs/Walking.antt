@@ -15,8 +15,8 @@ use Rattle.ild_data.specs.Trie.{TrieSlot, node_data, empty, bucket, child}
 use Rattle.ild_data.specs.TrieShape.{trie_levels}
 use Rattle.ild_edges.specs.Store.{Moment, block_at}
 use Rattle.ild_typed.specs.Composed.{usual}
-use Rattle.ild_node.specs.declared.fault.HamtFault.{HamtFault}
-use Rattle.ild_node.specs.declared.fault.HamtFault.TheVariants as F
+use Rattle.ild_slots.specs.declared.fault.HamtFault.{HamtFault}
+use Rattle.ild_slots.specs.declared.fault.HamtFault.TheVariants as F
 use Rattle.ild_walker.specs.Gives.{IsNodeOf, TreeGives, SlotsGive}
 use Rattle.ild_walker.specs.Todo.{Todo, enter, leave, slot_todo, node_todo, StillGives}
 use Rattle.ild_walker.specs.Steps.{step_todo, steps_todo, path_of}

@@ -9,8 +9,8 @@ use Rattle.ild_cbor.specs.declared.why.Why.TheVariants.{Trie}
 use Rattle.ild_edges.specs.Count.{Rose}
 use Rattle.ild_edges.specs.Store.{Moment}
 use Rattle.ild_typed.specs.Composed.{usual}
-use Rattle.ild_node.specs.declared.fault.HamtFault.{HamtFault}
-use Rattle.ild_node.specs.declared.fault.HamtFault.TheVariants.{Block, Store, Memory}
+use Rattle.ild_slots.specs.declared.fault.HamtFault.{HamtFault}
+use Rattle.ild_slots.specs.declared.fault.HamtFault.TheVariants.{Block, Store, Memory}
 use Rattle.ild_walker.specs.Fetching.{IsRefused, OnlyGets}
 use Rattle.ild_walker.specs.Gives.{RootGives}
 use Rattle.ild_walker.specs.Standing.{IsOn, KeepsOn, RowStands, way_of, last_of}

@@ -11,8 +11,8 @@ use Rattle.ild_data.specs.TrieShape.{trie_levels}
 use Rattle.ild_edges.specs.Count.{Rose}
 use Rattle.ild_edges.specs.Store.{Moment, Later}
 use Rattle.ild_typed.specs.Composed.{usual}
-use Rattle.ild_node.specs.declared.fault.HamtFault.{HamtFault}
-use Rattle.ild_node.specs.declared.fault.HamtFault.TheVariants.{Store, Memory}
+use Rattle.ild_slots.specs.declared.fault.HamtFault.{HamtFault}
+use Rattle.ild_slots.specs.declared.fault.HamtFault.TheVariants.{Store, Memory}
 use Rattle.ild_walker.specs.Ahead.{Ahead, IsCause}
 use Rattle.ild_walker.specs.Gives.{RootGives}
 use Rattle.ild_walker.specs.Reads.{NodesBeneath, Spent}

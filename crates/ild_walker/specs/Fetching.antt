@@ -11,8 +11,8 @@ use Rattle.ild_edges.specs.Count.{Rose}
 use Rattle.ild_edges.specs.Store.{Moment, Later, block_at}
 use Rattle.ild_edges.specs.Told.{IfTold}
 use Rattle.ild_typed.specs.Composed.{usual}
-use Rattle.ild_node.specs.declared.fault.HamtFault.{HamtFault}
-use Rattle.ild_node.specs.declared.fault.HamtFault.TheVariants.{Block, Store, Memory}
+use Rattle.ild_slots.specs.declared.fault.HamtFault.{HamtFault}
+use Rattle.ild_slots.specs.declared.fault.HamtFault.TheVariants.{Block, Store, Memory}
 use Rattle.ild_walker.specs.Gives.{IsNodeOf}
 use Rattle.ild_walker.specs.Todo.{node_todo}
 use Rattle.ild_walker.specs.Steps.{steps_todo}

@@ -6,7 +6,7 @@ use Rattle.ild_data.specs.Trie.{TrieSlot, empty, bucket, child, node_data, at_de
 use Rattle.ild_data.specs.TrieShape.{TrieShape}
 use Rattle.ild_cbor.specs.Block.{IsBlockOf}
 use Rattle.ild_edges.specs.Store.{block_at}
-use Rattle.ild_node.specs.Form.{IsNode}
+use Rattle.ild_slots.specs.Form.{IsNode}
 
 -- the block is the node of these slots
 pub record IsNodeOf (p : TrieShape) (b : List ℕ) (slots : List TrieSlot) : Type 0 where

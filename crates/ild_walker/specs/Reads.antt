@@ -3,7 +3,7 @@ use Rattle.std.specs.Prelude.{◌≡◌, ◌⊎◌, ℕ, zero, suc, ◌+◌, ◌
 use Rattle.ild_data.specs.Trie.{TrieSlot, empty, bucket, child}
 use Rattle.ild_data.specs.TrieShape.{trie_levels}
 use Rattle.ild_typed.specs.Composed.{usual}
-use Rattle.ild_node.specs.declared.fault.HamtFault.{HamtFault}
+use Rattle.ild_slots.specs.declared.fault.HamtFault.{HamtFault}
 use Rattle.ild_walker.specs.OnTree.{IsNodeAt}
 use Rattle.ild_walker.specs.Steps.{steps_todo}
 use Rattle.ild_walker.specs.Todo.{Todo, give, enter, leave}

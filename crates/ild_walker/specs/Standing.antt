@@ -6,8 +6,8 @@ use Rattle.ild_data.specs.Trie.{TrieSlot, bucket}
 use Rattle.ild_data.specs.TrieShape.{trie_levels}
 use Rattle.ild_typed.specs.Composed.{usual}
 use Rattle.ild_cbor.specs.declared.why.BlockWhy.{BlockWhy}
-use Rattle.ild_node.specs.declared.fault.HamtFault.{HamtFault}
-use Rattle.ild_node.specs.declared.fault.HamtFault.TheVariants.{Block}
+use Rattle.ild_slots.specs.declared.fault.HamtFault.{HamtFault}
+use Rattle.ild_slots.specs.declared.fault.HamtFault.TheVariants.{Block}
 use Rattle.ild_walker.specs.OnTree.{IsNodeAt, HasNode, IsOnTree, TreeMany, IsWrong}
 use Rattle.ild_walker.specs.Steps.{steps_todo}
 use Rattle.ild_walker.specs.Todo.{Todo, give, enter, leave, node_todo}

@@ -2,7 +2,7 @@
 use Rattle.std.specs.Prelude.{◌≡◌, ℕ, List, map, reverse}
 use Rattle.ild_data.specs.Data.{Data}
 use Rattle.ild_data.specs.Spell.{spell}
-use Rattle.ild_node.specs.Spelled.{tree_in}
+use Rattle.ild_slots.specs.Spelled.{tree_in}
 use Rattle.ild_walker.specs.Pieces.{piece}
 use Rattle.ild_walker.specs.Todo.{Todo, give, enter, leave}
 use Rattle.ild_walker.specs.declared.row.Row.{Row}

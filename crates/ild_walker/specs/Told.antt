@@ -12,7 +12,7 @@ use Rattle.ild_cbor.specs.declared.items.Items.{Items as ItemsLeft}
 use Rattle.ild_cbor.specs.declared.node.Node.{Node}
 use Rattle.ild_typed.specs.Composed.{usual}
 use Rattle.ild_typed.specs.NodeReading.{child_in, entry_in, element_fits, elements_fit, map_bits, node_fits, pair_in}
-use Rattle.ild_node.specs.Form.{IsNode}
+use Rattle.ild_slots.specs.Form.{IsNode}
 use Rattle.ild_walker.specs.Steps.{step_todo, steps_todo}
 use Rattle.ild_walker.specs.Todo.{Todo, give, enter, node_todo}
 use Rattle.ild_walker.specs.declared.step.Step.{Step}

@@ -9,7 +9,7 @@ use Rattle.ild_data.specs.TrieShape.{TrieShape, trie_levels}
 use Rattle.ild_edges.specs.Store.{block_at}
 use Rattle.ild_typed.specs.Composed.{usual}
 use Rattle.ild_trie.specs.Walk.{in_trie_order}
-use Rattle.ild_node.specs.Form.{IsNode}
+use Rattle.ild_slots.specs.Form.{IsNode}
 use Rattle.ild_walker.specs.Gives.{IsNodeOf, RootGives}
 use Rattle.ild_walker.specs.Reads.{NodesBeneath}
 

@@ -2,13 +2,13 @@
 ghost use Rattle.std.specs.Prelude.{◌≡◌, ◌+◌, List, IfOk};
 ghost use Rattle.ild_data.specs.Trie.{TrieSlot};
 ghost use Rattle.ild_typed.specs.Composed.{usual};
-ghost use Rattle.ild_node.specs.Views.{HasSlots};
+ghost use Rattle.ild_slots.specs.Views.{HasSlots};
 ghost use Rattle.ild_walker.specs.Checked.{Checks};
 
 use crate::walker::Walker;
 use ild_data::{BlockId, KeyHash};
 use ild_edges::Store;
-use ild_node::{HamtFault, NodeView};
+use ild_slots::{HamtFault, NodeView};
 use std::alloc::Global;
 
 /// Walks over all entries beneath a root, which stands in the block of this id, and counts them.

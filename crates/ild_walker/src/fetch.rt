@@ -2,7 +2,7 @@
 ghost use Rattle.std.specs.Prelude.{◌≡◌, List, IfOk};
 ghost use Rattle.ild_data.specs.Trie.{TrieSlot};
 ghost use Rattle.ild_typed.specs.Composed.{usual};
-ghost use Rattle.ild_node.specs.Views.{HasSlots};
+ghost use Rattle.ild_slots.specs.Views.{HasSlots};
 ghost use Rattle.ild_walker.specs.Fetching.{Fetches, ReadsBlock};
 ghost use Rattle.ild_walker.specs.Steps.{steps_todo};
 ghost use Rattle.ild_walker.specs.Todo.{node_todo};
@@ -12,7 +12,7 @@ use crate::step::Step;
 use ild_cbor::{BlockWhy, Why, check, known_root};
 use ild_data::{BlockId, Octets};
 use ild_edges::{EdgeErr, Store};
-use ild_node::{HamtFault, NodeView, Spelled};
+use ild_slots::{HamtFault, NodeView, Spelled};
 use std::alloc::{AllocError, Global};
 use std::rc::Rc;
 

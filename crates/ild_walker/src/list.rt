@@ -3,15 +3,15 @@ ghost use Rattle.std.specs.Prelude.{◌≡◌, ◌+◌, List, IfOk};
 ghost use Rattle.std.specs.List.Sorted.{IsPermutation};
 ghost use Rattle.ild_data.specs.Trie.{TrieSlot};
 ghost use Rattle.ild_typed.specs.Composed.{usual};
-ghost use Rattle.ild_node.specs.Views.{HasSlots};
+ghost use Rattle.ild_slots.specs.Views.{HasSlots};
 ghost use Rattle.ild_walker.specs.Checked.{InKeyOrder, Walks};
 
 use crate::row::Row;
 use crate::walker::Walker;
 use ild_data::{BlockId, KeyHash};
 use ild_edges::Store;
-use ild_node::{HamtFault, NodeView};
 use ild_order::sort_by_key;
+use ild_slots::{HamtFault, NodeView};
 use std::alloc::Global;
 
 // Brings rows into the order of keys.

@@ -12,7 +12,7 @@ ghost use Rattle.ild_walker.specs.Told.{Adds, ChildAdds, ElementAdds, HasEntries
 use crate::step::{Child, Entry, Step};
 use ild_cbor::{Items, Node};
 use ild_data::Octets;
-use ild_node::{BUCKET_SIZE, SLOTS, child_in, map_bit, next_entry, rises};
+use ild_slots::{BUCKET_SIZE, SLOTS, child_in, map_bit, next_entry, rises};
 use std::alloc::{AllocError, Global};
 use std::rc::Rc;
 

@@ -1,7 +1,7 @@
 //! The steps that a walk has still to do.
 ghost use Rattle.std.specs.Prelude.{◌≡◌, ◌≤◌, true, length};
 ghost use Rattle.std.specs.Str.{is_utf8};
-ghost use Rattle.ild_node.specs.Spelled.{IsFaultless};
+ghost use Rattle.ild_slots.specs.Spelled.{IsFaultless};
 ghost use Rattle.ild_walker.specs.Pieces.{piece};
 
 use ild_data::{BlockId, Octets};

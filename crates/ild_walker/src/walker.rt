@@ -12,7 +12,7 @@ use crate::step::{Child, Entry, Step};
 use ild_cbor::{BlockWhy, Why};
 use ild_data::{BlockId, KeyHash};
 use ild_edges::Store;
-use ild_node::{BUCKET_SIZE, HamtFault, LEVELS, NodeView, index_of};
+use ild_slots::{BUCKET_SIZE, HamtFault, LEVELS, NodeView, index_of};
 use std::alloc::{AllocError, Global};
 
 /// A walk over the entries of a HAMT in the order of its trie: by index, and bytewise by key inside a bucket. It keeps what is
@@ -44,7 +44,7 @@ impl Walker {
     ghost use Rattle.ild_data.specs.TrieShape.{trie_levels};
     ghost use Rattle.ild_data.specs.Trie.{TrieSlot};
     ghost use Rattle.ild_typed.specs.Composed.{usual};
-    ghost use Rattle.ild_node.specs.Views.{HasSlots};
+    ghost use Rattle.ild_slots.specs.Views.{HasSlots};
     ghost use Rattle.ild_walker.specs.Todo.{enter, fits, leave};
     ghost use Rattle.ild_walker.specs.Steps.{entry_key};
     ghost use Rattle.ild_walker.specs.Ahead.{AnyRow, Enters, Gives, GivesNext, IsDue, IsFaultAt, IsNew, IsNewLeft, IsNewOn, IsNextRow, IsPast, IsReady, Judges, IsTrieFault, Leaves, NextIs, Nexts, Opens, PassesStep, Readies, Takes, walker_here, walker_path, walker_todo};

@@ -5,7 +5,7 @@ use Rattle.std.proofs.lemmas.Option.{same_Some, none-some}
 use Rattle.ild_bulk.specs.Keyed.{entry_front}
 use Rattle.ild_data.specs.Data.{Data}
 use Rattle.ild_emit.proofs.Growing.{grown_then}
-use Rattle.ild_node.specs.Form.{AreTexts}
+use Rattle.ild_slots.specs.Form.{AreTexts}
 use Rattle.ild_node.specs.Rows.{deepest_value}
 use Rattle.ild_schema.specs.declared.number.Slot.{Slot}
 use Rattle.ild_schema.specs.declared.row.Row.{Row}

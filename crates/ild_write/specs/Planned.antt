@@ -4,8 +4,8 @@ use Rattle.std.specs.List.{sum_by}
 use Rattle.ild_bulk.specs.Children.{Follows}
 use Rattle.ild_data.specs.Bytes.{AreBytes}
 use Rattle.ild_data.specs.Spell.{spell}
-use Rattle.ild_node.specs.declared.fault.HamtFault.{HamtFault}
-use Rattle.ild_node.specs.declared.fault.HamtFault.TheVariants as F
+use Rattle.ild_slots.specs.declared.fault.HamtFault.{HamtFault}
+use Rattle.ild_slots.specs.declared.fault.HamtFault.TheVariants as F
 use Rattle.ild_schema.specs.declared.number.Slot.{Slot}
 use Rattle.ild_schema.specs.declared.row.Row.{Row}
 use Rattle.ild_schema.specs.Value.{Value}

@@ -3,8 +3,8 @@ use Rattle.ild_data.specs.Data.{Data}
 use Rattle.ild_data.specs.Trie.{TrieSlot, at_depth, slots_at}
 use Rattle.ild_typed.specs.Composed.{usual}
 use Rattle.ild_node.specs.NewSlots.{slot_seen}
-use Rattle.ild_node.specs.Steps.{IsAtSlot}
-use Rattle.ild_node.specs.Views.{HasSlots}
+use Rattle.ild_slots.specs.Steps.{IsAtSlot}
+use Rattle.ild_slots.specs.Views.{HasSlots}
 use Rattle.ild_hamt.proofs.Weights.{CountTo}
 use Rattle.ild_hamt.proofs.weighing.is_few.Given as goal
 

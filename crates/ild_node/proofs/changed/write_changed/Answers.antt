@@ -4,7 +4,7 @@ use Rattle.std.proofs.lemmas.List.{take_all}
 use Rattle.ild_data.specs.Trie.{elements_of}
 use Rattle.ild_node.specs.NewSlots.{slot_seen}
 use Rattle.ild_node.specs.Written.{spelled}
-use Rattle.ild_node.proofs.Around.{set-written}
+use Rattle.ild_node.proofs.Exchanging.{set-written}
 use Rattle.ild_node.proofs.Changing.{used-slot}
 use Rattle.ild_node.proofs.Writing.{count-used, node-done}
 use Rattle.ild_node.proofs.changed.write_changed.Goals as goal

@@ -1,8 +1,6 @@
-use Rattle.std.proofs.Common.{◌^◌, length, map, sym, ap, ◌∙◌, refl, arith}
-use Rattle.ild_data.specs.Trie.{is_used}
-use Rattle.ild_data.specs.TrieShape.{TrieShape}
+use Rattle.std.proofs.Common.{◌^◌, length, sym, ap, ◌∙◌, refl, arith}
 use Rattle.ild_typed.specs.Composed.{usual}
-use Rattle.ild_node.specs.NewSlots.{hold_seen, IsFilled, slots_seen, spread}
+use Rattle.ild_node.specs.NewSlots.{hold_seen, IsFilled, slots_seen}
 use Rattle.ild_node.specs.Written.{IsSound}
 use Rattle.ild_node.proofs.Nodes.{node-block, empty-sound}
 use Rattle.ild_node.proofs.Writing.{hold_items, grown-more, spelled-more, all-more, all-of, all-at, all-spread, length-spread, elements-spread, hold-count, node-done}
@@ -23,7 +21,7 @@ returns c =
     node-block slots _ (length-spread 0 (2 ^ usual.width) c.args.slots.now)
     (all-spread (IsSound usual) 0 (2 ^ usual.width) c.args.slots.now empty-sound (all-of (λ s. IsSound usual (hold_seen s.hold)) c.args.slots.now c.loop-slot.slot-index c.loop-slot.invariant.sound (omega arith)))
     (c.finish.ensures ∙ node-done hold_items c.args.slots.now slots c.deref.result.now c.in_ok-out.out c.loop-slot.out (length c.args.slots.now) c.loop-slot.slot-index c.in_ok-out.ensures
-    (c.deref.ensures.value ∙ c.in_ok-used.ensures ∙ ap (λ n. map is_used (spread 0 n c.args.slots.now)) (c.slots.ensures ∙ ap (λ (p : TrieShape). 2 ^ p.width) c.usual.ensures))
+    (c.deref.ensures.value ∙ c.in_ok-used.ensures)
     (elements-spread usual 0 (2 ^ usual.width) c.args.slots.now c.requires.rise refl)
     (hold-count c.args.slots.now ∙ ap length (sym (elements-spread usual 0 (2 ^ usual.width) c.args.slots.now c.requires.rise refl)))
     c.loop-slot.invariant.so (omega arith))

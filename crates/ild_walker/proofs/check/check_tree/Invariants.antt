@@ -1,7 +1,7 @@
 use Rattle.std.proofs.Common.{◌-◌, ◌^◌, List}
 use Rattle.ild_data.specs.Trie.{TrieSlot}
 use Rattle.ild_typed.specs.Composed.{usual}
-use Rattle.ild_node.specs.Views.{HasSlots}
+use Rattle.ild_slots.specs.Views.{HasSlots}
 use Rattle.ild_walker.specs.Checked.{HasWalked}
 use Rattle.ild_walker.proofs.check.check_tree.Given as goal
 

@@ -1,5 +1,5 @@
 use Rattle.std.proofs.Common.{arith}
-use Rattle.ild_node.proofs.Left.{flipped}
+use Rattle.ild_slots.proofs.Left.{flipped}
 use Rattle.ild_walker.proofs.Adding.{elements-first, elements-on, elements-off, elements-end}
 use Rattle.ild_walker.proofs.read.add_elements.Goals as goal
 

@@ -1,7 +1,7 @@
 use Rattle.std.proofs.Common.{◌≡◌, ℕ, List, sym, ap, subst, ◌∙◌}
 use Rattle.ild_data.specs.Spell.{spell}
-use Rattle.ild_node.specs.Spelled.{tree_in, IsFaultless}
-use Rattle.ild_node.proofs.Trees.{spelling-of}
+use Rattle.ild_slots.specs.Spelled.{tree_in, IsFaultless}
+use Rattle.ild_slots.proofs.Trees.{spelling-of}
 use Rattle.ild_walker.specs.Pieces.{piece}
 use Rattle.ild_walker.proofs.step.Entry.spelling.Goals as goal
 

@@ -1,0 +1,11 @@
+pub mod Iter
+pub mod Entries
+pub mod Trees
+pub mod Fits
+pub mod Left
+pub mod Telling
+pub mod InSlot
+pub mod Rooting
+pub mod Linking
+pub mod Counts
+pub mod Around

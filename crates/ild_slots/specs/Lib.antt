@@ -1,0 +1,10 @@
+pub mod Form
+pub mod Places
+pub mod Reading
+pub mod Parts
+pub mod Told
+pub mod Items
+pub mod Views
+pub mod Steps
+pub mod Spelled
+pub mod Roots
