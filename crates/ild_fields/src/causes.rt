@@ -66,12 +66,7 @@ impl Notes {
 
     /// The first cause for which the names with values are none of the fields, where parts may be too many or too few, and
     /// the order may matter.
-    pub fn first_cause(
-        &self,
-        fields: &[Field],
-        miscounted: bool,
-        ordered: bool,
-    ) -> Option<Why>
+    pub fn first_cause(&self, fields: &[Field], miscounted: bool, ordered: bool) -> Option<Why>
         requires { length fields.now ≤ 1024 }
         ensures { AreNamesApart fields.now → (ks : List (List ℕ)) (es : List (List ℕ × Data)) → Noted fields.now ks es self.now → option_map told result ≡ first_cause (has_stranger fields.now ks) (lacks_field fields.now ks) miscounted (ordered && is_out_of_order fields.now ks) (has_twice ks) (writes_implicit fields.now es) }
     {
