@@ -1,38 +1,14 @@
--- From what is there before an edit, and after it, to the change: nothing, or what comes, goes or is replaced.
+-- What is there before an edit, and after it.
 use Rattle.std.proofs.Common.{◌≡◌, Bool, true, false, cond, not, Option, Some, None, refl, sym, ◌∙◌, ap, subst}
 use Rattle.std.specs.Prelude.{is_some}
 use Rattle.std.proofs.lemmas.Option.{none-some}
 use Rattle.ild_cbor.specs.Nodes.{Stands}
 use Rattle.ild_cbor.specs.declared.node.Node.{Node}
-use Rattle.ild_change.specs.TreeChange.{Located}
 use Rattle.ild_data.specs.Data.{Data}
 use Rattle.ild_lift.specs.Places.{left_out, written}
 use Rattle.ild_piece.specs.Entries.{Found}
 use Rattle.ild_schema.specs.declared.def.Field.{Field}
 use Rattle.ild_last.specs.Change.{IsShown, NewIs}
-
-module _ (f : Option Data → Option Data → Located) where
-  pub neither : (r : Located) (c d : Option Data) → false ≡ is_some c → false ≡ is_some d → f None None ≡ r → f c d ≡ r
-  neither r None None p q h = h
-  neither r None (Some y) p q h = absurd cc
-  neither r (Some y) d p q h = absurd cc
-
-  pub comes : (r : Option Data → Located) (c d x : Option Data) → false ≡ is_some c → true ≡ is_some d → IsShown d x → ((y : Data) → f None (Some y) ≡ r (Some y)) → f c d ≡ r x
-  comes r None (Some y) x p q shown h = h y ∙ ap r (sym shown)
-  comes r None None x p q shown h = absurd cc
-  comes r (Some y) d x p q shown h = absurd cc
-
-  pub goes : (r : Located) (c d : Option Data) → true ≡ is_some c → false ≡ is_some d → ((y : Data) → f (Some y) None ≡ r) → f c d ≡ r
-  goes r (Some y) None p q h = h y
-  goes r (Some y) (Some z) p q h = absurd cc
-  goes r None d p q h = absurd cc
-
-  pub becomes : (r : Option Data → Located) (c d x : Option Data) → true ≡ is_some c → true ≡ is_some d → IsShown d x → ((y z : Data) → f (Some y) (Some z) ≡ r (Some z)) → f c d ≡ r x
-  becomes r (Some y) (Some z) x p q shown h = h y z ∙ ap r (sym shown)
-  becomes r (Some y) None x p q shown h = absurd cc
-  becomes r None d x p q shown h = absurd cc
-
--- ---- the new part
 
 pub new_there : (o : Option Node) (n : Node) (d : Option Data) → o ≡ Some n → NewIs o d → true ≡ is_some d
 new_there None n d e h = absurd (none-some n e)

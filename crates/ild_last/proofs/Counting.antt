@@ -54,15 +54,6 @@ module _ (rows : List Row) (p : Piece) (ds : List Data) (stands : StandsFor rows
       let at : Stands n (T.list (items_of ds)) = subst (λ q. StandsFor rows q (T.list (items_of ds))) is stands in
       counts (T.list (items_of ds)) at ∙ ap Some (length-items ds)
 
-  -- a list stands in an item
-  pub no_list : {A : Type 0} → ((n : Node) → p ≡ Q.Node n → ⊥) → A
-  no_list {A} not_node = by p refl stands where
-    by : (q : Piece) → p ≡ q → StandsFor rows q (T.list (items_of ds)) → A
-    by (Q.Node n) e h = absurd (not_node n e)
-    by (Q.Text s) e h = absurd cc
-    by (Q.Bytes s) e h = absurd cc
-    by (Q.Inline n u) e h = let r = h.rest in absurd cc
-
   few : length ds < 2 ^ 64
   few = let f = items_few rows p (items_of ds) stands in let long = length-items ds in omega (arith, f, long)
 

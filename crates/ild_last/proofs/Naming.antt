@@ -3,9 +3,9 @@ use Rattle.std.proofs.Common.{◌≡◌, ◌+◌, ℕ, List, [], ◌∷◌, Bool
 use Rattle.std.specs.Prelude.{bytes_eq, is_some, option_and_then}
 use Rattle.std.specs.List.{position_from}
 use Rattle.std.specs.Option.{option_map_or}
-use Rattle.std.proofs.lemmas.Option.{same_Some, none-some}
+use Rattle.std.proofs.lemmas.Option.{none-some}
 use Rattle.ild_change.specs.Differences.{at_key}
-use Rattle.ild_change.specs.TreeChange.{Located, unchanged}
+use Rattle.ild_change.specs.TreeChange.{unchanged}
 use Rattle.ild_data.specs.Data as T
 use Rattle.ild_data.specs.Data.{Data, members_list}
 use Rattle.ild_data.specs.Key.{same_text, value_at}

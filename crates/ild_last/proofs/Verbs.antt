@@ -3,8 +3,6 @@ use Rattle.std.proofs.Common.{◌≡◌, ◌<◌, ◌^◌, ℕ, List, [], ◌∷
 use Rattle.std.specs.Prelude.{is_some, option_and_then, option_map}
 use Rattle.std.proofs.lemmas.Option.{same_Some, none-some}
 use Rattle.ild_cbor.specs.declared.piece.Piece.{Piece}
-use Rattle.ild_cbor.specs.Scalar.{kind_of}
-use Rattle.ild_cbor.specs.declared.kind.Kind.TheVariants as K
 use Rattle.ild_change.specs.TreeChange.{nth, insert_item, remove_item, replace, one, Located}
 use Rattle.ild_data.specs.Data as T
 use Rattle.ild_data.specs.Data.{Data, items_list, items_of}
@@ -17,7 +15,6 @@ use Rattle.ild_lift.specs.LastLift.{at_place, delete_seen, insert_seen, named_la
 use Rattle.ild_lift.specs.Places.{field_named}
 use Rattle.ild_piece.specs.Pieces.{StandsFor}
 use Rattle.ild_schema.specs.Prelude.{anything}
-use Rattle.ild_schema.specs.Slots.{form_of}
 use Rattle.ild_schema.specs.Value.{Value}
 use Rattle.ild_schema.specs.declared.def.Field.{Field}
 use Rattle.ild_schema.specs.declared.def.TypeDef.{TypeDef}
@@ -45,16 +42,6 @@ known_form None h = never (sym h)
 
 -- ---- which holders have places for their parts
 
-any_tells : (b : Bool) (t : Data) → ((ds : T.Items) → t ≡ T.list ds → b ≡ true) → ((K.List ≡ kind_of t → ⊥) → b ≡ false) → Tells b (any_holder t)
-any_tells b (T.list ds) listed other = listed ds refl
-any_tells b (T.map ms) listed other = other (λ p. absurd cc)
-any_tells b T.null listed other = tt
-any_tells b (T.boolean a) listed other = tt
-any_tells b (T.integer n) listed other = tt
-any_tells b (T.text s) listed other = tt
-any_tells b (T.bytes s) listed other = tt
-any_tells b (T.link s) listed other = tt
-
 module _ (rows : List Row) (t : Data) (def : TypeDef) (h : Holder) (held : Held rows def h t) where
   pub list_tells : (elem : Slot) (at : ℕ) → def ≡ D.List elem at → Tells true h
   list_tells elem at is = by held where
@@ -65,16 +52,6 @@ module _ (rows : List Row) (t : Data) (def : TypeDef) (h : Holder) (held : Held 
     by (of_member u n v m y e k a b g) = let wrong : D.Union u ≡ D.List elem at = sym e ∙ is in absurd cc
     by (of_entries l l_at el pl form ps es e k a b) = let wrong : D.Map l l_at el pl form ≡ D.List elem at = sym e ∙ is in absurd cc
     by (of_nothing v k) = subst (Tells true) (sym k) tt
-
-  pub any_told : (b : Bool) → def ≡ D.Any → ((K.List ≡ kind_of t) → b ≡ true) → ((K.List ≡ kind_of t → ⊥) → b ≡ false) → Tells b h
-  any_told b is listed other = by held where
-    by : Held rows def h t → Tells b h
-    by (of_any e k) = subst (Tells b) (sym k) (any_tells b t (λ ds e. listed (ap kind_of (sym e))) other)
-    by (of_elements el pl vs ds e k a b) = let wrong : D.List el pl ≡ D.Any = sym e ∙ is in absurd cc
-    by (of_fields z os ds e k a b) = let wrong : D.Struct z ≡ D.Any = sym e ∙ is in absurd cc
-    by (of_member u n v m y e k a b g) = let wrong : D.Union u ≡ D.Any = sym e ∙ is in absurd cc
-    by (of_entries l l_at el pl form ps es e k a b) = let wrong : D.Map l l_at el pl form ≡ D.Any = sym e ∙ is in absurd cc
-    by (of_nothing v k) = subst (Tells b) (sym k) tt
 
   pub others_tell : (def ≡ D.Any → ⊥) → ((elem : Slot) (at : ℕ) → def ≡ D.List elem at → ⊥) → Tells false h
   others_tell no_any no_list = by held where

@@ -1,8 +1,8 @@
 -- What an edit of a last holder changes in the data of the holder.
-use Rattle.std.specs.Prelude.{◌≡◌, ℕ, Bool, true, false, is_some, List, [], ◌∷◌, Option, Some, None}
+use Rattle.std.specs.Prelude.{◌≡◌, ℕ, Bool, true, false, is_some, List, [], Option, Some, None}
 use Rattle.ild_cbor.specs.Nodes.{Stands}
 use Rattle.ild_cbor.specs.declared.node.Node.{Node}
-use Rattle.ild_change.specs.TreeChange.{replace, insert_item, insert_entry, remove_item, remove_entry, Located, unchanged, one}
+use Rattle.ild_change.specs.TreeChange.{insert_item, insert_entry, remove_item, remove_entry, Located, unchanged, one}
 use Rattle.ild_data.specs.Data.{Data}
 use Rattle.ild_data.specs.Key.{value_at}
 use Rattle.ild_edits.specs.Table.{delete_part, insert_part, refusal_to_delete, slot_to_insert, slot_to_set}
@@ -19,7 +19,7 @@ use Rattle.ild_schema.specs.declared.def.StructDef.{StructDef}
 use Rattle.ild_schema.specs.declared.number.Slot.{Slot}
 use Rattle.ild_schema.specs.declared.row.Row.{Row}
 use Rattle.ild_steps.specs.Steps.{carried}
-use Rattle.ild_typed.specs.At.{InSlot, seen}
+use Rattle.ild_typed.specs.At.{seen}
 use Rattle.ild_typed.specs.Composed.{map_form, struct_form}
 use Rattle.ild_typed.specs.Hamt.{alone}
 use Rattle.ild_typed.specs.Holder.{Holder, any_elements, any_entries, elements, entries, fields, member, nothing, value_of}

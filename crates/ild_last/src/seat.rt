@@ -112,12 +112,8 @@ pub(crate) fn field_pair_change<'a>(
     match items(piece) {
         Some(items) => {
             let seat = field_seat(items, fields, number);
-            pair_change(
-                seat.place,
-                name_in_block(&fields[number]),
-                seat.there,
-                after,
-            )
+            let name = name_in_block(&fields[number]);
+            pair_change(seat.place, name, seat.there, after)
         }
         None => LastChange::Nothing,
     }

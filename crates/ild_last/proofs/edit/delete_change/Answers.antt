@@ -1,4 +1,4 @@
-use Rattle.std.proofs.Common.{◌≡◌, true, false, Some, None, refl, sym, ◌∙◌, ap, subst}
+use Rattle.std.proofs.Common.{None, ◌∙◌, subst}
 use Rattle.ild_schema.specs.Slots.{form_of}
 use Rattle.ild_typed.specs.At.{seen}
 use Rattle.ild_typed.specs.Hamt.{alone}

@@ -3,7 +3,7 @@ use Rattle.ild_schema.specs.Slots.{form_of}
 use Rattle.ild_schema.specs.Table.{def_at}
 use Rattle.ild_steps.proofs.Holding.{held_by}
 use Rattle.ild_typed.specs.At.{seen}
-use Rattle.ild_last.proofs.Verbs.{any_told, list_tells, others_tell}
+use Rattle.ild_last.proofs.Verbs.{list_tells, others_tell}
 use Rattle.ild_last.proofs.items.is_listed.Goals as goal
 
 pub returns-in-List-clause-told : goal.returns-in-List-clause-told

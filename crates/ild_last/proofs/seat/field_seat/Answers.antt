@@ -1,4 +1,4 @@
-use Rattle.std.proofs.Common.{◌≡◌, ◌<◌, ◌≤◌, Some, None, arith, refl, drop, subst, ap, length, ◌∙◌, sym}
+use Rattle.std.proofs.Common.{◌<◌, Some, None, arith, refl, drop, subst, ap, length, ◌∙◌}
 use Rattle.ild_lift.proofs.Lifting.{written_is}
 use Rattle.ild_lift.specs.Places.{field_data, left_out, written_before}
 use Rattle.ild_schema.specs.Marks.{field_text}

@@ -1,4 +1,4 @@
-use Rattle.std.proofs.Common.{◌≡◌, ◌≤◌, ◌-◌, ℕ, List, Option, Some, drop, length}
+use Rattle.std.proofs.Common.{◌≡◌, ◌≤◌, ◌-◌, ℕ, List, Option, Some, drop}
 use Rattle.ild_data.specs.Data.{Data}
 use Rattle.ild_lift.specs.Places.{field_data, field_named, field_place, left_out, written_before}
 use Rattle.ild_schema.specs.Clear.{AreNamesApart}
