@@ -1,15 +1,14 @@
 //! Pairs in a list, by their keys.
-ghost use Rattle.std.specs.Prelude.{◌≡◌, ◌<◌, ℕ, List, Option, Some, is_some, length, map};
-ghost use Rattle.ild_cbor.specs.Steps.{HasItems};
-ghost use Rattle.ild_data.specs.Data.{Data, items_of};
+ghost use Rattle.std.specs.Prelude.{◌≡◌, ◌<◌, ℕ, List, Option, Some, is_some, length};
+ghost use Rattle.ild_data.specs.Data.{Data};
+ghost use Rattle.ild_data.specs.Key.{value_at};
 ghost use Rattle.ild_last.specs.Change.{IsShown, located};
-ghost use Rattle.ild_last.specs.Seats.{ChangesPair, FindsField, IsSeat, Passes};
+ghost use Rattle.ild_last.specs.Seats.{ChangesPair, FindsField, HasPairs, IsSeat, Passes};
 ghost use Rattle.ild_lift.specs.Pairs.{at_pair};
 ghost use Rattle.ild_lift.specs.Places.{place_of};
-ghost use Rattle.ild_data.specs.Key.{value_at};
 ghost use Rattle.ild_piece.specs.Pieces.{StandsFor};
 ghost use Rattle.ild_schema.specs.declared.row.Row.{Row};
-ghost use Rattle.ild_typed.specs.Strings.{listpairs, pair_data};
+ghost use Rattle.ild_typed.specs.Strings.{listpairs};
 
 use crate::between::pair_change;
 use crate::change::LastChange;
@@ -27,7 +26,7 @@ pub(crate) struct Seat {
 
 // The place of the pair with a key, or behind all pairs.
 fn key_seat(items: Items<'_>, key: &str) -> Seat
-    ensures { (es : List (List ℕ × Data)) → HasItems items.entry (items_of (map pair_data es)) → IsSeat result (place_of key.now es) (value_at key.now es) }
+    ensures { (es : List (List ℕ × Data)) → HasPairs items.entry es → IsSeat result (place_of key.now es) (value_at key.now es) }
 {
     let mut left = items;
     let mut place: u64 = 0;
@@ -58,7 +57,7 @@ pub(crate) fn key_pair_change<'a>(piece: &Piece<'_>, key: &'a str, after: bool) 
 
 // The pairs behind the first one, where that has this key.
 fn behind<'b>(items: Items<'b>, key: &str) -> Option<Items<'b>>
-    ensures { (es : List (List ℕ × Data)) → HasItems items.entry (items_of (map pair_data es)) → Passes key.now es result }
+    ensures { (es : List (List ℕ × Data)) → HasPairs items.entry es → Passes key.now es result }
 {
     let mut left = items;
     match left.next() {
