@@ -11,6 +11,8 @@ mod steps;
 mod structs;
 mod union;
 
+pub use pair::is_keyed;
 pub use part::steps_to;
 pub use segment::index;
 pub use steps::PartSteps;
+pub use structs::name_in_block;

@@ -14,8 +14,8 @@ use crate::steps::PartSteps;
 use ild_cbor::{Items, Node, Piece};
 use ild_piece::items;
 
-// Whether the key of a pair is this one.
-fn is_keyed(item: &Node<'_>, key: &str) -> bool
+/// Whether the key of a pair is this one.
+pub fn is_keyed(item: &Node<'_>, key: &str) -> bool
     ensures { (e : List ℕ × Data) → Stands item.now (pair_data e) → result ≡ same_text key.now e.0 }
 {
     match item.item(0) {

@@ -10,8 +10,8 @@ use crate::steps::PartSteps;
 use ild_cbor::Piece;
 use ild_schema::{Field, StructDef, StructForm};
 
-// The name of a field in a block.
-fn name_in_block(field: &Field) -> &str
+/// The name of a field in a block.
+pub fn name_in_block(field: &Field) -> &str
     ensures { result.now ≡ field_text field.now }
 {
     match &field.rename {

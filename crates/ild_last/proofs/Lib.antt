@@ -1,0 +1,7 @@
+mod Counting
+mod Comings
+mod Seeking
+mod Passing
+mod Forming
+mod Naming
+mod Verbs
