@@ -29,10 +29,11 @@ use Rattle.ild_data.specs.TrieBlocks.{nodes_beneath}
 use Rattle.ild_hamt.proofs.Beneath.{way-beneath, among-turned, among-take}
 use Rattle.ild_bulk.proofs.Puts.{told-map, told-same}
 use Rattle.ild_walker.specs.Trees.{HoldsBelow}
-use Rattle.ild_hamt.specs.Way.{IsRootOf}
+use Rattle.ild_climb.specs.Way.{IsRootOf}
 use Rattle.ild_hamt.specs.Removing.{Removes}
-use Rattle.ild_hamt.proofs.Differing.{differs-without}
-use Rattle.ild_hamt.specs.Rewriting.{DiffersAt, HasRoot, HoldsAfter, Rewrites, way_up}
+use Rattle.ild_climb.proofs.Differing.{differs-without}
+use Rattle.ild_climb.specs.Rewriting.{DiffersAt, HasRoot, Rewrites, way_up}
+use Rattle.ild_hamt.specs.Rewriting.{HoldsAfter}
 use Rattle.ild_hamt.proofs.Holding.{all-holds}
 use Rattle.ild_hamt.proofs.Sound.{way-holds}
 use Rattle.ild_hamt.proofs.Sounded.{entries-sound, way-short}

@@ -12,7 +12,7 @@ use Rattle.ild_trie.specs.Way.{along}
 use Rattle.ild_trie.proofs.Parts.{total}
 use Rattle.ild_trie.proofs.Climb.{in_order-along}
 use Rattle.ild_trie.proofs.Node.{set-exhausts, node-slots, length-along}
-use Rattle.ild_trie.proofs.Way.{find-along, along-more}
+use Rattle.ild_trie.proofs.Way.{find-along}
 use Rattle.ild_trie.proofs.Index.{index_below}
 use Rattle.ild_trie.proofs.Slots.{slot_at}
 use Rattle.ild_trie.proofs.Fold.{slot-few}
@@ -24,13 +24,14 @@ use Rattle.ild_slots.specs.declared.view.NodeSlot.{NodeSlot}
 use Rattle.ild_slots.specs.declared.view.NodeSlot.TheVariants as S
 use Rattle.ild_slots.specs.declared.bucket.Bucket.{Bucket}
 use Rattle.ild_slots.specs.Views.{HasSlots, HasEntries, ValueIn, bucket_node}
-use Rattle.ild_hamt.proofs.Shown.{value-found}
+use Rattle.ild_climb.proofs.Shown.{value-found}
+use Rattle.ild_climb.proofs.Upward.{next-part}
 use Rattle.ild_hamt.specs.declared.trail.Trail.{Trail}
 use Rattle.ild_typed.specs.Composed.{usual}
-use Rattle.ild_hamt.specs.Seen.{Shows, ValueIs}
+use Rattle.ild_climb.specs.Seen.{Shows, ValueIs}
 use Rattle.ild_hamt.specs.Ends.{EndsAt, agree, agreeing}
 use Rattle.ild_walker.specs.Gives.{IsNodeOf}
-use Rattle.ild_hamt.specs.Way.{slot_for}
+use Rattle.ild_climb.specs.Way.{slot_for}
 use Rattle.ild_hamt.specs.Descending.{IsTrailOf, trail_blocks}
 
 all_pass : {X : Type 0} (xs : List X) → filter (λ x. true) xs ≡ xs
@@ -116,12 +117,6 @@ pub record TrailEnd (h : List ℕ → List ℕ) (p : TrieShape) (k : List ℕ) (
   pub left_is : trie_levels p ≡ suc (length bs + less)
   pub stands : slots_at h p less (length bs) (along h p k (length bs) 0 es) ≡ Some last
   pub slot : slot_for p (h k) (length bs) last ≡ sized p.bucket empty (along h p k (length bs + 1) 0 es)
-
-pub next-part : (h : List ℕ → List ℕ) (p : TrieShape) (k : List ℕ) (n : ℕ) (es : List (List ℕ × Data))
-    → along h p k (n + 1) 0 es ≡ part (at_depth h p n) (along h p k n 0 es) (at_depth h p n k)
-next-part h p k n es =
-    let e : 0 + n ≡ n = omega arith in
-    subst (λ (d : ℕ). along h p k (n + 1) 0 es ≡ part (at_depth h p d) (along h p k n 0 es) (at_depth h p d k)) e (along-more h p k n 0 es)
 
 end-slot : (h : List ℕ → List ℕ) (p : TrieShape) (k : List ℕ) (n less : ℕ) (es : List (List ℕ × Data)) (last : List TrieSlot)
     → slots_at h p less n (along h p k n 0 es) ≡ Some last → length (along h p k (n + 1) 0 es) ≤ p.bucket → slot_for p (h k) n last ≡ sized p.bucket empty (along h p k (n + 1) 0 es)

@@ -21,7 +21,7 @@ use Rattle.ild_slots.specs.Views.{HasSlots}
 use Rattle.ild_slots.specs.declared.view.NodeView.{NodeView}
 use Rattle.ild_slots.specs.declared.view.NodeSlot.{NodeSlot}
 use Rattle.ild_typed.specs.Composed.{usual}
-use Rattle.ild_hamt.specs.Seen.{Shows}
+use Rattle.ild_climb.specs.Seen.{Shows}
 use Rattle.ild_hamt.specs.Ends.{EndsAt, hashes_of, is_full}
 use Rattle.ild_cbor.specs.declared.why.BlockWhy.{BlockWhy}
 use Rattle.ild_cbor.specs.declared.why.BlockWhy.TheVariants.{Missing, Cbor, Shape as NoNode}
@@ -32,8 +32,9 @@ use Rattle.ild_hamt.specs.Fetching.{Fetches, BlockCause, IsBlockAt}
 use Rattle.ild_bulk.specs.Putting.{AreHeld}
 use Rattle.ild_walker.specs.Gives.{IsNodeOf}
 use Rattle.ild_walker.specs.Trees.{HoldsBelow}
-use Rattle.ild_hamt.specs.Way.{slot_for, child_id, Leads, IsRootOf}
-use Rattle.ild_hamt.specs.Descending.{Reads, DescendAnswer, TrailIs, NodeAt, Descends, IsBadChild, LinksBeyond, trail_blocks}
+use Rattle.ild_climb.specs.Way.{slot_for, child_id, Leads, IsRootOf}
+use Rattle.ild_climb.specs.Rewriting.{NodeAt}
+use Rattle.ild_hamt.specs.Descending.{Reads, DescendAnswer, TrailIs, Descends, IsBadChild, LinksBeyond, trail_blocks}
 use Rattle.ild_hamt.proofs.Leading.{leads-more, leads-end, leads-node, held-more, leads-way, child-node, Child, held-node}
 
 -- ---- where the trie is held

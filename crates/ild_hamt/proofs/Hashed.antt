@@ -18,14 +18,14 @@ use Rattle.ild_data.specs.Trie.{TrieSlot, empty, bucket, child, bucket_entries}
 use Rattle.ild_data.specs.declared.id.BlockId.{BlockId}
 use Rattle.ild_slots.specs.Views.{EntryIs, HasEntries, ValueIn, bucket_node}
 use Rattle.ild_slots.specs.declared.view.NodeSlot.TheVariants as S
-use Rattle.ild_hamt.specs.Seen.{Shows}
+use Rattle.ild_climb.specs.Seen.{Shows}
 use Rattle.ild_slots.specs.declared.bucket.Bucket.{Bucket}
 use Rattle.ild_node.specs.declared.keyed.Keyed.{Keyed}
 use Rattle.ild_node.specs.declared.row.Row.{Row}
 use Rattle.ild_hamt.specs.Ends.{agree, agreeing, agreeing_hashes, hashes_of, is_full}
-use Rattle.ild_hamt.specs.Gathering.{some_entry}
-use Rattle.ild_hamt.proofs.Differing.{other-key}
-use Rattle.ild_hamt.proofs.PutEach.{got, without-append}
+use Rattle.ild_climb.specs.Gathering.{some_entry}
+use Rattle.ild_climb.proofs.Differing.{other-key}
+use Rattle.ild_climb.proofs.PutEach.{got, without-append}
 
 -- ---- the entries without a key
 

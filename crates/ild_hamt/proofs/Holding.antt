@@ -11,10 +11,10 @@ use Rattle.ild_trie.proofs.Slots.{slot_at}
 use Rattle.ild_data.specs.Spell.{spell, id_of}
 use Rattle.ild_edges.specs.Store.{Keeps}
 use Rattle.ild_walker.specs.Trees.{IsHeldNode, HoldsBelow}
-use Rattle.ild_hamt.specs.Way.{IsRootOf}
+use Rattle.ild_climb.specs.Way.{IsRootOf}
 use Rattle.ild_hamt.specs.Holding.{HoldsWay}
-use Rattle.ild_hamt.specs.Rewriting.{DiffersAt}
-use Rattle.ild_hamt.proofs.Differing.{part-differs, part-others}
+use Rattle.ild_climb.specs.Rewriting.{DiffersAt}
+use Rattle.ild_climb.proofs.Differing.{part-differs, part-others}
 
 -- entries that a bucket takes have no node beneath
 holds-few : (h : List ℕ → List ℕ) (p : TrieShape) (held : List (List ℕ)) (left depth : ℕ) (es : List (List ℕ × Data)) → length es ≤ p.bucket → HoldsBelow h p held left depth es

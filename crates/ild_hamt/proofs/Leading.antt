@@ -19,7 +19,7 @@ use Rattle.ild_hamt.specs.Ends.{EndsAt}
 use Rattle.ild_bulk.specs.Putting.{AreHeld}
 use Rattle.ild_walker.specs.Gives.{IsNodeOf}
 use Rattle.ild_walker.specs.Trees.{IsHeldNode, HoldsBelow}
-use Rattle.ild_hamt.specs.Way.{slot_for, Leads}
+use Rattle.ild_climb.specs.Way.{slot_for, Leads}
 
 pub leads-more : (p : TrieShape) (hash : List ℕ) (depth : ℕ) (slots : List TrieSlot) (bs : List (List ℕ)) (last : List TrieSlot) (b : List ℕ) (next : List TrieSlot)
     → Leads p hash depth slots bs last → slot_for p hash (depth + length bs) last ≡ child (id_of b) → IsNodeOf p b next → Leads p hash depth slots (bs ++ b ∷ []) next

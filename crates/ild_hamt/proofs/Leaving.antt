@@ -1,5 +1,5 @@
 -- How the rewriting of a way begins at the end of a trail, and how it ends.
-use Rattle.std.proofs.Common.{◌≡◌, inl, inr, ℕ, suc, ◌+◌, ◌-◌, ◌≤◌, Bool, true, false, cond, not, ◌||◌, List, [], ◌∷◌, ◌++◌, length, Option, Some, None, is_some, refl, sym, ap, ◌∙◌, subst, arith, append-nil}
+use Rattle.std.proofs.Common.{◌≡◌, inl, ℕ, suc, ◌+◌, ◌-◌, ◌≤◌, Bool, true, false, cond, not, List, [], ◌∷◌, ◌++◌, length, Option, Some, None, is_some, refl, sym, ap, ◌∙◌, subst, arith, append-nil}
 use Rattle.std.specs.Prelude.{Result, Ok, Err, IfOk, IsSome}
 use Rattle.std.specs.Ordering.{eq_by_cmp}
 use Rattle.std.specs.FinMap.{find, put}
@@ -17,9 +17,7 @@ use Rattle.ild_trie.proofs.Parts.{same_by_find, same_key, key_itself, in_order-p
 use Rattle.ild_typed.specs.Composed.{usual}
 use Rattle.ild_cbor.specs.declared.node.Node.{Node}
 use Rattle.ild_edges.specs.Store.{Moment}
-use Rattle.ild_bulk.specs.Build.{is_long, any_long}
 use Rattle.ild_bulk.specs.Planned.{PlansSlot, planned, slot_plan}
-use Rattle.ild_bulk.specs.Putting.{PutsAll}
 use Rattle.ild_node.specs.NewSlots.{slot_seen}
 use Rattle.ild_slots.specs.Views.{HasEntries, ValueIn, bucket_node}
 use Rattle.ild_slots.specs.declared.bucket.Bucket.{Bucket}
@@ -31,32 +29,13 @@ use Rattle.ild_hamt.specs.Descending.{IsTrailOf, trail_blocks}
 use Rattle.ild_hamt.specs.Ends.{hashes_of}
 use Rattle.ild_hamt.proofs.Hashed.{others-put}
 use Rattle.ild_hamt.specs.Removing.{Removes}
-use Rattle.ild_hamt.specs.Rewriting.{StopsAt, Rewrites, ClimbState, way_up}
-use Rattle.ild_hamt.specs.Seen.{Shows}
+use Rattle.ild_climb.specs.Rewriting.{Rewrites, ClimbState}
+use Rattle.ild_climb.specs.Seen.{Shows}
 use Rattle.ild_hamt.specs.declared.trail.Trail.{Trail}
-use Rattle.ild_hamt.proofs.Differing.{along-without}
+use Rattle.ild_climb.proofs.Differing.{along-without}
 use Rattle.ild_hamt.proofs.Fulling.{end-bucket, full-is}
 use Rattle.ild_hamt.proofs.Roomy.{has-room}
-use Rattle.ild_hamt.proofs.Upward.{start-put, start-few}
-
--- a put that ended with a fault
-pub stopped : (h : List ℕ → List ℕ) (p : TrieShape) (k : List ℕ) (es : List (List ℕ × Data)) (m : Moment) (e : HamtFault) (n : Moment) → StopsAt h p k es m e n → Rewrites h p k es m (Err e) n
-stopped h p k es m F.Exhausted n stops = absurd stops.puts.answer
-stopped h p k es m F.NoKey n stops = absurd stops.puts.answer
-stopped h p k es m F.Size n stops = absurd stops.puts.answer
-stopped h p k es m F.Memory n stops = inr stops
-stopped h p k es m (F.Block id why) n stops = stops
-stopped h p k es m F.Store n stops = stops
-stopped h p k es m (F.Clash id kept new) n stops = stops
-
--- the blocks that were planned are the way
-pub way-long : (h : List ℕ → List ℕ) (p : TrieShape) (k : List ℕ) (es : List (List ℕ × Data)) (root : List ℕ) (plan blocks : List (List ℕ)) (a b both : Bool) → plan ≡ way_up h p k es → blocks ≡ plan
-    → a ≡ is_long root → b ≡ any_long blocks → (a || b) ≡ both → any_long (root ∷ way_up h p k es) ≡ both
-way-long h p k es root plan blocks a b both is same one all sums = (λ i. sym one i || sym (all ∙ ap any_long (same ∙ is)) i) ∙ sums
-
-pub way-puts : (h : List ℕ → List ℕ) (p : TrieShape) (k : List ℕ) (es : List (List ℕ × Data)) (plan blocks : List (List ℕ)) (m : Moment) (r : Result (Unit {0}) HamtFault) (n : Moment) → plan ≡ way_up h p k es → blocks ≡ plan
-    → PutsAll m blocks r n → PutsAll m (way_up h p k es) r n
-way-puts h p k es plan blocks m r n is same puts = subst (λ (bs : List (List ℕ)). PutsAll m bs r n) (same ∙ is) puts
+use Rattle.ild_climb.proofs.Upward.{start-put, start-few}
 
 -- ---- the bottom
 

@@ -1,17 +1,9 @@
-pub mod Shown
-pub mod NodeTests
 pub mod Leading
 pub mod Going
 pub mod Fulling
-pub mod Chain
-pub mod Differing
-pub mod Upward
 pub mod Holding
 pub mod Roomy
 pub mod Sound
-pub mod PutEach
-pub mod Weights
-pub mod Nested
 pub mod Leaving
 pub mod Sounded
 pub mod Whole

@@ -20,9 +20,9 @@ use Rattle.ild_bulk.specs.Putting.{AreHeld}
 use Rattle.ild_walker.specs.Trees.{HoldsBelow, IsHeldNode}
 use Rattle.ild_hamt.proofs.Holding.{linked}
 use Rattle.ild_hamt.proofs.Leading.{held-node}
-use Rattle.ild_hamt.proofs.Nested.{shallow-slot}
+use Rattle.ild_climb.proofs.Nested.{shallow-slot}
 use Rattle.ild_hamt.proofs.Sound.{IsShortHeld}
-use Rattle.ild_hamt.proofs.Weights.{few-held}
+use Rattle.ild_climb.proofs.Weights.{few-held}
 
 -- ---- all entries, part by part
 

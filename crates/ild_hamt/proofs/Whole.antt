@@ -18,8 +18,8 @@ use Rattle.ild_typed.proofs.TrieTells.{SlotWay, nothing, few, many, slot_way}
 use Rattle.ild_bulk.specs.Children.{IsIdAmong, ChildIn, IsNodeOver, AddsWhole}
 use Rattle.ild_bulk.specs.Putting.{AreHeld, IsAmong, StopsAfter}
 use Rattle.ild_walker.specs.Trees.{HoldsBelow}
-use Rattle.ild_hamt.specs.Rewriting.{DiffersAt}
-use Rattle.ild_hamt.proofs.Differing.{part-differs, part-others}
+use Rattle.ild_climb.specs.Rewriting.{DiffersAt}
+use Rattle.ild_climb.proofs.Differing.{part-differs, part-others}
 use Rattle.ild_hamt.proofs.Holding.{Had, had-below, part-there}
 use Rattle.ild_hamt.proofs.Leading.{slots-many}
 

@@ -7,7 +7,7 @@ use Rattle.ild_edges.specs.Count.{Rose}
 use Rattle.ild_edges.specs.Store.{Moment, Later}
 use Rattle.ild_edges.specs.Told.{IfTold}
 use Rattle.ild_data.specs.TrieShape.{TrieShape, trie_levels}
-use Rattle.ild_data.specs.Trie.{TrieSlot, child, is_child, bucket_entries, slots_at}
+use Rattle.ild_data.specs.Trie.{TrieSlot, child, is_child, bucket_entries}
 use Rattle.ild_trie.specs.Way.{along, way}
 use Rattle.ild_cbor.specs.declared.why.Why.TheVariants.{Trie}
 use Rattle.ild_cbor.specs.declared.why.BlockWhy.{BlockWhy}
@@ -18,9 +18,9 @@ use Rattle.ild_hamt.specs.declared.trail.Trail.{Trail}
 use Rattle.ild_hamt.specs.Fetching.{BlockCause}
 use Rattle.ild_hamt.specs.Ends.{hashes_of, is_full}
 use Rattle.ild_bulk.specs.Putting.{AreHeld}
-use Rattle.ild_walker.specs.Gives.{IsNodeOf}
 use Rattle.ild_walker.specs.Trees.{HoldsBelow}
-use Rattle.ild_hamt.specs.Way.{Leads, slot_for, IsRootOf}
+use Rattle.ild_climb.specs.Rewriting.{NodeAt}
+use Rattle.ild_climb.specs.Way.{Leads, slot_for, IsRootOf}
 
 abbrev pub trail_blocks : Trail → List (List ℕ)
 trail_blocks t = t.blocks.items
@@ -48,15 +48,6 @@ pub record IsTrail (h : List ℕ → List ℕ) (p : TrieShape) (k : List ℕ) (b
   pub ends : is_child (slot_for p (h k) (length bs) last) ≡ false
   pub full : t.exhausted ≡ is_full h p k (h k) (length bs + 1) (bucket_entries (slot_for p (h k) (length bs) last))
   pub others : t.others.items ≡ hashes_of h (without k (bucket_entries (slot_for p (h k) (length bs) last)))
-
--- the node at a place of a way, whose block this is
-pub record NodeAt (h : List ℕ → List ℕ) (p : TrieShape) (k : List ℕ) (left : ℕ) (es : List (List ℕ × Data)) (j : ℕ) (b : List ℕ) : Type 0 where
-  pub slots : List TrieSlot
-  pub node : IsNodeOf p b slots
-  pub less : ℕ
-  pub left_is : left ≡ suc (j + suc less)
-  pub stands : slots_at h p less (j + 1) (along h p k (j + 1) 0 es) ≡ Some slots
-  pub many : p.bucket < length (along h p k (j + 1) 0 es)
 
 -- the trail is the way of a key through the trie of these entries, whose root node has these slots
 pub record IsTrailOf (h : List ℕ → List ℕ) (p : TrieShape) (k : List ℕ) (slots : List TrieSlot) (es : List (List ℕ × Data)) (t : Trail) : Type 0 where

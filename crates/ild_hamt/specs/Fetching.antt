@@ -15,12 +15,7 @@ use Rattle.ild_cbor.specs.declared.why.BlockWhy.TheVariants.{Missing, Cbor, Shap
 use Rattle.ild_cbor.specs.declared.why.Why.TheVariants.{Trie}
 use Rattle.ild_slots.specs.declared.fault.HamtFault.{HamtFault}
 use Rattle.ild_slots.specs.declared.fault.HamtFault.TheVariants.{Block, Store, Memory}
-
--- the block is a node of this shape
-pub record IsNodeBlock (p : TrieShape) (b : List ℕ) : Type 0 where
-  pub slots : List TrieSlot
-  pub is : IsBlockOf b (node_data slots)
-  pub form : IsNode p slots
+use Rattle.ild_climb.specs.NodeBytes.{IsNodeBlock}
 
 -- the block is the spelling of other data
 pub record IsOtherBlock (p : TrieShape) (b : List ℕ) : Type 0 where

@@ -1,13 +1,8 @@
-pub mod Seen
 pub mod Fetching
-pub mod NodeBytes
 pub mod Reaching
-pub mod Way
 pub mod Ends
 pub mod Descending
 pub mod Setting
 pub mod Holding
-pub mod Known
-pub mod Gathering
 pub mod Rewriting
 pub mod Removing

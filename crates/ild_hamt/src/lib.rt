@@ -3,14 +3,11 @@
 
 mod descending;
 mod ending;
-mod gathering;
 mod hashing;
-mod lifting;
 mod reaching;
 mod reading;
 mod rewriting;
 mod trail;
-mod weighing;
 
 pub use descending::descend;
 pub use ild_data::{KeyHash, PadKeys, Sha256Keys};

@@ -4,13 +4,10 @@ ghost use Rattle.ild_data.specs.Trie.{TrieSlot};
 ghost use Rattle.ild_typed.specs.Composed.{usual};
 ghost use Rattle.ild_slots.specs.Views.{HasSlots};
 ghost use Rattle.ild_hamt.specs.Fetching.{Judges};
-ghost use Rattle.ild_hamt.specs.Known.{SomeNode};
-ghost use Rattle.ild_hamt.specs.NodeBytes.{IsNodeBytes};
-ghost use Rattle.ild_walker.specs.Gives.{IsNodeOf};
+ghost use Rattle.ild_climb.specs.Known.{SomeNode};
 
-use ild_cbor::{BlockWhy, check, known_root};
-use ild_data::Octets;
-use ild_node::{NodeView, known_node, node_of};
+use ild_cbor::{BlockWhy, check};
+use ild_node::{NodeView, node_of};
 
 /// What is wrong with a block, where it isn't that of a node.
 pub(crate) fn refusal(block: &[u8]) -> Option<BlockWhy>
@@ -25,16 +22,7 @@ pub(crate) fn refusal(block: &[u8]) -> Option<BlockWhy>
     }
 }
 
-/// The node that a block is, which was checked when it was read and isn't gone over again.
-pub(crate) fn view_in(block: &Octets) -> Option<NodeView<'_>>
-    requires { IsNodeBytes block.now }
-    ensures known { IfSome result (λ v. ∥ SomeNode v ∥₁) }
-    ensures only { (slots : List TrieSlot) → IsNodeOf usual block.now slots → IsSome result × IfSome result (λ v. HasSlots usual v slots) }
-{
-    known_node(known_root(block.as_slice()))
-}
-
-/// The same view of a node, of which is known that it was read from one.
+/// The view of a node once more, of which is known that it was read from one.
 pub(crate) fn view_again(view: NodeView<'_>) -> Option<NodeView<'_>>
     ensures known { IfSome result (λ v. ∥ SomeNode v ∥₁) }
     ensures only { (slots : List TrieSlot) → HasSlots usual view.entry slots → IsSome result × IfSome result (λ v. HasSlots usual v slots) }

@@ -10,18 +10,18 @@ ghost use Rattle.ild_slots.specs.Views.{HasSlots};
 ghost use Rattle.ild_bulk.specs.Planned.{PlansSlot};
 ghost use Rattle.ild_hamt.specs.Descending.{trail_blocks};
 ghost use Rattle.ild_hamt.specs.Ends.{EndsAt, hashes_of};
-ghost use Rattle.ild_hamt.specs.Known.{SomeNode, SomeSlot};
-ghost use Rattle.ild_hamt.specs.NodeBytes.{IsNodeBytes};
-ghost use Rattle.ild_hamt.specs.Rewriting.{ClimbState, DiffersAt, Rewrites};
-ghost use Rattle.ild_hamt.specs.Seen.{Shows};
-ghost use Rattle.ild_hamt.specs.Way.{IsRootOf, slot_for};
+ghost use Rattle.ild_climb.specs.Known.{SomeNode, SomeSlot};
+ghost use Rattle.ild_climb.specs.NodeBytes.{IsNodeBytes};
+ghost use Rattle.ild_climb.specs.Rewriting.{ClimbState, DiffersAt, Rewrites};
+ghost use Rattle.ild_climb.specs.Seen.{Shows};
+ghost use Rattle.ild_climb.specs.Way.{IsRootOf, slot_for};
 
 use crate::ending::slot_at;
 use crate::hashing::keyed;
-use crate::lifting::{climb, few_slot};
-use crate::reading::{view_again, view_in};
+use crate::reading::view_again;
 use crate::trail::Trail;
-use ild_bulk::{PlannedBlock, any_long, is_long, plan_keyed, put_all};
+use ild_bulk::{PlannedBlock, plan_keyed};
+use ild_climb::{climb, few_slot, put_way, view_in};
 use ild_data::Octets;
 use ild_edges::Store;
 use ild_node::{BUCKET_SIZE, HamtFault, LEVELS, NewHold, NodeSlot, NodeView, Rows};
@@ -106,10 +106,5 @@ pub(crate) fn rewrite<K: Store>(
     let hash = trail.hash;
     let depth = trail.depth;
     let root = climb(alloc, root, trail.blocks, &hash, depth, slot, &mut plan)?;
-    let long = is_long(&root) | any_long(&plan);
-    if long {
-        return Err(HamtFault::Size);
-    }
-    put_all(&plan, store)?;
-    Ok(root)
+    put_way(root, &plan, store)
 }

@@ -1,12 +1,11 @@
 //! The way of a key.
 ghost use Rattle.std.specs.Prelude.{All};
-ghost use Rattle.ild_hamt.specs.NodeBytes.{IsNodeBytes};
+ghost use Rattle.ild_climb.specs.NodeBytes.{IsNodeBytes};
 
 use crate::ending::end_slot;
-use crate::gathering::rows_without;
-use crate::lifting::few_slot;
 use crate::rewriting::{end_again, rewrite, slot_of};
 use ild_cbor::Node;
+use ild_climb::{few_slot, rows_without};
 use ild_data::{KeyHash, Octets, Txt};
 use ild_edges::Store;
 use ild_node::{HamtFault, NodeSlot, NodeView, Rows};
@@ -41,7 +40,7 @@ impl Trail {
     ghost use Rattle.ild_hamt.specs.Removing.{Removes, RestIs};
     ghost use Rattle.ild_edges.specs.Told.{BothTold};
     ghost use Rattle.ild_hamt.specs.Rewriting.{HoldsAfter, IsTrailFrom};
-    ghost use Rattle.ild_hamt.specs.Seen.{ValueIs};
+    ghost use Rattle.ild_climb.specs.Seen.{ValueIs};
     ghost use Rattle.ild_hamt.specs.Setting.{Sets};
 
     /// The blocks that were read, from the child of the root down.

@@ -6,7 +6,7 @@ use Rattle.ild_trie.proofs.Way.{find-along}
 use Rattle.ild_node.specs.NewSlots.{slot_seen}
 use Rattle.ild_typed.specs.Composed.{usual}
 use Rattle.ild_hamt.specs.Descending.{trail_blocks}
-use Rattle.ild_hamt.proofs.Differing.{differs-without}
+use Rattle.ild_climb.proofs.Differing.{differs-without}
 use Rattle.ild_hamt.proofs.Leaving.{rest-state, removes-some}
 use Rattle.ild_hamt.proofs.trail.Trail.remove_way.Goals as goal
 

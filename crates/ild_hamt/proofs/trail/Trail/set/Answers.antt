@@ -3,7 +3,7 @@ use Rattle.std.specs.Prelude.{IsUtf8}
 use Rattle.std.specs.FinMap.{put}
 use Rattle.ild_data.specs.ByteOrder.{bytewise}
 use Rattle.ild_hamt.proofs.After.{holds-after, sound-put}
-use Rattle.ild_hamt.proofs.Differing.{differs-put}
+use Rattle.ild_climb.proofs.Differing.{differs-put}
 use Rattle.ild_hamt.proofs.trail.Trail.set.Goals as goal
 
 pub returns-clause-held : goal.returns-clause-held

@@ -2,7 +2,7 @@ use Rattle.std.proofs.Common.{inl, refl, sym, ap, ◌∙◌, arith}
 use Rattle.std.specs.FinMap.{put}
 use Rattle.std.proofs.lemmas.Result.{err_from_is_err_and}
 use Rattle.ild_data.specs.ByteOrder.{bytewise}
-use Rattle.ild_hamt.proofs.Differing.{differs-put}
+use Rattle.ild_climb.proofs.Differing.{differs-put}
 use Rattle.ild_hamt.proofs.Leaving.{rows-put, others-end, end-state, end-stopped}
 use Rattle.ild_hamt.proofs.trail.Trail.set_way.Goals as goal
 

@@ -1,0 +1,39 @@
+use Rattle.std.proofs.Common.{◌≡◌, ◌+◌, Some, [], length, set, refl, rules, arith}
+use Rattle.std.proofs.lemmas.Result.{err_from_is_err_and}
+use Rattle.std.proofs.lemmas.List.Elements.{All-pop}
+use Rattle.ild_data.specs.Spell.{spell}
+use Rattle.ild_data.specs.Trie.{node_data}
+use Rattle.ild_trie.specs.Way.{along}
+use Rattle.ild_trie.proofs.Climb.{in_order-along}
+use Rattle.ild_typed.specs.Composed.{usual}
+use Rattle.ild_node.specs.NewSlots.{slot_seen}
+use Rattle.ild_climb.specs.NodeBytes.{IsNodeBytes}
+use Rattle.ild_climb.specs.Rewriting.{HasRoot, way_up}
+use Rattle.ild_climb.proofs.Upward.{state-last, state-slots, state-more, state-done, ok-done}
+use Rattle.ild_climb.proofs.lifting.climb.Goals as goal
+
+pub loop-block-preserved : goal.loop-block-preserved
+loop-block-preserved c = (
+  (All-pop IsNodeBytes c.loop-block.blocks.items c.pop.new.self.items (Some c.in-Some.block) c.in-Some.ensures.items c.loop-block.invariant.0).0,
+  c.in_ok-slot.ensures.filled,
+  λ h k es fs d hashed start.
+      let was = c.loop-block.invariant.2 h k es fs d hashed start in
+      let rest = c.pop.new.self.items in
+      let last = state-last h usual k es fs c.loop-block.blocks.items rest c.in-Some.block c.in-Some.block c.loop-block.depth (slot_seen c.loop-block.slot) c.loop-block.plan.items was c.in-Some.ensures.items refl in
+      let slots = state-slots h usual k c.args.hash.now es fs c.loop-block.blocks.items rest c.in-Some.block c.loop-block.depth (slot_seen c.loop-block.slot) c.loop-block.plan.items d hashed was last in
+      state-more h usual k es fs c.loop-block.blocks.items rest c.in-Some.block c.in-Some.block c.loop-block.depth c.saturating_sub-depth.result (slot_seen c.loop-block.slot) (slot_seen c.in_ok-slot.slot)
+      c.loop-block.plan.items c.lift_block.new.plan.items was c.in-Some.ensures.items last c.saturating_sub-depth.ensures
+      (c.in_ok-slot.ensures.lifts h last.at.less last.at.slots (along h usual k (length rest + 1) 0 fs) last.at.node (omega (arith, was.deep, last.long, last.at.left_is)) (in_order-along h usual k (length rest + 1) 0 fs d.now) slots),
+)
+
+pub returns : goal.returns
+returns c = λ h k slots es fs has is d hashed start.
+    let none : c.loop-block.blocks.items ≡ [] = search rules in
+    ok-done c.write_changed.result (spell (node_data (set slots c.index_at.result (slot_seen c.loop-block.slot)))) (λ b. HasRoot h usual fs b × (c.loop-block.plan.items ≡ way_up h usual k fs)) (c.write_changed.ensures slots has)
+    (λ b writes. state-done h usual k c.args.hash.now slots es fs c.loop-block.blocks.items c.loop-block.depth c.index_at.result (slot_seen c.loop-block.slot) c.loop-block.plan.items b is d hashed
+    (c.loop-block.invariant.2 h k es fs d hashed start) none (c.index_at.ensures (omega arith)) writes)
+
+pub returns-in_err-slot : goal.returns-in_err-slot
+returns-in_err-slot c = λ h k slots es fs has is d hashed start.
+    let p = err_from_is_err_and c.from_residual.result c.from_residual.ensures.1 in
+    rw p.1 tt
