@@ -1,10 +1,6 @@
 //! What stands for a field: a piece, or nothing.
-ghost use Rattle.std.specs.Prelude.{◌≡◌, IfSome, List, Option, Some, [], false};
-ghost use Rattle.ild_data.specs.Data.{Data};
-ghost use Rattle.ild_piece.specs.Pieces.{StandsFor};
-ghost use Rattle.ild_schema.specs.declared.def.Field.{Field as FieldDef};
-ghost use Rattle.ild_schema.specs.declared.row.Row.{Row};
-ghost use Rattle.ild_struct.specs.Parts.{HasNumber, IsPart};
+ghost use Rattle.std.specs.Prelude.{◌≡◌, IfSome, [], false};
+ghost use Rattle.ild_struct.specs.Parts.{HasNumber};
 ghost use Rattle.ild_union.specs.Forms.{passes_over};
 ghost use Rattle.ild_kept.specs.Fields.{LeftOut, StandsThere};
 

@@ -1,5 +1,5 @@
 //! The value for which a piece stands.
-ghost use Rattle.std.specs.Prelude.{◌≡◌, ◌<◌, ◌≤◌, length};
+ghost use Rattle.std.specs.Prelude.{◌<◌, ◌≤◌, length};
 ghost use Rattle.ild_parts.specs.Ready.{IsInlined};
 ghost use Rattle.ild_piece.specs.Pieces.{IsNumbered};
 ghost use Rattle.ild_read.specs.Parts.{ReadsSlot};

@@ -1,5 +1,5 @@
-use Rattle.std.proofs.Common.{◌≡◌, ◌+◌, ℕ, List, [], ◌∷◌, ◌++◌, get_or, length, Some, false, refl, sym, ◌∙◌, ap, subst, arith}
-use Rattle.std.specs.Prelude.{Ok, slice_get}
+use Rattle.std.proofs.Common.{◌≡◌, ◌+◌, ℕ, List, [], ◌∷◌, ◌++◌, length, Some, false, refl, sym, ◌∙◌, ap, subst, arith}
+use Rattle.std.specs.Prelude.{slice_get}
 use Rattle.std.proofs.lemmas.Result.{err_from_is_err_and}
 use Rattle.ild_data.specs.Data as T
 use Rattle.ild_held.specs.Laws.{IsFronted, is_hamt}
@@ -19,10 +19,8 @@ use Rattle.ild_typed.specs.Levels.{map_levels, struct_levels}
 use Rattle.ild_typed.specs.Named.{items_in}
 use Rattle.ild_typed.specs.Schema.{IsSchema}
 use Rattle.ild_kept.specs.Around.{levels_around}
-use Rattle.ild_kept.specs.Fields.{FieldFits, ReadsField}
+use Rattle.ild_kept.specs.Fields.{FieldFits}
 use Rattle.ild_read.proofs.Listing.{Listing, items_there, listing_begins, listing_ends, listing_goes, listing_stops, listing_wants}
-use Rattle.std.proofs.lemmas.Option.{same_Some}
-use Rattle.ild_held.specs.Splits.{HasFront}
 use Rattle.ild_schema.specs.Fitting.{ImplicitFits}
 use Rattle.ild_struct.proofs.Placing.{all_at}
 use Rattle.ild_read.proofs.Fielding.{Fielding, field_done, field_stops, fielding_begins, fielding_ends, fielding_goes, fielding_stops, fielding_wants}
