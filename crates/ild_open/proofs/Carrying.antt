@@ -45,12 +45,12 @@ use Rattle.ild_view.specs.declared.body.Body.TheVariants as VB
 use Rattle.ild_view.specs.declared.view.View.{View}
 use Rattle.ild_walk.specs.Checks.{IsRefusal}
 use Rattle.ild_held.specs.Held.{IsHeld}
-use Rattle.ild_read.specs.Reads.{NoValue, Reads}
-use Rattle.ild_read.specs.declared.fault.OpenFault.{OpenFault}
-use Rattle.ild_read.specs.declared.fault.OpenFault.TheVariants as F
+use Rattle.ild_kept.specs.Reads.{NoValue, Reads}
+use Rattle.ild_kept.specs.declared.fault.OpenFault.{OpenFault}
+use Rattle.ild_kept.specs.declared.fault.OpenFault.TheVariants as F
 use Rattle.ild_open.specs.Item.{DataAnswer, IsStopped, LoadsAlone, LoadsBytes, LoadsData, LoadsIn, LoadsPiece, StoppedIn}
 use Rattle.ild_open.specs.Loaded.{IsInBlock, IsRefusedAt, LoadAnswer, Loads}
-use Rattle.ild_read.proofs.Turning.{only_refl}
+use Rattle.ild_kept.proofs.Turning.{only_refl}
 
 -- null stands for null alone
 pub is_safe_slot : (rows : List Row) (s : Slot) → is_safe rows s ≡ true → IsSafe rows s

@@ -33,15 +33,15 @@ use Rattle.ild_typed.specs.Stands.{Stands, bare, blocks_of}
 use Rattle.ild_held.proofs.Roots.{held_stand, standing_are_held}
 use Rattle.ild_held.specs.Held.{IsHeld}
 use Rattle.ild_held.specs.Roots.{IsRooted}
-use Rattle.ild_read.specs.Broken.{HasBrokenBlock}
-use Rattle.ild_read.specs.Reads.{Reads}
-use Rattle.ild_read.specs.declared.fault.OpenFault.{OpenFault}
-use Rattle.ild_read.specs.declared.fault.OpenFault.TheVariants as F
+use Rattle.ild_kept.specs.Broken.{HasBrokenBlock}
+use Rattle.ild_kept.specs.Reads.{Reads}
+use Rattle.ild_kept.specs.declared.fault.OpenFault.{OpenFault}
+use Rattle.ild_kept.specs.declared.fault.OpenFault.TheVariants as F
 use Rattle.ild_open.specs.Broken.{IsWrongRoot}
 use Rattle.ild_open.specs.Found.{FindAnswer, Finds, HasKept, ReadsRoot}
 use Rattle.ild_open.specs.Opened.{HasOpened, HasValue, StandsInBlock, NoneStands, OpenStops, Opens}
-use Rattle.ild_read.proofs.Breaking.{broken_earlier, rose_later}
-use Rattle.ild_read.proofs.Turning.{only_trans}
+use Rattle.ild_kept.proofs.Breaking.{broken_earlier, rose_later}
+use Rattle.ild_kept.proofs.Turning.{only_trans}
 
 some_told : (o : Option (List (List ℕ))) (held : List (List ℕ)) (P : List (List ℕ) → Type 0) → o ≡ Some held → IfTold o P → P held
 some_told o held P is x = subst (λ k. IfTold k P) is x

@@ -13,7 +13,7 @@ use Rattle.ild_schema.specs.Slots.{plainly}
 use Rattle.ild_schema.specs.declared.number.TypeNo.{TypeNo}
 use Rattle.ild_schema.specs.declared.row.Row.{Row}
 use Rattle.ild_walker.specs.OnTree.{IsAt}
-use Rattle.ild_read.specs.Broken.{HasBrokenBlock}
+use Rattle.ild_kept.specs.Broken.{HasBrokenBlock}
 
 -- it isn't held; it is no block; or its tree has no front of the type
 abbrev pub IsWrongRoot : List Row → Option (List (List ℕ)) → ℕ → ℕ → TypeNo → List ℕ → BlockWhy → Type 0

@@ -19,9 +19,9 @@ use Rattle.ild_schema.specs.declared.row.Row.{Row}
 use Rattle.ild_schema.specs.declared.val.Val.{Val}
 use Rattle.ild_walker.specs.OnTree.{IsAt}
 use Rattle.ild_held.specs.Splits.{HasFront}
-use Rattle.ild_read.specs.Reads.{OnlyReads, Reads}
-use Rattle.ild_read.specs.declared.fault.OpenFault.{OpenFault}
-use Rattle.ild_read.specs.declared.fault.OpenFault.TheVariants as F
+use Rattle.ild_kept.specs.Reads.{OnlyReads, Reads}
+use Rattle.ild_kept.specs.declared.fault.OpenFault.{OpenFault}
+use Rattle.ild_kept.specs.declared.fault.OpenFault.TheVariants as F
 use Rattle.ild_open.specs.Broken.{IsWrongRoot}
 use Rattle.ild_open.specs.Opened.{StandsInBlock}
 

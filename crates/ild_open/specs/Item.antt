@@ -21,9 +21,9 @@ use Rattle.ild_schema.specs.declared.val.Val.{Val}
 use Rattle.ild_typed.specs.Blocks.{nodes}
 use Rattle.ild_walk.specs.Checks.{IsRefusal}
 use Rattle.ild_held.specs.Held.{IsHeld}
-use Rattle.ild_read.specs.Broken.{HasBrokenBlock}
-use Rattle.ild_read.specs.Reads.{NoValue, OnlyReads, Stops}
-use Rattle.ild_read.specs.declared.fault.OpenFault.{OpenFault}
+use Rattle.ild_kept.specs.Broken.{HasBrokenBlock}
+use Rattle.ild_kept.specs.Reads.{NoValue, OnlyReads, Stops}
+use Rattle.ild_kept.specs.declared.fault.OpenFault.{OpenFault}
 
 -- the data need more room than there is
 pub record IsDeep (rows : List Row) (s : Slot) (t : Data) (at id : List ℕ) (why : BlockWhy) : Type 0 where

@@ -13,11 +13,11 @@ use Rattle.ild_schema.specs.declared.number.Slot.{Slot}
 use Rattle.ild_schema.specs.declared.row.Row.{Row}
 use Rattle.ild_schema.specs.declared.val.Val.{Val}
 use Rattle.ild_held.specs.Splits.{HasFront, field_parts, field_values}
-use Rattle.ild_read.specs.Fields.{FieldFits, ReadsField}
-use Rattle.ild_read.specs.Reads.{HasRead, Reads, ReadsParts}
-use Rattle.ild_read.specs.declared.fault.OpenFault.{OpenFault}
-use Rattle.ild_read.specs.declared.fault.OpenFault.TheVariants as F
-use Rattle.ild_read.proofs.Turning.{part_stops, parts_done, parts_memory, read_keeps, read_more, read_none}
+use Rattle.ild_kept.specs.Fields.{FieldFits, ReadsField}
+use Rattle.ild_kept.specs.Reads.{HasRead, Reads, ReadsParts}
+use Rattle.ild_kept.specs.declared.fault.OpenFault.{OpenFault}
+use Rattle.ild_kept.specs.declared.fault.OpenFault.TheVariants as F
+use Rattle.ild_kept.proofs.Turning.{part_stops, parts_done, parts_memory, read_keeps, read_more, read_none}
 
 parts_more : (fs gs : List Field) (os ps : List (Option Data)) → length fs ≡ length os → field_parts (fs ++ gs) (os ++ ps) ≡ field_parts fs os ++ field_parts gs ps
 parts_more [] gs [] ps same = refl
@@ -232,3 +232,8 @@ module _ (h : List ℕ → List ℕ) (at : List ℕ) (rows : List Row) (room : �
 pub field_done : (h : List ℕ → List ℕ) (at : List ℕ) (rows : List Row) (room : ℕ) (s : Slot) (o : Option Data) (d : Data) (keep : Bool) (m n : Moment) (val : Val) → o ≡ Some d → Reads h at rows room (s, d) keep m (Ok val) n
     → ReadsField h at rows room s o keep m (Ok (Some val)) n
 field_done h at rows room s o d keep m n val is x = subst (λ q. ReadsField h at rows room s q keep m (Ok (Some val)) n) (sym is) x
+
+-- or are at fault
+pub field_stops : (h : List ℕ → List ℕ) (at : List ℕ) (rows : List Row) (room : ℕ) (s : Slot) (o : Option Data) (d : Data) (keep : Bool) (m n : Moment) (e : OpenFault) → o ≡ Some d → Reads h at rows room (s, d) keep m (Err e) n
+    → ReadsField h at rows room s o keep m (Err e) n
+field_stops h at rows room s o d keep m n e is x = subst (λ q. ReadsField h at rows room s q keep m (Err e) n) (sym is) x

@@ -12,10 +12,10 @@ use Rattle.ild_schema.specs.declared.row.Row.{Row}
 use Rattle.ild_schema.specs.declared.val.Val.{Val}
 use Rattle.ild_typed.proofs.Treed.{all_append}
 use Rattle.ild_held.specs.Splits.{entry_parts, entry_values}
-use Rattle.ild_read.specs.Reads.{HasRead, Reads, ReadsParts}
-use Rattle.ild_read.specs.declared.fault.OpenFault.{OpenFault}
-use Rattle.ild_read.specs.declared.fault.OpenFault.TheVariants as F
-use Rattle.ild_read.proofs.Turning.{part_stops, parts_done, parts_memory, read_more, read_none}
+use Rattle.ild_kept.specs.Reads.{HasRead, Reads, ReadsParts}
+use Rattle.ild_kept.specs.declared.fault.OpenFault.{OpenFault}
+use Rattle.ild_kept.specs.declared.fault.OpenFault.TheVariants as F
+use Rattle.ild_kept.proofs.Turning.{part_stops, parts_done, parts_memory, read_more, read_none}
 
 pub parts_more : (u : Slot) (ds es : List (List ℕ × Data)) → entry_parts u (ds ++ es) ≡ entry_parts u ds ++ entry_parts u es
 parts_more u [] es = refl

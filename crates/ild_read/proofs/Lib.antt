@@ -1,17 +1,7 @@
-pub mod Breaking
-pub mod Containing
 pub mod Fielding
-pub mod Forming
 pub mod Going
-pub mod Hamting
-pub mod Handing
-pub mod Leaving
 pub mod Listing
-pub mod Making
-pub mod Mapping
 pub mod Pairing
 pub mod Readying
 pub mod Rowing
-pub mod Turning
 pub mod Wholly
-pub mod Wrongly

@@ -19,10 +19,10 @@ use Rattle.ild_schema.specs.declared.row.Row.{Row}
 use Rattle.ild_schema.specs.declared.val.Val.{Val}
 use Rattle.ild_typed.specs.Named.{items_in}
 use Rattle.ild_held.specs.Splits.{HasFront, element_parts}
-use Rattle.ild_read.specs.Reads.{HasRead, Reads, ReadsParts}
-use Rattle.ild_read.specs.declared.fault.OpenFault.{OpenFault}
-use Rattle.ild_read.specs.declared.fault.OpenFault.TheVariants as F
-use Rattle.ild_read.proofs.Turning.{part_stops, parts_done, parts_memory, read_more, read_none}
+use Rattle.ild_kept.specs.Reads.{HasRead, Reads, ReadsParts}
+use Rattle.ild_kept.specs.declared.fault.OpenFault.{OpenFault}
+use Rattle.ild_kept.specs.declared.fault.OpenFault.TheVariants as F
+use Rattle.ild_kept.proofs.Turning.{part_stops, parts_done, parts_memory, read_more, read_none}
 
 -- ---- the loop
 

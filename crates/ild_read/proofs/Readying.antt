@@ -1,10 +1,17 @@
--- What acceptance says of parts: their types are in the table, the piece of a union passes over nothing, and delimiters are given.
-use Rattle.std.proofs.Common.{◌≡◌, ℕ, zero, suc, ◌<◌, ◌≤◌, List, [], ◌∷◌, length, get_or, map, Bool, true, false, Some, refl, sym, ◌∙◌, ap, subst, arith}
+-- What acceptance says of parts: their types are in the table, the piece of a union passes over nothing, delimiters are given, and
+-- entries of a form are those that data show.
+use Rattle.std.proofs.Common.{◌≡◌, ℕ, zero, suc, ◌<◌, ◌≤◌, List, [], ◌∷◌, length, map, Bool, true, false, Some, refl, sym, ◌∙◌, ap, subst, arith}
 use Rattle.std.specs.Prelude.{slice_get}
 use Rattle.std.specs.List.{All}
 use Rattle.std.specs.Option.{option_map_or}
 use Rattle.std.proofs.lemmas.Option.{none-some, same_Some}
 use Rattle.ild_cbor.specs.declared.piece.Piece.{Piece}
+use Rattle.ild_data.specs.Data.{Data}
+use Rattle.ild_data.proofs.Lists.{members_list-members_of}
+use Rattle.ild_entries.specs.Forms.{MapDelims, ShowsMap}
+use Rattle.ild_entries.specs.Left.{AreLeft, FormLeft}
+use Rattle.ild_entries.specs.declared.left.EntriesLeft.{EntriesLeft}
+use Rattle.ild_held.specs.Laws.{is_hamt}
 use Rattle.ild_schema.specs.Legible.{IsLegible}
 use Rattle.ild_schema.specs.Rows.{def_at}
 use Rattle.ild_schema.specs.Slots.{form_of}
@@ -19,14 +26,14 @@ use Rattle.ild_schema.specs.declared.number.Slot.{Slot}
 use Rattle.ild_schema.specs.declared.number.TypeNo.{TypeNo}
 use Rattle.ild_schema.specs.declared.row.Row.{Row}
 use Rattle.ild_struct.proofs.Splitting.{given_some}
+use Rattle.ild_typed.specs.Composed.{map_form}
+use Rattle.ild_typed.specs.Hamt.{alone}
+use Rattle.ild_typed.specs.Layer as L
 use Rattle.ild_typed.specs.Levels.{map_levels}
-use Rattle.ild_parts.proofs.Lists.{got_at}
+use Rattle.ild_typed.specs.Strings.{members_in}
+use Rattle.ild_kept.proofs.Forming.{listpairs_is, map_is}
 use Rattle.ild_union.specs.Forms.{passes_over}
 use Rattle.ild_parts.specs.Ready.{IsInlined, is_struct}
-use Rattle.ild_read.specs.Ready.{HasDelims}
-
-pub got : {A : Type 0} (xs ys : List A) (i : ℕ) (x : A) → xs ≡ ys → i < length xs → x ≡ get_or xs i x → slice_get ys i ≡ Some x
-got xs ys i x same h e = subst (λ zs. slice_get zs i ≡ Some x) same (got_at xs i x h e)
 
 -- ---- structs
 
@@ -46,7 +53,7 @@ union_plain rows s u is p inlined = by (passes_over p) refl where
 
 -- ---- maps
 
-pub map_delims : (rows : List Row) → IsLegible rows → (n : ℕ) (key : TypeNo) (key_at : ℕ) (value : Slot) (at : ℕ) (form : MapForm) → def_at rows n ≡ Some (D.Map key key_at value at form) → HasDelims form
+pub map_delims : (rows : List Row) → IsLegible rows → (n : ℕ) (key : TypeNo) (key_at : ℕ) (value : Slot) (at : ℕ) (form : MapForm) → def_at rows n ≡ Some (D.Map key key_at value at form) → MapDelims form
 map_delims rows legible n key key_at value at MF.Map known = tt
 map_delims rows legible n key key_at value at MF.ListPairs known = tt
 map_delims rows legible n key key_at value at MF.Hamt known = tt
@@ -64,3 +71,18 @@ some_map_levels MF.Map = omega arith
 some_map_levels MF.ListPairs = omega arith
 some_map_levels (MF.StringPairs i e) = omega arith
 some_map_levels MF.Hamt = omega arith
+
+-- ---- the entries of maps
+
+pub hamt_form : (form : MapForm) → is_hamt form ≡ true → form ≡ MF.Hamt
+hamt_form MF.Hamt e = refl
+hamt_form MF.Map e = absurd cc
+hamt_form MF.ListPairs e = absurd cc
+hamt_form (MF.StringPairs inner entry) e = absurd cc
+
+-- what is left are the entries that the data show
+pub left_there : (form : MapForm) → is_hamt form ≡ false → (es : List (List ℕ × Data)) (t : Data) (left : EntriesLeft) → map_form alone form (L.map es) ≡ Some t → (ShowsMap form es t → FormLeft form es (Some left)) → AreLeft left es
+left_there MF.Map plain es t left made shows = shows (ap members_in (map_is es t made) ∙ ap Some (members_list-members_of es))
+left_there MF.ListPairs plain es t left made shows = shows (listpairs_is es t made)
+left_there (MF.StringPairs inner entry) plain es t left made shows = shows made
+left_there MF.Hamt plain es t left made shows = absurd cc

@@ -31,16 +31,16 @@ use Rattle.ild_walker.specs.declared.row.Row.{Row as Listed}
 use Rattle.ild_held.specs.Entries.{KeyFits}
 use Rattle.ild_held.specs.Held.{IsHeld}
 use Rattle.ild_held.specs.Splits.{AreHeld, entry_parts}
-use Rattle.ild_read.specs.Broken.{IsWrongPart}
-use Rattle.ild_read.specs.Hamts.{AreSpelled, BrokenRows, IsItemOf, IsWrongRow, NoEntries, ReadsRows, RowAnswer}
-use Rattle.ild_read.specs.Reads.{BrokenPart, OnlyReads, Reads, ReadsParts, Stops}
-use Rattle.ild_read.specs.declared.fault.OpenFault.{OpenFault}
-use Rattle.ild_read.specs.declared.fault.OpenFault.TheVariants as F
-use Rattle.ild_read.proofs.Breaking.{broken_earlier, rose_later}
-use Rattle.ild_read.proofs.Containing.{contains_middle}
+use Rattle.ild_kept.specs.Broken.{IsWrongPart}
+use Rattle.ild_kept.specs.Hamts.{AreSpelled, BrokenRows, IsItemOf, IsWrongRow, NoEntries, ReadsRows, RowAnswer}
+use Rattle.ild_kept.specs.Reads.{BrokenPart, OnlyReads, Reads, ReadsParts, Stops}
+use Rattle.ild_kept.specs.declared.fault.OpenFault.{OpenFault}
+use Rattle.ild_kept.specs.declared.fault.OpenFault.TheVariants as F
+use Rattle.ild_kept.proofs.Breaking.{broken_earlier, rose_later}
+use Rattle.ild_kept.proofs.Containing.{contains_middle}
 use Rattle.ild_read.proofs.Going.{Going, going_begins, going_ends, going_full, going_goes, going_met, going_stops, going_wants, make_map, parts_more}
-use Rattle.ild_read.proofs.Turning.{are_split, has_first, only_refl, only_trans}
-use Rattle.ild_read.proofs.Wrongly.{same_tree}
+use Rattle.ild_kept.proofs.Turning.{are_split, has_first, only_refl, only_trans}
+use Rattle.ild_kept.proofs.Wrongly.{same_tree}
 
 -- ---- what the rows spell
 

@@ -25,11 +25,11 @@ use Rattle.ild_typed.specs.Schema.{IsSchema}
 use Rattle.ild_held.specs.Laws.{IsFronted, is_hamt}
 use Rattle.ild_held.specs.Splits.{HasFront, Splits, element_parts, entry_parts, entry_values, field_parts, field_values, union_of}
 use Rattle.ild_held.proofs.Splitting.{lists_split, maps_split, structs_split, unions_split}
-use Rattle.ild_read.specs.Reads.{Reads, ReadsParts}
-use Rattle.ild_read.specs.declared.fault.OpenFault.{OpenFault}
-use Rattle.ild_read.proofs.Containing.{list_parts, map_parts, struct_parts, union_parts}
-use Rattle.ild_read.proofs.Forming.{list_there, map_there, struct_there, union_there}
-use Rattle.ild_read.proofs.Turning.{whole_read}
+use Rattle.ild_kept.specs.Reads.{Reads, ReadsParts}
+use Rattle.ild_kept.specs.declared.fault.OpenFault.{OpenFault}
+use Rattle.ild_kept.proofs.Containing.{list_parts, map_parts, struct_parts, union_parts}
+use Rattle.ild_kept.proofs.Forming.{list_there, map_there, struct_there, union_there}
+use Rattle.ild_kept.proofs.Turning.{whole_read}
 
 module _ (h : List ℕ → List ℕ) (at : List ℕ) (rows : List Row) (schema : IsSchema rows) (room less : ℕ) (keep : Bool) (s : Slot) (t : Data) (front : IsFronted rows room s t) (m n : Moment) (r : Result Val OpenFault) where
   pub list_whole : (elem : Slot) (place : ℕ) → form_of rows s ≡ Some (D.List elem place) → room ≡ less + 1

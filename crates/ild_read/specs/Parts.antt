@@ -6,14 +6,14 @@ use Rattle.ild_data.specs.Data as T
 use Rattle.ild_data.specs.Data.{Data}
 use Rattle.ild_data.specs.Limits.{deepest}
 use Rattle.ild_edges.specs.Store.{Moment}
+use Rattle.ild_entries.specs.Left.{AreLeft}
+use Rattle.ild_entries.specs.declared.left.EntriesLeft.{EntriesLeft}
 use Rattle.ild_held.specs.Laws.{IsFronted}
 use Rattle.ild_held.specs.Splits.{HasFront, element_parts, entry_parts, entry_values, field_parts, field_values, union_of}
 use Rattle.ild_piece.specs.Pieces.{StandsFor}
-use Rattle.ild_schema.specs.Fitting.{ImplicitFits}
 use Rattle.ild_schema.specs.Slots.{form_of, plainly}
 use Rattle.ild_schema.specs.Value as V
 use Rattle.ild_schema.specs.Value.{optionals_of, pairs_of, values_of}
-use Rattle.ild_schema.specs.declared.def.Field.{Field}
 use Rattle.ild_schema.specs.declared.def.MapForm.{MapForm}
 use Rattle.ild_schema.specs.declared.def.Member.{Member}
 use Rattle.ild_schema.specs.declared.def.StructDef.{StructDef}
@@ -23,16 +23,12 @@ use Rattle.ild_schema.specs.declared.number.Slot.{Slot}
 use Rattle.ild_schema.specs.declared.number.TypeNo.{TypeNo}
 use Rattle.ild_schema.specs.declared.row.Row.{Row}
 use Rattle.ild_schema.specs.declared.val.Val.{Val}
-use Rattle.ild_struct.specs.Parts.{IsPart}
-use Rattle.ild_struct.specs.declared.part.Part.{Part}
 use Rattle.ild_typed.specs.Composed.{composed}
 use Rattle.ild_typed.specs.Hamt.{alone}
 use Rattle.ild_typed.specs.Layer as L
 use Rattle.ild_typed.specs.Levels.{map_levels}
-use Rattle.ild_typed.specs.Strings.{listpairs, map_data, stringpairs}
-use Rattle.ild_read.specs.Fields.{FieldFits, ReadsField}
-use Rattle.ild_read.specs.Reads.{Reads, ReadsParts}
-use Rattle.ild_read.specs.declared.fault.OpenFault.{OpenFault}
+use Rattle.ild_kept.specs.Reads.{Reads, ReadsParts}
+use Rattle.ild_kept.specs.declared.fault.OpenFault.{OpenFault}
 
 module _ (h : List ℕ → List ℕ) (at : List ℕ) (rows : List Row) (room : ℕ) (keep : Bool) where
   -- the elements of a list
@@ -46,27 +42,15 @@ module _ (h : List ℕ → List ℕ) (at : List ℕ) (rows : List Row) (room : �
   ReadsEntries value es m r n =
       AllByRecursion (HasFront rows room) (entry_parts value es) → ReadsParts h at rows room (entry_parts value es) keep (λ vs. V.map (pairs_of (entry_values es vs))) m r n
 
-  -- those of a map, of the pairs of a list, and of the pairs of a text
-  abbrev pub ReadsMap : Slot → Piece → Moment → Result Val OpenFault → Moment → Type 0
-  ReadsMap value piece m r n = (es : List (List ℕ × Data)) → StandsFor rows piece (map_data es) → ReadsEntries value es m r n
-
-  abbrev pub ReadsListPairs : Slot → Piece → Moment → Result Val OpenFault → Moment → Type 0
-  ReadsListPairs value piece m r n = (es : List (List ℕ × Data)) → StandsFor rows piece (listpairs es) → ReadsEntries value es m r n
-
-  abbrev pub ReadsStringPairs : Slot → List ℕ → List ℕ → Piece → Moment → Result Val OpenFault → Moment → Type 0
-  ReadsStringPairs value inner entry piece m r n =
-      (t : Data) (es : List (List ℕ × Data)) → StandsFor rows piece t → stringpairs inner entry es ≡ Some t → ReadsEntries value es m r n
+  -- those that are left
+  abbrev pub ReadsLeft : Slot → EntriesLeft → Moment → Result Val OpenFault → Moment → Type 0
+  ReadsLeft value left m r n = (es : List (List ℕ × Data)) → AreLeft left es → ReadsEntries value es m r n
 
   -- a map in a form, as the value of a slot around it
   abbrev pub ReadsForm : TypeNo → Slot → MapForm → Piece → Moment → Result Val OpenFault → Moment → Type 0
   ReadsForm key value form piece m r n =
       (s : Slot) (t : Data) (key_at place whole : ℕ) → StandsFor rows piece t → form_of rows s ≡ Some (D.Map key key_at value place form)
       → whole ≡ room + map_levels form → whole ≤ deepest → IsFronted rows whole s t → Reads h at rows whole (s, t) keep m r n
-
-  -- what stands for a field
-  abbrev pub ReadsPart : Field → Part → Moment → Result (Option Val) OpenFault → Moment → Type 0
-  ReadsPart field part m r n =
-      (o : Option Data) → ImplicitFits rows field → IsPart rows field o part → FieldFits rows room field.slot o → ReadsField h at rows room field.slot o keep m r n
 
   -- the fields of a struct
   abbrev pub ReadsFields : StructDef → Piece → Moment → Result Val OpenFault → Moment → Type 0

@@ -1,15 +1,10 @@
-//! Reading the value that a piece of a block represents: what readers answer, and those of values without parts (IPLD Schemas).
+//! Reading the value that a piece of a block represents, over a store (IPLD Schemas).
 #![tactic(auto)]
 
-mod fault;
-mod hamt;
-mod keeping;
-mod leaves;
-mod levels;
-mod null;
-mod pair;
+mod form;
+mod reader;
 mod reading;
+mod value;
 
-pub use fault::OpenFault;
-pub use leaves::leaf;
-pub use reading::read;
+pub use ild_kept::{OpenFault, leaf};
+pub use value::read;

@@ -25,7 +25,7 @@ use Rattle.ild_run.specs.Words.{Job}
 use Rattle.ild_data.specs.declared.id.BlockId.{BlockId}
 use Rattle.ild_run.specs.First.{Tries}
 use Rattle.ild_cbor.specs.declared.why.BlockWhy.{BlockWhy}
-use Rattle.ild_read.specs.Reads.{OnlyReads}
+use Rattle.ild_kept.specs.Reads.{OnlyReads}
 use Rattle.ild_show.specs.Shows.{HasShown, NotOpened}
 use Rattle.ild_run.specs.Shown.{hash, reserved}
 use Rattle.ild_run.specs.Work.{Work, Taking, ends, lists, answers, makes, opens, work_of, AreTaken, Reaches}

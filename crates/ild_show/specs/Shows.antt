@@ -10,7 +10,7 @@ use Rattle.ild_schema.specs.declared.number.TypeNo.{TypeNo}
 use Rattle.ild_schema.specs.declared.row.Row.{Row}
 use Rattle.ild_typed.specs.Shown.{shown}
 use Rattle.ild_typed.specs.Stands.{bare, blocks_of, Stands}
-use Rattle.ild_read.specs.Reads.{OnlyReads}
+use Rattle.ild_kept.specs.Reads.{OnlyReads}
 use Rattle.ild_open.specs.Broken.{IsRefused}
 use Rattle.ild_open.specs.Opened.{NoneStands}
 use Rattle.ild_show.specs.declared.fault.ShowFault.{ShowFault}

@@ -1,0 +1,11 @@
+pub mod Breaking
+pub mod Containing
+pub mod Forming
+pub mod Hamting
+pub mod Handing
+pub mod Lacking
+pub mod Leaving
+pub mod Making
+pub mod Membering
+pub mod Turning
+pub mod Wrongly
