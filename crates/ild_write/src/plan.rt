@@ -8,7 +8,7 @@ ghost use Rattle.ild_typed.specs.Typed.{Typed};
 ghost use Rattle.ild_write.specs.Planned.{Plans};
 
 use crate::fault::BuildFault;
-use crate::pass::add;
+use ild_fill::add;
 use crate::planned::Planned;
 use ild_bulk::{any_long, is_long};
 use ild_data::KeyHash;
