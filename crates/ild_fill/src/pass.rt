@@ -19,7 +19,8 @@ use ild_leaf::add_leaf;
 use ild_schema::{Accepted, Slot, Val};
 use std::alloc::{AllocError, Global};
 
-/// Appends a value of a slot.
+/// Appends the spelling of a value's representation. The blocks of the nodes of its HAMTs go to the others, each behind its children,
+/// and what stands against the value is noted there. An error is want of memory; it may leave the front of the spelling.
 #[cycle(pass)]
 #[inline(always)]
 pub fn add<H: KeyHash>(

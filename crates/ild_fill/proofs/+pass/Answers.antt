@@ -50,7 +50,7 @@ use Rattle.ild_fill.proofs.Wrapping.{wraps}
 use Rattle.ild_fill.proofs.Writing.{grown_on, on_err, wrote_none, none_past}
 use Rattle.std.proofs.Common.{take}
 use Rattle.std.proofs.lemmas.List.{take_all}
-use Rattle.ild_emit.proofs.Growing.{grown_same, on_err_always}
+use Rattle.ild_emit.proofs.Growing.{grown_same, grown_then, on_err_always}
 use Rattle.ild_fill.specs.Weights.{bare_keys}
 use Rattle.ild_fill.proofs.Gathering.{Gathered}
 use Rattle.ild_fill.proofs.Rooting.{hamt_written, once_by_keys}
@@ -715,3 +715,165 @@ maps::add_hamt-loop-i-preserved g t c =
     subst (λ xs. MarkedSoFar h rows c.args.value xs c.end_entry.new.entries c.args.nodes.now c.end_entry.new.nodes) (sym (taken_got {X = List ℕ × Value} ps c.loop-i.i p at))
     (marked_more h rows c.args.value c.types-legible.ensures.legible.made c.types-legible.ensures.table.texts.spelled p (c.requires.fits.each c.loop-i.i p at) (take c.loop-i.i ps) c.loop-i.entries _ c.end_entry.new.entries c.args.nodes.now c.loop-i.nodes c.add.new.nodes
     c.end_entry.new.nodes _ c.in_ok-begun.begun.from c.in_ok-begun.begun.value_from c.loop-i.invariant b.begins b.marks c.in_ok-add.ensures.ok b.at b.value_at c.in_ok-end_entry.ensures)
+
+-- ---- errors
+
+pub lists::add_list-returns-in-List-clause-err : goal.lists::add_list-returns-in-List-clause-err
+lists::add_list-returns-in-List-clause-err g t c = c.add_items.ensures.err
+
+pub lists::add_items-returns-in_err-head-clause-err : goal.lists::add_items-returns-in_err-head-clause-err
+lists::add_items-returns-in_err-head-clause-err g t c = on_err_always _ _ (grown_same c.args.out.now c.head.new.self c.in_err-head.ensures.err)
+
+pub lists::add_items-returns-in_err-add-clause-err : goal.lists::add_items-returns-in_err-add-clause-err
+lists::add_items-returns-in_err-add-clause-err g t c = on_err_always _ _ (grown_on c.args.out.now c.loop-i.out c.add.new.out c.loop-i.invariant.grown c.in_err-add.ensures.err)
+
+pub maps::add_map-returns-in-Map-form-clause-err : goal.maps::add_map-returns-in-Map-form-clause-err
+maps::add_map-returns-in-Map-form-clause-err g t c = c.add_pairs.ensures.err
+
+pub maps::add_map-returns-in-ListPairs-clause-err : goal.maps::add_map-returns-in-ListPairs-clause-err
+maps::add_map-returns-in-ListPairs-clause-err g t c = c.add_pairs-in-ListPairs.ensures.err
+
+pub maps::add_map-returns-in-StringPairs-clause-err : goal.maps::add_map-returns-in-StringPairs-clause-err
+maps::add_map-returns-in-StringPairs-clause-err g t c = on_err c.add_as_text.result _ _ (λ e. grown_same c.args.out.now c.add_as_text.new.out e) c.add_as_text.ensures.err
+
+pub maps::add_map-returns-in-Hamt-clause-err : goal.maps::add_map-returns-in-Hamt-clause-err
+maps::add_map-returns-in-Hamt-clause-err g t c = c.add_hamt.ensures.err
+
+pub maps::add_pairs-returns-in_err-add_count-clause-err : goal.maps::add_pairs-returns-in_err-add_count-clause-err
+maps::add_pairs-returns-in_err-add_count-clause-err g t c = on_err_always _ _ (grown_same c.args.out.now c.add_count.new.out c.in_err-add_count.ensures.err)
+
+pub maps::add_pairs-returns-in_err-add_entry-clause-err : goal.maps::add_pairs-returns-in_err-add_entry-clause-err
+maps::add_pairs-returns-in_err-add_entry-clause-err g t c = on_err_always _ _ (grown_on c.args.out.now c.loop-i.out c.add_entry.new.out c.loop-i.invariant.grown c.in_err-add_entry.ensures.err)
+
+pub maps::add_hamt-returns-clause-err : goal.maps::add_hamt-returns-clause-err
+maps::add_hamt-returns-clause-err g t c = c.add_root.ensures.err
+
+pub maps::add_entry-returns-in_err-add_key-clause-err : goal.maps::add_entry-returns-in_err-add_key-clause-err
+maps::add_entry-returns-in_err-add_key-clause-err g t c = on_err_always _ _ c.in_err-add_key.ensures.err
+
+pub maps::add_entry-returns-clause-err : goal.maps::add_entry-returns-clause-err
+maps::add_entry-returns-clause-err g t c = on_err c.add.result _ _ (λ e. grown_then c.args.out.now c.add_key.new.out c.add.new.out _ c.in_ok-add_key.ensures.ok e) c.add.ensures.err
+
+pub structs::add_struct-returns-in-Map-clause-err : goal.structs::add_struct-returns-in-Map-clause-err
+structs::add_struct-returns-in-Map-clause-err g t c = c.add_fields.ensures.err
+
+pub structs::add_struct-returns-in-Tuple-clause-err : goal.structs::add_struct-returns-in-Tuple-clause-err
+structs::add_struct-returns-in-Tuple-clause-err g t c = c.add_tuple.ensures.err
+
+pub structs::add_struct-returns-in-ListPairs-clause-err : goal.structs::add_struct-returns-in-ListPairs-clause-err
+structs::add_struct-returns-in-ListPairs-clause-err g t c = c.add_listed.ensures.err
+
+pub structs::add_struct-returns-in-StringPairs-clause-err : goal.structs::add_struct-returns-in-StringPairs-clause-err
+structs::add_struct-returns-in-StringPairs-clause-err g t c = on_err c.add_as_text.result _ _ (λ e. grown_same c.args.out.now c.add_as_text.new.out e) c.add_as_text.ensures.err
+
+pub structs::add_struct-returns-in-StringJoin-clause-err : goal.structs::add_struct-returns-in-StringJoin-clause-err
+structs::add_struct-returns-in-StringJoin-clause-err g t c = on_err c.add_as_text-in-StringJoin.result _ _ (λ e. grown_same c.args.out.now c.add_as_text-in-StringJoin.new.out e) c.add_as_text-in-StringJoin.ensures.err
+
+pub structs::add_tuple-returns-in_err-head-clause-err : goal.structs::add_tuple-returns-in_err-head-clause-err
+structs::add_tuple-returns-in_err-head-clause-err g t c = on_err_always _ _ (grown_same c.args.out.now c.head.new.self c.in_err-head.ensures.err)
+
+pub structs::add_tuple-returns-in_err-add-clause-err : goal.structs::add_tuple-returns-in_err-add-clause-err
+structs::add_tuple-returns-in_err-add-clause-err g t c = on_err_always _ _ (grown_on c.args.out.now c.loop-i.out c.add.new.out c.loop-i.invariant.grown c.in_err-add.ensures.err)
+
+pub structs::add_listed-returns-in_err-head-clause-err : goal.structs::add_listed-returns-in_err-head-clause-err
+structs::add_listed-returns-in_err-head-clause-err g t c = on_err_always _ _ (grown_same c.args.out.now c.head.new.self c.in_err-head.ensures.err)
+
+pub structs::add_listed-returns-in_err-add_entry-clause-err : goal.structs::add_listed-returns-in_err-add_entry-clause-err
+structs::add_listed-returns-in_err-add_entry-clause-err g t c = on_err_always _ _ (grown_on c.args.out.now c.loop-i.out c.add_entry.new.out c.loop-i.invariant.grown c.in_err-add_entry.ensures.err)
+
+pub structs::add_fields-returns-in_err-places-clause-err : goal.structs::add_fields-returns-in_err-places-clause-err
+structs::add_fields-returns-in_err-places-clause-err g t c = on_err_always _ _ (grown_same c.args.out.now c.begin_fields.new.out c.in_err-places.ensures.err)
+
+pub structs::add_fields-returns-clause-err : goal.structs::add_fields-returns-clause-err
+structs::add_fields-returns-clause-err g t c = on_err c.add_places.result _ _ (λ e. grown_then c.args.out.now c.begin_fields.new.out c.add_places.new.out _ c.in_ok-places.ensures.ok e) c.add_places.ensures.err
+
+pub structs::add_fields-begin_fields-requires : goal.structs::add_fields-begin_fields-requires
+structs::add_fields-begin_fields-requires g t c = record { low = c.requires.low; known = c.requires.known }
+
+pub structs::add_places-returns-in_err-add_entry-clause-err : goal.structs::add_places-returns-in_err-add_entry-clause-err
+structs::add_places-returns-in_err-add_entry-clause-err g t c = on_err_always _ _ (grown_on c.args.out.now c.loop-place.out c.add_entry.new.out c.loop-place.invariant.grown c.in_err-add_entry.ensures.err)
+
+pub unions::add_union-returns-in-StringPrefix-clause-err : goal.unions::add_union-returns-in-StringPrefix-clause-err
+unions::add_union-returns-in-StringPrefix-clause-err g t c = on_err c.add_as_text.result _ _ (λ e. grown_same c.args.out.now c.add_as_text.new.out e) c.add_as_text.ensures.err
+
+pub unions::add_member-returns-in-Kinded-default-clause-err : goal.unions::add_member-returns-in-Kinded-default-clause-err
+unions::add_member-returns-in-Kinded-default-clause-err g t c = c.add.ensures.err
+
+pub unions::add_member-returns-in-Keyed-Text-clause-err : goal.unions::add_member-returns-in-Keyed-Text-clause-err
+unions::add_member-returns-in-Keyed-Text-clause-err g t c = c.add_wrapped.ensures.err
+
+pub unions::add_member-returns-in-Envelope-Text-clause-err : goal.unions::add_member-returns-in-Envelope-Text-clause-err
+unions::add_member-returns-in-Envelope-Text-clause-err g t c = c.add_wrapped-in-Envelope-Text.ensures.err
+
+pub unions::add_member-returns-in-Inline-Text-clause-err : goal.unions::add_member-returns-in-Inline-Text-clause-err
+unions::add_member-returns-in-Inline-Text-clause-err g t c = c.add_inline.ensures.err
+
+pub unions::add_member-returns-in-BytesPrefix-Text-clause-err : goal.unions::add_member-returns-in-BytesPrefix-Text-clause-err
+unions::add_member-returns-in-BytesPrefix-Text-clause-err g t c = on_err c.add_prefixed.result _ _ (λ e. grown_same c.args.out.now c.add_prefixed.new.out e) c.add_prefixed.ensures.err
+
+pub unions::add_wrapped-returns-in_err-begin_member-clause-err : goal.unions::add_wrapped-returns-in_err-begin_member-clause-err
+unions::add_wrapped-returns-in_err-begin_member-clause-err g t c = on_err_always _ _ c.in_err-begin_member.ensures.err
+
+pub unions::add_wrapped-returns-in_err-add-clause-err : goal.unions::add_wrapped-returns-in_err-add-clause-err
+unions::add_wrapped-returns-in_err-add-clause-err g t c = on_err_always _ _ (grown_then c.args.out.now c.begin_member.new.out c.add.new.out _ c.in_ok-begin_member.ensures.ok c.in_err-add.ensures.err)
+
+pub unions::add_wrapped-returns-clause-err : goal.unions::add_wrapped-returns-clause-err
+unions::add_wrapped-returns-clause-err g t c = 
+    on_err c.end_member.result _ _
+    (λ e. grown_on c.args.out.now c.add.new.out c.end_member.new.out (grown_then c.args.out.now c.begin_member.new.out c.add.new.out _ c.in_ok-begin_member.ensures.ok c.in_ok-add.ensures.ok.grown) e) c.end_member.ensures.err
+
+pub unions::add_inline-returns-in_err-sides-in-Struct-Struct-clause-err : goal.unions::add_inline-returns-in_err-sides-in-Struct-Struct-clause-err
+unions::add_inline-returns-in_err-sides-in-Struct-Struct-clause-err g t c = on_err_always _ _ (grown_same c.args.out.now c.begin_inline.new.out c.in_err-sides-in-Struct-Struct.ensures.err)
+
+pub unions::add_inline-returns-in_err-add_places-in-Struct-Struct-clause-err : goal.unions::add_inline-returns-in_err-add_places-in-Struct-Struct-clause-err
+unions::add_inline-returns-in_err-add_places-in-Struct-Struct-clause-err g t c = on_err_always _ _ (grown_then c.args.out.now c.begin_inline.new.out c.add_places.new.out _ c.in_ok-sides-in-Struct-Struct.ensures.ok c.in_err-add_places-in-Struct-Struct.ensures.err)
+
+pub unions::add_prefixed-returns-in_err-add-clause-err : goal.unions::add_prefixed-returns-in_err-add-clause-err
+unions::add_prefixed-returns-in_err-add-clause-err g t c = on_err_always _ _ refl
+
+pub unions::add_prefixed-returns-clause-err : goal.unions::add_prefixed-returns-clause-err
+unions::add_prefixed-returns-clause-err g t c = c.add_behind_prefix.ensures.err
+
+-- ---- what calls ask
+
+pub pass::add-add_list-requires : goal.pass::add-add_list-requires
+pass::add-add_list-requires g t c = λ κs le.
+    let lower = ap (λ v. height (value_of v)) c.in-List.is in
+    (omega arith, (le, (c.requires.within, subst (λ v. FitsIn c.args.acc.now c.args.slot (value_of v)) c.in-List.is c.requires.fits)))
+
+pub pass::add-add_map-requires : goal.pass::add-add_map-requires
+pass::add-add_map-requires g t c = λ κs le.
+    let lower = ap (λ v. height (value_of v)) c.in-Map.is in
+    (omega arith, (le, (c.requires.within, (ap value_of c.in-Map.is, subst (λ v. FitsIn c.args.acc.now c.args.slot (value_of v)) c.in-Map.is c.requires.fits))))
+
+pub pass::add-add_struct-requires : goal.pass::add-add_struct-requires
+pass::add-add_struct-requires g t c = λ κs le.
+    let lower = ap (λ v. height (value_of v)) c.in-Struct.is in
+    (omega arith, (le, (c.requires.within, (ap value_of c.in-Struct.is, subst (λ v. FitsIn c.args.acc.now c.args.slot (value_of v)) c.in-Struct.is c.requires.fits))))
+
+pub pass::add-add_union-requires : goal.pass::add-add_union-requires
+pass::add-add_union-requires g t c = λ κs le.
+    let lower = ap (λ v. height (value_of v)) c.in-Union.is in
+    (omega arith, (le, (c.requires.within, (ap value_of c.in-Union.is, subst (λ v. FitsIn c.args.acc.now c.args.slot (value_of v)) c.in-Union.is c.requires.fits))))
+
+pub unions::add_wrapped-add-requires : goal.unions::add_wrapped-add-requires
+unions::add_wrapped-add-requires g t c = λ κs le.
+    let within : c.args.slot.ty.0 < length c.args.acc.now = first_of (assumption c.requires, search rules) in
+    let fits : FitsIn c.args.acc.now c.args.slot (value_of c.args.val.now) = first_of (assumption c.requires, search rules) in
+    (omega arith, (le, (within, fits)))
+
+pub unions::add_member-add-requires : goal.unions::add_member-add-requires
+unions::add_member-add-requires g t c = λ κs le.
+    let lower = ap height c.get-val.ensures in
+    (omega arith, (le, (c.requires.within, subst (λ v. FitsIn c.args.acc.now (plainly c.args.member.now.ty) v) (sym c.get-val.ensures) c.requires.fits)))
+
+pub unions::add_member-add_prefixed-requires : goal.unions::add_member-add_prefixed-requires
+unions::add_member-add_prefixed-requires g t c = λ κs le.
+    let lower = ap height c.get-val.ensures in
+    (omega arith, (le, (c.requires.within, subst (λ v. FitsIn c.args.acc.now (plainly c.args.member.now.ty) v) (sym c.get-val.ensures) c.requires.fits)))
+
+pub unions::add_prefixed-add-requires : goal.unions::add_prefixed-add-requires
+unions::add_prefixed-add-requires g t c = λ κs le.
+    let within : c.args.slot.ty.0 < length c.args.acc.now = first_of (assumption c.requires, search rules) in
+    let fits : FitsIn c.args.acc.now c.args.slot (value_of c.args.val.now) = first_of (assumption c.requires, search rules) in
+    (omega arith, (le, (within, fits)))

@@ -1,0 +1,13 @@
+use Rattle.std.proofs.Common.{[], ◌++◌, ◌∙◌, cond, ap}
+use Rattle.ild_data.specs.Spell.{head, spell_text}
+use Rattle.ild_emit.proofs.Growing.{appended}
+use Rattle.ild_hamt_entries.proofs.Marked.{on_ok}
+use Rattle.ild_fill.specs.Fronts.{tag_spelled}
+use Rattle.ild_fill.proofs.fronts.begin_envelope.Goals as goal
+
+pub returns-clause-ok : goal.returns-clause-ok
+returns-clause-ok c =
+    let tag = tag_spelled c.args.tag.key.now c.args.tag.name.now in
+    let one = c.in_ok-add_tag_if.ensures.ok ∙ ap (λ b. c.head.new.self ++ cond b tag []) c.key_less.ensures in
+    on_ok c.text.result _ _
+    (λ e. appended c.args.out.now c.head.new.self c.text.new.self (head 5 2) _ c.in_ok-head.ensures.ok (appended c.head.new.self c.add_tag_if.new.out c.text.new.self _ (spell_text c.args.content.now) one e)) c.text.ensures.ok
