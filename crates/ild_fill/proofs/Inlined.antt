@@ -1,5 +1,5 @@
 -- A member of a union that stands inline: what is written of it, with the discriminant among its fields.
-use Rattle.std.proofs.Common.{◌≡◌, ℕ, ◌+◌, ◌<◌, List, [], ◌∷◌, ◌++◌, length, take, drop, get_or, true, false, Option, Some, option_map, refl, sym, ap, ◌∙◌, subst}
+use Rattle.std.proofs.Common.{◌≡◌, ℕ, ◌+◌, List, [], ◌∷◌, ◌++◌, length, take, drop, Option, Some, option_map, refl, sym, ap, ◌∙◌, subst}
 use Rattle.std.specs.List.{AllByRecursion}
 use Rattle.ild_data.specs.Key.{put}
 use Rattle.ild_data.specs.Spell.{head, spell_text}
@@ -11,7 +11,6 @@ use Rattle.ild_schema.specs.declared.def.UnionForm.TheVariants as UF
 use Rattle.ild_schema.specs.declared.row.Row.{Row}
 use Rattle.ild_schema.specs.Clear.{AreNamesApart}
 use Rattle.ild_schema.specs.Fitting.{ImplicitFits}
-use Rattle.ild_schema.specs.Indexed.{InKeyOrder}
 use Rattle.ild_schema.specs.Marks.{field_text}
 use Rattle.ild_schema.specs.Slots.{form_of}
 use Rattle.ild_schema.specs.Value as V
@@ -19,8 +18,8 @@ use Rattle.ild_schema.specs.Value.{Optionals, optionals_list}
 use Rattle.ild_typed.specs.Hamt.{whole}
 use Rattle.ild_fill.specs.Fronts.{SplitsAt}
 use Rattle.ild_fill.specs.Made.{both, counted, marked_made}
-use Rattle.ild_leaf.specs.Kept.{count_written, is_before}
-use Rattle.ild_fill.specs.Places.{in_order, named, places_from, places_made, texts_of, written_of}
+use Rattle.ild_leaf.specs.Kept.{count_written}
+use Rattle.ild_fill.specs.Places.{in_order, named, places_from, places_made, written_of}
 use Rattle.ild_fill.specs.Weights.{Weight, places_weight, weigh}
 use Rattle.ild_fill.specs.Writes.{Writes}
 use Rattle.ild_hamt_entries.specs.declared.nodes.Nodes.{Nodes}

@@ -48,11 +48,7 @@ fn begin_envelope(tag: Tag<'_>, content: &str, out: &mut Emit) -> Result<(), All
 }
 
 // Appends what stands before a member with this text.
-pub(crate) fn begin_member(
-    form: &UnionForm,
-    name: &str,
-    out: &mut Emit,
-) -> Result<(), AllocError>
+pub(crate) fn begin_member(form: &UnionForm, name: &str, out: &mut Emit) -> Result<(), AllocError>
     ensures ok { OnOk result (out.new ≡ out.old ++ member_front form.now name.now) }
     ensures err { OnErr result (IsGrown out.old out.new) }
 {
@@ -170,10 +166,7 @@ pub(crate) struct Begun {
 }
 
 // Appends what stands before the value of an entry.
-pub(crate) fn open_entry(
-    key: &str,
-    entries: &mut MarkedEntries<'_>,
-) -> Result<Begun, AllocError>
+pub(crate) fn open_entry(key: &str, entries: &mut MarkedEntries<'_>) -> Result<Begun, AllocError>
     ensures { IfOk result (λ begun. BeginsEntry key.now begun.from begun.value_from entries.old entries.new) }
 {
     let from = entries.out.len();

@@ -1,4 +1,4 @@
-use Rattle.std.proofs.Common.{rules, ◌≡◌, ◌+◌, ◌<◌, ◌≤◌, ◌∙◌, ◌++◌, ℕ, List, [], length, drop, get_or, Some, option_map, true, false, refl, sym, ap, subst, arith}
+use Rattle.std.proofs.Common.{rules, ◌+◌, ◌<◌, ◌≤◌, ◌∙◌, ◌++◌, ℕ, List, [], length, drop, get_or, Some, option_map, true, false, refl, sym, ap, subst, arith}
 use Rattle.std.specs.Prelude.{OnOk, option_and_then}
 use Rattle.ild_data.specs.Spell.{head, spell, spell_text}
 use Rattle.ild_schema.specs.Clear.{KeysApart}
@@ -29,7 +29,7 @@ use Rattle.ild_fill.specs.Writes.{Writes}
 use Rattle.ild_fill.proofs.AsText.{layer_text, texts, union_text}
 use Rattle.ild_fill.proofs.Bare.{a_leaf, bool_wrote, int_wrote, leaf_of, leafs, text_wrote}
 use Rattle.ild_fill.proofs.Fitted.{entries_fit, hamt_fit, items_fit, list_fit, map_fit, member_fit, member_there, places_fit, struct_fit, union_fit}
-use Rattle.ild_fill.proofs.Flow.{begins, behind, before, ends, from, goes, leaf, skips, starts}
+use Rattle.ild_fill.proofs.Flow.{begins, behind, ends, from, goes, leaf, skips, starts}
 use Rattle.ild_fill.proofs.Forms.{hamt_is_made, list_made, map_is_made, pairs_are_made}
 use Rattle.ild_fill.proofs.Heights.{value_height}
 use Rattle.ild_fill.proofs.Inlined.{inlined}
@@ -818,7 +818,7 @@ pub unions::add_wrapped-returns-in_err-add-clause-err : goal.unions::add_wrapped
 unions::add_wrapped-returns-in_err-add-clause-err g t c = on_err_always _ _ (grown_then c.args.out.now c.begin_member.new.out c.add.new.out _ c.in_ok-begin_member.ensures.ok c.in_err-add.ensures.err)
 
 pub unions::add_wrapped-returns-clause-err : goal.unions::add_wrapped-returns-clause-err
-unions::add_wrapped-returns-clause-err g t c = 
+unions::add_wrapped-returns-clause-err g t c =
     on_err c.end_member.result _ _
     (λ e. grown_on c.args.out.now c.add.new.out c.end_member.new.out (grown_then c.args.out.now c.begin_member.new.out c.add.new.out _ c.in_ok-begin_member.ensures.ok c.in_ok-add.ensures.ok.grown) e) c.end_member.ensures.err
 

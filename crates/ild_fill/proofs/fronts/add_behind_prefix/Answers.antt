@@ -1,4 +1,4 @@
-use Rattle.std.proofs.Common.{◌≡◌, ◌++◌, ◌∙◌, ap}
+use Rattle.std.proofs.Common.{◌++◌, ◌∙◌, ap}
 use Rattle.ild_schema.specs.Hex.{bytes_of_hex}
 use Rattle.ild_hamt_entries.proofs.Marked.{on_ok}
 use Rattle.ild_fill.proofs.fronts.add_behind_prefix.Goals as goal
