@@ -558,6 +558,21 @@ pass::add-returns-in-Union-clause-ok g t c =
     subst (λ v. OnOk c.add_union.result (Writes g.H.KeyHash.hash_of c.args.acc.now (made (whole g.H.KeyHash.hash_of) c.args.acc.now c.args.slot (value_of v)) (λ μ. weigh μ c.args.acc.now c.args.slot (value_of v)) c.args.out.now c.add_union.new.out c.args.nodes.now c.add_union.new.nodes))
     (sym c.in-Union.is) c.add_union.ensures.ok
 
+pub pass::add-returns-in-List-clause-ok : goal.pass::add-returns-in-List-clause-ok
+pass::add-returns-in-List-clause-ok g t c =
+    subst (λ v. OnOk c.add_list.result (Writes g.H.KeyHash.hash_of c.args.acc.now (made (whole g.H.KeyHash.hash_of) c.args.acc.now c.args.slot (value_of v)) (λ μ. weigh μ c.args.acc.now c.args.slot (value_of v)) c.args.out.now c.add_list.new.out c.args.nodes.now c.add_list.new.nodes))
+    (sym c.in-List.is) c.add_list.ensures.ok
+
+pub pass::add-returns-in-Map-clause-ok : goal.pass::add-returns-in-Map-clause-ok
+pass::add-returns-in-Map-clause-ok g t c =
+    subst (λ v. OnOk c.add_map.result (Writes g.H.KeyHash.hash_of c.args.acc.now (made (whole g.H.KeyHash.hash_of) c.args.acc.now c.args.slot (value_of v)) (λ μ. weigh μ c.args.acc.now c.args.slot (value_of v)) c.args.out.now c.add_map.new.out c.args.nodes.now c.add_map.new.nodes))
+    (sym c.in-Map.is) c.add_map.ensures.ok
+
+pub pass::add-returns-in-Struct-clause-ok : goal.pass::add-returns-in-Struct-clause-ok
+pass::add-returns-in-Struct-clause-ok g t c =
+    subst (λ v. OnOk c.add_struct.result (Writes g.H.KeyHash.hash_of c.args.acc.now (made (whole g.H.KeyHash.hash_of) c.args.acc.now c.args.slot (value_of v)) (λ μ. weigh μ c.args.acc.now c.args.slot (value_of v)) c.args.out.now c.add_struct.new.out c.args.nodes.now c.add_struct.new.nodes))
+    (sym c.in-Struct.is) c.add_struct.ensures.ok
+
 -- ---- HAMTs
 
 pub maps::add_hamt-loop-i-init : goal.maps::add_hamt-loop-i-init
@@ -833,6 +848,30 @@ unions::add_prefixed-returns-in_err-add-clause-err g t c = on_err_always _ _ ref
 
 pub unions::add_prefixed-returns-clause-err : goal.unions::add_prefixed-returns-clause-err
 unions::add_prefixed-returns-clause-err g t c = c.add_behind_prefix.ensures.err
+
+pub pass::add-returns-in-List-clause-err : goal.pass::add-returns-in-List-clause-err
+pass::add-returns-in-List-clause-err g t c = c.add_list.ensures.err
+
+pub pass::add-returns-in-Map-clause-err : goal.pass::add-returns-in-Map-clause-err
+pass::add-returns-in-Map-clause-err g t c = c.add_map.ensures.err
+
+pub pass::add-returns-in-Struct-clause-err : goal.pass::add-returns-in-Struct-clause-err
+pass::add-returns-in-Struct-clause-err g t c = c.add_struct.ensures.err
+
+pub pass::add-returns-in-Union-clause-err : goal.pass::add-returns-in-Union-clause-err
+pass::add-returns-in-Union-clause-err g t c = c.add_union.ensures.err
+
+pub pass::add-returns-in-Text-clause-err : goal.pass::add-returns-in-Text-clause-err
+pass::add-returns-in-Text-clause-err g t c = on_err c.text.result _ _ (λ e. grown_same c.args.out.now c.text.new.self e) c.text.ensures.err
+
+pub pass::add-returns-in-Int-clause-err : goal.pass::add-returns-in-Int-clause-err
+pass::add-returns-in-Int-clause-err g t c = on_err c.int.result _ _ (λ e. grown_same c.args.out.now c.int.new.self e) c.int.ensures.err
+
+pub pass::add-returns-in-Bool-clause-err : goal.pass::add-returns-in-Bool-clause-err
+pass::add-returns-in-Bool-clause-err g t c = on_err c.simple.result _ _ (λ e. grown_same c.args.out.now c.simple.new.self e) c.simple.ensures.err
+
+pub pass::add-returns-in_default-clause-err : goal.pass::add-returns-in_default-clause-err
+pass::add-returns-in_default-clause-err g t c = on_err c.add_leaf.result _ _ (λ e. grown_same c.args.out.now c.add_leaf.new.out e) c.add_leaf.ensures.err
 
 -- ---- what calls ask
 
