@@ -9,7 +9,7 @@ use Rattle.ild_data.specs.Limits.{longest_block}
 use Rattle.ild_bulk.specs.Putting.{IsAmong}
 use Rattle.ild_write.specs.Planned.{AreAlike}
 use Rattle.ild_hamt_entries.specs.Entries.{over}
-use Rattle.ild_write.proofs.Flow.{over_long, over_short}
+use Rattle.ild_fill.proofs.Flow.{over_long, short_of}
 
 -- ---- members
 
@@ -56,13 +56,6 @@ pub record HasLong (xs : List (List ℕ)) : Type 0 where
   pub block : List ℕ
   pub among : IsAmong block xs
   pub long : longest_block < length block
-
-pub short_of : (b : List ℕ) → over b ≡ 0 → length b ≤ longest_block
-short_of b h = by (nat_lt longest_block (length b)) refl
-  where
-    by : (c : Bool) → nat_lt longest_block (length b) ≡ c → length b ≤ longest_block
-    by false e = over_short b e
-    by true e = let one : over b ≡ 1 = ap (λ c. cond c 1 0) e in absurd (omega (arith, h, one))
 
 pub some_long : (xs : List (List ℕ)) → 1 ≤ sum_by over xs → HasLong xs
 some_long [] h = absurd (omega (arith, h))

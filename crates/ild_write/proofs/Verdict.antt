@@ -1,5 +1,5 @@
 -- What a whole value's writing says of it.
-use Rattle.std.proofs.Common.{◌≡◌, ◌⊎◌, inl, inr, ⊎_elim, ℕ, ◌+◌, ◌≤◌, Bool, true, false, ◌||◌, cond, List, [], ◌∷◌, ◌++◌, Some, option_map, refl, sym, ap, ◌∙◌, subst, arith}
+use Rattle.std.proofs.Common.{◌≡◌, ◌⊎◌, inl, inr, ⊎_elim, ℕ, ◌+◌, ◌≤◌, Bool, true, false, ◌||◌, cond, List, [], ◌∷◌, ◌++◌, option_map, refl, sym, ap, ◌∙◌, subst, arith}
 use Rattle.std.specs.List.{sum_by}
 use Rattle.std.proofs.lemmas.List.Sums.{sum_by-cons}
 use Rattle.ild_bulk.specs.Build.{any_long, is_long}
@@ -17,20 +17,20 @@ use Rattle.ild_typed.specs.Fits.{Fits}
 use Rattle.ild_typed.specs.Judged.{breaks_delimiter, exhausts, has_hole}
 use Rattle.ild_typed.specs.Represented.{represented}
 use Rattle.ild_typed.specs.Typed.{Typed}
-use Rattle.ild_typed.proofs.MakingValues.{typed_tree}
 use Rattle.ild_write.specs.Builds.{IsTooLong}
-use Rattle.ild_write.specs.Fitting.{FitsIn}
+use Rattle.ild_fill.specs.Fitting.{FitsIn}
 use Rattle.ild_leaf.specs.Made.{made}
 use Rattle.ild_write.specs.Planned.{IsPlanned}
 use Rattle.ild_hamt_entries.specs.Entries.{over}
-use Rattle.ild_write.specs.Weights.{beneath, crowded, weigh}
+use Rattle.ild_fill.specs.Weights.{beneath, crowded, weigh}
 use Rattle.ild_hamt_entries.specs.Fine.{told, IsFine}
-use Rattle.ild_write.specs.Writes.{Exact, TooLong, Writes}
+use Rattle.ild_fill.specs.Writes.{Exact, TooLong, Writes}
 use Rattle.ild_hamt_entries.specs.declared.nodes.Nodes.{Nodes}
 use Rattle.ild_write.specs.declared.planned.Planned.{Planned}
 use Rattle.ild_write.proofs.Alikes.{all_short, contained, some_long}
 use Rattle.ild_hamt_entries.proofs.Flags.{unset}
-use Rattle.ild_write.proofs.Judges.{full, nodes_weigh, uncrowded}
+use Rattle.ild_fill.proofs.Judges.{nodes_weigh}
+use Rattle.ild_fill.proofs.Trees.{HasTree, exhausted_is, tree_there}
 
 -- ---- tests of lengths
 
@@ -62,83 +62,65 @@ none_over (b ∷ bs) e =
 pub whole_fits : (rows : List Row) (s : Slot) (v : Value) → Typed rows s v → has_hole rows s v ≡ false → breaks_delimiter rows s v ≡ false → Fits rows deepest s v → FitsIn rows s v
 whole_fits rows s v typed hole joined fits = record { room = deepest; low = omega arith; fits = fits; whole = typed.2; hole = hole; joined = joined }
 
-module _ (h : List ℕ → List ℕ) (rows : List Row) (made_is : IsMade rows) (s : Slot) (v : Value) (fit : FitsIn rows s v) where
-  pub record HasTree : Type 0 where
-    pub tree : Data
-    pub is : represented (whole h) rows s v ≡ Some tree
+-- ---- all of it written
 
-  tree_of : exhausts h rows s v ≡ false → HasTree
-  tree_of e = let x = typed_tree h rows made_is s v (fit.room, fit.fits, fit.whole) fit.hole fit.joined e in record { tree = x.0; is = x.1 }
+module _ (h : List ℕ → List ℕ) (rows : List Row) (made_is : IsMade rows) (s : Slot) (v : Value) (fit : FitsIn rows s v) (old out : List ℕ) (was now : Nodes) (empty : old ≡ []) (fine : IsFine was) (w : Writes h rows (made (whole h) rows s v) (λ μ. weigh μ rows s v) old out was now) where
+  pub is_exhausted : now.exhausted ≡ true → exhausts h rows s v ≡ true
+  is_exhausted e =
+      let one : told now.exhausted ≡ 1 = ap told e in
+      let none : told was.exhausted ≡ 0 = ap told fine.exhausted in
+      let k = w.exhausted.only (omega (arith, one)) in
+      exhausted_is h rows made_is s v fit (omega (arith, k, none))
 
-  pub exhausted_is : 1 ≤ weigh (crowded h) rows s v → exhausts h rows s v ≡ true
-  exhausted_is k = by (exhausts h rows s v) refl
-    where
-      by : (b : Bool) → exhausts h rows s v ≡ b → exhausts h rows s v ≡ true
-      by true e = e
-      by false e = let t = tree_of e in let none = uncrowded h rows s v t.tree t.is in absurd (omega (arith, k, none))
+  pub whole_tree : now.exhausted ≡ false → HasTree h rows made_is s v fit
+  whole_tree e = tree_there h rows made_is s v fit (unset was.exhausted now.exhausted (weigh (crowded h) rows s v) w.exhausted e).1
 
-  pub tree_there : weigh (crowded h) rows s v ≡ 0 → HasTree
-  tree_there e = tree_of (full h rows s v e)
+  all_over : (t : Data) → over (spell t) + weigh (beneath h rows over) rows s v ≡ sum_by over (spell t ∷ nodes h rows s v)
+  all_over t = ap (λ n. over (spell t) + n) (sym (nodes_weigh h rows over s v)) ∙ sym (sum_by-cons over (spell t) (nodes h rows s v))
 
-  -- ---- all of it written
+  too_long : (t : HasTree h rows made_is s v fit) → 1 ≤ over (spell t.tree) + weigh (beneath h rows over) rows s v → IsTooLong h rows s v
+  too_long t k =
+      let sum = all_over t.tree in
+      let x = some_long (spell t.tree ∷ nodes h rows s v) (omega (arith, k, sum)) in
+      record { tree = t.tree; represented = t.is; block = x.block; among = contained x.block (spell t.tree ∷ nodes h rows s v) x.among; long = x.long }
 
-  module _ (old out : List ℕ) (was now : Nodes) (empty : old ≡ []) (fine : IsFine was) (w : Writes h rows (made (whole h) rows s v) (λ μ. weigh μ rows s v) old out was now) where
-    pub is_exhausted : now.exhausted ≡ true → exhausts h rows s v ≡ true
-    is_exhausted e =
-        let one : told now.exhausted ≡ 1 = ap told e in
-        let none : told was.exhausted ≡ 0 = ap told fine.exhausted in
-        let k = w.exhausted.only (omega (arith, one)) in
-        exhausted_is (omega (arith, k, none))
+  exact_of : (t : HasTree h rows made_is s v fit) → Exact h rows (λ μ. weigh μ rows s v) (spell t.tree) old out w.added now ⊎ TooLong h rows (λ μ. weigh μ rows s v) (spell t.tree) now.long
+  exact_of t = w.exact fine (spell t.tree) (ap (option_map spell) t.is)
 
-    pub whole_tree : now.exhausted ≡ false → HasTree
-    whole_tree e = tree_there (unset was.exhausted now.exhausted (weigh (crowded h) rows s v) w.exhausted e).1
+  out_is : (t : HasTree h rows made_is s v fit) → Exact h rows (λ μ. weigh μ rows s v) (spell t.tree) old out w.added now → out ≡ spell t.tree
+  out_is t x = x.spelled ∙ ap (λ o. o ++ spell t.tree) empty
 
-    all_over : (t : Data) → over (spell t) + weigh (beneath h rows over) rows s v ≡ sum_by over (spell t ∷ nodes h rows s v)
-    all_over t = ap (λ n. over (spell t) + n) (sym (nodes_weigh h rows over s v)) ∙ sym (sum_by-cons over (spell t) (nodes h rows s v))
+  pub is_too_long : was.blocks.items ≡ [] → now.exhausted ≡ false → (a b c : Bool) → a ≡ now.long → b ≡ is_long out → c ≡ any_long now.blocks.items → ((a || b) || c) ≡ true → IsTooLong h rows s v
+  is_too_long none e a b c al bl cl long =
+      let t = whole_tree e in
+      let all : now.blocks.items ≡ w.added = w.blocks ∙ ap (λ xs. xs ++ w.added) none in
+      ⊎_elim
+      (λ (x : Exact h rows (λ μ. weigh μ rows s v) (spell t.tree) old out w.added now).
+      let same = x.blocks over in
+      ⊎_elim
+      (λ (ab : (a || b) ≡ true).
+      ⊎_elim (λ (k : a ≡ true). let never : false ≡ true = sym x.fine.long ∙ sym al ∙ k in absurd cc)
+      (λ (k : b ≡ true). let one = over_is out true (sym bl ∙ k) in let here = ap over (out_is t x) in too_long t (omega (arith, one, here))) (or_true a b ab))
+      (λ (k : c ≡ true). let some = any_over w.added (ap any_long (sym all) ∙ sym cl ∙ k) in too_long t (omega (arith, some, same))) (or_true (a || b) c long))
+      (λ (x : TooLong h rows (λ μ. weigh μ rows s v) (spell t.tree) now.long). too_long t x.long) (exact_of t)
 
-    too_long : (t : HasTree) → 1 ≤ over (spell t.tree) + weigh (beneath h rows over) rows s v → IsTooLong h rows s v
-    too_long t k =
-        let sum = all_over t.tree in
-        let x = some_long (spell t.tree ∷ nodes h rows s v) (omega (arith, k, sum)) in
-        record { tree = t.tree; represented = t.is; block = x.block; among = contained x.block (spell t.tree ∷ nodes h rows s v) x.among; long = x.long }
-
-    exact_of : (t : HasTree) → Exact h rows (λ μ. weigh μ rows s v) (spell t.tree) old out w.added now ⊎ TooLong h rows (λ μ. weigh μ rows s v) (spell t.tree) now.long
-    exact_of t = w.exact fine (spell t.tree) (ap (option_map spell) t.is)
-
-    out_is : (t : HasTree) → Exact h rows (λ μ. weigh μ rows s v) (spell t.tree) old out w.added now → out ≡ spell t.tree
-    out_is t x = x.spelled ∙ ap (λ o. o ++ spell t.tree) empty
-
-    pub is_too_long : was.blocks.items ≡ [] → now.exhausted ≡ false → (a b c : Bool) → a ≡ now.long → b ≡ is_long out → c ≡ any_long now.blocks.items → ((a || b) || c) ≡ true → IsTooLong h rows s v
-    is_too_long none e a b c al bl cl long =
-        let t = whole_tree e in
-        let all : now.blocks.items ≡ w.added = w.blocks ∙ ap (λ xs. xs ++ w.added) none in
-        ⊎_elim
-        (λ (x : Exact h rows (λ μ. weigh μ rows s v) (spell t.tree) old out w.added now).
-        let same = x.blocks over in
-        ⊎_elim
-        (λ (ab : (a || b) ≡ true).
-        ⊎_elim (λ (k : a ≡ true). let never : false ≡ true = sym x.fine.long ∙ sym al ∙ k in absurd cc)
-        (λ (k : b ≡ true). let one = over_is out true (sym bl ∙ k) in let here = ap over (out_is t x) in too_long t (omega (arith, one, here))) (or_true a b ab))
-        (λ (k : c ≡ true). let some = any_over w.added (ap any_long (sym all) ∙ sym cl ∙ k) in too_long t (omega (arith, some, same))) (or_true (a || b) c long))
-        (λ (x : TooLong h rows (λ μ. weigh μ rows s v) (spell t.tree) now.long). too_long t x.long) (exact_of t)
-
-    pub is_planned : was.blocks.items ≡ [] → now.exhausted ≡ false → (p : Planned) → p.block ≡ out → p.nodes.items ≡ now.blocks.items → (a b c : Bool) → a ≡ now.long → b ≡ is_long out → c ≡ any_long now.blocks.items → ((a || b) || c) ≡ false → IsPlanned h rows s v p
-    is_planned none e p block items a b c al bl cl short =
-        let t = whole_tree e in
-        let both = or_false (a || b) c short in
-        let first = or_false a b both.0 in
-        let all : now.blocks.items ≡ w.added = w.blocks ∙ ap (λ xs. xs ++ w.added) none in
-        ⊎_elim
-        (λ (x : Exact h rows (λ μ. weigh μ rows s v) (spell t.tree) old out w.added now).
-        let one = over_is out false (sym bl ∙ first.1) in
-        let here = ap over (out_is t x) in
-        let rest = none_over w.added (ap any_long (sym all) ∙ sym cl ∙ both.1) in
-        let same = x.blocks over in
-        let sum = all_over t.tree in
-        record {
-          has = record { tree = t.tree; represented = t.is; sized = all_short (spell t.tree ∷ nodes h rows s v) (omega (arith, one, here, rest, same, sum)) };
-          spelled = block ∙ out_is t x;
-          alike = λ f. ap (sum_by f) (items ∙ all) ∙ x.blocks f ∙ sym (nodes_weigh h rows f s v);
-          follows = subst (λ xs. Follows [] xs) (sym (items ∙ all)) (w.follows []);
-        })
-        (λ (x : TooLong h rows (λ μ. weigh μ rows s v) (spell t.tree) now.long). let never : false ≡ true = sym first.0 ∙ al ∙ x.marked in absurd cc) (exact_of t)
+  pub is_planned : was.blocks.items ≡ [] → now.exhausted ≡ false → (p : Planned) → p.block ≡ out → p.nodes.items ≡ now.blocks.items → (a b c : Bool) → a ≡ now.long → b ≡ is_long out → c ≡ any_long now.blocks.items → ((a || b) || c) ≡ false → IsPlanned h rows s v p
+  is_planned none e p block items a b c al bl cl short =
+      let t = whole_tree e in
+      let both = or_false (a || b) c short in
+      let first = or_false a b both.0 in
+      let all : now.blocks.items ≡ w.added = w.blocks ∙ ap (λ xs. xs ++ w.added) none in
+      ⊎_elim
+      (λ (x : Exact h rows (λ μ. weigh μ rows s v) (spell t.tree) old out w.added now).
+      let one = over_is out false (sym bl ∙ first.1) in
+      let here = ap over (out_is t x) in
+      let rest = none_over w.added (ap any_long (sym all) ∙ sym cl ∙ both.1) in
+      let same = x.blocks over in
+      let sum = all_over t.tree in
+      record {
+        has = record { tree = t.tree; represented = t.is; sized = all_short (spell t.tree ∷ nodes h rows s v) (omega (arith, one, here, rest, same, sum)) };
+        spelled = block ∙ out_is t x;
+        alike = λ f. ap (sum_by f) (items ∙ all) ∙ x.blocks f ∙ sym (nodes_weigh h rows f s v);
+        follows = subst (λ xs. Follows [] xs) (sym (items ∙ all)) (w.follows []);
+      })
+      (λ (x : TooLong h rows (λ μ. weigh μ rows s v) (spell t.tree) now.long). let never : false ≡ true = sym first.0 ∙ al ∙ x.marked in absurd cc) (exact_of t)

@@ -14,8 +14,8 @@ use crate::plan::plan;
 use ild_bulk::put_all;
 use ild_data::{KeyHash, Octets};
 use ild_edges::Store;
-use ild_node::HamtFault;
 use ild_schema::{Accepted, Slot, Val};
+use ild_slots::HamtFault;
 use std::alloc::Global;
 
 // The items of a slice of bytes are bytes; a caller that needs the fact makes this call, which does no work.

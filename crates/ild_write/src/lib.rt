@@ -1,15 +1,10 @@
-//! The representation of typed values, written (IPLD Schemas, "Representations"): one pass into one buffer, with no tree between.
+//! The blocks of a typed value: its representation, written in one pass, and the nodes of its HAMTs, put over a store.
 #![tactic(auto)]
 
 mod block;
 mod fault;
-mod lists;
-mod maps;
-mod pass;
 mod plan;
 mod planned;
-mod structs;
-mod unions;
 
 pub use block::build;
 pub use fault::BuildFault;

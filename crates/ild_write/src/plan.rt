@@ -8,11 +8,11 @@ ghost use Rattle.ild_typed.specs.Typed.{Typed};
 ghost use Rattle.ild_write.specs.Planned.{Plans};
 
 use crate::fault::BuildFault;
-use crate::pass::add;
 use crate::planned::Planned;
 use ild_bulk::{any_long, is_long};
 use ild_data::KeyHash;
 use ild_emit::Emit;
+use ild_fill::add;
 use ild_hamt_entries::Nodes;
 use ild_schema::{Accepted, Slot, Val};
 use std::alloc::Global;

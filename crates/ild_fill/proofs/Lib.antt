@@ -1,0 +1,29 @@
+mod Writing
+mod Alike
+mod Forms
+mod StructForms
+mod UnionForms
+mod Heights
+mod Loops
+mod AcceptedTables
+pub mod Flow
+mod Fitted
+mod Bare
+mod AsText
+mod Weighing
+mod Spread
+mod Keyed
+mod Kept
+mod Tagged
+mod Members
+mod Prefixing
+mod Inlined
+mod Others
+mod Crowds
+pub mod Judges
+mod Longs
+mod Gathering
+mod Rooting
+mod EntryOrder
+pub mod Trees
+mod Wrapping
