@@ -1,6 +1,6 @@
 //! Laws of steps along a path.
 ghost use Rattle.ild_reach.specs.Along.{AlongIsLifted};
-ghost use Rattle.ild_reach.specs.Edits.{EditsAreCarried};
+ghost use Rattle.ild_reach.specs.Edits.{EditsAreCarried, EditsAreSeen};
 ghost use Rattle.ild_reach.specs.Standing.{StepsStand};
 
 /// The change of the whole that is lifted from the last holder of a path is what the steps along the path make of it.
@@ -16,4 +16,10 @@ pub fn edits_are_carried()
 /// The steps along a path lead to a part of the block's data, up to a holder that is replaced whatever changes in it.
 pub fn steps_stand()
     ensures { StepsStand }
+{}
+
+/// Each holder on the way of such an edit becomes what stands in a block, so the change of the whole is where the steps say: in the
+/// item to which all of them lead, or as a holder that is replaced.
+pub fn edits_are_seen()
+    ensures { EditsAreSeen }
 {}

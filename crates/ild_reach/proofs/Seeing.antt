@@ -1,0 +1,48 @@
+-- Each holder on the way of an edit becomes what has data, so the change of the whole is where the steps along the path say.
+use Rattle.std.proofs.Common.{◌≡◌, ℕ, List, [], ◌∷◌, Bool, Option, Some, sym, ◌∙◌, subst}
+use Rattle.std.specs.Option.{option_map_or}
+use Rattle.ild_data.specs.Data.{Data}
+use Rattle.ild_edits.proofs.KeepTyped.{of_type_is_kept}
+use Rattle.ild_edits.proofs.Paths.{deleted_typed, inserted_typed, set_typed}
+use Rattle.ild_lift.specs.LastLift.{LastEdit, deleting, inserting, last_seen, setting}
+use Rattle.ild_lift.specs.LiftLaws.{MayDelete, MayInsert, MaySet}
+use Rattle.ild_schema.specs.declared.row.Row.{Row}
+use Rattle.ild_seen.specs.Seen.{AreThere}
+use Rattle.ild_steps.specs.declared.steps.PartSteps.{PartSteps}
+use Rattle.ild_typed.specs.At.{InSlot, changed_in, seen}
+use Rattle.ild_typed.specs.Hamt.{alone}
+use Rattle.ild_typed.specs.Holder.{Holder, value_of}
+use Rattle.ild_typed.specs.OfType.{OfType, TestsKeys}
+use Rattle.ild_typed.specs.Represented.{represented}
+use Rattle.ild_typed.specs.Schema.{IsSchema}
+use Rattle.ild_typed.specs.Segment.{part}
+use Rattle.ild_reach.specs.Along.{AreRepresented, LeadAlong, become}
+use Rattle.ild_reach.specs.Edits.{EditsAreSeen, IsSeen}
+use Rattle.ild_reach.proofs.Carrying.{along}
+use Rattle.ild_reach.proofs.Edits.{all_represented}
+
+module _ (rows : List Row) (f : Holder → List ℕ → Holder) where
+  become_there : (p : InSlot) (s : List ℕ) (ss : List (List ℕ)) (steps : List PartSteps) (u : Data) → LeadAlong rows p s ss steps → AreRepresented rows f p s ss → represented alone rows p.0 (changed_in rows f p s ss) ≡ Some u
+      → AreThere steps (become rows f p s ss)
+  become_there p s [] [] u h made new = tt
+  become_there p s [] (o ∷ os) u h made new = absurd h
+  become_there p s (t ∷ ss) [] u h made new = absurd h
+  become_there p s (t ∷ ss) (o ∷ os) u h made new =
+      let q = h.0 in
+      let next = made q h.1 in
+      let rest : AreThere os (become rows f q t ss) = become_there q t ss os next.0.0 h.3 next.1 next.0.1 in
+      let behind : AreThere os (option_map_or (λ q. become rows f q t ss) (part (seen rows p) s) []) = subst (λ r. AreThere os (option_map_or (λ q. become rows f q t ss) r [])) (sym h.1) rest in
+      subst (λ w. AreThere (o ∷ os) (w ∷ option_map_or (λ q. become rows f q t ss) (part (seen rows p) s) [])) (sym new) behind
+
+module _ (rows : List Row) (is_key : ℕ → List ℕ → Bool) (schema : IsSchema rows) (keys : TestsKeys rows is_key) where
+  seen_by : (e : LastEdit) (May : Holder × List ℕ → Type 0) → ((l : Holder × List ℕ) → May l → (q : InSlot) → OfType rows q.0 q.1 → seen rows q ≡ l.0 → OfType rows q.0 (value_of (e.made l.0 l.1))) → IsSeen rows e May
+  seen_by e May typed p q s ss l u steps r is last may at lead new where_seen =
+      let made = all_represented rows is_key schema keys e.made l (typed l may) s ss p u is last new in
+      along rows e.made (last_seen alone rows e l.1) p q s ss steps lead at made ∙ where_seen (become rows e.made p s ss) (become_there rows e.made p s ss steps u lead made new)
+
+pub edits_are_seen : EditsAreSeen
+edits_are_seen rows is_key schema keys = (
+  λ w. seen_by rows is_key schema keys (setting w) (λ l. MaySet is_key l w rows) (λ l may. set_typed rows is_key (λ slot v. OfType rows slot v) (of_type_is_kept rows is_key schema keys) l may.0 w may.1 may.2 may.3),
+  λ w. seen_by rows is_key schema keys (inserting w) (λ l. MayInsert is_key l w rows) (λ l may. inserted_typed rows is_key (λ slot v. OfType rows slot v) (of_type_is_kept rows is_key schema keys) l may.0 w may.1 may.2 may.3),
+  seen_by rows is_key schema keys deleting MayDelete (λ l may. deleted_typed rows is_key (λ slot v. OfType rows slot v) (of_type_is_kept rows is_key schema keys) l may),
+)
