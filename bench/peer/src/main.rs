@@ -1,5 +1,7 @@
 //! The same work as the engine's, as a good Rust programmer writes it without proofs. Words: WORK FILE TIMES.
 mod cbor;
+mod create;
+mod folder;
 mod hamt;
 mod json;
 mod map;
@@ -99,6 +101,12 @@ fn main() {
             for _ in 0..times {
                 sum += map::answer(black_box(&bytes)).len() as u64;
             }
+        }
+        "new" => {
+            for _ in 0..times {
+                println!("root {}", create::create(&bytes));
+            }
+            return;
         }
         "files" => {
             for _ in 0..times {

@@ -1,27 +1,9 @@
 //! A script of `set`, `get`, `del` and `root` over a plain map from texts to integers, kept in one block.
 use crate::cbor::{add_head, add_int, key_order};
+use crate::folder::{cid_text, write};
 use sha2::{Digest, Sha256};
 use std::collections::HashMap;
 use std::path::PathBuf;
-
-const LETTERS: &[u8; 32] = b"abcdefghijklmnopqrstuvwxyz234567";
-
-fn cid_text(id: &[u8; 32]) -> String {
-    let (mut out, mut held, mut bits) = (String::from("b"), 0u32, 0);
-    for byte in [1, 0x71, 0x12, 0x20].iter().chain(id) {
-        held = held << 8 | *byte as u32;
-        bits += 8;
-        while bits >= 5 {
-            bits -= 5;
-            out.push(LETTERS[(held >> bits & 31) as usize] as char);
-        }
-        held &= (1 << bits) - 1;
-    }
-    if bits > 0 {
-        out.push(LETTERS[(held << (5 - bits) & 31) as usize] as char);
-    }
-    out
-}
 
 /// Where blocks are kept: in memory, or a file each in a folder.
 enum Store {
@@ -36,11 +18,9 @@ impl Store {
                 blocks.insert(id, block);
             }
             Store::Folder(folder) => {
-                let file = folder.join(cid_text(&id));
-                if !file.exists() {
-                    let part = folder.join(format!("{}.part", cid_text(&id)));
-                    std::fs::write(&part, &block).expect("the folder can be written");
-                    std::fs::rename(&part, &file).expect("the folder can be written");
+                let name = cid_text(&id);
+                if !folder.join(&name).exists() {
+                    write(&folder, &name, &block);
                 }
             }
         }
