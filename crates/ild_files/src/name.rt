@@ -7,12 +7,16 @@ ghost use Rattle.ild_data.specs.Spell.{cid_of};
 use ild_data::BlockId;
 use std::alloc::{AllocError, Global};
 
+/// Room for what stands behind the folder in a path: a slash, and the 59 letters of a CID.
+const NAME_ROOM: usize = 60;
+
 /// The path of a block's file: the folder, and the text of the block's CID.
 pub(crate) fn block_path(alloc: Global, folder: &str, id: &BlockId) -> Result<String, AllocError>
     ensures { IfOk result (λ path. string_bytes path ≡ folder.now ++ codes "/" ++ cid_text_of (cid_of id.now.0)) }
 {
     let text = id.text(alloc)?;
-    let mut path = String::from_str(alloc, folder)?;
+    let mut path = String::with_capacity(alloc, folder.len().saturating_add(NAME_ROOM))?;
+    path.push_str(folder)?;
     path.push_str("/")?;
     path.push_str(text.as_str())?;
     Ok(path)
