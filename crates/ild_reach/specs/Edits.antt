@@ -10,9 +10,9 @@ use Rattle.ild_schema.specs.declared.row.Row.{Row}
 use Rattle.ild_seen.specs.Seen.{AreThere, seen_at}
 use Rattle.ild_steps.specs.Steps.{carried_along}
 use Rattle.ild_steps.specs.declared.steps.PartSteps.{PartSteps}
-use Rattle.ild_typed.specs.At.{InSlot, changed_in, last_holder}
+use Rattle.ild_typed.specs.At.{InSlot, changed_in, last_holder, seen}
 use Rattle.ild_typed.specs.Hamt.{alone}
-use Rattle.ild_typed.specs.Holder.{Holder}
+use Rattle.ild_typed.specs.Holder.{Holder, value_of}
 use Rattle.ild_typed.specs.OfType.{OfType, TestsKeys}
 use Rattle.ild_typed.specs.Represented.{represented}
 use Rattle.ild_typed.specs.Schema.{IsSchema}
@@ -35,11 +35,13 @@ EditsAreCarried = (rows : List Row) (is_key : ℕ → List ℕ → Bool) → IsS
 abbrev pub IsSeenAt : List PartSteps → Located → Option ℕ → Type 0
 IsSeenAt steps e r = (ws : List (Option Data)) → AreThere steps ws → carried_along steps ws e ≡ seen_at steps ws e r
 
--- There the lifted change is, where the changed value has data.
+-- There the lifted change is, where the changed value has data. What the last holder becomes then has data too, so it is only asked
+-- where its change is seen if it has.
 abbrev pub IsSeen : List Row → LastEdit → (Holder × List ℕ → Type 0) → Type 0
 IsSeen rows e May =
     (p q : InSlot) (s : List ℕ) (ss : List (List ℕ)) (l : Holder × List ℕ) (u : Data) (steps : List PartSteps) (r : Option ℕ) → OfType rows p.0 p.1 → last_holder rows p s ss ≡ Some l → May l → holder_at rows p s ss ≡ Some q
-    → LeadAlong rows p s ss steps → represented alone rows p.0 (changed_in rows e.made p s ss) ≡ Some u → IsSeenAt steps (last_seen alone rows e l.1 q) r
+    → LeadAlong rows p s ss steps → represented alone rows p.0 (changed_in rows e.made p s ss) ≡ Some u
+    → ((w : Data) → represented alone rows q.0 (value_of (e.made (seen rows q) l.1)) ≡ Some w → IsSeenAt steps (last_seen alone rows e l.1 q) r)
     → lifted rows (lift alone rows) e.made (last_seen alone rows e l.1) p s ss ≡ seen_at steps (become rows e.made p s ss) (last_seen alone rows e l.1 q) r
 
 abbrev pub EditsAreSeen : Type 0
