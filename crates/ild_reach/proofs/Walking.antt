@@ -183,6 +183,13 @@ walked_ends rows p l s ss path k steps v w one far =
     let none : w.rest ≡ [] = no_more w.rest (length w.rest) refl (omega (arith, long, far, one)) in
     subst (λ ys. LeadAlong rows p s ss ys) (behind_all steps) (w.adds [] (subst (λ ts. LeadAlong rows w.to w.now ts []) (sym none) tt))
 
+-- and the view is that of the last holder
+pub walked_holder : (rows : List Row) (p l : InSlot) (s : List ℕ) (ss path : List (List ℕ)) (k : ℕ) (steps : List PartSteps) (v : View) → Walked rows p l s ss path k steps v → 1 ≤ k → length path ≤ k → IsPartView rows l v
+walked_holder rows p l s ss path k steps v w one far =
+    let long = length_is path (k - 1) w.now w.rest w.at in
+    let none : w.rest ≡ [] = no_more w.rest (length w.rest) refl (omega (arith, long, far, one)) in
+    subst (λ q. IsPartView rows q v) (same_Some w.to l (subst (λ ts. holder_at rows w.to w.now ts ≡ Some l) none w.leads)) w.view
+
 -- the segment at a place
 pub segment_at : (all path : List (List ℕ)) (k : ℕ) (x y : List ℕ) → x ≡ y → y ≡ get_or all k y → all ≡ path → x ≡ get_or path k x
 segment_at all path k x y same is whole = same ∙ is ∙ ap (λ (zs : List (List ℕ)). get_or zs k y) whole ∙ ap (get_or path k) (sym same)

@@ -1,3 +1,4 @@
 pub mod Along
 pub mod Edits
+pub mod Holders
 pub mod Standing

@@ -4,7 +4,7 @@ use Rattle.ild_typed.specs.At.{InSlot, seen}
 use Rattle.ild_view.specs.View.{IsView, slot_of, table_of}
 use Rattle.ild_reach.specs.Along.{holder_at, is_holder}
 use Rattle.ild_reach.proofs.Walking.{Walked}
-use Rattle.ild_reach.proofs.along.steps_along.Given as goal
+use Rattle.ild_reach.proofs.along.last_holder.Given as goal
 
 abbrev pub invariant-loop-k : goal.invariant-loop-k
 invariant-loop-k l = (1 ≤ l.k) × ((f : Value) (s : List ℕ) (ss : List (List ℕ)) (to : InSlot) → IsView l.root f → l.path ≡ s ∷ ss → holder_at (table_of l.root) (slot_of l.root, f) s ss ≡ Some to
