@@ -28,6 +28,10 @@ use Rattle.ild_reach.specs.Along.{AreRepresented}
 use Rattle.ild_reach.specs.Edits.{EditsAreCarried, IsCarried}
 use Rattle.ild_reach.proofs.Carrying.{along}
 
+-- what an edit that the table allows makes of the last holder is of its slot
+abbrev pub Keeps : List Row → LastEdit → (Holder × List ℕ → Type 0) → Type 0
+Keeps rows e May = (l : Holder × List ℕ) → May l → (q : InSlot) → OfType rows q.0 q.1 → seen rows q ≡ l.0 → OfType rows q.0 (value_of (e.made l.0 l.1))
+
 module _ (rows : List Row) (is_key : ℕ → List ℕ → Bool) (schema : IsSchema rows) (keys : TestsKeys rows is_key) where
   kept : IsKept rows is_key (λ slot v. OfType rows slot v)
   kept = of_type_is_kept rows is_key schema keys
@@ -57,12 +61,22 @@ module _ (rows : List Row) (is_key : ℕ → List ℕ → Bool) (schema : IsSche
         let n = stands.parts (p.0, value_of (set_part (seen rows p) s c)) (q.0, c) s u whole there made in
         ((n.0, n.1), all_represented t ss q n.0 it last n.1)
 
-  carried_by : (e : LastEdit) (May : Holder × List ℕ → Type 0) → ((l : Holder × List ℕ) → May l → (q : InSlot) → OfType rows q.0 q.1 → seen rows q ≡ l.0 → OfType rows q.0 (value_of (e.made l.0 l.1))) → IsCarried rows e May
+  -- each verb makes values of the slot
+  pub set_keeps : (w : Value) → Keeps rows (setting w) (λ l. MaySet is_key l w rows)
+  set_keeps w l may q is e = set_typed rows is_key Of kept l may.0 w may.1 may.2 may.3 q is e
+
+  pub insert_keeps : (w : Value) → Keeps rows (inserting w) (λ l. MayInsert is_key l w rows)
+  insert_keeps w l may q is e = inserted_typed rows is_key Of kept l may.0 w may.1 may.2 may.3 q is e
+
+  pub delete_keeps : Keeps rows deleting MayDelete
+  delete_keeps l may q is e = deleted_typed rows is_key Of kept l may q is e
+
+  carried_by : (e : LastEdit) (May : Holder × List ℕ → Type 0) → Keeps rows e May → IsCarried rows e May
   carried_by e May typed p q s ss l u steps is last may at lead new = along rows e.made (last_seen alone rows e l.1) p q s ss steps lead at (all_represented e.made l (typed l may) s ss p u is last new)
 
 pub edits_are_carried : EditsAreCarried
 edits_are_carried rows is_key schema keys = (
-  λ w. carried_by rows is_key schema keys (setting w) (λ l. MaySet is_key l w rows) (λ l may. set_typed rows is_key (λ slot v. OfType rows slot v) (of_type_is_kept rows is_key schema keys) l may.0 w may.1 may.2 may.3),
-  λ w. carried_by rows is_key schema keys (inserting w) (λ l. MayInsert is_key l w rows) (λ l may. inserted_typed rows is_key (λ slot v. OfType rows slot v) (of_type_is_kept rows is_key schema keys) l may.0 w may.1 may.2 may.3),
-  carried_by rows is_key schema keys deleting MayDelete (λ l may. deleted_typed rows is_key (λ slot v. OfType rows slot v) (of_type_is_kept rows is_key schema keys) l may),
+  λ w. carried_by rows is_key schema keys (setting w) (λ l. MaySet is_key l w rows) (set_keeps rows is_key schema keys w),
+  λ w. carried_by rows is_key schema keys (inserting w) (λ l. MayInsert is_key l w rows) (insert_keeps rows is_key schema keys w),
+  carried_by rows is_key schema keys deleting MayDelete (delete_keeps rows is_key schema keys),
 )

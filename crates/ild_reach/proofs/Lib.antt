@@ -1,6 +1,7 @@
 mod Finding
 mod Carrying
 mod Edits
+mod Editing
 mod Seeing
 mod Standing
 mod Written

@@ -4,8 +4,6 @@ use Rattle.std.specs.Prelude.{option_and_then}
 use Rattle.std.specs.Option.{option_map_or}
 use Rattle.std.proofs.lemmas.Option.{same_Some}
 use Rattle.ild_data.specs.Data.{Data}
-use Rattle.ild_edits.proofs.KeepTyped.{of_type_is_kept}
-use Rattle.ild_edits.proofs.Paths.{deleted_typed, inserted_typed, set_typed}
 use Rattle.ild_lift.proofs.Lifting.{chained}
 use Rattle.ild_lift.specs.LastLift.{LastEdit, deleting, inserting, last_seen, setting}
 use Rattle.ild_lift.specs.LiftLaws.{MayDelete, MayInsert, MaySet}
@@ -15,17 +13,17 @@ use Rattle.ild_steps.specs.declared.steps.PartSteps.{PartSteps}
 use Rattle.ild_typed.specs.At.{InSlot, changed_in, last_holder, seen}
 use Rattle.ild_typed.specs.Hamt.{alone}
 use Rattle.ild_typed.specs.Holder.{Holder, value_of}
-use Rattle.ild_typed.specs.OfType.{OfType, TestsKeys}
+use Rattle.ild_typed.specs.OfType.{TestsKeys}
 use Rattle.ild_typed.specs.Represented.{represented}
 use Rattle.ild_typed.specs.Schema.{IsSchema}
 use Rattle.ild_typed.specs.Segment.{part}
 use Rattle.ild_reach.specs.Along.{AreRepresented, LeadAlong, become, holder_at}
 use Rattle.ild_reach.specs.Edits.{EditsAreSeen, IsSeen}
 use Rattle.ild_reach.proofs.Carrying.{along}
-use Rattle.ild_reach.proofs.Edits.{all_represented}
+use Rattle.ild_reach.proofs.Edits.{Keeps, all_represented, delete_keeps, insert_keeps, set_keeps}
 
 module _ (rows : List Row) (f : Holder → List ℕ → Holder) where
-  become_there : (p : InSlot) (s : List ℕ) (ss : List (List ℕ)) (steps : List PartSteps) (u : Data) → LeadAlong rows p s ss steps → AreRepresented rows f p s ss → represented alone rows p.0 (changed_in rows f p s ss) ≡ Some u
+  pub become_there : (p : InSlot) (s : List ℕ) (ss : List (List ℕ)) (steps : List PartSteps) (u : Data) → LeadAlong rows p s ss steps → AreRepresented rows f p s ss → represented alone rows p.0 (changed_in rows f p s ss) ≡ Some u
       → AreThere steps (become rows f p s ss)
   become_there p s [] [] u h made new = tt
   become_there p s [] (o ∷ os) u h made new = absurd h
@@ -38,7 +36,7 @@ module _ (rows : List Row) (f : Holder → List ℕ → Holder) where
       subst (λ w. AreThere (o ∷ os) (w ∷ option_map_or (λ q. become rows f q t ss) (part (seen rows p) s) [])) (sym new) behind
 
   -- and the last of them
-  last_there : (p q : InSlot) (s : List ℕ) (ss : List (List ℕ)) (l : Holder × List ℕ) (u : Data) → last_holder rows p s ss ≡ Some l → holder_at rows p s ss ≡ Some q → AreRepresented rows f p s ss
+  pub last_there : (p q : InSlot) (s : List ℕ) (ss : List (List ℕ)) (l : Holder × List ℕ) (u : Data) → last_holder rows p s ss ≡ Some l → holder_at rows p s ss ≡ Some q → AreRepresented rows f p s ss
       → represented alone rows p.0 (changed_in rows f p s ss) ≡ Some u → (w : Data) × (represented alone rows q.0 (value_of (f (seen rows q) l.1)) ≡ Some w)
   last_there p q s [] l u last at made new =
       let same : q ≡ p = sym (same_Some p q at) in
@@ -50,7 +48,7 @@ module _ (rows : List Row) (f : Holder → List ℕ → Holder) where
       last_there x.0 q t ss l next.0.0 (sym (ap (option_and_then (λ r. last_holder rows r t ss)) x.1) ∙ last) x.2 next.1 next.0.1
 
 module _ (rows : List Row) (is_key : ℕ → List ℕ → Bool) (schema : IsSchema rows) (keys : TestsKeys rows is_key) where
-  seen_by : (e : LastEdit) (May : Holder × List ℕ → Type 0) → ((l : Holder × List ℕ) → May l → (q : InSlot) → OfType rows q.0 q.1 → seen rows q ≡ l.0 → OfType rows q.0 (value_of (e.made l.0 l.1))) → IsSeen rows e May
+  seen_by : (e : LastEdit) (May : Holder × List ℕ → Type 0) → Keeps rows e May → IsSeen rows e May
   seen_by e May typed p q s ss l u steps r is last may at lead new where_seen =
       let made = all_represented rows is_key schema keys e.made l (typed l may) s ss p u is last new in
       let there = last_there rows e.made p q s ss l u last at made new in
@@ -58,7 +56,7 @@ module _ (rows : List Row) (is_key : ℕ → List ℕ → Bool) (schema : IsSche
 
 pub edits_are_seen : EditsAreSeen
 edits_are_seen rows is_key schema keys = (
-  λ w. seen_by rows is_key schema keys (setting w) (λ l. MaySet is_key l w rows) (λ l may. set_typed rows is_key (λ slot v. OfType rows slot v) (of_type_is_kept rows is_key schema keys) l may.0 w may.1 may.2 may.3),
-  λ w. seen_by rows is_key schema keys (inserting w) (λ l. MayInsert is_key l w rows) (λ l may. inserted_typed rows is_key (λ slot v. OfType rows slot v) (of_type_is_kept rows is_key schema keys) l may.0 w may.1 may.2 may.3),
-  seen_by rows is_key schema keys deleting MayDelete (λ l may. deleted_typed rows is_key (λ slot v. OfType rows slot v) (of_type_is_kept rows is_key schema keys) l may),
+  λ w. seen_by rows is_key schema keys (setting w) (λ l. MaySet is_key l w rows) (set_keeps rows is_key schema keys w),
+  λ w. seen_by rows is_key schema keys (inserting w) (λ l. MayInsert is_key l w rows) (insert_keeps rows is_key schema keys w),
+  seen_by rows is_key schema keys deleting MayDelete (delete_keeps rows is_key schema keys),
 )

@@ -43,6 +43,11 @@ LeadAlong rows p s [] (o ∷ os) = ⊥
 LeadAlong rows p s (t ∷ ss) [] = ⊥
 LeadAlong rows p s (t ∷ ss) (o ∷ os) = (q : InSlot) × (part (seen rows p) s ≡ Some q) × StepsIn rows p s q o × LeadAlong rows q t ss os
 
+-- the last segment of a path
+abbrev pub last_of : List ℕ → List (List ℕ) → List ℕ
+last_of s [] = s
+last_of s (t ∷ ss) = last_of t ss
+
 -- ---- what they do to a change of the last holder
 
 -- the data that each holder becomes but the last

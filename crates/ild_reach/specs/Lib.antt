@@ -1,4 +1,5 @@
 pub mod Along
+pub mod Edited
 pub mod Edits
 pub mod Holders
 pub mod Standing

@@ -1,5 +1,6 @@
 //! Laws of steps along a path.
 ghost use Rattle.ild_reach.specs.Along.{AlongIsLifted};
+ghost use Rattle.ild_reach.specs.Edited.{ChangesAreEdited, EditsAreEdited};
 ghost use Rattle.ild_reach.specs.Edits.{EditsAreCarried, EditsAreSeen};
 ghost use Rattle.ild_reach.specs.Standing.{StepsStand};
 
@@ -22,4 +23,12 @@ pub fn steps_stand()
 /// item to which all of them lead, or as a holder that is replaced.
 pub fn edits_are_seen()
     ensures { EditsAreSeen }
+{}
+
+/// The data of the value that an edit makes are those of the old value with one change: what changes in the last holder's item, at the
+/// end of the steps to it, or the item of a holder that is replaced. So it is of each edit that the table allows, and of each that
+/// makes a changed value.
+pub fn edits_are_edited()
+    ensures each { EditsAreEdited }
+    ensures changes { ChangesAreEdited }
 {}

@@ -7,5 +7,5 @@ mod next;
 mod part;
 
 pub use along::{LastHolder, last_holder, steps_along};
-pub use laws::{along_is_lifted, edits_are_carried, edits_are_seen, steps_stand};
+pub use laws::{along_is_lifted, edits_are_carried, edits_are_edited, edits_are_seen, steps_stand};
 pub use part::part_steps;
