@@ -2,12 +2,12 @@
 use ild_cbor::{Node, check};
 use ild_compile::compile;
 use ild_data::{Path, Txt};
-use ild_reach::{part_steps, steps_along};
+use ild_reach::{last_holder, part_steps, steps_along};
 use ild_schema::{Accepted, Slot};
 use ild_seen::{Touch, node_along, replaced};
 use ild_splice::replace;
 use ild_steps::PartSteps;
-use ild_view::{Step, View};
+use ild_view::View;
 use std::alloc::{AllocError, Global};
 use std::process::Abort;
 use std::test::Fail;
@@ -63,19 +63,16 @@ fn path_of(alloc: Global, segments: &[&str]) -> Option<Path> {
     Some(path)
 }
 
-/// The steps along a path, and then to the part at its last segment.
+/// The steps along a path, and then from its last holder to the part at its last segment.
 fn steps_to_part<'a>(
     alloc: Global,
     root: &View<'a>,
     path: &'a Path,
-    front: &Path,
     last: &'a str,
 ) -> Option<Vec<PartSteps<'a>>> {
-    let Ok(Step::Here(holder)) = root.at(front, 0) else {
-        return None;
-    };
+    let above = last_holder(alloc, root, path).ok()??;
     let mut steps = steps_along(alloc, root, path).ok()??;
-    steps.push(part_steps(&holder, last)?).ok()?;
+    steps.push(part_steps(&above.view, last)?).ok()?;
     Some(steps)
 }
 
@@ -103,13 +100,13 @@ fn is_made(alloc: Global, root: Node<'_>, steps: &[PartSteps<'_>], want: &[u8]) 
 
 fn is_so(alloc: Global, acc: &Accepted, row: &Row) -> Option<bool> {
     let (name, block, segments, text, want) = *row;
-    let [front @ .., last] = segments else {
+    let [.., last] = segments else {
         return None;
     };
     let root = check(block).ok()?;
     let view = view_of(alloc, acc, name, root)?;
     let path = path_of(alloc, segments)?;
-    let steps = steps_to_part(alloc, &view, &path, &path_of(alloc, front)?, last)?;
+    let steps = steps_to_part(alloc, &view, &path, last)?;
     let whole = replaced(&steps, Touch::Whole);
     let said = text_of(alloc, &steps, whole)?;
     let made = whole.is_some() || is_made(alloc, root, &steps, want)?;
