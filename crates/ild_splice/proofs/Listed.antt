@@ -1,5 +1,5 @@
 -- A list with one item more or less, by the pieces of its spelling.
-use Rattle.std.proofs.Common.{◌≡◌, ℕ, ◌+◌, ◌-◌, ◌^◌, ◌<◌, ◌≤◌, List, [], ◌++◌, length, take, drop, Some, refl, ap, sym, subst, ◌∙◌, length-append, arith}
+use Rattle.std.proofs.Common.{◌≡◌, ℕ, ◌+◌, ◌-◌, ◌^◌, ◌<◌, ◌≤◌, List, [], ◌++◌, length, take, drop, Some, refl, ap, sym, subst, ◌∙◌, append-nil, append_assoc, length-append, arith}
 use Rattle.std.specs.Prelude.{min}
 use Rattle.std.proofs.lemmas.List.{drop-drop, take-append-drop, length-take-le, length-drop}
 use Rattle.ild_cbor.specs.declared.kind.Kind.TheVariants as K
@@ -9,9 +9,10 @@ use Rattle.ild_cbor.specs.Scalar.{kind_of, count_of}
 use Rattle.ild_change.specs.TreeChange.{insert_item, remove_item, change_here}
 use Rattle.ild_change.proofs.Counts.{items_come_lem, items_go_lem}
 use Rattle.ild_data.specs.Data.{Data, null, boolean, integer, text, bytes, list, map, link, Items, items_of, items_list}
-use Rattle.ild_data.specs.Spell.{head, spell, spell_items}
+use Rattle.ild_data.specs.Spell.{head, spell, spell_items, spell_text}
 use Rattle.ild_data.proofs.Lists.{items_of-items_list}
 use Rattle.ild_data.proofs.Sizes.{items_count}
+use Rattle.ild_splice.specs.Splices.{pair_of}
 
 pub list_if : (d : Data) → kind_of d ≡ K.List → (ds : Items) × (d ≡ list ds)
 list_if null e = absurd cc
@@ -64,6 +65,16 @@ comes n d e i told count before after new stands kind place tells counted cuts i
     let l = list_if d kind in
     let P : Data → Type 0 = λ u. Stands n u → ((k : ℕ) → count_of u ≡ Some k → i ≤ k) → ((k : ℕ) → count_of u ≡ Some k → told ≡ k) → head 4 count ++ (before ++ (new ++ after)) ≡ spell (change_here (insert_item i e) u) in
     subst P (sym l.1) (λ s p t. comes_in n l.0 i count before after new e s (p _ refl) (counted ∙ ap (λ k. min (k + 1) (2 ^ 64 - 1)) (t _ refl)) cuts is) stands place tells
+
+-- the new item spelled in two parts
+pub comes_led : (n : Node) (d e u : Data) (i told count : ℕ) (before after lead new : List ℕ) → Stands n d → kind_of d ≡ K.List → ((k : ℕ) → count_of d ≡ Some k → i ≤ k) → ((k : ℕ) → count_of d ≡ Some k → told ≡ k)
+    → count ≡ min (told + 1) (2 ^ 64 - 1) → Cuts n i 0 before after → new ≡ spell e → lead ++ spell e ≡ spell u → head 4 count ++ (before ++ (lead ++ (new ++ after))) ≡ spell (change_here (insert_item i u) d)
+comes_led n d e u i told count before after lead new stands kind place tells counted cuts is both =
+    ap (λ (xs : List ℕ). head 4 count ++ (before ++ xs)) (sym (append_assoc lead new after))
+    ∙ comes n d u i told count before after (lead ++ new) stands kind place tells counted cuts (ap (λ (xs : List ℕ). lead ++ xs) is ∙ both)
+
+pub pair_spelled : (k : List ℕ) (e : Data) → (head 4 2 ++ spell_text k) ++ spell e ≡ spell (pair_of k e)
+pair_spelled k e = append_assoc (head 4 2) (spell_text k) (spell e) ∙ ap (λ (xs : List ℕ). head 4 2 ++ (spell_text k ++ xs)) (sym (append-nil (spell e)))
 
 pub goes : (n : Node) (d : Data) (i told count : ℕ) (before after : List ℕ) → Stands n d → kind_of d ≡ K.List → ((k : ℕ) → count_of d ≡ Some k → i < k) → ((k : ℕ) → count_of d ≡ Some k → told ≡ k)
     → count ≡ told - 1 → Cuts n i 1 before after → head 4 count ++ (before ++ after) ≡ spell (change_here (remove_item i) d)

@@ -5,7 +5,7 @@ use Rattle.ild_cbor.specs.Nodes.{Stands, block_of, start_of}
 use Rattle.ild_cbor.specs.Span.{Span, span_of}
 use Rattle.ild_change.specs.Spliced.{numbers_of}
 use Rattle.ild_change.specs.TreeChange.{TreeStep, TreeChange, part_at, changed}
-use Rattle.ild_data.specs.Data.{Data}
+use Rattle.ild_data.specs.Data.{Data, item, list, no_items, text}
 use Rattle.ild_data.specs.Spell.{spell}
 use Rattle.ild_splice.specs.declared.error.SpliceErr.{SpliceErr}
 use Rattle.ild_splice.specs.Made.{Makes}
@@ -22,3 +22,7 @@ pub record IsAt (n : Node) (t : Data) (q : List TreeStep) (d : Data) : Type 0 wh
 -- of whatever tree the node is a part: the answer is the spelling of that tree with this change of that part, or that it is too long
 pub record Splices (n : Node) (c : TreeChange) (result : Result (List ℕ) SpliceErr) : Type 0 where
   pub makes : (t d : Data) (q : List TreeStep) → IsAt n t q d → Makes (spell (changed q c t)) result
+
+-- the list of two of a text and a tree
+abbrev pub pair_of : List ℕ → Data → Data
+pair_of k d = list (item (text k) (item d no_items))

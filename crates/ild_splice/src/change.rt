@@ -2,19 +2,21 @@
 //! spelling of it, byte for byte, made from slices of the old block. DAG-CBOR counts items and not bytes, so nothing but the span
 //! of that part is another, and what stands before and behind it is copied as it is. Where the new block would have more than 4,194,304 bytes, and only
 //! there, the answer is `SpliceErr::Size`. How deep the tree nests is for the caller to see to (`changes_stay_within`).
-ghost use Rattle.std.specs.Prelude.{◌≡◌, ◌≤◌, ◌<◌, ℕ, true, is_some, Some, None};
+ghost use Rattle.std.specs.Prelude.{◌≡◌, ◌≤◌, ◌<◌, ◌++◌, ℕ, true, is_some, Some, None};
 ghost use Rattle.ild_cbor.specs.Nodes.{Stands};
 ghost use Rattle.ild_cbor.specs.Scalar.{kind_of, count_of};
 ghost use Rattle.ild_cbor.specs.Span.{entry_of};
 ghost use Rattle.ild_cbor.specs.declared.kind.Kind.TheVariants as K;
 ghost use Rattle.ild_change.specs.TreeChange.{replace, insert_item, insert_entry, remove_item, remove_entry};
 ghost use Rattle.ild_data.specs.Data.{Data};
-ghost use Rattle.ild_splice.specs.Splices.{Splices};
+ghost use Rattle.ild_data.specs.Spell.{spell};
+ghost use Rattle.ild_splice.specs.Made.{lead_bytes};
+ghost use Rattle.ild_splice.specs.Splices.{Splices, pair_of};
 
 use crate::cut::{around, part_count};
 use crate::entry::entries_around;
 use crate::error::SpliceErr;
-use crate::piece::{NewHead, Pieces};
+use crate::piece::{Lead, NewHead, Pieces};
 use crate::write::made;
 use ild_cbor::Node;
 use ild_data::Octets;
@@ -31,9 +33,37 @@ pub fn replace(alloc: Global, part: &Node<'_>, new: &Node<'_>) -> Result<Octets,
             front,
             head: NewHead::Same,
             before: &[],
-            key: None,
+            lead: Lead::Nothing,
             new: new.spelling(),
             after: &[],
+            behind,
+        },
+    )
+}
+
+// The block in which a list stands, with one more item, which is spelled as the lead says and then as another is.
+fn with_item(
+    alloc: Global,
+    list: &Node<'_>,
+    at: u64,
+    lead: Lead<'_>,
+    new: &Node<'_>,
+) -> Result<Octets, SpliceErr>
+    requires list { (d : Data) → Stands list.now d → kind_of d ≡ K.List }
+    requires place { (d : Data) (n : ℕ) → Stands list.now d → count_of d ≡ Some n → at ≤ n }
+    ensures { (e u : Data) → Stands new.now e → lead_bytes lead.entry ++ spell e ≡ spell u → Splices list.now (insert_item at u) result }
+{
+    let (front, behind) = around(list);
+    let (before, after) = list.items_around(at, 0);
+    made(
+        alloc,
+        &Pieces {
+            front,
+            head: NewHead::List(part_count(list).saturating_add(1)),
+            before,
+            lead,
+            new: new.spelling(),
+            after,
             behind,
         },
     )
@@ -51,20 +81,22 @@ pub fn insert_item(
     requires place { (d : Data) (n : ℕ) → Stands list.now d → count_of d ≡ Some n → at ≤ n }
     ensures { (e : Data) → Stands new.now e → Splices list.now (insert_item at e) result }
 {
-    let (front, behind) = around(list);
-    let (before, after) = list.items_around(at, 0);
-    made(
-        alloc,
-        &Pieces {
-            front,
-            head: NewHead::List(part_count(list).saturating_add(1)),
-            before,
-            key: None,
-            new: new.spelling(),
-            after,
-            behind,
-        },
-    )
+    with_item(alloc, list, at, Lead::Nothing, new)
+}
+
+/// The same, where the one more item is a pair: the list of two of a key and an item, which is copied from its own block.
+pub fn insert_pair(
+    alloc: Global,
+    list: &Node<'_>,
+    at: u64,
+    key: &str,
+    new: &Node<'_>,
+) -> Result<Octets, SpliceErr>
+    requires list { (d : Data) → Stands list.now d → kind_of d ≡ K.List }
+    requires place { (d : Data) (n : ℕ) → Stands list.now d → count_of d ≡ Some n → at ≤ n }
+    ensures { (e : Data) → Stands new.now e → Splices list.now (insert_item at (pair_of key.now e)) result }
+{
+    with_item(alloc, list, at, Lead::Pair(key), new)
 }
 
 /// The block in which a map stands, with one more entry, whose key the map doesn't have, at its place in the order of keys (DAG-CBOR,
@@ -87,7 +119,7 @@ pub fn insert_entry(
             front,
             head: NewHead::Map(part_count(map).saturating_add(1)),
             before,
-            key: Some(key),
+            lead: Lead::Key(key),
             new: new.spelling(),
             after,
             behind,
@@ -109,7 +141,7 @@ pub fn remove_item(alloc: Global, list: &Node<'_>, at: u64) -> Result<Octets, Sp
             front,
             head: NewHead::List(part_count(list).saturating_sub(1)),
             before,
-            key: None,
+            lead: Lead::Nothing,
             new: &[],
             after,
             behind,
@@ -131,7 +163,7 @@ pub fn remove_entry(alloc: Global, map: &Node<'_>, key: &str) -> Result<Octets, 
             front,
             head: NewHead::Map(part_count(map).saturating_sub(1)),
             before,
-            key: None,
+            lead: Lead::Nothing,
             new: &[],
             after,
             behind,

@@ -10,6 +10,6 @@ mod piece;
 mod size;
 mod write;
 
-pub use change::{insert_entry, insert_item, remove_entry, remove_item, replace};
+pub use change::{insert_entry, insert_item, insert_pair, remove_entry, remove_item, replace};
 pub use error::SpliceErr;
 pub use laws::{changes_stay_within, nodes_are_at_places};

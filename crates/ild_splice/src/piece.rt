@@ -11,6 +11,17 @@ pub(crate) enum NewHead {
     Map(u64),
 }
 
+/// What stands in front of a new part.
+#[derive(Clone, Copy)]
+pub(crate) enum Lead<'k> {
+    /// Nothing.
+    Nothing,
+    /// The key of a new entry.
+    Key(&'k str),
+    /// The head of a pair, and its key.
+    Pair(&'k str),
+}
+
 /// The pieces of a changed block, in order.
 #[derive(Clone, Copy)]
 pub(crate) struct Pieces<'b, 'k, 'n> {
@@ -19,8 +30,7 @@ pub(crate) struct Pieces<'b, 'k, 'n> {
     pub(crate) head: NewHead,
     /// The parts of the item before the change.
     pub(crate) before: &'b [u8],
-    /// The key of a new entry.
-    pub(crate) key: Option<&'k str>,
+    pub(crate) lead: Lead<'k>,
     /// The spelling of a new part.
     pub(crate) new: &'n [u8],
     /// The parts of the item behind the change.

@@ -1,9 +1,9 @@
 //! How many bytes a changed block has.
 ghost use Rattle.std.specs.Prelude.{◌≡◌, ◌≤◌, ℕ, length};
 ghost use Rattle.ild_data.specs.Spell.{head, spell_text};
-ghost use Rattle.ild_splice.specs.Made.{bytes_of, head_bytes, key_bytes};
+ghost use Rattle.ild_splice.specs.Made.{bytes_of, head_bytes, lead_bytes};
 
-use crate::piece::{NewHead, Pieces};
+use crate::piece::{Lead, NewHead, Pieces};
 
 /// How many bytes the shortest head has (RFC 8949, section 3).
 pub(crate) fn head_size(n: u64) -> usize
@@ -42,13 +42,14 @@ fn new_head_size(head: NewHead) -> u128
     }
 }
 
-fn key_size(key: Option<&str>) -> u128
-    ensures size { result ≡ length (key_bytes key.entry) }
-    ensures few { result ≤ 0x1_0000_0000_0000_0008 }
+fn lead_size(lead: Lead<'_>) -> u128
+    ensures size { result ≡ length (lead_bytes lead.entry) }
+    ensures few { result ≤ 0x1_0000_0000_0000_0009 }
 {
-    match key {
-        Some(key) => text_size(key),
-        None => 0,
+    match lead {
+        Lead::Nothing => 0,
+        Lead::Key(key) => text_size(key),
+        Lead::Pair(key) => 1 + text_size(key),
     }
 }
 
@@ -58,5 +59,5 @@ pub(crate) fn size_of(pieces: &Pieces<'_, '_, '_>) -> u128
 {
     let around = pieces.front.len() as u128 + pieces.behind.len() as u128;
     let parts = pieces.before.len() as u128 + pieces.after.len() as u128;
-    around + parts + new_head_size(pieces.head) + key_size(pieces.key) + pieces.new.len() as u128
+    around + parts + new_head_size(pieces.head) + lead_size(pieces.lead) + pieces.new.len() as u128
 }

@@ -1,9 +1,9 @@
 //! Writing a changed block.
 ghost use Rattle.std.specs.Prelude.{◌≡◌, ◌++◌, IfOk, OnOk};
-ghost use Rattle.ild_splice.specs.Made.{Makes, bytes_of, head_bytes, key_bytes};
+ghost use Rattle.ild_splice.specs.Made.{Makes, bytes_of, head_bytes, lead_bytes};
 
 use crate::error::SpliceErr;
-use crate::piece::{NewHead, Pieces};
+use crate::piece::{Lead, NewHead, Pieces};
 use crate::size::size_of;
 use ild_data::{LONGEST_BLOCK, Octets};
 use ild_emit::Emit;
@@ -19,22 +19,26 @@ fn add_head(out: &mut Emit, head: NewHead) -> Result<(), AllocError>
     }
 }
 
-fn add_key(out: &mut Emit, key: Option<&str>) -> Result<(), AllocError>
-    ensures { OnOk result (out.new ≡ out.old ++ key_bytes key.entry) }
+fn add_lead(out: &mut Emit, lead: Lead<'_>) -> Result<(), AllocError>
+    ensures { OnOk result (out.new ≡ out.old ++ lead_bytes lead.entry) }
 {
-    match key {
-        Some(key) => out.text(key),
-        None => Ok(()),
+    match lead {
+        Lead::Nothing => Ok(()),
+        Lead::Key(key) => out.text(key),
+        Lead::Pair(key) => {
+            out.head(4, 2)?;
+            out.text(key)
+        }
     }
 }
 
 // Appends what stands in place of the item. An error may leave the front of it.
 fn add_inner(out: &mut Emit, pieces: &Pieces<'_, '_, '_>) -> Result<(), AllocError>
-    ensures { OnOk result (out.new ≡ out.old ++ head_bytes pieces.now.head ++ pieces.now.before.now ++ key_bytes pieces.now.key ++ pieces.now.new.now ++ pieces.now.after.now) }
+    ensures { OnOk result (out.new ≡ out.old ++ head_bytes pieces.now.head ++ pieces.now.before.now ++ lead_bytes pieces.now.lead ++ pieces.now.new.now ++ pieces.now.after.now) }
 {
     add_head(out, pieces.head)?;
     out.spelled(pieces.before)?;
-    add_key(out, pieces.key)?;
+    add_lead(out, pieces.lead)?;
     out.spelled(pieces.new)?;
     out.spelled(pieces.after)
 }

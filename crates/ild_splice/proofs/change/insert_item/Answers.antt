@@ -1,9 +1,5 @@
-use Rattle.ild_splice.proofs.Joining.{splices}
-use Rattle.ild_splice.proofs.Listed.{comes}
+use Rattle.std.proofs.Common.{refl}
 use Rattle.ild_splice.proofs.change.insert_item.Goals as goal
 
 pub returns : goal.returns
-returns c = λ e stands.
-    splices c.args.list.now _ _ _ _ c.made.result c.made.ensures c.around.ensures.front c.around.ensures.behind (λ d here.
-    comes c.args.list.now d e c.args.at c.part_count.result c.saturating_add.result _ _ _ here (c.requires.list d here) (λ k. c.requires.place d k here) (λ k. c.part_count.ensures d k here)
-    c.saturating_add.ensures c.items_around.ensures (c.spelling.ensures e stands))
+returns c = λ e stands. c.with_item.ensures e e stands refl
