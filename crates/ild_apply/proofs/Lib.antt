@@ -1,0 +1,5 @@
+mod Keeping
+mod Within
+mod Finding
+mod Listing
+mod Mapping
