@@ -1,0 +1,5 @@
+//! Tests of changes of a last holder made on blocks.
+#![tactic(auto)]
+
+#[cfg(test)]
+mod worked;
