@@ -84,7 +84,8 @@ pub fn insert_item(
     with_item(alloc, list, at, Lead::Nothing, new)
 }
 
-/// The same, where the one more item is a pair: the list of two of a key and an item, which is copied from its own block.
+/// The block in which a list stands, with a pair of a key and an item more, a list of the two, at this place of the list, or behind
+/// its last. The item is copied from its own block.
 pub fn insert_pair(
     alloc: Global,
     list: &Node<'_>,
