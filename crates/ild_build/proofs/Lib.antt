@@ -10,3 +10,4 @@ pub mod PartFits
 pub mod RoomParts
 pub mod TreeRooms
 pub mod EachKey
+pub mod Leaves

@@ -110,7 +110,7 @@ leaf_layer P Q rows (D.Struct s) v l e h = absurd (some s.form e)
     some (S.StringPairs a b) k = omega (arith, k)
     some (S.StringJoin a) k = omega (arith, k)
 
-to_leaf : (rows : List Row) (i : ℕ) (s : Slot) (v : Value) (l : Layer Value) (d : TypeDef) (P : Slot → Value → Type 0) → levels_of d v ≡ 0 → layer_of v ≡ Some l → form_of rows s ≡ Some d → LayerFits P rows d l → Fits rows i s v
+pub to_leaf : (rows : List Row) (i : ℕ) (s : Slot) (v : Value) (l : Layer Value) (d : TypeDef) (P : Slot → Value → Type 0) → levels_of d v ≡ 0 → layer_of v ≡ Some l → form_of rows s ≡ Some d → LayerFits P rows d l → Fits rows i s v
 unfolding FitsPast
 to_leaf rows zero s v l d P none e f h =
     from_form rows zero (λ over t w. ⊥) s v l e

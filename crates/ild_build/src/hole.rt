@@ -5,6 +5,7 @@ ghost use Rattle.ild_schema.specs.ValueSeen.{value_of};
 ghost use Rattle.ild_typed.specs.Judged.{has_hole, hole_in, is_hole};
 
 use crate::form::form_of;
+use crate::leaf::has_leaves;
 use crate::parts::{field_at, part_at, places};
 use ild_schema::{Accepted, Slot, StructForm, TypeDef, Val, ValFields};
 
@@ -48,6 +49,9 @@ pub(crate) fn has_hole(acc: &Accepted, slot: Slot, val: &Val) -> bool
     let def = form_of(acc, slot);
     if is_hole(def, val) {
         return true;
+    }
+    if has_leaves(acc, def) {
+        return false;
     }
     for i in 0..places(val) {
         if let Some((slot, part)) = part_at(def, val, i) {

@@ -10,6 +10,7 @@ ghost use Rattle.ild_typed.specs.Typed.{Typed};
 ghost use Rattle.ild_build.specs.TextRep.{is_text_layer};
 
 use crate::form::form_of;
+use crate::leaf::has_leaves;
 use crate::parts::{part_at, places};
 use crate::text::add_text;
 use ild_data::Txt;
@@ -50,6 +51,9 @@ pub(crate) fn breaks_delimiter(
     if is_text_layer(def, val) {
         buffer.clear();
         return Ok(!add_text(acc, slot, val, buffer)?);
+    }
+    if has_leaves(acc, def) {
+        return Ok(false);
     }
     for i in 0..places(val) {
         if let Some((slot, part)) = part_at(def, val, i) {

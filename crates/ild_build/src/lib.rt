@@ -7,6 +7,7 @@ mod hole;
 mod joined;
 mod joints;
 mod judgement;
+mod leaf;
 mod left_out;
 mod parts;
 mod room;

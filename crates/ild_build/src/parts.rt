@@ -22,8 +22,8 @@ pub(crate) fn places(val: &Val) -> usize
     }
 }
 
-// The slot of a list's elements, or of a map's values.
-fn element_of(def: &TypeDef) -> Option<Slot>
+/// The slot of a list's elements, or of a map's values.
+pub(crate) fn element_of(def: &TypeDef) -> Option<Slot>
     ensures same { result ≡ element_of (Some def.now) }
     ensures within { (n : ℕ) → IsWithin n def.now → IfSome result (λ s. s.ty.0 < n) }
 {

@@ -11,6 +11,7 @@ ghost use Rattle.ild_typed.specs.OfType.{OfType};
 ghost use Rattle.ild_build.specs.KeysIn.{IsPlainLayer, KeysIn};
 
 use crate::form::form_of;
+use crate::leaf::{has_leaves, is_leaf};
 use crate::parts::{part_at, places};
 use ild_data::{Entries, Tree, Trees};
 use ild_schema::{Accepted, MapForm, Slot, StructForm, TypeDef, Val};
@@ -99,6 +100,13 @@ fn keys_fit(
 {
     match (def, val) {
         (TypeDef::Map { key, .. }, Val::Map(pairs)) => {
+            let slot = Slot {
+                ty: *key,
+                nullable: false,
+            };
+            if is_leaf(acc, slot) {
+                return Ok(true);
+            }
             for i in 0..pairs.len() {
                 if let Some(pair) = pairs.get(i) {
                     let fit = fits_text(alloc, acc, *key, pair.0.as_str(), room)?;
@@ -150,6 +158,9 @@ fn layer_fits(
         return Ok(false);
     }
     let left = room - levels;
+    if has_leaves(acc, def) {
+        return keys_fit(alloc, acc, def, val, left);
+    }
     for i in 0..places(val) {
         if let Some((slot, part)) = part_at(def, val, i) {
             let fit = fits(alloc, acc, slot, part, left)?;

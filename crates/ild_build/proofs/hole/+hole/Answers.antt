@@ -1,6 +1,7 @@
 use Rattle.std.proofs.Common.{◌≡◌, Some, false, sym, ◌∙◌, arith, length}
 use Rattle.ild_schema.specs.ValueSeen.{value_of}
 use Rattle.ild_typed.specs.Judged.{is_hole, has_hole}
+use Rattle.ild_build.specs.PartAt.{places}
 use Rattle.ild_build.proofs.PartTests.{part_lower, by_part, by_parts, parts_next, parts_absent}
 use Rattle.ild_build.proofs.hole.+hole.Goals as goal
 use Rattle.ild_build.proofs.hole.+hole.Goals.{in-Some+else-has_hole, in_default}
@@ -22,6 +23,12 @@ loop-i-preserved t c =
           (sym w.in-Some.ensures.same) (sym w.has_hole.ensures ∙ w.if-has_hole.false) c.loop-i.invariant
       | in_default w ↦ parts_absent (λ u x. has_hole c.args.acc.now u x ≡ false) c.form_of-def.result.now (value_of c.args.val.now) c.loop-i.i (sym w.in_default.ensures.same) c.loop-i.invariant
     ]
+
+pub returns-then-has_leaves : goal.returns-then-has_leaves
+returns-then-has_leaves t c =
+    let v = value_of c.args.val.now in
+    let leaves = c.has_leaves.ensures c.if-has_leaves.true in
+    sym (by_parts is_hole c.args.acc.now c.args.slot v c.form_of-def.result.now c.form_of-def.ensures.same (sym c.is_hole.ensures ∙ c.if-is_hole.false) (places v) (omega arith) (λ j u w less at. (leaves.each v j u w at).hole))
 
 pub returns : goal.returns
 returns t c =

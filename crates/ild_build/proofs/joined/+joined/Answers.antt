@@ -4,6 +4,7 @@ use Rattle.ild_schema.specs.Value.{Value}
 use Rattle.ild_schema.specs.ValueSeen.{value_of}
 use Rattle.ild_typed.specs.Judged.{breaks, breaks_delimiter, has_hole}
 use Rattle.ild_typed.specs.Typed.{Typed}
+use Rattle.ild_build.specs.PartAt.{places}
 use Rattle.ild_build.proofs.PartTests.{part_lower, by_part, by_parts, parts_next, parts_absent}
 use Rattle.ild_build.proofs.PartFits.{answer_joined, text_layer, no_break_here, part_is_typed, part_free}
 use Rattle.ild_build.proofs.joined.+joined.Goals as goal
@@ -40,6 +41,15 @@ loop-i-preserved t c =
           (λ typed hole. sym (w.in_ok-breaks_delimiter.ensures typed hole) ∙ w.if-branch.false) c.loop-i.invariant
       | in_default w ↦ parts_absent Q c.form_of-def.result.now (value_of c.args.val.now) c.loop-i.i (sym w.in_default.ensures.same) c.loop-i.invariant
     ]
+
+pub returns-then-has_leaves : goal.returns-then-has_leaves
+returns-then-has_leaves t c = λ typed hole.
+    let rows = c.args.acc.now in
+    let v = value_of c.args.val.now in
+    let d = c.form_of-def.result.now in
+    let leaves = c.has_leaves.ensures c.if-has_leaves.true in
+    sym (by_parts (breaks rows) rows c.args.slot v d c.form_of-def.ensures.same (no_break_here rows d v (sym c.is_text_layer.ensures ∙ c.if-is_text_layer.false)) (places v) (omega arith)
+    (λ j u w less at. (leaves.each v j u w at).delimiter))
 
 pub returns : goal.returns
 returns t c = λ typed hole.
