@@ -27,3 +27,6 @@ mod Rooting
 mod EntryOrder
 pub mod Trees
 mod Wrapping
+mod Layers
+mod Parts
+mod Rounds

@@ -3,7 +3,7 @@ use Rattle.std.proofs.Common.{◌≡◌, ℕ, zero, suc, ◌<◌, List, [], ◌�
 use Rattle.std.specs.Prelude.{OnOk, OnErr}
 use Rattle.std.proofs.lemmas.Option.{same_Some, none-some}
 use Rattle.ild_emit.specs.Grown.{IsGrown}
-use Rattle.ild_emit.proofs.Growing.{grown_then}
+use Rattle.ild_emit.proofs.Growing.{grown_same, grown_then}
 use Rattle.ild_typed.proofs.Basics.{map_from}
 use Rattle.ild_fill.specs.Made.{both}
 use Rattle.ild_leaf.specs.Wrote.{Wrote}
@@ -14,6 +14,13 @@ grown_on old mid new a b = grown_then old mid new a.more a.is b
 pub on_err : {T E : Type 0} (r : Result T E) (P Q : Type 0) → (P → Q) → OnErr r P → OnErr r Q
 on_err (Ok x) P Q f h = tt
 on_err (Err e) P Q f h = f h
+
+-- what a call leaves that failed
+pub unchanged : {T E : Type 0} (r : Result T E) (old new : List ℕ) → OnErr r (new ≡ old) → OnErr r (IsGrown old new)
+unchanged r old new = on_err r (new ≡ old) (IsGrown old new) (grown_same old new)
+
+pub failed_then : {T E : Type 0} (r : Result T E) (old mid new xs : List ℕ) → mid ≡ old ++ xs → OnErr r (IsGrown mid new) → OnErr r (IsGrown old new)
+failed_then r old mid new xs e = on_err r (IsGrown mid new) (IsGrown old new) (grown_then old mid new xs e)
 
 pub always_ok : {T E : Type 0} (r : Result T E) (Q : Type 0) → Q → OnOk r Q
 always_ok (Ok x) Q q = q
