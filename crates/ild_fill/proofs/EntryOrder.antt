@@ -16,7 +16,7 @@ use Rattle.ild_typed.specs.Hamt.{whole}
 use Rattle.ild_typed.specs.Nested.{BlockIn}
 use Rattle.ild_hamt_entries.specs.Entries.{AddsEntry, AreKeyedMarks}
 use Rattle.ild_hamt_entries.proofs.Marked.{marks_more}
-use Rattle.ild_fill.specs.Fitting.{HamtEntry}
+use Rattle.ild_fill.specs.Fitting.{HamtEntry, HamtFits}
 use Rattle.ild_leaf.specs.Made.{made}
 use Rattle.ild_fill.specs.Weights.{bare_keys, weigh}
 use Rattle.ild_hamt_entries.specs.Fine.{IsFine}
@@ -74,3 +74,13 @@ texts_nulls (e ∷ es) texts = (texts.0, texts_nulls es texts.1)
 
 pub texts_by_keys : (ps : List (List ℕ × Value)) (es : List (List ℕ × Data)) → nulls es ≡ bare_keys ps → ((i : ℕ) (p : List ℕ × Value) → slice_get ps i ≡ Some p → IsUtf8 p.0) → AreTexts es
 texts_by_keys ps es keys each = texts_nulls es (subst AreTexts (sym keys) (texts_bare ps each))
+
+-- one entry more of those of a value
+pub marked_round : (h : List ℕ → List ℕ) (rows : List Row) (u : Slot) → IsMade rows → IsSpelled rows → (ps : List (List ℕ × Value)) → HamtFits rows u ps → (i : ℕ) (k : List ℕ) (v : Value) → slice_get ps i ≡ Some (k, v)
+    → (old full new : MarkedEntries) (was mid then now : Nodes) (begun : List ℕ) (from value_from : ℕ) → MarkedSoFar h rows u (take i ps) old was mid → begun ≡ old.out ++ entry_front k → full.marks.items ≡ old.marks.items
+    → Writes h rows (made (whole h) rows u v) (λ μ. weigh μ rows u v) begun full.out mid then → from ≡ length old.out → value_from ≡ length begun
+    → ((front value : List ℕ) → full.out ≡ front ++ (entry_front k ++ value) → from ≡ length front → value_from ≡ length front + length (entry_front k) → (IsFine then → BlockIn deepest_value value) → AddsEntry h k value then now full new)
+    → MarkedSoFar h rows u (take (i + 1) ps) new was now
+marked_round h rows u made_is spelled ps fits i k v at old full new was mid then now begun from value_from so_far begins same w from_is value_is adds =
+    subst (λ xs. MarkedSoFar h rows u xs new was now) (sym (taken_got {X = List ℕ × Value} ps i (k, v) at))
+    (marked_more h rows u made_is spelled (k, v) (fits.each i (k, v) at) (take i ps) old full new was mid then now begun from value_from so_far begins same w from_is value_is adds)

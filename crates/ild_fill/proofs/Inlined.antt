@@ -1,5 +1,12 @@
 -- A member of a union that stands inline: what is written of it, with the discriminant among its fields.
-use Rattle.std.proofs.Common.{◌≡◌, ℕ, ◌+◌, List, [], ◌∷◌, ◌++◌, length, take, drop, Option, Some, option_map, refl, sym, ap, ◌∙◌, subst}
+use Rattle.std.proofs.Common.{◌≡◌, ℕ, ◌+◌, List, [], ◌∷◌, ◌++◌, length, take, drop, Option, Some, option_map, refl, sym, ap, ◌∙◌, subst, true, Result}
+use Rattle.std.specs.Prelude.{OnOk}
+use Rattle.ild_schema.specs.Legible.{IsLegible}
+use Rattle.ild_schema.specs.Rules.{is_map_struct}
+use Rattle.ild_schema.specs.declared.def.TypeDef.{TypeDef}
+use Rattle.ild_build.proofs.Turns.{fitting}
+use Rattle.ild_hamt_entries.proofs.Marked.{on_ok}
+use Rattle.ild_fill.specs.Fitting.{IsApartFrom}
 use Rattle.std.specs.List.{AllByRecursion}
 use Rattle.ild_data.specs.Key.{put}
 use Rattle.ild_data.specs.Spell.{head, spell_text}
@@ -14,7 +21,7 @@ use Rattle.ild_schema.specs.Fitting.{ImplicitFits}
 use Rattle.ild_schema.specs.Marks.{field_text}
 use Rattle.ild_schema.specs.Slots.{form_of}
 use Rattle.ild_schema.specs.Value as V
-use Rattle.ild_schema.specs.Value.{Optionals, optionals_list}
+use Rattle.ild_schema.specs.Value.{Value, Optionals, optionals_list}
 use Rattle.ild_typed.specs.Hamt.{whole}
 use Rattle.ild_fill.specs.Fronts.{SplitsAt}
 use Rattle.ild_fill.specs.Made.{both, counted, marked_made}
@@ -25,7 +32,7 @@ use Rattle.ild_fill.specs.Writes.{Writes}
 use Rattle.ild_hamt_entries.specs.declared.nodes.Nodes.{Nodes}
 use Rattle.ild_fill.proofs.Flow.{from}
 use Rattle.ild_fill.proofs.Kept.{placed_between}
-use Rattle.ild_fill.proofs.AcceptedTables.{past}
+use Rattle.ild_fill.proofs.AcceptedTables.{map_struct_is, names_apart, past}
 use Rattle.ild_fill.proofs.Spread.{tagged_spread}
 use Rattle.ild_fill.proofs.StructForms.{inline_made}
 use Rattle.ild_fill.proofs.Tagged.{around, sides_count, sides_made, sides_weigh}
@@ -65,3 +72,15 @@ module _ (hash : List ℕ → List ℕ) (rows : List Row) (s : Slot) (sd : Struc
       weight μ =
           struct_weight rows μ s sd vs is ∙ sym (tagged_spread rows μ sd.fields (optionals_list vs) key apart other (length sd.fields) (past sd.fields (length sd.fields) refl) (sides at.count at.places) placed)
           ∙ sides_weigh hash rows sd.fields (optionals_list vs) μ (length sd.fields) (past sd.fields (length sd.fields) refl) (written_of sd.fields (optionals_list vs) (take at.count at.places)) (written_of sd.fields (optionals_list vs) (drop at.count at.places))
+
+  -- a value that is a struct, by what was learnt of its type
+  pub inline_layer : {T E : Type 0} (r : Result T E) (v : Value) (d : TypeDef) → IsLegible rows → form_of rows s ≡ Some d → d ≡ D.Struct sd → v ≡ V.struct vs → is_map_struct (form_of rows s) ≡ true → IsApartFrom rows key s
+      → (before behind : List ℕ) → SplitsAt sd.fields key before behind → (old one two three new : List ℕ) (was mid now : Nodes) → one ≡ old ++ head 5 (count_written sd.fields (optionals_list vs) + 1)
+      → Writes hash rows (side before) (side_weight before) one two was mid → three ≡ two ++ (spell_text key ++ spell_text name) → OnOk r (Writes hash rows (side behind) (side_weight behind) three new mid now)
+      → OnOk r (Writes hash rows (marked_made (whole hash) rows (UF.Inline key) s v name) (λ μ. weigh μ rows s v) old new was now)
+  inline_layer r v d legible known is same map apart before behind at old one two three new was mid now head_is first tag_is =
+      let form = known ∙ ap Some is in
+      let kind = map_struct_is rows s sd form map in
+      on_ok r (Writes hash rows (side behind) (side_weight behind) three new mid now) (Writes hash rows (marked_made (whole hash) rows (UF.Inline key) s v name) (λ μ. weigh μ rows s v) old new was now)
+      (λ w. subst (λ u. Writes hash rows (marked_made (whole hash) rows (UF.Inline key) s u name) (λ μ. weigh μ rows s u) old new was now) (sym same)
+      (inlined (fitting rows legible s sd form) form kind (names_apart rows legible s sd form kind) (apart sd form) before behind at old one two three new was mid now head_is first tag_is w))

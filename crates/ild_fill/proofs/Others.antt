@@ -1,5 +1,9 @@
 -- Where the type is a struct, a value that is none has no representation, and no HAMT of the type.
 use Rattle.std.proofs.Common.{◌≡◌, ℕ, ◌+◌, List, cond, false, Some, None, option_map, refl, ap, ◌∙◌}
+use Rattle.ild_hamt_entries.specs.declared.nodes.Nodes.{Nodes}
+use Rattle.ild_fill.specs.Writes.{Writes}
+use Rattle.ild_fill.proofs.Flow.{leaf}
+use Rattle.ild_fill.proofs.Writing.{wrote_none}
 use Rattle.std.specs.Prelude.{option_and_then}
 use Rattle.std.specs.Option.{option_map_or}
 use Rattle.ild_data.specs.Data as T
@@ -82,3 +86,9 @@ module _ (hash : List ℕ → List ℕ) (rows : List Row) (s : Slot) (sd : Struc
   none_weighs (V.map ps) other μ = ap (λ o. hamt_weight μ o ps + option_map_or (λ u. weigh_pairs μ rows u ps) (element_of o) 0) is
   none_weighs (V.union n v) other μ = ap (λ o. option_map_or (λ u. weigh μ rows u v) (member_of o n) 0) is
   none_weighs (V.struct os) other μ = absurd other
+
+  pub nothing : s.nullable ≡ false → (val : Val) → ((x : Optionals) → val ≡ W.Struct x → ⊥) → (f : UnionForm) (name out : List ℕ) (was : Nodes)
+      → Writes hash rows (marked_made (whole hash) rows f s (value_of val) name) (λ μ. weigh μ rows s (value_of val)) out out was was
+  nothing plain val other f name out was =
+      leaf hash rows (marked_made (whole hash) rows f s (value_of val) name) (λ μ. weigh μ rows s (value_of val)) out out was (none_weighs (value_of val) (no_struct val other))
+      (wrote_none (marked_made (whole hash) rows f s (value_of val) name) out (none_made plain (value_of val) (no_struct val other) f name))

@@ -1,7 +1,9 @@
 -- Bytes behind a prefix: what is written of them, and that they are no shorter.
-use Rattle.std.proofs.Common.{◌≡◌, inl, inr, ⊎_elim, ℕ, ◌+◌, ◌*◌, ◌^◌, ◌≤◌, Bool, true, false, cond, nat_lt, List, [], ◌∷◌, ◌++◌, length, Some, refl, ap, ◌∙◌, arith}
+use Rattle.std.proofs.Common.{◌≡◌, inl, inr, ⊎_elim, ℕ, ◌+◌, ◌*◌, ◌^◌, ◌≤◌, Bool, true, false, cond, nat_lt, List, [], ◌∷◌, ◌++◌, length, Some, refl, ap, ◌∙◌, arith, Result, subst}
+use Rattle.ild_fill.specs.Fronts.{JoinsPrefix}
+use Rattle.ild_hamt_entries.proofs.Marked.{on_ok}
 use Rattle.std.specs.Int.{to_be_bytes, w16, w32, w64}
-use Rattle.std.specs.Prelude.{if◌then◌else◌}
+use Rattle.std.specs.Prelude.{OnOk, if◌then◌else◌}
 use Rattle.std.proofs.lemmas.Bool.Decides.{nat_tests}
 use Rattle.std.proofs.lemmas.List.{length-append}
 use Rattle.ild_data.specs.Spell.{head, spell_bytes}
@@ -117,3 +119,11 @@ module _ (hash : List ℕ → List ℕ) (rows : List Row) (s : Slot) (v : Value)
         }))
         (w.exact fine (spell_bytes p.rest) p.there);
   }
+
+pub prefix_layer : (h : List ℕ → List ℕ) (rows : List Row) {T E : Type 0} (r : Result T E) (s : Slot) (v : Value) (digits old new begun spelled bytes : List ℕ) (was now : Nodes) → begun ≡ [] → bytes ≡ spelled
+    → Writes h rows (made (whole h) rows s v) (λ μ. weigh μ rows s v) begun spelled was now → OnOk r (JoinsPrefix digits bytes old new)
+    → OnOk r (Writes h rows (marked_made (whole h) rows UF.BytesPrefix s v digits) (λ μ. weigh μ rows s v) old new was now)
+prefix_layer h rows r s v digits old new begun spelled bytes was now empty same w =
+    on_ok r (JoinsPrefix digits bytes old new) (Writes h rows (marked_made (whole h) rows UF.BytesPrefix s v digits) (λ μ. weigh μ rows s v) old new was now)
+    (λ j. prefixed h rows s v digits old new spelled j.bytes was now (λ front rest known is. j.read front rest known (same ∙ is)) j.is
+    (subst (λ b. Writes h rows (made (whole h) rows s v) (λ μ. weigh μ rows s v) b spelled was now) empty w))

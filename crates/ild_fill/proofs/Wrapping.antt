@@ -1,6 +1,7 @@
 -- A member of a union between what stands before it and behind it.
-use Rattle.std.proofs.Common.{◌≡◌, ℕ, List, [], ◌++◌, Bool, true, false, cond, Option, Some, None, option_map, refl, sym, ap, ◌∙◌, append_assoc, append-nil}
-use Rattle.std.specs.Prelude.{not}
+use Rattle.std.proofs.Common.{◌≡◌, ℕ, List, [], ◌++◌, Bool, true, false, cond, Option, Some, None, option_map, refl, sym, ap, ◌∙◌, append_assoc, append-nil, Result}
+use Rattle.ild_hamt_entries.proofs.Marked.{on_ok}
+use Rattle.std.specs.Prelude.{OnOk, not}
 use Rattle.ild_data.specs.Key.{key_less}
 use Rattle.ild_data.specs.Spell.{head, spell_text}
 use Rattle.ild_schema.specs.declared.number.Slot.{Slot}
@@ -58,3 +59,9 @@ module _ (hash : List ℕ → List ℕ) (rows : List Row) (s : Slot) (v : Value)
       (λ t e. sym (wrapped form is name) ∙ e) (λ μ. refl)
       (behind hash rows (option_map (λ t. t ++ member_back form name) (made (whole hash) rows s v)) (λ μ. weigh μ rows s v) old begun new (member_front form name) was now begins
       (before hash rows (made (whole hash) rows s v) (λ μ. weigh μ rows s v) begun mid new (member_back form name) was now ends w))
+
+  pub wrapped_layer : {T E : Type 0} (r : Result T E) (form : UnionForm) → IsWrapped form → (name old begun mid new : List ℕ) (was now : Nodes) → begun ≡ old ++ member_front form name
+      → Writes hash rows (made (whole hash) rows s v) (λ μ. weigh μ rows s v) begun mid was now → OnOk r (new ≡ mid ++ member_back form name)
+      → OnOk r (Writes hash rows (marked_made (whole hash) rows form s v name) (λ μ. weigh μ rows s v) old new was now)
+  wrapped_layer r form is name old begun mid new was now begins w =
+      on_ok r (new ≡ mid ++ member_back form name) (Writes hash rows (marked_made (whole hash) rows form s v name) (λ μ. weigh μ rows s v) old new was now) (wraps form is name old begun mid new was now begins w)

@@ -22,6 +22,13 @@ unchanged r old new = on_err r (new ≡ old) (IsGrown old new) (grown_same old n
 pub failed_then : {T E : Type 0} (r : Result T E) (old mid new xs : List ℕ) → mid ≡ old ++ xs → OnErr r (IsGrown mid new) → OnErr r (IsGrown old new)
 failed_then r old mid new xs e = on_err r (IsGrown mid new) (IsGrown old new) (grown_then old mid new xs e)
 
+pub failed_on : {T E : Type 0} (r : Result T E) (old mid new : List ℕ) → IsGrown old mid → OnErr r (IsGrown mid new) → OnErr r (IsGrown old new)
+failed_on r old mid new g = on_err r (IsGrown mid new) (IsGrown old new) (grown_on old mid new g)
+
+-- with others in front, and more behind
+pub grown_around : (old one two three xs ys : List ℕ) → one ≡ old ++ xs → IsGrown one two → three ≡ two ++ ys → IsGrown old three
+grown_around old one two three xs ys e g f = grown_on old two three (grown_then old one two xs e g) (record { more = ys; is = f })
+
 pub always_ok : {T E : Type 0} (r : Result T E) (Q : Type 0) → Q → OnOk r Q
 always_ok (Ok x) Q q = q
 always_ok (Err e) Q q = tt

@@ -1,43 +1,36 @@
-use Rattle.std.proofs.Common.{rules, ◌<◌, ◌∙◌, ◌++◌, ℕ, List, length, get_or, Some, refl, sym, ap, subst, arith}
+use Rattle.std.proofs.Common.{rules, ◌<◌, ◌∙◌, ◌++◌, length, get_or, Some, refl, sym, ap, subst, arith}
 use Rattle.ild_data.specs.Spell.{spell_text}
 use Rattle.ild_schema.specs.Clear.{KeysApart}
 use Rattle.ild_schema.specs.Marks.{text_of as mark_text}
 use Rattle.ild_schema.specs.Slots.{plainly}
-use Rattle.ild_schema.specs.Table.{IsWithin}
-use Rattle.ild_schema.specs.Value.{Value, height, optionals_list, pairs_list, values_list}
+use Rattle.ild_schema.specs.Value.{height, optionals_list, pairs_list, values_list}
 use Rattle.ild_schema.specs.ValueSeen.{value_of}
 use Rattle.ild_schema.specs.declared.def.UnionForm.TheVariants as UF
 use Rattle.ild_typed.specs.Hamt.{whole}
 use Rattle.ild_build.specs.TextRep.{is_text_struct}
-use Rattle.ild_build.proofs.Low.{member_low}
-use Rattle.ild_build.proofs.Turns.{fitting}
 use Rattle.ild_leaf.specs.Made.{before_key, made}
-use Rattle.ild_fill.specs.Made.{marked_made}
 use Rattle.ild_fill.specs.Fitting.{FitsIn}
 use Rattle.ild_fill.specs.Fronts.{IsWrapped}
-use Rattle.ild_fill.specs.Weights.{weigh}
-use Rattle.ild_fill.specs.Writes.{Writes}
 use Rattle.ild_fill.proofs.Bare.{a_leaf}
-use Rattle.ild_fill.proofs.Fitted.{entries_fit, hamt_fit, items_fit, list_fit, map_fit, member_fit, member_there, places_fit, struct_fit, union_fit}
-use Rattle.ild_fill.proofs.Flow.{behind, leaf}
-use Rattle.ild_fill.proofs.Inlined.{inlined}
-use Rattle.ild_fill.proofs.AcceptedTables.{names_apart, map_struct_is, member_ready, keys_ready}
-use Rattle.ild_fill.proofs.Others.{no_struct, none_made, none_weighs}
-use Rattle.ild_fill.proofs.Prefixing.{prefixed}
+use Rattle.ild_fill.proofs.Fitted.{list_fit, map_fit, member_there, struct_fit, union_fit}
+use Rattle.ild_fill.proofs.Flow.{behind}
+use Rattle.ild_fill.proofs.Inlined.{inline_layer}
+use Rattle.ild_fill.proofs.AcceptedTables.{names_apart}
+use Rattle.ild_fill.proofs.Others.{nothing}
+use Rattle.ild_fill.proofs.Prefixing.{prefix_layer}
 use Rattle.ild_hamt_entries.proofs.Marked.{on_ok}
-use Rattle.ild_fill.proofs.Wrapping.{wraps}
-use Rattle.ild_fill.proofs.Writing.{grown_on, on_err, wrote_none, none_past}
-use Rattle.std.proofs.Common.{take}
+use Rattle.ild_fill.proofs.Wrapping.{wrapped_layer}
+use Rattle.ild_fill.proofs.Writing.{grown_on, none_past}
 use Rattle.std.proofs.lemmas.List.{take_all}
 use Rattle.ild_emit.proofs.Growing.{grown_same, grown_then, on_err_always}
 use Rattle.ild_fill.specs.Weights.{bare_keys}
 use Rattle.ild_fill.proofs.Gathering.{Gathered}
 use Rattle.ild_fill.proofs.Rooting.{hamt_written, once_by_keys}
-use Rattle.ild_fill.proofs.EntryOrder.{MarkedSoFar, marked_more, none_marked, taken_got, texts_by_keys}
+use Rattle.ild_fill.proofs.EntryOrder.{marked_round, none_marked, texts_by_keys}
 use Rattle.ild_fill.proofs.Layers.{told, list_layer, map_layer, pairs_layer, hamt_layer, fields_layer, tuple_layer, listed_layer, fields_behind, union_layer, kinded_layer, marked_layer, map_text, struct_text, prefix_text, leaf_layer, text_leaf, int_leaf, bool_leaf}
-use Rattle.ild_fill.proofs.Parts.{item_part, entry_part, hamt_part, place_part, tuple_part, listed_part}
+use Rattle.ild_fill.proofs.Parts.{item_part, entry_part, hamt_part, place_part, tuple_part, listed_part, items_in, entries_in, root_in, fields_in, fields_of_value, member_in, same_part}
 use Rattle.ild_fill.proofs.Rounds.{items_begin, items_go, items_over, entries_begin, entries_go, entries_over, tuple_begin, tuple_pass, tuple_go, tuple_over, fields_begin, fields_pass, fields_go, fields_over, places_begin, places_past, places_pass, places_go, places_over}
-use Rattle.ild_fill.proofs.Writing.{unchanged, failed_then}
+use Rattle.ild_fill.proofs.Writing.{unchanged, failed_then, failed_on, grown_around}
 use Rattle.ild_fill.proofs.+pass.Goals as goal
 
 -- ---- values
@@ -114,7 +107,8 @@ pass::add-add_union-requires g t c = λ κs le.
 
 pub lists::add_list-add_items-requires : goal.lists::add_list-add_items-requires
 lists::add_list-add_items-requires g t c = λ κs le.
-    (omega arith, (le, (search rules, items_fit c.args.acc.now c.args.slot c.in-List.elem c.in-List.at c.args.vals.now (c.form_of.ensures.same ∙ ap Some c.in-List.is) c.requires.fits)))
+    let parts = items_in c.args.acc.now c.args.slot c.form_of.result.now c.form_of.ensures.same c.form_of.ensures.within c.in-List.elem c.in-List.at c.args.vals.now c.in-List.is c.requires.fits in
+    (omega arith, (le, (parts.low, parts.each)))
 
 pub lists::add_list-returns-in-List : goal.lists::add_list-returns-in-List
 lists::add_list-returns-in-List g t c = record {
@@ -159,18 +153,18 @@ lists::add_items-returns-in_err-add-clause-err g t c = on_err_always _ _ (grown_
 
 pub maps::add_map-add_pairs-requires : goal.maps::add_map-add_pairs-requires
 maps::add_map-add_pairs-requires g t c = λ κs le.
-    let h = c.in-Map in
-    (omega arith, (le, (search rules, entries_fit c.args.acc.now c.args.slot h.key h.key_at h.value h.at h.form c.args.pairs.now (c.form_of.ensures.same ∙ ap Some h.is) c.requires.fits)))
+    let parts = entries_in c.args.acc.now c.args.slot c.form_of.result.now c.form_of.ensures.same c.form_of.ensures.within c.in-Map.key c.in-Map.key_at c.in-Map.value c.in-Map.at c.in-Map.form c.args.pairs.now c.in-Map.is c.requires.fits in
+    (omega arith, (le, (parts.low, parts.each)))
 
 pub maps::add_map-add_pairs-requires-in-ListPairs : goal.maps::add_map-add_pairs-requires-in-ListPairs
 maps::add_map-add_pairs-requires-in-ListPairs g t c = λ κs le.
-    let h = c.in-Map in
-    (omega arith, (le, (search rules, entries_fit c.args.acc.now c.args.slot h.key h.key_at h.value h.at h.form c.args.pairs.now (c.form_of.ensures.same ∙ ap Some h.is) c.requires.fits)))
+    let parts = entries_in c.args.acc.now c.args.slot c.form_of.result.now c.form_of.ensures.same c.form_of.ensures.within c.in-Map.key c.in-Map.key_at c.in-Map.value c.in-Map.at c.in-Map.form c.args.pairs.now c.in-Map.is c.requires.fits in
+    (omega arith, (le, (parts.low, parts.each)))
 
 pub maps::add_map-add_hamt-requires : goal.maps::add_map-add_hamt-requires
 maps::add_map-add_hamt-requires g t c = λ κs le.
-    let h = c.in-Map in
-    (omega arith, (le, (search rules, hamt_fit c.args.acc.now c.args.slot h.key h.key_at h.value h.at h.form c.args.pairs.now (c.form_of.ensures.same ∙ ap Some h.is) c.in-Hamt.is c.requires.fits)))
+    let parts = root_in c.args.acc.now c.args.slot c.form_of.result.now c.form_of.ensures.same c.form_of.ensures.within c.in-Map.key c.in-Map.key_at c.in-Map.value c.in-Map.at c.in-Map.form c.args.pairs.now c.in-Map.is c.requires.fits c.in-Hamt.is in
+    (omega arith, (le, (parts.low, parts.each)))
 
 pub maps::add_map-returns-in-Map-form : goal.maps::add_map-returns-in-Map-form
 maps::add_map-returns-in-Map-form g t c = record {
@@ -260,34 +254,28 @@ maps::add_hamt-add-requires g t c = λ κs le.
 
 pub maps::add_hamt-loop-i-preserved : goal.maps::add_hamt-loop-i-preserved
 maps::add_hamt-loop-i-preserved g t c =
-    let h = g.H.KeyHash.hash_of in
-    let rows = c.args.acc.now in
-    let ps = pairs_list c.args.pairs.now in
-    let p : List ℕ × Value = (c.in-Some.key.now, value_of c.in-Some.val.now) in
-    let at = sym c.in-Some.ensures in
     let b = c.in_ok-begun.ensures in
-    subst (λ xs. MarkedSoFar h rows c.args.value xs c.end_entry.new.entries c.args.nodes.now c.end_entry.new.nodes) (sym (taken_got {X = List ℕ × Value} ps c.loop-i.i p at))
-    (marked_more h rows c.args.value c.types-legible.ensures.legible.made c.types-legible.ensures.table.texts.spelled p (c.requires.fits.each c.loop-i.i p at) (take c.loop-i.i ps) c.loop-i.entries _ c.end_entry.new.entries c.args.nodes.now c.loop-i.nodes c.add.new.nodes
-    c.end_entry.new.nodes _ c.in_ok-begun.begun.from c.in_ok-begun.begun.value_from c.loop-i.invariant b.begins b.marks c.in_ok-add.ensures.ok b.at b.value_at c.in_ok-end_entry.ensures)
+    marked_round g.H.KeyHash.hash_of c.args.acc.now c.args.value c.types-legible.ensures.legible.made c.types-legible.ensures.table.texts.spelled (pairs_list c.args.pairs.now) c.requires.fits c.loop-i.i c.in-Some.key.now (value_of c.in-Some.val.now) (sym c.in-Some.ensures) c.loop-i.entries _ c.end_entry.new.entries
+    c.args.nodes.now c.loop-i.nodes c.add.new.nodes c.end_entry.new.nodes _ c.in_ok-begun.begun.from c.in_ok-begun.begun.value_from c.loop-i.invariant b.begins b.marks c.in_ok-add.ensures.ok b.at b.value_at c.in_ok-end_entry.ensures
 
 pub maps::add_hamt-returns-in_default : goal.maps::add_hamt-returns-in_default
 maps::add_hamt-returns-in_default g t c = absurd (none_past (pairs_list c.args.pairs.now) c.loop-i.i (sym c.in_default.ensures) (omega arith))
 
-pub maps::add_hamt-returns-clause-ok : goal.maps::add_hamt-returns-clause-ok
-maps::add_hamt-returns-clause-ok g t c =
+pub maps::add_hamt-returns : goal.maps::add_hamt-returns
+maps::add_hamt-returns g t c =
     let h = g.H.KeyHash.hash_of in
     let rows = c.args.acc.now in
     let ps = pairs_list c.args.pairs.now in
     let m = c.loop-i.invariant in
     let all = take_all c.loop-i.i ps (omega arith) in
     let keys = m.gathered.keys ∙ ap bare_keys all in
-    on_ok c.add_root.result _ _
-    (λ r. hamt_written h rows c.args.value c.args.pairs.now m.es c.args.out.now c.add_root.new.out c.args.nodes.now c.loop-i.nodes c.add_root.new.nodes
-    (subst (λ xs. Gathered h rows c.args.value xs m.es c.args.nodes.now c.loop-i.nodes) all m.gathered) r)
-    (c.add_root.ensures.ok h m.es m.marked (once_by_keys h ps m.es keys c.requires.fits.rises) (texts_by_keys ps m.es keys (λ i p e. (c.requires.fits.each i p e).text)) m.gathered.shallow)
-
-pub maps::add_hamt-returns-clause-err : goal.maps::add_hamt-returns-clause-err
-maps::add_hamt-returns-clause-err g t c = c.add_root.ensures.err
+    record {
+      ok = on_ok c.add_root.result _ _
+          (λ r. hamt_written h rows c.args.value c.args.pairs.now m.es c.args.out.now c.add_root.new.out c.args.nodes.now c.loop-i.nodes c.add_root.new.nodes
+          (subst (λ xs. Gathered h rows c.args.value xs m.es c.args.nodes.now c.loop-i.nodes) all m.gathered) r)
+          (c.add_root.ensures.ok h m.es m.marked (once_by_keys h ps m.es keys c.requires.fits.rises) (texts_by_keys ps m.es keys (λ i p e. (c.requires.fits.each i p e).text)) m.gathered.shallow);
+      err = c.add_root.ensures.err;
+    }
 
 pub maps::add_hamt-returns-in_err-entries-clause-err : goal.maps::add_hamt-returns-in_err-entries-clause-err
 maps::add_hamt-returns-in_err-entries-clause-err g t c = on_err_always c.from_residual.result _ (grown_same c.args.out.now c.args.out.now refl)
@@ -305,21 +293,19 @@ maps::add_hamt-returns-in_err-end_entry-clause-err g t c = on_err_always c.from_
 
 pub structs::add_struct-add_fields-requires : goal.structs::add_struct-add_fields-requires
 structs::add_struct-add_fields-requires g t c = λ κs le.
-    let rows = c.args.acc.now in
-    let is = c.form_of.ensures.same ∙ ap Some c.in-Struct.is in (
-      omega arith,
-      (le, (c.requires.within, (is, (subst (IsWithin (length rows)) c.in-Struct.is c.form_of.ensures.within, (places_fit rows c.args.slot c.in-Struct.def c.args.vals.now is c.requires.fits, names_apart rows c.types-legible.ensures.legible c.args.slot c.in-Struct.def is c.in-Map.is))))),
-    )
+    let parts = fields_in c.args.acc.now c.args.slot c.form_of.result.now c.form_of.ensures.same c.form_of.ensures.within c.in-Struct.def c.args.vals.now c.in-Struct.is c.requires.fits in
+    let is = c.form_of.ensures.same ∙ ap Some c.in-Struct.is in
+    (omega arith, (le, (c.requires.within, (is, (parts.low, (parts.each, names_apart c.args.acc.now c.types-legible.ensures.legible c.args.slot c.in-Struct.def is c.in-Map.is))))))
 
 pub structs::add_struct-add_tuple-requires : goal.structs::add_struct-add_tuple-requires
 structs::add_struct-add_tuple-requires g t c = λ κs le.
-    let is = c.form_of.ensures.same ∙ ap Some c.in-Struct.is in
-    (omega arith, (le, (search rules, places_fit c.args.acc.now c.args.slot c.in-Struct.def c.args.vals.now is c.requires.fits)))
+    let parts = fields_in c.args.acc.now c.args.slot c.form_of.result.now c.form_of.ensures.same c.form_of.ensures.within c.in-Struct.def c.args.vals.now c.in-Struct.is c.requires.fits in
+    (omega arith, (le, (parts.low, parts.each)))
 
 pub structs::add_struct-add_listed-requires : goal.structs::add_struct-add_listed-requires
 structs::add_struct-add_listed-requires g t c = λ κs le.
-    let is = c.form_of.ensures.same ∙ ap Some c.in-Struct.is in
-    (omega arith, (le, (search rules, places_fit c.args.acc.now c.args.slot c.in-Struct.def c.args.vals.now is c.requires.fits)))
+    let parts = fields_in c.args.acc.now c.args.slot c.form_of.result.now c.form_of.ensures.same c.form_of.ensures.within c.in-Struct.def c.args.vals.now c.in-Struct.is c.requires.fits in
+    (omega arith, (le, (parts.low, parts.each)))
 
 pub structs::add_struct-returns-in-Map : goal.structs::add_struct-returns-in-Map
 structs::add_struct-returns-in-Map g t c = record {
@@ -463,19 +449,8 @@ structs::add_places-returns-in_err-add_entry-clause-err g t c = on_err_always _ 
 
 pub unions::add_union-add_member-requires : goal.unions::add_union-add_member-requires
 unions::add_union-add_member-requires g t c = λ κs le.
-    let rows = c.args.acc.now in
-    let is = c.form_of.ensures.same ∙ ap Some c.in-Union.is in
-    let m = c.in-Some.member.now in
-    let at = sym c.in-Some.ensures in (
-      omega arith,
-      (
-        le,
-        (
-          member_low (length rows) c.in-Union.def c.args.number m at (subst (IsWithin (length rows)) c.in-Union.is c.form_of.ensures.within),
-          ((λ e. c.in_default-form.not-StringPrefix e), (member_ready rows c.types-legible.ensures.legible c.args.slot c.in-Union.def c.args.number m is at, (keys_ready rows c.types-legible.ensures.legible c.args.slot c.in-Union.def is, member_fit rows c.args.slot c.in-Union.def c.args.number m c.args.part.now is at c.requires.fits))),
-        ),
-      ),
-    )
+    let member = member_in c.args.acc.now c.args.slot c.form_of.result.now c.form_of.ensures.same c.form_of.ensures.within c.types-legible.ensures.legible c.in-Union.def c.args.number c.in-Some.member.now c.args.part.now c.in-Union.is c.in-Some.ensures c.requires.fits in
+    (omega arith, (le, (member.low, ((λ e. c.in_default-form.not-StringPrefix e), (member.made, (member.apart, member.fits))))))
 
 pub unions::add_union-returns-in-StringPrefix : goal.unions::add_union-returns-in-StringPrefix
 unions::add_union-returns-in-StringPrefix g t c = record {
@@ -502,25 +477,23 @@ unions::add_union-returns-in_default g t c =
 
 pub unions::add_member-add-requires : goal.unions::add_member-add-requires
 unions::add_member-add-requires g t c = λ κs le.
-    let lower = ap height c.get-val.ensures in
-    (omega arith, (le, (c.requires.within, subst (λ v. FitsIn c.args.acc.now (plainly c.args.member.now.ty) v) (sym c.get-val.ensures) c.requires.fits)))
+    let part = same_part c.args.acc.now (plainly c.args.member.now.ty) (value_of c.get-val.result.now) c.args.part.now c.get-val.ensures c.requires.fits in
+    (omega (arith, part.low), (le, (c.requires.within, part.fits)))
 
 pub unions::add_member-add_prefixed-requires : goal.unions::add_member-add_prefixed-requires
 unions::add_member-add_prefixed-requires g t c = λ κs le.
-    let lower = ap height c.get-val.ensures in
-    (omega arith, (le, (c.requires.within, subst (λ v. FitsIn c.args.acc.now (plainly c.args.member.now.ty) v) (sym c.get-val.ensures) c.requires.fits)))
+    let part = same_part c.args.acc.now (plainly c.args.member.now.ty) (value_of c.get-val.result.now) c.args.part.now c.get-val.ensures c.requires.fits in
+    (omega (arith, part.low), (le, (c.requires.within, part.fits)))
 
 pub unions::add_member-add_wrapped-requires : goal.unions::add_member-add_wrapped-requires
 unions::add_member-add_wrapped-requires g t c = λ κs le.
-    let lower = ap height c.get-val.ensures in
-    let form : IsWrapped c.args.form.now = subst IsWrapped (sym c.in-Keyed-Text.is-0) tt in
-    (omega arith, (le, (c.requires.within, (form, subst (λ v. FitsIn c.args.acc.now (plainly c.args.member.now.ty) v) (sym c.get-val.ensures) c.requires.fits))))
+    let part = same_part c.args.acc.now (plainly c.args.member.now.ty) (value_of c.get-val.result.now) c.args.part.now c.get-val.ensures c.requires.fits in
+    (omega (arith, part.low), (le, (c.requires.within, (subst IsWrapped (sym c.in-Keyed-Text.is-0) tt, part.fits))))
 
 pub unions::add_member-add_wrapped-requires-in-Envelope-Text : goal.unions::add_member-add_wrapped-requires-in-Envelope-Text
 unions::add_member-add_wrapped-requires-in-Envelope-Text g t c = λ κs le.
-    let lower = ap height c.get-val.ensures in
-    let form : IsWrapped c.args.form.now = subst IsWrapped (sym c.in-Envelope-Text.is-0) (subst KeysApart c.in-Envelope-Text.is-0 c.requires.apart) in
-    (omega arith, (le, (c.requires.within, (form, subst (λ v. FitsIn c.args.acc.now (plainly c.args.member.now.ty) v) (sym c.get-val.ensures) c.requires.fits))))
+    let part = same_part c.args.acc.now (plainly c.args.member.now.ty) (value_of c.get-val.result.now) c.args.part.now c.get-val.ensures c.requires.fits in
+    (omega (arith, part.low), (le, (c.requires.within, (subst IsWrapped (sym c.in-Envelope-Text.is-0) (subst KeysApart c.in-Envelope-Text.is-0 c.requires.apart), part.fits))))
 
 pub unions::add_member-returns-in-Kinded-default : goal.unions::add_member-returns-in-Kinded-default
 unions::add_member-returns-in-Kinded-default g t c = record {
@@ -549,8 +522,12 @@ unions::add_member-returns-in-Inline-Text g t c = record {
   err = c.add_inline.ensures.err;
 }
 
-pub unions::add_member-returns-in-BytesPrefix-Text-clause-err : goal.unions::add_member-returns-in-BytesPrefix-Text-clause-err
-unions::add_member-returns-in-BytesPrefix-Text-clause-err g t c = on_err c.add_prefixed.result _ _ (λ e. grown_same c.args.out.now c.add_prefixed.new.out e) c.add_prefixed.ensures.err
+pub unions::add_member-returns-in-BytesPrefix-Text : goal.unions::add_member-returns-in-BytesPrefix-Text
+unions::add_member-returns-in-BytesPrefix-Text g t c = record {
+  ok = marked_layer g.H.KeyHash.hash_of c.args.acc.now c.add_prefixed.result c.args.out.now c.add_prefixed.new.out c.args.nodes.now c.add_prefixed.new.nodes c.args.form.now UF.BytesPrefix c.args.member.now
+      _ c.as_str-in-BytesPrefix-Text.result.now (value_of c.get-val.result.now) c.args.part.now c.in-BytesPrefix-Text.is-0 (λ k. absurd cc) (ap mark_text c.in-BytesPrefix-Text.is-1) c.as_str-in-BytesPrefix-Text.ensures.same c.get-val.ensures c.add_prefixed.ensures.ok;
+  err = unchanged c.add_prefixed.result c.args.out.now c.add_prefixed.new.out c.add_prefixed.ensures.err;
+}
 
 -- ---- members, with what stands around them
 
@@ -560,17 +537,13 @@ unions::add_wrapped-add-requires g t c = λ κs le.
     let fits : FitsIn c.args.acc.now c.args.slot (value_of c.args.val.now) = first_of (assumption c.requires, search rules) in
     (omega arith, (le, (within, fits)))
 
-pub unions::add_wrapped-returns-clause-ok : goal.unions::add_wrapped-returns-clause-ok
-unions::add_wrapped-returns-clause-ok g t c =
+pub unions::add_wrapped-returns : goal.unions::add_wrapped-returns
+unions::add_wrapped-returns g t c =
     let form : IsWrapped c.args.form.now = first_of (assumption c.requires, search rules) in
-    on_ok c.end_member.result _ _
-    (λ e. wraps g.H.KeyHash.hash_of c.args.acc.now c.args.slot (value_of c.args.val.now) c.args.form.now form c.args.name.now c.args.out.now c.begin_member.new.out c.add.new.out c.end_member.new.out c.args.nodes.now c.add.new.nodes
-    c.in_ok-begin_member.ensures.ok c.in_ok-add.ensures.ok e) c.end_member.ensures.ok
-
-pub unions::add_wrapped-returns-clause-err : goal.unions::add_wrapped-returns-clause-err
-unions::add_wrapped-returns-clause-err g t c =
-    on_err c.end_member.result _ _
-    (λ e. grown_on c.args.out.now c.add.new.out c.end_member.new.out (grown_then c.args.out.now c.begin_member.new.out c.add.new.out _ c.in_ok-begin_member.ensures.ok c.in_ok-add.ensures.ok.grown) e) c.end_member.ensures.err
+    record {
+      ok = wrapped_layer g.H.KeyHash.hash_of c.args.acc.now c.args.slot (value_of c.args.val.now) c.end_member.result c.args.form.now form c.args.name.now c.args.out.now c.begin_member.new.out c.add.new.out c.end_member.new.out c.args.nodes.now c.add.new.nodes c.in_ok-begin_member.ensures.ok c.in_ok-add.ensures.ok c.end_member.ensures.ok;
+      err = failed_on c.end_member.result c.args.out.now c.add.new.out c.end_member.new.out (grown_then c.args.out.now c.begin_member.new.out c.add.new.out _ c.in_ok-begin_member.ensures.ok c.in_ok-add.ensures.ok.grown) c.end_member.ensures.err;
+    }
 
 pub unions::add_wrapped-returns-in_err-begin_member-clause-err : goal.unions::add_wrapped-returns-in_err-begin_member-clause-err
 unions::add_wrapped-returns-in_err-begin_member-clause-err g t c = on_err_always _ _ c.in_err-begin_member.ensures.err
@@ -580,44 +553,25 @@ unions::add_wrapped-returns-in_err-add-clause-err g t c = on_err_always _ _ (gro
 
 pub unions::add_inline-add_places-requires : goal.unions::add_inline-add_places-requires
 unions::add_inline-add_places-requires g t c = λ κs le.
-    let rows = c.args.acc.now in
-    let h = c.in-Struct-Struct in
-    let lower = ap (λ v. height (value_of v)) h.is-1 in
-    (omega arith, (le, (subst (IsWithin (length rows)) h.is-0 c.form_of.ensures.within, places_fit rows c.args.slot h.def h.vals (c.form_of.ensures.same ∙ ap Some h.is-0) (subst (λ v. FitsIn rows c.args.slot (value_of v)) h.is-1 c.requires.fits))))
+    let parts = fields_of_value c.args.acc.now c.args.slot c.form_of.result.now c.form_of.ensures.same c.form_of.ensures.within (value_of c.args.val.now) c.in-Struct-Struct.def c.in-Struct-Struct.vals c.in-Struct-Struct.is-0 (ap value_of c.in-Struct-Struct.is-1) c.requires.fits in
+    (omega (arith, parts.low), (le, (parts.fields.low, parts.fields.each)))
 
 pub unions::add_inline-add_places-requires-in-Struct-Struct : goal.unions::add_inline-add_places-requires-in-Struct-Struct
 unions::add_inline-add_places-requires-in-Struct-Struct g t c = λ κs le.
-    let rows = c.args.acc.now in
-    let h = c.in-Struct-Struct in
-    let lower = ap (λ v. height (value_of v)) h.is-1 in
-    (omega arith, (le, (subst (IsWithin (length rows)) h.is-0 c.form_of.ensures.within, places_fit rows c.args.slot h.def h.vals (c.form_of.ensures.same ∙ ap Some h.is-0) (subst (λ v. FitsIn rows c.args.slot (value_of v)) h.is-1 c.requires.fits))))
+    let parts = fields_of_value c.args.acc.now c.args.slot c.form_of.result.now c.form_of.ensures.same c.form_of.ensures.within (value_of c.args.val.now) c.in-Struct-Struct.def c.in-Struct-Struct.vals c.in-Struct-Struct.is-0 (ap value_of c.in-Struct-Struct.is-1) c.requires.fits in
+    (omega (arith, parts.low), (le, (parts.fields.low, parts.fields.each)))
 
-pub unions::add_inline-returns-in_ok-add_tag-in-Struct-Struct-clause-ok : goal.unions::add_inline-returns-in_ok-add_tag-in-Struct-Struct-clause-ok
-unions::add_inline-returns-in_ok-add_tag-in-Struct-Struct-clause-ok g t c =
-    let hash = g.H.KeyHash.hash_of in
-    let rows = c.args.acc.now in
-    let s = c.args.slot in
+pub unions::add_inline-returns-in_ok-add_tag-in-Struct-Struct : goal.unions::add_inline-returns-in_ok-add_tag-in-Struct-Struct
+unions::add_inline-returns-in_ok-add_tag-in-Struct-Struct g t c =
     let h = c.in-Struct-Struct in
-    let key = c.args.tag.key.now in
-    let name = c.args.tag.name.now in
-    let is = c.form_of.ensures.same ∙ ap Some h.is-0 in
-    let form = map_struct_is rows s h.def is c.requires.map in
+    let sides = c.in_ok-sides-in-Struct-Struct in
     let last = c.add_places-in-Struct-Struct in
-    on_ok last.result _ _
-    (λ w. subst (λ v. Writes hash rows (marked_made (whole hash) rows (UF.Inline key) s (value_of v) name) (λ μ. weigh μ rows s (value_of v)) c.args.out.now last.new.out c.args.nodes.now last.new.nodes) (sym h.is-1)
-    (inlined hash rows s h.def h.vals key name (fitting rows c.types-legible.ensures.legible s h.def is) is form (names_apart rows c.types-legible.ensures.legible s h.def is form) (c.requires.apart h.def is)
-    c.in_ok-sides-in-Struct-Struct.sides.before.now c.in_ok-sides-in-Struct-Struct.sides.behind.now c.in_ok-sides-in-Struct-Struct.ensures.sides
-    c.args.out.now c.begin_inline.new.out c.add_places.new.out c.add_tag.new.out last.new.out c.args.nodes.now c.add_places.new.nodes last.new.nodes
-    c.in_ok-sides-in-Struct-Struct.ensures.ok c.in_ok-add_places-in-Struct-Struct.ensures.ok c.in_ok-add_tag-in-Struct-Struct.ensures.ok w)) last.ensures.ok
-
-pub unions::add_inline-returns-in_ok-add_tag-in-Struct-Struct-clause-err : goal.unions::add_inline-returns-in_ok-add_tag-in-Struct-Struct-clause-err
-unions::add_inline-returns-in_ok-add_tag-in-Struct-Struct-clause-err g t c =
-    let last = c.add_places-in-Struct-Struct in
-    on_err last.result _ _
-    (λ more. grown_on c.args.out.now c.add_tag.new.out last.new.out
-    (grown_on c.args.out.now c.add_places.new.out c.add_tag.new.out
-    (grown_on c.args.out.now c.begin_inline.new.out c.add_places.new.out (record { more = _; is = c.in_ok-sides-in-Struct-Struct.ensures.ok }) c.in_ok-add_places-in-Struct-Struct.ensures.ok.grown)
-    (record { more = spell_text c.args.tag.key.now ++ spell_text c.args.tag.name.now; is = c.in_ok-add_tag-in-Struct-Struct.ensures.ok })) more) last.ensures.err
+    record {
+      ok = inline_layer g.H.KeyHash.hash_of c.args.acc.now c.args.slot h.def h.vals c.args.tag.key.now c.args.tag.name.now last.result (value_of c.args.val.now) c.form_of.result.now c.types-legible.ensures.legible c.form_of.ensures.same h.is-0 (ap value_of h.is-1) c.requires.map c.requires.apart
+          sides.sides.before.now sides.sides.behind.now sides.ensures.sides c.args.out.now c.begin_inline.new.out c.add_places.new.out c.add_tag.new.out last.new.out c.args.nodes.now c.add_places.new.nodes last.new.nodes
+          sides.ensures.ok c.in_ok-add_places-in-Struct-Struct.ensures.ok c.in_ok-add_tag-in-Struct-Struct.ensures.ok last.ensures.ok;
+      err = failed_on last.result c.args.out.now c.add_tag.new.out last.new.out (grown_around c.args.out.now c.begin_inline.new.out c.add_places.new.out c.add_tag.new.out _ _ c.in_ok-sides-in-Struct-Struct.ensures.ok c.in_ok-add_places-in-Struct-Struct.ensures.ok.grown c.in_ok-add_tag-in-Struct-Struct.ensures.ok) last.ensures.err;
+    }
 
 pub unions::add_inline-returns-in_err-sides-in-Struct-Struct-clause-err : goal.unions::add_inline-returns-in_err-sides-in-Struct-Struct-clause-err
 unions::add_inline-returns-in_err-sides-in-Struct-Struct-clause-err g t c = on_err_always _ _ (grown_same c.args.out.now c.begin_inline.new.out c.in_err-sides-in-Struct-Struct.ensures.err)
@@ -628,22 +582,12 @@ unions::add_inline-returns-in_err-add_places-in-Struct-Struct-clause-err g t c =
 pub unions::add_inline-returns-in_err-add_tag-in-Struct-Struct-clause-err : goal.unions::add_inline-returns-in_err-add_tag-in-Struct-Struct-clause-err
 unions::add_inline-returns-in_err-add_tag-in-Struct-Struct-clause-err g t c =
     on_err_always c.from_residual-in_err-add_tag-in-Struct-Struct.result _
-    (grown_on c.args.out.now c.add_places.new.out c.add_tag.new.out
-    (grown_on c.args.out.now c.begin_inline.new.out c.add_places.new.out (record { more = _; is = c.in_ok-sides-in-Struct-Struct.ensures.ok }) c.in_ok-add_places-in-Struct-Struct.ensures.ok.grown)
-    c.in_err-add_tag-in-Struct-Struct.ensures.err)
+    (grown_on c.args.out.now c.add_places.new.out c.add_tag.new.out (grown_then c.args.out.now c.begin_inline.new.out c.add_places.new.out _ c.in_ok-sides-in-Struct-Struct.ensures.ok c.in_ok-add_places-in-Struct-Struct.ensures.ok.grown) c.in_err-add_tag-in-Struct-Struct.ensures.err)
 
 pub unions::add_inline-returns-in_default : goal.unions::add_inline-returns-in_default
 unions::add_inline-returns-in_default g t c =
-    let hash = g.H.KeyHash.hash_of in
-    let rows = c.args.acc.now in
-    let v = value_of c.args.val.now in
-    let other = no_struct c.args.val.now c.in_default.not-Struct-1 in
     let is = c.form_of.ensures.same ∙ ap Some c.in_default.is-0 in
-    record {
-      ok = leaf hash rows _ _ c.args.out.now c.args.out.now c.args.nodes.now (none_weighs hash rows c.args.slot c.in_default.field-0-0 is v other)
-          (wrote_none _ c.args.out.now (none_made hash rows c.args.slot c.in_default.field-0-0 is c.requires.plain v other (UF.Inline c.args.tag.key.now) c.args.tag.name.now));
-      err = tt;
-    }
+    record { ok = nothing g.H.KeyHash.hash_of c.args.acc.now c.args.slot c.in_default.field-0-0 is c.requires.plain c.args.val.now c.in_default.not-Struct-1 (UF.Inline c.args.tag.key.now) c.args.tag.name.now c.args.out.now c.args.nodes.now; err = tt }
 
 pub unions::add_prefixed-add-requires : goal.unions::add_prefixed-add-requires
 unions::add_prefixed-add-requires g t c = λ κs le.
@@ -651,19 +595,12 @@ unions::add_prefixed-add-requires g t c = λ κs le.
     let fits : FitsIn c.args.acc.now c.args.slot (value_of c.args.val.now) = first_of (assumption c.requires, search rules) in
     (omega arith, (le, (within, fits)))
 
-pub unions::add_prefixed-returns-clause-ok : goal.unions::add_prefixed-returns-clause-ok
-unions::add_prefixed-returns-clause-ok g t c =
-    let hash = g.H.KeyHash.hash_of in
-    let rows = c.args.acc.now in
-    let v = value_of c.args.val.now in
-    let w = subst (λ old. Writes hash rows (made (whole hash) rows c.args.slot v) (λ μ. weigh μ rows c.args.slot v) old c.add.new.out c.args.nodes.now c.add.new.nodes) c.new-member.ensures c.in_ok-add.ensures.ok in
-    let bytes = c.as_slice.ensures.same ∙ c.finish-spelled.ensures in
-    on_ok c.add_behind_prefix.result _ _
-    (λ j. prefixed hash rows c.args.slot v c.args.digits.now c.args.out.now c.add_behind_prefix.new.out c.add.new.out j.bytes c.args.nodes.now c.add.new.nodes
-    (λ front rest known spelled. j.read front rest known (bytes ∙ spelled)) j.is w) c.add_behind_prefix.ensures.ok
-
-pub unions::add_prefixed-returns-clause-err : goal.unions::add_prefixed-returns-clause-err
-unions::add_prefixed-returns-clause-err g t c = c.add_behind_prefix.ensures.err
+pub unions::add_prefixed-returns : goal.unions::add_prefixed-returns
+unions::add_prefixed-returns g t c = record {
+  ok = prefix_layer g.H.KeyHash.hash_of c.args.acc.now c.add_behind_prefix.result c.args.slot (value_of c.args.val.now) c.args.digits.now c.args.out.now c.add_behind_prefix.new.out _ c.add.new.out c.as_slice.result.now c.args.nodes.now c.add.new.nodes
+      c.new-member.ensures (c.as_slice.ensures.same ∙ c.finish-spelled.ensures) c.in_ok-add.ensures.ok c.add_behind_prefix.ensures.ok;
+  err = c.add_behind_prefix.ensures.err;
+}
 
 pub unions::add_prefixed-returns-in_err-add-clause-err : goal.unions::add_prefixed-returns-in_err-add-clause-err
 unions::add_prefixed-returns-in_err-add-clause-err g t c = on_err_always _ _ refl
