@@ -1,7 +1,6 @@
-//! Values of a schema's types: equal ones made anew, and those that trees mean (IPLD Schemas, "type-level representation").
+//! Values of a schema's types: those that trees mean (IPLD Schemas, "type-level representation").
 #![tactic(auto)]
 
-mod copying;
 mod entry;
 mod fault;
 mod meaning;
@@ -9,6 +8,6 @@ mod part;
 mod read;
 mod scalar;
 
-pub use copying::copy;
 pub use fault::{ShownErr, ShownRule};
+pub use ild_shown::copy;
 pub use meaning::{from_shown, of_shown};

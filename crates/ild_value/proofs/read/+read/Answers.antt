@@ -1,10 +1,10 @@
-use Rattle.std.proofs.Common.{◌≡◌, ◌≢◌, ℕ, ◌<◌, ◌≤◌, List, true, length, slice_get, Some, refl, sym, ap, ◌∙◌, map-id, subst, arith, rules}
+use Rattle.std.proofs.Common.{◌≡◌, ◌≢◌, ◌⊎◌, inl, inr, ℕ, ◌<◌, ◌≤◌, List, true, length, slice_get, Some, refl, sym, ap, ◌∙◌, map-id, subst, arith, rules}
 use Rattle.std.specs.Prelude.{◌↔◌, option_map}
 use Rattle.std.proofs.lemmas.Iterator.Adapters.{YieldsList-from_vec}
 use Rattle.std.proofs.lemmas.Iterator.Consumers.{YieldsList-end, YieldsList-turn}
 use Rattle.std.proofs.lemmas.Option.{slice_get_within, slice_get_read}
 use Rattle.std.proofs.lemmas.Result.{err_from_is_err_and}
-use Rattle.ild_data.specs.Data.{depth, items_depth, members_depth, members_list}
+use Rattle.ild_data.specs.Data.{list, map as map_data, depth, items_depth, members_depth, members_list}
 use Rattle.ild_data.specs.Key.{value_at}
 use Rattle.ild_data.specs.Seen.{data_of}
 use Rattle.ild_data.proofs.Spelling.{item_depth-in, member_depth-in}
@@ -15,20 +15,70 @@ use Rattle.ild_schema.specs.Value.{Value, values_list, pairs_list, optionals_lis
 use Rattle.ild_schema.specs.ValueSeen.{value_of, optional_of}
 use Rattle.ild_typed.specs.Fits.{IsTextOf}
 use Rattle.ild_typed.specs.Segment.{member_named}
+use Rattle.ild_typed.specs.StructWhy.{must_stand}
 use Rattle.ild_meant.specs.MeantRead.{or_implicit}
 use Rattle.ild_meant.proofs.Mismatched.{are_first}
 use Rattle.ild_meant.proofs.Told.{told}
-use Rattle.ild_value.specs.Parts.{FieldMeans}
+use Rattle.ild_value.specs.declared.fault.ShownErr.TheVariants as E
+use Rattle.ild_value.specs.declared.fault.ShownRule.TheVariants as R
+use Rattle.ild_value.specs.Parts.{FieldMeans, IsFieldRefused}
 use Rattle.ild_value.specs.Readings.{Means, IsRefused}
 use Rattle.ild_value.proofs.AllOf.{all_of, all_next, all_step, all_whole}
+use Rattle.ild_value.proofs.Exact.{if_err}
+use Rattle.ild_value.proofs.Leaves.{any_means}
 use Rattle.ild_value.proofs.Entries.{only_depth, rises_seen}
 use Rattle.ild_value.proofs.Taken.{found_depth, found_low, kept_first, kept_next}
 use Rattle.ild_shown.proofs.Picked.{number_low, picked, if_ok}
-use Rattle.ild_value.proofs.Shows.{read_item, read_pair, read_field, list_means, list_refused, map_means, map_refused, key_refused, key_read, struct_means, name_refused, field_refused, field_there, field_gone, union_means, union_refused, many_refused, stranger_refused}
+use Rattle.ild_value.proofs.Shows.{read_item, read_pair, read_field, list_means, list_refused, map_means, map_refused, key_refused, key_read, struct_means, name_refused, field_refused, field_there, field_gone, field_missed, union_means, union_refused, many_refused, stranger_refused}
 use Rattle.ild_value.proofs.read.+read.Goals as goal
 
 pub tree_value-returns-in-Null-clause-err : goal.tree_value-returns-in-Null-clause-err
 tree_value-returns-in-Null-clause-err t c = rw c.in-Null.is (c.null_value.ensures.err c.args.acc.now)
+
+pub tree_value-returns-in-Null-clause-ok : goal.tree_value-returns-in-Null-clause-ok
+tree_value-returns-in-Null-clause-ok t c = rw c.in-Null.is (c.null_value.ensures.ok c.args.acc.now)
+
+pub tree_value-returns-in-Bool-clause-ok : goal.tree_value-returns-in-Bool-clause-ok
+tree_value-returns-in-Bool-clause-ok t c = rw c.in-Bool.is c.boolean_value.ensures.ok
+
+pub tree_value-returns-in-Bool-clause-err : goal.tree_value-returns-in-Bool-clause-err
+tree_value-returns-in-Bool-clause-err t c = rw c.in-Bool.is c.boolean_value.ensures.err
+
+pub tree_value-returns-in-Int-clause-ok : goal.tree_value-returns-in-Int-clause-ok
+tree_value-returns-in-Int-clause-ok t c = rw c.in-Int.is c.integer_value.ensures.ok
+
+pub tree_value-returns-in-Int-clause-err : goal.tree_value-returns-in-Int-clause-err
+tree_value-returns-in-Int-clause-err t c = rw c.in-Int.is c.integer_value.ensures.err
+
+pub tree_value-returns-in-Text-clause-ok : goal.tree_value-returns-in-Text-clause-ok
+tree_value-returns-in-Text-clause-ok t c = rw c.in-Text.is c.text_value.ensures.ok
+
+pub tree_value-returns-in-Text-clause-err : goal.tree_value-returns-in-Text-clause-err
+tree_value-returns-in-Text-clause-err t c = rw c.in-Text.is c.text_value.ensures.err
+
+pub tree_value-returns-in-Bytes-clause-ok : goal.tree_value-returns-in-Bytes-clause-ok
+tree_value-returns-in-Bytes-clause-ok t c = rw c.in-Bytes.is c.bytes_value.ensures.ok
+
+pub tree_value-returns-in-Bytes-clause-err : goal.tree_value-returns-in-Bytes-clause-err
+tree_value-returns-in-Bytes-clause-err t c = rw c.in-Bytes.is c.bytes_value.ensures.err
+
+pub tree_value-returns-in-List-clause-ok : goal.tree_value-returns-in-List-clause-ok
+tree_value-returns-in-List-clause-ok t c = rw c.in-List.is c.list_value.ensures.ok
+
+pub tree_value-returns-in-List-clause-err : goal.tree_value-returns-in-List-clause-err
+tree_value-returns-in-List-clause-err t c = rw c.in-List.is c.list_value.ensures.err
+
+pub tree_value-returns-in-Map-clause-ok : goal.tree_value-returns-in-Map-clause-ok
+tree_value-returns-in-Map-clause-ok t c = rw c.in-Map.is c.map_value.ensures.ok
+
+pub tree_value-returns-in-Map-clause-err : goal.tree_value-returns-in-Map-clause-err
+tree_value-returns-in-Map-clause-err t c = rw c.in-Map.is c.map_value.ensures.err
+
+pub tree_value-returns-in-Link-clause-ok : goal.tree_value-returns-in-Link-clause-ok
+tree_value-returns-in-Link-clause-ok t c = rw c.in-Link.is c.link_value.ensures.ok
+
+pub tree_value-returns-in-Link-clause-err : goal.tree_value-returns-in-Link-clause-err
+tree_value-returns-in-Link-clause-err t c = rw c.in-Link.is c.link_value.ensures.err
 
 -- ---- lists
 
@@ -58,6 +108,15 @@ elements-returns-clause-ok t c =
     let all = sym (map-id c.loop-tree.yielded) ∙ end.0 in
     list_means c.args.acc.now c.args.slot c.args.elem c.into_vec-tree-items.result.items c.args.trees c.loop-tree.vals c.requires.form c.into_vec-tree-items.ensures
     (λ is_key tests. ap (all_of (read_item c.args.acc.now is_key c.args.elem)) (sym all) ∙ c.loop-tree.invariant is_key tests)
+
+pub list_value-returns-in_err-elements-in-List-clause-err : goal.list_value-returns-in_err-elements-in-List-clause-err
+list_value-returns-in_err-elements-in-List-clause-err t c = let p = err_from_is_err_and c.from_residual.result c.from_residual.ensures.1 in rw (p.1, p.2) c.in_err-elements-in-List.ensures.err
+
+pub list_value-returns-in_ok-elements-in-List-clause-ok : goal.list_value-returns-in_ok-elements-in-List-clause-ok
+list_value-returns-in_ok-elements-in-List-clause-ok t c = c.in_ok-elements-in-List.ensures.ok
+
+pub list_value-returns-in-Any-clause-ok : goal.list_value-returns-in-Any-clause-ok
+list_value-returns-in-Any-clause-ok t c = any_means c.args.acc.now c.args.slot (list c.args.trees) (c.form.ensures.form ∙ ap Some c.in-Any.is) refl
 
 -- ---- maps
 
@@ -103,11 +162,50 @@ pairs-returns-clause-ok t c =
     map_means c.args.acc.now c.args.slot c.args.key c.args.elem c.into_vec-name-items.result.items c.args.entries c.loop-name.vals c.requires.form c.into_vec-name-items.ensures.same
     (λ is_key tests. ap (all_of (read_pair c.args.acc.now is_key c.args.key c.args.elem)) (sym all) ∙ c.loop-name.invariant is_key tests)
 
+pub map_value-returns-in_err-pairs-in-Map-clause-err : goal.map_value-returns-in_err-pairs-in-Map-clause-err
+map_value-returns-in_err-pairs-in-Map-clause-err t c = let p = err_from_is_err_and c.from_residual.result c.from_residual.ensures.1 in rw (p.1, p.2) c.in_err-pairs-in-Map.ensures.err
+
+pub map_value-returns-in_err-fields-in-Struct-clause-err : goal.map_value-returns-in_err-fields-in-Struct-clause-err
+map_value-returns-in_err-fields-in-Struct-clause-err t c =
+    let p = err_from_is_err_and c.from_residual-in_err-fields-in-Struct.result c.from_residual-in_err-fields-in-Struct.ensures.1 in
+    rw (p.1, p.2) c.in_err-fields-in-Struct.ensures.err
+
+pub map_value-returns-in_ok-pairs-in-Map-clause-ok : goal.map_value-returns-in_ok-pairs-in-Map-clause-ok
+map_value-returns-in_ok-pairs-in-Map-clause-ok t c = c.in_ok-pairs-in-Map.ensures.ok
+
+pub map_value-returns-in_ok-fields-in-Struct-clause-ok : goal.map_value-returns-in_ok-fields-in-Struct-clause-ok
+map_value-returns-in_ok-fields-in-Struct-clause-ok t c = c.in_ok-fields-in-Struct.ensures.ok
+
+pub map_value-returns-in-Any-clause-ok : goal.map_value-returns-in-Any-clause-ok
+map_value-returns-in-Any-clause-ok t c = any_means c.args.acc.now c.args.slot (map_data c.args.entries) (c.form.ensures.form ∙ ap Some c.in-Any.is) refl
+
+pub map_value-returns-in-Union-clause-ok : goal.map_value-returns-in-Union-clause-ok
+map_value-returns-in-Union-clause-ok t c = c.union_value.ensures.ok
+
+pub map_value-returns-in-Union-clause-err : goal.map_value-returns-in-Union-clause-err
+map_value-returns-in-Union-clause-err t c = c.union_value.ensures.err
+
+pub map_value-returns-in-Unit-clause-ok : goal.map_value-returns-in-Unit-clause-ok
+map_value-returns-in-Unit-clause-ok t c = c.unit_value.ensures.ok
+
+pub map_value-returns-in-Unit-clause-err : goal.map_value-returns-in-Unit-clause-err
+map_value-returns-in-Unit-clause-err t c = c.unit_value.ensures.err
+
 -- ---- structs
 
 pub field_value-returns-in_ok-val-in-Some-clause-ok : goal.field_value-returns-in_ok-val-in-Some-clause-ok
 field_value-returns-in_ok-val-in-Some-clause-ok t c = λ ms there.
     field_there c.args.acc.now c.args.field.now ms (data_of c.in-Some.tree) (value_of c.in_ok-val-in-Some.val) (ap (option_map data_of) (sym c.in-Some.is) ∙ there) c.in_ok-val-in-Some.ensures.ok
+
+pub field_value-returns-in_err-val-in-Some-clause-err : goal.field_value-returns-in_err-val-in-Some-clause-err
+field_value-returns-in_err-val-in-Some-clause-err t c = λ ms there.
+    let p = err_from_is_err_and c.from_residual.result c.from_residual.ensures.1 in
+    rw (p.1, p.2) (inr (inl (record { value = data_of c.in-Some.tree; there = sym there ∙ ap (option_map data_of) c.in-Some.is; refused = c.in_err-val-in-Some.ensures.err })))
+
+pub field_value-returns-in-None-clause-err : goal.field_value-returns-in-None-clause-err
+field_value-returns-in-None-clause-err t c = λ ms there.
+    if_err (λ e. (e ≡ E.Memory) ⊎ ((e ≡ E.Mismatch c.args.ty R.Missing) × (must_stand c.args.field.now ≡ true))) (λ e. IsFieldRefused c.args.acc.now c.args.ty c.args.field.now ms e)
+    (λ e missed. field_missed c.args.acc.now c.args.ty c.args.field.now ms e (ap (option_map data_of) (sym c.in-None.is) ∙ there) missed) c.left_out.result c.left_out.ensures.err
 
 pub field_value-returns-in-None-clause-ok : goal.field_value-returns-in-None-clause-ok
 field_value-returns-in-None-clause-ok t c = λ ms there.

@@ -2,7 +2,7 @@ use Rattle.std.proofs.Common.{◌≡◌, ◌+◌, ◌-◌, ◌*◌, length, take
 use Rattle.ild_schema.specs.Value.{height, values_height, pairs_height, optionals_height, values_list, pairs_list, optionals_list}
 use Rattle.ild_schema.specs.ValueSeen.{optional_of, value_of}
 use Rattle.ild_shown.proofs.Heights.{field_height}
-use Rattle.ild_value.proofs.copying.+copy.Given as goal
+use Rattle.ild_shown.proofs.copying.+copy.Given as goal
 
 abbrev pub decreases-copy : goal.decreases-copy
 decreases-copy l = 3 * height (value_of l.val.now)

@@ -3,7 +3,7 @@ use Rattle.ild_schema.specs.Value.{values_list, pairs_list, optionals_list}
 use Rattle.ild_schema.specs.ValueSeen.{value_of, pair_of, optional_of}
 use Rattle.ild_shown.proofs.Fronts.{front_more, front_less, front_all, same_values, same_pairs, same_optionals}
 use Rattle.ild_shown.proofs.Heights.{element_height, entry_height, optional_height}
-use Rattle.ild_value.proofs.copying.+copy.Goals as goal
+use Rattle.ild_shown.proofs.copying.+copy.Goals as goal
 
 pub copy_elements-copy-requires : goal.copy_elements-copy-requires
 copy_elements-copy-requires t c =

@@ -1,0 +1,7 @@
+use Rattle.std.proofs.Common.{Some, refl, ap, ◌∙◌}
+use Rattle.ild_data.specs.Data as D
+use Rattle.ild_value.proofs.Leaves.{any_means}
+use Rattle.ild_value.proofs.scalar.boolean_value.Goals as goal
+
+pub returns-in-Any-clause-ok : goal.returns-in-Any-clause-ok
+returns-in-Any-clause-ok c = any_means c.args.acc.now c.args.slot (D.boolean c.args.b) (c.form.ensures.form ∙ ap Some c.in-Any.is) refl
