@@ -1,15 +1,12 @@
 -- A member of a union that stands inline: what is written of it, with the discriminant among its fields.
 use Rattle.std.proofs.Common.{◌≡◌, ℕ, ◌+◌, List, [], ◌∷◌, ◌++◌, length, take, drop, Option, Some, option_map, refl, sym, ap, ◌∙◌, subst, true, Result}
 use Rattle.std.specs.Prelude.{OnOk}
-use Rattle.ild_schema.specs.Legible.{IsLegible}
-use Rattle.ild_schema.specs.Rules.{is_map_struct}
-use Rattle.ild_schema.specs.declared.def.TypeDef.{TypeDef}
-use Rattle.ild_build.proofs.Turns.{fitting}
-use Rattle.ild_hamt_entries.proofs.Marked.{on_ok}
-use Rattle.ild_fill.specs.Fitting.{IsApartFrom}
 use Rattle.std.specs.List.{AllByRecursion}
 use Rattle.ild_data.specs.Key.{put}
 use Rattle.ild_data.specs.Spell.{head, spell_text}
+use Rattle.ild_schema.specs.Legible.{IsLegible}
+use Rattle.ild_schema.specs.Rules.{is_map_struct}
+use Rattle.ild_schema.specs.declared.def.TypeDef.{TypeDef}
 use Rattle.ild_schema.specs.declared.number.Slot.{Slot}
 use Rattle.ild_schema.specs.declared.def.TypeDef.TheVariants as D
 use Rattle.ild_schema.specs.declared.def.StructDef.{StructDef}
@@ -23,13 +20,16 @@ use Rattle.ild_schema.specs.Slots.{form_of}
 use Rattle.ild_schema.specs.Value as V
 use Rattle.ild_schema.specs.Value.{Value, Optionals, optionals_list}
 use Rattle.ild_typed.specs.Hamt.{whole}
+use Rattle.ild_build.proofs.Turns.{fitting}
+use Rattle.ild_leaf.specs.Kept.{count_written}
+use Rattle.ild_hamt_entries.specs.declared.nodes.Nodes.{Nodes}
+use Rattle.ild_hamt_entries.proofs.Marked.{on_ok}
+use Rattle.ild_fill.specs.Fitting.{IsApartFrom}
 use Rattle.ild_fill.specs.Fronts.{SplitsAt}
 use Rattle.ild_fill.specs.Made.{both, counted, marked_made}
-use Rattle.ild_leaf.specs.Kept.{count_written}
 use Rattle.ild_fill.specs.Places.{in_order, named, places_from, places_made, written_of}
 use Rattle.ild_fill.specs.Weights.{Weight, places_weight, weigh}
 use Rattle.ild_fill.specs.Writes.{Writes}
-use Rattle.ild_hamt_entries.specs.declared.nodes.Nodes.{Nodes}
 use Rattle.ild_fill.proofs.Flow.{from}
 use Rattle.ild_fill.proofs.Kept.{placed_between}
 use Rattle.ild_fill.proofs.AcceptedTables.{map_struct_is, names_apart, past}

@@ -1,9 +1,5 @@
 -- Where the type is a struct, a value that is none has no representation, and no HAMT of the type.
 use Rattle.std.proofs.Common.{◌≡◌, ℕ, ◌+◌, List, cond, false, Some, None, option_map, refl, ap, ◌∙◌}
-use Rattle.ild_hamt_entries.specs.declared.nodes.Nodes.{Nodes}
-use Rattle.ild_fill.specs.Writes.{Writes}
-use Rattle.ild_fill.proofs.Flow.{leaf}
-use Rattle.ild_fill.proofs.Writing.{wrote_none}
 use Rattle.std.specs.Prelude.{option_and_then}
 use Rattle.std.specs.Option.{option_map_or}
 use Rattle.ild_data.specs.Data as T
@@ -26,8 +22,12 @@ use Rattle.ild_typed.specs.Layer as L
 use Rattle.ild_typed.specs.Layer.{Layer}
 use Rattle.ild_typed.specs.Represented.{represented, represented_values, represented_pairs, layered}
 use Rattle.ild_typed.specs.Slots.{element_of, member_of}
+use Rattle.ild_hamt_entries.specs.declared.nodes.Nodes.{Nodes}
+use Rattle.ild_fill.specs.Writes.{Writes}
 use Rattle.ild_fill.specs.Made.{marked_made}
 use Rattle.ild_fill.specs.Weights.{Weight, weigh, weigh_values, weigh_pairs, hamt_weight}
+use Rattle.ild_fill.proofs.Flow.{leaf}
+use Rattle.ild_fill.proofs.Writing.{wrote_none}
 
 abbrev pub IsNoStruct : Value → Type 0
 IsNoStruct (V.struct os) = ⊥

@@ -11,8 +11,6 @@ use Rattle.ild_schema.specs.declared.def.Member.{Member}
 use Rattle.ild_schema.specs.declared.def.TypeDef.{TypeDef}
 use Rattle.ild_schema.specs.declared.def.UnionDef.{UnionDef}
 use Rattle.ild_schema.specs.declared.number.TypeNo.{TypeNo}
-use Rattle.ild_fill.proofs.AcceptedTables.{keys_ready, member_ready}
-use Rattle.ild_fill.proofs.Fitted.{entries_fit, hamt_fit, items_fit, member_fit, places_fit}
 use Rattle.ild_schema.specs.Table.{IsWithin}
 use Rattle.ild_schema.specs.Value.{Value, Values, Pairs, Optionals, height, values_height, pairs_height, optionals_height, optionals_list, pairs_list, values_list}
 use Rattle.ild_schema.specs.declared.number.Slot.{Slot}
@@ -27,6 +25,8 @@ use Rattle.ild_build.proofs.Turns.{got, value_got}
 use Rattle.ild_leaf.specs.Kept.{kept_at}
 use Rattle.ild_leaf.proofs.Turns.{kept_is}
 use Rattle.ild_fill.specs.Fitting.{EntriesFit, FitsIn, HamtFits, ItemsFit, PlacesFit}
+use Rattle.ild_fill.proofs.AcceptedTables.{keys_ready, member_ready}
+use Rattle.ild_fill.proofs.Fitted.{entries_fit, hamt_fit, items_fit, member_fit, places_fit}
 use Rattle.ild_fill.proofs.Heights.{value_height}
 
 pub record IsPart (rows : List Row) (u : Slot) (v : Value) (whole : ℕ) : Type 0 where

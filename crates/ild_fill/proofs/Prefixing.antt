@@ -1,7 +1,5 @@
 -- Bytes behind a prefix: what is written of them, and that they are no shorter.
 use Rattle.std.proofs.Common.{◌≡◌, inl, inr, ⊎_elim, ℕ, ◌+◌, ◌*◌, ◌^◌, ◌≤◌, Bool, true, false, cond, nat_lt, List, [], ◌∷◌, ◌++◌, length, Some, refl, ap, ◌∙◌, arith, Result, subst}
-use Rattle.ild_fill.specs.Fronts.{JoinsPrefix}
-use Rattle.ild_hamt_entries.proofs.Marked.{on_ok}
 use Rattle.std.specs.Int.{to_be_bytes, w16, w32, w64}
 use Rattle.std.specs.Prelude.{OnOk, if◌then◌else◌}
 use Rattle.std.proofs.lemmas.Bool.Decides.{nat_tests}
@@ -14,10 +12,12 @@ use Rattle.ild_schema.specs.Hex.{bytes_of_hex}
 use Rattle.ild_schema.specs.Value.{Value}
 use Rattle.ild_typed.specs.Hamt.{whole}
 use Rattle.ild_leaf.specs.Made.{made}
+use Rattle.ild_hamt_entries.specs.declared.nodes.Nodes.{Nodes}
+use Rattle.ild_hamt_entries.proofs.Marked.{on_ok}
+use Rattle.ild_fill.specs.Fronts.{JoinsPrefix}
 use Rattle.ild_fill.specs.Made.{marked_made}
 use Rattle.ild_fill.specs.Weights.{weigh}
 use Rattle.ild_fill.specs.Writes.{Exact, TooLong, Writes}
-use Rattle.ild_hamt_entries.specs.declared.nodes.Nodes.{Nodes}
 use Rattle.ild_fill.proofs.Flow.{over_more}
 use Rattle.ild_fill.proofs.UnionForms.{prefixed_from}
 

@@ -1,6 +1,5 @@
 -- A member of a union between what stands before it and behind it.
 use Rattle.std.proofs.Common.{◌≡◌, ℕ, List, [], ◌++◌, Bool, true, false, cond, Option, Some, None, option_map, refl, sym, ap, ◌∙◌, append_assoc, append-nil, Result}
-use Rattle.ild_hamt_entries.proofs.Marked.{on_ok}
 use Rattle.std.specs.Prelude.{OnOk, not}
 use Rattle.ild_data.specs.Key.{key_less}
 use Rattle.ild_data.specs.Spell.{head, spell_text}
@@ -12,6 +11,7 @@ use Rattle.ild_schema.specs.Value.{Value}
 use Rattle.ild_typed.specs.Hamt.{whole}
 use Rattle.ild_leaf.specs.Made.{made}
 use Rattle.ild_hamt_entries.specs.declared.nodes.Nodes.{Nodes}
+use Rattle.ild_hamt_entries.proofs.Marked.{on_ok}
 use Rattle.ild_fill.specs.Fronts.{IsWrapped, member_back, member_front, tag_spelled}
 use Rattle.ild_fill.specs.Made.{marked_made}
 use Rattle.ild_fill.specs.Weights.{weigh}

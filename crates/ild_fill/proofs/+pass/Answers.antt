@@ -1,5 +1,7 @@
 use Rattle.std.proofs.Common.{rules, ◌<◌, ◌∙◌, ◌++◌, length, get_or, Some, refl, sym, ap, subst, arith}
+use Rattle.std.proofs.lemmas.List.{take_all}
 use Rattle.ild_data.specs.Spell.{spell_text}
+use Rattle.ild_emit.proofs.Growing.{grown_same, grown_then, on_err_always}
 use Rattle.ild_schema.specs.Clear.{KeysApart}
 use Rattle.ild_schema.specs.Marks.{text_of as mark_text}
 use Rattle.ild_schema.specs.Slots.{plainly}
@@ -9,8 +11,10 @@ use Rattle.ild_schema.specs.declared.def.UnionForm.TheVariants as UF
 use Rattle.ild_typed.specs.Hamt.{whole}
 use Rattle.ild_build.specs.TextRep.{is_text_struct}
 use Rattle.ild_leaf.specs.Made.{before_key, made}
+use Rattle.ild_hamt_entries.proofs.Marked.{on_ok}
 use Rattle.ild_fill.specs.Fitting.{FitsIn}
 use Rattle.ild_fill.specs.Fronts.{IsWrapped}
+use Rattle.ild_fill.specs.Weights.{bare_keys}
 use Rattle.ild_fill.proofs.Bare.{a_leaf}
 use Rattle.ild_fill.proofs.Fitted.{list_fit, map_fit, member_there, struct_fit, union_fit}
 use Rattle.ild_fill.proofs.Flow.{behind}
@@ -18,19 +22,14 @@ use Rattle.ild_fill.proofs.Inlined.{inline_layer}
 use Rattle.ild_fill.proofs.AcceptedTables.{names_apart}
 use Rattle.ild_fill.proofs.Others.{nothing}
 use Rattle.ild_fill.proofs.Prefixing.{prefix_layer}
-use Rattle.ild_hamt_entries.proofs.Marked.{on_ok}
 use Rattle.ild_fill.proofs.Wrapping.{wrapped_layer}
-use Rattle.ild_fill.proofs.Writing.{grown_on, none_past}
-use Rattle.std.proofs.lemmas.List.{take_all}
-use Rattle.ild_emit.proofs.Growing.{grown_same, grown_then, on_err_always}
-use Rattle.ild_fill.specs.Weights.{bare_keys}
+use Rattle.ild_fill.proofs.Writing.{grown_on, none_past, unchanged, failed_then, failed_on, grown_around}
 use Rattle.ild_fill.proofs.Gathering.{Gathered}
 use Rattle.ild_fill.proofs.Rooting.{hamt_written, once_by_keys}
 use Rattle.ild_fill.proofs.EntryOrder.{marked_round, none_marked, texts_by_keys}
 use Rattle.ild_fill.proofs.Layers.{told, list_layer, map_layer, pairs_layer, hamt_layer, fields_layer, tuple_layer, listed_layer, fields_behind, union_layer, kinded_layer, marked_layer, map_text, struct_text, prefix_text, leaf_layer, text_leaf, int_leaf, bool_leaf}
 use Rattle.ild_fill.proofs.Parts.{item_part, entry_part, hamt_part, place_part, tuple_part, listed_part, items_in, entries_in, root_in, fields_in, fields_of_value, member_in, same_part}
 use Rattle.ild_fill.proofs.Rounds.{items_begin, items_go, items_over, entries_begin, entries_go, entries_over, tuple_begin, tuple_pass, tuple_go, tuple_over, fields_begin, fields_pass, fields_go, fields_over, places_begin, places_past, places_pass, places_go, places_over}
-use Rattle.ild_fill.proofs.Writing.{unchanged, failed_then, failed_on, grown_around}
 use Rattle.ild_fill.proofs.+pass.Goals as goal
 
 -- ---- values
@@ -180,7 +179,8 @@ maps::add_map-returns-in-ListPairs g t c = record {
 
 pub maps::add_map-returns-in-StringPairs : goal.maps::add_map-returns-in-StringPairs
 maps::add_map-returns-in-StringPairs g t c = record {
-  ok = map_text g.H.KeyHash.hash_of c.args.acc.now c.types-legible.ensures.legible c.add_as_text.result c.args.out.now c.add_as_text.new.out c.args.nodes.now c.args.slot (value_of c.args.val.now) c.args.pairs.now c.requires.same c.requires.fits c.in-Map.key c.in-Map.key_at c.in-Map.value c.in-Map.at c.in-Map.form _ c.form_of.result.now c.form_of.ensures.same c.in-Map.is c.in-StringPairs.is refl c.add_as_text.ensures.ok;
+  ok = map_text g.H.KeyHash.hash_of c.args.acc.now c.types-legible.ensures.legible c.add_as_text.result c.args.out.now c.add_as_text.new.out c.args.nodes.now c.args.slot (value_of c.args.val.now) c.args.pairs.now c.requires.same c.requires.fits
+      c.in-Map.key c.in-Map.key_at c.in-Map.value c.in-Map.at c.in-Map.form _ c.form_of.result.now c.form_of.ensures.same c.in-Map.is c.in-StringPairs.is refl c.add_as_text.ensures.ok;
   err = unchanged c.add_as_text.result c.args.out.now c.add_as_text.new.out c.add_as_text.ensures.err;
 }
 
