@@ -1,6 +1,6 @@
 -- What is written in turns: what stands in the buffer, in front of what is still to come.
 use Rattle.std.proofs.Common.{◌≡◌, ℕ, zero, suc, ◌<◌, List, [], ◌∷◌, ◌++◌, length, Option, Some, None, option_map, slice_get, Result, Ok, Err, refl, sym, ap, ◌∙◌, arith, append_assoc, append-nil}
-use Rattle.std.specs.Prelude.{OnOk, OnErr}
+use Rattle.std.specs.Prelude.{IsErr, OnOk, OnErr}
 use Rattle.std.proofs.lemmas.Option.{same_Some, none-some}
 use Rattle.ild_emit.specs.Grown.{IsGrown}
 use Rattle.ild_emit.proofs.Growing.{grown_same, grown_then}
@@ -28,6 +28,10 @@ failed_on r old mid new g = on_err r (IsGrown mid new) (IsGrown old new) (grown_
 -- with others in front, and more behind
 pub grown_around : (old one two three xs ys : List ℕ) → one ≡ old ++ xs → IsGrown one two → three ≡ two ++ ys → IsGrown old three
 grown_around old one two three xs ys e g f = grown_on old two three (grown_then old one two xs e g) (record { more = ys; is = f })
+
+pub no_ok : {T E : Type 0} (r : Result T E) (P : Type 0) → IsErr r → OnOk r P
+no_ok (Ok x) P h = absurd cc
+no_ok (Err e) P h = tt
 
 pub always_ok : {T E : Type 0} (r : Result T E) (Q : Type 0) → Q → OnOk r Q
 always_ok (Ok x) Q q = q

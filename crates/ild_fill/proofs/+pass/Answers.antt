@@ -23,7 +23,7 @@ use Rattle.ild_fill.proofs.AcceptedTables.{names_apart}
 use Rattle.ild_fill.proofs.Others.{nothing}
 use Rattle.ild_fill.proofs.Prefixing.{prefix_layer}
 use Rattle.ild_fill.proofs.Wrapping.{wrapped_layer}
-use Rattle.ild_fill.proofs.Writing.{grown_on, none_past, unchanged, failed_then, failed_on, grown_around}
+use Rattle.ild_fill.proofs.Writing.{no_ok, grown_on, none_past, unchanged, failed_then, failed_on, grown_around}
 use Rattle.ild_fill.proofs.Gathering.{Gathered}
 use Rattle.ild_fill.proofs.Rooting.{hamt_written, once_by_keys}
 use Rattle.ild_fill.proofs.EntryOrder.{marked_round, none_marked, texts_by_keys}
@@ -142,11 +142,11 @@ lists::add_items-returns g t c = record {
   err = tt;
 }
 
-pub lists::add_items-returns-in_err-head-clause-err : goal.lists::add_items-returns-in_err-head-clause-err
-lists::add_items-returns-in_err-head-clause-err g t c = on_err_always _ _ (grown_same c.args.out.now c.head.new.self c.in_err-head.ensures.err)
+pub lists::add_items-returns-in_err-head : goal.lists::add_items-returns-in_err-head
+lists::add_items-returns-in_err-head g t c = record { ok = no_ok c.from_residual.result _ c.from_residual.ensures.0; err = on_err_always c.from_residual.result _ (grown_same c.args.out.now c.head.new.self c.in_err-head.ensures.err) }
 
-pub lists::add_items-returns-in_err-add-clause-err : goal.lists::add_items-returns-in_err-add-clause-err
-lists::add_items-returns-in_err-add-clause-err g t c = on_err_always _ _ (grown_on c.args.out.now c.loop-i.out c.add.new.out c.loop-i.invariant.grown c.in_err-add.ensures.err)
+pub lists::add_items-returns-in_err-add : goal.lists::add_items-returns-in_err-add
+lists::add_items-returns-in_err-add g t c = record { ok = no_ok c.from_residual-in_err-add.result _ c.from_residual-in_err-add.ensures.0; err = on_err_always c.from_residual-in_err-add.result _ (grown_on c.args.out.now c.loop-i.out c.add.new.out c.loop-i.invariant.grown c.in_err-add.ensures.err) }
 
 -- ---- maps
 
@@ -217,11 +217,11 @@ maps::add_pairs-returns g t c = record {
   err = tt;
 }
 
-pub maps::add_pairs-returns-in_err-add_count-clause-err : goal.maps::add_pairs-returns-in_err-add_count-clause-err
-maps::add_pairs-returns-in_err-add_count-clause-err g t c = on_err_always _ _ (grown_same c.args.out.now c.add_count.new.out c.in_err-add_count.ensures.err)
+pub maps::add_pairs-returns-in_err-add_count : goal.maps::add_pairs-returns-in_err-add_count
+maps::add_pairs-returns-in_err-add_count g t c = record { ok = no_ok c.from_residual.result _ c.from_residual.ensures.0; err = on_err_always c.from_residual.result _ (grown_same c.args.out.now c.add_count.new.out c.in_err-add_count.ensures.err) }
 
-pub maps::add_pairs-returns-in_err-add_entry-clause-err : goal.maps::add_pairs-returns-in_err-add_entry-clause-err
-maps::add_pairs-returns-in_err-add_entry-clause-err g t c = on_err_always _ _ (grown_on c.args.out.now c.loop-i.out c.add_entry.new.out c.loop-i.invariant.grown c.in_err-add_entry.ensures.err)
+pub maps::add_pairs-returns-in_err-add_entry : goal.maps::add_pairs-returns-in_err-add_entry
+maps::add_pairs-returns-in_err-add_entry g t c = record { ok = no_ok c.from_residual-in_err-add_entry.result _ c.from_residual-in_err-add_entry.ensures.0; err = on_err_always c.from_residual-in_err-add_entry.result _ (grown_on c.args.out.now c.loop-i.out c.add_entry.new.out c.loop-i.invariant.grown c.in_err-add_entry.ensures.err) }
 
 -- ---- entries
 
@@ -239,8 +239,8 @@ maps::add_entry-returns g t c = record {
   err = failed_then c.add.result c.args.out.now c.add_key.new.out c.add.new.out _ c.in_ok-add_key.ensures.ok c.add.ensures.err;
 }
 
-pub maps::add_entry-returns-in_err-add_key-clause-err : goal.maps::add_entry-returns-in_err-add_key-clause-err
-maps::add_entry-returns-in_err-add_key-clause-err g t c = on_err_always _ _ c.in_err-add_key.ensures.err
+pub maps::add_entry-returns-in_err-add_key : goal.maps::add_entry-returns-in_err-add_key
+maps::add_entry-returns-in_err-add_key g t c = record { ok = no_ok c.from_residual.result _ c.from_residual.ensures.0; err = on_err_always c.from_residual.result _ c.in_err-add_key.ensures.err }
 
 -- ---- HAMTs
 
@@ -277,17 +277,17 @@ maps::add_hamt-returns g t c =
       err = c.add_root.ensures.err;
     }
 
-pub maps::add_hamt-returns-in_err-entries-clause-err : goal.maps::add_hamt-returns-in_err-entries-clause-err
-maps::add_hamt-returns-in_err-entries-clause-err g t c = on_err_always c.from_residual.result _ (grown_same c.args.out.now c.args.out.now refl)
+pub maps::add_hamt-returns-in_err-entries : goal.maps::add_hamt-returns-in_err-entries
+maps::add_hamt-returns-in_err-entries g t c = record { ok = no_ok c.from_residual.result _ c.from_residual.ensures.0; err = on_err_always c.from_residual.result _ (grown_same c.args.out.now c.args.out.now refl) }
 
-pub maps::add_hamt-returns-in_err-begun-clause-err : goal.maps::add_hamt-returns-in_err-begun-clause-err
-maps::add_hamt-returns-in_err-begun-clause-err g t c = on_err_always c.from_residual-in_err-begun.result _ (grown_same c.args.out.now c.args.out.now refl)
+pub maps::add_hamt-returns-in_err-begun : goal.maps::add_hamt-returns-in_err-begun
+maps::add_hamt-returns-in_err-begun g t c = record { ok = no_ok c.from_residual-in_err-begun.result _ c.from_residual-in_err-begun.ensures.0; err = on_err_always c.from_residual-in_err-begun.result _ (grown_same c.args.out.now c.args.out.now refl) }
 
-pub maps::add_hamt-returns-in_err-add-clause-err : goal.maps::add_hamt-returns-in_err-add-clause-err
-maps::add_hamt-returns-in_err-add-clause-err g t c = on_err_always c.from_residual-in_err-add.result _ (grown_same c.args.out.now c.args.out.now refl)
+pub maps::add_hamt-returns-in_err-add : goal.maps::add_hamt-returns-in_err-add
+maps::add_hamt-returns-in_err-add g t c = record { ok = no_ok c.from_residual-in_err-add.result _ c.from_residual-in_err-add.ensures.0; err = on_err_always c.from_residual-in_err-add.result _ (grown_same c.args.out.now c.args.out.now refl) }
 
-pub maps::add_hamt-returns-in_err-end_entry-clause-err : goal.maps::add_hamt-returns-in_err-end_entry-clause-err
-maps::add_hamt-returns-in_err-end_entry-clause-err g t c = on_err_always c.from_residual-in_err-end_entry.result _ (grown_same c.args.out.now c.args.out.now refl)
+pub maps::add_hamt-returns-in_err-end_entry : goal.maps::add_hamt-returns-in_err-end_entry
+maps::add_hamt-returns-in_err-end_entry g t c = record { ok = no_ok c.from_residual-in_err-end_entry.result _ c.from_residual-in_err-end_entry.ensures.0; err = on_err_always c.from_residual-in_err-end_entry.result _ (grown_same c.args.out.now c.args.out.now refl) }
 
 -- ---- structs
 
@@ -333,7 +333,8 @@ structs::add_struct-returns-in-StringPairs g t c = record {
 
 pub structs::add_struct-returns-in-StringJoin : goal.structs::add_struct-returns-in-StringJoin
 structs::add_struct-returns-in-StringJoin g t c = record {
-  ok = struct_text g.H.KeyHash.hash_of c.args.acc.now c.types-legible.ensures.legible c.add_as_text-in-StringJoin.result c.args.out.now c.add_as_text-in-StringJoin.new.out c.args.nodes.now c.args.slot (value_of c.args.val.now) c.args.vals.now c.requires.same c.requires.fits c.in-Struct.def c.form_of.result.now c.form_of.ensures.same c.in-Struct.is (ap is_text_struct c.in-StringJoin.is) c.add_as_text-in-StringJoin.ensures.ok;
+  ok = struct_text g.H.KeyHash.hash_of c.args.acc.now c.types-legible.ensures.legible c.add_as_text-in-StringJoin.result c.args.out.now c.add_as_text-in-StringJoin.new.out c.args.nodes.now c.args.slot (value_of c.args.val.now) c.args.vals.now c.requires.same c.requires.fits
+      c.in-Struct.def c.form_of.result.now c.form_of.ensures.same c.in-Struct.is (ap is_text_struct c.in-StringJoin.is) c.add_as_text-in-StringJoin.ensures.ok;
   err = unchanged c.add_as_text-in-StringJoin.result c.args.out.now c.add_as_text-in-StringJoin.new.out c.add_as_text-in-StringJoin.ensures.err;
 }
 
@@ -366,11 +367,11 @@ structs::add_tuple-returns g t c = record {
   err = tt;
 }
 
-pub structs::add_tuple-returns-in_err-head-clause-err : goal.structs::add_tuple-returns-in_err-head-clause-err
-structs::add_tuple-returns-in_err-head-clause-err g t c = on_err_always _ _ (grown_same c.args.out.now c.head.new.self c.in_err-head.ensures.err)
+pub structs::add_tuple-returns-in_err-head : goal.structs::add_tuple-returns-in_err-head
+structs::add_tuple-returns-in_err-head g t c = record { ok = no_ok c.from_residual.result _ c.from_residual.ensures.0; err = on_err_always c.from_residual.result _ (grown_same c.args.out.now c.head.new.self c.in_err-head.ensures.err) }
 
-pub structs::add_tuple-returns-in_err-add-clause-err : goal.structs::add_tuple-returns-in_err-add-clause-err
-structs::add_tuple-returns-in_err-add-clause-err g t c = on_err_always _ _ (grown_on c.args.out.now c.loop-i.out c.add.new.out c.loop-i.invariant.grown c.in_err-add.ensures.err)
+pub structs::add_tuple-returns-in_err-add : goal.structs::add_tuple-returns-in_err-add
+structs::add_tuple-returns-in_err-add g t c = record { ok = no_ok c.from_residual-in_err-add.result _ c.from_residual-in_err-add.ensures.0; err = on_err_always c.from_residual-in_err-add.result _ (grown_on c.args.out.now c.loop-i.out c.add.new.out c.loop-i.invariant.grown c.in_err-add.ensures.err) }
 
 pub structs::add_listed-loop-i-init : goal.structs::add_listed-loop-i-init
 structs::add_listed-loop-i-init g t c = fields_begin g.H.KeyHash.hash_of c.args.acc.now c.args.out.now c.args.nodes.now c.args.def.now.fields (optionals_list c.args.vals.now) c.written.result c.head.new.self c.in_ok-head.ensures.ok c.written.ensures
@@ -394,11 +395,11 @@ structs::add_listed-returns g t c = record {
   err = tt;
 }
 
-pub structs::add_listed-returns-in_err-head-clause-err : goal.structs::add_listed-returns-in_err-head-clause-err
-structs::add_listed-returns-in_err-head-clause-err g t c = on_err_always _ _ (grown_same c.args.out.now c.head.new.self c.in_err-head.ensures.err)
+pub structs::add_listed-returns-in_err-head : goal.structs::add_listed-returns-in_err-head
+structs::add_listed-returns-in_err-head g t c = record { ok = no_ok c.from_residual.result _ c.from_residual.ensures.0; err = on_err_always c.from_residual.result _ (grown_same c.args.out.now c.head.new.self c.in_err-head.ensures.err) }
 
-pub structs::add_listed-returns-in_err-add_entry-clause-err : goal.structs::add_listed-returns-in_err-add_entry-clause-err
-structs::add_listed-returns-in_err-add_entry-clause-err g t c = on_err_always _ _ (grown_on c.args.out.now c.loop-i.out c.add_entry.new.out c.loop-i.invariant.grown c.in_err-add_entry.ensures.err)
+pub structs::add_listed-returns-in_err-add_entry : goal.structs::add_listed-returns-in_err-add_entry
+structs::add_listed-returns-in_err-add_entry g t c = record { ok = no_ok c.from_residual-in_err-add_entry.result _ c.from_residual-in_err-add_entry.ensures.0; err = on_err_always c.from_residual-in_err-add_entry.result _ (grown_on c.args.out.now c.loop-i.out c.add_entry.new.out c.loop-i.invariant.grown c.in_err-add_entry.ensures.err) }
 
 -- ---- fields in the key order
 
@@ -414,8 +415,8 @@ structs::add_fields-returns g t c = record {
   err = failed_then c.add_places.result c.args.out.now c.begin_fields.new.out c.add_places.new.out _ c.in_ok-places.ensures.ok c.add_places.ensures.err;
 }
 
-pub structs::add_fields-returns-in_err-places-clause-err : goal.structs::add_fields-returns-in_err-places-clause-err
-structs::add_fields-returns-in_err-places-clause-err g t c = on_err_always _ _ (grown_same c.args.out.now c.begin_fields.new.out c.in_err-places.ensures.err)
+pub structs::add_fields-returns-in_err-places : goal.structs::add_fields-returns-in_err-places
+structs::add_fields-returns-in_err-places g t c = record { ok = no_ok c.from_residual.result _ c.from_residual.ensures.0; err = on_err_always c.from_residual.result _ (grown_same c.args.out.now c.begin_fields.new.out c.in_err-places.ensures.err) }
 
 pub structs::add_places-loop-place-init : goal.structs::add_places-loop-place-init
 structs::add_places-loop-place-init g t c = places_begin g.H.KeyHash.hash_of c.args.acc.now c.args.out.now c.args.nodes.now c.args.def.now.fields (optionals_list c.args.vals.now) c.args.places.now
@@ -442,8 +443,8 @@ structs::add_places-returns g t c = record {
   err = tt;
 }
 
-pub structs::add_places-returns-in_err-add_entry-clause-err : goal.structs::add_places-returns-in_err-add_entry-clause-err
-structs::add_places-returns-in_err-add_entry-clause-err g t c = on_err_always _ _ (grown_on c.args.out.now c.loop-place.out c.add_entry.new.out c.loop-place.invariant.grown c.in_err-add_entry.ensures.err)
+pub structs::add_places-returns-in_err-add_entry : goal.structs::add_places-returns-in_err-add_entry
+structs::add_places-returns-in_err-add_entry g t c = record { ok = no_ok c.from_residual.result _ c.from_residual.ensures.0; err = on_err_always c.from_residual.result _ (grown_on c.args.out.now c.loop-place.out c.add_entry.new.out c.loop-place.invariant.grown c.in_err-add_entry.ensures.err) }
 
 -- ---- unions
 
@@ -545,11 +546,11 @@ unions::add_wrapped-returns g t c =
       err = failed_on c.end_member.result c.args.out.now c.add.new.out c.end_member.new.out (grown_then c.args.out.now c.begin_member.new.out c.add.new.out _ c.in_ok-begin_member.ensures.ok c.in_ok-add.ensures.ok.grown) c.end_member.ensures.err;
     }
 
-pub unions::add_wrapped-returns-in_err-begin_member-clause-err : goal.unions::add_wrapped-returns-in_err-begin_member-clause-err
-unions::add_wrapped-returns-in_err-begin_member-clause-err g t c = on_err_always _ _ c.in_err-begin_member.ensures.err
+pub unions::add_wrapped-returns-in_err-begin_member : goal.unions::add_wrapped-returns-in_err-begin_member
+unions::add_wrapped-returns-in_err-begin_member g t c = record { ok = no_ok c.from_residual.result _ c.from_residual.ensures.0; err = on_err_always c.from_residual.result _ c.in_err-begin_member.ensures.err }
 
-pub unions::add_wrapped-returns-in_err-add-clause-err : goal.unions::add_wrapped-returns-in_err-add-clause-err
-unions::add_wrapped-returns-in_err-add-clause-err g t c = on_err_always _ _ (grown_then c.args.out.now c.begin_member.new.out c.add.new.out _ c.in_ok-begin_member.ensures.ok c.in_err-add.ensures.err)
+pub unions::add_wrapped-returns-in_err-add : goal.unions::add_wrapped-returns-in_err-add
+unions::add_wrapped-returns-in_err-add g t c = record { ok = no_ok c.from_residual-in_err-add.result _ c.from_residual-in_err-add.ensures.0; err = on_err_always c.from_residual-in_err-add.result _ (grown_then c.args.out.now c.begin_member.new.out c.add.new.out _ c.in_ok-begin_member.ensures.ok c.in_err-add.ensures.err) }
 
 pub unions::add_inline-add_places-requires : goal.unions::add_inline-add_places-requires
 unions::add_inline-add_places-requires g t c = λ κs le.
@@ -573,16 +574,21 @@ unions::add_inline-returns-in_ok-add_tag-in-Struct-Struct g t c =
       err = failed_on last.result c.args.out.now c.add_tag.new.out last.new.out (grown_around c.args.out.now c.begin_inline.new.out c.add_places.new.out c.add_tag.new.out _ _ c.in_ok-sides-in-Struct-Struct.ensures.ok c.in_ok-add_places-in-Struct-Struct.ensures.ok.grown c.in_ok-add_tag-in-Struct-Struct.ensures.ok) last.ensures.err;
     }
 
-pub unions::add_inline-returns-in_err-sides-in-Struct-Struct-clause-err : goal.unions::add_inline-returns-in_err-sides-in-Struct-Struct-clause-err
-unions::add_inline-returns-in_err-sides-in-Struct-Struct-clause-err g t c = on_err_always _ _ (grown_same c.args.out.now c.begin_inline.new.out c.in_err-sides-in-Struct-Struct.ensures.err)
+pub unions::add_inline-returns-in_err-sides-in-Struct-Struct : goal.unions::add_inline-returns-in_err-sides-in-Struct-Struct
+unions::add_inline-returns-in_err-sides-in-Struct-Struct g t c = record { ok = no_ok c.from_residual.result _ c.from_residual.ensures.0; err = on_err_always c.from_residual.result _ (grown_same c.args.out.now c.begin_inline.new.out c.in_err-sides-in-Struct-Struct.ensures.err) }
 
-pub unions::add_inline-returns-in_err-add_places-in-Struct-Struct-clause-err : goal.unions::add_inline-returns-in_err-add_places-in-Struct-Struct-clause-err
-unions::add_inline-returns-in_err-add_places-in-Struct-Struct-clause-err g t c = on_err_always _ _ (grown_then c.args.out.now c.begin_inline.new.out c.add_places.new.out _ c.in_ok-sides-in-Struct-Struct.ensures.ok c.in_err-add_places-in-Struct-Struct.ensures.err)
+pub unions::add_inline-returns-in_err-add_places-in-Struct-Struct : goal.unions::add_inline-returns-in_err-add_places-in-Struct-Struct
+unions::add_inline-returns-in_err-add_places-in-Struct-Struct g t c = record {
+  ok = no_ok c.from_residual-in_err-add_places-in-Struct-Struct.result _ c.from_residual-in_err-add_places-in-Struct-Struct.ensures.0;
+  err = on_err_always c.from_residual-in_err-add_places-in-Struct-Struct.result _ (grown_then c.args.out.now c.begin_inline.new.out c.add_places.new.out _ c.in_ok-sides-in-Struct-Struct.ensures.ok c.in_err-add_places-in-Struct-Struct.ensures.err);
+}
 
-pub unions::add_inline-returns-in_err-add_tag-in-Struct-Struct-clause-err : goal.unions::add_inline-returns-in_err-add_tag-in-Struct-Struct-clause-err
-unions::add_inline-returns-in_err-add_tag-in-Struct-Struct-clause-err g t c =
-    on_err_always c.from_residual-in_err-add_tag-in-Struct-Struct.result _
-    (grown_on c.args.out.now c.add_places.new.out c.add_tag.new.out (grown_then c.args.out.now c.begin_inline.new.out c.add_places.new.out _ c.in_ok-sides-in-Struct-Struct.ensures.ok c.in_ok-add_places-in-Struct-Struct.ensures.ok.grown) c.in_err-add_tag-in-Struct-Struct.ensures.err)
+pub unions::add_inline-returns-in_err-add_tag-in-Struct-Struct : goal.unions::add_inline-returns-in_err-add_tag-in-Struct-Struct
+unions::add_inline-returns-in_err-add_tag-in-Struct-Struct g t c = record {
+  ok = no_ok c.from_residual-in_err-add_tag-in-Struct-Struct.result _ c.from_residual-in_err-add_tag-in-Struct-Struct.ensures.0;
+  err = on_err_always c.from_residual-in_err-add_tag-in-Struct-Struct.result _
+      (grown_on c.args.out.now c.add_places.new.out c.add_tag.new.out (grown_then c.args.out.now c.begin_inline.new.out c.add_places.new.out _ c.in_ok-sides-in-Struct-Struct.ensures.ok c.in_ok-add_places-in-Struct-Struct.ensures.ok.grown) c.in_err-add_tag-in-Struct-Struct.ensures.err);
+}
 
 pub unions::add_inline-returns-in_default : goal.unions::add_inline-returns-in_default
 unions::add_inline-returns-in_default g t c =
@@ -602,5 +608,5 @@ unions::add_prefixed-returns g t c = record {
   err = c.add_behind_prefix.ensures.err;
 }
 
-pub unions::add_prefixed-returns-in_err-add-clause-err : goal.unions::add_prefixed-returns-in_err-add-clause-err
-unions::add_prefixed-returns-in_err-add-clause-err g t c = on_err_always _ _ refl
+pub unions::add_prefixed-returns-in_err-add : goal.unions::add_prefixed-returns-in_err-add
+unions::add_prefixed-returns-in_err-add g t c = record { ok = no_ok c.from_residual.result _ c.from_residual.ensures.0; err = on_err_always c.from_residual.result _ refl }
