@@ -1,12 +1,13 @@
 -- Entries in one buffer, and the pieces of it.
-use Rattle.std.proofs.Common.{◌≡◌, ℕ, zero, suc, ◌+◌, ◌-◌, ◌≤◌, ◌<◌, List, [], ◌∷◌, ◌++◌, length, take, drop, get_or, refl, sym, ap, ◌∙◌, subst, arith}
-use Rattle.std.proofs.lemmas.List.{take_more, take_all, map-append, drop_at, take-append-le, drop-append-le, length-append, length-drop}
+use Rattle.std.proofs.Common.{◌≡◌, ℕ, zero, suc, ◌+◌, ◌-◌, ◌≤◌, ◌<◌, List, [], ◌∷◌, ◌++◌, length, take, drop, get_or, map, refl, sym, ap, ◌∙◌, subst, arith}
+use Rattle.std.proofs.lemmas.List.{take_more, take_all, map-append, drop_at, take-append-le, drop-append-le, length-append, length-drop, length-map, get_or-map}
 use Rattle.ild_data.specs.Data.{Data}
 use Rattle.ild_node.specs.Hashed.{IsHashed, AreHashed}
 use Rattle.ild_node.specs.declared.hashed.HashedEntry.{HashedEntry}
 use Rattle.ild_node.specs.Keyed.{keyed_seen, keyed_rows}
 use Rattle.ild_node.specs.declared.keyed.Keyed.{Keyed}
-use Rattle.ild_bulk.specs.Keyed.{entry_spelled, IsMarked, AreMarked, HasEntries}
+use Rattle.ild_bulk.specs.Keyed.{entry_spelled, IsMarked, AreMarked, HasEntries, mark_in}
+use Rattle.ild_bulk.specs.declared.entries.KeyedMark.{KeyedMark}
 use Rattle.ild_bulk.specs.declared.entries.Mark.{Mark}
 use Rattle.ild_bulk.specs.declared.entries.Entries.{Entries}
 
@@ -97,3 +98,22 @@ pieces-more h b es ms i d ks k are was lt hash here =
 -- all entries are taken
 pub all-taken : (h : List ℕ → List ℕ) (b : List ℕ) (es : List (List ℕ × Data)) (ms : List Mark) (i : ℕ) → AreMarked h b es ms → length ms ≤ i → take i es ≡ es
 all-taken h b es ms i are le = let many = marked-many h b es ms are in take_all i es (omega (arith, many, le))
+
+-- ---- marks that come with their keys
+
+-- what a keyed mark says stands in the list of the marks
+pub keyed-mark : (P : Mark → Type 0) (ks : List KeyedMark) (i : ℕ) (d : KeyedMark) → i < length ks → P (get_or ks i d).mark → P (get_or (map mark_in ks) i (mark_in d))
+keyed-mark P ks i d lt is = subst P (sym (get_or-map mark_in ks i d (mark_in d) lt)) is
+
+-- what is cut out at a mark of these bytes
+abbrev pub CutsAt : List ℕ → HashedEntry → Mark → Type 0
+CutsAt b k m = (k.hash ≡ m.hash) × (m.from + m.len ≤ length b → k.entry.now ≡ take m.len (drop m.from b))
+
+pub keyed-more : (h : List ℕ → List ℕ) (b : List ℕ) (es : List (List ℕ × Data)) (ms : List KeyedMark) (i : ℕ) (d : KeyedMark) (ks : List HashedEntry) (k : HashedEntry) → AreMarked h b es (map mark_in ms) → AreHashed h (take i es) ks → i < length ms
+    → CutsAt b k (get_or ms i d).mark → AreHashed h (take (i + 1) es) (ks ++ k ∷ [])
+keyed-more h b es ms i d ks k are was lt cut =
+    let at = keyed-mark (CutsAt b k) ms i d lt cut in
+    pieces-more h b es (map mark_in ms) i (mark_in d) ks k are was (omega (arith, lt, length-map ms mark_in)) at.0 at.1
+
+pub all-keyed : (h : List ℕ → List ℕ) (b : List ℕ) (es : List (List ℕ × Data)) (ms : List KeyedMark) (i : ℕ) → AreMarked h b es (map mark_in ms) → length ms ≤ i → take i es ≡ es
+all-keyed h b es ms i are le = all-taken h b es (map mark_in ms) i are (omega (arith, le, length-map ms mark_in))

@@ -12,6 +12,7 @@ use Rattle.ild_node.specs.declared.keyed.Keyed.{Keyed}
 use Rattle.ild_node.specs.declared.hashed.HashedEntry.{HashedEntry}
 use Rattle.ild_bulk.specs.declared.entries.Mark.{Mark}
 use Rattle.ild_bulk.specs.declared.entries.Entries.{Entries}
+use Rattle.ild_bulk.specs.declared.entries.KeyedMark.{KeyedMark}
 
 -- each has the hash of its key
 abbrev pub AreKeyed : (List ℕ → List ℕ) → List Keyed → Type 0
@@ -37,6 +38,9 @@ AreMarked h b [] [] = Unit {0}
 AreMarked h b [] (m ∷ ms) = ⊥
 AreMarked h b (e ∷ es) [] = ⊥
 AreMarked h b (e ∷ es) (m ∷ ms) = IsMarked h b e m × AreMarked h b es ms
+
+abbrev pub mark_in : KeyedMark → Mark
+mark_in k = k.mark
 
 -- what is written of entries
 pub record HasEntries (h : List ℕ → List ℕ) (es : List (List ℕ × Data)) (w : Entries) : Type 0 where

@@ -1,10 +1,10 @@
 //! Entries in one buffer: each is spelled once, while its key is hashed, so that a bucket takes it in one piece.
-ghost use Rattle.std.specs.Prelude.{◌≡◌, ◌++◌, ◌∷◌, ◌+◌, ◌≤◌, [], ℕ, List, IfOk, OnOk, drop, length, take};
+ghost use Rattle.std.specs.Prelude.{◌≡◌, ◌++◌, ◌∷◌, ◌+◌, ◌≤◌, [], ℕ, List, IfOk, OnOk, drop, length, map, take};
 ghost use Rattle.ild_data.specs.Data.{Data};
 ghost use Rattle.ild_node.specs.Hashed.{AreHashed};
 ghost use Rattle.ild_node.specs.Keyed.{keyed_rows};
 ghost use Rattle.ild_node.specs.Rows.{row_seen, rows_seen};
-ghost use Rattle.ild_bulk.specs.Keyed.{AreKeyed, AreMarked, HasEntries, IsMarked, entry_front, entry_spelled};
+ghost use Rattle.ild_bulk.specs.Keyed.{AreKeyed, AreMarked, HasEntries, IsMarked, entry_front, entry_spelled, mark_in};
 
 use ild_data::KeyHash;
 use ild_emit::Emit;
@@ -20,6 +20,13 @@ pub struct Mark {
     pub hash: [u8; 32],
     pub from: usize,
     pub len: usize,
+}
+
+/// The mark of an entry, and its key.
+#[derive(Clone, Copy)]
+pub struct KeyedMark<'k> {
+    pub key: &'k str,
+    pub mark: Mark,
 }
 
 /// Entries that are spelled in one buffer, with a mark for each.
@@ -121,6 +128,25 @@ pub(crate) fn pieces<'b>(
         pieces.push(HashedEntry {
             hash: mark.hash,
             entry: entry_at(bytes, mark),
+        })?;
+    }
+    Ok(pieces)
+}
+
+/// The same of marks that come with their keys.
+pub(crate) fn keyed_pieces<'b>(
+    alloc: Global,
+    bytes: &'b [u8],
+    marks: &[KeyedMark<'_>],
+) -> Result<Vec<HashedEntry<'b>>, AllocError>
+    ensures { (h : List ℕ → List ℕ) (es : List (List ℕ × Data)) → AreMarked h bytes.now es (map mark_in marks.now) → IfOk result (λ ks. AreHashed h es ks.items) }
+{
+    let mut pieces = Vec::new(alloc);
+    pieces.reserve(marks.len())?;
+    for keyed in marks {
+        pieces.push(HashedEntry {
+            hash: keyed.mark.hash,
+            entry: entry_at(bytes, &keyed.mark),
         })?;
     }
     Ok(pieces)

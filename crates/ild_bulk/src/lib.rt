@@ -9,7 +9,7 @@ mod planned;
 mod put;
 
 pub use build::{any_long, from_entries, is_long, plan_rows};
-pub use entries::{Mark, begin_entry, mark_of};
+pub use entries::{KeyedMark, Mark, begin_entry, mark_of};
 pub use laws::{children_first, plan_is_of_nodes};
 pub use plan::{plan_keyed, plan_marked};
 pub use planned::PlannedBlock;

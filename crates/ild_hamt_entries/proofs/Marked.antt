@@ -7,7 +7,8 @@ use Rattle.std.specs.Ordering.{is_lt}
 use Rattle.std.proofs.lemmas.Bool.{leb-false}
 use Rattle.std.proofs.lemmas.List.Sorted.{IsPermutation-keeps, IsPermutation-refl, IsPermutation-trans}
 use Rattle.ild_bulk.specs.Build.{is_long}
-use Rattle.ild_bulk.specs.Keyed.{AreMarked, IsMarked, entry_front, entry_spelled}
+use Rattle.ild_bulk.specs.Keyed.{AreMarked, IsMarked, entry_front, entry_spelled, mark_in}
+use Rattle.ild_bulk.specs.declared.entries.KeyedMark.{KeyedMark}
 use Rattle.ild_bulk.proofs.Marking.{marks-grown}
 use Rattle.ild_data.specs.ByteOrder.{bytewise, in_byte_order, no_key_twice}
 use Rattle.ild_data.specs.Data as D
@@ -24,9 +25,8 @@ use Rattle.ild_trie.proofs.Pairs.{find-permutation, in_order-from_sort, sorted-p
 use Rattle.ild_typed.specs.Composed.{usual}
 use Rattle.ild_typed.specs.Hamt.{root_map}
 use Rattle.ild_typed.specs.Nested.{BlockIn, TreeIn}
-use Rattle.ild_hamt_entries.specs.Entries.{AddsEntry, AreKeyedMarks, EndsEntry, FitsEntry, IsKeyedMark, mark_in}
+use Rattle.ild_hamt_entries.specs.Entries.{AddsEntry, AreKeyedMarks, EndsEntry, FitsEntry, IsKeyedMark}
 use Rattle.ild_hamt_entries.specs.Fine.{IsFine}
-use Rattle.ild_hamt_entries.specs.declared.hamt.KeyedMark.{KeyedMark}
 use Rattle.ild_hamt_entries.specs.declared.hamt.MarkedEntries.{MarkedEntries}
 use Rattle.ild_hamt_entries.specs.declared.nodes.Nodes.{Nodes}
 use Rattle.ild_hamt_entries.proofs.Flags.{true_false}

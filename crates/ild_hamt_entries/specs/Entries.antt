@@ -3,7 +3,7 @@ use Rattle.std.specs.Prelude.{◌≡◌, ℕ, ◌≤◌, true, false, cond, is_n
 use Rattle.std.specs.List.{sum_by}
 use Rattle.ild_bulk.specs.Children.{Follows}
 use Rattle.ild_bulk.specs.Keyed.{IsMarked, entry_spelled}
-use Rattle.ild_bulk.specs.declared.entries.Mark.{Mark}
+use Rattle.ild_bulk.specs.declared.entries.KeyedMark.{KeyedMark}
 use Rattle.ild_data.specs.ByteOrder.{in_byte_order}
 use Rattle.ild_data.specs.Data.{Data}
 use Rattle.ild_data.specs.Limits.{longest_block}
@@ -17,7 +17,6 @@ use Rattle.ild_typed.specs.Composed.{usual}
 use Rattle.ild_typed.specs.Hamt.{root_map}
 use Rattle.ild_typed.specs.Nested.{BlockIn, TreeIn}
 use Rattle.ild_hamt_entries.specs.Fine.{IsFine, SetWhere}
-use Rattle.ild_hamt_entries.specs.declared.hamt.KeyedMark.{KeyedMark}
 use Rattle.ild_hamt_entries.specs.declared.hamt.MarkedEntries.{MarkedEntries}
 use Rattle.ild_hamt_entries.specs.declared.nodes.Nodes.{Nodes}
 
@@ -29,9 +28,6 @@ over b = cond (nat_lt longest_block (length b)) 1 0
 pub record FitsEntry (b : List ℕ) : Type 0 where
   pub block : BlockIn deepest_value b
   pub sized : length b ≤ longest_block
-
-abbrev pub mark_in : KeyedMark → Mark
-mark_in k = k.mark
 
 -- the key of an entry, and its mark in these bytes
 pub record IsKeyedMark (h : List ℕ → List ℕ) (b : List ℕ) (e : List ℕ × Data) (k : KeyedMark) : Type 0 where

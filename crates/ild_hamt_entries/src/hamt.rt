@@ -1,5 +1,5 @@
 //! HAMTs (IPLD HashMap): their entries, and the root maps over them.
-ghost use Rattle.std.specs.Prelude.{◌≡◌, ◌+◌, ◌++◌, [], ℕ, List, IfOk, IsPermutation, OnErr, OnOk, length, map, true};
+ghost use Rattle.std.specs.Prelude.{◌≡◌, ◌+◌, ◌++◌, [], ℕ, List, IfOk, IsPermutation, OnErr, OnOk, length, true};
 ghost use Rattle.std.specs.List.Sorted.{IsSortedByKey};
 ghost use Rattle.ild_bulk.specs.Build.{is_long};
 ghost use Rattle.ild_bulk.specs.Keyed.{entry_front};
@@ -12,11 +12,11 @@ ghost use Rattle.ild_node.specs.Rows.{AreShallow, deepest_value};
 ghost use Rattle.ild_typed.specs.Composed.{usual};
 ghost use Rattle.ild_typed.specs.Hamt.{root_map};
 ghost use Rattle.ild_typed.specs.Nested.{BlockIn};
-ghost use Rattle.ild_hamt_entries.specs.Entries.{AddsEntry, AddsRoot, AreKeyedMarks, EndsEntry, FitsEntry, mark_in};
+ghost use Rattle.ild_hamt_entries.specs.Entries.{AddsEntry, AddsRoot, AreKeyedMarks, EndsEntry, FitsEntry};
 ghost use Rattle.ild_hamt_entries.specs.Fine.{IsFine};
 
 use crate::nodes::Nodes;
-use ild_bulk::{Mark, begin_entry, mark_of, plan_marked};
+use ild_bulk::{KeyedMark, begin_entry, mark_of, plan_marked};
 use ild_data::{KeyHash, LONGEST_BLOCK};
 use ild_emit::Emit;
 use ild_node::{BUCKET_SIZE, HamtFault};
@@ -24,13 +24,6 @@ use std::alloc::{AllocError, Global};
 
 /// For each of many entries so many bytes are taken at once.
 const USUAL_ENTRY: usize = 16;
-
-/// The mark of an entry, and its key.
-#[derive(Clone, Copy)]
-pub struct KeyedMark<'k> {
-    pub key: &'k str,
-    pub mark: Mark,
-}
 
 /// Entries that are spelled into one buffer as they come, with a mark for each.
 #[derive(Drop)]
@@ -101,18 +94,6 @@ fn sort_marks(marks: &mut Vec<KeyedMark<'_>>)
     marks.sort_unstable_by(|a, b| a.key.cmp(b.key));
 }
 
-// The marks without their keys.
-fn bare_marks(alloc: Global, keyed: &[KeyedMark<'_>]) -> Result<Vec<Mark>, AllocError>
-    ensures { IfOk result (λ marks. marks.items ≡ map mark_in keyed.now) }
-{
-    let mut marks = Vec::new(alloc);
-    marks.reserve(keyed.len())?;
-    for each in keyed {
-        marks.push(each.mark)?;
-    }
-    Ok(marks)
-}
-
 // Appends the root map over a root node.
 fn add_root_map(out: &mut Emit, root: &[u8]) -> Result<(), AllocError>
     ensures ok { (node : Data) → root.now ≡ spell node → OnOk result (out.new ≡ out.old ++ spell (root_map usual node)) }
@@ -140,10 +121,9 @@ pub fn add_root(
 {
     let mut entries = entries;
     sort_marks(&mut entries.marks);
-    let marks = bare_marks(alloc, &entries.marks)?;
     let bytes = entries.out.finish();
     let mut blocks = Vec::new(alloc);
-    match plan_marked(alloc, bytes.as_slice(), &marks, &mut blocks) {
+    match plan_marked(alloc, bytes.as_slice(), &entries.marks, &mut blocks) {
         Ok(root) => {
             nodes.blocks.append(&mut blocks)?;
             add_root_map(out, root.as_slice())

@@ -4,5 +4,5 @@
 mod hamt;
 mod nodes;
 
-pub use hamt::{KeyedMark, MarkedEntries, add_root, end_entry, no_entries};
+pub use hamt::{MarkedEntries, add_root, end_entry, no_entries};
 pub use nodes::Nodes;

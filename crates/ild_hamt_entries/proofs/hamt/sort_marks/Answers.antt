@@ -3,7 +3,7 @@ use Rattle.std.specs.Ordering.{is_lt}
 use Rattle.std.proofs.lemmas.List.Sorted.{ranks_by, answers_always}
 use Rattle.ild_data.specs.ByteOrder.{bytewise}
 use Rattle.ild_trie.proofs.Parts.{total}
-use Rattle.ild_hamt_entries.specs.declared.hamt.KeyedMark.{KeyedMark}
+use Rattle.ild_bulk.specs.declared.entries.KeyedMark.{KeyedMark}
 use Rattle.ild_hamt_entries.proofs.hamt.sort_marks.Goals as goal
 
 pub returns-clause-order : goal.returns-clause-order
