@@ -1,4 +1,5 @@
 //! The same work as the engine's, as a good Rust programmer writes it without proofs. Words: WORK FILE TIMES.
+mod bulk;
 mod cbor;
 mod create;
 mod folder;
@@ -90,6 +91,13 @@ fn main() {
         "compile" => {
             for _ in 0..times {
                 sum += schema::compile(black_box(&bytes)).expect("a schema") as u64;
+            }
+        }
+        "bulk" => {
+            let rows = bulk::rows(&bytes);
+            for _ in 0..times {
+                let (root, blocks) = bulk::plan(black_box(&rows));
+                sum += root.len() as u64 + blocks.len() as u64;
             }
         }
         "hamt" => {
