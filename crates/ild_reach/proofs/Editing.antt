@@ -15,6 +15,7 @@ use Rattle.ild_last.specs.declared.change.LastChange.{LastChange}
 use Rattle.ild_lift.proofs.EditOne.{edits_are_one_change}
 use Rattle.ild_lift.proofs.Lifting.{chained}
 use Rattle.ild_lift.specs.LastLift.{LastEdit, deleting, inserting, last_seen, setting}
+use Rattle.ild_lift.specs.Lift.{lift, lifted}
 use Rattle.ild_lift.specs.LiftLaws.{IsOneChange, MayDelete, MayInsert, MaySet, of_fronts}
 use Rattle.ild_schema.specs.Value.{Value}
 use Rattle.ild_schema.specs.declared.row.Row.{Row}
@@ -50,15 +51,11 @@ module _ (rows : List Row) (is_key : ℕ → List ℕ → Bool) (schema : IsSche
       let w = last_there rows e.made p q s ss l u at told.at all now in
       let holders = become_there rows e.made p s ss steps u told.lead all now in
       let changes : last_seen alone rows e (last_of s ss) q ≡ located last (Some x) (Some w.0) = told.changes ∙ ap (located last (Some x)) w.1 in
-      record {
-        made = w.0;
-        made_is = w.1;
-        there = holders;
-        is = one_change p s ss l t u is at may was now
-            ∙ ap (λ c. applied c t) (along rows e.made (last_seen alone rows e (last_of s ss)) p q s ss steps told.lead told.at all
-            ∙ subst (λ c. IsSeenAt steps c r) (sym changes) (told.where_seen w.0) (become rows e.made p s ss) holders
-            ∙ ap (λ c. seen_at steps (become rows e.made p s ss) c r) changes);
-      }
+      let lifts : lifted rows (lift alone rows) e.made (last_seen alone rows e (last_of s ss)) p s ss ≡ seen_at steps (become rows e.made p s ss) (located last (Some x) (Some w.0)) r =
+      along rows e.made (last_seen alone rows e (last_of s ss)) p q s ss steps told.lead told.at all
+      ∙ subst (λ c. IsSeenAt steps c r) (sym changes) (told.where_seen w.0) (become rows e.made p s ss) holders
+      ∙ ap (λ c. seen_at steps (become rows e.made p s ss) c r) changes in
+      record { made = w.0; made_is = w.1; there = holders; seen_there = lifts; is = one_change p s ss l t u is at may was now ∙ ap (λ c. applied c t) lifts }
 
 pub edits_are_edited : EditsAreEdited
 edits_are_edited rows is_key schema keys =

@@ -4,5 +4,5 @@ mod Edits
 mod Editing
 mod Seeing
 mod Standing
-mod Written
+pub mod Written
 mod Walking

@@ -8,6 +8,7 @@ use Rattle.ild_edits.specs.EditLaws.{Brings}
 use Rattle.ild_last.specs.Change.{becomes, located}
 use Rattle.ild_last.specs.declared.change.LastChange.{LastChange}
 use Rattle.ild_lift.specs.LastLift.{LastEdit, deleting, inserting, last_seen, setting}
+use Rattle.ild_lift.specs.Lift.{lift, lifted}
 use Rattle.ild_lift.specs.LiftLaws.{MayDelete, MayInsert, MaySet}
 use Rattle.ild_schema.specs.Value.{Value}
 use Rattle.ild_schema.specs.declared.row.Row.{Row}
@@ -30,12 +31,14 @@ pub record IsTold (rows : List Row) (e : LastEdit) (p q : InSlot) (s : List ℕ)
   pub changes : last_seen alone rows e (last_of s ss) q ≡ located last (Some x) (becomes rows q.0 (e.made (seen rows q) (last_of s ss)))
   pub where_seen : (w : Data) → IsSeenAt steps (located last (Some x) (Some w)) r
 
--- The data t of the whole become u: the last holder becomes what has the data `made`, each one before it what has data too, and u is t
--- with this one change at the end of the steps, or with the new data of the holder that is replaced.
+-- The data t of the whole become u: the last holder becomes what has the data `made`, each one before it what has data too, and the edit's
+-- change, lifted from the last holder, is this one at the end of the steps, or that of the holder which is replaced, by its new data. So u is t
+-- with it.
 pub record IsEdited (rows : List Row) (e : LastEdit) (p q : InSlot) (s : List ℕ) (ss : List (List ℕ)) (x : Data) (steps : List PartSteps) (last : LastChange) (r : Option ℕ) (t u : Data) : Type 0 where
   pub made : Data
   pub made_is : becomes rows q.0 (e.made (seen rows q) (last_of s ss)) ≡ Some made
   pub there : AreThere steps (become rows e.made p s ss)
+  pub seen_there : lifted rows (lift alone rows) e.made (last_seen alone rows e (last_of s ss)) p s ss ≡ seen_at steps (become rows e.made p s ss) (located last (Some x) (Some made)) r
   pub is : u ≡ applied (seen_at steps (become rows e.made p s ss) (located last (Some x) (Some made)) r) t
 
 -- ---- of each edit that the table allows

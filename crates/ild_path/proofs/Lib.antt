@@ -1,0 +1,4 @@
+mod Allowing
+mod Changing
+mod Numbering
+mod Replacing
