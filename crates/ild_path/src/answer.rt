@@ -1,6 +1,7 @@
 //! The answer, by the change of the last holder and the steps to it.
 ghost use Rattle.std.specs.Prelude.{◌≡◌, ◌≤◌, ℕ, [], Bool, List, Option, Some, false, length, take};
 ghost use Rattle.ild_apply.specs.Applies.{is_whole};
+ghost use Rattle.ild_cbor.specs.Nodes.{Stands};
 ghost use Rattle.ild_change.specs.TreeChange.{applied as tree_with, part_at};
 ghost use Rattle.ild_data.specs.Data.{Data};
 ghost use Rattle.ild_data.specs.Spell.{spell};
@@ -8,7 +9,7 @@ ghost use Rattle.ild_last.specs.Change.{NewIs, located};
 ghost use Rattle.ild_lift.specs.Lift.{lift_within};
 ghost use Rattle.ild_path.specs.Changes.{IsReady};
 ghost use Rattle.ild_path.specs.declared.edit.PartEdit.{PartEdit};
-ghost use Rattle.ild_path.specs.Spliced.{Answers, AnswersBlock, IsHolderAt};
+ghost use Rattle.ild_path.specs.Spliced.{Answers, AnswersBlock, IsHolderAt, IsReplaced};
 ghost use Rattle.ild_schema.specs.Value.{Value};
 ghost use Rattle.ild_schema.specs.declared.row.Row.{Row};
 ghost use Rattle.ild_seen.specs.Seen.{all_steps};
@@ -42,6 +43,15 @@ pub struct Replaced<'b> {
     pub holder: usize,
     /// Its item in the block.
     pub item: Node<'b>,
+}
+
+impl<'b> Replaced<'b> {
+    /// The new block, by the item of what the holder becomes, which is copied from its own block.
+    pub fn block_with(&self, alloc: Global, new: &Node<'_>) -> Result<Octets, SpliceErr>
+        ensures { (rows : List Row) (is_key : ℕ → List ℕ → Bool) (edit : PartEdit) (w : Value) (p : InSlot) (path : List (List ℕ)) (t u : Data) (held : IsReplaced rows is_key edit w p path t u self.now) → Stands new.now held.new → Makes (spell u) result }
+    {
+        replace(alloc, &self.item, new)
+    }
 }
 
 // The holder to which so many steps lead is replaced.
@@ -93,6 +103,7 @@ pub(crate) fn told<'b>(
             if holder < steps.len() {
                 Ok(whole(root, steps, holder))
             } else {
+                // None has such a number; nothing would change then.
                 let itself = *root;
                 block(replace(alloc, root, &itself))
             }

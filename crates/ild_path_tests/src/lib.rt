@@ -1,0 +1,7 @@
+//! Tests of edits at paths in one block.
+#![tactic(auto)]
+
+#[cfg(test)]
+mod told;
+#[cfg(test)]
+mod worked;
