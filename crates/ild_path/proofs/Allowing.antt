@@ -15,7 +15,7 @@ use Rattle.ild_lift.specs.Lift.{lift, lifted}
 use Rattle.ild_lift.specs.LiftLaws.{edit_seen, seen_from}
 use Rattle.ild_path.proofs.Numbering.{same_last, seen_last}
 use Rattle.ild_path.specs.Changes.{Allows, IsChange, IsReady, in_last}
-use Rattle.ild_path.specs.Edits.{BringsPart, Edits, IsNewRoot, IsPart, IsRootView, Makes, edit_of}
+use Rattle.ild_path.specs.Edits.{BringsPart, Edits, IsNewRoot, IsPart, IsRootView, Makes, RootsAreViewed, edit_of}
 use Rattle.ild_path.specs.declared.edit.PartEdit.{PartEdit}
 use Rattle.ild_path.specs.declared.edit.PartEdit.TheVariants as E
 use Rattle.ild_piece.specs.Pieces.{StandsFor}
@@ -29,6 +29,7 @@ use Rattle.ild_splice.specs.Laws.{RootsAreAt}
 use Rattle.ild_splice.specs.Splices.{IsAt}
 use Rattle.ild_steps.specs.declared.steps.PartSteps.{PartSteps}
 use Rattle.ild_typed.specs.At.{InSlot, changed_in, last_holder, seen}
+use Rattle.ild_typed.specs.Fits.{Front}
 use Rattle.ild_typed.specs.Hamt.{alone}
 use Rattle.ild_typed.specs.Holder.{Holder, any_elements, any_entries, elements, entries, fields, member, nothing}
 use Rattle.ild_typed.specs.OfType.{OfType, TestsKeys}
@@ -193,6 +194,20 @@ view_of v f t h = record { room = h.room; tree = t; stands = by v.body h.piece; 
   by : (b : Body) → piece_in b ≡ Some (P.Node h.node) → BodyStands (table_of v) b t
   by (B.Held r) e = subst (λ r. StandsFor (table_of v) r t) (sym (same_Some r (P.Node h.node) e)) h.root.stands
   by (B.Implicit c) e = absurd (none-some (P.Node h.node) e)
+
+pub roots_are_viewed : RootsAreViewed
+roots_are_viewed rows room s n b t v spelled root views = (
+  views.1.0,
+  record {
+    node = n;
+    piece = views.0.piece;
+    block = b;
+    spelled = spelled;
+    root = root;
+    room = room;
+    front = subst (λ rs. Front rs room (slot_of v) views.1.0 t) (sym views.0.table) (subst (λ u. Front rows room u views.1.0 t) (sym views.0.slot) views.1.1);
+  },
+)
 
 pub root_at : (v : View) (f : Value) (t : Data) (n : Node) → IsRootView v f t → Some (P.Node n) ≡ piece_of v → RootsAreAt → IsAt n t [] t
 root_at v f t n h e law =

@@ -16,7 +16,7 @@ use Rattle.ild_typed.specs.Fits.{Front}
 use Rattle.ild_typed.specs.Hamt.{alone}
 use Rattle.ild_typed.specs.OfType.{OfType, TestsKeys}
 use Rattle.ild_typed.specs.Represented.{represented}
-use Rattle.ild_view.specs.View.{piece_of, slot_of, table_of}
+use Rattle.ild_view.specs.View.{Views, piece_of, slot_of, table_of}
 use Rattle.ild_view.specs.declared.view.View.{View}
 
 -- the view of a whole block, that of the data t, whose front is f
@@ -28,6 +28,10 @@ pub record IsRootView (v : View) (f : Value) (t : Data) : Type 0 where
   pub root : IsRoot node block t
   pub room : ℕ
   pub front : Front (table_of v) room (slot_of v) f t
+
+-- what a check answers of the node of a whole block is such a view, of a front of the block's data
+abbrev pub RootsAreViewed : Type 0
+RootsAreViewed = (rows : List Row) (room : ℕ) (s : Slot) (n : Node) (b : List ℕ) (t : Data) (v : View) → IsBlockOf b t → IsRoot n b t → Views rows room s n t (Ok v) → (f : Value) × IsRootView v f t
 
 -- with w as the new part
 abbrev pub edit_of : PartEdit → Value → List (List ℕ) → Edit Value

@@ -5,7 +5,9 @@
 mod along;
 mod answer;
 mod edit;
+mod laws;
 
 pub use along::spliced;
 pub use answer::{Replaced, Spliced};
 pub use edit::PartEdit;
+pub use laws::roots_are_viewed;
