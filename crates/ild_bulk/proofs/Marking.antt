@@ -6,8 +6,7 @@ use Rattle.ild_node.specs.Hashed.{IsHashed, AreHashed}
 use Rattle.ild_node.specs.declared.hashed.HashedEntry.{HashedEntry}
 use Rattle.ild_node.specs.Keyed.{keyed_seen, keyed_rows}
 use Rattle.ild_node.specs.declared.keyed.Keyed.{Keyed}
-use Rattle.ild_bulk.specs.Keyed.{entry_spelled, IsMarked, AreMarked, HasEntries, mark_in}
-use Rattle.ild_bulk.specs.declared.entries.KeyedMark.{KeyedMark}
+use Rattle.ild_bulk.specs.Keyed.{entry_spelled, IsMarked, AreMarked, HasEntries}
 use Rattle.ild_bulk.specs.declared.entries.Mark.{Mark}
 use Rattle.ild_bulk.specs.declared.entries.Entries.{Entries}
 
@@ -87,33 +86,19 @@ marked_here h b (e ∷ es) [] i d are lt = absurd are
 marked_here h b (e ∷ es) (m ∷ ms) zero d are lt = (e, are.0, refl)
 marked_here h b (e ∷ es) (m ∷ ms) (suc i) d are lt = let x = marked_here h b es ms i d are.1 (omega arith) in (x.0, x.1, ap (λ fs. e ∷ fs) x.2)
 
-pub pieces-more : (h : List ℕ → List ℕ) (b : List ℕ) (es : List (List ℕ × Data)) (ms : List Mark) (i : ℕ) (d : Mark) (ks : List HashedEntry) (k : HashedEntry) → AreMarked h b es ms → AreHashed h (take i es) ks → i < length ms
-    → k.hash ≡ (get_or ms i d).hash → ((get_or ms i d).from + (get_or ms i d).len ≤ length b → k.entry.now ≡ take (get_or ms i d).len (drop (get_or ms i d).from b)) → AreHashed h (take (i + 1) es) (ks ++ k ∷ [])
-pieces-more h b es ms i d ks k are was lt hash here =
-    let x = marked_here h b es ms i d are lt in
-    let next : i + 1 ≡ suc i = omega arith in
-    subst (λ (fs : List (List ℕ × Data)). AreHashed h fs (ks ++ k ∷ [])) (sym (ap (λ n. take n es) next ∙ x.2))
-    (hashed-push h (take i es) ks x.0 k was (record { hash = hash ∙ x.1.hash; spelled = here x.1.within ∙ x.1.spelled }))
-
--- all entries are taken
-pub all-taken : (h : List ℕ → List ℕ) (b : List ℕ) (es : List (List ℕ × Data)) (ms : List Mark) (i : ℕ) → AreMarked h b es ms → length ms ≤ i → take i es ≡ es
-all-taken h b es ms i are le = let many = marked-many h b es ms are in take_all i es (omega (arith, many, le))
-
--- ---- marks that come with their keys
-
--- what a keyed mark says stands in the list of the marks
-pub keyed-mark : (P : Mark → Type 0) (ks : List KeyedMark) (i : ℕ) (d : KeyedMark) → i < length ks → P (get_or ks i d).mark → P (get_or (map mark_in ks) i (mark_in d))
-keyed-mark P ks i d lt is = subst P (sym (get_or-map mark_in ks i d (mark_in d) lt)) is
-
 -- what is cut out at a mark of these bytes
 abbrev pub CutsAt : List ℕ → HashedEntry → Mark → Type 0
 CutsAt b k m = (k.hash ≡ m.hash) × (m.from + m.len ≤ length b → k.entry.now ≡ take m.len (drop m.from b))
 
-pub keyed-more : (h : List ℕ → List ℕ) (b : List ℕ) (es : List (List ℕ × Data)) (ms : List KeyedMark) (i : ℕ) (d : KeyedMark) (ks : List HashedEntry) (k : HashedEntry) → AreMarked h b es (map mark_in ms) → AreHashed h (take i es) ks → i < length ms
-    → CutsAt b k (get_or ms i d).mark → AreHashed h (take (i + 1) es) (ks ++ k ∷ [])
-keyed-more h b es ms i d ks k are was lt cut =
-    let at = keyed-mark (CutsAt b k) ms i d lt cut in
-    pieces-more h b es (map mark_in ms) i (mark_in d) ks k are was (omega (arith, lt, length-map ms mark_in)) at.0 at.1
+pub pieces-more : {A : Type 0} (f : A → Mark) (h : List ℕ → List ℕ) (b : List ℕ) (es : List (List ℕ × Data)) (ms : List A) (i : ℕ) (d : A) (m : Mark) (ks : List HashedEntry) (k : HashedEntry)
+    → AreMarked h b es (map f ms) → AreHashed h (take i es) ks → i < length ms → d ≡ get_or ms i d → m ≡ f d → CutsAt b k m → AreHashed h (take (i + 1) es) (ks ++ k ∷ [])
+pieces-more f h b es ms i d m ks k are was lt is marks cut =
+    let x = marked_here h b es (map f ms) i (f d) are (omega (arith, lt, length-map ms f)) in
+    let here = subst (CutsAt b k) (marks ∙ ap f is ∙ sym (get_or-map f ms i d (f d) lt)) cut in
+    let next : i + 1 ≡ suc i = omega arith in
+    subst (λ (fs : List (List ℕ × Data)). AreHashed h fs (ks ++ k ∷ [])) (sym (ap (λ n. take n es) next ∙ x.2))
+    (hashed-push h (take i es) ks x.0 k was (record { hash = here.0 ∙ x.1.hash; spelled = here.1 x.1.within ∙ x.1.spelled }))
 
-pub all-keyed : (h : List ℕ → List ℕ) (b : List ℕ) (es : List (List ℕ × Data)) (ms : List KeyedMark) (i : ℕ) → AreMarked h b es (map mark_in ms) → length ms ≤ i → take i es ≡ es
-all-keyed h b es ms i are le = all-taken h b es (map mark_in ms) i are (omega (arith, le, length-map ms mark_in))
+-- all entries are taken
+pub all-taken : {A : Type 0} (f : A → Mark) (h : List ℕ → List ℕ) (b : List ℕ) (es : List (List ℕ × Data)) (ms : List A) (i : ℕ) → AreMarked h b es (map f ms) → length ms ≤ i → take i es ≡ es
+all-taken f h b es ms i are le = let many = marked-many h b es (map f ms) are in take_all i es (omega (arith, many, le, length-map ms f))

@@ -11,7 +11,7 @@ ghost use Rattle.ild_bulk.specs.Children.{AddsWhole};
 ghost use Rattle.ild_bulk.specs.Planned.{PlansNode};
 
 use crate::entries::entries_of;
-use crate::plan::plan_spelled;
+use crate::plan::plan_marked;
 use crate::planned::PlannedBlock;
 use crate::put::put_all;
 use ild_data::{KeyHash, LONGEST_BLOCK, Octets};
@@ -49,7 +49,7 @@ pub fn plan_rows<H: KeyHash>(
 {
     let spelled = entries_of(alloc, entries.as_slice(), keys)?;
     let bytes = spelled.out.finish();
-    plan_spelled(alloc, bytes.as_slice(), &spelled.marks, blocks)
+    plan_marked(alloc, bytes.as_slice(), &spelled.marks, blocks)
 }
 
 /// The root node of the HAMT of these entries. The blocks beneath it are put, each behind those beneath it; the root isn't

@@ -4,8 +4,9 @@ ghost use Rattle.ild_data.specs.Data.{Data};
 ghost use Rattle.ild_node.specs.Hashed.{AreHashed};
 ghost use Rattle.ild_node.specs.Keyed.{keyed_rows};
 ghost use Rattle.ild_node.specs.Rows.{row_seen, rows_seen};
-ghost use Rattle.ild_bulk.specs.Keyed.{AreKeyed, AreMarked, HasEntries, IsMarked, entry_front, entry_spelled, mark_in};
+ghost use Rattle.ild_bulk.specs.Keyed.{AreKeyed, AreMarked, HasEntries, IsMarked, entry_front, entry_spelled};
 
+use crate::marked::Marked;
 use ild_data::KeyHash;
 use ild_emit::Emit;
 use ild_node::{HashedEntry, Keyed, Row, add_entry};
@@ -115,38 +116,20 @@ pub(crate) fn entry_at<'b>(bytes: &'b [u8], mark: &Mark) -> &'b [u8]
 }
 
 /// The entries as pieces of the buffer in which they are spelled.
-pub(crate) fn pieces<'b>(
+pub(crate) fn pieces<'b, M: Marked>(
     alloc: Global,
     bytes: &'b [u8],
-    marks: &[Mark],
+    marks: &[M],
 ) -> Result<Vec<HashedEntry<'b>>, AllocError>
-    ensures { (h : List ℕ → List ℕ) (es : List (List ℕ × Data)) → AreMarked h bytes.now es marks.now → IfOk result (λ ks. AreHashed h es ks.items) }
+    ensures { (h : List ℕ → List ℕ) (es : List (List ℕ × Data)) → AreMarked h bytes.now es (map M.mark_seen marks.now) → IfOk result (λ ks. AreHashed h es ks.items) }
 {
     let mut pieces = Vec::new(alloc);
     pieces.reserve(marks.len())?;
-    for mark in marks {
+    for marked in marks {
+        let mark = marked.mark();
         pieces.push(HashedEntry {
             hash: mark.hash,
             entry: entry_at(bytes, mark),
-        })?;
-    }
-    Ok(pieces)
-}
-
-/// The same of marks that come with their keys.
-pub(crate) fn keyed_pieces<'b>(
-    alloc: Global,
-    bytes: &'b [u8],
-    marks: &[KeyedMark<'_>],
-) -> Result<Vec<HashedEntry<'b>>, AllocError>
-    ensures { (h : List ℕ → List ℕ) (es : List (List ℕ × Data)) → AreMarked h bytes.now es (map mark_in marks.now) → IfOk result (λ ks. AreHashed h es ks.items) }
-{
-    let mut pieces = Vec::new(alloc);
-    pieces.reserve(marks.len())?;
-    for keyed in marks {
-        pieces.push(HashedEntry {
-            hash: keyed.mark.hash,
-            entry: entry_at(bytes, &keyed.mark),
         })?;
     }
     Ok(pieces)

@@ -4,6 +4,7 @@
 mod build;
 mod entries;
 mod laws;
+mod marked;
 mod plan;
 mod planned;
 mod put;
@@ -11,6 +12,7 @@ mod put;
 pub use build::{any_long, from_entries, is_long, plan_rows};
 pub use entries::{KeyedMark, Mark, begin_entry, mark_of};
 pub use laws::{children_first, plan_is_of_nodes};
+pub use marked::Marked;
 pub use plan::{plan_keyed, plan_marked};
 pub use planned::PlannedBlock;
 pub use put::put_all;

@@ -10,10 +10,11 @@ ghost use Rattle.ild_node.specs.Hashed.{AreHashed};
 ghost use Rattle.ild_node.specs.Keyed.{keyed_rows};
 ghost use Rattle.ild_node.specs.NewSlots.{IsFilledSlot};
 ghost use Rattle.ild_node.specs.Rows.{AreRows};
-ghost use Rattle.ild_bulk.specs.Keyed.{AreEmpty, AreKeyed, AreMarked, HasParts, Parted, hashed_index, hashed_part, mark_in};
+ghost use Rattle.ild_bulk.specs.Keyed.{AreEmpty, AreKeyed, AreMarked, HasParts, Parted, hashed_index, hashed_part};
 ghost use Rattle.ild_bulk.specs.Planned.{PlansInto, PlansNode, PlansSlot};
 
-use crate::entries::{KeyedMark, Mark, entries_with, entry_at, keyed_pieces, pieces};
+use crate::entries::{entries_with, entry_at, pieces};
+use crate::marked::Marked;
 use crate::planned::PlannedBlock;
 use ild_data::Octets;
 use ild_node::{
@@ -107,45 +108,23 @@ fn parted<'r>(
 }
 
 // The entries of marks, cut out of their bytes, by the index of their keys at a depth.
-fn cut_apart<'r>(
+fn cut_apart<'r, M: Marked>(
     alloc: Global,
     bytes: &'r [u8],
-    marks: &[Mark],
+    marks: &[M],
     depth: u32,
 ) -> Result<Parts<'r>, AllocError>
     requires { depth < trie_levels usual }
     ensures many { IfOk result (λ parts. length parts.items ≡ 2 ^ usual.width) }
-    ensures parts { (h : List ℕ → List ℕ) (es : List (List ℕ × Data)) → AreMarked h bytes.now es marks.now → IfOk result (λ parts. HasParts h usual depth es parts.items) }
+    ensures parts { (h : List ℕ → List ℕ) (es : List (List ℕ × Data)) → AreMarked h bytes.now es (map M.mark_seen marks.now) → IfOk result (λ parts. HasParts h usual depth es parts.items) }
 {
     let mut parts = emptied(alloc, None, marks.len() / USUAL_SHARE)?;
-    for mark in marks {
+    for marked in marks {
+        let mark = marked.mark();
         let entry = entry_at(bytes, mark);
         let index = index_of(&mark.hash, depth);
         parts[index as usize].push(HashedEntry {
             hash: mark.hash,
-            entry,
-        })?;
-    }
-    Ok(parts)
-}
-
-// The same of marks that come with their keys.
-fn cut_keyed<'r>(
-    alloc: Global,
-    bytes: &'r [u8],
-    marks: &[KeyedMark<'_>],
-    depth: u32,
-) -> Result<Parts<'r>, AllocError>
-    requires { depth < trie_levels usual }
-    ensures many { IfOk result (λ parts. length parts.items ≡ 2 ^ usual.width) }
-    ensures parts { (h : List ℕ → List ℕ) (es : List (List ℕ × Data)) → AreMarked h bytes.now es (map mark_in marks.now) → IfOk result (λ parts. HasParts h usual depth es parts.items) }
-{
-    let mut parts = emptied(alloc, None, marks.len() / USUAL_SHARE)?;
-    for keyed in marks {
-        let entry = entry_at(bytes, &keyed.mark);
-        let index = index_of(&keyed.mark.hash, depth);
-        parts[index as usize].push(HashedEntry {
-            hash: keyed.mark.hash,
             entry,
         })?;
     }
@@ -200,32 +179,13 @@ fn next_index(entries: &[HashedEntry<'_>], depth: u32, from: usize) -> usize
 
 /// The block of the root node of entries that are marked in their bytes, in the bytewise order of their keys. The blocks beneath it
 /// are appended, each behind those beneath it.
-pub fn plan_marked(
+pub fn plan_marked<M: Marked>(
     alloc: Global,
     bytes: &[u8],
-    marks: &[KeyedMark<'_>],
+    marks: &[M],
     blocks: &mut Vec<PlannedBlock>,
 ) -> Result<Octets, HamtFault>
-    ensures { (h : List ℕ → List ℕ) (es : List (List ℕ × Data)) → AreMarked h bytes.now es (map mark_in marks.now) → AreRows es
-        → PlansNode h usual (trie_levels usual - 0) 0 es result blocks.old.items blocks.new.items }
-{
-    let mut spare = Vec::new(alloc);
-    if marks.len() <= SLOTS * BUCKET_SIZE {
-        let pieces = keyed_pieces(alloc, bytes, marks)?;
-        return plan_node(alloc, &pieces, 0, &mut spare, blocks);
-    }
-    let parts = cut_keyed(alloc, bytes, marks, 0)?;
-    plan_parts(alloc, &parts, 0, SLOTS * LINK_ROOM, &mut spare, blocks)
-}
-
-/// The same of marks that come alone.
-pub(crate) fn plan_spelled(
-    alloc: Global,
-    bytes: &[u8],
-    marks: &[Mark],
-    blocks: &mut Vec<PlannedBlock>,
-) -> Result<Octets, HamtFault>
-    ensures { (h : List ℕ → List ℕ) (es : List (List ℕ × Data)) → AreMarked h bytes.now es marks.now → AreRows es
+    ensures { (h : List ℕ → List ℕ) (es : List (List ℕ × Data)) → AreMarked h bytes.now es (map M.mark_seen marks.now) → AreRows es
         → PlansNode h usual (trie_levels usual - 0) 0 es result blocks.old.items blocks.new.items }
 {
     let mut spare = Vec::new(alloc);

@@ -7,24 +7,24 @@ use Rattle.ild_bulk.proofs.Apart.{apart-none, apart-more}
 use Rattle.ild_bulk.proofs.Marking.{all-taken}
 use Rattle.ild_bulk.proofs.plan.cut_apart.Goals as goal
 
-pub loop-mark-init : goal.loop-mark-init
-loop-mark-init c = record {
+pub loop-marked-init : goal.loop-marked-init
+loop-marked-init g c = record {
   many = c.in_ok-parts.ensures.many;
   cut = λ h es are. apart-none h c.args.depth _ c.in_ok-parts.ensures;
 }
 
 pub index_mut-requires : goal.index_mut-requires
-index_mut-requires c = let many = c.loop-mark.invariant.many in let held = c.loop-mark.parts.ok.0 in omega (arith, many, held, c.index_of-index.type_inv)
+index_mut-requires g c = let many = c.loop-marked.invariant.many in let held = c.loop-marked.parts.ok.0 in omega (arith, many, held, c.index_of-index.type_inv)
 
 pub returns-clause-parts : goal.returns-clause-parts
-returns-clause-parts c = λ h es are.
-    subst (λ (fs : List (List ℕ × Data)). HasParts h usual c.args.depth fs c.loop-mark.parts.items) (all-taken h c.args.bytes.now es c.args.marks.now c.loop-mark.mark-index are (omega arith)) (c.loop-mark.invariant.cut h es are)
+returns-clause-parts g c = λ h es are.
+    subst (λ (fs : List (List ℕ × Data)). HasParts h usual c.args.depth fs c.loop-marked.parts.items) (all-taken g.M.Marked.mark_seen h c.args.bytes.now es c.args.marks.now c.loop-marked.marked-index are (omega arith)) (c.loop-marked.invariant.cut h es are)
 
-pub loop-mark-preserved : goal.loop-mark-preserved
-loop-mark-preserved c = record {
-  many = length-set c.loop-mark.parts.items c.index_of-index.result c.push.new.self ∙ c.loop-mark.invariant.many;
+pub loop-marked-preserved : goal.loop-marked-preserved
+loop-marked-preserved g c = record {
+  many = length-set c.loop-marked.parts.items c.index_of-index.result c.push.new.self ∙ c.loop-marked.invariant.many;
   cut = λ h es are.
-      apart-more h c.args.bytes.now es c.args.depth c.args.marks.now c.loop-mark.mark-index _ c.loop-mark.parts.items _ c.index_of-index.result c.index_mut.result.now c.push.new.self
-      are (c.loop-mark.invariant.cut h es are) (omega arith) refl c.entry_at-entry.ensures
+      apart-more g.M.Marked.mark_seen h c.args.bytes.now es c.args.depth c.args.marks.now c.loop-marked.marked-index c.marked-item.result c.mark-mark.result.now c.loop-marked.parts.items _ c.index_of-index.result c.index_mut.result.now c.push.new.self
+      are (c.loop-marked.invariant.cut h es are) (omega arith) c.marked-item.is c.mark-mark.ensures (refl, c.entry_at-entry.ensures)
       c.index_of-index.ensures c.index_mut.ensures.value c.in_ok-push.ensures.items;
 }
