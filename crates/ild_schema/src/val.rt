@@ -147,6 +147,16 @@ impl Vals {
         }
     }
 
+    /// No element, with room for so many where memory has it.
+    pub fn with_room(alloc: Global, count: usize) -> Vals
+        ensures { result ≡ no_values }
+    {
+        match Vec::with_capacity(alloc, count) {
+            Ok(items) => Vals { items },
+            Err(_) => Vals::new(alloc),
+        }
+    }
+
     /// Appends an element.
     pub fn push(&mut self, val: Val) -> Result<(), AllocError>
         ensures ok { OnOk result (values_list self.new ≡ values_list self.old ++ value_of val ∷ []) }
@@ -186,6 +196,16 @@ impl ValPairs {
     {
         ValPairs {
             pairs: Vec::new(alloc),
+        }
+    }
+
+    /// No entry, with room for so many where memory has it.
+    pub fn with_room(alloc: Global, count: usize) -> ValPairs
+        ensures { result ≡ no_pairs }
+    {
+        match Vec::with_capacity(alloc, count) {
+            Ok(pairs) => ValPairs { pairs },
+            Err(_) => ValPairs::new(alloc),
         }
     }
 
