@@ -1,5 +1,5 @@
 -- The holders on a path by their number, the first being 0.
-use Rattle.std.proofs.Common.{◌≡◌, ◌<◌, ◌≤◌, ℕ, zero, suc, List, [], ◌∷◌, length, take, drop, Option, Some, None, refl, sym, ◌∙◌, ap, arith}
+use Rattle.std.proofs.Common.{◌≡◌, ◌<◌, ℕ, zero, suc, List, [], ◌∷◌, length, take, drop, Option, Some, None, refl, sym, ◌∙◌, ap, arith}
 use Rattle.std.specs.Option.{option_map_or}
 use Rattle.std.specs.Prelude.{option_and_then, slice_get}
 use Rattle.std.proofs.lemmas.Option.{same_Some}
@@ -90,11 +90,3 @@ there_at (o ∷ os) [] n h less = absurd h
 there_at (o ∷ os) (None ∷ ws) n h less = absurd h
 there_at (o ∷ os) (Some d ∷ ws) zero h less = (d, refl)
 there_at (o ∷ os) (Some d ∷ ws) (suc n) h less = there_at os ws n h (omega (arith, less))
-
-pub none_past : (steps : List PartSteps) (ws : List (Option Data)) (n : ℕ) → AreThere steps ws → length steps ≤ n → slice_get ws n ≡ None
-none_past [] [] n h far = refl
-none_past [] (w ∷ ws) n h far = absurd h
-none_past (o ∷ os) [] n h far = absurd h
-none_past (o ∷ os) (None ∷ ws) n h far = absurd h
-none_past (o ∷ os) (Some d ∷ ws) zero h far = absurd (omega (arith, far))
-none_past (o ∷ os) (Some d ∷ ws) (suc n) h far = none_past os ws n h (omega (arith, far))

@@ -1,5 +1,5 @@
 -- The answer, where the change of the last holder is told.
-use Rattle.std.proofs.Common.{◌≡◌, ◌<◌, ◌≤◌, ℕ, Bool, true, false, List, length, take, drop, Option, Some, None, refl, sym, ◌∙◌, ap, subst, arith}
+use Rattle.std.proofs.Common.{◌≡◌, ◌<◌, ℕ, Bool, true, false, List, length, take, drop, Option, Some, None, refl, sym, ◌∙◌, ap, subst, arith}
 use Rattle.std.specs.Prelude.{Ok, Err, Result, option_and_then}
 use Rattle.std.proofs.lemmas.List.{append-nil, take_all}
 use Rattle.std.proofs.lemmas.Option.{same_Some}
@@ -12,7 +12,7 @@ use Rattle.ild_last.specs.Change.{NewIs, located}
 use Rattle.ild_last.specs.declared.change.LastChange.{LastChange}
 use Rattle.ild_last.specs.declared.change.LastChange.TheVariants as C
 use Rattle.ild_lift.specs.Lift.{lift_within, whole}
-use Rattle.ild_edit_block.proofs.Numbering.{IsHolder, final, none_past, nth_holder, there_at}
+use Rattle.ild_edit_block.proofs.Numbering.{IsHolder, final, nth_holder, there_at}
 use Rattle.ild_edit_block.specs.Changes.{IsReady, in_last}
 use Rattle.ild_lift.specs.LiftLaws.{edit_seen}
 use Rattle.ild_edit_block.specs.Edits.{Makes, edit_of}
@@ -38,9 +38,6 @@ use Rattle.ild_typed.specs.Represented.{represented}
 -- a part that is replaced
 exchanged_at : (q : List TreeStep) (o : Option Data) (d : Data) → o ≡ Some d → lift_within q (whole o) ≡ one q (replace d)
 exchanged_at q o d e = ap (λ o. lift_within q (whole o)) e ∙ ap (λ y. one y (replace d)) (append-nil q)
-
-stays_at : (q : List TreeStep) (o : Option Data) (t : Data) → o ≡ None → applied (lift_within q (whole o)) t ≡ t
-stays_at q o t e = ap (λ o. applied (lift_within q (whole o)) t) e
 
 -- a change that replaces the whole item
 whole_change : (c : LastChange) (x u : Data) → is_whole c ≡ true → located c (Some x) (Some u) ≡ whole (Some u)
@@ -130,7 +127,3 @@ module _ (rows : List Row) (is_key : ℕ → List ℕ → Bool) (edit : PartEdit
       let same : located change (Some is.some) (Some told.made) ≡ located change is.part (Some told.made) =
       ap (located change (Some is.some)) (sym told.made_is) ∙ sym is.of_some ∙ is.of_part ∙ ap (located change is.part) told.made_is in
       block_answers rows is_key edit w p path t u _ r (ap spell (told.is ∙ ap (λ e. applied (lift_within (all_steps steps) e) t) same)) (made (Some told.made))
-
-  -- none has such a number
-  pub stays : (n : ℕ) → length steps ≤ n → Told (Some n) → u ≡ t
-  stays n far told = told.is ∙ stays_at (all_steps (take n steps)) _ t (ap (option_and_then (λ w. w)) (none_past steps becoming n told.there far))

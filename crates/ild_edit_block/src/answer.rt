@@ -99,15 +99,7 @@ pub(crate) fn told<'b>(
     // It does no work: its clause says that there is an item at the end of the steps.
     steps_stand();
     match replaced(steps, change.touch()) {
-        Some(holder) => {
-            if holder < steps.len() {
-                Ok(whole(root, steps, holder))
-            } else {
-                // None has such a number; nothing would change then.
-                let itself = *root;
-                block(replace(alloc, root, &itself))
-            }
-        }
+        Some(holder) => Ok(whole(root, steps, holder)),
         None => {
             if is_whole(change) {
                 Ok(whole(root, steps, steps.len()))

@@ -1,5 +1,5 @@
 //! Which holder is replaced.
-ghost use Rattle.std.specs.Prelude.{◌≡◌, List, Option, false};
+ghost use Rattle.std.specs.Prelude.{◌≡◌, ◌<◌, IfSome, List, Option, false, length};
 ghost use Rattle.ild_change.specs.TreeChange.{Located};
 ghost use Rattle.ild_data.specs.Data.{Data};
 ghost use Rattle.ild_seen.specs.Seen.{AreThere, has_whole, seen_at, steps_before, top_of, touched};
@@ -12,6 +12,7 @@ use ild_steps::PartSteps;
 /// steps lead.
 pub fn replaced<'a>(steps: &[PartSteps<'a>], last: Touch<'a>) -> Option<usize>
     ensures seen { (ws : List (Option Data)) (e : Located) → AreThere steps.now ws → top_of e ≡ touched last.entry → carried_along steps.now ws e ≡ seen_at steps.now ws e result }
+    ensures within { IfSome result (λ k. k < length steps.now) }
     ensures before { has_whole (steps_before steps.now result) ≡ false }
 {
     let mut touch = last;

@@ -1,26 +1,17 @@
-use Rattle.std.proofs.Common.{◌≤◌, [], Some, None, length, ap, sym, ◌∙◌, arith}
+use Rattle.std.proofs.Common.{Some, None, length, ap, sym, ◌∙◌, arith}
 use Rattle.std.proofs.lemmas.List.{take_all}
 use Rattle.ild_change.specs.TreeChange.{part_at}
-use Rattle.ild_data.specs.Spell.{spell}
 use Rattle.ild_seen.specs.Seen.{all_steps}
-use Rattle.ild_edit_block.proofs.Replacing.{block_answers, holder_before, holder_last, in_last_item, stays, told_by}
+use Rattle.ild_edit_block.proofs.Replacing.{holder_before, holder_last, in_last_item, told_by}
 use Rattle.ild_edit_block.proofs.answer.told.Goals as goal
 
-pub returns-then-holder-steps : goal.returns-then-holder-steps
-returns-then-holder-steps c = λ rows is_key edit w p path t u at ready.
+pub returns-in-Some : goal.returns-in-Some
+returns-in-Some c = λ rows is_key edit w p path t u at ready.
     let steps = c.args.steps.now in
     let n = c.in-Some.holder in
     let told = told_by rows is_key edit w p path t u steps c.args.change.now c.args.new ready c.touch.result (Some n) c.in-Some.ensures.seen c.touch.ensures in
     let old = c.steps_stand.ensures rows p ready.first ready.others steps t (Some n) ready.lead ready.was c.in-Some.ensures.before in
-    holder_before rows is_key edit w p path t u steps c.args.change.now c.args.new ready n c.if-holder-steps.true told old.0 c.whole.result (c.whole.ensures t old.0 at old.1)
-
-pub returns-else-holder-steps : goal.returns-else-holder-steps
-returns-else-holder-steps c = λ rows is_key edit w p path t u at ready.
-    let steps = c.args.steps.now in
-    let n = c.in-Some.holder in
-    let told = told_by rows is_key edit w p path t u steps c.args.change.now c.args.new ready c.touch.result (Some n) c.in-Some.ensures.seen c.touch.ensures in
-    let far : length steps ≤ n = omega (arith, c.if-holder-steps.false) in
-    block_answers rows is_key edit w p path t u (spell t) c.block.result (ap spell (stays rows is_key edit w p path t u steps c.args.change.now c.args.new ready n far told)) (c.block.ensures (spell t) ((c.replace.ensures t at.stands).makes t t [] at))
+    holder_before rows is_key edit w p path t u steps c.args.change.now c.args.new ready n c.in-Some.ensures.within told old.0 c.whole.result (c.whole.ensures t old.0 at old.1)
 
 pub returns-then-is_whole : goal.returns-then-is_whole
 returns-then-is_whole c = λ rows is_key edit w p path t u at ready.
