@@ -1,6 +1,7 @@
 pub mod Data
 pub mod DataCode
 pub mod Integer
+pub mod IntegerSeen
 pub mod Key
 pub mod Varint
 pub mod Bytes

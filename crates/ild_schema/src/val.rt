@@ -1,5 +1,5 @@
 //! Values of a schema's types.
-ghost use Rattle.std.specs.Prelude.{option_map, slice_get, ◌≡◌, ◌++◌, ◌∷◌, [], length, OnOk, OnErr, IfOk};
+ghost use Rattle.std.specs.Prelude.{map, option_map, slice_get, ◌≡◌, ◌++◌, ◌∷◌, [], length, OnOk, OnErr, IfOk};
 
 use ild_data::{Cid, Int, Octets, Tree, Txt};
 use std::alloc::{AllocError, Global};
@@ -173,6 +173,20 @@ impl Vals {
         self.items.len()
     }
 
+    /// The list of these elements, which are taken over.
+    pub fn from_vec(items: Vec<Val>) -> Vals
+        ensures { values_list result ≡ map value_of items.items }
+    {
+        Vals { items }
+    }
+
+    /// The elements, without a copy.
+    pub fn into_vec(self) -> Vec<Val>
+        ensures { map value_of result.items ≡ values_list self }
+    {
+        self.items
+    }
+
     /// The element at a place, or `None` past the last.
     pub fn get(&self, i: usize) -> Option<&Val>
         ensures { option_map (λ v. value_of v.now) result ≡ slice_get (values_list self.now) i }
@@ -225,6 +239,20 @@ impl ValPairs {
         self.pairs.len()
     }
 
+    /// The map of these entries, which are taken over.
+    pub fn from_vec(pairs: Vec<(Txt, Val)>) -> ValPairs
+        ensures { pairs_list result ≡ map pair_of pairs.items }
+    {
+        ValPairs { pairs }
+    }
+
+    /// The entries, without a copy.
+    pub fn into_vec(self) -> Vec<(Txt, Val)>
+        ensures { map pair_of result.items ≡ pairs_list self }
+    {
+        self.pairs
+    }
+
     /// The entry at a place, or `None` past the last.
     pub fn get(&self, i: usize) -> Option<&(Txt, Val)>
         ensures { option_map (λ p. pair_of p.now) result ≡ slice_get (pairs_list self.now) i }
@@ -267,6 +295,20 @@ impl ValFields {
         self.fields.len()
     }
 
+    /// The struct of these fields, which are taken over.
+    pub fn from_vec(fields: Vec<Option<Val>>) -> ValFields
+        ensures { optionals_list result ≡ map optional_of fields.items }
+    {
+        ValFields { fields }
+    }
+
+    /// The fields, without a copy.
+    pub fn into_vec(self) -> Vec<Option<Val>>
+        ensures { map optional_of result.items ≡ optionals_list self }
+    {
+        self.fields
+    }
+
     /// The field at a place, or `None` past the last.
     pub fn get(&self, i: usize) -> Option<&Option<Val>>
         ensures { option_map (λ o. optional_of o.now) result ≡ slice_get (optionals_list self.now) i }
@@ -296,5 +338,12 @@ impl ValPart {
         ensures { value_of result.now ≡ self.now }
     {
         &self.val
+    }
+
+    /// The value, without a copy.
+    pub fn into_val(self) -> Val
+        ensures { value_of result ≡ self }
+    {
+        Box::into_inner(self.val)
     }
 }
