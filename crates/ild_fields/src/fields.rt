@@ -225,8 +225,8 @@ fn is_scalar(scalar: &Scalar, value: &Piece<'_>) -> bool
     }
 }
 
-// Whether the data are those of the value that stands for a field where it is left out.
-fn is_implicit(field: &Field, value: &Piece<'_>) -> bool
+/// Whether the data are those of the value that stands for a field where it is left out (IPLD Schemas, "implicit").
+pub fn is_implicit(field: &Field, value: &Piece<'_>) -> bool
     ensures { (rows : List Row) (t : Data) → StandsFor rows value.now t → result ≡ is_implicit field.now.implicit t }
 {
     match &field.implicit {

@@ -3,50 +3,17 @@ ghost use Rattle.std.specs.Prelude.{◌≡◌, ◌<◌, ◌≤◌, List, Option,
 ghost use Rattle.ild_data.specs.Data.{Data};
 ghost use Rattle.ild_piece.specs.Pieces.{StandsFor};
 ghost use Rattle.ild_places.specs.Places.{steps_of};
-ghost use Rattle.ild_schema.specs.Marks.{field_text};
 ghost use Rattle.ild_schema.specs.declared.row.Row.{Row};
 ghost use Rattle.ild_struct.specs.Parts.{IsPart};
-ghost use Rattle.ild_typed.specs.Fields.{is_implicit, is_scalar};
 ghost use Rattle.ild_typed.specs.Spots.{Spot, field_steps};
 ghost use Rattle.ild_parts.specs.Fields.{HasFields, count_there, is_there, written_in};
 ghost use Rattle.ild_parts.specs.Ways.{LeadsWay};
 
 use crate::fields::Fields;
-use ild_cbor::Piece;
-use ild_piece::{boolean, int, text};
+use ild_fields::{is_implicit, text_of_field};
 use ild_places::Way;
-use ild_schema::{Field, Scalar, StructForm};
+use ild_schema::{Field, StructForm};
 use ild_struct::Part as Held;
-
-// Whether the data are those of a scalar.
-fn is_scalar(scalar: &Scalar, value: &Piece<'_>) -> bool
-    ensures { (rows : List Row) (t : Data) → StandsFor rows value.now t → result ≡ is_scalar scalar.now t }
-{
-    match scalar {
-        Scalar::Bool(wanted) => match boolean(value) {
-            Some(found) => *wanted == found,
-            None => false,
-        },
-        Scalar::Int(wanted) => match int(value) {
-            Some(found) => wanted.get() == found.get(),
-            None => false,
-        },
-        Scalar::Text(wanted) => match text(value) {
-            Some(found) => wanted.as_str() == found,
-            None => false,
-        },
-    }
-}
-
-// Whether the data are those of the value that stands for a field where it is left out.
-fn is_implicit(field: &Field, value: &Piece<'_>) -> bool
-    ensures { (rows : List Row) (t : Data) → StandsFor rows value.now t → result ≡ is_implicit field.now.implicit t }
-{
-    match &field.implicit {
-        Some(scalar) => is_scalar(scalar, value),
-        None => false,
-    }
-}
 
 // Whether a field stands in the data.
 fn is_written(field: &Field, held: &Held<'_>) -> bool
@@ -68,22 +35,12 @@ fn count(field: &Field, held: &Held<'_>) -> usize
     if is_written(field, held) { 1 } else { 0 }
 }
 
-// The name of a field in a block.
-fn text_of(field: &Field) -> &str
-    ensures { result.now ≡ field_text field.now }
-{
-    match &field.rename {
-        Some(rename) => rename.as_str(),
-        None => field.name.as_str(),
-    }
-}
-
 // Where a field that is written stands, behind so many.
 fn way_in<'b>(form: &StructForm, field: &'b Field, before: u64) -> Way<'b>
     ensures { steps_of result ≡ field_steps form.now field.now before }
 {
     match form {
-        StructForm::Map => Way::Under(text_of(field)),
+        StructForm::Map => Way::Under(text_of_field(field)),
         StructForm::Tuple => Way::Item(before),
         StructForm::ListPairs => Way::Within(before, 1),
         StructForm::StringPairs(_, _) | StructForm::StringJoin(_) => Way::Here,

@@ -22,8 +22,8 @@ impl<'b> View<'b> {
     ghost use Rattle.ild_view.specs.Reaches.{Reaches};
     ghost use Rattle.ild_view.specs.View.{IsView, slot_of, table_of};
 
-    // The part to which a segment leads: a field, an entry, the member, an element.
-    fn next(&self, segment: &str) -> Option<View<'b>>
+    /// The part to which a segment leads: a field, an entry, the member, an element; `None` where it leads to none, or into a HAMT.
+    pub fn part(&self, segment: &str) -> Option<View<'b>>
         ensures { (f : Value) → IsView self.now f → HandsOut (table_of self.now) (part (seen (table_of self.now) (slot_of self.now, f)) segment.now) result }
     {
         if let Some(view) = self.field(segment) {
@@ -67,7 +67,7 @@ impl<'b> View<'b> {
         let mut view = *self;
         let mut k = from;
         while k < segments.len() {
-            match view.next(segments[k].as_str()) {
+            match view.part(segments[k].as_str()) {
                 Some(part) => {
                     view = part;
                 }

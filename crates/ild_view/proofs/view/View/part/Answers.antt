@@ -1,7 +1,7 @@
 use Rattle.ild_typed.specs.At.{seen}
 use Rattle.ild_view.proofs.Parting.{any_there}
 use Rattle.ild_view.proofs.Reaching.{element_far, part_none}
-use Rattle.ild_view.proofs.view.View.next.Goals as goal
+use Rattle.ild_view.proofs.view.View.part.Goals as goal
 
 pub returns-in-None : goal.returns-in-None
 returns-in-None c = λ f v.
