@@ -1,4 +1,4 @@
-mod Finding
+mod Held
 mod Carrying
 mod Edits
 mod Editing

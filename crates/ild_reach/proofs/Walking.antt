@@ -14,7 +14,7 @@ use Rattle.ild_typed.specs.At.{InSlot, seen}
 use Rattle.ild_typed.specs.Hamt.{alone}
 use Rattle.ild_typed.specs.Represented.{represented}
 use Rattle.ild_typed.specs.Segment.{part}
-use Rattle.ild_view.specs.Parts.{IsPartView}
+use Rattle.ild_view.specs.Parts.{HandsOut, IsPartView}
 use Rattle.ild_view.specs.View.{IsView, slot_of, table_of}
 use Rattle.ild_view.specs.declared.view.View.{View}
 use Rattle.ild_reach.specs.Along.{LeadAlong, StepsIn, holder_at, is_holder}
@@ -69,6 +69,12 @@ passed rows q l t (u ∷ us) at holds = let x = chained (λ r. holder_at rows r 
 some_there : {A : Type 0} (P : A → Type 0) (x : A) → IsSomeAnd (Some x) P → P x
 some_there P x h = h
 
+handed : (rows : List Row) (o : Option InSlot) (q : InSlot) (r : Option View) → o ≡ Some q → HandsOut rows o r → IsSomeAnd r (IsPartView rows q)
+handed rows o q r e h = by r (subst (λ p. HandsOut rows p r) e h) where
+  by : (r : Option View) → HandsOut rows (Some q) r → IsSomeAnd r (IsPartView rows q)
+  by None h = absurd h
+  by (Some v) h = h
+
 -- the data of a part, of which there is a view
 abbrev data_of_view : (rows : List Row) (q : InSlot) (v : View) → IsPartView rows q v → (d : Data) × (represented alone rows q.0 q.1 ≡ Some d)
 data_of_view rows q v h = (h.view.tree, subst (λ u. represented alone rows u q.1 ≡ Some h.view.tree) h.slot (subst (λ rs. represented alone rs (slot_of v) q.1 ≡ Some h.view.tree) h.table h.view.front.tree))
@@ -97,7 +103,7 @@ module _ (rows : List Row) (legible : IsLegible rows) (p l : InSlot) (s : List �
           record { segment = t; more = ts; rest_is = is; part_is = y.0; there = ap (part (seen rows w.to)) name_is ∙ y.1; leads = y.2 }
 
     abbrev pub PartClause : Option View → Type 0
-    PartClause r = (f : Value) (q : InSlot) → IsView v f → part (seen (table_of v) (slot_of v, f)) x ≡ Some q → IsSomeAnd r (IsPartView (table_of v) q)
+    PartClause r = (f : Value) → IsView v f → HandsOut (table_of v) (part (seen (table_of v) (slot_of v, f)) x) r
 
     abbrev pub StepsClause : Option PartSteps → Type 0
     StepsClause r =
@@ -107,7 +113,7 @@ module _ (rows : List Row) (legible : IsLegible rows) (p l : InSlot) (s : List �
     pub part_there : (r : Option View) → PartClause r → IsSomeAnd r (IsPartView rows (next).part_is)
     part_there r all =
         subst (λ u. part (seen rows (u, w.to.1)) x ≡ Some (next).part_is → IsSomeAnd r (IsPartView rows (next).part_is)) w.view.slot
-        (subst (λ rs. part (seen rs (slot_of v, w.to.1)) x ≡ Some (next).part_is → IsSomeAnd r (IsPartView rs (next).part_is)) w.view.table (λ e. all w.to.1 (next).part_is w.view.view e))
+        (subst (λ rs. part (seen rs (slot_of v, w.to.1)) x ≡ Some (next).part_is → IsSomeAnd r (IsPartView rs (next).part_is)) w.view.table (λ e. handed (table_of v) _ (next).part_is r e (all w.to.1 w.view.view)))
         (next).there
 
     pub no_view : PartClause None → ⊥

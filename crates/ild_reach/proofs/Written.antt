@@ -38,7 +38,7 @@ use Rattle.ild_view.specs.declared.body.Body.{Body}
 use Rattle.ild_view.specs.declared.body.Body.TheVariants as B
 use Rattle.ild_view.specs.declared.view.View.{View}
 use Rattle.ild_reach.specs.Along.{is_holder}
-use Rattle.ild_reach.proofs.Finding.{is_held}
+use Rattle.ild_reach.proofs.Held.{is_held}
 
 -- the types that implicit values have
 abbrev is_plain : TypeDef → Bool

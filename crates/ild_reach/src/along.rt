@@ -6,7 +6,6 @@ ghost use Rattle.ild_schema.specs.Value.{Value};
 ghost use Rattle.ild_typed.specs.At.{InSlot, seen};
 ghost use Rattle.ild_view.specs.View.{IsView, slot_of, table_of};
 
-use crate::next::part_of;
 use crate::part::part_steps;
 use ild_data::Path;
 use ild_steps::PartSteps;
@@ -38,7 +37,7 @@ pub fn last_holder<'a>(
     let mut k = 1;
     while k < segments.len() {
         let segment = segments[k - 1].as_str();
-        let Some(part) = part_of(&view, segment) else {
+        let Some(part) = view.part(segment) else {
             return Ok(None);
         };
         let Some(next) = part_steps(&view, segment) else {

@@ -3,7 +3,6 @@
 
 mod along;
 mod laws;
-mod next;
 mod part;
 
 pub use along::{LastHolder, last_holder, steps_along};
