@@ -56,7 +56,7 @@ impl<'b> View<'b> {
         }
         match element_slot(self.def()) {
             Some(slot) => match Body::of(self.body.item(i)) {
-                Some(body) => Some(self.part(slot, body)),
+                Some(body) => Some(self.placed(slot, body)),
                 None => None,
             },
             None => None,

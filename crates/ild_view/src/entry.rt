@@ -27,11 +27,11 @@ impl<'b> View<'b> {
         };
         match self.def() {
             TypeDef::Map { value, form, .. } => match form_entry(self.acc, form, &piece, key) {
-                Some(part) => Some(self.part(*value, Body::Held(part))),
+                Some(part) => Some(self.placed(*value, Body::Held(part))),
                 None => None,
             },
             TypeDef::Any => match map_entry(self.acc, &piece, key) {
-                Some(part) => Some(self.part(ANYTHING, Body::Held(part))),
+                Some(part) => Some(self.placed(ANYTHING, Body::Held(part))),
                 None => None,
             },
             _ => None,

@@ -67,7 +67,7 @@ impl<'b> View<'b> {
                         Ok(parts) => {
                             let field = &def.fields.as_slice()[number];
                             match body_of(field, parts.field(number)) {
-                                Some(body) => Some(self.part(field.slot, body)),
+                                Some(body) => Some(self.placed(field.slot, body)),
                                 None => None,
                             }
                         }

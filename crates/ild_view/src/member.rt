@@ -30,7 +30,7 @@ impl<'b> View<'b> {
                             ty: member.ty,
                             nullable: false,
                         };
-                        let view = self.part(slot, Body::Held(part));
+                        let view = self.placed(slot, Body::Held(part));
                         Some((member.name.as_str(), view))
                     }
                     Err(_) => None,

@@ -12,7 +12,7 @@ impl<'b> View<'b> {
     ghost use Rattle.ild_view.specs.View.{body_of, slot_of, table_of};
 
     // The view of what stands for a part, in the slot of the part.
-    pub(crate) fn part(&self, slot: Slot, body: Body<'b>) -> View<'b>
+    pub(crate) fn placed(&self, slot: Slot, body: Body<'b>) -> View<'b>
         requires within { slot.ty.0 < length (table_of self.now) }
         requires safe { is_safe (table_of self.now) slot ≡ true }
         requires numbered { body_types body ≤ length (table_of self.now) }

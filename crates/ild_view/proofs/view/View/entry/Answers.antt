@@ -21,20 +21,20 @@ pub form_entry-requires-clause-delims : goal.form_entry-requires-clause-delims
 form_entry-requires-clause-delims c =
     map_delims c.args.self.now.acc.now c.types-types.ensures.legible c.args.self.now.slot c.in-Map.key c.in-Map.key_at c.in-Map.value c.in-Map.at c.in-Map.form (c.def.ensures.same ∙ ap Some c.in-Map.is)
 
-pub part-requires-clause-safe : goal.part-requires-clause-safe
-part-requires-clause-safe c =
+pub placed-requires-clause-safe : goal.placed-requires-clause-safe
+placed-requires-clause-safe c =
     value_is_safe c.args.self.now.acc.now c.types-types.ensures.table c.types-types.ensures.legible c.args.self.now.slot c.in-Map.key c.in-Map.key_at c.in-Map.value c.in-Map.at c.in-Map.form (c.def.ensures.same ∙ ap Some c.in-Map.is)
 
-pub part-requires-clause-front : goal.part-requires-clause-front
-part-requires-clause-front c = ∥∥₁_map c.args.self.now.stands (λ h.
+pub placed-requires-clause-front : goal.placed-requires-clause-front
+placed-requires-clause-front c = ∥∥₁_map c.args.self.now.stands (λ h.
     let s = c.args.self.now in
     let some = sym (c.is_null_there.ensures h.tree h.stands) ∙ c.if-is_null_there.false in
     let stands = subst (λ (b : Body). BodyStands s.acc.now b h.tree) c.in-Held.is h.stands in
     let x = entry_there s.acc.now c.types-types.ensures.legible s.slot s.safe h.room h.value h.tree h.front some c.in-Map.key c.in-Map.key_at c.in-Map.value c.in-Map.at c.in-Map.form (c.def.ensures.same ∙ ap Some c.in-Map.is) c.args.key.now in
     has_front s.acc.now c.in-Map.value (value_at c.args.key.now x.entries) (entry_at (seen s.acc.now (s.slot, h.value)) c.args.key.now) (B.Held c.in-Some.part) (held_embodied s.acc.now (value_at c.args.key.now x.entries) (Some c.in-Some.part) (c.in-Some.ensures.found h.tree x.entries stands x.shows)) x.beside)
 
-pub part-requires-in-Some-map_entry-clause-front : goal.part-requires-in-Some-map_entry-clause-front
-part-requires-in-Some-map_entry-clause-front c = ∥∥₁_map c.args.self.now.stands (λ h.
+pub placed-requires-in-Some-map_entry-clause-front : goal.placed-requires-in-Some-map_entry-clause-front
+placed-requires-in-Some-map_entry-clause-front c = ∥∥₁_map c.args.self.now.stands (λ h.
     let s = c.args.self.now in
     let some = sym (c.is_null_there.ensures h.tree h.stands) ∙ c.if-is_null_there.false in
     let stands = subst (λ (b : Body). BodyStands s.acc.now b h.tree) c.in-Held.is h.stands in
@@ -47,8 +47,8 @@ returns-in-Some c = λ f v.
     let some = sym (c.is_null_there.ensures v.tree v.stands) ∙ c.if-is_null_there.false in
     let stands = subst (λ (b : Body). BodyStands s.acc.now b v.tree) c.in-Held.is v.stands in
     let x = entry_there s.acc.now c.types-types.ensures.legible s.slot s.safe v.room f v.tree v.front some c.in-Map.key c.in-Map.key_at c.in-Map.value c.in-Map.at c.in-Map.form (c.def.ensures.same ∙ ap Some c.in-Map.is) c.args.key.now in
-    hands_out s.acc.now c.in-Map.value (value_at c.args.key.now x.entries) (entry_at (seen s.acc.now (s.slot, f)) c.args.key.now) (B.Held c.in-Some.part) c.part.result (held_embodied s.acc.now (value_at c.args.key.now x.entries) (Some c.in-Some.part) (c.in-Some.ensures.found v.tree x.entries stands x.shows)) x.beside
-    c.part.ensures.table c.part.ensures.slot c.part.ensures.body
+    hands_out s.acc.now c.in-Map.value (value_at c.args.key.now x.entries) (entry_at (seen s.acc.now (s.slot, f)) c.args.key.now) (B.Held c.in-Some.part) c.placed.result (held_embodied s.acc.now (value_at c.args.key.now x.entries) (Some c.in-Some.part) (c.in-Some.ensures.found v.tree x.entries stands x.shows)) x.beside
+    c.placed.ensures.table c.placed.ensures.slot c.placed.ensures.body
 
 pub returns-in-None : goal.returns-in-None
 returns-in-None c = λ f v.
@@ -63,10 +63,10 @@ returns-in-Some-map_entry c = λ f v.
     let s = c.args.self.now in
     let some = sym (c.is_null_there.ensures v.tree v.stands) ∙ c.if-is_null_there.false in
     let stands = subst (λ (b : Body). BodyStands s.acc.now b v.tree) c.in-Held.is v.stands in
-    hands_out s.acc.now anything (option_and_then (value_at c.args.key.now) (members_in v.tree)) (entry_at (seen s.acc.now (s.slot, f)) c.args.key.now) (B.Held c.in-Some-map_entry.part) c.part-in-Some-map_entry.result
+    hands_out s.acc.now anything (option_and_then (value_at c.args.key.now) (members_in v.tree)) (entry_at (seen s.acc.now (s.slot, f)) c.args.key.now) (B.Held c.in-Some-map_entry.part) c.placed-in-Some-map_entry.result
     (held_embodied s.acc.now (option_and_then (value_at c.args.key.now) (members_in v.tree)) (Some c.in-Some-map_entry.part) (c.in-Some-map_entry.ensures.found v.tree stands))
     (any_entry_there s.acc.now c.types-types.ensures.legible.clear s.slot s.safe v.room f v.tree v.front some (any_there s.acc.now c.types-types.ensures.table.prelude_first) (c.def.ensures.same ∙ ap Some c.in-Any.is) c.args.key.now)
-    c.part-in-Some-map_entry.ensures.table c.part-in-Some-map_entry.ensures.slot c.part-in-Some-map_entry.ensures.body
+    c.placed-in-Some-map_entry.ensures.table c.placed-in-Some-map_entry.ensures.slot c.placed-in-Some-map_entry.ensures.body
 
 pub form_entry-requires-clause-numbered : goal.form_entry-requires-clause-numbered
 form_entry-requires-clause-numbered c = own_numbered c.args.self.now.acc.now c.args.self.now.body c.in-Held.piece c.in-Held.is c.args.self.now.numbered
@@ -74,27 +74,27 @@ form_entry-requires-clause-numbered c = own_numbered c.args.self.now.acc.now c.a
 pub map_entry-requires : goal.map_entry-requires
 map_entry-requires c = own_numbered c.args.self.now.acc.now c.args.self.now.body c.in-Held.piece c.in-Held.is c.args.self.now.numbered
 
-pub part-requires-clause-within : goal.part-requires-clause-within
-part-requires-clause-within c =
+pub placed-requires-clause-within : goal.placed-requires-clause-within
+placed-requires-clause-within c =
     value_in (length c.args.self.now.acc.now) c.def.result.now c.in-Map.key c.in-Map.key_at c.in-Map.value c.in-Map.at c.in-Map.form c.in-Map.is c.def.ensures.within
 
-pub part-requires-clause-numbered : goal.part-requires-clause-numbered
-part-requires-clause-numbered c = part_numbered (length c.args.self.now.acc.now) c.in-Some.part c.in-Some.ensures.free
+pub placed-requires-clause-numbered : goal.placed-requires-clause-numbered
+placed-requires-clause-numbered c = part_numbered (length c.args.self.now.acc.now) c.in-Some.part c.in-Some.ensures.free
 
-pub part-requires-clause-placed : goal.part-requires-clause-placed
-part-requires-clause-placed c = part_placed c.args.self.now.acc.now c.in-Map.value c.in-Some.part c.in-Some.ensures.free
+pub placed-requires-clause-placed : goal.placed-requires-clause-placed
+placed-requires-clause-placed c = part_placed c.args.self.now.acc.now c.in-Map.value c.in-Some.part c.in-Some.ensures.free
 
-pub part-requires-in-Some-map_entry-clause-within : goal.part-requires-in-Some-map_entry-clause-within
-part-requires-in-Some-map_entry-clause-within c = any_low c.args.self.now.acc.now c.types-types.ensures.table.prelude_first
+pub placed-requires-in-Some-map_entry-clause-within : goal.placed-requires-in-Some-map_entry-clause-within
+placed-requires-in-Some-map_entry-clause-within c = any_low c.args.self.now.acc.now c.types-types.ensures.table.prelude_first
 
-pub part-requires-in-Some-map_entry-clause-safe : goal.part-requires-in-Some-map_entry-clause-safe
-part-requires-in-Some-map_entry-clause-safe c = anything_safe c.args.self.now.acc.now c.types-types.ensures.table c.types-types.ensures.legible c.args.self.now.slot
+pub placed-requires-in-Some-map_entry-clause-safe : goal.placed-requires-in-Some-map_entry-clause-safe
+placed-requires-in-Some-map_entry-clause-safe c = anything_safe c.args.self.now.acc.now c.types-types.ensures.table c.types-types.ensures.legible c.args.self.now.slot
 
-pub part-requires-in-Some-map_entry-clause-numbered : goal.part-requires-in-Some-map_entry-clause-numbered
-part-requires-in-Some-map_entry-clause-numbered c = part_numbered (length c.args.self.now.acc.now) c.in-Some-map_entry.part c.in-Some-map_entry.ensures.free
+pub placed-requires-in-Some-map_entry-clause-numbered : goal.placed-requires-in-Some-map_entry-clause-numbered
+placed-requires-in-Some-map_entry-clause-numbered c = part_numbered (length c.args.self.now.acc.now) c.in-Some-map_entry.part c.in-Some-map_entry.ensures.free
 
-pub part-requires-in-Some-map_entry-clause-placed : goal.part-requires-in-Some-map_entry-clause-placed
-part-requires-in-Some-map_entry-clause-placed c = part_placed c.args.self.now.acc.now anything c.in-Some-map_entry.part c.in-Some-map_entry.ensures.free
+pub placed-requires-in-Some-map_entry-clause-placed : goal.placed-requires-in-Some-map_entry-clause-placed
+placed-requires-in-Some-map_entry-clause-placed c = part_placed c.args.self.now.acc.now anything c.in-Some-map_entry.part c.in-Some-map_entry.ensures.free
 
 pub returns-then-is_null_there : goal.returns-then-is_null_there
 returns-then-is_null_there c = λ f v.

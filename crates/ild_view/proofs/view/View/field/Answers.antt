@@ -19,34 +19,34 @@ use Rattle.ild_view.specs.Parts.{field_named}
 use Rattle.ild_view.specs.declared.body.Body.{Body}
 use Rattle.ild_view.proofs.view.View.field.Goals as goal
 
-pub part-requires-clause-within : goal.part-requires-clause-within
-part-requires-clause-within c =
+pub placed-requires-clause-within : goal.placed-requires-clause-within
+placed-requires-clause-within c =
     let form : form_of c.args.self.now.acc.now c.args.self.now.slot ≡ Some (D.Struct c.in-Some.def.now) = c.def.ensures.same ∙ ap Some (struct_is c.def.result.now c.in-Some.def.now c.in-Some.ensures) in
     let at : slice_get c.in-Some.def.now.fields c.in-Some-number_of.number ≡ Some c.index-as_slice-number.result =
     field_indexed c.args.self.now.acc.now c.args.self.now.slot c.in-Some.def.now form c.base.result.0 c.in-Some-number_of.number c.base.ensures.same c.in-Some-number_of.ensures.within c.as_slice.result.now c.as_slice.ensures c.index-as_slice-number.result c.index-as_slice-number.is in
     field_in c.args.self.now.acc.now c.types-types.ensures.legible c.args.self.now.slot c.in-Some.def.now form c.in-Some-number_of.number c.index-as_slice-number.result at
     (subst (λ (d : TypeDef). IsWithin (length c.args.self.now.acc.now) d) (struct_is c.def.result.now c.in-Some.def.now c.in-Some.ensures) c.def.ensures.within)
 
-pub part-requires-clause-safe : goal.part-requires-clause-safe
-part-requires-clause-safe c =
+pub placed-requires-clause-safe : goal.placed-requires-clause-safe
+placed-requires-clause-safe c =
     let form : form_of c.args.self.now.acc.now c.args.self.now.slot ≡ Some (D.Struct c.in-Some.def.now) = c.def.ensures.same ∙ ap Some (struct_is c.def.result.now c.in-Some.def.now c.in-Some.ensures) in
     let at : slice_get c.in-Some.def.now.fields c.in-Some-number_of.number ≡ Some c.index-as_slice-number.result =
     field_indexed c.args.self.now.acc.now c.args.self.now.slot c.in-Some.def.now form c.base.result.0 c.in-Some-number_of.number c.base.ensures.same c.in-Some-number_of.ensures.within c.as_slice.result.now c.as_slice.ensures c.index-as_slice-number.result c.index-as_slice-number.is in
     field_is_safe c.args.self.now.acc.now c.types-types.ensures.legible c.args.self.now.slot c.in-Some.def.now form c.in-Some-number_of.number c.index-as_slice-number.result at
 
-pub part-requires-clause-numbered : goal.part-requires-clause-numbered
-part-requires-clause-numbered c = let e = c.in-Some-body_of.ensures.free (c.field.ensures.numbered []) in omega (arith, e)
+pub placed-requires-clause-numbered : goal.placed-requires-clause-numbered
+placed-requires-clause-numbered c = let e = c.in-Some-body_of.ensures.free (c.field.ensures.numbered []) in omega (arith, e)
 
-pub part-requires-clause-placed : goal.part-requires-clause-placed
-part-requires-clause-placed c =
+pub placed-requires-clause-placed : goal.placed-requires-clause-placed
+placed-requires-clause-placed c =
     let form : form_of c.args.self.now.acc.now c.args.self.now.slot ≡ Some (D.Struct c.in-Some.def.now) = c.def.ensures.same ∙ ap Some (struct_is c.def.result.now c.in-Some.def.now c.in-Some.ensures) in
     let at : slice_get c.in-Some.def.now.fields c.in-Some-number_of.number ≡ Some c.index-as_slice-number.result =
     field_indexed c.args.self.now.acc.now c.args.self.now.slot c.in-Some.def.now form c.base.result.0 c.in-Some-number_of.number c.base.ensures.same c.in-Some-number_of.ensures.within c.as_slice.result.now c.as_slice.ensures c.index-as_slice-number.result c.index-as_slice-number.is in
     c.in-Some-body_of.ensures.placed (c.field.ensures.numbered []) c.args.self.now.acc.now
     (field_implicit c.args.self.now.acc.now c.types-types.ensures.legible c.args.self.now.slot c.in-Some.def.now form c.in-Some-number_of.number c.index-as_slice-number.result at)
 
-pub part-requires-clause-front : goal.part-requires-clause-front
-part-requires-clause-front c =
+pub placed-requires-clause-front : goal.placed-requires-clause-front
+placed-requires-clause-front c =
     let form : form_of c.args.self.now.acc.now c.args.self.now.slot ≡ Some (D.Struct c.in-Some.def.now) = c.def.ensures.same ∙ ap Some (struct_is c.def.result.now c.in-Some.def.now c.in-Some.ensures) in
     let at : slice_get c.in-Some.def.now.fields c.in-Some-number_of.number ≡ Some c.index-as_slice-number.result =
     field_indexed c.args.self.now.acc.now c.args.self.now.slot c.in-Some.def.now form c.base.result.0 c.in-Some-number_of.number c.base.ensures.same c.in-Some-number_of.ensures.within c.as_slice.result.now c.as_slice.ensures c.index-as_slice-number.result c.index-as_slice-number.is in
@@ -73,8 +73,8 @@ returns-in-Some-body_of c = λ f v.
     let own = c.in-Ok.ensures.fields c.in-Some.def.now form in
     let x = field_found s.acc.now c.types-types.ensures.legible s.slot s.safe v.room f v.tree v.front some c.in-Some.def.now form c.args.name.now c.base.result.0 c.in-Some-number_of.number c.base.ensures.same
     c.in-Some-number_of.ensures.same c.index-as_slice-number.result at c.in-Ok.parts parts own c.field.result (c.field.ensures.part s.acc.now s.slot.ty.0 v.tree parts.0 parts.1) in
-    hands_out s.acc.now c.index-as_slice-number.result.slot x.held (field_named (seen s.acc.now (s.slot, f)) c.args.name.now) c.in-Some-body_of.body c.part.result
-    (c.in-Some-body_of.ensures.embodies s.acc.now x.held x.is) x.beside c.part.ensures.table c.part.ensures.slot c.part.ensures.body
+    hands_out s.acc.now c.index-as_slice-number.result.slot x.held (field_named (seen s.acc.now (s.slot, f)) c.args.name.now) c.in-Some-body_of.body c.placed.result
+    (c.in-Some-body_of.ensures.embodies s.acc.now x.held x.is) x.beside c.placed.ensures.table c.placed.ensures.slot c.placed.ensures.body
 
 pub returns-in-None-body_of : goal.returns-in-None-body_of
 returns-in-None-body_of c = λ f v.

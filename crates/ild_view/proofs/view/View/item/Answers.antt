@@ -10,18 +10,18 @@ use Rattle.ild_view.proofs.Placing.{element_in, element_is_safe, free_numbered, 
 use Rattle.ild_view.specs.Parts.{element_at}
 use Rattle.ild_view.proofs.view.View.item.Goals as goal
 
-pub part-requires-clause-within : goal.part-requires-clause-within
-part-requires-clause-within c =
+pub placed-requires-clause-within : goal.placed-requires-clause-within
+placed-requires-clause-within c =
     let s = c.args.self.now in
     element_in s.acc.now c.types-types.ensures.table c.types-types.ensures.legible s.slot c.def.result.now c.def.ensures.within c.in-Some.slot (sym c.in-Some.ensures)
 
-pub part-requires-clause-safe : goal.part-requires-clause-safe
-part-requires-clause-safe c =
+pub placed-requires-clause-safe : goal.placed-requires-clause-safe
+placed-requires-clause-safe c =
     let s = c.args.self.now in
     element_is_safe s.acc.now c.types-types.ensures.table c.types-types.ensures.legible s.slot c.def.result.now c.def.ensures.same c.in-Some.slot (sym c.in-Some.ensures)
 
-pub part-requires-clause-front : goal.part-requires-clause-front
-part-requires-clause-front c = ∥∥₁_map c.args.self.now.stands (λ h.
+pub placed-requires-clause-front : goal.placed-requires-clause-front
+placed-requires-clause-front c = ∥∥₁_map c.args.self.now.stands (λ h.
     let s = c.args.self.now in
     let some = sym (c.is_null_there.ensures h.tree h.stands) ∙ c.if-is_null_there.false in
     has_front s.acc.now c.in-Some.slot (item_of h.tree c.args.i) (element_at (seen s.acc.now (s.slot, h.value)) c.args.i) c.in-Some-of.body
@@ -33,11 +33,11 @@ pub returns-in-Some-of : goal.returns-in-Some-of
 returns-in-Some-of c = λ f v.
     let s = c.args.self.now in
     let some = sym (c.is_null_there.ensures v.tree v.stands) ∙ c.if-is_null_there.false in
-    hands_out s.acc.now c.in-Some.slot (item_of v.tree c.args.i) (element_at (seen s.acc.now (s.slot, f)) c.args.i) c.in-Some-of.body c.part.result
+    hands_out s.acc.now c.in-Some.slot (item_of v.tree c.args.i) (element_at (seen s.acc.now (s.slot, f)) c.args.i) c.in-Some-of.body c.placed.result
     (c.in-Some-of.ensures.embodies s.acc.now (item_of v.tree c.args.i) (c.item.ensures s.acc.now v.tree v.stands))
     (element_there s.acc.now c.types-types.ensures.legible.clear s.slot s.safe v.room f v.tree v.front some (any_there s.acc.now c.types-types.ensures.table.prelude_first)
     c.def.result.now c.def.ensures.same c.in-Some.slot (sym c.in-Some.ensures) c.args.i)
-    c.part.ensures.table c.part.ensures.slot c.part.ensures.body
+    c.placed.ensures.table c.placed.ensures.slot c.placed.ensures.body
 
 pub returns-in-None-of : goal.returns-in-None-of
 returns-in-None-of c = λ f v.
@@ -48,11 +48,11 @@ returns-in-None-of c = λ f v.
     (element_there s.acc.now c.types-types.ensures.legible.clear s.slot s.safe v.room f v.tree v.front some (any_there s.acc.now c.types-types.ensures.table.prelude_first)
     c.def.result.now c.def.ensures.same c.in-Some.slot (sym c.in-Some.ensures) c.args.i)
 
-pub part-requires-clause-numbered : goal.part-requires-clause-numbered
-part-requires-clause-numbered c = free_numbered (length c.args.self.now.acc.now) c.in-Some-of.body c.in-Some-of.ensures.free
+pub placed-requires-clause-numbered : goal.placed-requires-clause-numbered
+placed-requires-clause-numbered c = free_numbered (length c.args.self.now.acc.now) c.in-Some-of.body c.in-Some-of.ensures.free
 
-pub part-requires-clause-placed : goal.part-requires-clause-placed
-part-requires-clause-placed c = free_placed c.args.self.now.acc.now c.in-Some.slot c.in-Some-of.body c.in-Some-of.ensures.free
+pub placed-requires-clause-placed : goal.placed-requires-clause-placed
+placed-requires-clause-placed c = free_placed c.args.self.now.acc.now c.in-Some.slot c.in-Some-of.body c.in-Some-of.ensures.free
 
 pub returns-then-is_null_there : goal.returns-then-is_null_there
 returns-then-is_null_there c = λ f v.

@@ -20,16 +20,16 @@ returns-then-is_null_there c = λ f v.
     let is = sym (c.is_null_there.ensures v.tree v.stands) ∙ c.if-is_null_there.true in
     subst (λ h. HandsOutMember s.acc.now (member_held h) None) (sym (seen_null s.acc.now c.types-types.ensures.legible.clear s.slot s.safe v.room f v.tree v.front is)) tt
 
-pub part-view-requires-clause-within : goal.part-view-requires-clause-within
-part-view-requires-clause-within c =
+pub placed-view-requires-clause-within : goal.placed-view-requires-clause-within
+placed-view-requires-clause-within c =
     let form : form_of c.args.self.now.acc.now c.args.self.now.slot ≡ Some (D.Union c.in-Some.def.now) = c.def.ensures.same ∙ ap Some (union_is c.def.result.now c.in-Some.def.now c.in-Some.ensures) in
     let at : slice_get c.in-Some.def.now.members c.in-Ok.number ≡ Some c.index-as_slice-number.result =
     member_indexed c.args.self.now.acc.now c.args.self.now.slot c.in-Some.def.now form c.in-Ok.number c.in-Ok.ensures.within c.as_slice.result.now c.as_slice.ensures c.index-as_slice-number.result c.index-as_slice-number.is in
     member_in c.args.self.now.acc.now c.types-types.ensures.legible c.args.self.now.slot c.in-Some.def.now form c.in-Ok.number c.index-as_slice-number.result at
     (subst (λ (d : TypeDef). IsWithin (length c.args.self.now.acc.now) d) (union_is c.def.result.now c.in-Some.def.now c.in-Some.ensures) c.def.ensures.within)
 
-pub part-view-requires-clause-placed : goal.part-view-requires-clause-placed
-part-view-requires-clause-placed c =
+pub placed-view-requires-clause-placed : goal.placed-view-requires-clause-placed
+placed-view-requires-clause-placed c =
     let form : form_of c.args.self.now.acc.now c.args.self.now.slot ≡ Some (D.Union c.in-Some.def.now) = c.def.ensures.same ∙ ap Some (union_is c.def.result.now c.in-Some.def.now c.in-Some.ensures) in
     let at : slice_get c.in-Some.def.now.members c.in-Ok.number ≡ Some c.index-as_slice-number.result =
     member_indexed c.args.self.now.acc.now c.args.self.now.slot c.in-Some.def.now form c.in-Ok.number c.in-Ok.ensures.within c.as_slice.result.now c.as_slice.ensures c.index-as_slice-number.result c.index-as_slice-number.is in
@@ -38,8 +38,8 @@ part-view-requires-clause-placed c =
     member_placed s.acc.now c.types-types.ensures.legible s.slot c.in-Some.def.now form c.in-Held.piece c.in-Ok.part (union_plain s.acc.now s.slot c.in-Some.def.now form c.in-Held.piece placed) c.in-Ok.ensures.passed
     c.in-Ok.number c.index-as_slice-number.result at
 
-pub part-view-requires-clause-front : goal.part-view-requires-clause-front
-part-view-requires-clause-front c =
+pub placed-view-requires-clause-front : goal.placed-view-requires-clause-front
+placed-view-requires-clause-front c =
     let form : form_of c.args.self.now.acc.now c.args.self.now.slot ≡ Some (D.Union c.in-Some.def.now) = c.def.ensures.same ∙ ap Some (union_is c.def.result.now c.in-Some.def.now c.in-Some.ensures) in
     let at : slice_get c.in-Some.def.now.members c.in-Ok.number ≡ Some c.index-as_slice-number.result =
     member_indexed c.args.self.now.acc.now c.args.self.now.slot c.in-Some.def.now form c.in-Ok.number c.in-Ok.ensures.within c.as_slice.result.now c.as_slice.ensures c.index-as_slice-number.result c.index-as_slice-number.is in
@@ -59,7 +59,7 @@ returns-in-Ok c = λ f v.
     let some = sym (c.is_null_there.ensures v.tree v.stands) ∙ c.if-is_null_there.false in
     let stands = subst (λ (b : Body). BodyStands s.acc.now b v.tree) c.in-Held.is v.stands in
     member_out s.acc.now c.types-types.ensures.legible s.slot s.safe v.room f v.tree v.front some c.in-Some.def.now form c.in-Ok.number c.index-as_slice-number.result c.in-Ok.part at
-    (c.in-Ok.ensures.answer v.tree stands) c.as_str.result c.part-view.result c.as_str.ensures.same c.part-view.ensures.table c.part-view.ensures.slot c.part-view.ensures.body
+    (c.in-Ok.ensures.answer v.tree stands) c.as_str.result c.placed-view.result c.as_str.ensures.same c.placed-view.ensures.table c.placed-view.ensures.slot c.placed-view.ensures.body
 
 pub returns-in-Err : goal.returns-in-Err
 returns-in-Err c = λ f v.
