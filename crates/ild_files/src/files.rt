@@ -8,6 +8,11 @@ use ild_edges::{EdgeErr, Inputs, LONGEST_INPUT as LONGEST, Taken};
 use std::io::ErrorKind;
 use std::rt::Files;
 
+/// The longest input has its room at once, and no page of it is touched before a byte is read into it. The allocators of today's
+/// systems ask the system for long pieces one by one, and hand their pages back when they are dropped, until they have seen one as
+/// long as this come and go: so what is touched for a value is used again behind the first input.
+const ROOM: usize = LONGEST + 1;
+
 /// Files by their names. They tell nothing of what there is.
 #[derive(Drop)]
 pub struct FileInputs<'r, R: Files + AllocGlobal> {
@@ -34,7 +39,7 @@ impl<'r, R: Files + AllocGlobal> Inputs for FileInputs<'r, R> {
     ghost supply = { λ f. record { files = None; lacks = f.lacks; faults = f.faults } };
 
     fn take(&mut self, name: &str) -> Result<Taken, EdgeErr> {
-        match load(self.rt, name, LONGEST as u64) {
+        match load(self.rt, name, LONGEST as u64, ROOM) {
             Ok(bytes) => {
                 if bytes.len() <= LONGEST {
                     Ok(Taken::Bytes(Octets::from_vec(bytes)))

@@ -57,7 +57,7 @@ impl<'r, R: Files + AllocGlobal> FolderStore<'r, R> {
 fn held<R: Files + AllocGlobal>(rt: &R, path: &str, id: &BlockId) -> Result<Option<Octets>, EdgeErr>
     ensures { IfOk result (λ block. IfSome block (λ b. id_of b ≡ id.now.0)) }
 {
-    match load(rt, path, LONGEST as u64) {
+    match load(rt, path, LONGEST as u64, 0) {
         Ok(bytes) => {
             if bytes.len() <= LONGEST && block_id(&bytes) == *id {
                 Ok(Some(Octets::from_vec(bytes)))
