@@ -86,6 +86,13 @@ marked_here h b (e ∷ es) [] i d are lt = absurd are
 marked_here h b (e ∷ es) (m ∷ ms) zero d are lt = (e, are.0, refl)
 marked_here h b (e ∷ es) (m ∷ ms) (suc i) d are lt = let x = marked_here h b es ms i d are.1 (omega arith) in (x.0, x.1, ap (λ fs. e ∷ fs) x.2)
 
+pub marked-next : {A : Type 0} (f : A → Mark) (h : List ℕ → List ℕ) (b : List ℕ) (es : List (List ℕ × Data)) (ms : List A) (i : ℕ) (d : A) (m : Mark) → AreMarked h b es (map f ms) → i < length ms → d ≡ get_or ms i d → m ≡ f d
+    → (e : List ℕ × Data) × IsMarked h b e m × (take (i + 1) es ≡ take i es ++ e ∷ [])
+marked-next f h b es ms i d m are lt is marks =
+    let x = marked_here h b es (map f ms) i (f d) are (omega (arith, lt, length-map ms f)) in
+    let next : i + 1 ≡ suc i = omega arith in
+    (x.0, subst (IsMarked h b x.0) (sym (marks ∙ ap f is ∙ sym (get_or-map f ms i d (f d) lt))) x.1, ap (λ n. take n es) next ∙ x.2)
+
 -- what is cut out at a mark of these bytes
 abbrev pub CutsAt : List ℕ → HashedEntry → Mark → Type 0
 CutsAt b k m = (k.hash ≡ m.hash) × (m.from + m.len ≤ length b → k.entry.now ≡ take m.len (drop m.from b))

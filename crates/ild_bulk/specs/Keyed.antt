@@ -1,15 +1,16 @@
 -- Rows with the hashes of their keys, and their spellings in one buffer.
-use Rattle.std.specs.Prelude.{◌≡◌, ◌<◌, ◌≤◌, ◌+◌, ◌^◌, ℕ, ◌==◌, List, [], ◌∷◌, ◌++◌, drop, length, slice_index_or, take}
+use Rattle.std.specs.Prelude.{◌≡◌, ◌<◌, ◌≤◌, ◌+◌, ◌^◌, ℕ, ◌==◌, List, [], ◌∷◌, ◌++◌, drop, length, map, slice_index_or, take}
 use Rattle.std.specs.List.{AllByRecursion, filter}
 use Rattle.std.specs.Global.{Vec}
 use Rattle.ild_data.specs.Data.{Data}
 use Rattle.ild_data.specs.Spell.{head, spell, spell_bytes}
-use Rattle.ild_data.specs.Trie.{entry_data}
+use Rattle.ild_data.specs.Trie.{at_depth, entry_data, part}
 use Rattle.ild_data.specs.TrieShape.{TrieShape, index}
 use Rattle.ild_node.specs.Hashed.{AreHashed}
 use Rattle.ild_node.specs.Keyed.{keyed_seen}
 use Rattle.ild_node.specs.declared.keyed.Keyed.{Keyed}
 use Rattle.ild_node.specs.declared.hashed.HashedEntry.{HashedEntry}
+use Rattle.ild_bulk.specs.declared.entries.BorrowedMark.{BorrowedMark}
 use Rattle.ild_bulk.specs.declared.entries.Mark.{Mark}
 use Rattle.ild_bulk.specs.declared.entries.Entries.{Entries}
 use Rattle.ild_bulk.specs.declared.entries.KeyedMark.{KeyedMark}
@@ -42,6 +43,9 @@ AreMarked h b (e ∷ es) (m ∷ ms) = IsMarked h b e m × AreMarked h b es ms
 abbrev pub mark_in : KeyedMark → Mark
 mark_in k = k.mark
 
+abbrev pub mark_behind : BorrowedMark → Mark
+mark_behind k = k.mark.now
+
 -- what is written of entries
 pub record HasEntries (h : List ℕ → List ℕ) (es : List (List ℕ × Data)) (w : Entries) : Type 0 where
   pub marks : AreMarked h w.out es w.marks.items
@@ -70,3 +74,15 @@ pub record HasParts (h : List ℕ → List ℕ) (p : TrieShape) (depth : ℕ) (e
 pub record AreEmpty (count : ℕ) (parts : List (Vec HashedEntry)) : Type 0 where
   pub many : length parts ≡ count
   pub each : (i : ℕ) (z : Vec HashedEntry) → i < count → (slice_index_or parts i z).items ≡ []
+
+-- ---- their marks by index
+
+-- the marks of the entries of each index stand in their part
+pub record HasMarks (h : List ℕ → List ℕ) (p : TrieShape) (depth : ℕ) (b : List ℕ) (es : List (List ℕ × Data)) (parts : List (Vec BorrowedMark)) : Type 0 where
+  pub many : length parts ≡ 2 ^ p.width
+  pub each : (i : ℕ) (z : Vec BorrowedMark) → i < 2 ^ p.width → AreMarked h b (part (at_depth h p depth) es i) (map mark_behind (slice_index_or parts i z).items)
+
+-- vectors without marks
+pub record AreBare (count : ℕ) (parts : List (Vec BorrowedMark)) : Type 0 where
+  pub many : length parts ≡ count
+  pub each : (i : ℕ) (z : Vec BorrowedMark) → i < count → (slice_index_or parts i z).items ≡ []

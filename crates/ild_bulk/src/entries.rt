@@ -30,6 +30,12 @@ pub struct KeyedMark<'k> {
     pub mark: Mark,
 }
 
+/// A mark that stands elsewhere.
+#[derive(Clone, Copy)]
+pub(crate) struct BorrowedMark<'m> {
+    pub(crate) mark: &'m Mark,
+}
+
 /// Entries that are spelled in one buffer, with a mark for each.
 #[derive(Drop)]
 pub(crate) struct Entries {

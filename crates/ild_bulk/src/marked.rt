@@ -1,9 +1,9 @@
 //! What has a mark.
 ghost use Rattle.std.specs.Prelude.{◌≡◌};
-ghost use Rattle.ild_bulk.specs.Keyed.{mark_in};
+ghost use Rattle.ild_bulk.specs.Keyed.{mark_behind, mark_in};
 ghost use Rattle.ild_bulk.specs.declared.entries.Mark.{Mark};
 
-use crate::entries::{KeyedMark, Mark};
+use crate::entries::{BorrowedMark, KeyedMark, Mark};
 
 /// What has the mark of an entry.
 pub trait Marked {
@@ -30,5 +30,14 @@ impl Marked for KeyedMark<'_> {
     #[inline(always)]
     fn mark(&self) -> &Mark {
         &self.mark
+    }
+}
+
+impl Marked for BorrowedMark<'_> {
+    ghost mark_seen = { mark_behind };
+
+    #[inline(always)]
+    fn mark(&self) -> &Mark {
+        self.mark
     }
 }

@@ -10,10 +10,10 @@ ghost use Rattle.ild_node.specs.Hashed.{AreHashed};
 ghost use Rattle.ild_node.specs.Keyed.{keyed_rows};
 ghost use Rattle.ild_node.specs.NewSlots.{IsFilledSlot};
 ghost use Rattle.ild_node.specs.Rows.{AreRows};
-ghost use Rattle.ild_bulk.specs.Keyed.{AreEmpty, AreKeyed, AreMarked, HasParts, Parted, hashed_index, hashed_part};
+ghost use Rattle.ild_bulk.specs.Keyed.{AreBare, AreEmpty, AreKeyed, AreMarked, HasMarks, HasParts, Parted, hashed_index, hashed_part};
 ghost use Rattle.ild_bulk.specs.Planned.{PlansInto, PlansNode, PlansSlot};
 
-use crate::entries::{entries_with, entry_at, pieces};
+use crate::entries::{BorrowedMark, entries_with, pieces};
 use crate::marked::Marked;
 use crate::planned::PlannedBlock;
 use ild_data::Octets;
@@ -33,6 +33,9 @@ const LINK_ROOM: usize = 41;
 
 /// The entries of a node by the index of their keys.
 type Parts<'r> = Vec<Vec<HashedEntry<'r>>>;
+
+/// The marks of entries by the index of their keys.
+type MarkParts<'m> = Vec<Vec<BorrowedMark<'m>>>;
 
 // How many bytes the elements of a node take, or a few more. Entries of one node stand far apart in their buffer, so the ends of each
 // are looked at here: these loads don't wait for one another, and find the entries before they are copied one by one.
@@ -107,26 +110,33 @@ fn parted<'r>(
     Ok(parts)
 }
 
-// The entries of marks, cut out of their bytes, by the index of their keys at a depth.
-fn cut_apart<'r, M: Marked>(
+// As many vectors as a node has slots, with room for so many marks each.
+fn no_marks<'m>(alloc: Global, room: usize) -> Result<MarkParts<'m>, AllocError>
+    ensures { IfOk result (λ parts. AreBare (2 ^ usual.width) parts.items) }
+{
+    let mut parts = Vec::new(alloc);
+    for _ in 0..SLOTS {
+        let part = Vec::with_capacity(alloc, room)?;
+        parts.push(part)?;
+    }
+    Ok(parts)
+}
+
+// The marks by the index of their keys at a depth.
+fn marks_apart<'m, M: Marked>(
     alloc: Global,
-    bytes: &'r [u8],
-    marks: &[M],
+    marks: &'m [M],
     depth: u32,
-) -> Result<Parts<'r>, AllocError>
+) -> Result<MarkParts<'m>, AllocError>
     requires { depth < trie_levels usual }
     ensures many { IfOk result (λ parts. length parts.items ≡ 2 ^ usual.width) }
-    ensures parts { (h : List ℕ → List ℕ) (es : List (List ℕ × Data)) → AreMarked h bytes.now es (map M.mark_seen marks.now) → IfOk result (λ parts. HasParts h usual depth es parts.items) }
+    ensures parts { (h : List ℕ → List ℕ) (b : List ℕ) (es : List (List ℕ × Data)) → AreMarked h b es (map M.mark_seen marks.now) → IfOk result (λ parts. HasMarks h usual depth b es parts.items) }
 {
-    let mut parts = emptied(alloc, None, marks.len() / USUAL_SHARE)?;
+    let mut parts = no_marks(alloc, marks.len() / USUAL_SHARE)?;
     for marked in marks {
         let mark = marked.mark();
-        let entry = entry_at(bytes, mark);
         let index = index_of(&mark.hash, depth);
-        parts[index as usize].push(HashedEntry {
-            hash: mark.hash,
-            entry,
-        })?;
+        parts[index as usize].push(BorrowedMark { mark })?;
     }
     Ok(parts)
 }
@@ -193,8 +203,30 @@ pub fn plan_marked<M: Marked>(
         let pieces = pieces(alloc, bytes, marks)?;
         return plan_node(alloc, &pieces, 0, &mut spare, blocks);
     }
-    let parts = cut_apart(alloc, bytes, marks, 0)?;
-    plan_parts(alloc, &parts, 0, SLOTS * LINK_ROOM, &mut spare, blocks)
+    let parts = marks_apart(alloc, marks, 0)?;
+    plan_marks(alloc, bytes, &parts, 0, &mut spare, blocks)
+}
+
+// The same of many entries whose marks stand by their index already: those of one index at a time are cut out of the bytes.
+fn plan_marks<'r>(
+    alloc: Global,
+    bytes: &'r [u8],
+    parts: &[Vec<BorrowedMark<'_>>],
+    depth: u32,
+    spare: &mut Vec<Parts<'r>>,
+    blocks: &mut Vec<PlannedBlock>,
+) -> Result<Octets, HamtFault>
+    requires depth { depth < trie_levels usual }
+    requires many { length parts.now ≡ 2 ^ usual.width }
+    ensures { (h : List ℕ → List ℕ) (es : List (List ℕ × Data)) → HasMarks h usual depth bytes.now es parts.now → AreRows es
+        → PlansNode h usual (trie_levels usual - depth) depth es result blocks.old.items blocks.new.items }
+{
+    let mut draft = Draft::with_room(alloc, SLOTS * LINK_ROOM)?;
+    for i in 0..SLOTS {
+        let part = pieces(alloc, bytes, &parts[i])?;
+        plan_part(alloc, &part, depth + 1, i as u8, spare, &mut draft, blocks)?;
+    }
+    Ok(draft.finish(alloc)?)
 }
 
 // The rows of a bucket, made anew.
