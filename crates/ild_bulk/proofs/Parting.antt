@@ -9,9 +9,6 @@ use Rattle.ild_trie.proofs.Index.{index_below}
 use Rattle.ild_typed.specs.Composed.{usual}
 use Rattle.ild_bulk.specs.Keyed.{AreEmpty, Parted, hashed_index}
 
-pub parted-first : (at : HashedEntry → ℕ) (n : ℕ) (parts : List (Vec HashedEntry)) → AreEmpty n parts → Parted at n [] parts
-parted-first at n parts none = record { many = none.many; each = none.each }
-
 -- the vectors up to a place are empty
 pub record EmptiedTo (count i : ℕ) (parts : List (Vec HashedEntry)) : Type 0 where
   pub first : (j : ℕ) (z : Vec HashedEntry) → j < i → (get_or parts j z).items ≡ []

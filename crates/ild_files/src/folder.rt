@@ -13,14 +13,21 @@ use std::collections::BTreeSet;
 use std::io::ErrorKind;
 use std::rt::Files;
 
-/// The ids of all blocks that may stand in a folder, where that is known: the store made it, and put them.
-type OwnBlocks = Option<BTreeSet<[u8; 32]>>;
+/// The fronts of the ids of all blocks that may stand in a folder, where that is known: the store made it, and put them.
+type OwnBlocks = Option<BTreeSet<u64>>;
+
+/// The front of an id: its first eight bytes as a number. Where two blocks have one front, a put of the second looks for a file,
+/// and finds none.
+fn front(id: &BlockId) -> u64 {
+    let [a, b, c, d, e, f, g, h, ..] = id.0;
+    u64::from_be_bytes([a, b, c, d, e, f, g, h])
+}
 
 /// A folder with one file a block, named by the text of the block's CID. It tells nothing of what there is.
 ///
 /// A file that doesn't hash to its name, or that is longer than a block may be, counts as not there. A block is written
 /// beside its name and then moved to it, so that no file under a block's name is ever a part of the block. In a folder that
-/// this store made itself, a put looks for a file only where it put that block before.
+/// this store made itself, a put looks for a file only where it put that block before, or one whose id has the same front.
 #[derive(Drop)]
 pub struct FolderStore<'r, R: Files + AllocGlobal> {
     rt: &'r R,
@@ -91,7 +98,7 @@ fn other(block: Octets, bytes: &[u8]) -> Option<Octets>
 /// this block is one of them.
 fn may_hold(own: &mut OwnBlocks, id: &BlockId) -> Result<bool, AllocError> {
     match own {
-        Some(ids) => Ok(!ids.insert(id.0)?),
+        Some(ids) => Ok(!ids.insert(front(id))?),
         None => Ok(true),
     }
 }
@@ -109,7 +116,7 @@ fn write<R: Files + AllocGlobal>(
         Ok(Folder::Found) => Ok(()),
         Ok(Folder::Made) => {
             let mut ids = BTreeSet::new(rt.alloc());
-            ids.insert(id.0)?;
+            ids.insert(front(id))?;
             *own = Some(ids);
             Ok(())
         }
