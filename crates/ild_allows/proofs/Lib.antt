@@ -1,0 +1,3 @@
+mod Allowing
+mod Forming
+mod Naming
