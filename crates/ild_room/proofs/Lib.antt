@@ -1,0 +1,4 @@
+pub mod Depths
+pub mod Roomy
+pub mod Edited
+pub mod AlongPaths

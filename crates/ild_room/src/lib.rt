@@ -1,0 +1,6 @@
+//! How much room an edit leaves to a part: laws, and the calls that tell it from views.
+#![tactic(auto)]
+
+mod laws;
+
+pub use laws::rooms_are_left_along_the_path;
