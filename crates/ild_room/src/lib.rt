@@ -1,4 +1,4 @@
-//! How much room an edit leaves to a part: laws, and the calls that tell it from views.
+//! How much room an edit leaves to a part: laws.
 #![tactic(auto)]
 
 mod laws;
