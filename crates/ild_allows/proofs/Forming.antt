@@ -1,8 +1,9 @@
 -- What a view holds parts as, by the form of its type.
-use Rattle.std.proofs.Common.{◌≡◌, ◌<◌, ℕ, List, [], ◌∷◌, length, suc, Bool, true, false, Option, Some, None, refl, sym, ◌∙◌, ap, subst, arith}
+use Rattle.std.proofs.Common.{◌≡◌, ◌<◌, ℕ, List, Bool, true, false, Some, None, refl, sym, ◌∙◌, ap, subst, arith}
 use Rattle.std.specs.Prelude.{◌↔◌}
 use Rattle.std.proofs.lemmas.Option.{same_Some, none-some}
 use Rattle.ild_allows.specs.Form.{HoldsFields, HoldsMember, IsForm, KeyWithin, entries_inside, entries_of, elements_inside, elements_of, map_form}
+use Rattle.ild_allows.proofs.Holders.{Holds, holds}
 use Rattle.ild_allows.specs.declared.form.Form.{Form}
 use Rattle.ild_allows.specs.declared.form.Form.TheVariants as F
 use Rattle.ild_cbor.specs.Scalar.{kind_of}
@@ -11,13 +12,11 @@ use Rattle.ild_cbor.specs.declared.piece.Piece.{Piece}
 use Rattle.ild_data.specs.Data as T
 use Rattle.ild_data.specs.Data.{Data, items_list, members_list}
 use Rattle.ild_piece.specs.Pieces.{StandsFor}
-use Rattle.ild_schema.specs.Legible.{IsLegible}
 use Rattle.ild_schema.specs.Prelude.{anything}
 use Rattle.ild_schema.specs.Slots.{form_of}
 use Rattle.ild_schema.specs.Table.{IsWithin}
 use Rattle.ild_schema.specs.Value as V
 use Rattle.ild_schema.specs.Value.{Value, optionals_list}
-use Rattle.ild_schema.specs.declared.def.Field.{Field}
 use Rattle.ild_schema.specs.declared.def.MapForm.{MapForm}
 use Rattle.ild_schema.specs.declared.def.MapForm.TheVariants as MF
 use Rattle.ild_schema.specs.declared.def.Scalar.{Scalar}
@@ -32,11 +31,6 @@ use Rattle.ild_schema.specs.declared.row.Row.{Row}
 use Rattle.ild_typed.specs.At.{seen}
 use Rattle.ild_typed.specs.Fields.{is_scalar}
 use Rattle.ild_typed.specs.Holder.{any_holder, holder_of, is_paired}
-use Rattle.ild_typed.specs.Layers.{FieldsFit}
-use Rattle.ild_typed.specs.OfType.{OfType}
-use Rattle.ild_typed.specs.Pieces.{is_null_there}
-use Rattle.ild_view.proofs.Opening.{front_null, front_struct}
-use Rattle.ild_view.proofs.Parting.{seen_by, seen_struct}
 use Rattle.ild_view.specs.Body.{BodyStands}
 use Rattle.ild_view.specs.View.{IsView, body_of, piece_in, piece_of, slot_of, table_of}
 use Rattle.ild_view.specs.declared.body.Body.{Body}
@@ -130,14 +124,6 @@ map_within n d key key_at value at form is within = by form low where
 
 -- ---- the types
 
--- fields that fit have a place each
-fields_long : (P : Slot → Value → Type 0) (fs : List Field) (os : List (Option Value)) → FieldsFit P fs os → length fs ≡ length os
-fields_long P [] [] h = refl
-fields_long P [] (o ∷ os) h = absurd h
-fields_long P (f ∷ fs) [] h = absurd h
-fields_long P (f ∷ fs) (Some v ∷ os) h = ap suc (fields_long P fs os h.1)
-fields_long P (f ∷ fs) (None ∷ os) h = ap suc (fields_long P fs os h.1)
-
 module _ (v : View) (f : Value) (x : IsView v f) where
   abbrev pub Is : Form → Type 0
   Is form = IsForm (table_of v) (slot_of v) form (seen (table_of v) (slot_of v, f))
@@ -145,66 +131,48 @@ module _ (v : View) (f : Value) (x : IsView v f) where
   pub null_form : (b : Bool) → b ≡ true → ((b ≡ true) ↔ (f ≡ V.null)) → Is F.Nothing
   null_form b so null = (V.null, ap (holder_of (table_of v) (slot_of v)) (null.0 so))
 
-  module _ (legible : IsLegible (table_of v)) (b : Bool) (no_null : b ≡ false) (null : (b ≡ true) ↔ (f ≡ V.null)) where
-    some : is_null_there (slot_of v) x.tree ≡ false
-    some = by (is_null_there (slot_of v) x.tree) refl where
-      by : (c : Bool) → is_null_there (slot_of v) x.tree ≡ c → c ≡ false
-      by false e = refl
-      by true e = never (sym (null.1 (front_null (table_of v) legible.clear (slot_of v) v.safe x.room f x.tree x.front e)) ∙ no_null)
+  module _ (b : Bool) (no_null : b ≡ false) (null : (b ≡ true) ↔ (f ≡ V.null)) (d : TypeDef) (known : form_of (table_of v) (slot_of v) ≡ Some d) where
+    held : (e : TypeDef) → d ≡ e → Holds e x.tree (seen (table_of v) (slot_of v, f))
+    held e is = subst (λ k. Holds k x.tree (seen (table_of v) (slot_of v, f))) is (holds (table_of v) (slot_of v) x.tree d known f (λ n. never (sym (null.1 n) ∙ no_null)) x.front.tree (x.room, x.front.fits))
 
-    module _ (d : TypeDef) (known : form_of (table_of v) (slot_of v) ≡ Some d) where
-      pub list_form : (elem : Slot) (at : ℕ) → d ≡ D.List elem at → Is (F.Elements elem)
-      list_form elem at is =
-          let y = seen_by (table_of v) legible.clear (slot_of v) v.safe x.room f x.tree x.front some (D.List elem at) (known ∙ ap Some is) in
-          elements_of y.0 y.1
+    pub list_form : (elem : Slot) (at : ℕ) → d ≡ D.List elem at → Is (F.Elements elem)
+    list_form elem at is = let y = held (D.List elem at) is in elements_of y.0 y.1
 
-      pub entries_form : (key : TypeNo) (key_at : ℕ) (value : Slot) (at : ℕ) (form : MapForm) → d ≡ D.Map key key_at value at form → Is (map_form key value form)
-      entries_form key key_at value at MF.Hamt is = (V.hamt x.tree, seen_by (table_of v) legible.clear (slot_of v) v.safe x.room f x.tree x.front some (D.Map key key_at value at MF.Hamt) (known ∙ ap Some is))
-      entries_form key key_at value at MF.Map is =
-          let y = seen_by (table_of v) legible.clear (slot_of v) v.safe x.room f x.tree x.front some (D.Map key key_at value at MF.Map) (known ∙ ap Some is) in
-          entries_of key (is_paired MF.Map) y.0 refl y.1
-      entries_form key key_at value at MF.ListPairs is =
-          let y = seen_by (table_of v) legible.clear (slot_of v) v.safe x.room f x.tree x.front some (D.Map key key_at value at MF.ListPairs) (known ∙ ap Some is) in
-          entries_of key (is_paired MF.ListPairs) y.0 refl y.1
-      entries_form key key_at value at (MF.StringPairs inner entry) is =
-          let y = seen_by (table_of v) legible.clear (slot_of v) v.safe x.room f x.tree x.front some (D.Map key key_at value at (MF.StringPairs inner entry)) (known ∙ ap Some is) in
-          entries_of key (is_paired (MF.StringPairs inner entry)) y.0 refl y.1
+    pub entries_form : (key : TypeNo) (key_at : ℕ) (value : Slot) (at : ℕ) (form : MapForm) → d ≡ D.Map key key_at value at form → Is (map_form key value form)
+    entries_form key key_at value at MF.Hamt is = held (D.Map key key_at value at MF.Hamt) is
+    entries_form key key_at value at MF.Map is = let y = held (D.Map key key_at value at MF.Map) is in entries_of key (is_paired MF.Map) y.0 refl y.1
+    entries_form key key_at value at MF.ListPairs is = let y = held (D.Map key key_at value at MF.ListPairs) is in entries_of key (is_paired MF.ListPairs) y.0 refl y.1
+    entries_form key key_at value at (MF.StringPairs inner entry) is =
+        let y = held (D.Map key key_at value at (MF.StringPairs inner entry)) is in
+        entries_of key (is_paired (MF.StringPairs inner entry)) y.0 refl y.1
 
-      pub struct_form : (def : StructDef) → d ≡ D.Struct def → HoldsFields (table_of v) (slot_of v) def (seen (table_of v) (slot_of v, f))
-      struct_form def is =
-          let form : form_of (table_of v) (slot_of v) ≡ Some (D.Struct def) = known ∙ ap Some is in
-          let y = front_struct (table_of v) legible.clear (slot_of v) v.safe x.room f x.tree x.front some def form in
-          record {
-            values = optionals_list y.items;
-            is = seen_struct (table_of v) legible.clear (slot_of v) v.safe x.room f x.tree x.front some def form;
-            each = fields_long (OfType (table_of v)) def.fields (optionals_list y.items) y.fit;
-            known = form;
-          }
+    pub struct_form : (def : StructDef) → d ≡ D.Struct def → HoldsFields (table_of v) (slot_of v) def (seen (table_of v) (slot_of v, f))
+    struct_form def is =
+        let y = held (D.Struct def) is in
+        record { values = y.0; is = y.1; each = y.2; known = known ∙ ap Some is }
 
-      pub union_form : (def : UnionDef) → d ≡ D.Union def → HoldsMember (table_of v) (slot_of v) def (seen (table_of v) (slot_of v, f))
-      union_form def is =
-          let form : form_of (table_of v) (slot_of v) ≡ Some (D.Union def) = known ∙ ap Some is in
-          let y = seen_by (table_of v) legible.clear (slot_of v) v.safe x.room f x.tree x.front some (D.Union def) form in
-          record { number = y.0; value = y.1; is = y.2; known = form }
+    pub union_form : (def : UnionDef) → d ≡ D.Union def → HoldsMember (table_of v) (slot_of v) def (seen (table_of v) (slot_of v, f))
+    union_form def is =
+        let y = held (D.Union def) is in
+        record { number = y.0; value = y.1; is = y.2; known = known ∙ ap Some is }
 
-      pub any_form : d ≡ D.Any → (r : Form) → ((t : Data) → BodyStands (table_of v) (body_of v) t → IsForm (table_of v) (slot_of v) r (any_holder t)) → Is r
-      any_form is r given =
-          subst (IsForm (table_of v) (slot_of v) r) (sym (seen_by (table_of v) legible.clear (slot_of v) v.safe x.room f x.tree x.front some D.Any (known ∙ ap Some is))) (given x.tree x.stands)
+    pub any_form : d ≡ D.Any → (r : Form) → ((t : Data) → BodyStands (table_of v) (body_of v) t → IsForm (table_of v) (slot_of v) r (any_holder t)) → Is r
+    any_form is r given = subst (IsForm (table_of v) (slot_of v) r) (sym (held D.Any is)) (given x.tree x.stands)
 
-      pub other_form : (d ≡ D.Any → ⊥) → ((elem : Slot) (at : ℕ) → d ≡ D.List elem at → ⊥) → ((key : TypeNo) (key_at : ℕ) (value : Slot) (at : ℕ) (form : MapForm) → d ≡ D.Map key key_at value at form → ⊥) → ((def : StructDef) → d ≡ D.Struct def → ⊥)
-          → ((def : UnionDef) → d ≡ D.Union def → ⊥) → Is F.Nothing
-      other_form no_any no_list no_map no_struct no_union = by d refl where
-        by : (e : TypeDef) → d ≡ e → Is F.Nothing
-        by D.Any is = absurd (no_any is)
-        by (D.List elem at) is = absurd (no_list elem at is)
-        by (D.Map key key_at value at form) is = absurd (no_map key key_at value at form is)
-        by (D.Struct def) is = absurd (no_struct def is)
-        by (D.Union def) is = absurd (no_union def is)
-        by D.Bool is = seen_by (table_of v) legible.clear (slot_of v) v.safe x.room f x.tree x.front some D.Bool (known ∙ ap Some is)
-        by D.Text is = seen_by (table_of v) legible.clear (slot_of v) v.safe x.room f x.tree x.front some D.Text (known ∙ ap Some is)
-        by D.Bytes is = seen_by (table_of v) legible.clear (slot_of v) v.safe x.room f x.tree x.front some D.Bytes (known ∙ ap Some is)
-        by D.Int is = seen_by (table_of v) legible.clear (slot_of v) v.safe x.room f x.tree x.front some D.Int (known ∙ ap Some is)
-        by (D.Link target) is = seen_by (table_of v) legible.clear (slot_of v) v.safe x.room f x.tree x.front some (D.Link target) (known ∙ ap Some is)
-        by (D.Unit form) is = seen_by (table_of v) legible.clear (slot_of v) v.safe x.room f x.tree x.front some (D.Unit form) (known ∙ ap Some is)
-        by (D.Enum e) is = seen_by (table_of v) legible.clear (slot_of v) v.safe x.room f x.tree x.front some (D.Enum e) (known ∙ ap Some is)
-        by (D.Copy target) is = seen_by (table_of v) legible.clear (slot_of v) v.safe x.room f x.tree x.front some (D.Copy target) (known ∙ ap Some is)
+    pub other_form : (d ≡ D.Any → ⊥) → ((elem : Slot) (at : ℕ) → d ≡ D.List elem at → ⊥) → ((key : TypeNo) (key_at : ℕ) (value : Slot) (at : ℕ) (form : MapForm) → d ≡ D.Map key key_at value at form → ⊥) → ((def : StructDef) → d ≡ D.Struct def → ⊥)
+        → ((def : UnionDef) → d ≡ D.Union def → ⊥) → Is F.Nothing
+    other_form no_any no_list no_map no_struct no_union = by d refl where
+      by : (e : TypeDef) → d ≡ e → Is F.Nothing
+      by D.Any is = absurd (no_any is)
+      by (D.List elem at) is = absurd (no_list elem at is)
+      by (D.Map key key_at value at form) is = absurd (no_map key key_at value at form is)
+      by (D.Struct def) is = absurd (no_struct def is)
+      by (D.Union def) is = absurd (no_union def is)
+      by D.Bool is = held D.Bool is
+      by D.Text is = held D.Text is
+      by D.Bytes is = held D.Bytes is
+      by D.Int is = held D.Int is
+      by (D.Link target) is = held (D.Link target) is
+      by (D.Unit form) is = held (D.Unit form) is
+      by (D.Enum e) is = held (D.Enum e) is
+      by (D.Copy target) is = held (D.Copy target) is

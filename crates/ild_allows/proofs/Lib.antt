@@ -1,3 +1,4 @@
 mod Allowing
+mod Holders
 mod Forming
 mod Naming

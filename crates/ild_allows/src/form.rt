@@ -67,8 +67,6 @@ pub(crate) fn form_of_view<'b>(view: &View<'b>) -> Form<'b>
     ensures is { (f : Value) → IsView view.now f → IsForm (table_of view.now) (slot_of view.now) result (seen (table_of view.now) (slot_of view.now, f)) }
     ensures within { KeyWithin (length (table_of view.now)) result }
 {
-    // It does no work: its clauses say what acceptance says of the table.
-    let _types = view.schema().types();
     if view.is_null() {
         return Form::Nothing;
     }
