@@ -2,3 +2,5 @@ pub mod Depths
 pub mod Roomy
 pub mod Edited
 pub mod AlongPaths
+pub mod Telling
+pub mod Holes
