@@ -15,7 +15,7 @@ use crate::AcceptErr;
 use crate::beside::{kind_fault, optional_fault};
 use crate::kinds::kinds_of_all;
 use crate::part::{implicit_fault, inline_fault, key_fault, null_fault, text_fault};
-use ild_clash::{delim_fault, name_fault, prefix_fault, strategy_fault};
+use ild_accept_rules::{delim_fault, name_fault, prefix_fault, strategy_fault};
 use ild_schema::{Kinds, Rule, Schema, TypeDef, TypeNo};
 use std::alloc::{AllocError, Global};
 

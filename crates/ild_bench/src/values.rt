@@ -5,13 +5,13 @@ ghost use Rattle.ild_schema.specs.ValueSeen.{value_of};
 ghost use Rattle.ild_typed.specs.Typed.{Typed};
 
 use ild_build::judge;
+use ild_build_blocks::build;
 use ild_compile::compile;
 use ild_data::Sha256Keys;
 use ild_edges::MemStore;
 use ild_json::read;
 use ild_schema::{Accepted, Slot, Val};
 use ild_value::from_shown;
-use ild_write::build;
 use std::alloc::Global;
 
 /// A list of structs, whose names don't rise in the key order, and a list of integers.

@@ -4,7 +4,7 @@ ghost use Rattle.std.specs.Prelude.{◌<◌, length};
 use ild_cbor::check;
 use ild_compile::compile;
 use ild_schema::Slot;
-use ild_walk::check_item;
+use ild_view_walk::check_item;
 use std::alloc::Global;
 
 /// Lists of structs of ten fields, which stand in a block in the order of their declaration, and in another order; a list, a map

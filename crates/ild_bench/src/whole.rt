@@ -1,8 +1,8 @@
 //! Whole commands in memory: compiling a schema, and answering a script.
 use ild_compile::compile;
 use ild_edges::{MemSink, MemStore};
-use ild_plain::PlainMap;
-use ild_session::answer_all;
+use ild_run_plain::PlainMap;
+use ild_script_session::answer_all;
 use std::alloc::Global;
 
 /// The schema is compiled.

@@ -13,9 +13,11 @@ use Rattle.ild_schema.specs.Marks.{field_text}
 use Rattle.ild_schema.specs.Value.{Value}
 use Rattle.ild_typed.specs.Strings.{cons_both}
 use Rattle.ild_typed.specs.Texts.{is_parted, join, join_pairs}
+use Rattle.ild_path_text.specs.Left.{between}
+use Rattle.ild_path_text.proofs.Drafts.{joined_push}
 use Rattle.ild_build.specs.LeftOut.{is_left_out}
 use Rattle.ild_build.specs.TextRep.{text_rep, TextAnswer}
-use Rattle.ild_build.specs.TextParts.{field_texts, field_pairs, between, pair_added}
+use Rattle.ild_build.specs.TextParts.{field_texts, field_pairs, pair_added}
 
 -- ---- texts with delimiters
 
@@ -26,15 +28,6 @@ between_first delim (suc n) e = absurd (omega (arith, e))
 pub between_later : (delim : List ℕ) (n : ℕ) → 0 < n → between delim n ≡ delim
 between_later delim zero h = absurd (omega (arith, h))
 between_later delim (suc n) h = refl
-
-pub joined_push : (d : List ℕ) (xs : List (List ℕ)) (y : List ℕ) → joined d (xs ++ y ∷ []) ≡ joined d xs ++ (between d (length xs) ++ y)
-joined_push d [] y = refl
-joined_push d (x ∷ []) y = refl
-joined_push d (x ∷ z ∷ xs) y =
-    ap (λ s. x ++ (d ++ s)) (joined_push d (z ∷ xs) y) ∙ regroup x d (joined d (z ∷ xs)) (d ++ y)
-  where
-    regroup : (a b c e : List ℕ) → a ++ (b ++ (c ++ e)) ≡ (a ++ (b ++ c)) ++ e
-    regroup a b c e = simp append_assoc
 
 -- ---- parts in front of parts
 

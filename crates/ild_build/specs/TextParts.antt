@@ -1,5 +1,5 @@
 -- The texts of which a text is made: those of a struct's fields, of a map's entries, and of a union's member.
-use Rattle.std.specs.Prelude.{ℕ, zero, suc, cond, List, [], ◌∷◌, ◌++◌, Option, Some, None, option_map, option_and_then, slice_get}
+use Rattle.std.specs.Prelude.{ℕ, cond, List, [], ◌∷◌, ◌++◌, Option, Some, None, option_map, option_and_then, slice_get}
 use Rattle.ild_schema.specs.declared.number.Slot.{Slot}
 use Rattle.ild_schema.specs.declared.def.UnionForm.{UnionForm}
 use Rattle.ild_schema.specs.declared.def.UnionForm.TheVariants as UF
@@ -50,11 +50,6 @@ abbrev pub member_text_rep : List Row → UnionDef → ℕ → Value → Option 
 member_text_rep rows u n v = option_and_then (λ m. by_form u.form m (text_rep rows (plainly m.ty) v)) (slice_get u.members n)
 
 -- ---- texts with delimiters
-
--- what stands before a part that has so many parts before it
-abbrev pub between : List ℕ → ℕ → List ℕ
-between delim zero = []
-between delim (suc n) = delim
 
 -- what is appended of a pair, if its key ends at the first delimiter
 abbrev pub pair_added : List ℕ → List ℕ → List ℕ → List ℕ → Option (List ℕ)

@@ -5,7 +5,6 @@ mod delims;
 mod form;
 mod hole;
 mod joined;
-mod joints;
 mod judgement;
 mod leaf;
 mod left_out;

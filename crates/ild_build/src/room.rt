@@ -15,7 +15,7 @@ use crate::leaf::{has_leaves, is_leaf};
 use crate::parts::{part_at, places};
 use ild_data::{Entries, Tree, Trees};
 use ild_schema::{Accepted, MapForm, Slot, StructForm, TypeDef, Val};
-use ild_walk::fits_text;
+use ild_view_walk::fits_text;
 use std::alloc::{AllocError, Global};
 
 fn map_levels(form: &MapForm) -> u32

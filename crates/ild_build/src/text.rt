@@ -7,15 +7,16 @@ ghost use Rattle.ild_schema.specs.Value.{optionals_list, pairs_list};
 ghost use Rattle.ild_schema.specs.ValueSeen.{value_of};
 ghost use Rattle.ild_schema.specs.declared.def.TypeDef.TheVariants as D;
 ghost use Rattle.ild_typed.specs.Texts.{join, join_pairs};
+ghost use Rattle.ild_path_text.specs.Left.{between};
 ghost use Rattle.ild_build.specs.TextRep.{TextAnswer, text_rep};
-ghost use Rattle.ild_build.specs.TextParts.{between, entry_texts, field_pairs, field_texts, member_text_rep, pair_added};
+ghost use Rattle.ild_build.specs.TextParts.{entry_texts, field_pairs, field_texts, member_text_rep, pair_added};
 
 use crate::delims::Delims;
 use crate::form::form_of;
-use crate::joints::{is_joined, is_parted};
 use crate::left_out::{is_left_out, text_of_field};
 use crate::parts::field_at;
 use ild_data::Tree;
+use ild_path_text::{is_joined, is_parted};
 use ild_schema::{
     Accepted, EnumForm, EnumMember, KindWord, MapForm, Mark, Slot, StructDef, StructForm, TypeDef,
     UnionDef, UnionForm, Val, ValFields, ValPairs, ValPart,

@@ -7,7 +7,7 @@ use Rattle.std.proofs.lemmas.List.Elements.{filter-append}
 use Rattle.ild_data.specs.Data.{Data}
 use Rattle.ild_data.specs.Trie.{at_depth, part}
 use Rattle.ild_data.specs.TrieShape.{index}
-use Rattle.ild_trie.proofs.Index.{index_below}
+use Rattle.ild_hamt_trie.proofs.Index.{index_below}
 use Rattle.ild_typed.specs.Composed.{usual}
 use Rattle.ild_bulk.specs.Keyed.{AreBare, AreMarked, HasMarks, IsMarked, mark_behind}
 use Rattle.ild_bulk.specs.declared.entries.BorrowedMark.{BorrowedMark}

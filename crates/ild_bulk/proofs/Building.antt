@@ -12,13 +12,13 @@ use Rattle.ild_data.specs.Spell.{spell, id_of}
 use Rattle.ild_data.specs.TrieShape.{TrieShape, trie_levels}
 use Rattle.ild_data.specs.Trie.{TrieSlot, empty, bucket, child, bucket_or, link_to, node_data, part, slot_of, all_some, node_of, at_depth}
 use Rattle.ild_data.specs.TrieBlocks.{block_of, none_or}
-use Rattle.ild_trie.proofs.Fold.{slot-many as slot-many_lem}
-use Rattle.ild_trie.proofs.Slots.{some_cons}
-use Rattle.ild_trie.proofs.Node.{node-slots, no_node as none_left}
+use Rattle.ild_hamt_trie.proofs.Fold.{slot-many as slot-many_lem}
+use Rattle.ild_hamt_trie.proofs.Slots.{some_cons}
+use Rattle.ild_hamt_trie.proofs.Node.{node-slots, no_node as none_left}
 use Rattle.ild_typed.specs.Composed.{usual}
 use Rattle.ild_node.specs.declared.hold.NewHold.TheVariants as N
-use Rattle.ild_slots.specs.declared.fault.HamtFault.{HamtFault}
-use Rattle.ild_slots.specs.declared.fault.HamtFault.TheVariants as F
+use Rattle.ild_node_slots.specs.declared.fault.HamtFault.{HamtFault}
+use Rattle.ild_node_slots.specs.declared.fault.HamtFault.TheVariants as F
 use Rattle.ild_node.specs.declared.hashed.HashedEntry.{HashedEntry}
 use Rattle.ild_node.specs.Hashed.{AreHashed}
 use Rattle.ild_node.specs.Rows.{AreRows}

@@ -8,12 +8,12 @@ use Rattle.ild_data.specs.Spell.{spell, id_of}
 use Rattle.ild_data.specs.TrieShape.{TrieShape}
 use Rattle.ild_data.specs.Trie.{TrieSlot, empty, bucket, child, part, slot_of, all_some, node_of, at_depth}
 use Rattle.ild_data.specs.TrieBlocks.{block_of, none_or}
-use Rattle.ild_trie.proofs.Node.{slots-node, no_node}
-use Rattle.ild_trie.proofs.Slots.{all_some-cons}
+use Rattle.ild_hamt_trie.proofs.Node.{slots-node, no_node}
+use Rattle.ild_hamt_trie.proofs.Slots.{all_some-cons}
 use Rattle.ild_typed.proofs.TrieTells.{SlotWay, nothing, few, many, slot_way}
 use Rattle.ild_edges.specs.Store.{Moment, block_at}
 use Rattle.ild_edges.specs.Told.{BothTold}
-use Rattle.ild_slots.specs.declared.fault.HamtFault.{HamtFault}
+use Rattle.ild_node_slots.specs.declared.fault.HamtFault.{HamtFault}
 use Rattle.ild_bulk.specs.Children.{IsIdAmong, ChildIn, IsNodeOver, Follows, AddsWhole}
 use Rattle.ild_bulk.specs.Planned.{planned, slot_plan}
 use Rattle.ild_bulk.specs.Putting.{AreHeld, IsAmong, PutsAll, StopsAfter}
@@ -22,7 +22,7 @@ use Rattle.ild_bulk.proofs.Puts.{among-left, among-right, told-map, told-same}
 
 -- ---- one slot
 
-child_of : (most : ℕ) (below : List (List ℕ × Data) → Option Data) (beneath : List (List ℕ × Data) → List (List ℕ)) (es : List (List ℕ × Data)) (s : TrieSlot) (whole : List (List ℕ))
+pub child_of : (most : ℕ) (below : List (List ℕ × Data) → Option Data) (beneath : List (List ℕ × Data) → List (List ℕ)) (es : List (List ℕ × Data)) (s : TrieSlot) (whole : List (List ℕ))
     → ((b : List ℕ) → IsAmong b (slot_plan most below beneath es) → IsAmong b whole) → SlotWay most below es s → ChildIn (IsIdAmong whole) s
 child_of most below beneath es s whole sub (nothing a is) = subst (λ (z : TrieSlot). ChildIn (IsIdAmong whole) z) (sym is) tt
 child_of most below beneath es s whole sub (few is) = subst (λ (z : TrieSlot). ChildIn (IsIdAmong whole) z) (sym is) tt
@@ -48,7 +48,7 @@ children_of most at below beneath es (j ∷ js) slots whole is sub =
     )
 
 -- a node's block, where the blocks beneath it stand before
-node-over : (h : List ℕ → List ℕ) (p : TrieShape) (left depth : ℕ) (es : List (List ℕ × Data)) (node : Data) (before : List (List ℕ)) → node_of h p left depth es ≡ Some node
+pub node-over : (h : List ℕ → List ℕ) (p : TrieShape) (left depth : ℕ) (es : List (List ℕ × Data)) (node : Data) (before : List (List ℕ)) → node_of h p left depth es ≡ Some node
     → IsNodeOver (IsIdAmong (before ++ planned h p left depth es)) (spell node)
 node-over h p zero depth es node before is = absurd (let e : None ≡ Some node = sym (no_node h p depth es) ∙ is in cc)
 node-over h p (suc left) depth es node before is =
@@ -74,7 +74,7 @@ follows_block : (o : Option Data) (before : List (List ℕ)) → ((node : Data) 
 follows_block None before over = tt
 follows_block (Some node) before over = (over node refl, tt)
 
-follows_slot : (b : Bool) (below : List (List ℕ × Data) → Option Data) (beneath : List (List ℕ × Data) → List (List ℕ)) (es : List (List ℕ × Data)) (before : List (List ℕ)) → Follows before (beneath es)
+pub follows_slot : (b : Bool) (below : List (List ℕ × Data) → Option Data) (beneath : List (List ℕ × Data) → List (List ℕ)) (es : List (List ℕ × Data)) (before : List (List ℕ)) → Follows before (beneath es)
     → ((node : Data) → below es ≡ Some node → IsNodeOver (IsIdAmong (before ++ beneath es)) (spell node)) → Follows before (none_or b (λ fs. beneath fs ++ block_of (below fs)) es)
 follows_slot true below beneath es before first over = tt
 follows_slot false below beneath es before first over = follows-append before (beneath es) (block_of (below es)) first (follows_block (below es) (before ++ beneath es) over)
@@ -94,7 +94,7 @@ plan-follows h p (suc left) depth es before =
 
 -- ---- in a store
 
-over-more : (P Q : List ℕ → Type 0) (b : List ℕ) → ((id : List ℕ) → P id → Q id) → IsNodeOver P b → IsNodeOver Q b
+pub over-more : (P Q : List ℕ → Type 0) (b : List ℕ) → ((id : List ℕ) → P id → Q id) → IsNodeOver P b → IsNodeOver Q b
 over-more P Q b f over = record { slots = over.slots; is = over.is; children = all_more over.slots over.children }
   where
     one : (s : TrieSlot) → ChildIn P s → ChildIn Q s

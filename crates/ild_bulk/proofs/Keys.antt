@@ -6,7 +6,7 @@ use Rattle.std.specs.Global.{Vec}
 use Rattle.ild_data.specs.Data.{Data}
 use Rattle.ild_data.specs.TrieShape.{TrieShape, index}
 use Rattle.ild_data.specs.Trie.{part, at_depth}
-use Rattle.ild_trie.proofs.Parts.{in_order-part}
+use Rattle.ild_hamt_trie.proofs.Parts.{in_order-part}
 use Rattle.ild_typed.specs.Nested.{TreeIn}
 use Rattle.ild_node.specs.Hashed.{AreHashed}
 use Rattle.ild_node.specs.Rows.{AreRows, deepest_value}

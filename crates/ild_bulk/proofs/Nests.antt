@@ -11,7 +11,7 @@ use Rattle.ild_typed.specs.Composed.{usual}
 use Rattle.ild_typed.specs.Nested.{TreeIn, BlockIn, IsBlock}
 use Rattle.ild_typed.proofs.Treed.{EntryIn}
 use Rattle.ild_typed.proofs.TreeNodes.{node_of_in, part_in}
-use Rattle.ild_slots.specs.Form.{AreTexts}
+use Rattle.ild_node_slots.specs.Form.{AreTexts}
 use Rattle.ild_node.specs.Rows.{AreRows, AreShallow, deepest_value}
 use Rattle.ild_bulk.specs.Build.{HasShortTrie, any_long, is_long, plan_of}
 use Rattle.ild_bulk.specs.Planned.{planned, slot_plan}

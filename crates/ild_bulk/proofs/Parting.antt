@@ -5,7 +5,7 @@ use Rattle.std.proofs.lemmas.List.{length-set, get_or-set_same, get_or-set_other
 use Rattle.std.proofs.lemmas.List.Elements.{filter-append}
 use Rattle.std.proofs.lemmas.Bool.{cases_eq, eq-eqb, ne_eqb, cases_lt}
 use Rattle.ild_node.specs.declared.hashed.HashedEntry.{HashedEntry}
-use Rattle.ild_trie.proofs.Index.{index_below}
+use Rattle.ild_hamt_trie.proofs.Index.{index_below}
 use Rattle.ild_typed.specs.Composed.{usual}
 use Rattle.ild_bulk.specs.Keyed.{AreEmpty, Parted, hashed_index}
 

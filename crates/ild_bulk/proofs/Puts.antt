@@ -9,8 +9,8 @@ use Rattle.ild_edges.specs.Told.{BothTold}
 use Rattle.ild_edges.specs.declared.error.EdgeErr.TheVariants as E
 use Rattle.ild_edges.proofs.Later.{Later-refl, Later-trans}
 use Rattle.ild_bulk.specs.Putting.{AreHeld, IsAmong, AddsOnly, PutAnswer, PutsOne, PutsAnswer, PutsAll, StopsAfter, GivesAll}
-use Rattle.ild_slots.specs.declared.fault.HamtFault.{HamtFault}
-use Rattle.ild_slots.specs.declared.fault.HamtFault.TheVariants as F
+use Rattle.ild_node_slots.specs.declared.fault.HamtFault.{HamtFault}
+use Rattle.ild_node_slots.specs.declared.fault.HamtFault.TheVariants as F
 
 -- ---- told contents
 

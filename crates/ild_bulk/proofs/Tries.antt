@@ -10,8 +10,8 @@ use Rattle.ild_data.specs.Spell.{spell}
 use Rattle.ild_data.specs.TrieShape.{TrieShape, trie_levels}
 use Rattle.ild_data.specs.ByteOrder.{bytewise, no_key_twice}
 use Rattle.ild_data.specs.Trie.{node_of, trie}
-use Rattle.ild_trie.proofs.Node.{trie-sorted}
-use Rattle.ild_trie.proofs.Parts.{sorted_in_order}
+use Rattle.ild_hamt_trie.proofs.Node.{trie-sorted}
+use Rattle.ild_hamt_trie.proofs.Parts.{sorted_in_order}
 use Rattle.ild_edges.specs.Store.{Moment}
 use Rattle.ild_node.specs.declared.row.Row.{Row}
 use Rattle.ild_node.specs.Rows.{row_seen, rows_seen, AreRows}
@@ -19,8 +19,8 @@ use Rattle.ild_typed.proofs.NodeEntries.{less, true_of}
 use Rattle.ild_bulk.specs.Planned.{PlansNode, planned}
 use Rattle.ild_bulk.specs.Build.{plan_of, HasTrie, HasShortTrie, HasLongTrie, Stops, Builds, any_long, is_long}
 use Rattle.ild_bulk.specs.Putting.{PutsAll}
-use Rattle.ild_slots.specs.declared.fault.HamtFault.{HamtFault}
-use Rattle.ild_slots.specs.declared.fault.HamtFault.TheVariants as F
+use Rattle.ild_node_slots.specs.declared.fault.HamtFault.{HamtFault}
+use Rattle.ild_node_slots.specs.declared.fault.HamtFault.TheVariants as F
 use Rattle.ild_node.specs.declared.keyed.Keyed.{Keyed}
 use Rattle.ild_bulk.specs.Keyed.{AreKeyed}
 use Rattle.ild_node.specs.Keyed.{keyed_rows, keyed_seen}

@@ -8,8 +8,8 @@ use Rattle.ild_data.specs.TrieShape.{TrieShape, trie_levels}
 use Rattle.ild_data.specs.Trie.{trie}
 use Rattle.ild_bulk.specs.Planned.{planned}
 use Rattle.ild_bulk.specs.Putting.{PutsAll}
-use Rattle.ild_slots.specs.declared.fault.HamtFault.{HamtFault}
-use Rattle.ild_slots.specs.declared.fault.HamtFault.TheVariants.{Exhausted, Size, Memory}
+use Rattle.ild_node_slots.specs.declared.fault.HamtFault.{HamtFault}
+use Rattle.ild_node_slots.specs.declared.fault.HamtFault.TheVariants.{Exhausted, Size, Memory}
 
 abbrev pub is_long : List ℕ → Bool
 is_long b = nat_lt longest_block (length b)

@@ -10,8 +10,8 @@ use Rattle.ild_node.specs.Drafts.{HasWritten}
 use Rattle.ild_node.specs.NewSlots.{slot_seen}
 use Rattle.ild_node.specs.declared.draft.Draft.{Draft}
 use Rattle.ild_node.specs.declared.hold.NewHold.{NewHold}
-use Rattle.ild_slots.specs.declared.fault.HamtFault.{HamtFault}
-use Rattle.ild_slots.specs.declared.fault.HamtFault.TheVariants.{Exhausted, Memory}
+use Rattle.ild_node_slots.specs.declared.fault.HamtFault.{HamtFault}
+use Rattle.ild_node_slots.specs.declared.fault.HamtFault.TheVariants.{Exhausted, Memory}
 
 -- the blocks of a slot's node: first those beneath it, then its own
 abbrev pub slot_plan : ℕ → (List (List ℕ × Data) → Option Data) → (List (List ℕ × Data) → List (List ℕ)) → List (List ℕ × Data) → List (List ℕ)

@@ -4,8 +4,8 @@ use Rattle.ild_data.specs.Spell.{id_of}
 use Rattle.ild_edges.specs.Count.{Rose}
 use Rattle.ild_edges.specs.Store.{Moment, Later, Gives, block_at}
 use Rattle.ild_edges.specs.Told.{IfTold, BothTold}
-use Rattle.ild_slots.specs.declared.fault.HamtFault.{HamtFault}
-use Rattle.ild_slots.specs.declared.fault.HamtFault.TheVariants.{Store, Clash, Memory}
+use Rattle.ild_node_slots.specs.declared.fault.HamtFault.{HamtFault}
+use Rattle.ild_node_slots.specs.declared.fault.HamtFault.TheVariants.{Store, Clash, Memory}
 
 -- each block is held under its id
 abbrev pub AreHeld : List (List ℕ) → List (List ℕ) → Type 0

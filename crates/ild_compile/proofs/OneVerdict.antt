@@ -5,11 +5,11 @@ use Rattle.std.specs.Str.Lossy.{utf8_valid_len}
 use Rattle.ild_lex.specs.declared.token.Token.{Token}
 use Rattle.ild_lex.specs.Lex.{Stop, Lexes, all_read, wrong_char, unended_text}
 use Rattle.ild_lex.proofs.Once.{one_reading}
-use Rattle.ild_grammar.specs.declared.ast.Ast.{Ast}
-use Rattle.ild_grammar.specs.DerivePart.{Derives}
-use Rattle.ild_grammar.specs.Fault.{IsWrongAt}
-use Rattle.ild_grammar.proofs.OnePlace.{one_wrong_place_lem, tree_or_place_lem}
-use Rattle.ild_grammar.proofs.OneTree.{one_tree_lem}
+use Rattle.ild_parse_grammar.specs.declared.ast.Ast.{Ast}
+use Rattle.ild_parse_grammar.specs.DerivePart.{Derives}
+use Rattle.ild_parse_grammar.specs.Fault.{IsWrongAt}
+use Rattle.ild_parse_grammar.proofs.OnePlace.{one_wrong_place_lem, tree_or_place_lem}
+use Rattle.ild_parse_grammar.proofs.OneTree.{one_tree_lem}
 use Rattle.ild_schema.specs.declared.row.Row.{Row}
 use Rattle.ild_schema.specs.declared.rule.Rule.{Rule}
 use Rattle.ild_schema.specs.Accept.{Fault, IsAccepted, IsFirstFault}

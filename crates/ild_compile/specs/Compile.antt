@@ -3,9 +3,9 @@ use Rattle.std.specs.Prelude.{◌≡◌, ◌⊎◌, ℕ, List, Result, Ok, Err, 
 use Rattle.std.specs.Str.Lossy.{utf8_valid_len}
 use Rattle.ild_lex.specs.declared.token.Token.{Token}
 use Rattle.ild_lex.specs.Lex.{Lexes, AreTokens, wrong_char, unended_text}
-use Rattle.ild_grammar.specs.declared.ast.Ast.{Ast}
-use Rattle.ild_grammar.specs.DerivePart.{Derives}
-use Rattle.ild_grammar.specs.Fault.{IsWrongAt}
+use Rattle.ild_parse_grammar.specs.declared.ast.Ast.{Ast}
+use Rattle.ild_parse_grammar.specs.DerivePart.{Derives}
+use Rattle.ild_parse_grammar.specs.Fault.{IsWrongAt}
 use Rattle.ild_schema.specs.declared.row.Row.{Row}
 use Rattle.ild_schema.specs.declared.rule.Rule.{Rule}
 use Rattle.ild_schema.specs.Accept.{Fault, IsAccepted, IsFirstFault}

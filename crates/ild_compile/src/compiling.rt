@@ -1,7 +1,7 @@
 //! From the bytes of a schema to its accepted table of types.
 ghost use Rattle.std.specs.Prelude.{◌≡◌, ◌⊎◌, ℕ, List, IfOk, IfErr, IsUtf8, Err};
 ghost use Rattle.ild_lex.specs.Lex.{AreTokens};
-ghost use Rattle.ild_grammar.specs.declared.ast.Ast.{Ast};
+ghost use Rattle.ild_parse_grammar.specs.declared.ast.Ast.{Ast};
 ghost use Rattle.ild_schema.specs.declared.row.Row.{Row};
 ghost use Rattle.ild_resolve.specs.Table.{Resolves};
 ghost use Rattle.ild_accept.specs.Judged.{IsFaultOf};
@@ -9,9 +9,9 @@ ghost use Rattle.ild_compile.specs.Compile.{Answers, HasTable, HasTree};
 
 use crate::{CompileErr, Flaw, SchemaFault};
 use ild_accept::{AcceptErr, accept};
-use ild_grammar::Ast;
 use ild_lex::{LexErr, Tokens, tokens};
 use ild_parse::{ParseErr, parse};
+use ild_parse_grammar::Ast;
 use ild_resolve::{ResolveErr, resolve};
 use ild_schema::{Accepted, Schema};
 use std::alloc::Global;

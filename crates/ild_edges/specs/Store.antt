@@ -1,11 +1,19 @@
 -- What the calls of a store say. A content is a list of blocks, each under its id; of two with one id the first counts.
-use Rattle.std.specs.Prelude.{◌≡◌, ◌≢◌, ◌⊎◌, ◌↔◌, ℕ, ◌≤◌, List, Option, Some, None, Result, Ok, Err, find, Contains}
+use Rattle.std.specs.Prelude.{◌≡◌, ◌≢◌, ◌⊎◌, ◌↔◌, ℕ, ◌+◌, ◌-◌, ◌^◌, ◌<◌, ◌≤◌, List, Option, Some, None, Result, Ok, Err, find, Contains}
 use Rattle.ild_data.specs.Key.{same_text}
 use Rattle.ild_data.specs.Spell.{id_of}
 use Rattle.ild_edges.specs.Count.{Rose, bumped}
 use Rattle.ild_edges.specs.Told.{IfTold, BothTold}
 use Rattle.ild_edges.specs.declared.error.EdgeErr.{EdgeErr}
 use Rattle.ild_edges.specs.declared.error.EdgeErr.TheVariants.{Failed, Memory}
+
+-- The store beneath a batch: by which references the batch holds it and its own blocks, and how far it has come.
+pub record Below : Type 0 where
+  pub names : ℕ × ℕ
+  pub blocks : Option (List (List ℕ))
+  pub given : Option (List (List ℕ))
+  pub gets : ℕ
+  pub puts : ℕ
 
 -- A store at a moment: the blocks that it holds and the ids that it was given, where it tells them; how many gets and
 -- puts there were, how often a block was not there, and how often a call failed.
@@ -16,6 +24,7 @@ pub record Moment : Type 0 where
   pub puts : ℕ
   pub lacks : ℕ
   pub faults : ℕ
+  pub beneath : Option Below
 
 -- the block under an id
 abbrev pub block_at : List (List ℕ) → List ℕ → Option (List ℕ)
@@ -42,6 +51,14 @@ Gives id was now = (j : List ℕ) → Contains now j ↔ (Contains was j ⊎ (j 
 abbrev pub StaysGiven : List (List ℕ) → List (List ℕ) → Type 0
 StaysGiven was now = (id : List ℕ) → Contains was id → Contains now id
 
+-- the store beneath is the same, holds the same, and was got from no oftener than its batch was asked
+pub record StaysBelow (m n : Moment) (b c : Below) : Type 0 where
+  pub names : c.names ≡ b.names
+  pub blocks : c.blocks ≡ b.blocks
+  pub given : c.given ≡ b.given
+  pub puts : c.puts ≡ b.puts
+  pub gets : n.gets < 2 ^ 64 - 1 → n.puts < 2 ^ 64 - 1 → c.gets + (m.gets + m.puts) ≤ b.gets + (n.gets + n.puts)
+
 -- no count falls, what was held is held, and what was given is given
 pub record Later (m n : Moment) : Type 0 where
   pub keeps : BothTold m.blocks n.blocks Keeps
@@ -50,6 +67,7 @@ pub record Later (m n : Moment) : Type 0 where
   pub puts : m.puts ≤ n.puts
   pub lacks : m.lacks ≤ n.lacks
   pub faults : m.faults ≤ n.faults
+  pub beneath : BothTold m.beneath n.beneath (StaysBelow m n)
 
 -- what a get answers: the block under the id, or that there is none
 abbrev pub GetsAnswer : Moment → List ℕ → Result (Option (List ℕ)) EdgeErr → Moment → Type 0

@@ -3,8 +3,8 @@ use Rattle.std.proofs.Common.{◌≡◌, ◌∷◌, Some, None, refl}
 use Rattle.ild_data.specs.Data as T
 use Rattle.ild_data.specs.Data.{Data}
 use Rattle.ild_typed.specs.Strings.{members_in}
-use Rattle.ild_piece.specs.declared.walk.MapEntries.{MapEntries}
-use Rattle.ild_piece.specs.Entries.{EntriesGive, Maps}
+use Rattle.ild_layer_piece.specs.declared.walk.MapEntries.{MapEntries}
+use Rattle.ild_layer_piece.specs.Entries.{EntriesGive, Maps}
 
 pub none_left : (t : Data) (s after : MapEntries) → Maps (members_in t) (Some s) → EntriesGive s None after → Some (T.map T.no_members) ≡ Some t
 none_left (T.map T.no_members) s after left gives = refl

@@ -34,7 +34,7 @@ use Rattle.ild_typed.proofs.Entries.{same_text_self}
 use Rattle.ild_typed.proofs.Structs.{int_same}
 use Rattle.ild_typed.proofs.Utf8Texts.{decimal_is_int}
 use Rattle.ild_enum.proofs.Decimals.{decimal_is, decimals_apart}
-use Rattle.ild_piece.proofs.Searching.{text_agrees, all_of, all_then, same_bool, ended, first_at, none_ended}
+use Rattle.ild_layer_piece.proofs.Searching.{text_agrees, all_of, all_then, same_bool, ended, first_at, none_ended}
 
 value_is : (o : Option Data) (t : Data) → is_value o t ≡ true → o ≡ Some t
 value_is (Some (T.text a)) (T.text b) e = ap (λ s. Some (T.text s)) (text_same a b (sym e))

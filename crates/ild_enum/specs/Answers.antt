@@ -10,7 +10,7 @@ use Rattle.ild_typed.specs.Causes.{why_of}
 use Rattle.ild_typed.specs.Composed.{composed}
 use Rattle.ild_typed.specs.Hamt.{alone}
 use Rattle.ild_typed.specs.Layer as L
-use Rattle.ild_piece.specs.Answers.{told}
+use Rattle.ild_layer_piece.specs.Answers.{told}
 
 abbrev pub UnitAnswer : UnitForm → Data → Result (Unit {0}) Why → Type 0
 UnitAnswer form t r = MatchResult r (λ u. composed alone (D.Unit form) L.unit ≡ Some t) (λ w. why_of (D.Unit form) t ≡ Some (told w))

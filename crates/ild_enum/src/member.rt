@@ -5,8 +5,8 @@ ghost use Rattle.ild_data.specs.Data.{Data};
 ghost use Rattle.ild_data.specs.Integer.{IsInt};
 ghost use Rattle.ild_enum.specs.Answers.{EnumAnswer};
 ghost use Rattle.ild_enum.specs.Forms.{IsEnumType};
-ghost use Rattle.ild_piece.specs.Answers.{Layered, Refused};
-ghost use Rattle.ild_piece.specs.Pieces.{StandsFor};
+ghost use Rattle.ild_layer_piece.specs.Answers.{Layered, Refused};
+ghost use Rattle.ild_layer_piece.specs.Pieces.{StandsFor};
 ghost use Rattle.ild_schema.specs.Copies.{base};
 ghost use Rattle.ild_schema.specs.Parts.{IsPartOf};
 ghost use Rattle.ild_schema.specs.Rows.{def_at};
@@ -17,7 +17,7 @@ ghost use Rattle.ild_typed.specs.Layer as L;
 
 use ild_cbor::{Piece, Why};
 use ild_data::Int;
-use ild_piece::{int, text};
+use ild_layer_piece::{int, text};
 use ild_schema::{Accepted, EnumForm, TypeDef, TypeNo};
 use itoa::Buffer;
 

@@ -3,14 +3,14 @@ ghost use Rattle.std.specs.Prelude.{◌≡◌, ◌<◌, List, MatchResult, lengt
 ghost use Rattle.ild_data.specs.Data.{Data};
 ghost use Rattle.ild_enum.specs.Answers.{UnitAnswer, truth_form};
 ghost use Rattle.ild_enum.specs.Forms.{IsUnitType};
-ghost use Rattle.ild_piece.specs.Answers.{Layered, Refused};
-ghost use Rattle.ild_piece.specs.Pieces.{IsNumbered, StandsFor};
+ghost use Rattle.ild_layer_piece.specs.Answers.{Layered, Refused};
+ghost use Rattle.ild_layer_piece.specs.Pieces.{IsNumbered, StandsFor};
 ghost use Rattle.ild_schema.specs.declared.row.Row.{Row};
 ghost use Rattle.ild_schema.specs.declared.def.UnitForm.TheVariants.{EmptyMap, Null};
 ghost use Rattle.ild_typed.specs.Layer as L;
 
 use ild_cbor::{Piece, Why};
-use ild_piece::{boolean, entries, is_null};
+use ild_layer_piece::{boolean, entries, is_null};
 use ild_schema::{Accepted, TypeDef, TypeNo, UnitForm};
 
 fn null(piece: &Piece<'_>) -> Result<(), Why>

@@ -11,39 +11,40 @@ use Rattle.ild_data.specs.Trie.{TrieSlot, node_of}
 use Rattle.ild_data.specs.TrieShape.{trie_levels}
 use Rattle.ild_edges.specs.Store.{Moment, Keeps}
 use Rattle.ild_edges.specs.Told.{BothTold}
-use Rattle.ild_trie.specs.Way.{way}
-use Rattle.ild_trie.proofs.Node.{slots-node}
+use Rattle.ild_hamt_trie.specs.Way.{way}
+use Rattle.ild_hamt_trie.proofs.Node.{slots-node}
 use Rattle.ild_typed.specs.Composed.{usual}
 use Rattle.ild_typed.specs.Nested.{TreeIn}
 use Rattle.ild_typed.proofs.Treed.{EntryIn}
 use Rattle.ild_typed.proofs.TreeNodes.{part_in}
 use Rattle.ild_node.proofs.Placing.{all-put}
-use Rattle.ild_slots.specs.Views.{HasSlots}
-use Rattle.ild_slots.specs.declared.view.NodeView.{NodeView}
-use Rattle.ild_slots.specs.declared.fault.HamtFault.{HamtFault}
-use Rattle.ild_slots.specs.declared.fault.HamtFault.TheVariants as F
+use Rattle.ild_node_slots.specs.Views.{HasSlots}
+use Rattle.ild_node_slots.specs.declared.view.NodeView.{NodeView}
+use Rattle.ild_node_slots.specs.declared.fault.HamtFault.{HamtFault}
+use Rattle.ild_node_slots.specs.declared.fault.HamtFault.TheVariants as F
 use Rattle.ild_bulk.specs.Build.{any_long}
 use Rattle.ild_bulk.specs.Children.{AddsWhole}
 use Rattle.ild_bulk.specs.Putting.{AddsOnly, AreHeld, PutsAll, StopsAfter}
 use Rattle.ild_data.specs.TrieBlocks.{nodes_beneath}
 use Rattle.ild_hamt.proofs.Beneath.{way-beneath, among-turned, among-take}
 use Rattle.ild_bulk.proofs.Puts.{told-map, told-same}
-use Rattle.ild_walker.specs.Trees.{HoldsBelow}
-use Rattle.ild_climb.specs.Way.{IsRootOf}
+use Rattle.ild_bulk_walker.specs.Trees.{HoldsBelow}
+use Rattle.ild_hamt_climb.specs.Way.{IsRootOf}
 use Rattle.ild_hamt.specs.Removing.{Removes}
-use Rattle.ild_climb.proofs.Differing.{differs-without}
-use Rattle.ild_climb.specs.Rewriting.{DiffersAt, HasRoot, Rewrites, way_up}
+use Rattle.ild_hamt_climb.proofs.Differing.{differs-without}
+use Rattle.ild_hamt_climb.specs.Rewriting.{DiffersAt, HasRoot, Rewrites, way_up}
 use Rattle.ild_hamt.specs.Rewriting.{HoldsAfter}
 use Rattle.ild_hamt.proofs.Holding.{all-holds}
 use Rattle.ild_hamt.proofs.Sound.{way-holds}
 use Rattle.ild_hamt.proofs.Sounded.{entries-sound, way-short}
-use Rattle.ild_hamt.proofs.Whole.{WayOver, Rising, rising-way, way-over, stopped-whole}
+use Rattle.ild_hamt_climb.specs.Planning.{Rising}
+use Rattle.ild_hamt.proofs.Whole.{WayOver, rising-way, way-over, stopped-whole}
 
 -- the entries of the trie with the change are sound, where those of the old one are
 abbrev pub KeepsSound : List (List ℕ × Data) → List (List ℕ × Data) → Type 0
 KeepsSound es fs = AllByRecursion (EntryIn 92) es → AllByRecursion (EntryIn 92) fs
 
-told-both : {A : Type 0} (o q : Option A) (P Q R : A → A → Type 0) → ((a b : A) → P a b → Q a b → R a b) → BothTold o q P → BothTold o q Q → BothTold o q R
+pub told-both : {A : Type 0} (o q : Option A) (P Q R : A → A → Type 0) → ((a b : A) → P a b → Q a b → R a b) → BothTold o q P → BothTold o q Q → BothTold o q R
 told-both None None P Q R f t u = tt
 told-both None (Some b) P Q R f t u = absurd t
 told-both (Some a) None P Q R f t u = absurd t

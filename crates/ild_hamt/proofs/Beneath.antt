@@ -8,10 +8,10 @@ use Rattle.ild_data.specs.Data.{Data}
 use Rattle.ild_data.specs.TrieShape.{TrieShape}
 use Rattle.ild_data.specs.Trie.{part, node_of, at_depth}
 use Rattle.ild_data.specs.TrieBlocks.{nodes_beneath, node_and_beneath, none_or, block_of}
-use Rattle.ild_trie.specs.Way.{way}
-use Rattle.ild_trie.proofs.Fold.{any-range}
-use Rattle.ild_trie.proofs.Index.{index_below}
-use Rattle.ild_trie.proofs.Way.{way_is}
+use Rattle.ild_hamt_trie.specs.Way.{way}
+use Rattle.ild_hamt_trie.proofs.Fold.{any-range}
+use Rattle.ild_hamt_trie.proofs.Index.{index_below}
+use Rattle.ild_hamt_trie.proofs.Way.{way_is}
 use Rattle.ild_bulk.specs.Putting.{IsAmong}
 use Rattle.ild_bulk.proofs.Puts.{among-left, among-right}
 

@@ -6,32 +6,32 @@ use Rattle.std.specs.FinMap.Entries.{length-put}
 use Rattle.ild_data.specs.Data.{Data}
 use Rattle.ild_data.specs.TrieShape.{TrieShape, trie_levels, index}
 use Rattle.ild_data.specs.Trie.{TrieSlot, empty, bucket, part, node_of, at_depth, slots_at}
-use Rattle.ild_trie.specs.Collapse.{sized}
+use Rattle.ild_hamt_trie.specs.Collapse.{sized}
 use Rattle.ild_data.specs.ByteOrder.{bytewise}
-use Rattle.ild_trie.specs.Way.{along}
-use Rattle.ild_trie.proofs.Parts.{total}
-use Rattle.ild_trie.proofs.Climb.{in_order-along}
-use Rattle.ild_trie.proofs.Node.{set-exhausts, node-slots, length-along}
-use Rattle.ild_trie.proofs.Way.{find-along}
-use Rattle.ild_trie.proofs.Index.{index_below}
-use Rattle.ild_trie.proofs.Slots.{slot_at}
-use Rattle.ild_trie.proofs.Fold.{slot-few}
+use Rattle.ild_hamt_trie.specs.Way.{along}
+use Rattle.ild_hamt_trie.proofs.Parts.{total}
+use Rattle.ild_hamt_trie.proofs.Climb.{in_order-along}
+use Rattle.ild_hamt_trie.proofs.Node.{set-exhausts, node-slots, length-along}
+use Rattle.ild_hamt_trie.proofs.Way.{find-along}
+use Rattle.ild_hamt_trie.proofs.Index.{index_below}
+use Rattle.ild_hamt_trie.proofs.Slots.{slot_at}
+use Rattle.ild_hamt_trie.proofs.Fold.{slot-few}
 use Rattle.std.proofs.lemmas.Option.{same_Some}
 use Rattle.ild_data.specs.declared.id.BlockId.{BlockId}
 use Rattle.ild_cbor.specs.declared.node.Node.{Node}
-use Rattle.ild_slots.specs.declared.view.NodeView.{NodeView}
-use Rattle.ild_slots.specs.declared.view.NodeSlot.{NodeSlot}
-use Rattle.ild_slots.specs.declared.view.NodeSlot.TheVariants as S
-use Rattle.ild_slots.specs.declared.bucket.Bucket.{Bucket}
-use Rattle.ild_slots.specs.Views.{HasSlots, HasEntries, ValueIn, bucket_node}
-use Rattle.ild_climb.proofs.Shown.{value-found}
-use Rattle.ild_climb.proofs.Upward.{next-part}
+use Rattle.ild_node_slots.specs.declared.view.NodeView.{NodeView}
+use Rattle.ild_node_slots.specs.declared.view.NodeSlot.{NodeSlot}
+use Rattle.ild_node_slots.specs.declared.view.NodeSlot.TheVariants as S
+use Rattle.ild_node_slots.specs.declared.bucket.Bucket.{Bucket}
+use Rattle.ild_node_slots.specs.Views.{HasSlots, HasEntries, ValueIn, bucket_node}
+use Rattle.ild_hamt_climb.proofs.Shown.{value-found}
+use Rattle.ild_hamt_climb.proofs.Upward.{next-part}
 use Rattle.ild_hamt.specs.declared.trail.Trail.{Trail}
 use Rattle.ild_typed.specs.Composed.{usual}
-use Rattle.ild_climb.specs.Seen.{Shows, ValueIs}
+use Rattle.ild_hamt_climb.specs.Seen.{Shows, ValueIs}
 use Rattle.ild_hamt.specs.Ends.{EndsAt, agree, agreeing}
-use Rattle.ild_walker.specs.Gives.{IsNodeOf}
-use Rattle.ild_climb.specs.Way.{slot_for}
+use Rattle.ild_bulk_walker.specs.Gives.{IsNodeOf}
+use Rattle.ild_hamt_climb.specs.Way.{slot_for}
 use Rattle.ild_hamt.specs.Descending.{IsTrailOf, trail_blocks}
 
 all_pass : {X : Type 0} (xs : List X) → filter (λ x. true) xs ≡ xs
@@ -60,7 +60,7 @@ along-split h p k (suc a) b depth es =
     let f : depth + suc a ≡ (depth + 1) + a = omega arith in
     rw (e, f) (along-split h p k a b (depth + 1) (part (at_depth h p depth) es (at_depth h p depth k)))
 
-full-cond : (o : Option Data) (a most : ℕ) → a ≤ most → (not (is_some o) && nat_le most a) ≡ not (nat_le (cond (is_some o) a (a + 1)) most)
+pub full-cond : (o : Option Data) (a most : ℕ) → a ≤ most → (not (is_some o) && nat_le most a) ≡ not (nat_le (cond (is_some o) a (a + 1)) most)
 full-cond (Some d) a most le = ap not (sym (le-leb a most le))
 full-cond None a most le =
     ⊎_elim

@@ -12,28 +12,28 @@ use Rattle.ild_edges.specs.Told.{IfTold}
 use Rattle.ild_edges.proofs.Later.{Later-refl, Later-trans}
 use Rattle.ild_data.specs.TrieShape.{TrieShape, trie_levels}
 use Rattle.ild_data.specs.Trie.{TrieSlot, empty, bucket, child, is_child, bucket_entries, node_data, part, at_depth, slots_at}
-use Rattle.ild_trie.specs.Way.{along, way}
-use Rattle.ild_trie.proofs.Way.{way-ends, along-more}
-use Rattle.ild_trie.proofs.Node.{slot-held, few-held}
+use Rattle.ild_hamt_trie.specs.Way.{along, way}
+use Rattle.ild_hamt_trie.proofs.Way.{way-ends, along-more}
+use Rattle.ild_hamt_trie.proofs.Node.{slot-held, few-held}
 use Rattle.ild_cbor.specs.declared.why.Why.TheVariants.{Trie}
 use Rattle.ild_data.specs.declared.id.BlockId.{BlockId}
-use Rattle.ild_slots.specs.Views.{HasSlots}
-use Rattle.ild_slots.specs.declared.view.NodeView.{NodeView}
-use Rattle.ild_slots.specs.declared.view.NodeSlot.{NodeSlot}
+use Rattle.ild_node_slots.specs.Views.{HasSlots}
+use Rattle.ild_node_slots.specs.declared.view.NodeView.{NodeView}
+use Rattle.ild_node_slots.specs.declared.view.NodeSlot.{NodeSlot}
 use Rattle.ild_typed.specs.Composed.{usual}
-use Rattle.ild_climb.specs.Seen.{Shows}
+use Rattle.ild_hamt_climb.specs.Seen.{Shows}
 use Rattle.ild_hamt.specs.Ends.{EndsAt, hashes_of, is_full}
 use Rattle.ild_cbor.specs.declared.why.BlockWhy.{BlockWhy}
 use Rattle.ild_cbor.specs.declared.why.BlockWhy.TheVariants.{Missing, Cbor, Shape as NoNode}
-use Rattle.ild_slots.specs.declared.fault.HamtFault.{HamtFault}
-use Rattle.ild_slots.specs.declared.fault.HamtFault.TheVariants.{Exhausted, Block, Store, Clash, Size, NoKey, Memory}
+use Rattle.ild_node_slots.specs.declared.fault.HamtFault.{HamtFault}
+use Rattle.ild_node_slots.specs.declared.fault.HamtFault.TheVariants.{Exhausted, Block, Store, Clash, Size, NoKey, Memory}
 use Rattle.ild_hamt.specs.declared.trail.Trail.{Trail}
 use Rattle.ild_hamt.specs.Fetching.{Fetches, BlockCause, IsBlockAt}
 use Rattle.ild_bulk.specs.Putting.{AreHeld}
-use Rattle.ild_walker.specs.Gives.{IsNodeOf}
-use Rattle.ild_walker.specs.Trees.{HoldsBelow}
-use Rattle.ild_climb.specs.Way.{slot_for, child_id, Leads, IsRootOf}
-use Rattle.ild_climb.specs.Rewriting.{NodeAt}
+use Rattle.ild_bulk_walker.specs.Gives.{IsNodeOf}
+use Rattle.ild_bulk_walker.specs.Trees.{HoldsBelow}
+use Rattle.ild_hamt_climb.specs.Way.{slot_for, child_id, Leads, IsRootOf}
+use Rattle.ild_hamt_climb.specs.Rewriting.{NodeAt}
 use Rattle.ild_hamt.specs.Descending.{Reads, DescendAnswer, TrailIs, Descends, IsBadChild, LinksBeyond, trail_blocks}
 use Rattle.ild_hamt.proofs.Leading.{leads-more, leads-end, leads-node, held-more, leads-way, child-node, Child, held-node}
 

@@ -10,22 +10,22 @@ use Rattle.std.proofs.lemmas.List.Filters.{length-filter_more}
 use Rattle.ild_data.specs.ByteOrder.{bytewise, without, IsInOrder}
 use Rattle.ild_data.specs.Data.{Data}
 use Rattle.ild_data.specs.TrieShape.{TrieShape, trie_levels}
-use Rattle.ild_trie.proofs.Parts.{same_by_find, same_key, key_itself, in_order-put, in_order-without, find-put_at, find-without}
+use Rattle.ild_hamt_trie.proofs.Parts.{same_by_find, same_key, key_itself, in_order-put, in_order-without, find-put_at, find-without}
 use Rattle.ild_cbor.specs.declared.node.Node.{Node}
 use Rattle.ild_node.specs.Keyed.{keyed_rows, keyed_seen}
 use Rattle.ild_node.specs.Rows.{row_seen, rows_seen}
 use Rattle.ild_data.specs.Trie.{TrieSlot, empty, bucket, child, bucket_entries}
 use Rattle.ild_data.specs.declared.id.BlockId.{BlockId}
-use Rattle.ild_slots.specs.Views.{EntryIs, HasEntries, ValueIn, bucket_node}
-use Rattle.ild_slots.specs.declared.view.NodeSlot.TheVariants as S
-use Rattle.ild_climb.specs.Seen.{Shows}
-use Rattle.ild_slots.specs.declared.bucket.Bucket.{Bucket}
+use Rattle.ild_node_slots.specs.Views.{EntryIs, HasEntries, ValueIn, bucket_node}
+use Rattle.ild_node_slots.specs.declared.view.NodeSlot.TheVariants as S
+use Rattle.ild_hamt_climb.specs.Seen.{Shows}
+use Rattle.ild_node_slots.specs.declared.bucket.Bucket.{Bucket}
 use Rattle.ild_node.specs.declared.keyed.Keyed.{Keyed}
 use Rattle.ild_node.specs.declared.row.Row.{Row}
 use Rattle.ild_hamt.specs.Ends.{agree, agreeing, agreeing_hashes, hashes_of, is_full}
-use Rattle.ild_climb.specs.Gathering.{some_entry}
-use Rattle.ild_climb.proofs.Differing.{other-key}
-use Rattle.ild_climb.proofs.PutEach.{got, without-append}
+use Rattle.ild_hamt_climb.specs.Gathering.{some_entry}
+use Rattle.ild_hamt_climb.proofs.Differing.{other-key}
+use Rattle.ild_hamt_climb.proofs.PutEach.{got, without-append}
 
 -- ---- the entries without a key
 

@@ -4,17 +4,17 @@ use Rattle.std.proofs.lemmas.Bool.{cases_eq, cases_lt}
 use Rattle.ild_data.specs.Data.{Data}
 use Rattle.ild_data.specs.Trie.{TrieSlot, empty, part, link_to, node_of, at_depth, slots_at}
 use Rattle.ild_data.specs.TrieShape.{TrieShape, trie_levels}
-use Rattle.ild_trie.proofs.Fold.{slot-many, length-part}
-use Rattle.ild_trie.proofs.Index.{index_below}
-use Rattle.ild_trie.proofs.Node.{slots-node, no_node}
-use Rattle.ild_trie.proofs.Slots.{slot_at}
+use Rattle.ild_hamt_trie.proofs.Fold.{slot-many, length-part}
+use Rattle.ild_hamt_trie.proofs.Index.{index_below}
+use Rattle.ild_hamt_trie.proofs.Node.{slots-node, no_node}
+use Rattle.ild_hamt_trie.proofs.Slots.{slot_at}
 use Rattle.ild_data.specs.Spell.{spell, id_of}
 use Rattle.ild_edges.specs.Store.{Keeps}
-use Rattle.ild_walker.specs.Trees.{IsHeldNode, HoldsBelow}
-use Rattle.ild_climb.specs.Way.{IsRootOf}
+use Rattle.ild_bulk_walker.specs.Trees.{IsHeldNode, HoldsBelow}
+use Rattle.ild_hamt_climb.specs.Way.{IsRootOf}
 use Rattle.ild_hamt.specs.Holding.{HoldsWay}
-use Rattle.ild_climb.specs.Rewriting.{DiffersAt}
-use Rattle.ild_climb.proofs.Differing.{part-differs, part-others}
+use Rattle.ild_hamt_climb.specs.Rewriting.{DiffersAt}
+use Rattle.ild_hamt_climb.proofs.Differing.{part-differs, part-others}
 
 -- entries that a bucket takes have no node beneath
 holds-few : (h : List ℕ → List ℕ) (p : TrieShape) (held : List (List ℕ)) (left depth : ℕ) (es : List (List ℕ × Data)) → length es ≤ p.bucket → HoldsBelow h p held left depth es

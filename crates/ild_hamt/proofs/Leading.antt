@@ -7,19 +7,19 @@ use Rattle.ild_cbor.proofs.Blocks.{one_spelling_within}
 use Rattle.ild_edges.specs.Store.{block_at}
 use Rattle.ild_data.specs.TrieShape.{TrieShape}
 use Rattle.ild_data.specs.Trie.{TrieSlot, child, node_data, node_of, slot_of, part, at_depth, slots_at}
-use Rattle.ild_trie.specs.Way.{along, way}
+use Rattle.ild_hamt_trie.specs.Way.{along, way}
 use Rattle.std.specs.List.{range_with_len}
 use Rattle.std.proofs.lemmas.List.FromFn.{length-map-range_with_len}
-use Rattle.ild_trie.proofs.Bits.{same_node}
-use Rattle.ild_trie.proofs.Slots.{all_some-length}
-use Rattle.ild_trie.proofs.Node.{slot-child, slots-node, no_node}
-use Rattle.ild_trie.proofs.Way.{way-child}
-use Rattle.ild_slots.proofs.Fits.{whole_map}
+use Rattle.ild_hamt_trie.proofs.Bits.{same_node}
+use Rattle.ild_hamt_trie.proofs.Slots.{all_some-length}
+use Rattle.ild_hamt_trie.proofs.Node.{slot-child, slots-node, no_node}
+use Rattle.ild_hamt_trie.proofs.Way.{way-child}
+use Rattle.ild_node_slots.proofs.Fits.{whole_map}
 use Rattle.ild_hamt.specs.Ends.{EndsAt}
 use Rattle.ild_bulk.specs.Putting.{AreHeld}
-use Rattle.ild_walker.specs.Gives.{IsNodeOf}
-use Rattle.ild_walker.specs.Trees.{IsHeldNode, HoldsBelow}
-use Rattle.ild_climb.specs.Way.{slot_for, Leads}
+use Rattle.ild_bulk_walker.specs.Gives.{IsNodeOf}
+use Rattle.ild_bulk_walker.specs.Trees.{IsHeldNode, HoldsBelow}
+use Rattle.ild_hamt_climb.specs.Way.{slot_for, Leads}
 
 pub leads-more : (p : TrieShape) (hash : List ℕ) (depth : ℕ) (slots : List TrieSlot) (bs : List (List ℕ)) (last : List TrieSlot) (b : List ℕ) (next : List TrieSlot)
     → Leads p hash depth slots bs last → slot_for p hash (depth + length bs) last ≡ child (id_of b) → IsNodeOf p b next → Leads p hash depth slots (bs ++ b ∷ []) next

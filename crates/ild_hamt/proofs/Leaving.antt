@@ -9,33 +9,33 @@ use Rattle.ild_data.specs.Data.{Data}
 use Rattle.ild_data.specs.Trie.{TrieSlot, empty, slot_of, node_of}
 use Rattle.ild_data.specs.TrieBlocks.{none_or, block_of}
 use Rattle.ild_data.specs.TrieShape.{TrieShape, trie_levels}
-use Rattle.ild_trie.specs.Collapse.{sized}
-use Rattle.ild_trie.specs.Way.{along}
-use Rattle.ild_trie.proofs.Climb.{in_order-along}
-use Rattle.ild_trie.proofs.Fold.{slot-few}
-use Rattle.ild_trie.proofs.Parts.{same_by_find, same_key, key_itself, in_order-put, in_order-without, find-put_at, find-without}
+use Rattle.ild_hamt_trie.specs.Collapse.{sized}
+use Rattle.ild_hamt_trie.specs.Way.{along}
+use Rattle.ild_hamt_trie.proofs.Climb.{in_order-along}
+use Rattle.ild_hamt_trie.proofs.Fold.{slot-few}
+use Rattle.ild_hamt_trie.proofs.Parts.{same_by_find, same_key, key_itself, in_order-put, in_order-without, find-put_at, find-without}
 use Rattle.ild_typed.specs.Composed.{usual}
 use Rattle.ild_cbor.specs.declared.node.Node.{Node}
 use Rattle.ild_edges.specs.Store.{Moment}
 use Rattle.ild_bulk.specs.Planned.{PlansSlot, planned, slot_plan}
 use Rattle.ild_node.specs.NewSlots.{slot_seen}
-use Rattle.ild_slots.specs.Views.{HasEntries, ValueIn, bucket_node}
-use Rattle.ild_slots.specs.declared.bucket.Bucket.{Bucket}
+use Rattle.ild_node_slots.specs.Views.{HasEntries, ValueIn, bucket_node}
+use Rattle.ild_node_slots.specs.declared.bucket.Bucket.{Bucket}
 use Rattle.ild_node.specs.declared.hold.NewHold.{NewHold}
-use Rattle.ild_slots.specs.declared.view.NodeSlot.TheVariants as S
-use Rattle.ild_slots.specs.declared.fault.HamtFault.{HamtFault}
-use Rattle.ild_slots.specs.declared.fault.HamtFault.TheVariants as F
+use Rattle.ild_node_slots.specs.declared.view.NodeSlot.TheVariants as S
+use Rattle.ild_node_slots.specs.declared.fault.HamtFault.{HamtFault}
+use Rattle.ild_node_slots.specs.declared.fault.HamtFault.TheVariants as F
 use Rattle.ild_hamt.specs.Descending.{IsTrailOf, trail_blocks}
 use Rattle.ild_hamt.specs.Ends.{hashes_of}
 use Rattle.ild_hamt.proofs.Hashed.{others-put}
 use Rattle.ild_hamt.specs.Removing.{Removes}
-use Rattle.ild_climb.specs.Rewriting.{Rewrites, ClimbState}
-use Rattle.ild_climb.specs.Seen.{Shows}
+use Rattle.ild_hamt_climb.specs.Rewriting.{Rewrites, ClimbState}
+use Rattle.ild_hamt_climb.specs.Seen.{Shows}
 use Rattle.ild_hamt.specs.declared.trail.Trail.{Trail}
-use Rattle.ild_climb.proofs.Differing.{along-without}
+use Rattle.ild_hamt_climb.proofs.Differing.{along-without}
 use Rattle.ild_hamt.proofs.Fulling.{end-bucket, full-is}
 use Rattle.ild_hamt.proofs.Roomy.{has-room}
-use Rattle.ild_climb.proofs.Upward.{start-put, start-few}
+use Rattle.ild_hamt_climb.proofs.Upward.{start-put, start-few}
 
 -- ---- the bottom
 
@@ -136,11 +136,11 @@ none-without k es none = ap (without k) (sym none)
 pub none-found : (k : List ℕ) (es : List (List ℕ × Data)) → es ≡ [] → find bytewise k es ≡ None
 none-found k es none = ap (find bytewise k) none
 
-value-some : (whole : Node) (es : List (List ℕ × Data)) (key : List ℕ) (o : Option Data) (n : Node) → ValueIn whole es key o (Some n) → IsSome o
+pub value-some : (whole : Node) (es : List (List ℕ × Data)) (key : List ℕ) (o : Option Data) (n : Node) → ValueIn whole es key o (Some n) → IsSome o
 value-some whole es key None n is = absurd is
 value-some whole es key (Some d) n is = refl
 
-value-none : (whole : Node) (es : List (List ℕ × Data)) (key : List ℕ) (o : Option Data) → ValueIn whole es key o None → o ≡ None
+pub value-none : (whole : Node) (es : List (List ℕ × Data)) (key : List ℕ) (o : Option Data) → ValueIn whole es key o None → o ≡ None
 value-none whole es key None is = refl
 value-none whole es key (Some d) is = absurd is
 

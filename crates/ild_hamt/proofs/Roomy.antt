@@ -6,11 +6,11 @@ use Rattle.ild_data.specs.Data.{Data}
 use Rattle.ild_data.specs.ByteOrder.{bytewise}
 use Rattle.ild_data.specs.Trie.{TrieSlot, empty, part, slot_of, node_of, at_depth}
 use Rattle.ild_data.specs.TrieShape.{TrieShape, trie_levels}
-use Rattle.ild_trie.specs.Way.{along}
-use Rattle.ild_trie.proofs.Fold.{slot-few}
-use Rattle.ild_trie.proofs.Index.{index_below}
-use Rattle.ild_trie.proofs.Node.{slots-node, along-put, length-along}
-use Rattle.ild_trie.proofs.Slots.{slot_at}
+use Rattle.ild_hamt_trie.specs.Way.{along}
+use Rattle.ild_hamt_trie.proofs.Fold.{slot-few}
+use Rattle.ild_hamt_trie.proofs.Index.{index_below}
+use Rattle.ild_hamt_trie.proofs.Node.{slots-node, along-put, length-along}
+use Rattle.ild_hamt_trie.proofs.Slots.{slot_at}
 use Rattle.ild_hamt.specs.Descending.{IsTrailOf, trail_blocks}
 use Rattle.ild_hamt.specs.declared.trail.Trail.{Trail}
 use Rattle.ild_hamt.proofs.Fulling.{full-is}

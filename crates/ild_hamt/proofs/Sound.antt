@@ -14,10 +14,10 @@ use Rattle.ild_data.specs.TrieBlocks.{none_or, block_of}
 use Rattle.ild_data.specs.TrieShape.{TrieShape}
 use Rattle.ild_cbor.specs.Block.{IsBlockOf}
 use Rattle.ild_edges.specs.Store.{block_at}
-use Rattle.ild_trie.specs.Way.{way}
-use Rattle.ild_trie.proofs.Node.{slots-node, no_node}
-use Rattle.ild_trie.proofs.Parts.{in_order-part}
-use Rattle.ild_trie.proofs.Way.{way_is}
+use Rattle.ild_hamt_trie.specs.Way.{way}
+use Rattle.ild_hamt_trie.proofs.Node.{slots-node, no_node}
+use Rattle.ild_hamt_trie.proofs.Parts.{in_order-part}
+use Rattle.ild_hamt_trie.proofs.Way.{way_is}
 use Rattle.ild_typed.specs.Composed.{usual}
 use Rattle.ild_typed.specs.Node.{IsSlot}
 use Rattle.ild_typed.proofs.Treed.{EntryIn}

@@ -7,22 +7,22 @@ use Rattle.std.proofs.lemmas.List.{reverse-append}
 use Rattle.ild_data.specs.Data.{Data}
 use Rattle.ild_data.specs.Limits.{IsWithin, longest_block}
 use Rattle.ild_data.specs.Trie.{TrieSlot, empty, bucket, child, bucket_entries, node_data, part, node_of, at_depth, slots_at}
-use Rattle.ild_trie.proofs.Fold.{slot-many}
-use Rattle.ild_trie.proofs.Index.{index_below}
-use Rattle.ild_trie.proofs.Node.{slots-node, no_node}
-use Rattle.ild_trie.proofs.Slots.{slot_at}
+use Rattle.ild_hamt_trie.proofs.Fold.{slot-many}
+use Rattle.ild_hamt_trie.proofs.Index.{index_below}
+use Rattle.ild_hamt_trie.proofs.Node.{slots-node, no_node}
+use Rattle.ild_hamt_trie.proofs.Slots.{slot_at}
 use Rattle.ild_typed.specs.Composed.{usual}
 use Rattle.ild_typed.specs.Node.{IsSlot}
 use Rattle.ild_typed.proofs.Treed.{EntryIn}
 use Rattle.ild_node.specs.Rows.{AreShallow}
 use Rattle.ild_bulk.specs.Build.{any_long, is_long}
 use Rattle.ild_bulk.specs.Putting.{AreHeld}
-use Rattle.ild_walker.specs.Trees.{HoldsBelow, IsHeldNode}
+use Rattle.ild_bulk_walker.specs.Trees.{HoldsBelow, IsHeldNode}
 use Rattle.ild_hamt.proofs.Holding.{linked}
 use Rattle.ild_hamt.proofs.Leading.{held-node}
-use Rattle.ild_climb.proofs.Nested.{shallow-slot}
+use Rattle.ild_hamt_climb.proofs.Nested.{shallow-slot}
 use Rattle.ild_hamt.proofs.Sound.{IsShortHeld}
-use Rattle.ild_climb.proofs.Weights.{few-held}
+use Rattle.ild_hamt_climb.proofs.Weights.{few-held}
 
 -- ---- all entries, part by part
 

@@ -1,5 +1,5 @@
 -- The nodes on a new way have their children on the way or in the store.
-use Rattle.std.proofs.Common.{◌≡◌, ◌≢◌, ◌⊎◌, inl, inr, ⊎_elim, ℕ, zero, suc, ◌+◌, ◌<◌, nat_le, Bool, true, false, List, [], ◌∷◌, ◌++◌, length, get_or, take, Option, Some, None, refl, sym, ap, ◌∙◌, subst, arith, append_assoc, append-nil}
+use Rattle.std.proofs.Common.{◌≡◌, ◌≢◌, ◌⊎◌, inl, inr, ⊎_elim, ℕ, zero, suc, ◌+◌, ◌<◌, nat_le, Bool, true, false, List, [], ◌∷◌, ◌++◌, length, get_or, take, Option, Some, None, refl, sym, ap, ◌∙◌, subst, arith}
 use Rattle.std.specs.Prelude.{IsSome, is_some, reverse}
 use Rattle.std.specs.List.{AllByRecursion}
 use Rattle.std.proofs.lemmas.Bool.{lt-leb, le-leb, cases_eq, cases_lt}
@@ -7,19 +7,21 @@ use Rattle.std.proofs.lemmas.List.{reverse-append}
 use Rattle.ild_data.specs.Data.{Data}
 use Rattle.ild_data.specs.Spell.{spell, id_of}
 use Rattle.ild_data.specs.TrieShape.{TrieShape}
-use Rattle.ild_data.specs.Trie.{TrieSlot, empty, bucket, child, node_data, part, node_of, at_depth, slots_at}
+use Rattle.ild_data.specs.Trie.{TrieSlot, empty, node_data, part, node_of, at_depth, slots_at}
 use Rattle.ild_data.specs.TrieBlocks.{none_or, block_of}
 use Rattle.ild_edges.specs.Store.{block_at, Keeps}
-use Rattle.ild_trie.specs.Way.{way}
-use Rattle.ild_trie.proofs.Node.{slots-node, no_node}
-use Rattle.ild_trie.proofs.Slots.{slot_at}
-use Rattle.ild_trie.proofs.Way.{way_is}
+use Rattle.ild_hamt_trie.specs.Way.{way}
+use Rattle.ild_hamt_trie.proofs.Node.{slots-node, no_node}
+use Rattle.ild_hamt_trie.proofs.Slots.{slot_at}
+use Rattle.ild_hamt_trie.proofs.Way.{way_is}
 use Rattle.ild_typed.proofs.TrieTells.{SlotWay, nothing, few, many, slot_way}
 use Rattle.ild_bulk.specs.Children.{IsIdAmong, ChildIn, IsNodeOver, AddsWhole}
 use Rattle.ild_bulk.specs.Putting.{AreHeld, IsAmong, StopsAfter}
-use Rattle.ild_walker.specs.Trees.{HoldsBelow}
-use Rattle.ild_climb.specs.Rewriting.{DiffersAt}
-use Rattle.ild_climb.proofs.Differing.{part-differs, part-others}
+use Rattle.ild_bulk_walker.specs.Trees.{HoldsBelow}
+use Rattle.ild_hamt_climb.specs.Planning.{Rising}
+use Rattle.ild_hamt_climb.specs.Rewriting.{DiffersAt}
+use Rattle.ild_hamt_climb.proofs.Planning.{among-last, over-more, rising-append}
+use Rattle.ild_hamt_climb.proofs.Differing.{part-differs, part-others}
 use Rattle.ild_hamt.proofs.Holding.{Had, had-below, part-there}
 use Rattle.ild_hamt.proofs.Leading.{slots-many}
 
@@ -119,32 +121,6 @@ way-over h p k was (suc left) depth es fs ss d had is below =
     (cases_lt p.bucket (length gs))
 
 -- ---- from the bottom up
-
--- each block's children are held, or are among those before it
-abbrev pub Rising : List (List ℕ) → List (List ℕ) → List (List ℕ) → Type 0
-Rising was before [] = Unit {0}
-Rising was before (b ∷ bs) = IsNodeOver (λ id. IsSome (block_at was id) ⊎ IsIdAmong before id) b × Rising was (before ++ b ∷ []) bs
-
-rising-append : (was before xs ys : List (List ℕ)) → Rising was before xs → Rising was (before ++ xs) ys → Rising was before (xs ++ ys)
-rising-append was before [] ys first second = subst (λ (bs : List (List ℕ)). Rising was bs ys) (append-nil before) second
-rising-append was before (x ∷ xs) ys first second =
-    (first.0, rising-append was (before ++ x ∷ []) xs ys first.1 (subst (λ (bs : List (List ℕ)). Rising was bs ys) (sym (append_assoc before (x ∷ []) xs)) second))
-
-over-more : (P Q : List ℕ → Type 0) (b : List ℕ) → ((id : List ℕ) → P id → Q id) → IsNodeOver P b → IsNodeOver Q b
-over-more P Q b f over = record { slots = over.slots; is = over.is; children = all_more over.slots over.children }
-  where
-    one : (s : TrieSlot) → ChildIn P s → ChildIn Q s
-    one empty c = tt
-    one (bucket es) c = tt
-    one (child id) c = f id c
-
-    all_more : (slots : List TrieSlot) → AllByRecursion (ChildIn P) slots → AllByRecursion (ChildIn Q) slots
-    all_more [] all = tt
-    all_more (s ∷ slots) all = (one s all.0, all_more slots all.1)
-
-among-last : (b : List ℕ) (bs : List (List ℕ)) → IsAmong b (bs ++ b ∷ [])
-among-last b [] = inl refl
-among-last b (c ∷ bs) = inr (among-last b bs)
 
 near-among : (was ws : List (List ℕ)) (id : List ℕ) → IsNear was ws id → IsSome (block_at was id) ⊎ IsIdAmong (reverse ws) id
 near-among was [] id near = ⊎_elim (λ held. inl held) (λ none. absurd none) near

@@ -8,19 +8,19 @@ use Rattle.ild_edges.specs.Store.{Moment, Later}
 use Rattle.ild_edges.specs.Told.{IfTold}
 use Rattle.ild_data.specs.TrieShape.{TrieShape, trie_levels}
 use Rattle.ild_data.specs.Trie.{TrieSlot, child, is_child, bucket_entries}
-use Rattle.ild_trie.specs.Way.{along, way}
+use Rattle.ild_hamt_trie.specs.Way.{along, way}
 use Rattle.ild_cbor.specs.declared.why.Why.TheVariants.{Trie}
 use Rattle.ild_cbor.specs.declared.why.BlockWhy.{BlockWhy}
 use Rattle.ild_cbor.specs.declared.why.BlockWhy.TheVariants.{Shape as NoNode}
-use Rattle.ild_slots.specs.declared.fault.HamtFault.{HamtFault}
-use Rattle.ild_slots.specs.declared.fault.HamtFault.TheVariants.{Block, Store, Memory}
+use Rattle.ild_node_slots.specs.declared.fault.HamtFault.{HamtFault}
+use Rattle.ild_node_slots.specs.declared.fault.HamtFault.TheVariants.{Block, Store, Memory}
 use Rattle.ild_hamt.specs.declared.trail.Trail.{Trail}
 use Rattle.ild_hamt.specs.Fetching.{BlockCause}
 use Rattle.ild_hamt.specs.Ends.{hashes_of, is_full}
 use Rattle.ild_bulk.specs.Putting.{AreHeld}
-use Rattle.ild_walker.specs.Trees.{HoldsBelow}
-use Rattle.ild_climb.specs.Rewriting.{NodeAt}
-use Rattle.ild_climb.specs.Way.{Leads, slot_for, IsRootOf}
+use Rattle.ild_bulk_walker.specs.Trees.{HoldsBelow}
+use Rattle.ild_hamt_climb.specs.Rewriting.{NodeAt}
+use Rattle.ild_hamt_climb.specs.Way.{Leads, slot_for, IsRootOf}
 
 abbrev pub trail_blocks : Trail → List (List ℕ)
 trail_blocks t = t.blocks.items

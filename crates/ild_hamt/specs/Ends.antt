@@ -6,7 +6,7 @@ use Rattle.ild_data.specs.Data.{Data}
 use Rattle.ild_data.specs.TrieShape.{TrieShape, index, trie_levels}
 use Rattle.ild_data.specs.Trie.{TrieSlot}
 use Rattle.ild_data.specs.ByteOrder.{bytewise}
-use Rattle.ild_walker.specs.Gives.{IsNodeOf}
+use Rattle.ild_bulk_walker.specs.Gives.{IsNodeOf}
 
 -- the last of these blocks is the node of the last slots; the root is, where there is none
 pub record EndsAt (p : TrieShape) (slots : List TrieSlot) (bs : List (List ℕ)) (last : List TrieSlot) : Type 0 where

@@ -9,13 +9,13 @@ use Rattle.ild_edges.specs.Store.{Moment, Later, block_at}
 use Rattle.ild_edges.specs.Told.{IfTold}
 use Rattle.ild_data.specs.TrieShape.{TrieShape}
 use Rattle.ild_data.specs.Trie.{TrieSlot, node_data}
-use Rattle.ild_slots.specs.Form.{IsNode}
+use Rattle.ild_node_slots.specs.Form.{IsNode}
 use Rattle.ild_cbor.specs.declared.why.BlockWhy.{BlockWhy}
 use Rattle.ild_cbor.specs.declared.why.BlockWhy.TheVariants.{Missing, Cbor, Shape as NoNode}
 use Rattle.ild_cbor.specs.declared.why.Why.TheVariants.{Trie}
-use Rattle.ild_slots.specs.declared.fault.HamtFault.{HamtFault}
-use Rattle.ild_slots.specs.declared.fault.HamtFault.TheVariants.{Block, Store, Memory}
-use Rattle.ild_climb.specs.NodeBytes.{IsNodeBlock}
+use Rattle.ild_node_slots.specs.declared.fault.HamtFault.{HamtFault}
+use Rattle.ild_node_slots.specs.declared.fault.HamtFault.TheVariants.{Block, Store, Memory}
+use Rattle.ild_hamt_climb.specs.NodeBytes.{IsNodeBlock}
 
 -- the block is the spelling of other data
 pub record IsOtherBlock (p : TrieShape) (b : List ℕ) : Type 0 where

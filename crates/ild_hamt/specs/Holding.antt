@@ -3,7 +3,7 @@ use Rattle.std.specs.Prelude.{◌≡◌, ◌<◌, ℕ, zero, suc, ◌+◌, List,
 use Rattle.ild_data.specs.Data.{Data}
 use Rattle.ild_data.specs.Trie.{part, node_of, at_depth}
 use Rattle.ild_data.specs.TrieShape.{TrieShape}
-use Rattle.ild_walker.specs.Trees.{IsHeldNode}
+use Rattle.ild_bulk_walker.specs.Trees.{IsHeldNode}
 
 -- each node beneath the node of these entries on the key's way is held
 abbrev pub HoldsWay : (List ℕ → List ℕ) → TrieShape → List ℕ → List (List ℕ) → ℕ → ℕ → List (List ℕ × Data) → Type 0

@@ -6,3 +6,4 @@ pub mod Setting
 pub mod Holding
 pub mod Rewriting
 pub mod Removing
+pub mod Edits

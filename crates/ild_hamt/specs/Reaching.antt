@@ -1,6 +1,6 @@
 -- The parts of what reaching a node gives.
 use Rattle.std.specs.Prelude.{ℕ, List, Result, Ok, Err}
-use Rattle.ild_slots.specs.declared.fault.HamtFault.{HamtFault}
+use Rattle.ild_node_slots.specs.declared.fault.HamtFault.{HamtFault}
 use Rattle.ild_hamt.specs.declared.reaching.Reached.{Reached}
 
 -- the block alone

@@ -6,9 +6,9 @@ use Rattle.ild_data.specs.Data.{Data}
 use Rattle.ild_data.specs.TrieShape.{TrieShape}
 use Rattle.ild_data.specs.ByteOrder.{bytewise, without}
 use Rattle.ild_edges.specs.Store.{Moment}
-use Rattle.ild_slots.specs.declared.fault.HamtFault.{HamtFault}
-use Rattle.ild_slots.specs.declared.fault.HamtFault.TheVariants.{NoKey}
-use Rattle.ild_climb.specs.Rewriting.{Rewrites}
+use Rattle.ild_node_slots.specs.declared.fault.HamtFault.{HamtFault}
+use Rattle.ild_node_slots.specs.declared.fault.HamtFault.TheVariants.{NoKey}
+use Rattle.ild_hamt_climb.specs.Rewriting.{Rewrites}
 
 -- the key isn't there, and nothing is done; or the root of the trie without it, and the nodes on its way put, or why not
 abbrev pub Removes : (List ℕ → List ℕ) → TrieShape → List ℕ → List (List ℕ × Data) → Moment → Result (List ℕ) HamtFault → Moment → Type 0

@@ -5,12 +5,12 @@ use Rattle.ild_data.specs.TrieShape.{trie_levels}
 use Rattle.ild_data.specs.Trie.{TrieSlot}
 use Rattle.ild_data.specs.TrieBlocks.{nodes_beneath}
 use Rattle.ild_typed.specs.Composed.{usual}
-use Rattle.ild_slots.specs.Views.{HasSlots}
-use Rattle.ild_slots.specs.declared.view.NodeView.{NodeView}
-use Rattle.ild_slots.specs.declared.fault.HamtFault.{HamtFault}
+use Rattle.ild_node_slots.specs.Views.{HasSlots}
+use Rattle.ild_node_slots.specs.declared.view.NodeView.{NodeView}
+use Rattle.ild_node_slots.specs.declared.fault.HamtFault.{HamtFault}
 use Rattle.ild_bulk.specs.Children.{AddsWhole}
 use Rattle.ild_bulk.specs.Putting.{AddsOnly}
-use Rattle.ild_walker.specs.Trees.{HoldsBelow}
+use Rattle.ild_bulk_walker.specs.Trees.{HoldsBelow}
 use Rattle.ild_hamt.specs.Descending.{IsTrailOf}
 use Rattle.ild_hamt.specs.declared.trail.Trail.{Trail}
 

@@ -5,8 +5,8 @@ use Rattle.ild_data.specs.Data.{Data}
 use Rattle.ild_data.specs.TrieShape.{TrieShape}
 use Rattle.ild_data.specs.ByteOrder.{bytewise}
 use Rattle.ild_edges.specs.Store.{Moment}
-use Rattle.ild_slots.specs.declared.fault.HamtFault.{HamtFault}
-use Rattle.ild_climb.specs.Rewriting.{Rewrites}
+use Rattle.ild_node_slots.specs.declared.fault.HamtFault.{HamtFault}
+use Rattle.ild_hamt_climb.specs.Rewriting.{Rewrites}
 
 -- the root of the trie with the pair, and the nodes on the key's way in it put; or why not
 abbrev pub Sets : (List ℕ → List ℕ) → TrieShape → List ℕ → Data → List (List ℕ × Data) → Moment → Result (List ℕ) HamtFault → Moment → Type 0

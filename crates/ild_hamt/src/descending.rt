@@ -3,7 +3,7 @@ ghost use Rattle.std.specs.Prelude.{◌≡◌, ◌<◌, ◌+◌, ◌&&◌, nat_l
 ghost use Rattle.ild_data.specs.Trie.{TrieSlot};
 ghost use Rattle.ild_data.specs.TrieShape.{trie_levels};
 ghost use Rattle.ild_typed.specs.Composed.{usual};
-ghost use Rattle.ild_slots.specs.Views.{HasSlots};
+ghost use Rattle.ild_node_slots.specs.Views.{HasSlots};
 ghost use Rattle.ild_hamt.specs.Descending.{Descends};
 
 use crate::ending::{end_slot, is_full};

@@ -5,14 +5,14 @@ ghost use Rattle.ild_data.specs.ByteOrder.{bytewise, without};
 ghost use Rattle.ild_data.specs.Trie.{TrieSlot, bucket_entries};
 ghost use Rattle.ild_data.specs.TrieShape.{trie_levels, index};
 ghost use Rattle.ild_typed.specs.Composed.{usual};
-ghost use Rattle.ild_slots.specs.Views.{HasSlots};
-ghost use Rattle.ild_climb.specs.NodeBytes.{IsNodeBytes};
-ghost use Rattle.ild_climb.specs.Seen.{Shows};
-ghost use Rattle.ild_climb.specs.Way.{slot_for};
+ghost use Rattle.ild_node_slots.specs.Views.{HasSlots};
+ghost use Rattle.ild_hamt_climb.specs.NodeBytes.{IsNodeBytes};
+ghost use Rattle.ild_hamt_climb.specs.Seen.{Shows};
+ghost use Rattle.ild_hamt_climb.specs.Way.{slot_for};
 ghost use Rattle.ild_hamt.specs.Ends.{EndsAt, agree, agreeing_hashes, hashes_of, is_full};
 
-use ild_climb::view_in;
 use ild_data::Octets;
+use ild_hamt_climb::view_in;
 use ild_node::{BUCKET_SIZE, LEVELS, NodeSlot, NodeView, index_of};
 
 /// The slot of a hash in a node at a depth.

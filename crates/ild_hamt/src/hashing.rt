@@ -5,11 +5,11 @@ ghost use Rattle.ild_data.specs.Data.{Data};
 ghost use Rattle.ild_data.specs.Trie.{TrieSlot, bucket_entries};
 ghost use Rattle.ild_node.specs.Keyed.{keyed_rows};
 ghost use Rattle.ild_node.specs.Rows.{row_seen, rows_seen};
-ghost use Rattle.ild_slots.specs.Views.{HasEntries};
+ghost use Rattle.ild_node_slots.specs.Views.{HasEntries};
 ghost use Rattle.ild_bulk.specs.Keyed.{AreKeyed};
 ghost use Rattle.ild_hamt.specs.Ends.{hashes_of};
-ghost use Rattle.ild_climb.specs.Gathering.{some_entry};
-ghost use Rattle.ild_climb.specs.Seen.{Shows};
+ghost use Rattle.ild_hamt_climb.specs.Gathering.{some_entry};
+ghost use Rattle.ild_hamt_climb.specs.Seen.{Shows};
 
 use ild_data::KeyHash;
 use ild_node::{Bucket, Keyed, NodeSlot, Row};

@@ -3,19 +3,19 @@ ghost use Rattle.std.specs.Prelude.{◌≡◌, ◌<◌, List, IfOk, option_map};
 ghost use Rattle.ild_data.specs.Trie.{TrieSlot};
 ghost use Rattle.ild_data.specs.TrieShape.{trie_levels};
 ghost use Rattle.ild_typed.specs.Composed.{usual};
-ghost use Rattle.ild_slots.specs.Views.{HasSlots};
+ghost use Rattle.ild_node_slots.specs.Views.{HasSlots};
 ghost use Rattle.ild_hamt.specs.Fetching.{Fetches};
-ghost use Rattle.ild_climb.specs.NodeBytes.{IsNodeBytes};
+ghost use Rattle.ild_hamt_climb.specs.NodeBytes.{IsNodeBytes};
 ghost use Rattle.ild_hamt.specs.Reaching.{reached_block};
-ghost use Rattle.ild_walker.specs.Gives.{IsNodeOf};
-ghost use Rattle.ild_climb.specs.Way.{slot_for, child_id};
+ghost use Rattle.ild_bulk_walker.specs.Gives.{IsNodeOf};
+ghost use Rattle.ild_hamt_climb.specs.Way.{slot_for, child_id};
 
 use crate::ending::slot_at;
 use crate::reading::refusal;
 use ild_cbor::BlockWhy;
-use ild_climb::view_in;
 use ild_data::{BlockId, Octets};
 use ild_edges::{EdgeErr, Store};
+use ild_hamt_climb::view_in;
 use ild_node::{HamtFault, NodeSlot, NodeView};
 
 /// The block of a node, and the id of its child on a key's way.

@@ -2,9 +2,9 @@
 ghost use Rattle.std.specs.Prelude.{List, IsSome, IfSome};
 ghost use Rattle.ild_data.specs.Trie.{TrieSlot};
 ghost use Rattle.ild_typed.specs.Composed.{usual};
-ghost use Rattle.ild_slots.specs.Views.{HasSlots};
+ghost use Rattle.ild_node_slots.specs.Views.{HasSlots};
 ghost use Rattle.ild_hamt.specs.Fetching.{Judges};
-ghost use Rattle.ild_climb.specs.Known.{SomeNode};
+ghost use Rattle.ild_hamt_climb.specs.Known.{SomeNode};
 
 use ild_cbor::{BlockWhy, check};
 use ild_node::{NodeView, node_of};

@@ -1,29 +1,30 @@
 //! The new way of a key, planned whole and then put.
-ghost use Rattle.std.specs.Prelude.{◌≡◌, ◌-◌, ◌<◌, ℕ, All, List, length, IfOk, IfSome, IsSome};
+ghost use Rattle.std.specs.Prelude.{◌≡◌, ◌-◌, ◌<◌, ℕ, All, List, length, IfErr, IfOk, IfSome, IsSome};
 ghost use Rattle.ild_data.specs.ByteOrder.{without};
 ghost use Rattle.ild_data.specs.Data.{Data};
 ghost use Rattle.ild_data.specs.Trie.{TrieSlot};
 ghost use Rattle.ild_data.specs.TrieShape.{trie_levels};
 ghost use Rattle.ild_typed.specs.Composed.{usual};
 ghost use Rattle.ild_node.specs.NewSlots.{IsFilledSlot, slot_seen};
-ghost use Rattle.ild_slots.specs.Views.{HasSlots};
+ghost use Rattle.ild_node_slots.specs.Views.{HasSlots};
 ghost use Rattle.ild_bulk.specs.Planned.{PlansSlot};
 ghost use Rattle.ild_hamt.specs.Descending.{trail_blocks};
+ghost use Rattle.ild_hamt.specs.Edits.{CausedBy, EditsFrom, IsPlanFault};
 ghost use Rattle.ild_hamt.specs.Ends.{EndsAt, hashes_of};
-ghost use Rattle.ild_climb.specs.Known.{SomeNode, SomeSlot};
-ghost use Rattle.ild_climb.specs.NodeBytes.{IsNodeBytes};
-ghost use Rattle.ild_climb.specs.Rewriting.{ClimbState, DiffersAt, Rewrites};
-ghost use Rattle.ild_climb.specs.Seen.{Shows};
-ghost use Rattle.ild_climb.specs.Way.{IsRootOf, slot_for};
+ghost use Rattle.ild_hamt_climb.specs.Known.{SomeNode, SomeSlot};
+ghost use Rattle.ild_hamt_climb.specs.NodeBytes.{IsNodeBytes};
+ghost use Rattle.ild_hamt_climb.specs.Rewriting.{ClimbState, DiffersAt, Rewrites};
+ghost use Rattle.ild_hamt_climb.specs.Seen.{Shows};
+ghost use Rattle.ild_hamt_climb.specs.Way.{IsRootOf, slot_for};
 
 use crate::ending::slot_at;
 use crate::hashing::keyed;
 use crate::reading::view_again;
 use crate::trail::Trail;
 use ild_bulk::{PlannedBlock, plan_keyed};
-use ild_climb::{climb, few_slot, put_way, view_in};
 use ild_data::Octets;
 use ild_edges::Store;
+use ild_hamt_climb::{climb, few_slot, put_way, view_in};
 use ild_node::{BUCKET_SIZE, HamtFault, LEVELS, NewHold, NodeSlot, NodeView, Rows};
 use std::alloc::Global;
 
@@ -71,6 +72,7 @@ pub(crate) fn slot_of(
     plan: &mut Vec<PlannedBlock>,
 ) -> Result<Option<NewHold>, HamtFault>
     ensures filled { IfOk result (IsFilledSlot usual) }
+    ensures fault { IfErr result IsPlanFault }
     ensures plans { (h : List ℕ → List ℕ) → trail.now.hash ≡ h trail.now.key → trail.now.others.items ≡ hashes_of h (without trail.now.key rows)
         → PlansSlot h usual (trie_levels usual - depth) depth rows result plan.old.items plan.new.items }
 {
@@ -84,7 +86,12 @@ pub(crate) fn slot_of(
         &trail.hash,
         &trail.others,
     )?;
-    plan_keyed(alloc, &keyed, depth, plan)
+    // Planning asks no store: there is no other fault.
+    match plan_keyed(alloc, &keyed, depth, plan) {
+        Ok(slot) => Ok(slot),
+        Err(HamtFault::Exhausted) => Err(HamtFault::Exhausted),
+        Err(_) => Err(HamtFault::Memory),
+    }
 }
 
 /// The new root node, from the new slot at the end of a way. The other nodes on the way are put behind those that are planned,
@@ -101,6 +108,9 @@ pub(crate) fn rewrite<K: Store>(
     ensures gets { (K.moment store.new).gets ≡ (K.moment store.old).gets }
     ensures rewrites { (h : List ℕ → List ℕ) (k : List ℕ) (slots : List TrieSlot) (es fs : List (List ℕ × Data)) → HasSlots usual root.entry slots → IsRootOf h usual es slots → DiffersAt k es fs
         → trail.hash ≡ h k → ClimbState h usual k es fs (trail_blocks trail) trail.depth (slot_seen slot) plan.items → Rewrites h usual k fs (K.moment store.old) result (K.moment store.new) }
+    ensures caused { CausedBy (K.moment store.old) result (K.moment store.new) }
+    // Of whatever trie the nodes are.
+    ensures edits { (slots : List TrieSlot) → HasSlots usual root.entry slots → EditsFrom (trail_blocks trail) (slot_seen slot) plan.items (K.moment store.old) result (K.moment store.new) }
 {
     let mut plan = plan;
     let hash = trail.hash;

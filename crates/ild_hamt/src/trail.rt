@@ -1,13 +1,13 @@
 //! The way of a key.
 ghost use Rattle.std.specs.Prelude.{All};
-ghost use Rattle.ild_climb.specs.NodeBytes.{IsNodeBytes};
+ghost use Rattle.ild_hamt_climb.specs.NodeBytes.{IsNodeBytes};
 
 use crate::ending::end_slot;
 use crate::rewriting::{end_again, rewrite, slot_of};
 use ild_cbor::Node;
-use ild_climb::{few_slot, rows_without};
 use ild_data::{KeyHash, Octets, Txt};
 use ild_edges::Store;
+use ild_hamt_climb::{few_slot, rows_without};
 use ild_node::{HamtFault, NodeSlot, NodeView, Rows};
 use std::alloc::{AllocError, Global};
 
@@ -31,16 +31,17 @@ impl Trail {
     ghost use Rattle.ild_data.specs.ByteOrder.{bytewise, without};
     ghost use Rattle.ild_data.specs.Trie.{TrieSlot, node_of};
     ghost use Rattle.ild_data.specs.TrieShape.{trie_levels};
-    ghost use Rattle.ild_trie.specs.Way.{along};
+    ghost use Rattle.ild_hamt_trie.specs.Way.{along};
     ghost use Rattle.ild_typed.specs.Composed.{usual};
     ghost use Rattle.ild_cbor.specs.Nodes.{Stands};
     ghost use Rattle.ild_node.specs.Rows.{NestsIn, deepest_value};
-    ghost use Rattle.ild_slots.specs.Views.{HasSlots};
-    ghost use Rattle.ild_hamt.specs.Descending.{IsTrailOf, trail_blocks};
+    ghost use Rattle.ild_node_slots.specs.Views.{HasSlots};
+    ghost use Rattle.ild_hamt.specs.Descending.{IsTrail, IsTrailOf, trail_blocks};
+    ghost use Rattle.ild_hamt.specs.Edits.{CausedBy, Edits, IsTrailAlong, RemovesAlong, entries_at_end, is_full_at_end};
     ghost use Rattle.ild_hamt.specs.Removing.{Removes, RestIs};
     ghost use Rattle.ild_edges.specs.Told.{BothTold};
     ghost use Rattle.ild_hamt.specs.Rewriting.{HoldsAfter, IsTrailFrom};
-    ghost use Rattle.ild_climb.specs.Seen.{ValueIs};
+    ghost use Rattle.ild_hamt_climb.specs.Seen.{ValueIs};
     ghost use Rattle.ild_hamt.specs.Setting.{Sets};
 
     /// The blocks that were read, from the child of the root down.
@@ -64,15 +65,19 @@ impl Trail {
 
     /// Whether the key is absent, and the entries with it have no HAMT: too many keys agree with it in all bits of their hashes.
     pub fn exhausted(&self) -> bool
-        ensures { (h : List ℕ → List ℕ) (k : List ℕ) (slots : List TrieSlot) (es : List (List ℕ × Data)) (v : Data) → IsTrailOf h usual k slots es self.now
+        ensures trie { (h : List ℕ → List ℕ) (k : List ℕ) (slots : List TrieSlot) (es : List (List ℕ × Data)) (v : Data) → IsTrailOf h usual k slots es self.now
             → result ≡ not (is_some (node_of h usual (trie_levels usual) 0 (put bytewise k v es))) }
+        // Whatever trie the nodes on the way are of: the bucket in which it ends has no place for the key.
+        ensures at_end { (h : List ℕ → List ℕ) (k : List ℕ) (bs : List (List ℕ)) (last : List TrieSlot) → IsTrail h usual k bs last self.now → result ≡ is_full_at_end h k bs last }
     {
         self.exhausted
     }
 
     // The entries of the bucket in which the way ends, without the key's.
     fn others(&self, alloc: Global, root: NodeView<'_>) -> Result<Rows, AllocError>
-        ensures { (h : List ℕ → List ℕ) (k : List ℕ) (slots : List TrieSlot) (es : List (List ℕ × Data)) → HasSlots usual root.entry slots → IsTrailOf h usual k slots es self.now
+        ensures at_end { (h : List ℕ → List ℕ) (k : List ℕ) (slots last : List TrieSlot) → IsTrailAlong root.entry self.now h k slots last
+            → IfOk result (λ rows. rows ≡ without k (entries_at_end h k (trail_blocks self.now) last)) }
+        ensures trie { (h : List ℕ → List ℕ) (k : List ℕ) (slots : List TrieSlot) (es : List (List ℕ × Data)) → HasSlots usual root.entry slots → IsTrailOf h usual k slots es self.now
             → IfOk result (λ rows. rows ≡ without k (along h usual k (length (trail_blocks self.now) + 1) 0 es)) }
     {
         match end_again(root, &self.blocks, &self.hash, self.depth) {
@@ -84,7 +89,9 @@ impl Trail {
 
     // The same where the key is there, or `None` where it isn't.
     fn rest(&self, alloc: Global, root: NodeView<'_>) -> Result<Option<Rows>, AllocError>
-        ensures { (h : List ℕ → List ℕ) (k : List ℕ) (slots : List TrieSlot) (es : List (List ℕ × Data)) → HasSlots usual root.entry slots → IsTrailOf h usual k slots es self.now
+        ensures at_end { (h : List ℕ → List ℕ) (k : List ℕ) (slots last : List TrieSlot) → IsTrailAlong root.entry self.now h k slots last
+            → RestIs k (entries_at_end h k (trail_blocks self.now) last) result }
+        ensures trie { (h : List ℕ → List ℕ) (k : List ℕ) (slots : List TrieSlot) (es : List (List ℕ × Data)) → HasSlots usual root.entry slots → IsTrailOf h usual k slots es self.now
             → RestIs k (along h usual k (length (trail_blocks self.now) + 1) 0 es) result }
     {
         match end_again(root, &self.blocks, &self.hash, self.depth) {
@@ -108,6 +115,9 @@ impl Trail {
         requires { NestsIn deepest_value val.now }
         ensures sets { (h : List ℕ → List ℕ) (k : List ℕ) (v : Data) (slots : List TrieSlot) (es : List (List ℕ × Data)) → IsTrailFrom root.entry self h k slots es → Stands val.now v
             → is_some (node_of h usual (trie_levels usual) 0 (put bytewise k v es)) ≡ true → Sets h usual k v es (K.moment store.old) result (K.moment store.new) }
+        ensures edits { (h : List ℕ → List ℕ) (k : List ℕ) (v : Data) (slots last : List TrieSlot) → IsTrailAlong root.entry self h k slots last → Stands val.now v
+            → Edits (trail_blocks self) (is_full_at_end h k (trail_blocks self) last) (K.moment store.old) result (K.moment store.new) }
+        ensures caused { CausedBy (K.moment store.old) result (K.moment store.new) }
         ensures gets { (K.moment store.new).gets ≡ (K.moment store.old).gets }
     {
         let mut rows = self.others(alloc, root)?;
@@ -127,6 +137,9 @@ impl Trail {
     ) -> Result<Octets, HamtFault>
         ensures removes { (h : List ℕ → List ℕ) (k : List ℕ) (slots : List TrieSlot) (es : List (List ℕ × Data)) → IsTrailFrom root.entry self h k slots es
             → Removes h usual k es (K.moment store.old) result (K.moment store.new) }
+        ensures edits { (h : List ℕ → List ℕ) (k : List ℕ) (slots last : List TrieSlot) → IsTrailAlong root.entry self h k slots last
+            → RemovesAlong k (entries_at_end h k (trail_blocks self) last) (trail_blocks self) (K.moment store.old) result (K.moment store.new) }
+        ensures caused { CausedBy (K.moment store.old) result (K.moment store.new) }
         ensures gets { (K.moment store.new).gets ≡ (K.moment store.old).gets }
     {
         let rows = match self.rest(alloc, root)? {
@@ -155,6 +168,10 @@ impl Trail {
         ensures held { (k : List ℕ) (v : Data) (slots : List TrieSlot) (es : List (List ℕ × Data)) → IsTrailFrom root.entry self H.hash_of k slots es → Stands val.now v
             → is_some (node_of H.hash_of usual (trie_levels usual) 0 (put bytewise k v es)) ≡ true
             → BothTold (K.moment store.old).blocks (K.moment store.new).blocks (HoldsAfter H.hash_of es (put bytewise k v es) result) }
+        // Over every store, of whatever trie the nodes on the way are.
+        ensures edits { (k : List ℕ) (v : Data) (slots last : List TrieSlot) → IsTrailAlong root.entry self H.hash_of k slots last → Stands val.now v
+            → Edits (trail_blocks self) (is_full_at_end H.hash_of k (trail_blocks self) last) (K.moment store.old) result (K.moment store.new) }
+        ensures caused { CausedBy (K.moment store.old) result (K.moment store.new) }
         ensures gets { (K.moment store.new).gets ≡ (K.moment store.old).gets }
     {
         let _text = self.key.as_str();
@@ -176,6 +193,10 @@ impl Trail {
         // Where the trie beneath the root was held, so is that beneath the answer; and each block that was added has its children held.
         ensures held { (k : List ℕ) (slots : List TrieSlot) (es : List (List ℕ × Data)) → IsTrailFrom root.entry self H.hash_of k slots es
             → BothTold (K.moment store.old).blocks (K.moment store.new).blocks (HoldsAfter H.hash_of es (without k es) result) }
+        // Over every store, of whatever trie the nodes on the way are.
+        ensures edits { (k : List ℕ) (slots last : List TrieSlot) → IsTrailAlong root.entry self H.hash_of k slots last
+            → RemovesAlong k (entries_at_end H.hash_of k (trail_blocks self) last) (trail_blocks self) (K.moment store.old) result (K.moment store.new) }
+        ensures caused { CausedBy (K.moment store.old) result (K.moment store.new) }
         ensures gets { (K.moment store.new).gets ≡ (K.moment store.old).gets }
     {
         self.remove_way(alloc, root, store)

@@ -2,7 +2,7 @@
 use Rattle.std.specs.Prelude.{ℕ, List, [], ◌∷◌, map}
 use Rattle.std.specs.Borrow.{Bor}
 use Rattle.ild_data.specs.Data.{Data}
-use Rattle.ild_slots.specs.Spelled.{tree_in}
+use Rattle.ild_node_slots.specs.Spelled.{tree_in}
 
 abbrev pub entry_of : Bor (List ℕ) × ℕ → List ℕ × Data
 entry_of p = (p.0.now, tree_in (p.1 ∷ []))

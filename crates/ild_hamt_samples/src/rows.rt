@@ -4,7 +4,7 @@ ghost use Rattle.std.specs.Ordering.{is_lt};
 ghost use Rattle.ild_data.specs.ByteOrder.{bytewise};
 ghost use Rattle.ild_cbor.specs.Nodes.{Stands};
 ghost use Rattle.ild_node.specs.Rows.{IsAbove, NestsIn};
-ghost use Rattle.ild_slots.specs.Spelled.{tree_in};
+ghost use Rattle.ild_node_slots.specs.Spelled.{tree_in};
 ghost use Rattle.ild_hamt_samples.specs.Pairs.{entries_of};
 
 use ild_cbor::{Node, check};

@@ -1,13 +1,13 @@
 //! Many edits of a HAMT beside a plain map of its entries, and edits of which each put fails in turn.
 use crate::edited::{Edit, edit, ending};
 use ild_bulk::from_entries;
+use ild_bulk_walker::check_tree;
 use ild_cbor::check;
 use ild_data::{KeyHash, Octets, PadKeys, Sha256Keys, block_id};
 use ild_edges::{MemStore, Store};
 use ild_hamt::descend;
 use ild_hamt_samples::{push, rows_of};
 use ild_node::{Rows, node_of, write_node};
-use ild_walker::check_tree;
 use std::alloc::Global;
 use std::test::Fail;
 

@@ -26,7 +26,7 @@ use Rattle.serde_json.specs.Read.{read, number_of, of_json, of_items, of_members
 use Rattle.serde_json.specs.Find.{of_integer, as_str as json_str}
 use Rattle.ild_data.specs.Data.{Data, null, boolean, integer, text, list, map as map_of, Items, items_list, Members, no_members, member, members_of, members_list}
 use Rattle.ild_data.specs.Key.{same_text, Rises}
-use Rattle.ild_order.specs.Keys.{under_keys}
+use Rattle.ild_data_order.specs.Keys.{under_keys}
 use Rattle.ild_data.proofs.Lists.{items_of-items_list, members_of-members_list}
 use Rattle.ild_json.specs.Printing.{is_slash_alone}
 use Rattle.ild_json.specs.Reading.{and_others, number_read, link_read, bytes_read, bytes_form, data_read, items_read, members_read, object_read, list_or_fault, map_or_fault, put_all, json_read}

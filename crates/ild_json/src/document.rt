@@ -13,7 +13,7 @@ use crate::decimal::{below_zero, natural};
 use crate::object::{BYTES, SLASH, bytes, link};
 use crate::show::is_slash_alone;
 use ild_data::{Entries, Int, Tree, Trees, Txt};
-use ild_order::sort_by_key;
+use ild_data_order::sort_by_key;
 use json::Value;
 use std::alloc::Global;
 

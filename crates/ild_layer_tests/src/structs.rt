@@ -6,7 +6,7 @@ ghost use Rattle.ild_struct.specs.Parts.{fields_of};
 use crate::said::{Row, Said, all_said};
 use ild_cbor::Why::{Count, Delimiter, Implicit, Kind, Missing, Name, Order, Repeat};
 use ild_cbor::{Node, Piece};
-use ild_piece::is_null;
+use ild_layer_piece::is_null;
 use ild_schema::{Accepted, TypeDef, TypeNo};
 use ild_struct::{Part, StructParts, layer};
 use std::test::Fail;

@@ -3,7 +3,7 @@ use crate::said::{Row, all_said, number};
 use ild_cbor::Why::{Count, Kind, Member, Missing, Name, Prefix};
 use ild_cbor::{Piece, check};
 use ild_compile::compile;
-use ild_piece::{entries, entry};
+use ild_layer_piece::{entries, entry};
 use ild_schema::{Accepted, TypeDef, TypeNo};
 use ild_union::layer;
 use std::test::Fail;

@@ -6,8 +6,8 @@ use crate::views_at::SRC;
 use ild_cbor::Why;
 use ild_compile::compile;
 use ild_data::Octets;
-use ild_doc::{Doc, DocErr};
 use ild_schema::Accepted;
+use ild_view_doc::{Doc, DocErr};
 use std::alloc::Global;
 use std::test::Fail;
 

@@ -3,7 +3,7 @@
 
 mod words;
 
-use ild_files::{FileInputs, FolderStore, StdSink};
+use ild_main_files::{FileInputs, FolderStore, StdSink};
 use ild_run::{Status, run};
 use std::process::ExitCode;
 

@@ -7,8 +7,8 @@ use Rattle.ild_typed.specs.Composed.{usual}
 use Rattle.ild_node.specs.NewSlots.{slot_seen}
 use Rattle.ild_node.specs.declared.hold.NewHold.{NewHold}
 use Rattle.ild_node.specs.declared.hold.NewHold.TheVariants as N
-use Rattle.ild_slots.specs.Views.{HasSlots}
-use Rattle.ild_slots.specs.declared.view.NodeView.{NodeView}
+use Rattle.ild_node_slots.specs.Views.{HasSlots}
+use Rattle.ild_node_slots.specs.declared.view.NodeView.{NodeView}
 
 pub on-here : (slots : List TrieSlot) (i j : ℕ) (s : TrieSlot) (on : Bool) → j ≡ i → j < length slots → on ≡ is_used s → on ≡ is_used (get_or (set slots i s) j empty)
 on-here slots i j s on same lt is =

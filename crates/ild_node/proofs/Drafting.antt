@@ -9,7 +9,7 @@ use Rattle.ild_data.proofs.Lists.{length-items}
 use Rattle.ild_data.specs.Trie.{TrieSlot, empty, bucket, is_used, entry_data, elements_of}
 use Rattle.ild_typed.specs.Composed.{usual}
 use Rattle.ild_node.specs.Drafts.{HasWritten, FillBucket, map_so_far}
-use Rattle.ild_slots.specs.Form.{bucket_data}
+use Rattle.ild_node_slots.specs.Form.{bucket_data}
 use Rattle.ild_node.specs.Hashed.{AreHashed}
 use Rattle.ild_node.specs.Written.{IsNodeBlock, IsSound, bytes_of_bits, spelled}
 use Rattle.ild_node.specs.declared.draft.Draft.{Draft}

@@ -6,3 +6,4 @@ pub mod Nodes
 pub mod Changing
 pub mod Exchanging
 pub mod Placing
+pub mod Standing

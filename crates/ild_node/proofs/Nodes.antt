@@ -11,7 +11,7 @@ use Rattle.ild_typed.specs.Nested.{TreeIn}
 use Rattle.ild_typed.proofs.TreeNodes.{SlotIn, node_in}
 use Rattle.ild_typed.proofs.Treed.{EntryIn}
 use Rattle.ild_typed.proofs.Utf8Texts.{link_fits}
-use Rattle.ild_slots.specs.Form.{AreSlots, AreTexts}
+use Rattle.ild_node_slots.specs.Form.{AreSlots, AreTexts}
 use Rattle.ild_node.specs.Rows.{AreRows, deepest_value}
 use Rattle.ild_node.specs.NewSlots.{IsFilled}
 use Rattle.ild_node.specs.Written.{IsNodeBlock, IsSound}

@@ -9,7 +9,7 @@ use Rattle.std.specs.declared.cmp.Ordering.TheVariants.{Less, Equal, Greater}
 use Rattle.std.proofs.lemmas.List.{take_all, length-map}
 use Rattle.ild_data.specs.Data.{Data}
 use Rattle.ild_data.specs.ByteOrder.{bytewise}
-use Rattle.ild_trie.proofs.Parts.{in_order-put, same_if_equal}
+use Rattle.ild_hamt_trie.proofs.Parts.{in_order-put, same_if_equal}
 use Rattle.ild_typed.specs.Nested.{TreeIn}
 use Rattle.ild_node.specs.Rows.{row_seen, rows_seen, AreRows, deepest_value}
 use Rattle.ild_node.specs.declared.row.Row.{Row}

@@ -8,9 +8,9 @@ use Rattle.std.proofs.lemmas.Bool.{and_parts, and_from}
 use Rattle.std.proofs.lemmas.List.{map-append}
 use Rattle.ild_data.specs.Data.{Data}
 use Rattle.ild_data.specs.ByteOrder.{bytewise}
-use Rattle.ild_trie.proofs.Parts.{total}
+use Rattle.ild_hamt_trie.proofs.Parts.{total}
 use Rattle.ild_typed.specs.Nested.{TreeIn}
-use Rattle.ild_slots.specs.Form.{AreTexts}
+use Rattle.ild_node_slots.specs.Form.{AreTexts}
 use Rattle.ild_node.specs.Rows.{row_seen, rows_seen, AreRows, AreShallow, IsAbove, deepest_value}
 use Rattle.ild_node.specs.declared.row.Row.{Row}
 use Rattle.ild_typed.proofs.NodeEntries.{less, T_of, true_of}

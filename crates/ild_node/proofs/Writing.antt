@@ -14,7 +14,7 @@ use Rattle.ild_data.specs.Trie.{TrieSlot, empty, bucket, child, byte_of, is_used
 use Rattle.ild_data.specs.TrieShape.{TrieShape}
 use Rattle.ild_typed.specs.Composed.{usual}
 use Rattle.ild_typed.specs.Hamt.{root_map}
-use Rattle.ild_slots.specs.Form.{bucket_data}
+use Rattle.ild_node_slots.specs.Form.{bucket_data}
 use Rattle.ild_node.specs.NewSlots.{hold_seen, slot_seen, spread, is_next, IndicesRise}
 use Rattle.ild_node.specs.Rows.{row_seen, rows_seen}
 use Rattle.ild_node.specs.Written.{bytes_of_bits, spelled}

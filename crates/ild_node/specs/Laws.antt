@@ -4,7 +4,7 @@ use Rattle.ild_data.specs.Limits.{longest_block}
 use Rattle.ild_data.specs.Trie.{TrieSlot, node_data}
 use Rattle.ild_cbor.specs.Block.{IsBlockOf}
 use Rattle.ild_typed.specs.Composed.{usual}
-use Rattle.ild_slots.specs.Form.{IsNode}
+use Rattle.ild_node_slots.specs.Form.{IsNode}
 use Rattle.ild_node.specs.Written.{IsNodeBlock}
 
 -- the data of a node tell its slots

@@ -8,7 +8,7 @@ use Rattle.ild_data.specs.ByteOrder.{bytewise, IsInOrder}
 use Rattle.ild_cbor.specs.Nodes.{Stands}
 use Rattle.ild_cbor.specs.declared.node.Node.{Node}
 use Rattle.ild_typed.specs.Nested.{TreeIn}
-use Rattle.ild_slots.specs.Form.{AreTexts}
+use Rattle.ild_node_slots.specs.Form.{AreTexts}
 use Rattle.ild_node.specs.declared.row.Row.{Row}
 
 abbrev pub row_seen : Row → List ℕ × Data

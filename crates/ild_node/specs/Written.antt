@@ -8,7 +8,7 @@ use Rattle.ild_data.specs.Trie.{TrieSlot, bucket_entries, byte_of, node_data}
 use Rattle.ild_data.specs.TrieShape.{TrieShape}
 use Rattle.ild_typed.specs.Nested.{TreeIn}
 use Rattle.ild_typed.specs.Node.{IsSlot}
-use Rattle.ild_slots.specs.Form.{IsNode}
+use Rattle.ild_node_slots.specs.Form.{IsNode}
 use Rattle.ild_node.specs.Rows.{deepest_value}
 
 -- the bytes spell the node of these slots, a tree that nests no deeper than a block may: with the limit on its length, it is

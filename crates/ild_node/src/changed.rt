@@ -1,15 +1,15 @@
 //! Writing a node of which one slot is exchanged: the elements of the others are copied as they are spelled, in two pieces.
 ghost use Rattle.std.specs.Prelude.{◌≡◌, ◌<◌, List, length, map, slice_set, slice_index_or, IfOk};
-ghost use Rattle.ild_data.specs.Spell.{spell};
-ghost use Rattle.ild_data.specs.Trie.{TrieSlot, empty, is_used, node_data};
+ghost use Rattle.ild_data.specs.Trie.{TrieSlot, empty, is_used};
 ghost use Rattle.ild_typed.specs.Composed.{usual};
-ghost use Rattle.ild_slots.specs.Views.{HasSlots};
+ghost use Rattle.ild_node_slots.specs.Views.{HasSlots};
 ghost use Rattle.ild_node.specs.NewSlots.{IsFilledSlot, slot_seen};
+ghost use Rattle.ild_node.specs.Written.{IsNodeBlock};
 
 use crate::hold::NewHold;
 use crate::write::{add_slot, begin, count_of};
 use ild_data::Octets;
-use ild_slots::{NodeView, SLOTS};
+use ild_node_slots::{NodeView, SLOTS};
 use std::alloc::{AllocError, Global};
 
 // Whether a slot is used, where slot i is exchanged for one that is used or not.
@@ -42,7 +42,7 @@ pub fn write_changed(
     slot: &Option<NewHold>,
 ) -> Result<Octets, AllocError>
     requires { IsFilledSlot usual slot.now }
-    ensures { (slots : List TrieSlot) → HasSlots usual view.entry slots → IfOk result (λ b. b ≡ spell (node_data (slice_set slots i (slot_seen slot.now)))) }
+    ensures { (slots : List TrieSlot) → HasSlots usual view.entry slots → IfOk result (IsNodeBlock usual (slice_set slots i (slot_seen slot.now))) }
 {
     let used = used_after(alloc, view, i, slot.is_some())?;
     let mut out = begin(alloc, &used, count_of(&used))?;

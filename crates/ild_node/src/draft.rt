@@ -3,14 +3,14 @@ ghost use Rattle.std.specs.Prelude.{◌≡◌, ◌++◌, ◌∷◌, [], true, Bo
 ghost use Rattle.ild_data.specs.Data.{Data};
 ghost use Rattle.ild_data.specs.Spell.{spell};
 ghost use Rattle.ild_node.specs.Drafts.{map_so_far};
-ghost use Rattle.ild_slots.specs.Form.{bucket_data};
+ghost use Rattle.ild_node_slots.specs.Form.{bucket_data};
 ghost use Rattle.ild_node.specs.Hashed.{AreHashed};
 
 use crate::hashed::HashedEntry;
 use crate::write::{are_bytes, begin_with};
 use ild_data::{BlockId, Octets};
 use ild_emit::Emit;
-use ild_slots::SLOTS;
+use ild_node_slots::SLOTS;
 use std::alloc::{AllocError, Global};
 
 /// How many bytes the map of a node has.

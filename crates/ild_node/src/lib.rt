@@ -16,7 +16,7 @@ pub use changed::write_changed;
 pub use draft::Draft;
 pub use hashed::HashedEntry;
 pub use hold::{NewHold, NewSlot};
-pub use ild_slots::{
+pub use ild_node_slots::{
     BUCKET_SIZE, Bucket, HamtFault, LEVELS, NodeSlot, NodeView, SLOTS, Slots, Spelled, child_in,
     index, index_of, known_node, map_bit, next_entry, node_of, rises, root_of,
 };

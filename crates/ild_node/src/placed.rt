@@ -10,7 +10,7 @@ use crate::row::Row;
 use crate::rows::Rows;
 use ild_cbor::Node;
 use ild_data::Txt;
-use ild_slots::Spelled;
+use ild_node_slots::Spelled;
 use std::alloc::{AllocError, Global};
 use std::cmp::Ordering;
 

@@ -6,7 +6,7 @@ ghost use Rattle.ild_cbor.specs.Nodes.{Stands};
 use crate::row::Row;
 use ild_cbor::Node;
 use ild_data::Txt;
-use ild_slots::Spelled;
+use ild_node_slots::Spelled;
 use std::alloc::{AllocError, Global};
 use std::marker::Model;
 
@@ -19,7 +19,7 @@ pub struct Rows {
 impl Model for Rows {
     ghost use Rattle.std.specs.Prelude.{List, ℕ};
     ghost use Rattle.ild_data.specs.Data.{Data};
-    ghost use Rattle.ild_slots.specs.Spelled.{entries_coded};
+    ghost use Rattle.ild_node_slots.specs.Spelled.{entries_coded};
     ghost use Rattle.ild_node.specs.Rows.{rows_seen, AreRows};
 
     ghost Value = { List (List ℕ × Data) };

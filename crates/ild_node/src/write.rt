@@ -8,7 +8,7 @@ ghost use Rattle.ild_data.specs.Trie.{byte_of, is_used, elements_of, entry_data}
 ghost use Rattle.ild_cbor.specs.Nodes.{Stands};
 ghost use Rattle.ild_typed.specs.Composed.{usual};
 ghost use Rattle.ild_typed.specs.Hamt.{root_map};
-ghost use Rattle.ild_slots.specs.Form.{bucket_data};
+ghost use Rattle.ild_node_slots.specs.Form.{bucket_data};
 ghost use Rattle.ild_node.specs.NewSlots.{IndicesRise, IsFilled, IsFilledSlot, hold_seen, slot_seen, slots_seen, spread, is_next};
 ghost use Rattle.std.specs.List.{count_by};
 ghost use Rattle.ild_node.specs.Rows.{AreRows, row_seen};
@@ -20,7 +20,7 @@ use crate::rows::Rows;
 use ild_cbor::Node;
 use ild_data::Octets;
 use ild_emit::Emit;
-use ild_slots::{BUCKET_SIZE, SLOTS};
+use ild_node_slots::{BUCKET_SIZE, SLOTS};
 use std::alloc::{AllocError, Global};
 
 fn bit(on: bool) -> u8

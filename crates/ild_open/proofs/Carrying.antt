@@ -18,7 +18,7 @@ use Rattle.ild_data.specs.Data.{Data}
 use Rattle.ild_data.specs.Spell.{id_of, spell}
 use Rattle.ild_data.specs.declared.id.BlockId.{BlockId}
 use Rattle.ild_edges.specs.Store.{Moment, block_at}
-use Rattle.ild_piece.specs.Pieces.{IsNumbered, StandsFor}
+use Rattle.ild_layer_piece.specs.Pieces.{IsNumbered, StandsFor}
 use Rattle.ild_schema.specs.Clear.{IsSafe}
 use Rattle.ild_schema.specs.DataKinds.{slot_has}
 use Rattle.ild_schema.specs.Legible.{IsLegible}
@@ -43,14 +43,14 @@ use Rattle.ild_view.specs.View.{IsView, body_of, piece_in, piece_of, slot_of, ta
 use Rattle.ild_view.specs.declared.body.Body.{Body}
 use Rattle.ild_view.specs.declared.body.Body.TheVariants as VB
 use Rattle.ild_view.specs.declared.view.View.{View}
-use Rattle.ild_walk.specs.Checks.{IsRefusal}
-use Rattle.ild_held.specs.Held.{IsHeld}
-use Rattle.ild_kept.specs.Reads.{NoValue, Reads}
-use Rattle.ild_kept.specs.declared.fault.OpenFault.{OpenFault}
-use Rattle.ild_kept.specs.declared.fault.OpenFault.TheVariants as F
+use Rattle.ild_view_walk.specs.Checks.{IsRefusal}
+use Rattle.ild_open_held.specs.Held.{IsHeld}
+use Rattle.ild_open_parts.specs.Reads.{NoValue, Reads}
+use Rattle.ild_open_parts.specs.declared.fault.OpenFault.{OpenFault}
+use Rattle.ild_open_parts.specs.declared.fault.OpenFault.TheVariants as F
 use Rattle.ild_open.specs.Item.{DataAnswer, IsStopped, LoadsAlone, LoadsBytes, LoadsData, LoadsIn, LoadsPiece, StoppedIn}
 use Rattle.ild_open.specs.Loaded.{IsInBlock, IsRefusedAt, LoadAnswer, Loads}
-use Rattle.ild_kept.proofs.Turning.{only_refl}
+use Rattle.ild_open_parts.proofs.Turning.{only_refl}
 
 -- null stands for null alone
 pub is_safe_slot : (rows : List Row) (s : Slot) → is_safe rows s ≡ true → IsSafe rows s

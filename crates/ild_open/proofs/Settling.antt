@@ -11,9 +11,9 @@ use Rattle.ild_cbor.specs.declared.why.BlockWhy.TheVariants as B
 use Rattle.ild_data.specs.Data.{Data}
 use Rattle.ild_data.specs.Limits.{deepest}
 use Rattle.ild_data.specs.Spell.{id_of, spell}
-use Rattle.ild_doc.specs.Block.{HasRoot}
-use Rattle.ild_doc.specs.Docs.{IsShape, block_in}
-use Rattle.ild_doc.specs.declared.doc.Doc.{Doc}
+use Rattle.ild_view_doc.specs.Block.{HasRoot}
+use Rattle.ild_view_doc.specs.Docs.{IsShape, block_in}
+use Rattle.ild_view_doc.specs.declared.doc.Doc.{Doc}
 use Rattle.ild_edges.specs.Store.{Moment, block_at}
 use Rattle.ild_edges.specs.Told.{IfTold}
 use Rattle.ild_schema.specs.Clear.{IsSafe}
@@ -30,18 +30,18 @@ use Rattle.ild_typed.proofs.Wholes.{one_within}
 use Rattle.ild_typed.specs.Blocks.{nodes}
 use Rattle.ild_typed.specs.Schema.{IsSchema}
 use Rattle.ild_typed.specs.Stands.{Stands, bare, blocks_of}
-use Rattle.ild_held.proofs.Roots.{held_stand, standing_are_held}
-use Rattle.ild_held.specs.Held.{IsHeld}
-use Rattle.ild_held.specs.Roots.{IsRooted}
-use Rattle.ild_kept.specs.Broken.{HasBrokenBlock}
-use Rattle.ild_kept.specs.Reads.{Reads}
-use Rattle.ild_kept.specs.declared.fault.OpenFault.{OpenFault}
-use Rattle.ild_kept.specs.declared.fault.OpenFault.TheVariants as F
+use Rattle.ild_open_held.proofs.Roots.{held_stand, standing_are_held}
+use Rattle.ild_open_held.specs.Held.{IsHeld}
+use Rattle.ild_open_held.specs.Roots.{IsRooted}
+use Rattle.ild_open_parts.specs.Broken.{HasBrokenBlock}
+use Rattle.ild_open_parts.specs.Reads.{Reads}
+use Rattle.ild_open_parts.specs.declared.fault.OpenFault.{OpenFault}
+use Rattle.ild_open_parts.specs.declared.fault.OpenFault.TheVariants as F
 use Rattle.ild_open.specs.Broken.{IsWrongRoot}
 use Rattle.ild_open.specs.Found.{FindAnswer, Finds, HasKept, ReadsRoot}
 use Rattle.ild_open.specs.Opened.{HasOpened, HasValue, StandsInBlock, NoneStands, OpenStops, Opens}
-use Rattle.ild_kept.proofs.Breaking.{broken_earlier, rose_later}
-use Rattle.ild_kept.proofs.Turning.{only_trans}
+use Rattle.ild_open_parts.proofs.Breaking.{broken_earlier, rose_later}
+use Rattle.ild_open_parts.proofs.Turning.{only_trans}
 
 some_told : (o : Option (List (List ℕ))) (held : List (List ℕ)) (P : List (List ℕ) → Type 0) → o ≡ Some held → IfTold o P → P held
 some_told o held P is x = subst (λ k. IfTold k P) is x

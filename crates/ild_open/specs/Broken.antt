@@ -5,15 +5,15 @@ use Rattle.ild_cbor.specs.Block.{IsBlockOf}
 use Rattle.ild_cbor.specs.Reading.{fault_of}
 use Rattle.ild_cbor.specs.declared.why.BlockWhy.{BlockWhy}
 use Rattle.ild_cbor.specs.declared.why.BlockWhy.TheVariants as B
-use Rattle.ild_doc.specs.Docs.{IsShape}
+use Rattle.ild_view_doc.specs.Docs.{IsShape}
 use Rattle.ild_edges.specs.Count.{Rose}
 use Rattle.ild_edges.specs.Store.{block_at}
 use Rattle.ild_edges.specs.Told.{IfTold}
 use Rattle.ild_schema.specs.Slots.{plainly}
 use Rattle.ild_schema.specs.declared.number.TypeNo.{TypeNo}
 use Rattle.ild_schema.specs.declared.row.Row.{Row}
-use Rattle.ild_walker.specs.OnTree.{IsAt}
-use Rattle.ild_kept.specs.Broken.{HasBrokenBlock}
+use Rattle.ild_bulk_walker.specs.OnTree.{IsAt}
+use Rattle.ild_open_parts.specs.Broken.{HasBrokenBlock}
 
 -- it isn't held; it is no block; or its tree has no front of the type
 abbrev pub IsWrongRoot : List Row → Option (List (List ℕ)) → ℕ → ℕ → TypeNo → List ℕ → BlockWhy → Type 0

@@ -6,9 +6,9 @@ use Rattle.ild_cbor.specs.declared.why.BlockWhy.{BlockWhy}
 use Rattle.ild_cbor.specs.declared.why.BlockWhy.TheVariants as B
 use Rattle.ild_data.specs.Data.{Data}
 use Rattle.ild_data.specs.Spell.{id_of}
-use Rattle.ild_doc.specs.Block.{HasRoot}
-use Rattle.ild_doc.specs.Docs.{IsDoc, IsShape, block_in, table_in, type_in}
-use Rattle.ild_doc.specs.declared.doc.Doc.{Doc}
+use Rattle.ild_view_doc.specs.Block.{HasRoot}
+use Rattle.ild_view_doc.specs.Docs.{IsDoc, IsShape, block_in, table_in, type_in}
+use Rattle.ild_view_doc.specs.declared.doc.Doc.{Doc}
 use Rattle.ild_edges.specs.Count.{Rose}
 use Rattle.ild_edges.specs.Store.{Moment}
 use Rattle.ild_schema.specs.Slots.{plainly}
@@ -17,11 +17,11 @@ use Rattle.ild_schema.specs.ValueSeen.{value_of}
 use Rattle.ild_schema.specs.declared.number.TypeNo.{TypeNo}
 use Rattle.ild_schema.specs.declared.row.Row.{Row}
 use Rattle.ild_schema.specs.declared.val.Val.{Val}
-use Rattle.ild_walker.specs.OnTree.{IsAt}
-use Rattle.ild_held.specs.Splits.{HasFront}
-use Rattle.ild_kept.specs.Reads.{OnlyReads, Reads}
-use Rattle.ild_kept.specs.declared.fault.OpenFault.{OpenFault}
-use Rattle.ild_kept.specs.declared.fault.OpenFault.TheVariants as F
+use Rattle.ild_bulk_walker.specs.OnTree.{IsAt}
+use Rattle.ild_open_held.specs.Splits.{HasFront}
+use Rattle.ild_open_parts.specs.Reads.{OnlyReads, Reads}
+use Rattle.ild_open_parts.specs.declared.fault.OpenFault.{OpenFault}
+use Rattle.ild_open_parts.specs.declared.fault.OpenFault.TheVariants as F
 use Rattle.ild_open.specs.Broken.{IsWrongRoot}
 use Rattle.ild_open.specs.Opened.{StandsInBlock}
 

@@ -11,7 +11,7 @@ use Rattle.ild_data.specs.Data.{Data}
 use Rattle.ild_data.specs.Spell.{id_of, spell}
 use Rattle.ild_data.specs.Tree.{IsTree}
 use Rattle.ild_edges.specs.Store.{Moment, block_at}
-use Rattle.ild_piece.specs.Pieces.{StandsFor}
+use Rattle.ild_layer_piece.specs.Pieces.{StandsFor}
 use Rattle.ild_schema.specs.Value.{Value}
 use Rattle.ild_schema.specs.ValueSeen.{value_of}
 use Rattle.ild_schema.specs.declared.number.Slot.{Slot}
@@ -19,11 +19,11 @@ use Rattle.ild_schema.specs.declared.number.TypeNo.{TypeNo}
 use Rattle.ild_schema.specs.declared.row.Row.{Row}
 use Rattle.ild_schema.specs.declared.val.Val.{Val}
 use Rattle.ild_typed.specs.Blocks.{nodes}
-use Rattle.ild_walk.specs.Checks.{IsRefusal}
-use Rattle.ild_held.specs.Held.{IsHeld}
-use Rattle.ild_kept.specs.Broken.{HasBrokenBlock}
-use Rattle.ild_kept.specs.Reads.{NoValue, OnlyReads, Stops}
-use Rattle.ild_kept.specs.declared.fault.OpenFault.{OpenFault}
+use Rattle.ild_view_walk.specs.Checks.{IsRefusal}
+use Rattle.ild_open_held.specs.Held.{IsHeld}
+use Rattle.ild_open_parts.specs.Broken.{HasBrokenBlock}
+use Rattle.ild_open_parts.specs.Reads.{NoValue, OnlyReads, Stops}
+use Rattle.ild_open_parts.specs.declared.fault.OpenFault.{OpenFault}
 
 -- the data need more room than there is
 pub record IsDeep (rows : List Row) (s : Slot) (t : Data) (at id : List ℕ) (why : BlockWhy) : Type 0 where

@@ -15,10 +15,10 @@ use Rattle.ild_typed.specs.Blocks.{nodes}
 use Rattle.ild_view.specs.Body.{BodyStands}
 use Rattle.ild_view.specs.View.{body_of, piece_of, slot_of, table_of}
 use Rattle.ild_view.specs.declared.view.View.{View}
-use Rattle.ild_held.specs.Held.{IsHeld}
-use Rattle.ild_kept.specs.Reads.{OnlyReads}
-use Rattle.ild_kept.specs.declared.fault.OpenFault.{OpenFault}
-use Rattle.ild_kept.specs.declared.fault.OpenFault.TheVariants as F
+use Rattle.ild_open_held.specs.Held.{IsHeld}
+use Rattle.ild_open_parts.specs.Reads.{OnlyReads}
+use Rattle.ild_open_parts.specs.declared.fault.OpenFault.{OpenFault}
+use Rattle.ild_open_parts.specs.declared.fault.OpenFault.TheVariants as F
 use Rattle.ild_open.specs.Item.{IsStopped}
 
 -- the value at the view that these data represent, where a store holds these blocks

@@ -1,8 +1,8 @@
 -- What opening a root answers: the one value that stands under its id, or the block for which none does.
 use Rattle.std.specs.Prelude.{◌≡◌, ℕ, ◌+◌, ◌≤◌, List, length, Some, Result, Ok, Err}
 use Rattle.ild_data.specs.Spell.{id_of, spell}
-use Rattle.ild_doc.specs.Docs.{block_in, table_in, type_in}
-use Rattle.ild_doc.specs.declared.doc.Doc.{Doc}
+use Rattle.ild_view_doc.specs.Docs.{block_in, table_in, type_in}
+use Rattle.ild_view_doc.specs.declared.doc.Doc.{Doc}
 use Rattle.ild_edges.specs.Count.{Rose}
 use Rattle.ild_edges.specs.Store.{Moment, block_at}
 use Rattle.ild_schema.specs.Value.{Value}
@@ -11,9 +11,9 @@ use Rattle.ild_schema.specs.declared.number.TypeNo.{TypeNo}
 use Rattle.ild_schema.specs.declared.row.Row.{Row}
 use Rattle.ild_schema.specs.declared.val.Val.{Val}
 use Rattle.ild_typed.specs.Stands.{Stands, bare, blocks_of}
-use Rattle.ild_kept.specs.Reads.{OnlyReads}
-use Rattle.ild_kept.specs.declared.fault.OpenFault.{OpenFault}
-use Rattle.ild_kept.specs.declared.fault.OpenFault.TheVariants as F
+use Rattle.ild_open_parts.specs.Reads.{OnlyReads}
+use Rattle.ild_open_parts.specs.declared.fault.OpenFault.{OpenFault}
+use Rattle.ild_open_parts.specs.declared.fault.OpenFault.TheVariants as F
 use Rattle.ild_open.specs.Broken.{IsRefused}
 
 -- the value stands under the id, and the block is that of its representation

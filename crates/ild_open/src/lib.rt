@@ -5,6 +5,6 @@
 mod loading;
 mod opening;
 
-pub use ild_read::OpenFault;
+pub use ild_open_read::OpenFault;
 pub use loading::load;
 pub use opening::{open_root, open_value};

@@ -1,7 +1,7 @@
 //! Loading the value at a view.
 ghost use Rattle.std.specs.Prelude.{◌≡◌, ◌<◌, length, true};
 ghost use Rattle.ild_data.specs.Seen.{data_of};
-ghost use Rattle.ild_piece.specs.Pieces.{IsNumbered};
+ghost use Rattle.ild_layer_piece.specs.Pieces.{IsNumbered};
 ghost use Rattle.ild_view.specs.Safe.{is_safe};
 ghost use Rattle.ild_open.specs.Item.{LoadsAlone, LoadsBytes, LoadsIn, LoadsItem, LoadsPiece};
 ghost use Rattle.ild_open.specs.Loaded.{Loads};
@@ -10,11 +10,11 @@ use ild_cbor::{BlockWhy, Node, Piece, check};
 use ild_data::{BlockId, KeyHash, Tree, block_id};
 use ild_edges::Store;
 use ild_emit::Emit;
-use ild_read::{OpenFault, read};
+use ild_open_read::{OpenFault, read};
 use ild_schema::{Accepted, Slot, Val};
-use ild_tree::piece_tree;
 use ild_view::View;
-use ild_walk::{ViewErr, check_item};
+use ild_view_tree::piece_tree;
+use ild_view_walk::{ViewErr, check_item};
 use std::alloc::Global;
 
 // The value that an item in a block represents.

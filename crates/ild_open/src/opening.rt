@@ -6,10 +6,10 @@ ghost use Rattle.ild_open.specs.Opened.{HasOpened, HasValue, Opens};
 
 use ild_cbor::{BlockWhy, Piece, known_root};
 use ild_data::{BlockId, KeyHash, Octets};
-use ild_doc::{Doc, DocErr};
 use ild_edges::{EdgeErr, Store};
-use ild_read::{OpenFault, read};
+use ild_open_read::{OpenFault, read};
 use ild_schema::{Accepted, Slot, TypeNo, Val};
+use ild_view_doc::{Doc, DocErr};
 use std::alloc::Global;
 
 // The root block that bytes under an id are, or why they are none.

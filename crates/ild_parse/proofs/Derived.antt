@@ -2,13 +2,13 @@
 use Rattle.std.proofs.Common.{◌≡◌, ℕ, List, Result, Ok, Err, refl, sym, ◌∙◌, subst, inl, inr}
 use Rattle.std.specs.Prelude.{◌⊎◌, IfOk, IfErr}
 use Rattle.ild_lex.specs.declared.token.Token.{Token}
-use Rattle.ild_grammar.specs.declared.ast.Ast.{Ast}
-use Rattle.ild_grammar.specs.DerivePart.{Derives}
-use Rattle.ild_grammar.proofs.Stream.{stream}
-use Rattle.ild_grammar.proofs.Grammar.{schema_at}
-use Rattle.ild_grammar.proofs.Results.{no_value}
-use Rattle.ild_grammar.proofs.CompleteParts.{schema-complete}
-use Rattle.ild_grammar.proofs.OneTree.{IsTold, schema_told}
+use Rattle.ild_parse_grammar.specs.declared.ast.Ast.{Ast}
+use Rattle.ild_parse_grammar.specs.DerivePart.{Derives}
+use Rattle.ild_parse_grammar.proofs.Stream.{stream}
+use Rattle.ild_parse_grammar.proofs.Grammar.{schema_at}
+use Rattle.ild_parse_grammar.proofs.Results.{no_value}
+use Rattle.ild_parse_grammar.proofs.CompleteParts.{schema-complete}
+use Rattle.ild_parse_grammar.proofs.OneTree.{IsTold, schema_told}
 use Rattle.ild_parse.specs.declared.error.ParseErr.{ParseErr}
 use Rattle.ild_parse.specs.declared.error.ParseErr.TheVariants as E
 use Rattle.ild_parse.specs.Seen.{Gives}

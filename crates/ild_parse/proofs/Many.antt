@@ -3,8 +3,8 @@ use Rattle.std.proofs.Common.{◌≡◌, ℕ, suc, ◌-◌, ◌+◌, ◌≤◌, 
 use Rattle.std.proofs.lemmas.List.{append-nil}
 use Rattle.ild_parse.specs.declared.error.ParseErr.{ParseErr}
 use Rattle.ild_parse.specs.declared.error.ParseErr.TheVariants as E
-use Rattle.ild_grammar.proofs.Stream.{Stream, place}
-use Rattle.ild_grammar.proofs.Read.{◌>>=◌, many_at}
+use Rattle.ild_parse_grammar.proofs.Stream.{Stream, place}
+use Rattle.ild_parse_grammar.proofs.Read.{◌>>=◌, many_at}
 use Rattle.ild_parse.specs.Seen.{Fails}
 
 -- what was read before, and what is still read

@@ -1,24 +1,24 @@
 -- Rules by the parts that two of them share.
 use Rattle.std.proofs.Common.{◌≡◌, ◌∙◌, ℕ, Bool, true, false, List, Option, Some, None, refl, sym, ap, Result, Ok, Err}
 use Rattle.std.specs.Prelude.{codes, if◌then◌else◌}
-use Rattle.ild_grammar.specs.declared.ast.TypeName.{TypeName}
-use Rattle.ild_grammar.specs.Derive.{deepest}
-use Rattle.ild_grammar.specs.Reference.{Reference, list, map}
-use Rattle.ild_grammar.specs.declared.ast.Body.{Body}
-use Rattle.ild_grammar.specs.declared.ast.Body.TheVariants as B
-use Rattle.ild_grammar.specs.declared.ast.MapBody.{MapBody}
-use Rattle.ild_grammar.specs.declared.ast.StructBody.{StructBody}
-use Rattle.ild_grammar.specs.declared.ast.UnionBody.{UnionBody}
-use Rattle.ild_grammar.specs.declared.ast.EnumBody.{EnumBody}
-use Rattle.ild_grammar.specs.declared.ast.Decl.{Decl}
-use Rattle.ild_grammar.specs.declared.ast.Decl.TheVariants as D
-use Rattle.ild_grammar.specs.declared.ast.Text.{Text}
-use Rattle.ild_grammar.proofs.Stream.{Stream, place, next_is, rest_of}
-use Rattle.ild_grammar.proofs.Read.{◌>>=◌, literal_at, type_name_at, setting_at, both_settings_at}
-use Rattle.ild_grammar.proofs.Refer.{ref_at, inline_at, list_with, map_with}
-use Rattle.ild_grammar.proofs.Form.{map_form_at, struct_form_at, union_form_at, enum_form_at, unit_form_at, optional_form_at, needed_form_at}
-use Rattle.ild_grammar.proofs.Part.{field_at, member_at, enum_member_at}
-use Rattle.ild_grammar.proofs.Grammar.{braced_at, map_at, list_at, struct_at, union_at, enum_at, unit_at, scalar_at, body_at, type_decl_at, decl_at}
+use Rattle.ild_parse_grammar.specs.declared.ast.TypeName.{TypeName}
+use Rattle.ild_parse_grammar.specs.Derive.{deepest}
+use Rattle.ild_parse_grammar.specs.Reference.{Reference, list, map}
+use Rattle.ild_parse_grammar.specs.declared.ast.Body.{Body}
+use Rattle.ild_parse_grammar.specs.declared.ast.Body.TheVariants as B
+use Rattle.ild_parse_grammar.specs.declared.ast.MapBody.{MapBody}
+use Rattle.ild_parse_grammar.specs.declared.ast.StructBody.{StructBody}
+use Rattle.ild_parse_grammar.specs.declared.ast.UnionBody.{UnionBody}
+use Rattle.ild_parse_grammar.specs.declared.ast.EnumBody.{EnumBody}
+use Rattle.ild_parse_grammar.specs.declared.ast.Decl.{Decl}
+use Rattle.ild_parse_grammar.specs.declared.ast.Decl.TheVariants as D
+use Rattle.ild_parse_grammar.specs.declared.ast.Text.{Text}
+use Rattle.ild_parse_grammar.proofs.Stream.{Stream, place, next_is, rest_of}
+use Rattle.ild_parse_grammar.proofs.Read.{◌>>=◌, literal_at, type_name_at, setting_at, both_settings_at}
+use Rattle.ild_parse_grammar.proofs.Refer.{ref_at, inline_at, list_with, map_with}
+use Rattle.ild_parse_grammar.proofs.Form.{map_form_at, struct_form_at, union_form_at, enum_form_at, unit_form_at, optional_form_at, needed_form_at}
+use Rattle.ild_parse_grammar.proofs.Part.{field_at, member_at, enum_member_at}
+use Rattle.ild_parse_grammar.proofs.Grammar.{braced_at, map_at, list_at, struct_at, union_at, enum_at, unit_at, scalar_at, body_at, type_decl_at, decl_at}
 use Rattle.ild_parse.specs.Rules.{key_at, pair_at, element_at, ordered_settings_at, struct_behind, union_behind, enum_behind, worded_body_at, scalar_of, scalar_here, map_body_at, type_at}
 
 -- a step behind the last of two, or of three, is a step of the whole

@@ -11,9 +11,9 @@ use Rattle.ild_lex.specs.declared.token.TokenKind.TheVariants.{Word, Number, Tex
 use Rattle.ild_lex.specs.Bytes.{is_letter, is_digit, is_word_byte, is_mark}
 use Rattle.ild_lex.specs.Form.{IsToken, is_number, are_digits}
 use Rattle.ild_lex.specs.Span.{IsSpan, bytes_of}
-use Rattle.ild_grammar.specs.Sign.{Sign, kind_of_text}
-use Rattle.ild_grammar.proofs.Stream.{kind_code, is_literal, begins, same_text, stream}
-use Rattle.ild_grammar.proofs.Literal.{same_is, kind_code_same}
+use Rattle.ild_parse_grammar.specs.Sign.{Sign, kind_of_text}
+use Rattle.ild_parse_grammar.proofs.Stream.{kind_code, is_literal, begins, same_text, stream}
+use Rattle.ild_parse_grammar.proofs.Literal.{same_is, kind_code_same}
 
 last_of : (P : ℕ → Type 0) (b c : ℕ) (others : Bool) → P c → (others ≡ true → P b) → (others || b == c) ≡ true → P b
 last_of P b c true here there e = there refl

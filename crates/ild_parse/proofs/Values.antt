@@ -12,9 +12,9 @@ use Rattle.ild_lex.specs.declared.token.TokenKind.{TokenKind}
 use Rattle.ild_lex.specs.declared.token.TokenKind.TheVariants.{Word, Number, Text, Mark}
 use Rattle.ild_lex.specs.Form.{IsText, IsToken}
 use Rattle.ild_lex.specs.Span.{IsSpan, bytes_of}
-use Rattle.ild_grammar.proofs.Stream.{stream, text_of}
-use Rattle.ild_grammar.specs.Sign.{is_text, is_text_kind}
-use Rattle.ild_grammar.specs.Value.{value_of, inside_of, unescaped}
+use Rattle.ild_parse_grammar.proofs.Stream.{stream, text_of}
+use Rattle.ild_parse_grammar.specs.Sign.{is_text, is_text_kind}
+use Rattle.ild_parse_grammar.specs.Value.{value_of, inside_of, unescaped}
 
 -- more digits make no smaller number
 value_grows : (n : ℕ) (ds : List ℕ) → n ≤ value_of n ds

@@ -1,21 +1,21 @@
 -- Rules that two readers share, and what is left of a rule behind its first alternatives. No public call cites them.
 use Rattle.std.specs.Prelude.{ℕ, List, codes, Option, Some, None, Result, Ok, Err, if◌then◌else◌}
-use Rattle.ild_grammar.specs.declared.ast.Body.{Body}
-use Rattle.ild_grammar.specs.declared.ast.Body.TheVariants as B
-use Rattle.ild_grammar.specs.declared.ast.Text.{Text}
-use Rattle.ild_grammar.specs.declared.ast.TypeName.{TypeName}
-use Rattle.ild_grammar.specs.declared.ast.UnionForm.{UnionForm}
-use Rattle.ild_grammar.specs.declared.ast.UnionForm.TheVariants as U
-use Rattle.ild_grammar.specs.declared.ast.Decl.{Decl}
-use Rattle.ild_grammar.specs.declared.ast.Decl.TheVariants as D
-use Rattle.ild_grammar.specs.Derive.{deepest}
-use Rattle.ild_grammar.specs.Reference.{Reference}
-use Rattle.ild_grammar.proofs.Stream.{Stream, place, next_is, rest_of}
-use Rattle.ild_grammar.proofs.Read.{◌>>=◌, literal_at, type_name_at, setting_at, one_setting_at}
-use Rattle.ild_grammar.proofs.Refer.{ref_at}
-use Rattle.ild_grammar.proofs.Form.{envelope_at, map_form_at, struct_form_at, union_form_at, enum_form_at, unit_form_at, optional_form_at, needed_form_at}
-use Rattle.ild_grammar.proofs.Part.{field_at, member_at, enum_member_at}
-use Rattle.ild_grammar.proofs.Grammar.{braced_at, scalar_at, body_at}
+use Rattle.ild_parse_grammar.specs.declared.ast.Body.{Body}
+use Rattle.ild_parse_grammar.specs.declared.ast.Body.TheVariants as B
+use Rattle.ild_parse_grammar.specs.declared.ast.Text.{Text}
+use Rattle.ild_parse_grammar.specs.declared.ast.TypeName.{TypeName}
+use Rattle.ild_parse_grammar.specs.declared.ast.UnionForm.{UnionForm}
+use Rattle.ild_parse_grammar.specs.declared.ast.UnionForm.TheVariants as U
+use Rattle.ild_parse_grammar.specs.declared.ast.Decl.{Decl}
+use Rattle.ild_parse_grammar.specs.declared.ast.Decl.TheVariants as D
+use Rattle.ild_parse_grammar.specs.Derive.{deepest}
+use Rattle.ild_parse_grammar.specs.Reference.{Reference}
+use Rattle.ild_parse_grammar.proofs.Stream.{Stream, place, next_is, rest_of}
+use Rattle.ild_parse_grammar.proofs.Read.{◌>>=◌, literal_at, type_name_at, setting_at, one_setting_at}
+use Rattle.ild_parse_grammar.proofs.Refer.{ref_at}
+use Rattle.ild_parse_grammar.proofs.Form.{envelope_at, map_form_at, struct_form_at, union_form_at, enum_form_at, unit_form_at, optional_form_at, needed_form_at}
+use Rattle.ild_parse_grammar.proofs.Part.{field_at, member_at, enum_member_at}
+use Rattle.ild_parse_grammar.proofs.Grammar.{braced_at, scalar_at, body_at}
 
 -- a part that was read, where this mark follows it
 abbrev pub followed_at : {A : Type 0} → List ℕ → A → Stream → Result (A × Stream) ℕ

@@ -1,6 +1,6 @@
 -- What the readers say of one another: each gives what reading from left to right gives. No public call cites it.
 use Rattle.std.specs.Prelude.{◌≡◌, ℕ, Result, Ok, Err}
-use Rattle.ild_grammar.proofs.Stream.{Stream, stream}
+use Rattle.ild_parse_grammar.proofs.Stream.{Stream, stream}
 use Rattle.ild_parse.specs.declared.input.Input.{Input}
 use Rattle.ild_parse.specs.declared.error.ParseErr.{ParseErr}
 use Rattle.ild_parse.specs.declared.error.ParseErr.TheVariants as E

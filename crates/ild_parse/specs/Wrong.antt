@@ -1,7 +1,7 @@
 -- What an error says of the place of a fault.
 use Rattle.std.specs.Prelude.{ℕ, List}
 use Rattle.ild_lex.specs.declared.token.Token.{Token}
-use Rattle.ild_grammar.specs.Fault.{IsWrongAt}
+use Rattle.ild_parse_grammar.specs.Fault.{IsWrongAt}
 use Rattle.ild_parse.specs.declared.error.ParseErr.{ParseErr}
 use Rattle.ild_parse.specs.declared.error.ParseErr.TheVariants as E
 

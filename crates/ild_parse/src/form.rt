@@ -1,7 +1,7 @@
 //! Representations.
 ghost use Rattle.ild_parse.specs.Seen.{stream_of, Gives};
 ghost use Rattle.ild_parse.specs.Rules.{union_settings_at};
-ghost use Rattle.ild_grammar.proofs.Form.{pairs_at, map_form_at, struct_form_at, envelope_at, union_form_at, enum_form_at, unit_form_at};
+ghost use Rattle.ild_parse_grammar.proofs.Form.{pairs_at, map_form_at, struct_form_at, envelope_at, union_form_at, enum_form_at, unit_form_at};
 
 use crate::input::Input;
 use crate::rule::Rule;
@@ -10,7 +10,7 @@ use crate::terminal::read_type_name;
 use crate::{EnumForm, Envelope, MapForm, Pairs, ParseErr, StructForm, UnionForm, UnitForm};
 use std::alloc::Global;
 
-#[tactic(auto, unfolding(ild_grammar::proofs::Form::pairs_at))]
+#[tactic(auto, unfolding(ild_parse_grammar::proofs::Form::pairs_at))]
 fn read_pairs(alloc: Global, input: Input<'_>) -> Result<(Pairs, Input<'_>), ParseErr>
     ensures { Gives (λ x. (x.0, stream_of x.1)) result (pairs_at (stream_of input.entry)) }
 {
@@ -21,7 +21,7 @@ fn read_pairs(alloc: Global, input: Input<'_>) -> Result<(Pairs, Input<'_>), Par
 impl Rule for MapForm {
     ghost reading = { map_form_at };
 
-    #[tactic(auto, unfolding(ild_grammar::proofs::Form::map_form_at))]
+    #[tactic(auto, unfolding(ild_parse_grammar::proofs::Form::map_form_at))]
     fn read<'s>(alloc: Global, input: Input<'s>) -> Result<(MapForm, Input<'s>), ParseErr> {
         if input.is("map") {
             return Ok((MapForm::Map, input.rest()));
@@ -44,7 +44,7 @@ impl Rule for MapForm {
 impl Rule for StructForm {
     ghost reading = { struct_form_at };
 
-    #[tactic(auto, unfolding(ild_grammar::proofs::Form::struct_form_at))]
+    #[tactic(auto, unfolding(ild_parse_grammar::proofs::Form::struct_form_at))]
     fn read<'s>(alloc: Global, input: Input<'s>) -> Result<(StructForm, Input<'s>), ParseErr> {
         if input.is("map") {
             return Ok((StructForm::Map, input.rest()));
@@ -67,7 +67,7 @@ impl Rule for StructForm {
     }
 }
 
-#[tactic(auto, unfolding(ild_grammar::proofs::Form::envelope_at))]
+#[tactic(auto, unfolding(ild_parse_grammar::proofs::Form::envelope_at))]
 fn read_envelope(alloc: Global, input: Input<'_>) -> Result<(Envelope, Input<'_>), ParseErr>
     ensures { Gives (λ x. (x.0, stream_of x.1)) result (envelope_at (stream_of input.entry)) }
 {
@@ -105,7 +105,7 @@ fn read_union_settings(alloc: Global, input: Input<'_>) -> Result<(UnionForm, In
 impl Rule for UnionForm {
     ghost reading = { union_form_at };
 
-    #[tactic(auto, unfolding(ild_grammar::proofs::Form::union_form_at, crate::specs::Rules::union_settings_at))]
+    #[tactic(auto, unfolding(ild_parse_grammar::proofs::Form::union_form_at, crate::specs::Rules::union_settings_at))]
     fn read<'s>(alloc: Global, input: Input<'s>) -> Result<(UnionForm, Input<'s>), ParseErr> {
         if input.is("keyed") {
             return Ok((UnionForm::Keyed, input.rest()));
@@ -126,7 +126,7 @@ impl Rule for UnionForm {
 impl Rule for EnumForm {
     ghost reading = { enum_form_at };
 
-    #[tactic(auto, unfolding(ild_grammar::proofs::Form::enum_form_at))]
+    #[tactic(auto, unfolding(ild_parse_grammar::proofs::Form::enum_form_at))]
     fn read<'s>(_alloc: Global, input: Input<'s>) -> Result<(EnumForm, Input<'s>), ParseErr> {
         if input.is("string") {
             return Ok((EnumForm::String, input.rest()));
@@ -141,7 +141,7 @@ impl Rule for EnumForm {
 impl Rule for UnitForm {
     ghost reading = { unit_form_at };
 
-    #[tactic(auto, unfolding(ild_grammar::proofs::Form::unit_form_at))]
+    #[tactic(auto, unfolding(ild_parse_grammar::proofs::Form::unit_form_at))]
     fn read<'s>(_alloc: Global, input: Input<'s>) -> Result<(UnitForm, Input<'s>), ParseErr> {
         if input.is("null") {
             return Ok((UnitForm::Null, input.rest()));

@@ -19,13 +19,13 @@ pub(crate) struct Input<'s> {
 
 impl<'s> Input<'s> {
     ghost use Rattle.ild_parse.specs.Seen.{stream_of};
-    ghost use Rattle.ild_grammar.proofs.Stream.{place, text_of, next_is, rest_of};
-    ghost use Rattle.ild_grammar.specs.Sign.{is_type, is_name, is_text, is_number, is_text_kind};
+    ghost use Rattle.ild_parse_grammar.proofs.Stream.{place, text_of, next_is, rest_of};
+    ghost use Rattle.ild_parse_grammar.specs.Sign.{is_type, is_name, is_text, is_number, is_text_kind};
     ghost use Rattle.ild_parse.specs.Seen.{Gives};
-    ghost use Rattle.ild_grammar.proofs.Read.{literal_at};
-    ghost use Rattle.ild_grammar.proofs.Refer.{behind_word};
-    ghost use Rattle.ild_grammar.proofs.Stream.{most, is_end};
-    ghost use Rattle.ild_grammar.specs.Value.{inside_of, meaning};
+    ghost use Rattle.ild_parse_grammar.proofs.Read.{literal_at};
+    ghost use Rattle.ild_parse_grammar.proofs.Refer.{behind_word};
+    ghost use Rattle.ild_parse_grammar.proofs.Stream.{most, is_end};
+    ghost use Rattle.ild_parse_grammar.specs.Value.{inside_of, meaning};
 
     /// The place of the next token, or the end of the source.
     pub(crate) fn place(self) -> usize
@@ -71,7 +71,7 @@ impl<'s> Input<'s> {
     }
 
     /// The input behind this word or mark, which has to come next.
-    #[tactic(auto, unfolding(ild_grammar::proofs::Read::literal_at))]
+    #[tactic(auto, unfolding(ild_parse_grammar::proofs::Read::literal_at))]
     pub(crate) fn after(self, word: &str) -> Result<Input<'s>, ParseErr>
         ensures { Gives stream_of result (literal_at word.now (stream_of self.entry)) }
     {

@@ -15,7 +15,7 @@ mod value;
 
 pub use error::ParseErr;
 pub use ild_data::List;
-pub use ild_grammar::{
+pub use ild_parse_grammar::{
     Ast, Body, Decl, EnumBody, EnumForm, EnumMember, Envelope, Field, Implicit, Inline, KindWord,
     MapBody, MapForm, Mark, Member, Name, Number, Opt, Pairs, Ref, StructBody, StructForm, Target,
     Text, TypeDecl, TypeName, UnionBody, UnionForm, UnitForm,

@@ -1,8 +1,8 @@
 //! References to types: the one rule of the grammar that nests.
 ghost use Rattle.ild_parse.specs.Seen.{stream_of, Gives};
-ghost use Rattle.ild_grammar.specs.ReferenceSeen.{refers_of};
+ghost use Rattle.ild_parse_grammar.specs.ReferenceSeen.{refers_of};
 ghost use Rattle.ild_parse.specs.Rules.{key_at, pair_at, element_at};
-ghost use Rattle.ild_grammar.proofs.Refer.{inline_at, ref_with, list_with, map_with, named_at, link_at};
+ghost use Rattle.ild_parse_grammar.proofs.Refer.{inline_at, ref_with, list_with, map_with, named_at, link_at};
 
 use crate::input::Input;
 use crate::rule::followed;
@@ -10,7 +10,7 @@ use crate::terminal::read_type_name;
 use crate::{Inline, ParseErr, Ref, TypeName};
 use std::alloc::Global;
 
-#[tactic(auto, unfolding(ild_grammar::proofs::Refer::named_at))]
+#[tactic(auto, unfolding(ild_parse_grammar::proofs::Refer::named_at))]
 fn read_named(alloc: Global, input: Input<'_>) -> Result<(Inline, Input<'_>), ParseErr>
     ensures { Gives (λ x. (refers_of x.0, stream_of x.1)) result (named_at (stream_of input.entry)) }
 {
@@ -18,7 +18,7 @@ fn read_named(alloc: Global, input: Input<'_>) -> Result<(Inline, Input<'_>), Pa
     Ok((Inline::Type(name), input))
 }
 
-#[tactic(auto, unfolding(ild_grammar::proofs::Refer::link_at))]
+#[tactic(auto, unfolding(ild_parse_grammar::proofs::Refer::link_at))]
 fn read_link(alloc: Global, input: Input<'_>) -> Result<(Inline, Input<'_>), ParseErr>
     ensures { Gives (λ x. (refers_of x.0, stream_of x.1)) result (link_at (stream_of input.entry)) }
 {
@@ -87,7 +87,7 @@ fn read_map(alloc: Global, room: u32, input: Input<'_>) -> Result<(Inline, Input
 
 /// inline = Type | "&" Type | "[" ref "]" | "{" Type ":" ref "}", where so many inline types have room, one in the other
 #[cycle(nested)]
-#[tactic(auto, unfolding(ild_grammar::proofs::Refer::inline_at))]
+#[tactic(auto, unfolding(ild_parse_grammar::proofs::Refer::inline_at))]
 fn read_inline(alloc: Global, room: u32, input: Input<'_>) -> Result<(Inline, Input<'_>), ParseErr>
     ensures { Gives (λ x. (refers_of x.0, stream_of x.1)) result (inline_at room (stream_of input.entry)) }
 {
@@ -108,7 +108,7 @@ fn read_inline(alloc: Global, room: u32, input: Input<'_>) -> Result<(Inline, In
 
 /// ref = [ "nullable" ] inline
 #[cycle(nested)]
-#[tactic(auto, unfolding(ild_grammar::proofs::Refer::ref_with))]
+#[tactic(auto, unfolding(ild_parse_grammar::proofs::Refer::ref_with))]
 pub(crate) fn read_ref(
     alloc: Global,
     room: u32,

@@ -1,7 +1,7 @@
 //! Fields of structs, and members of unions and enums.
 ghost use Rattle.std.specs.Prelude.{◌≡◌, IfOk, [], ◌∷◌};
 ghost use Rattle.ild_parse.specs.Seen.{stream_of, Gives};
-ghost use Rattle.ild_grammar.proofs.Part.{implicit_at, rename_opt_at, implicit_opt_at, opt_at, other_opt_at, opts_behind, opts_at, field_at, target_at, kind_of, mark_at, member_at, quoted_at, enum_member_at};
+ghost use Rattle.ild_parse_grammar.proofs.Part.{implicit_at, rename_opt_at, implicit_opt_at, opt_at, other_opt_at, opts_behind, opts_at, field_at, target_at, kind_of, mark_at, member_at, quoted_at, enum_member_at};
 
 use crate::input::Input;
 use crate::nested::read_ref;
@@ -15,7 +15,7 @@ use std::alloc::{AllocError, Global};
 /// How deep inline types nest.
 pub(crate) const DEEPEST: u32 = 32;
 
-#[tactic(auto, unfolding(ild_grammar::proofs::Part::implicit_at))]
+#[tactic(auto, unfolding(ild_parse_grammar::proofs::Part::implicit_at))]
 fn read_implicit(alloc: Global, input: Input<'_>) -> Result<(Implicit, Input<'_>), ParseErr>
     ensures { Gives (λ x. (x.0, stream_of x.1)) result (implicit_at (stream_of input.entry)) }
 {
@@ -38,7 +38,7 @@ fn read_implicit(alloc: Global, input: Input<'_>) -> Result<(Implicit, Input<'_>
     Err(input.fault())
 }
 
-#[tactic(auto, unfolding(ild_grammar::proofs::Part::rename_opt_at))]
+#[tactic(auto, unfolding(ild_parse_grammar::proofs::Part::rename_opt_at))]
 fn rename_opt(alloc: Global, input: Input<'_>) -> Result<(Opt, Input<'_>), ParseErr>
     ensures { Gives (λ x. (x.0, stream_of x.1)) result (rename_opt_at (stream_of input.entry)) }
 {
@@ -47,7 +47,7 @@ fn rename_opt(alloc: Global, input: Input<'_>) -> Result<(Opt, Input<'_>), Parse
     Ok((Opt::Rename(text), input))
 }
 
-#[tactic(auto, unfolding(ild_grammar::proofs::Part::implicit_opt_at))]
+#[tactic(auto, unfolding(ild_parse_grammar::proofs::Part::implicit_opt_at))]
 fn implicit_opt(alloc: Global, input: Input<'_>) -> Result<(Opt, Input<'_>), ParseErr>
     ensures { Gives (λ x. (x.0, stream_of x.1)) result (implicit_opt_at (stream_of input.entry)) }
 {
@@ -56,7 +56,7 @@ fn implicit_opt(alloc: Global, input: Input<'_>) -> Result<(Opt, Input<'_>), Par
     Ok((Opt::Implicit(value), input))
 }
 
-#[tactic(auto, unfolding(ild_grammar::proofs::Part::opt_at))]
+#[tactic(auto, unfolding(ild_parse_grammar::proofs::Part::opt_at))]
 fn first_opt(alloc: Global, input: Input<'_>) -> Result<(Opt, Input<'_>), ParseErr>
     ensures { Gives (λ x. (x.0, stream_of x.1)) result (opt_at (stream_of input.entry)) }
 {
@@ -66,7 +66,7 @@ fn first_opt(alloc: Global, input: Input<'_>) -> Result<(Opt, Input<'_>), ParseE
     implicit_opt(alloc, input)
 }
 
-#[tactic(auto, unfolding(ild_grammar::proofs::Part::other_opt_at))]
+#[tactic(auto, unfolding(ild_parse_grammar::proofs::Part::other_opt_at))]
 fn other_opt<'s>(alloc: Global, first: &Opt, input: Input<'s>) -> Result<(Opt, Input<'s>), ParseErr>
     ensures { Gives (λ x. (x.0, stream_of x.1)) result (other_opt_at first.now (stream_of input.entry)) }
 {
@@ -88,7 +88,7 @@ fn two_opts(alloc: Global, first: Opt, second: Opt) -> Result<List<Opt>, AllocEr
     Ok(List::from_vec(vec![in alloc; first, second]?))
 }
 
-#[tactic(auto, unfolding(ild_grammar::proofs::Part::opts_behind))]
+#[tactic(auto, unfolding(ild_parse_grammar::proofs::Part::opts_behind))]
 fn more_opts(
     alloc: Global,
     first: Opt,
@@ -103,7 +103,7 @@ fn more_opts(
     followed(two_opts(alloc, first, second)?, ")", input)
 }
 
-#[tactic(auto, unfolding(ild_grammar::proofs::Part::opts_at))]
+#[tactic(auto, unfolding(ild_parse_grammar::proofs::Part::opts_at))]
 fn read_opts(alloc: Global, input: Input<'_>) -> Result<(List<Opt>, Input<'_>), ParseErr>
     ensures { Gives (λ x. (x.0, stream_of x.1)) result (opts_at (stream_of input.entry)) }
 {
@@ -117,7 +117,7 @@ fn read_opts(alloc: Global, input: Input<'_>) -> Result<(List<Opt>, Input<'_>), 
 impl Rule for Field {
     ghost reading = { field_at };
 
-    #[tactic(auto, unfolding(ild_grammar::proofs::Part::field_at))]
+    #[tactic(auto, unfolding(ild_parse_grammar::proofs::Part::field_at))]
     fn read<'s>(alloc: Global, input: Input<'s>) -> Result<(Field, Input<'s>), ParseErr> {
         let (name, input) = read_name(alloc, input)?;
         let optional = input.is("optional");
@@ -133,7 +133,7 @@ impl Rule for Field {
     }
 }
 
-#[tactic(auto, unfolding(ild_grammar::proofs::Part::target_at))]
+#[tactic(auto, unfolding(ild_parse_grammar::proofs::Part::target_at))]
 fn read_target(alloc: Global, input: Input<'_>) -> Result<(Target, Input<'_>), ParseErr>
     ensures { Gives (λ x. (x.0, stream_of x.1)) result (target_at (stream_of input.entry)) }
 {
@@ -145,7 +145,7 @@ fn read_target(alloc: Global, input: Input<'_>) -> Result<(Target, Input<'_>), P
     Ok((Target::Type(name), input))
 }
 
-#[tactic(auto, unfolding(ild_grammar::proofs::Part::kind_of))]
+#[tactic(auto, unfolding(ild_parse_grammar::proofs::Part::kind_of))]
 fn kind_of(input: Input<'_>) -> Option<KindWord>
     ensures { result ≡ kind_of (stream_of input.entry) }
 {
@@ -179,7 +179,7 @@ fn kind_of(input: Input<'_>) -> Option<KindWord>
     None
 }
 
-#[tactic(auto, unfolding(ild_grammar::proofs::Part::mark_at))]
+#[tactic(auto, unfolding(ild_parse_grammar::proofs::Part::mark_at))]
 fn read_mark(alloc: Global, input: Input<'_>) -> Result<(Option<Mark>, Input<'_>), ParseErr>
     ensures { Gives (λ x. (x.0, stream_of x.1)) result (mark_at (stream_of input.entry)) }
 {
@@ -196,7 +196,7 @@ fn read_mark(alloc: Global, input: Input<'_>) -> Result<(Option<Mark>, Input<'_>
 impl Rule for Member {
     ghost reading = { member_at };
 
-    #[tactic(auto, unfolding(ild_grammar::proofs::Part::member_at))]
+    #[tactic(auto, unfolding(ild_parse_grammar::proofs::Part::member_at))]
     fn read<'s>(alloc: Global, input: Input<'s>) -> Result<(Member, Input<'s>), ParseErr> {
         let input = input.after("|")?;
         let at = input.place();
@@ -206,7 +206,7 @@ impl Rule for Member {
     }
 }
 
-#[tactic(auto, unfolding(ild_grammar::proofs::Part::quoted_at))]
+#[tactic(auto, unfolding(ild_parse_grammar::proofs::Part::quoted_at))]
 fn read_quoted(alloc: Global, input: Input<'_>) -> Result<(Option<Text>, Input<'_>), ParseErr>
     ensures { Gives (λ x. (x.0, stream_of x.1)) result (quoted_at (stream_of input.entry)) }
 {
@@ -220,7 +220,7 @@ fn read_quoted(alloc: Global, input: Input<'_>) -> Result<(Option<Text>, Input<'
 impl Rule for EnumMember {
     ghost reading = { enum_member_at };
 
-    #[tactic(auto, unfolding(ild_grammar::proofs::Part::enum_member_at))]
+    #[tactic(auto, unfolding(ild_parse_grammar::proofs::Part::enum_member_at))]
     fn read<'s>(alloc: Global, input: Input<'s>) -> Result<(EnumMember, Input<'s>), ParseErr> {
         let input = input.after("|")?;
         let (name, input) = read_name(alloc, input)?;

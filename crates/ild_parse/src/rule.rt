@@ -1,9 +1,9 @@
 //! What rules share: parts that repeat in braces, and representations behind their word.
 ghost use Rattle.std.specs.Prelude.{◌≡◌, ℕ, Result};
-ghost use Rattle.ild_grammar.proofs.Stream.{Stream, most};
-ghost use Rattle.ild_grammar.proofs.Read.{many_at};
-ghost use Rattle.ild_grammar.proofs.Form.{optional_form_at, needed_form_at};
-ghost use Rattle.ild_grammar.proofs.Grammar.{braced_at};
+ghost use Rattle.ild_parse_grammar.proofs.Stream.{Stream, most};
+ghost use Rattle.ild_parse_grammar.proofs.Read.{many_at};
+ghost use Rattle.ild_parse_grammar.proofs.Form.{optional_form_at, needed_form_at};
+ghost use Rattle.ild_parse_grammar.proofs.Grammar.{braced_at};
 ghost use Rattle.ild_parse.specs.Seen.{stream_of, Gives};
 ghost use Rattle.ild_parse.specs.Ends.{ends_by};
 ghost use Rattle.ild_parse.specs.Rules.{followed_at};
@@ -70,7 +70,7 @@ pub(crate) fn followed<'s, T: Drop>(
 }
 
 /// "{" { part } "}"
-#[tactic(auto, unfolding(ild_grammar::proofs::Grammar::braced_at))]
+#[tactic(auto, unfolding(ild_parse_grammar::proofs::Grammar::braced_at))]
 pub(crate) fn braced<P: Rule>(
     alloc: Global,
     input: Input<'_>,
@@ -83,7 +83,7 @@ pub(crate) fn braced<P: Rule>(
 }
 
 /// [ "representation" form ]
-#[tactic(auto, unfolding(ild_grammar::proofs::Form::optional_form_at))]
+#[tactic(auto, unfolding(ild_parse_grammar::proofs::Form::optional_form_at))]
 pub(crate) fn optional_form<P: Rule>(
     alloc: Global,
     input: Input<'_>,
@@ -98,7 +98,7 @@ pub(crate) fn optional_form<P: Rule>(
 }
 
 /// "representation" form
-#[tactic(auto, unfolding(ild_grammar::proofs::Form::needed_form_at))]
+#[tactic(auto, unfolding(ild_parse_grammar::proofs::Form::needed_form_at))]
 pub(crate) fn needed_form<P: Rule>(
     alloc: Global,
     input: Input<'_>,

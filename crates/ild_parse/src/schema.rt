@@ -1,11 +1,11 @@
 //! The tree of a source.
 ghost use Rattle.std.specs.Prelude.{◌≡◌, ◌⊎◌, IfErr, IfOk, Ok, Err};
 ghost use Rattle.ild_lex.specs.Lex.{AreTokens};
-ghost use Rattle.ild_grammar.specs.DerivePart.{Derives};
+ghost use Rattle.ild_parse_grammar.specs.DerivePart.{Derives};
 ghost use Rattle.ild_parse.specs.Wrong.{IsWrong};
 ghost use Rattle.ild_parse.specs.Seen.{stream_of, Gives};
 ghost use Rattle.ild_parse.specs.Rules.{type_at};
-ghost use Rattle.ild_grammar.proofs.Grammar.{decl_at, schema_at};
+ghost use Rattle.ild_parse_grammar.proofs.Grammar.{decl_at, schema_at};
 
 use crate::body::read_body;
 use crate::input::Input;
@@ -39,7 +39,7 @@ impl Rule for Decl {
     }
 }
 
-#[tactic(auto, unfolding(ild_grammar::proofs::Grammar::schema_at))]
+#[tactic(auto, unfolding(ild_parse_grammar::proofs::Grammar::schema_at))]
 fn read_schema(alloc: Global, input: Input<'_>) -> Result<Ast, ParseErr>
     ensures { Gives (λ a. a) result (schema_at (stream_of input.entry)) }
 {

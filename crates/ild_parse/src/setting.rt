@@ -1,7 +1,7 @@
 //! Settings in braces.
 ghost use Rattle.ild_parse.specs.Seen.{stream_of, Gives};
 ghost use Rattle.ild_parse.specs.Rules.{ordered_settings_at};
-ghost use Rattle.ild_grammar.proofs.Read.{setting_at, one_setting_at, both_settings_at, two_settings_at};
+ghost use Rattle.ild_parse_grammar.proofs.Read.{setting_at, one_setting_at, both_settings_at, two_settings_at};
 
 use crate::input::Input;
 use crate::rule::followed;
@@ -9,7 +9,7 @@ use crate::terminal::read_text;
 use crate::{ParseErr, Text};
 use std::alloc::Global;
 
-#[tactic(auto, unfolding(ild_grammar::proofs::Read::setting_at))]
+#[tactic(auto, unfolding(ild_parse_grammar::proofs::Read::setting_at))]
 fn setting<'s>(alloc: Global, key: &str, input: Input<'s>) -> Result<(Text, Input<'s>), ParseErr>
     ensures { Gives (λ x. (x.0, stream_of x.1)) result (setting_at key.now (stream_of input.entry)) }
 {
@@ -18,7 +18,7 @@ fn setting<'s>(alloc: Global, key: &str, input: Input<'s>) -> Result<(Text, Inpu
 }
 
 /// "{" key Text "}"
-#[tactic(auto, unfolding(ild_grammar::proofs::Read::one_setting_at))]
+#[tactic(auto, unfolding(ild_parse_grammar::proofs::Read::one_setting_at))]
 pub(crate) fn one_setting<'s>(
     alloc: Global,
     key: &str,
@@ -63,7 +63,7 @@ fn both_settings<'s>(
 }
 
 /// "{" a Text b Text "}", in any order: the text of a, and that of b.
-#[tactic(auto, unfolding(ild_grammar::proofs::Read::two_settings_at))]
+#[tactic(auto, unfolding(ild_parse_grammar::proofs::Read::two_settings_at))]
 pub(crate) fn two_settings<'s>(
     alloc: Global,
     a: &str,

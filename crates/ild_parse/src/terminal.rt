@@ -1,13 +1,13 @@
 //! Names, texts and numbers with their places.
 ghost use Rattle.ild_parse.specs.Seen.{stream_of, Gives};
-ghost use Rattle.ild_grammar.proofs.Read.{type_name_at, name_at, text_at, number_at};
+ghost use Rattle.ild_parse_grammar.proofs.Read.{type_name_at, name_at, text_at, number_at};
 
 use crate::input::Input;
 use crate::value::number_of;
 use crate::{Name, Number, ParseErr, Text, TypeName};
 use std::alloc::Global;
 
-#[tactic(auto, unfolding(ild_grammar::proofs::Read::type_name_at))]
+#[tactic(auto, unfolding(ild_parse_grammar::proofs::Read::type_name_at))]
 pub(crate) fn read_type_name(
     alloc: Global,
     input: Input<'_>,
@@ -22,7 +22,7 @@ pub(crate) fn read_type_name(
     Ok((TypeName { at, name }, input.rest()))
 }
 
-#[tactic(auto, unfolding(ild_grammar::proofs::Read::name_at))]
+#[tactic(auto, unfolding(ild_parse_grammar::proofs::Read::name_at))]
 pub(crate) fn read_name(alloc: Global, input: Input<'_>) -> Result<(Name, Input<'_>), ParseErr>
     ensures { Gives (λ x. (x.0, stream_of x.1)) result (name_at (stream_of input.entry)) }
 {
@@ -34,7 +34,7 @@ pub(crate) fn read_name(alloc: Global, input: Input<'_>) -> Result<(Name, Input<
     Ok((Name { at, name }, input.rest()))
 }
 
-#[tactic(auto, unfolding(ild_grammar::proofs::Read::text_at))]
+#[tactic(auto, unfolding(ild_parse_grammar::proofs::Read::text_at))]
 pub(crate) fn read_text(alloc: Global, input: Input<'_>) -> Result<(Text, Input<'_>), ParseErr>
     ensures { Gives (λ x. (x.0, stream_of x.1)) result (text_at (stream_of input.entry)) }
 {
@@ -46,7 +46,7 @@ pub(crate) fn read_text(alloc: Global, input: Input<'_>) -> Result<(Text, Input<
     Ok((Text { at, text }, input.rest()))
 }
 
-#[tactic(auto, unfolding(ild_grammar::proofs::Read::number_at))]
+#[tactic(auto, unfolding(ild_parse_grammar::proofs::Read::number_at))]
 pub(crate) fn read_number(input: Input<'_>) -> Result<(Number, Input<'_>), ParseErr>
     ensures { Gives (λ x. (x.0, stream_of x.1)) result (number_at (stream_of input.entry)) }
 {

@@ -1,7 +1,7 @@
 //! What texts and numbers mean.
 ghost use Rattle.std.specs.Prelude.{◌≡◌, ◌^◌, IfOk, Some, None, IsUtf8, nat_lt, if◌then◌else◌, string_bytes, false, pos};
 ghost use Rattle.std.specs.Str.{chars, encode_utf8_all};
-ghost use Rattle.ild_grammar.specs.Value.{value_of, number_of, unescaped, below_zero, from_zero};
+ghost use Rattle.ild_parse_grammar.specs.Value.{value_of, number_of, unescaped, below_zero, from_zero};
 
 use ild_data::{Int, Txt};
 use std::alloc::{AllocError, Global};

@@ -3,11 +3,11 @@ use Rattle.std.proofs.Common.{◌≡◌, ℕ, suc, ◌+◌, ◌<◌, ◌≤◌, 
 use Rattle.std.specs.Option.{option_or}
 use Rattle.std.proofs.Math.Seq.{drop-cons}
 use Rattle.std.proofs.lemmas.List.{drop_all}
-use Rattle.ild_grammar.specs.declared.ast.MapForm.{MapForm}
-use Rattle.ild_grammar.specs.declared.ast.MapForm.TheVariants as F
-use Rattle.ild_grammar.specs.declared.ast.Mark.{Mark}
-use Rattle.ild_grammar.specs.declared.ast.Mark.TheVariants as M
-use Rattle.ild_grammar.specs.declared.ast.KindWord.TheVariants as K
+use Rattle.ild_parse_grammar.specs.declared.ast.MapForm.{MapForm}
+use Rattle.ild_parse_grammar.specs.declared.ast.MapForm.TheVariants as F
+use Rattle.ild_parse_grammar.specs.declared.ast.Mark.{Mark}
+use Rattle.ild_parse_grammar.specs.declared.ast.Mark.TheVariants as M
+use Rattle.ild_parse_grammar.specs.declared.ast.KindWord.TheVariants as K
 use Rattle.ild_resolve.specs.Events.{Event, declares, begins, uses, advances, floats, part, types_in, mark_events, map_form_events, each_events}
 use Rattle.ild_resolve.specs.Faults.{first_above}
 use Rattle.ild_resolve.specs.Counts.{Counts}

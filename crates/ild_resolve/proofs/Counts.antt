@@ -2,14 +2,14 @@
 use Rattle.std.proofs.Common.{◌≡◌, ℕ, suc, ◌+◌, List, [], ◌∷◌, ◌++◌, Option, length, refl, ap, sym, ◌∙◌, arith}
 use Rattle.std.specs.List.{flat_map}
 use Rattle.std.proofs.lemmas.List.{length-map}
-use Rattle.ild_grammar.specs.Reference.{Reference}
-use Rattle.ild_grammar.specs.declared.ast.Ast.{Ast}
-use Rattle.ild_grammar.specs.declared.ast.Decl.{Decl}
-use Rattle.ild_grammar.specs.declared.ast.Body.{Body}
-use Rattle.ild_grammar.specs.declared.ast.Field.{Field}
-use Rattle.ild_grammar.specs.declared.ast.Member.{Member}
-use Rattle.ild_grammar.specs.declared.ast.Target.{Target}
-use Rattle.ild_grammar.specs.declared.ast.Target.TheVariants as T
+use Rattle.ild_parse_grammar.specs.Reference.{Reference}
+use Rattle.ild_parse_grammar.specs.declared.ast.Ast.{Ast}
+use Rattle.ild_parse_grammar.specs.declared.ast.Decl.{Decl}
+use Rattle.ild_parse_grammar.specs.declared.ast.Body.{Body}
+use Rattle.ild_parse_grammar.specs.declared.ast.Field.{Field}
+use Rattle.ild_parse_grammar.specs.declared.ast.Member.{Member}
+use Rattle.ild_parse_grammar.specs.declared.ast.Target.{Target}
+use Rattle.ild_parse_grammar.specs.declared.ast.Target.TheVariants as T
 use Rattle.ild_schema.specs.declared.row.Row.{Row}
 use Rattle.ild_resolve.specs.Events.{Event, declares, begins, types_in, reference_events, target_events, field_events, member_events, each_events, body_events, decl_events, events_of}
 use Rattle.ild_resolve.specs.Rows.{reference_rows, target_rows, field_rows, member_rows, body_rows, decl_rows, decls_rows}

@@ -2,20 +2,20 @@
 use Rattle.std.proofs.Common.{◌≡◌, ℕ, suc, ◌+◌, Bool, true, false, cond, ◌||◌, List, [], ◌∷◌, ◌++◌, Option, Some, None, codes, is_some, bytes_eq, refl, ap, sym, ◌∙◌, arith, rules}
 use Rattle.std.specs.Option.{option_or}
 use Rattle.std.proofs.lemmas.Slice.Eq.{bytes_eq-Decides}
-use Rattle.ild_grammar.specs.Reference.{Reference, refer, Refers, named, link, list, map}
-use Rattle.ild_grammar.specs.declared.ast.Body.{Body}
-use Rattle.ild_grammar.specs.declared.ast.Body.TheVariants as B
-use Rattle.ild_grammar.specs.declared.ast.Field.{Field}
-use Rattle.ild_grammar.specs.declared.ast.Member.{Member}
-use Rattle.ild_grammar.specs.declared.ast.EnumMember.{EnumMember}
-use Rattle.ild_grammar.specs.declared.ast.Target.{Target}
-use Rattle.ild_grammar.specs.declared.ast.Target.TheVariants as T
-use Rattle.ild_grammar.specs.declared.ast.MapForm.{MapForm}
-use Rattle.ild_grammar.specs.declared.ast.MapForm.TheVariants as F
-use Rattle.ild_grammar.specs.declared.ast.Mark.{Mark}
-use Rattle.ild_grammar.specs.declared.ast.Mark.TheVariants as M
-use Rattle.ild_grammar.specs.declared.ast.KindWord.TheVariants as K
-use Rattle.ild_grammar.specs.declared.ast.TypeName.{TypeName}
+use Rattle.ild_parse_grammar.specs.Reference.{Reference, refer, Refers, named, link, list, map}
+use Rattle.ild_parse_grammar.specs.declared.ast.Body.{Body}
+use Rattle.ild_parse_grammar.specs.declared.ast.Body.TheVariants as B
+use Rattle.ild_parse_grammar.specs.declared.ast.Field.{Field}
+use Rattle.ild_parse_grammar.specs.declared.ast.Member.{Member}
+use Rattle.ild_parse_grammar.specs.declared.ast.EnumMember.{EnumMember}
+use Rattle.ild_parse_grammar.specs.declared.ast.Target.{Target}
+use Rattle.ild_parse_grammar.specs.declared.ast.Target.TheVariants as T
+use Rattle.ild_parse_grammar.specs.declared.ast.MapForm.{MapForm}
+use Rattle.ild_parse_grammar.specs.declared.ast.MapForm.TheVariants as F
+use Rattle.ild_parse_grammar.specs.declared.ast.Mark.{Mark}
+use Rattle.ild_parse_grammar.specs.declared.ast.Mark.TheVariants as M
+use Rattle.ild_parse_grammar.specs.declared.ast.KindWord.TheVariants as K
+use Rattle.ild_parse_grammar.specs.declared.ast.TypeName.{TypeName}
 use Rattle.ild_schema.specs.Names.{number_named}
 use Rattle.ild_schema.specs.Prelude.{prelude}
 use Rattle.ild_resolve.specs.Events.{Event, declares, begins, uses, advances, floats, part, types_in, reference_events, inline_events, field_events, target_events, member_events, enum_member_events, mark_events, map_form_events, each_events, body_events}

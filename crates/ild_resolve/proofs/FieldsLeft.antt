@@ -1,6 +1,6 @@
 -- Fields, one after the other: what was made of those before, and what is left.
 use Rattle.std.proofs.Common.{◌≡◌, ◌⊎◌, ℕ, suc, ◌+◌, ◌≤◌, List, [], ◌∷◌, ◌++◌, Option, Some, None, length, length-append, refl, ap, sym, ◌∙◌, arith}
-use Rattle.ild_grammar.specs.declared.ast.Field.{Field as AstField}
+use Rattle.ild_parse_grammar.specs.declared.ast.Field.{Field as AstField}
 use Rattle.ild_schema.specs.declared.def.Field.{Field}
 use Rattle.ild_schema.specs.declared.row.Row.{Row}
 use Rattle.ild_resolve.specs.Events.{reference_events, each_events, field_events, types_in}

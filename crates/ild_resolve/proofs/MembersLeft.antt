@@ -1,9 +1,9 @@
 -- Members, one after the other: what was made of those before, and what is left.
 use Rattle.std.proofs.Common.{◌≡◌, ◌⊎◌, ℕ, suc, ◌+◌, ◌≤◌, List, [], ◌∷◌, ◌++◌, Option, Some, None, length, length-append, refl, ap, sym, ◌∙◌, arith}
-use Rattle.ild_grammar.specs.declared.ast.Member.{Member as AstMember}
-use Rattle.ild_grammar.specs.declared.ast.Mark.{Mark as AstMark}
-use Rattle.ild_grammar.specs.declared.ast.Mark.TheVariants as M
-use Rattle.ild_grammar.specs.declared.ast.KindWord.TheVariants as K
+use Rattle.ild_parse_grammar.specs.declared.ast.Member.{Member as AstMember}
+use Rattle.ild_parse_grammar.specs.declared.ast.Mark.{Mark as AstMark}
+use Rattle.ild_parse_grammar.specs.declared.ast.Mark.TheVariants as M
+use Rattle.ild_parse_grammar.specs.declared.ast.KindWord.TheVariants as K
 use Rattle.ild_schema.specs.declared.def.Member.{Member}
 use Rattle.ild_schema.specs.declared.row.Row.{Row}
 use Rattle.ild_resolve.specs.Events.{Event, target_events, mark_events, each_events, member_events, types_in}

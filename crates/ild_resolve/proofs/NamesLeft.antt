@@ -3,10 +3,10 @@ use Rattle.std.proofs.Common.{◌≡◌, ℕ, zero, suc, ◌+◌, ◌<◌, List,
 use Rattle.std.proofs.Math.Seq.{drop-cons, take-suc}
 use Rattle.std.proofs.lemmas.Grind.{flat_map-append}
 use Rattle.std.proofs.lemmas.List.{append-nil}
-use Rattle.ild_grammar.specs.declared.ast.Decl.{Decl}
-use Rattle.ild_grammar.specs.declared.ast.Decl.TheVariants as A
-use Rattle.ild_grammar.specs.declared.ast.TypeDecl.{TypeDecl}
-use Rattle.ild_grammar.specs.declared.ast.TypeName.{TypeName}
+use Rattle.ild_parse_grammar.specs.declared.ast.Decl.{Decl}
+use Rattle.ild_parse_grammar.specs.declared.ast.Decl.TheVariants as A
+use Rattle.ild_parse_grammar.specs.declared.ast.TypeDecl.{TypeDecl}
+use Rattle.ild_parse_grammar.specs.declared.ast.TypeName.{TypeName}
 use Rattle.ild_resolve.specs.Names.{declared_name, names_in}
 
 pub names_before : (decls : List Decl) (i : ℕ) (d : Decl) → i < length decls → d ≡ get_or decls i d → names_in (take (i + 1) decls) ≡ names_in (take i decls) ++ declared_name d

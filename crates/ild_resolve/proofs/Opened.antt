@@ -2,21 +2,21 @@
 use Rattle.std.proofs.Common.{◌≡◌, ℕ, suc, ◌+◌, List, [], ◌∷◌, ◌++◌, Option, Some, None, length, map, refl, ap, sym, ◌∙◌}
 use Rattle.std.specs.List.{flat_map}
 use Rattle.std.proofs.lemmas.List.{map-append, append-nil}
-use Rattle.ild_grammar.specs.Reference.{Reference, refer, Refers, named, link, list, map as map_to}
-use Rattle.ild_grammar.specs.declared.ast.Decl.{Decl}
-use Rattle.ild_grammar.specs.declared.ast.Decl.TheVariants as A
-use Rattle.ild_grammar.specs.declared.ast.Body.{Body}
-use Rattle.ild_grammar.specs.declared.ast.Body.TheVariants as B
-use Rattle.ild_grammar.specs.declared.ast.MapForm.{MapForm}
-use Rattle.ild_grammar.specs.declared.ast.MapForm.TheVariants as F
-use Rattle.ild_grammar.specs.declared.ast.Field.{Field}
-use Rattle.ild_grammar.specs.declared.ast.Member.{Member}
-use Rattle.ild_grammar.specs.declared.ast.Target.{Target}
-use Rattle.ild_grammar.specs.declared.ast.Target.TheVariants as T
-use Rattle.ild_grammar.specs.declared.ast.Mark.{Mark}
-use Rattle.ild_grammar.specs.declared.ast.Mark.TheVariants as M
-use Rattle.ild_grammar.specs.declared.ast.KindWord.TheVariants as K
-use Rattle.ild_grammar.specs.declared.ast.EnumMember.{EnumMember}
+use Rattle.ild_parse_grammar.specs.Reference.{Reference, refer, Refers, named, link, list, map as map_to}
+use Rattle.ild_parse_grammar.specs.declared.ast.Decl.{Decl}
+use Rattle.ild_parse_grammar.specs.declared.ast.Decl.TheVariants as A
+use Rattle.ild_parse_grammar.specs.declared.ast.Body.{Body}
+use Rattle.ild_parse_grammar.specs.declared.ast.Body.TheVariants as B
+use Rattle.ild_parse_grammar.specs.declared.ast.MapForm.{MapForm}
+use Rattle.ild_parse_grammar.specs.declared.ast.MapForm.TheVariants as F
+use Rattle.ild_parse_grammar.specs.declared.ast.Field.{Field}
+use Rattle.ild_parse_grammar.specs.declared.ast.Member.{Member}
+use Rattle.ild_parse_grammar.specs.declared.ast.Target.{Target}
+use Rattle.ild_parse_grammar.specs.declared.ast.Target.TheVariants as T
+use Rattle.ild_parse_grammar.specs.declared.ast.Mark.{Mark}
+use Rattle.ild_parse_grammar.specs.declared.ast.Mark.TheVariants as M
+use Rattle.ild_parse_grammar.specs.declared.ast.KindWord.TheVariants as K
+use Rattle.ild_parse_grammar.specs.declared.ast.EnumMember.{EnumMember}
 pub use Rattle.ild_schema.specs.Names.{open_name}
 use Rattle.ild_schema.specs.declared.row.Row.{Row}
 use Rattle.ild_resolve.specs.Events.{Event, declares, begins, reference_events, inline_events, map_form_events, field_events, target_events, mark_events, member_events, enum_member_events, each_events, body_events, decl_events}

@@ -3,7 +3,7 @@ use Rattle.std.proofs.Common.{◌≡◌, ℕ, List, Some, None, Result, Ok, Err,
 use Rattle.std.specs.Prelude.{◌⊎◌}
 use Rattle.std.proofs.lemmas.Bool.{cases_order}
 use Rattle.std.proofs.lemmas.Option.{none-some, same_Some}
-use Rattle.ild_grammar.specs.declared.ast.Ast.{Ast}
+use Rattle.ild_parse_grammar.specs.declared.ast.Ast.{Ast}
 use Rattle.ild_schema.specs.Table.{place_at}
 use Rattle.ild_schema.specs.Copies.{NoneIsCircular, FirstIsCircular}
 use Rattle.ild_schema.specs.declared.row.Row.{Row}

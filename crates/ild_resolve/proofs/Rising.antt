@@ -5,42 +5,42 @@ use Rattle.std.specs.List.{flat_map}
 use Rattle.std.proofs.lemmas.List.{append-nil}
 use Rattle.ild_lex.specs.declared.token.Token.{Token}
 use Rattle.ild_lex.specs.Lex.{Stop, Lexes, all_read}
-use Rattle.ild_grammar.specs.Sign.{Sign, signs_of}
-use Rattle.ild_grammar.specs.Reference.{Reference, refer, Refers, named, link, list, map}
-use Rattle.ild_grammar.specs.declared.ast.Ast.{Ast}
-use Rattle.ild_grammar.specs.declared.ast.TypeName.{TypeName}
-use Rattle.ild_grammar.specs.declared.ast.Name.{Name}
-use Rattle.ild_grammar.specs.declared.ast.Text.{Text}
-use Rattle.ild_grammar.specs.declared.ast.Number.{Number}
-use Rattle.ild_grammar.specs.declared.ast.Decl.{Decl}
-use Rattle.ild_grammar.specs.declared.ast.Decl.TheVariants as D
-use Rattle.ild_grammar.specs.declared.ast.Body.{Body}
-use Rattle.ild_grammar.specs.declared.ast.Body.TheVariants as B
-use Rattle.ild_grammar.specs.declared.ast.MapForm.{MapForm}
-use Rattle.ild_grammar.specs.declared.ast.MapForm.TheVariants as F
-use Rattle.ild_grammar.specs.declared.ast.StructForm.{StructForm}
-use Rattle.ild_grammar.specs.declared.ast.StructForm.TheVariants as S
-use Rattle.ild_grammar.specs.declared.ast.UnionForm.{UnionForm}
-use Rattle.ild_grammar.specs.declared.ast.UnionForm.TheVariants as U
-use Rattle.ild_grammar.specs.declared.ast.EnumForm.{EnumForm}
-use Rattle.ild_grammar.specs.declared.ast.EnumForm.TheVariants as E
-use Rattle.ild_grammar.specs.declared.ast.UnitForm.{UnitForm}
-use Rattle.ild_grammar.specs.declared.ast.UnitForm.TheVariants as N
-use Rattle.ild_grammar.specs.declared.ast.Field.{Field}
-use Rattle.ild_grammar.specs.declared.ast.Opt.{Opt}
-use Rattle.ild_grammar.specs.declared.ast.Opt.TheVariants as O
-use Rattle.ild_grammar.specs.declared.ast.Implicit.{Implicit}
-use Rattle.ild_grammar.specs.declared.ast.Implicit.TheVariants as I
-use Rattle.ild_grammar.specs.declared.ast.Member.{Member}
-use Rattle.ild_grammar.specs.declared.ast.Target.{Target}
-use Rattle.ild_grammar.specs.declared.ast.Target.TheVariants as T
-use Rattle.ild_grammar.specs.declared.ast.Mark.{Mark}
-use Rattle.ild_grammar.specs.declared.ast.Mark.TheVariants as M
-use Rattle.ild_grammar.specs.declared.ast.KindWord.TheVariants as K
-use Rattle.ild_grammar.specs.declared.ast.EnumMember.{EnumMember}
-use Rattle.ild_grammar.specs.Derive.{IsWord, IsTypeName, IsName, IsText, IsNumber, BeginsAt, IsOptionalWord, IsOptional, AreParts, AreBraced, IsFormed, IsReference, IsInline, deepest}
-use Rattle.ild_grammar.specs.DeriveForm.{IsSetting, IsOneSetting, AreBothSettings, AreTwoSettings, IsMapForm, IsStructForm, IsUnionForm, IsEnumForm, IsUnitForm}
-use Rattle.ild_grammar.specs.DerivePart.{IsImplicit, IsOpt, AreOpts, IsField, IsTarget, IsMark, IsMember, IsQuoted, IsEnumMember, IsBody, IsDecl, Derives}
+use Rattle.ild_parse_grammar.specs.Sign.{Sign, signs_of}
+use Rattle.ild_parse_grammar.specs.Reference.{Reference, refer, Refers, named, link, list, map}
+use Rattle.ild_parse_grammar.specs.declared.ast.Ast.{Ast}
+use Rattle.ild_parse_grammar.specs.declared.ast.TypeName.{TypeName}
+use Rattle.ild_parse_grammar.specs.declared.ast.Name.{Name}
+use Rattle.ild_parse_grammar.specs.declared.ast.Text.{Text}
+use Rattle.ild_parse_grammar.specs.declared.ast.Number.{Number}
+use Rattle.ild_parse_grammar.specs.declared.ast.Decl.{Decl}
+use Rattle.ild_parse_grammar.specs.declared.ast.Decl.TheVariants as D
+use Rattle.ild_parse_grammar.specs.declared.ast.Body.{Body}
+use Rattle.ild_parse_grammar.specs.declared.ast.Body.TheVariants as B
+use Rattle.ild_parse_grammar.specs.declared.ast.MapForm.{MapForm}
+use Rattle.ild_parse_grammar.specs.declared.ast.MapForm.TheVariants as F
+use Rattle.ild_parse_grammar.specs.declared.ast.StructForm.{StructForm}
+use Rattle.ild_parse_grammar.specs.declared.ast.StructForm.TheVariants as S
+use Rattle.ild_parse_grammar.specs.declared.ast.UnionForm.{UnionForm}
+use Rattle.ild_parse_grammar.specs.declared.ast.UnionForm.TheVariants as U
+use Rattle.ild_parse_grammar.specs.declared.ast.EnumForm.{EnumForm}
+use Rattle.ild_parse_grammar.specs.declared.ast.EnumForm.TheVariants as E
+use Rattle.ild_parse_grammar.specs.declared.ast.UnitForm.{UnitForm}
+use Rattle.ild_parse_grammar.specs.declared.ast.UnitForm.TheVariants as N
+use Rattle.ild_parse_grammar.specs.declared.ast.Field.{Field}
+use Rattle.ild_parse_grammar.specs.declared.ast.Opt.{Opt}
+use Rattle.ild_parse_grammar.specs.declared.ast.Opt.TheVariants as O
+use Rattle.ild_parse_grammar.specs.declared.ast.Implicit.{Implicit}
+use Rattle.ild_parse_grammar.specs.declared.ast.Implicit.TheVariants as I
+use Rattle.ild_parse_grammar.specs.declared.ast.Member.{Member}
+use Rattle.ild_parse_grammar.specs.declared.ast.Target.{Target}
+use Rattle.ild_parse_grammar.specs.declared.ast.Target.TheVariants as T
+use Rattle.ild_parse_grammar.specs.declared.ast.Mark.{Mark}
+use Rattle.ild_parse_grammar.specs.declared.ast.Mark.TheVariants as M
+use Rattle.ild_parse_grammar.specs.declared.ast.KindWord.TheVariants as K
+use Rattle.ild_parse_grammar.specs.declared.ast.EnumMember.{EnumMember}
+use Rattle.ild_parse_grammar.specs.Derive.{IsWord, IsTypeName, IsName, IsText, IsNumber, BeginsAt, IsOptionalWord, IsOptional, AreParts, AreBraced, IsFormed, IsReference, IsInline, deepest}
+use Rattle.ild_parse_grammar.specs.DeriveForm.{IsSetting, IsOneSetting, AreBothSettings, AreTwoSettings, IsMapForm, IsStructForm, IsUnionForm, IsEnumForm, IsUnitForm}
+use Rattle.ild_parse_grammar.specs.DerivePart.{IsImplicit, IsOpt, AreOpts, IsField, IsTarget, IsMark, IsMember, IsQuoted, IsEnumMember, IsBody, IsDecl, Derives}
 use Rattle.ild_resolve.specs.Events.{Event, declares, begins, uses, advances, floats, part, reference_events, inline_events, map_form_events, field_events, target_events, mark_events, member_events, enum_member_events, each_events, body_events, decl_events, events_of}
 use Rattle.ild_resolve.specs.Rise.{place_in, RiseFrom}
 

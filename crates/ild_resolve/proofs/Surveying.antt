@@ -5,10 +5,10 @@ use Rattle.std.specs.Option.{option_or}
 use Rattle.std.proofs.Math.Seq.{drop-cons, take-suc}
 use Rattle.std.proofs.lemmas.Grind.{flat_map-append}
 use Rattle.std.proofs.lemmas.List.{append-nil}
-use Rattle.ild_grammar.specs.declared.ast.Decl.{Decl}
-use Rattle.ild_grammar.specs.declared.ast.Decl.TheVariants as A
-use Rattle.ild_grammar.specs.declared.ast.TypeDecl.{TypeDecl}
-use Rattle.ild_grammar.specs.declared.ast.TypeName.{TypeName}
+use Rattle.ild_parse_grammar.specs.declared.ast.Decl.{Decl}
+use Rattle.ild_parse_grammar.specs.declared.ast.Decl.TheVariants as A
+use Rattle.ild_parse_grammar.specs.declared.ast.TypeDecl.{TypeDecl}
+use Rattle.ild_parse_grammar.specs.declared.ast.TypeName.{TypeName}
 use Rattle.ild_resolve.specs.Events.{Event, declares, advances, body_events, decl_events, types_in}
 use Rattle.ild_resolve.specs.Faults.{first_above, first_again, taken_names, declared_fault}
 use Rattle.ild_resolve.specs.Counts.{Counts}

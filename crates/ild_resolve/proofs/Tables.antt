@@ -3,7 +3,7 @@ use Rattle.std.proofs.Common.{◌≡◌, ℕ, ◌+◌, ◌≤◌, List, ◌++◌
 use Rattle.std.specs.List.{All}
 use Rattle.std.proofs.Math.Path.{fun_ext}
 use Rattle.std.proofs.lemmas.List.Elements.{All-append}
-use Rattle.ild_grammar.specs.declared.ast.Ast.{Ast}
+use Rattle.ild_parse_grammar.specs.declared.ast.Ast.{Ast}
 use Rattle.ild_schema.specs.Prelude.{prelude}
 use Rattle.ild_schema.specs.Copies.{NoneIsCircular}
 use Rattle.ild_schema.specs.Spelled.{HasTexts}

@@ -2,7 +2,7 @@
 use Rattle.std.proofs.Common.{◌≡◌, ℕ, ◌≤◌, List, Option, Some, None, sym, ap, ◌∙◌, subst, inr}
 use Rattle.std.specs.Option.{option_or}
 use Rattle.std.proofs.Math.Path.{fun_ext}
-use Rattle.ild_grammar.specs.declared.ast.Ast.{Ast}
+use Rattle.ild_parse_grammar.specs.declared.ast.Ast.{Ast}
 use Rattle.ild_resolve.specs.Events.{Event, events_of, types_in}
 use Rattle.ild_resolve.specs.Faults.{declared_fault, first_wrong, fault_in}
 use Rattle.ild_resolve.specs.Names.{number_of}

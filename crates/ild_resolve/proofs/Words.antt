@@ -1,8 +1,8 @@
 -- Words that are wrong, in the order of the text.
 use Rattle.std.proofs.Common.{◌≡◌, ◌⊎◌, inl, inr, ℕ, suc, List, [], ◌∷◌, ◌++◌, false, Option, Some, None, bytes_eq, codes, refl, ap, ◌∙◌}
 use Rattle.std.specs.Option.{option_or}
-use Rattle.ild_grammar.specs.declared.ast.TypeName.{TypeName}
-use Rattle.ild_grammar.specs.declared.ast.EnumMember.{EnumMember}
+use Rattle.ild_parse_grammar.specs.declared.ast.TypeName.{TypeName}
+use Rattle.ild_parse_grammar.specs.declared.ast.EnumMember.{EnumMember}
 use Rattle.ild_resolve.specs.Events.{Event, uses, each_events, enum_member_events}
 use Rattle.ild_resolve.specs.Faults.{event_fault, first_wrong}
 use Rattle.ild_resolve.specs.declared.error.ResolveErr.{ResolveErr}

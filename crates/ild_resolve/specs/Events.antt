@@ -1,23 +1,23 @@
 -- What the text of a schema says that resolving looks at, in the order of the text.
 use Rattle.std.specs.Prelude.{ℕ, suc, List, [], ◌∷◌, ◌++◌, Option, Some}
 use Rattle.std.specs.List.{flat_map}
-use Rattle.ild_grammar.specs.Reference.{Reference, refer, Refers, named, link, list, map}
-use Rattle.ild_grammar.specs.declared.ast.Ast.{Ast}
-use Rattle.ild_grammar.specs.declared.ast.Decl.{Decl}
-use Rattle.ild_grammar.specs.declared.ast.Decl.TheVariants as A
-use Rattle.ild_grammar.specs.declared.ast.Body.{Body}
-use Rattle.ild_grammar.specs.declared.ast.Body.TheVariants as B
-use Rattle.ild_grammar.specs.declared.ast.MapForm.{MapForm}
-use Rattle.ild_grammar.specs.declared.ast.MapForm.TheVariants as F
-use Rattle.ild_grammar.specs.declared.ast.Field.{Field}
-use Rattle.ild_grammar.specs.declared.ast.Member.{Member}
-use Rattle.ild_grammar.specs.declared.ast.Target.{Target}
-use Rattle.ild_grammar.specs.declared.ast.Target.TheVariants as T
-use Rattle.ild_grammar.specs.declared.ast.Mark.{Mark}
-use Rattle.ild_grammar.specs.declared.ast.Mark.TheVariants as M
-use Rattle.ild_grammar.specs.declared.ast.KindWord.TheVariants as K
-use Rattle.ild_grammar.specs.declared.ast.EnumMember.{EnumMember}
-use Rattle.ild_grammar.specs.declared.ast.TypeName.{TypeName}
+use Rattle.ild_parse_grammar.specs.Reference.{Reference, refer, Refers, named, link, list, map}
+use Rattle.ild_parse_grammar.specs.declared.ast.Ast.{Ast}
+use Rattle.ild_parse_grammar.specs.declared.ast.Decl.{Decl}
+use Rattle.ild_parse_grammar.specs.declared.ast.Decl.TheVariants as A
+use Rattle.ild_parse_grammar.specs.declared.ast.Body.{Body}
+use Rattle.ild_parse_grammar.specs.declared.ast.Body.TheVariants as B
+use Rattle.ild_parse_grammar.specs.declared.ast.MapForm.{MapForm}
+use Rattle.ild_parse_grammar.specs.declared.ast.MapForm.TheVariants as F
+use Rattle.ild_parse_grammar.specs.declared.ast.Field.{Field}
+use Rattle.ild_parse_grammar.specs.declared.ast.Member.{Member}
+use Rattle.ild_parse_grammar.specs.declared.ast.Target.{Target}
+use Rattle.ild_parse_grammar.specs.declared.ast.Target.TheVariants as T
+use Rattle.ild_parse_grammar.specs.declared.ast.Mark.{Mark}
+use Rattle.ild_parse_grammar.specs.declared.ast.Mark.TheVariants as M
+use Rattle.ild_parse_grammar.specs.declared.ast.KindWord.TheVariants as K
+use Rattle.ild_parse_grammar.specs.declared.ast.EnumMember.{EnumMember}
+use Rattle.ild_parse_grammar.specs.declared.ast.TypeName.{TypeName}
 
 pub data Event : Type 0 where
   -- a type is declared

@@ -3,7 +3,7 @@ use Rattle.std.specs.Prelude.{ℕ, suc, List, [], ◌∷◌, Bool, Option, Some,
 use Rattle.std.specs.List.{list_any}
 use Rattle.std.specs.Option.{option_or}
 use Rattle.ild_schema.specs.Prelude.{prelude}
-use Rattle.ild_grammar.specs.declared.ast.TypeName.{TypeName}
+use Rattle.ild_parse_grammar.specs.declared.ast.TypeName.{TypeName}
 use Rattle.ild_resolve.specs.Events.{Event, declares, begins, uses, advances, floats, part}
 use Rattle.ild_resolve.specs.Names.{number_of}
 use Rattle.ild_resolve.specs.declared.error.ResolveErr.{ResolveErr}

@@ -1,24 +1,24 @@
 -- The parts of a table that are as the text says them, without names of types.
 use Rattle.std.specs.Prelude.{ℕ, List, [], ◌∷◌, Option, Some, None, true, false, map, option_map}
-use Rattle.ild_grammar.specs.declared.ast.MapForm.{MapForm as AstMapForm}
-use Rattle.ild_grammar.specs.declared.ast.MapForm.TheVariants as AM
-use Rattle.ild_grammar.specs.declared.ast.StructForm.{StructForm as AstStructForm}
-use Rattle.ild_grammar.specs.declared.ast.StructForm.TheVariants as AS
-use Rattle.ild_grammar.specs.declared.ast.UnionForm.{UnionForm as AstUnionForm}
-use Rattle.ild_grammar.specs.declared.ast.UnionForm.TheVariants as AU
-use Rattle.ild_grammar.specs.declared.ast.EnumForm.{EnumForm as AstEnumForm}
-use Rattle.ild_grammar.specs.declared.ast.EnumForm.TheVariants as AE
-use Rattle.ild_grammar.specs.declared.ast.UnitForm.{UnitForm as AstUnitForm}
-use Rattle.ild_grammar.specs.declared.ast.UnitForm.TheVariants as AN
-use Rattle.ild_grammar.specs.declared.ast.Opt.{Opt}
-use Rattle.ild_grammar.specs.declared.ast.Opt.TheVariants as AO
-use Rattle.ild_grammar.specs.declared.ast.Implicit.{Implicit}
-use Rattle.ild_grammar.specs.declared.ast.Implicit.TheVariants as AI
-use Rattle.ild_grammar.specs.declared.ast.Mark.{Mark as AstMark}
-use Rattle.ild_grammar.specs.declared.ast.Mark.TheVariants as AK
-use Rattle.ild_grammar.specs.declared.ast.KindWord.{KindWord as AstKindWord}
-use Rattle.ild_grammar.specs.declared.ast.KindWord.TheVariants as AW
-use Rattle.ild_grammar.specs.declared.ast.EnumMember.{EnumMember as AstEnumMember}
+use Rattle.ild_parse_grammar.specs.declared.ast.MapForm.{MapForm as AstMapForm}
+use Rattle.ild_parse_grammar.specs.declared.ast.MapForm.TheVariants as AM
+use Rattle.ild_parse_grammar.specs.declared.ast.StructForm.{StructForm as AstStructForm}
+use Rattle.ild_parse_grammar.specs.declared.ast.StructForm.TheVariants as AS
+use Rattle.ild_parse_grammar.specs.declared.ast.UnionForm.{UnionForm as AstUnionForm}
+use Rattle.ild_parse_grammar.specs.declared.ast.UnionForm.TheVariants as AU
+use Rattle.ild_parse_grammar.specs.declared.ast.EnumForm.{EnumForm as AstEnumForm}
+use Rattle.ild_parse_grammar.specs.declared.ast.EnumForm.TheVariants as AE
+use Rattle.ild_parse_grammar.specs.declared.ast.UnitForm.{UnitForm as AstUnitForm}
+use Rattle.ild_parse_grammar.specs.declared.ast.UnitForm.TheVariants as AN
+use Rattle.ild_parse_grammar.specs.declared.ast.Opt.{Opt}
+use Rattle.ild_parse_grammar.specs.declared.ast.Opt.TheVariants as AO
+use Rattle.ild_parse_grammar.specs.declared.ast.Implicit.{Implicit}
+use Rattle.ild_parse_grammar.specs.declared.ast.Implicit.TheVariants as AI
+use Rattle.ild_parse_grammar.specs.declared.ast.Mark.{Mark as AstMark}
+use Rattle.ild_parse_grammar.specs.declared.ast.Mark.TheVariants as AK
+use Rattle.ild_parse_grammar.specs.declared.ast.KindWord.{KindWord as AstKindWord}
+use Rattle.ild_parse_grammar.specs.declared.ast.KindWord.TheVariants as AW
+use Rattle.ild_parse_grammar.specs.declared.ast.EnumMember.{EnumMember as AstEnumMember}
 use Rattle.ild_schema.specs.declared.def.MapForm.{MapForm}
 use Rattle.ild_schema.specs.declared.def.MapForm.TheVariants as M
 use Rattle.ild_schema.specs.declared.def.StructForm.{StructForm}

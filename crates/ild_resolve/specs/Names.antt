@@ -2,8 +2,8 @@
 use Rattle.std.specs.Prelude.{ℕ, suc, List, [], ◌∷◌, Option, Some, None, bytes_eq, if◌then◌else◌}
 use Rattle.std.specs.Option.{option_or}
 use Rattle.std.specs.List.{flat_map}
-use Rattle.ild_grammar.specs.declared.ast.Decl.{Decl}
-use Rattle.ild_grammar.specs.declared.ast.Decl.TheVariants as A
+use Rattle.ild_parse_grammar.specs.declared.ast.Decl.{Decl}
+use Rattle.ild_parse_grammar.specs.declared.ast.Decl.TheVariants as A
 use Rattle.ild_schema.specs.Names.{number_named}
 use Rattle.ild_schema.specs.Prelude.{prelude}
 use Rattle.ild_resolve.specs.Events.{Event, declares, begins}

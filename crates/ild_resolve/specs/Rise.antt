@@ -2,8 +2,8 @@
 use Rattle.std.specs.Prelude.{ℕ, ◌≤◌, List, [], ◌∷◌}
 use Rattle.ild_lex.specs.declared.token.Token.{Token}
 use Rattle.ild_lex.specs.Lex.{AreTokens}
-use Rattle.ild_grammar.specs.declared.ast.Ast.{Ast}
-use Rattle.ild_grammar.specs.DerivePart.{Derives}
+use Rattle.ild_parse_grammar.specs.declared.ast.Ast.{Ast}
+use Rattle.ild_parse_grammar.specs.DerivePart.{Derives}
 use Rattle.ild_resolve.specs.Events.{Event, declares, begins, uses, advances, floats, part, events_of}
 
 -- the place at which it stands

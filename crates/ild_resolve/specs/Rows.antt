@@ -2,16 +2,16 @@
 -- numbers names stand (one that stands for none is refused), and n is the number of the next type.
 use Rattle.std.specs.Prelude.{ℕ, suc, ◌+◌, List, [], ◌∷◌, ◌++◌, Option, None, codes, length}
 use Rattle.std.specs.Option.{unwrap_or}
-use Rattle.ild_grammar.specs.Reference.{Reference, refer, Refers, named, link, list, map}
-use Rattle.ild_grammar.specs.declared.ast.Decl.{Decl}
-use Rattle.ild_grammar.specs.declared.ast.Decl.TheVariants as A
-use Rattle.ild_grammar.specs.declared.ast.Body.{Body}
-use Rattle.ild_grammar.specs.declared.ast.Body.TheVariants as B
-use Rattle.ild_grammar.specs.declared.ast.Field.{Field as AstField}
-use Rattle.ild_grammar.specs.declared.ast.Member.{Member as AstMember}
-use Rattle.ild_grammar.specs.declared.ast.Target.{Target}
-use Rattle.ild_grammar.specs.declared.ast.Target.TheVariants as T
-use Rattle.ild_grammar.specs.declared.ast.TypeName.{TypeName}
+use Rattle.ild_parse_grammar.specs.Reference.{Reference, refer, Refers, named, link, list, map}
+use Rattle.ild_parse_grammar.specs.declared.ast.Decl.{Decl}
+use Rattle.ild_parse_grammar.specs.declared.ast.Decl.TheVariants as A
+use Rattle.ild_parse_grammar.specs.declared.ast.Body.{Body}
+use Rattle.ild_parse_grammar.specs.declared.ast.Body.TheVariants as B
+use Rattle.ild_parse_grammar.specs.declared.ast.Field.{Field as AstField}
+use Rattle.ild_parse_grammar.specs.declared.ast.Member.{Member as AstMember}
+use Rattle.ild_parse_grammar.specs.declared.ast.Target.{Target}
+use Rattle.ild_parse_grammar.specs.declared.ast.Target.TheVariants as T
+use Rattle.ild_parse_grammar.specs.declared.ast.TypeName.{TypeName}
 use Rattle.ild_schema.specs.Prelude.{number}
 use Rattle.ild_schema.specs.declared.number.TypeNo.{TypeNo}
 use Rattle.ild_schema.specs.declared.number.Slot.{Slot}

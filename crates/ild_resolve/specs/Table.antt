@@ -1,6 +1,6 @@
 -- The table of a syntax tree, or its first fault.
 use Rattle.std.specs.Prelude.{◌≡◌, ◌⊎◌, ℕ, List, ◌++◌, Some, None, Result, Ok, Err}
-use Rattle.ild_grammar.specs.declared.ast.Ast.{Ast}
+use Rattle.ild_parse_grammar.specs.declared.ast.Ast.{Ast}
 use Rattle.ild_schema.specs.Prelude.{prelude}
 use Rattle.ild_schema.specs.Table.{place_at}
 use Rattle.ild_schema.specs.Copies.{NoneIsCircular, FirstIsCircular}

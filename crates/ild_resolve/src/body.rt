@@ -1,8 +1,8 @@
 //! What a declaration says of its type, and the rows of the inline types in it.
 ghost use Rattle.std.specs.Prelude.{◌≡◌, ◌+◌, ◌<◌, ◌≤◌, ◌++◌, ◌∷◌, codes, length, IfOk, OnOk};
 ghost use Rattle.ild_resolve.specs.Numbers.{number_in};
-ghost use Rattle.ild_grammar.specs.declared.ast.Body.TheVariants as B;
-ghost use Rattle.ild_grammar.specs.declared.ast.Target.TheVariants as T;
+ghost use Rattle.ild_parse_grammar.specs.declared.ast.Body.TheVariants as B;
+ghost use Rattle.ild_parse_grammar.specs.declared.ast.Target.TheVariants as T;
 ghost use Rattle.ild_schema.specs.declared.def.TypeDef.TheVariants as D;
 ghost use Rattle.ild_resolve.specs.Forms.{map_form, enum_form, enum_members};
 ghost use Rattle.ild_resolve.specs.Events.{reference_events, each_events, field_events, member_events, target_events, mark_events, map_form_events, uses, body_events, types_in};
@@ -17,7 +17,7 @@ use crate::form::{
 use crate::reference::{link_row, slot_in};
 use crate::word::type_no;
 use ild_data::{List as AstList, Txt};
-use ild_grammar::{
+use ild_parse_grammar::{
     Body, EnumBody, Field as AstField, MapForm as AstMapForm, Member as AstMember, Ref, StructBody,
     Target, TypeName, UnionBody,
 };

@@ -6,7 +6,7 @@ ghost use Rattle.ild_resolve.specs.Counts.{Counts};
 ghost use Rattle.ild_resolve.specs.declared.error.ResolveErr.TheVariants.{Many};
 
 use crate::ResolveErr;
-use ild_grammar::{Body, EnumMember, Field, Inline, Member, Ref, Target};
+use ild_parse_grammar::{Body, EnumMember, Field, Inline, Member, Ref, Target};
 
 /// The most types that a schema may have beside the prelude's.
 const MOST_TYPES: u32 = 65535;

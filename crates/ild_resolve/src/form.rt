@@ -1,6 +1,6 @@
 //! The parts of a type that are as the text says them: forms, marks, settings of fields and members of enums.
 ghost use Rattle.std.specs.Prelude.{◌≡◌, ℕ, List, Option, None, Some, IfOk};
-ghost use Rattle.ild_grammar.specs.declared.ast.Mark.TheVariants as AK;
+ghost use Rattle.ild_parse_grammar.specs.declared.ast.Mark.TheVariants as AK;
 ghost use Rattle.ild_resolve.specs.Events.{map_form_events, mark_events};
 ghost use Rattle.ild_resolve.specs.Forms.{map_form, struct_form, union_form, enum_form, unit_form, scalar, kind_mark, mark_of, enum_member, enum_members, renamed, implied};
 ghost use Rattle.ild_resolve.specs.Judged.{Judged};
@@ -8,7 +8,7 @@ ghost use Rattle.ild_resolve.specs.Judged.{Judged};
 use crate::ResolveErr;
 use crate::word::layout;
 use ild_data::{List as AstList, Txt};
-use ild_grammar::{
+use ild_parse_grammar::{
     EnumForm as AstEnumForm, EnumMember as AstEnumMember, Implicit, KindWord as AstKindWord,
     MapForm as AstMapForm, Mark as AstMark, Opt, StructForm as AstStructForm,
     UnionForm as AstUnionForm, UnitForm as AstUnitForm,

@@ -1,6 +1,6 @@
 //! Laws of tables and of the results of resolving, over all syntax trees.
 ghost use Rattle.std.specs.Prelude.{◌≡◌, List, None, Result};
-ghost use Rattle.ild_grammar.specs.declared.ast.Ast.{Ast};
+ghost use Rattle.ild_parse_grammar.specs.declared.ast.Ast.{Ast};
 ghost use Rattle.ild_schema.specs.Copies.{NoneIsCircular};
 ghost use Rattle.ild_schema.specs.Spelled.{HasTexts};
 ghost use Rattle.ild_schema.specs.Table.{IsTable};

@@ -1,8 +1,8 @@
 //! References to types, and the rows of their inline types.
 ghost use Rattle.std.specs.Prelude.{◌≡◌, ◌+◌, ◌<◌, ◌≤◌, ◌++◌, ◌∷◌, [], List, length, IfOk, IfErr, OnOk};
 ghost use Rattle.ild_resolve.specs.Numbers.{number_in};
-ghost use Rattle.ild_grammar.specs.Reference.{list, link, map};
-ghost use Rattle.ild_grammar.specs.ReferenceSeen.{refers_of};
+ghost use Rattle.ild_parse_grammar.specs.Reference.{list, link, map};
+ghost use Rattle.ild_parse_grammar.specs.ReferenceSeen.{refers_of};
 ghost use Rattle.ild_schema.specs.Prelude.{number};
 ghost use Rattle.ild_schema.specs.declared.row.Row.{Row};
 ghost use Rattle.ild_schema.specs.declared.def.TypeDef.TheVariants as D;
@@ -14,7 +14,7 @@ ghost use Rattle.ild_resolve.specs.Rows.{inline, inline_rows, reference_rows, sl
 use crate::ResolveErr;
 use crate::word::type_no;
 use ild_data::Txt;
-use ild_grammar::{Inline, Ref, TypeName};
+use ild_parse_grammar::{Inline, Ref, TypeName};
 use ild_schema::{MapForm, Origin, Row, Slot, TypeDef, TypeNo};
 use std::collections::BTreeMap;
 

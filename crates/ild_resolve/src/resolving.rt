@@ -11,7 +11,7 @@ use crate::circular::first_circular;
 use crate::survey::{names_of, survey};
 use crate::table::table_of;
 use ild_data::Txt;
-use ild_grammar::Ast;
+use ild_parse_grammar::Ast;
 use ild_schema::{Row, Schema, texts_of};
 use std::alloc::Global;
 

@@ -14,7 +14,7 @@ ghost use Rattle.ild_resolve.specs.declared.error.ResolveErr.TheVariants.{Memory
 use crate::ResolveErr;
 use crate::count::{begin, body};
 use ild_data::Txt;
-use ild_grammar::{Ast, Decl, TypeName};
+use ild_parse_grammar::{Ast, Decl, TypeName};
 use std::alloc::{AllocError, Global};
 use std::collections::BTreeMap;
 

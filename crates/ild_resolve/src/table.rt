@@ -2,7 +2,7 @@
 ghost use Rattle.std.specs.Prelude.{◌≡◌, ◌⊎◌, ◌+◌, ◌≤◌, ◌++◌, length, None, Some, IfErr, IfOk, OnOk};
 ghost use Rattle.std.specs.List.{flat_map};
 ghost use Rattle.ild_resolve.specs.Numbers.{number_in};
-ghost use Rattle.ild_grammar.specs.declared.ast.Decl.TheVariants as A;
+ghost use Rattle.ild_parse_grammar.specs.declared.ast.Decl.TheVariants as A;
 ghost use Rattle.ild_schema.specs.Prelude.{prelude};
 ghost use Rattle.ild_resolve.specs.Events.{decl_events, events_of, types_in};
 ghost use Rattle.ild_resolve.specs.Faults.{first_wrong};
@@ -15,7 +15,7 @@ use crate::body::def_of;
 use crate::reference::{begin, define};
 use crate::word::layout;
 use ild_data::List as AstList;
-use ild_grammar::{Ast, Decl, TypeDecl};
+use ild_parse_grammar::{Ast, Decl, TypeDecl};
 use ild_schema::{Origin, Row, prelude_rows};
 use std::alloc::Global;
 use std::collections::BTreeMap;

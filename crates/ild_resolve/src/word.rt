@@ -7,7 +7,7 @@ ghost use Rattle.ild_resolve.specs.Judged.{Judged};
 ghost use Rattle.ild_resolve.specs.Rows.{type_of};
 
 use crate::ResolveErr;
-use ild_grammar::TypeName;
+use ild_parse_grammar::TypeName;
 use ild_schema::{MapForm, TypeNo};
 use std::collections::BTreeMap;
 

@@ -5,15 +5,15 @@ use Rattle.ild_compile.proofs.OneVerdict.{one_verdict_lem}
 use Rattle.ild_edges.specs.Count.{Rose, bumped}
 use Rattle.ild_edges.specs.Inputs.{MayBe}
 use Rattle.ild_edges.specs.declared.inputs.Taken.{Taken}
-use Rattle.ild_plain.specs.Plain.{line_due, plain_map}
-use Rattle.ild_plain.proofs.Staying.{stays_out}
+use Rattle.ild_run_plain.specs.Plain.{line_due, plain_map}
+use Rattle.ild_run_plain.proofs.Staying.{stays_out}
 use Rattle.ild_script.specs.Line.{lines_of}
-use Rattle.ild_session.specs.Run.{Run}
+use Rattle.ild_script_session.specs.Run.{Run}
 use Rattle.ild_schema.specs.Names.{declared_names}
 use Rattle.ild_schema.specs.declared.number.TypeNo.{TypeNo}
 use Rattle.ild_schema.specs.declared.row.Row.{Row}
-use Rattle.ild_session.specs.Session.{resting}
-use Rattle.ild_session.proofs.Steps.{told_later, plain_run}
+use Rattle.ild_script_session.specs.Session.{resting}
+use Rattle.ild_script_session.proofs.Steps.{told_later, plain_run}
 use Rattle.ild_run.specs.Work.{Work, Taking, ends, lists, answers, makes, opens, script_work, built_work, compiled_work, schema_work, job_work, work_of, IsVerdict, IsTaking, AreTaken}
 use Rattle.ild_run.specs.Words.{Job, checks, runs}
 use Rattle.ild_run.specs.Ended.{Call, IsDue, HasScript, TriesValue, ReadsRoot, AnswersAll, Says, Ended}

@@ -11,8 +11,8 @@ use Rattle.ild_schema.specs.Table.{IsTable}
 use Rattle.ild_schema.specs.Value.{Value as Typed}
 use Rattle.ild_schema.specs.declared.number.TypeNo.{TypeNo}
 use Rattle.ild_schema.specs.declared.row.Row.{Row}
-use Rattle.ild_show.specs.Shows.{HasShown, NotOpened}
-use Rattle.ild_show.proofs.OneShown.{shown_stands, none_refused}
+use Rattle.ild_run_show.specs.Shows.{HasShown, NotOpened}
+use Rattle.ild_run_show.proofs.OneShown.{shown_stands, none_refused}
 use Rattle.ild_typed.specs.Shown.{shown}
 use Rattle.ild_run.specs.Work.{Work, Taking, ends, lists, answers, makes, opens, root_work, compiled_work, schema_work, job_work, work_of, IsVerdict, IsTaking, AreTaken}
 use Rattle.ild_run.specs.Shown.{hash}

@@ -3,9 +3,9 @@ use Rattle.std.specs.Prelude.{Contains}
 use Rattle.std.proofs.Common.{◌≡◌, ◌⊎◌, ℕ, List, [], ◌∷◌, Bool, true, false, Option, Some, None, refl, sym, ap, ◌∙◌, subst, inl, inr}
 use Rattle.ild_compile.specs.Compile.{Verdict, table}
 use Rattle.ild_compile.proofs.OneVerdict.{one_verdict_lem}
-use Rattle.ild_create.specs.Creates.{Created, Clashes}
-use Rattle.ild_create.specs.Refuses.{IsFirst}
-use Rattle.ild_create.proofs.Outcomes.{one_made, made_unrefused}
+use Rattle.ild_run_create.specs.Creates.{Created, Clashes}
+use Rattle.ild_run_create.specs.Refuses.{IsFirst}
+use Rattle.ild_run_create.proofs.Outcomes.{one_made, made_unrefused}
 use Rattle.ild_data.specs.Data.{Data}
 use Rattle.ild_edges.specs.Inputs.{MayBe}
 use Rattle.ild_edges.specs.Store.{block_at}

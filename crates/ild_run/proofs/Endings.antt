@@ -5,23 +5,23 @@ use Rattle.ild_edges.specs.Count.{Rose}
 use Rattle.ild_edges.specs.Sink.{Output, Appends, AppendsFront}
 use Rattle.ild_edges.specs.Store.{Moment, Later}
 use Rattle.ild_edges.specs.declared.inputs.Taken.TheVariants as Taken
-use Rattle.ild_plain.specs.Plain.{plain_map}
-use Rattle.ild_plain.specs.Value.{Value, blocks_of}
-use Rattle.ild_plain.proofs.Edits.{carries_plain}
-use Rattle.ild_create.specs.Creates.{CreateAnswer}
-use Rattle.ild_create.specs.declared.fault.CreateFault.{CreateFault}
-use Rattle.ild_create.specs.declared.fault.CreateFault.TheVariants as V
+use Rattle.ild_run_plain.specs.Plain.{plain_map}
+use Rattle.ild_run_plain.specs.Value.{Value, blocks_of}
+use Rattle.ild_run_plain.proofs.Edits.{carries_plain}
+use Rattle.ild_run_create.specs.Creates.{CreateAnswer}
+use Rattle.ild_run_create.specs.declared.fault.CreateFault.{CreateFault}
+use Rattle.ild_run_create.specs.declared.fault.CreateFault.TheVariants as V
 use Rattle.ild_data.specs.declared.id.BlockId.{BlockId}
 use Rattle.ild_schema.specs.Table.{IsTable}
 use Rattle.ild_schema.specs.declared.number.TypeNo.{TypeNo}
 use Rattle.ild_schema.specs.declared.row.Row.{Row}
 use Rattle.ild_script.specs.declared.reply.Reply.{Reply}
 use Rattle.ild_script.specs.Line.{lines_of}
-use Rattle.ild_session.specs.Lines.{LinesDone, LinesCut}
-use Rattle.ild_session.specs.Run.{Run}
-use Rattle.ild_session.specs.Session.{Stage, resting}
-use Rattle.ild_session.specs.Step.{Holds}
-use Rattle.ild_session.proofs.Steps.{run_gets, run_puts}
+use Rattle.ild_script_session.specs.Lines.{LinesDone, LinesCut}
+use Rattle.ild_script_session.specs.Run.{Run}
+use Rattle.ild_script_session.specs.Session.{Meaning, Stage, resting}
+use Rattle.ild_script_session.specs.Step.{Holds}
+use Rattle.ild_script_session.proofs.Steps.{run_gets, run_puts}
 use Rattle.ild_run.specs.First.{Tries}
 use Rattle.ild_run.proofs.Openings.{taking_of}
 use Rattle.ild_run.specs.Opening.{PutsFirst, FirstAnswer, InputsFault}
@@ -32,16 +32,16 @@ use Rattle.ild_run.specs.Cut.{CutAs, ToldAs}
 use Rattle.ild_run.specs.Listed.{Lists, ListsFront, ListedAs}
 use Rattle.ild_run.specs.Made.{made_fault, MadeTold, MadeAs}
 use Rattle.ild_run.specs.Shown.{hash, Replied, ShownTold, ShownAs}
-use Rattle.ild_show.specs.Shows.{Shows}
-use Rattle.ild_show.specs.declared.fault.ShowFault.{ShowFault}
-use Rattle.ild_show.specs.declared.fault.ShowFault.TheVariants as W
+use Rattle.ild_run_show.specs.Shows.{Shows}
+use Rattle.ild_run_show.specs.declared.fault.ShowFault.{ShowFault}
+use Rattle.ild_run_show.specs.declared.fault.ShowFault.TheVariants as W
 use Rattle.ild_run.specs.Ended.{Call, IsDue, HasScript, Leaves, Answers, AnswersAll, AnswersSome, ListsNames, ListsSome, CreatesSome, ReadsRoot, HasRoot, reply_on, ShowsSome, Tells, TellsFront, Says, Ended}
 use Rattle.ild_run.specs.declared.fault.Fault.{Fault}
 use Rattle.ild_run.specs.declared.fault.Fault.TheVariants as F
 use Rattle.ild_run.specs.declared.fault.Role.{Role}
 use Rattle.ild_run.specs.declared.fault.Trouble.TheVariants as T
-use Rattle.ild_session.specs.declared.cut.Cut.{Cut}
-use Rattle.ild_session.specs.declared.cut.Cut.TheVariants as C
+use Rattle.ild_script_session.specs.declared.cut.Cut.{Cut}
+use Rattle.ild_script_session.specs.declared.cut.Cut.TheVariants as C
 use Rattle.ild_run.specs.declared.status.Status.{Status}
 use Rattle.ild_run.specs.declared.status.Status.TheVariants as S
 
@@ -145,28 +145,30 @@ answers_from c lines replies k s later stands tries run = record {
 }
 
 -- a call whose lines were all answered
-pub answered_all : (c : Call) (job : Job) (t : Taking) (b : List ℕ) (v : Value) (r : Result (Unit {0}) Fault) (u : Unit {0}) (k : Moment) (s : Stage Value) (refused : Bool) → c.job ≡ Some job → job_work job t ≡ answers b → v ≡ [] → r ≡ Ok u → PutsFirst c.before.moment v r k
-    → LinesDone plain_map k (resting v) (lines_of b) c.after.moment s c.before.output.written c.after.output.written refused → AnswersAll c t refused
-answered_all c job t b v r u k s refused named work empty ok puts done =
+pub answered_all : (c : Call) (job : Job) (t : Taking) (b : List ℕ) (v : Value) (r : Result (Unit {0}) Fault) (u : Unit {0}) (k : Moment) (Stands : Meaning Value → Stage Value → Type 0) (refused : Bool) → c.job ≡ Some job → job_work job t ≡ answers b → v ≡ [] → r ≡ Ok u → PutsFirst c.before.moment v r k
+    → LinesDone (λ M s. (M ≡ plain_map) × (s ≡ resting v)) Stands k (lines_of b) c.after.moment c.before.output.written c.after.output.written refused → AnswersAll c t refused
+answered_all c job t b v r u k Stands refused named work empty ok puts done =
     let puts' = subst (λ (x : Result (Unit {0}) Fault). PutsFirst c.before.moment [] x k) ok (subst (λ (x : Value). PutsFirst c.before.moment x r k) empty puts) in
-    let done' = subst (λ (x : Value). LinesDone plain_map k (resting x) (lines_of b) c.after.moment s c.before.output.written c.after.output.written refused) empty done in
+    let done' = subst (λ (x : Value). LinesDone (λ M s. (M ≡ plain_map) × (s ≡ resting x)) Stands k (lines_of b) c.after.moment c.before.output.written c.after.output.written refused) empty done in
+    let ran = done'.ran plain_map (resting []) (refl, refl) in
     record {
       bytes = b;
       work = has_script c.job job t b named work;
       replies = done'.replies;
-      last = s;
-      answered = answers_from c (lines_of b) done'.replies k s puts'.later puts'.answer puts'.tries done'.run;
-      stands = (done'.carries (carries_plain k [] puts'.answer)).kept;
+      last = ran.stage;
+      answered = answers_from c (lines_of b) done'.replies k ran.stage puts'.later puts'.answer puts'.tries ran.run;
+      stands = (ran.carries (carries_plain k [] puts'.answer)).kept;
       written = done'.written;
       refused_is = done'.refused_is;
     }
 
 -- a call whose replies were cut off
-pub answered_some : (c : Call) (job : Job) (t : Taking) (b : List ℕ) (v : Value) (r : Result (Unit {0}) Fault) (u : Unit {0}) (k : Moment) (s : Stage Value) → c.job ≡ Some job → job_work job t ≡ answers b → v ≡ [] → r ≡ Ok u → PutsFirst c.before.moment v r k
-    → LinesCut plain_map k (resting v) (lines_of b) c.after.moment s c.before.output.written c.after.output.written → AnswersSome c t
-answered_some c job t b v r u k s named work empty ok puts cut =
+pub answered_some : (c : Call) (job : Job) (t : Taking) (b : List ℕ) (v : Value) (r : Result (Unit {0}) Fault) (u : Unit {0}) (k : Moment) (Stands : Meaning Value → Stage Value → Type 0) → c.job ≡ Some job → job_work job t ≡ answers b → v ≡ [] → r ≡ Ok u → PutsFirst c.before.moment v r k
+    → LinesCut (λ M s. (M ≡ plain_map) × (s ≡ resting v)) Stands k (lines_of b) c.after.moment c.before.output.written c.after.output.written → AnswersSome c t
+answered_some c job t b v r u k Stands named work empty ok puts cut =
     let puts' = subst (λ (x : Result (Unit {0}) Fault). PutsFirst c.before.moment [] x k) ok (subst (λ (x : Value). PutsFirst c.before.moment x r k) empty puts) in
-    let cut' = subst (λ (x : Value). LinesCut plain_map k (resting x) (lines_of b) c.after.moment s c.before.output.written c.after.output.written) empty cut in
+    let cut' = subst (λ (x : Value). LinesCut (λ M s. (M ≡ plain_map) × (s ≡ resting x)) Stands k (lines_of b) c.after.moment c.before.output.written c.after.output.written) empty cut in
+    let ran = cut'.ran plain_map (resting []) (refl, refl) in
     record {
       bytes = b;
       work = has_script c.job job t b named work;
@@ -174,8 +176,8 @@ answered_some c job t b v r u k s named work empty ok puts cut =
       rest = cut'.rest;
       lines = cut'.split;
       replies = cut'.replies;
-      last = s;
-      answered = answers_from c cut'.first cut'.replies k s puts'.later puts'.answer puts'.tries cut'.run;
+      last = ran.stage;
+      answered = answers_from c cut'.first cut'.replies k ran.stage puts'.later puts'.answer puts'.tries ran.run;
       written = cut'.written;
     }
 

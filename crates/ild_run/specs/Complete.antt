@@ -2,7 +2,7 @@
 use Rattle.std.specs.Prelude.{◌≡◌, ◌≢◌, ◌⊎◌, ℕ, List, [], true, Option, Some, None, Contains, if◌then◌else◌}
 use Rattle.std.specs.List.{list_any}
 use Rattle.ild_compile.specs.Compile.{Compiles, table}
-use Rattle.ild_create.specs.Makes.{Makes}
+use Rattle.ild_run_create.specs.Makes.{Makes}
 use Rattle.ild_data.specs.Data.{Data}
 use Rattle.ild_data.specs.Spell.{id_of}
 use Rattle.ild_data.specs.declared.id.BlockId.{BlockId}
@@ -12,8 +12,8 @@ use Rattle.ild_edges.specs.Sink.{Appends}
 use Rattle.ild_edges.specs.Store.{Moment, block_at}
 use Rattle.ild_edges.specs.Told.{IfTold}
 use Rattle.ild_edges.specs.declared.inputs.Taken.TheVariants as Taken
-use Rattle.ild_plain.specs.Plain.{line_due}
-use Rattle.ild_plain.specs.Value.{Value, blocks_of}
+use Rattle.ild_run_plain.specs.Plain.{line_due}
+use Rattle.ild_run_plain.specs.Value.{Value, blocks_of}
 use Rattle.ild_json.specs.Printing.{json_text}
 use Rattle.ild_schema.specs.Slots.{plainly}
 use Rattle.ild_typed.specs.Shown.{shown}
@@ -25,9 +25,9 @@ use Rattle.ild_script.specs.declared.reply.Reply.{Reply}
 use Rattle.ild_script.specs.declared.reply.Reply.TheVariants as R
 use Rattle.ild_script.specs.Line.{lines_of}
 use Rattle.ild_script.specs.Reply.{is_no, reply_text}
-use Rattle.ild_session.specs.Session.{State, idle}
-use Rattle.ild_session.specs.Run.{texts}
-use Rattle.ild_session.specs.Plain.{PlainRun, MayPut, AreApart}
+use Rattle.ild_script_session.specs.Session.{State, idle}
+use Rattle.ild_script_session.specs.Run.{texts}
+use Rattle.ild_script_session.specs.Plain.{PlainRun, MayPut, AreApart}
 use Rattle.ild_run.specs.Built.{is_built}
 use Rattle.ild_typed.specs.Stands.{bare, root_id, blocks_of as typed_blocks, Stands}
 use Rattle.ild_run.specs.Words.{checks, runs, creates, shows}

@@ -5,9 +5,9 @@ use Rattle.ild_edges.specs.Count.{Rose}
 use Rattle.ild_edges.specs.Inputs.{Supply}
 use Rattle.ild_edges.specs.Sink.{Output, Appends, AppendsFront}
 use Rattle.ild_edges.specs.Store.{Moment, Later}
-use Rattle.ild_create.specs.Creates.{Tries as TriesToCreate, Created, Clashes}
-use Rattle.ild_create.specs.Refuses.{IsFirst}
-use Rattle.ild_create.specs.declared.fault.Refusal.{Refusal}
+use Rattle.ild_run_create.specs.Creates.{Tries as TriesToCreate, Created, Clashes}
+use Rattle.ild_run_create.specs.Refuses.{IsFirst}
+use Rattle.ild_run_create.specs.declared.fault.Refusal.{Refusal}
 use Rattle.ild_schema.specs.Table.{IsTable}
 use Rattle.ild_schema.specs.declared.number.TypeNo.{TypeNo}
 use Rattle.ild_schema.specs.declared.row.Row.{Row}
@@ -15,18 +15,18 @@ use Rattle.ild_script.specs.declared.reply.Reply.{Reply}
 use Rattle.ild_script.specs.declared.reply.Reply.TheVariants as R
 use Rattle.ild_script.specs.Line.{lines_of}
 use Rattle.ild_script.specs.Reply.{is_no, reply_text}
-use Rattle.ild_plain.specs.Value.{Value, root_of, blocks_of}
-use Rattle.ild_plain.specs.Plain.{plain_map}
-use Rattle.ild_session.specs.Session.{Stage, resting, left}
-use Rattle.ild_session.specs.Step.{Holds, Collides, Carries}
-use Rattle.ild_session.specs.Run.{Run, texts, most_gets, most_puts}
+use Rattle.ild_run_plain.specs.Value.{Value, root_of, blocks_of}
+use Rattle.ild_run_plain.specs.Plain.{plain_map}
+use Rattle.ild_script_session.specs.Session.{Stage, resting, left}
+use Rattle.ild_script_session.specs.Step.{Holds, Collides, Carries}
+use Rattle.ild_script_session.specs.Run.{Run, texts, most_gets, most_puts}
 use Rattle.ild_compile.specs.declared.error.SchemaFault.{SchemaFault}
 use Rattle.ild_run.specs.Words.{Job}
 use Rattle.ild_data.specs.declared.id.BlockId.{BlockId}
 use Rattle.ild_run.specs.First.{Tries}
 use Rattle.ild_cbor.specs.declared.why.BlockWhy.{BlockWhy}
-use Rattle.ild_kept.specs.Reads.{OnlyReads}
-use Rattle.ild_show.specs.Shows.{HasShown, NotOpened}
+use Rattle.ild_open_parts.specs.Reads.{OnlyReads}
+use Rattle.ild_run_show.specs.Shows.{HasShown, NotOpened}
 use Rattle.ild_run.specs.Shown.{hash, reserved}
 use Rattle.ild_run.specs.Work.{Work, Taking, ends, lists, answers, makes, opens, work_of, AreTaken, Reaches}
 use Rattle.ild_run.specs.Fault.{fault_text}

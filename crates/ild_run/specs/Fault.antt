@@ -5,8 +5,8 @@ use Rattle.ild_cbor.specs.declared.why.BlockWhy.{BlockWhy}
 use Rattle.ild_cbor.specs.declared.why.BlockWhy.TheVariants as B
 use Rattle.ild_compile.specs.Line.{flaw_text}
 use Rattle.ild_compile.specs.declared.error.SchemaFault.{SchemaFault}
-use Rattle.ild_create.specs.declared.fault.Refusal.{Refusal}
-use Rattle.ild_create.specs.declared.fault.Refusal.TheVariants as R
+use Rattle.ild_run_create.specs.declared.fault.Refusal.{Refusal}
+use Rattle.ild_run_create.specs.declared.fault.Refusal.TheVariants as R
 use Rattle.ild_data.specs.Spell.{cid_of}
 use Rattle.ild_data.specs.CidText.{cid_text_of}
 use Rattle.ild_run.specs.declared.fault.Fault.{Fault}
@@ -14,8 +14,8 @@ use Rattle.ild_run.specs.declared.fault.Fault.TheVariants as F
 use Rattle.ild_run.specs.declared.fault.Role.{Role}
 use Rattle.ild_run.specs.declared.fault.Trouble.{Trouble}
 use Rattle.ild_run.specs.declared.fault.Trouble.TheVariants as T
-use Rattle.ild_session.specs.declared.cut.Cut.{Cut}
-use Rattle.ild_session.specs.declared.cut.Cut.TheVariants as C
+use Rattle.ild_script_session.specs.declared.cut.Cut.{Cut}
+use Rattle.ild_script_session.specs.declared.cut.Cut.TheVariants as C
 use Rattle.ild_run.specs.declared.status.Status.{Status}
 use Rattle.ild_run.specs.declared.status.Status.TheVariants as S
 

@@ -1,7 +1,7 @@
 -- What is asked of the store before the lines.
 use Rattle.std.specs.Prelude.{ℕ, ◌+◌, ◌≤◌, List, length}
 use Rattle.ild_edges.specs.Store.{Moment}
-use Rattle.ild_session.specs.Step.{AddsOnly}
+use Rattle.ild_script_session.specs.Step.{AddsOnly}
 
 -- nothing was asked of the store but to keep these blocks, each by one put at most
 pub record Tries (blocks : List (List ℕ)) (m n : Moment) : Type 0 where

@@ -1,8 +1,8 @@
 -- A value that is created, and the line that is written of it.
 use Rattle.std.specs.Prelude.{◌≡◌, ◌⊎◌, ◌≤◌, ℕ, List, Result, Ok, Err}
-use Rattle.ild_create.specs.Creates.{Creates}
-use Rattle.ild_create.specs.declared.fault.CreateFault.{CreateFault}
-use Rattle.ild_create.specs.declared.fault.CreateFault.TheVariants as C
+use Rattle.ild_run_create.specs.Creates.{Creates}
+use Rattle.ild_run_create.specs.declared.fault.CreateFault.{CreateFault}
+use Rattle.ild_run_create.specs.declared.fault.CreateFault.TheVariants as C
 use Rattle.ild_data.specs.declared.id.BlockId.{BlockId}
 use Rattle.ild_edges.specs.Sink.{Output, Appends, AppendsFront}
 use Rattle.ild_edges.specs.Store.{Moment}

@@ -9,7 +9,7 @@ use Rattle.ild_edges.specs.Count.{Rose}
 use Rattle.ild_edges.specs.Inputs.{Supply, After, MayBe}
 use Rattle.ild_edges.specs.Store.{Moment, Later}
 use Rattle.ild_edges.specs.declared.inputs.Taken.{Taken}
-use Rattle.ild_plain.specs.Value.{Value, block_of, blocks_of}
+use Rattle.ild_run_plain.specs.Value.{Value, block_of, blocks_of}
 use Rattle.ild_schema.specs.Names.{declared_names}
 use Rattle.ild_schema.specs.declared.row.Row.{Row}
 use Rattle.ild_run.specs.declared.fault.Fault.{Fault}
@@ -20,7 +20,7 @@ use Rattle.ild_run.specs.declared.open.Job.{Job as Held}
 use Rattle.ild_run.specs.declared.open.Job.TheVariants as J
 use Rattle.ild_run.specs.declared.open.Task.{Task}
 use Rattle.ild_run.specs.declared.open.Task.TheVariants as P
-use Rattle.ild_session.specs.Step.{Holds, Collides}
+use Rattle.ild_script_session.specs.Step.{Holds, Collides}
 use Rattle.ild_run.specs.Words.{Job, checks, runs, creates, shows}
 use Rattle.ild_run.specs.First.{Tries}
 use Rattle.ild_run.specs.RootText.{root_of_text}

@@ -10,9 +10,9 @@ use Rattle.ild_script.specs.Reply.{reply_text}
 use Rattle.ild_script.specs.declared.reply.No.TheVariants as N
 use Rattle.ild_script.specs.declared.reply.Reply.{Reply}
 use Rattle.ild_script.specs.declared.reply.Reply.TheVariants as R
-use Rattle.ild_show.specs.Shows.{Shows}
-use Rattle.ild_show.specs.declared.fault.ShowFault.{ShowFault}
-use Rattle.ild_show.specs.declared.fault.ShowFault.TheVariants as W
+use Rattle.ild_run_show.specs.Shows.{Shows}
+use Rattle.ild_run_show.specs.declared.fault.ShowFault.{ShowFault}
+use Rattle.ild_run_show.specs.declared.fault.ShowFault.TheVariants as W
 use Rattle.ild_run.specs.Cut.{CutAs, ToldAs}
 use Rattle.ild_run.specs.declared.fault.Fault.TheVariants as F
 use Rattle.ild_run.specs.declared.status.Status.{Status}

@@ -4,16 +4,16 @@ ghost use Rattle.ild_data.specs.Spell.{cid_of};
 ghost use Rattle.ild_data.specs.CidText.{cid_text_of};
 ghost use Rattle.ild_edges.specs.Count.{Rose};
 ghost use Rattle.ild_edges.specs.Sink.{Appends, AppendsFront};
-ghost use Rattle.ild_session.specs.declared.cut.Cut.TheVariants as cut;
+ghost use Rattle.ild_script_session.specs.declared.cut.Cut.TheVariants as cut;
 ghost use Rattle.ild_run.specs.Fault.{status_of, block_text, input_text, schema_text, value_text, fault_text};
 
 use crate::Status;
 use ild_cbor::BlockWhy;
 use ild_compile::SchemaFault;
-use ild_create::Refusal;
 use ild_data::{BlockId, Octets};
 use ild_edges::Sink;
-use ild_session::{Cut, write};
+use ild_run_create::Refusal;
+use ild_script_session::{Cut, write};
 use std::alloc::{AllocError, Global};
 
 /// What an input is for.

@@ -9,9 +9,9 @@ use crate::fault::{Fault, Role, Trouble};
 use ild_compile::{CompileErr, compile};
 use ild_data::{BlockId, Octets, TextErr, cid_of_text};
 use ild_edges::{EdgeErr, Inputs, Store, Taken};
-use ild_plain::PlainMap;
+use ild_run_plain::PlainMap;
 use ild_schema::{Accepted, TypeNo};
-use ild_session::{PutFault, publish};
+use ild_script_session::{PutFault, publish};
 use std::alloc::Global;
 
 /// What the words ask for, with the names of its inputs: the schema's, and for a run the script's; for a new value

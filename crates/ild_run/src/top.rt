@@ -16,14 +16,14 @@ use crate::fault::{Fault, write_fault};
 use crate::listed::names_json;
 use crate::open::{Job, Task, job_of, plan, put_first};
 use crate::status::Status;
-use ild_create::{CreateFault, create};
 use ild_data::{BlockId, Sha256Keys, Txt};
 use ild_edges::{Inputs, Sink, Store};
-use ild_plain::PlainMap;
+use ild_run_create::{CreateFault, create};
+use ild_run_plain::PlainMap;
+use ild_run_show::{ShowFault, show};
 use ild_schema::{Accepted, TypeNo};
 use ild_script::{No, Reply};
-use ild_session::{Cut, answer_all, write_reply};
-use ild_show::{ShowFault, show};
+use ild_script_session::{Cut, answer_all, write_reply};
 use std::alloc::Global;
 
 /// The status of a call whose text was cut off.

@@ -1,5 +1,5 @@
 -- What the reader of lines answers.
-use Rattle.std.specs.Prelude.{◌≡◌, ℕ, ◌-◌, ◌≤◌, List, drop, length, Option, Some, None, Result, Ok, Err}
+use Rattle.std.specs.Prelude.{◌≡◌, ◌≢◌, ℕ, ◌-◌, ◌≤◌, List, drop, length, Option, Some, None, Result, Ok, Err}
 use Rattle.ild_script.specs.Line.{Command, Reading, reads, blank, command, outside}
 use Rattle.ild_script.specs.declared.error.LineErr.{LineErr}
 use Rattle.ild_script.specs.declared.error.LineErr.TheVariants as E
@@ -36,9 +36,9 @@ ReadsCommand l (Ok line) reading = (line.json_at ≤ length l) × (reading ≡ c
 ReadsCommand l (Err E.Line) reading = reading ≡ outside
 ReadsCommand l (Err E.Memory) reading = Unit {0}
 
--- a line of the program is read from the bytes l
+-- a line of the program is read from the bytes l; the empty one takes no memory
 abbrev pub ReadsAs : List ℕ → Result (Option Line) LineErr → Type 0
 ReadsAs l (Ok None) = reads l ≡ blank
 ReadsAs l (Ok (Some line)) = (line.json_at ≤ length l) × (reads l ≡ command (command_in l line))
 ReadsAs l (Err E.Line) = reads l ≡ outside
-ReadsAs l (Err E.Memory) = Unit {0}
+ReadsAs l (Err E.Memory) = reads l ≢ blank

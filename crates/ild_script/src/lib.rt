@@ -10,6 +10,7 @@ mod reply;
 mod word;
 
 pub use error::LineErr;
+pub use escape::unescape;
 pub use laws::{commands_are_of_texts, segments_write_texts};
 pub use line::{Line, line_of};
 pub use reply::{No, Reply, reply_text};

@@ -99,10 +99,10 @@ pub fn line_of(alloc: Global, line: &[u8]) -> Result<Option<Line>, LineErr>
         return Ok(None);
     }
     match str::from_utf8(line) {
-        Ok(text) => {
-            let read = line_of_text(alloc, text)?;
-            Ok(Some(read))
-        }
+        Ok(text) => match line_of_text(alloc, text) {
+            Ok(read) => Ok(Some(read)),
+            Err(fault) => Err(fault),
+        },
         Err(_) => Err(LineErr::Line),
     }
 }

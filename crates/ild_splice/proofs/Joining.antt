@@ -6,8 +6,8 @@ use Rattle.std.proofs.lemmas.List.{drop-drop}
 use Rattle.ild_cbor.specs.declared.node.Node.{Node}
 use Rattle.ild_cbor.specs.Nodes.{Stands, block_of, start_of}
 use Rattle.ild_cbor.specs.Span.{Span}
-use Rattle.ild_change.specs.TreeChange.{TreeStep, TreeChange, changed, change_here}
-use Rattle.ild_change.proofs.Spans.{changes_are_spliced}
+use Rattle.ild_splice_changes.specs.TreeChange.{TreeStep, TreeChange, changed, change_here}
+use Rattle.ild_splice_changes.proofs.Spans.{changes_are_spliced}
 use Rattle.ild_data.specs.Data.{Data}
 use Rattle.ild_data.specs.Spell.{spell}
 use Rattle.ild_splice.specs.declared.error.SpliceErr.{SpliceErr}

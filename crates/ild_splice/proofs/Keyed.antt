@@ -4,7 +4,7 @@ use Rattle.std.specs.Prelude.{is_some}
 use Rattle.std.specs.Ordering.{match_ordering}
 use Rattle.std.specs.declared.cmp.Ordering.TheVariants.{Less, Equal, Greater}
 use Rattle.std.proofs.lemmas.Option.{none-some}
-use Rattle.ild_change.specs.Laws.{spell_pairs}
+use Rattle.ild_splice_changes.specs.Laws.{spell_pairs}
 use Rattle.ild_data.specs.Data.{Data}
 use Rattle.ild_data.specs.Key.{key_cmp, same_text, put, value_at, without}
 use Rattle.ild_data.specs.Spell.{spell, spell_text}

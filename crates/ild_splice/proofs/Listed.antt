@@ -6,8 +6,8 @@ use Rattle.ild_cbor.specs.declared.kind.Kind.TheVariants as K
 use Rattle.ild_cbor.specs.declared.node.Node.{Node}
 use Rattle.ild_cbor.specs.Nodes.{Stands, AreAround}
 use Rattle.ild_cbor.specs.Scalar.{kind_of, count_of}
-use Rattle.ild_change.specs.TreeChange.{insert_item, remove_item, change_here}
-use Rattle.ild_change.proofs.Counts.{items_come_lem, items_go_lem}
+use Rattle.ild_splice_changes.specs.TreeChange.{insert_item, remove_item, change_here}
+use Rattle.ild_splice_changes.proofs.Counts.{items_come_lem, items_go_lem}
 use Rattle.ild_data.specs.Data.{Data, null, boolean, integer, text, bytes, list, map, link, Items, items_of, items_list}
 use Rattle.ild_data.specs.Spell.{head, spell, spell_items, spell_text}
 use Rattle.ild_data.proofs.Lists.{items_of-items_list}

@@ -7,8 +7,8 @@ use Rattle.ild_cbor.specs.declared.node.Node.{Node}
 use Rattle.ild_cbor.specs.Nodes.{Stands}
 use Rattle.ild_cbor.specs.Scalar.{kind_of, count_of}
 use Rattle.ild_cbor.specs.Span.{entry_of}
-use Rattle.ild_change.specs.Laws.{spell_pairs}
-use Rattle.ild_change.specs.TreeChange.{insert_entry, remove_entry, change_here}
+use Rattle.ild_splice_changes.specs.Laws.{spell_pairs}
+use Rattle.ild_splice_changes.specs.TreeChange.{insert_entry, remove_entry, change_here}
 use Rattle.ild_data.specs.Data.{Data, null, boolean, integer, text, bytes, list, map, link, Members, members_of, members_list}
 use Rattle.ild_data.specs.Key.{put, without}
 use Rattle.ild_data.specs.Spell.{head, spell, spell_text, spell_members}

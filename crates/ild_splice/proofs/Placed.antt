@@ -7,8 +7,8 @@ use Rattle.ild_cbor.specs.declared.node.Node.{Node}
 use Rattle.ild_cbor.specs.Nodes.{IsPart, Finds}
 use Rattle.ild_cbor.specs.Span.{Span, beneath, part_of, place_of, span_of, item_of, entry_of}
 use Rattle.ild_cbor.proofs.Spans.{entries_lem}
-use Rattle.ild_change.specs.Spliced.{number_of, numbers_of}
-use Rattle.ild_change.specs.TreeChange.{TreeStep, nth, key, child, part_at}
+use Rattle.ild_splice_changes.specs.Spliced.{number_of, numbers_of}
+use Rattle.ild_splice_changes.specs.TreeChange.{TreeStep, nth, key, child, part_at}
 use Rattle.ild_data.specs.Data.{Data, null, boolean, integer, text, bytes, list, map, link}
 use Rattle.ild_data.specs.Spell.{spell}
 use Rattle.ild_splice.specs.Splices.{IsAt}

@@ -6,8 +6,8 @@ use Rattle.ild_cbor.specs.declared.node.Node.{Node}
 use Rattle.ild_cbor.specs.declared.pairs.Pairs.{Pairs}
 use Rattle.ild_cbor.specs.Nodes.{Stands}
 use Rattle.ild_cbor.specs.Steps.{HasEntries, EntryStep, EntriesGive, FindsEntries}
-use Rattle.ild_change.specs.Laws.{spell_pairs}
-use Rattle.ild_change.proofs.Maps.{below_absent}
+use Rattle.ild_splice_changes.specs.Laws.{spell_pairs}
+use Rattle.ild_splice_changes.proofs.Maps.{below_absent}
 use Rattle.ild_data.specs.Data.{Data, map, Members, no_members, member, members_list}
 use Rattle.ild_data.specs.Key.{key_cmp, put, without, Rises}
 use Rattle.ild_data.specs.Limits.{longest_block}

@@ -6,8 +6,8 @@ use Rattle.std.specs.Ordering.{match_ordering}
 use Rattle.std.specs.declared.cmp.Ordering.{Ordering}
 use Rattle.std.specs.declared.cmp.Ordering.TheVariants.{Less, Equal, Greater}
 use Rattle.std.proofs.lemmas.Option.{same_Some, none-some}
-use Rattle.ild_change.specs.TreeChange.{TreeStep, nth, key, TreeChange, replace, insert_item, insert_entry, remove_item, remove_entry, child, with_child, part_at, change_here, changed, replaced_at}
-use Rattle.ild_change.proofs.Maps.{rises_replaced}
+use Rattle.ild_splice_changes.specs.TreeChange.{TreeStep, nth, key, TreeChange, replace, insert_item, insert_entry, remove_item, remove_entry, child, with_child, part_at, change_here, changed, replaced_at}
+use Rattle.ild_splice_changes.proofs.Maps.{rises_replaced}
 use Rattle.ild_data.specs.Data.{Data, null, boolean, integer, text, bytes, list, map, link, Items, no_items, item, Members, no_members, member, items_of, items_list, members_of, members_list, depth, items_depth, members_depth}
 use Rattle.ild_data.specs.Key.{key_cmp, same_text, put, value_at, without, Rises}
 use Rattle.ild_data.specs.Limits.{deepest}

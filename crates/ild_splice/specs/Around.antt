@@ -1,6 +1,6 @@
 -- The entries of a map before and behind a key.
 use Rattle.std.specs.Prelude.{◌≡◌, ℕ, List, ◌∷◌, ◌++◌, length, ◌+◌}
-use Rattle.ild_change.specs.Laws.{spell_pairs}
+use Rattle.ild_splice_changes.specs.Laws.{spell_pairs}
 use Rattle.ild_data.specs.Data.{Data}
 use Rattle.ild_data.specs.Key.{put, without}
 

@@ -4,7 +4,7 @@ use Rattle.ild_cbor.specs.declared.node.Node.{Node}
 use Rattle.ild_cbor.specs.Block.{IsBlockOf}
 use Rattle.ild_cbor.specs.Nodes.{IsRoot, Finds}
 use Rattle.ild_cbor.specs.Span.{place_of, item_of, index_of, entry_of}
-use Rattle.ild_change.specs.TreeChange.{TreeStep, nth, key, TreeChange, replace, insert_item, insert_entry, remove_item, remove_entry, part_at, changed}
+use Rattle.ild_splice_changes.specs.TreeChange.{TreeStep, nth, key, TreeChange, replace, insert_item, insert_entry, remove_item, remove_entry, part_at, changed}
 use Rattle.ild_data.specs.Data.{Data, depth}
 use Rattle.ild_data.specs.Limits.{IsWithin, deepest, longest_block}
 use Rattle.ild_data.specs.Spell.{spell}

@@ -3,8 +3,8 @@ use Rattle.std.specs.Prelude.{◌≡◌, ℕ, List, Some, Result}
 use Rattle.ild_cbor.specs.declared.node.Node.{Node}
 use Rattle.ild_cbor.specs.Nodes.{Stands, block_of, start_of}
 use Rattle.ild_cbor.specs.Span.{Span, span_of}
-use Rattle.ild_change.specs.Spliced.{numbers_of}
-use Rattle.ild_change.specs.TreeChange.{TreeStep, TreeChange, part_at, changed}
+use Rattle.ild_splice_changes.specs.Spliced.{numbers_of}
+use Rattle.ild_splice_changes.specs.TreeChange.{TreeStep, TreeChange, part_at, changed}
 use Rattle.ild_data.specs.Data.{Data, item, list, no_items, text}
 use Rattle.ild_data.specs.Spell.{spell}
 use Rattle.ild_splice.specs.declared.error.SpliceErr.{SpliceErr}

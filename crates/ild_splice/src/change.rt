@@ -7,7 +7,7 @@ ghost use Rattle.ild_cbor.specs.Nodes.{Stands};
 ghost use Rattle.ild_cbor.specs.Scalar.{kind_of, count_of};
 ghost use Rattle.ild_cbor.specs.Span.{entry_of};
 ghost use Rattle.ild_cbor.specs.declared.kind.Kind.TheVariants as K;
-ghost use Rattle.ild_change.specs.TreeChange.{replace, insert_item, insert_entry, remove_item, remove_entry};
+ghost use Rattle.ild_splice_changes.specs.TreeChange.{replace, insert_item, insert_entry, remove_item, remove_entry};
 ghost use Rattle.ild_data.specs.Data.{Data};
 ghost use Rattle.ild_data.specs.Spell.{spell};
 ghost use Rattle.ild_splice.specs.Made.{lead_bytes};

@@ -38,9 +38,9 @@ fn place_of(node: &Node<'_>, key: &str) -> (usize, usize)
     (passed, passed)
 }
 
-/// The entries of a map as they are spelled: those before the place of a key, and those behind it. The entry at the key, where
-/// there is one, is in neither.
-pub(crate) fn entries_around<'b>(node: &Node<'b>, key: &str) -> (&'b [u8], &'b [u8])
+/// The entries of a map as they are spelled: those before the place of a key, and those behind it (DAG-CBOR, "Map Keys"). The entry at
+/// the key, where there is one, is in neither. Of an item that is no map nothing is said.
+pub fn entries_around<'b>(node: &Node<'b>, key: &str) -> (&'b [u8], &'b [u8])
     ensures { (ms : Members) → Stands node.now (map ms) → AreAroundKey result.0.now result.1.now key.now (members_list ms) }
 {
     let (from, to) = place_of(node, key);

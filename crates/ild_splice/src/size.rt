@@ -6,7 +6,7 @@ ghost use Rattle.ild_splice.specs.Made.{bytes_of, head_bytes, lead_bytes};
 use crate::piece::{Lead, NewHead, Pieces};
 
 /// How many bytes the shortest head has (RFC 8949, section 3).
-pub(crate) fn head_size(n: u64) -> usize
+pub fn head_size(n: u64) -> usize
     ensures size { (major : ℕ) → result ≡ length (head major n) }
     ensures few { result ≤ 9 }
 {
@@ -24,7 +24,7 @@ pub(crate) fn head_size(n: u64) -> usize
 }
 
 /// How many bytes a text is spelled in.
-pub(crate) fn text_size(text: &str) -> u128
+pub fn text_size(text: &str) -> u128
     ensures size { result ≡ length (spell_text text.now) }
     ensures few { result ≤ 0x1_0000_0000_0000_0008 }
 {

@@ -37,19 +37,19 @@ use Rattle.ild_typed.proofs.CleanStructs.{split_of_pairs}
 use Rattle.ild_text.specs.Parts.{pairs_in, parts as joined_parts}
 use Rattle.ild_text.specs.declared.parts.JoinParts.{JoinParts}
 use Rattle.ild_text.specs.declared.parts.PairParts.{PairParts}
-use Rattle.ild_piece.specs.Answers.{Layered}
-use Rattle.ild_piece.specs.Entries.{Found}
-use Rattle.ild_piece.specs.Pieces.{StandsFor}
+use Rattle.ild_layer_piece.specs.Answers.{Layered}
+use Rattle.ild_layer_piece.specs.Entries.{Found}
+use Rattle.ild_layer_piece.specs.Pieces.{StandsFor}
 use Rattle.ild_struct.specs.Parts.{ArePartsOf, IsFieldOf, IsPart, IsStruct}
 use Rattle.ild_struct.specs.Reading.{IsLookedUp, shown}
 use Rattle.ild_struct.specs.Source.{Shows}
-use Rattle.ild_fields.specs.Entries.{text_entries}
+use Rattle.ild_layer_fields.specs.Entries.{text_entries}
 use Rattle.ild_struct.specs.declared.part.Part.{Part}
 use Rattle.ild_struct.specs.declared.parts.StructParts.{StructParts}
 use Rattle.ild_struct.specs.declared.source.Source.TheVariants as R
 use Rattle.ild_struct.proofs.Looking.{joined_at, keyed, map_keyed, placed}
 use Rattle.ild_struct.proofs.Splitting.{text_value_at}
-use Rattle.ild_fields.proofs.Placing.{all_at, get_at}
+use Rattle.ild_layer_fields.proofs.Placing.{all_at, get_at}
 
 -- the form of the layer
 pub made_of : (rows : List Row) (ty : ℕ) (t : Data) (s : StructDef) (os : List (Option Data)) → IsStruct rows ty s → Layered rows ty t (L.struct os) → struct_form s.form s.fields os ≡ Some t

@@ -7,7 +7,7 @@ use Rattle.ild_data.specs.Data.{Data}
 use Rattle.ild_data.proofs.Lists.{items_of-items_list}
 use Rattle.ild_cbor.specs.Steps.{HasItems}
 use Rattle.ild_cbor.specs.declared.items.Items.{Items}
-use Rattle.ild_piece.specs.Entries.{Lists}
+use Rattle.ild_layer_piece.specs.Entries.{Lists}
 use Rattle.ild_schema.specs.Clear.{AreNamesApart}
 use Rattle.ild_schema.specs.declared.def.Field.{Field}
 use Rattle.ild_schema.specs.declared.def.StructForm.TheVariants as S
@@ -15,8 +15,8 @@ use Rattle.ild_typed.specs.Named.{names, has_twice, items_in, is_pair, is_two, p
 use Rattle.ild_typed.specs.Strings.{members_in}
 use Rattle.ild_typed.specs.StructWhy.{has_stranger, lacks_field, is_out_of_order, writes_implicit, misses_items}
 use Rattle.ild_typed.specs.Why as W
-use Rattle.ild_fields.specs.Causes.{Noted, PairsNoted, struct_why, first_cause}
-use Rattle.ild_fields.specs.declared.notes.Notes.{Notes}
+use Rattle.ild_layer_fields.specs.Causes.{Noted, PairsNoted, struct_why, first_cause}
+use Rattle.ild_layer_fields.specs.declared.notes.Notes.{Notes}
 
 -- what the first cause of names with values is
 abbrev pub Tells : List Field → Notes → Bool → Bool → Option W.Why → Type 0

@@ -18,10 +18,10 @@ use Rattle.ild_typed.specs.Layer as L
 use Rattle.ild_typed.specs.Layer.{as_struct}
 use Rattle.ild_typed.proofs.Basics.{then_from}
 use Rattle.ild_typed.proofs.CleanTypes.{layer_or_why}
-use Rattle.ild_piece.specs.Answers.{Refused, told}
-use Rattle.ild_piece.specs.Pieces.{StandsFor}
-use Rattle.ild_piece.proofs.Stand.{piece_rises}
-use Rattle.ild_fields.specs.Causes.{struct_why}
+use Rattle.ild_layer_piece.specs.Answers.{Refused, told}
+use Rattle.ild_layer_piece.specs.Pieces.{StandsFor}
+use Rattle.ild_layer_piece.proofs.Stand.{piece_rises}
+use Rattle.ild_layer_fields.specs.Causes.{struct_why}
 use Rattle.ild_struct.specs.Parts.{ArePartsOf, HasParts, IsStruct, is_told}
 use Rattle.ild_struct.specs.Source.{Shows}
 use Rattle.ild_struct.specs.Told.{IsSurveyed}

@@ -24,11 +24,11 @@ use Rattle.ild_typed.proofs.Basics.{map_from, then_from, true_from, both_true}
 use Rattle.ild_typed.proofs.Entries.{both_from, only_text_data, value_sorted}
 use Rattle.ild_typed.proofs.CleanTexts.{parted_join}
 use Rattle.ild_typed.proofs.Structs.{all_count, field_from, look, past, not_there}
-use Rattle.ild_piece.specs.Entries.{Found}
+use Rattle.ild_layer_piece.specs.Entries.{Found}
 use Rattle.ild_struct.specs.Parts.{IsPart}
 use Rattle.ild_struct.specs.Reading.{IsLookedUp, shown}
 use Rattle.ild_struct.specs.declared.part.Part.{Part}
-use Rattle.ild_fields.proofs.Placing.{all_at}
+use Rattle.ild_layer_fields.proofs.Placing.{all_at}
 
 -- ---- by its name
 

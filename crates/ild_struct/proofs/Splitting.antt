@@ -20,8 +20,8 @@ use Rattle.ild_typed.specs.Texts.{join, join_pairs}
 use Rattle.ild_typed.specs.Why as W
 use Rattle.ild_typed.proofs.CleanTexts.{parted_join, pairs_join, gives_it, given_by}
 use Rattle.ild_typed.proofs.JoinLaws.{joins_are_joins, pairs_are_pairs}
-use Rattle.ild_fields.specs.Causes.{struct_why, first_cause}
-use Rattle.ild_fields.specs.Entries.{text_entries}
+use Rattle.ild_layer_fields.specs.Causes.{struct_why, first_cause}
+use Rattle.ild_layer_fields.specs.Entries.{text_entries}
 
 -- ---- pairs
 

@@ -12,15 +12,15 @@ use Rattle.ild_schema.specs.Clear.{AreNamesApart}
 use Rattle.ild_schema.specs.declared.def.Field.{Field}
 use Rattle.ild_typed.specs.Strings.{pair_data}
 use Rattle.ild_typed.specs.StructWhy.{place_of}
-use Rattle.ild_piece.specs.Entries.{EntriesGive, HasLeft}
-use Rattle.ild_piece.specs.declared.walk.MapEntries.{MapEntries}
-use Rattle.ild_fields.specs.Pairs.{IsPairOf}
-use Rattle.ild_fields.specs.Entries.{by_place}
+use Rattle.ild_layer_piece.specs.Entries.{EntriesGive, HasLeft}
+use Rattle.ild_layer_piece.specs.declared.walk.MapEntries.{MapEntries}
+use Rattle.ild_layer_fields.specs.Pairs.{IsPairOf}
+use Rattle.ild_layer_fields.specs.Entries.{by_place}
 use Rattle.ild_struct.specs.Stepping.{Takes}
 use Rattle.ild_struct.specs.declared.left.Left.TheVariants as L
-use Rattle.ild_fields.specs.declared.pair.Pair.{Pair}
-use Rattle.ild_fields.specs.declared.pair.Pair.TheVariants as P
-use Rattle.ild_fields.proofs.Pairing.{pair_of, no_pair_of}
+use Rattle.ild_layer_fields.specs.declared.pair.Pair.{Pair}
+use Rattle.ild_layer_fields.specs.declared.pair.Pair.TheVariants as P
+use Rattle.ild_layer_fields.proofs.Pairing.{pair_of, no_pair_of}
 
 -- ---- entries of a map
 

@@ -3,7 +3,7 @@ use Rattle.std.proofs.Common.{ℕ, List, Option, sym, subst}
 use Rattle.std.specs.List.{AllByRecursion}
 use Rattle.ild_data.specs.Data.{Data}
 use Rattle.ild_schema.specs.Legible.{IsLegible}
-use Rattle.ild_fields.specs.Told.{IsToldAt}
+use Rattle.ild_layer_fields.specs.Told.{IsToldAt}
 use Rattle.ild_struct.specs.Parts.{ArePartsOf, fields_of}
 use Rattle.ild_struct.specs.Told.{AreTold, IsSurveyed}
 use Rattle.ild_struct.specs.declared.parts.StructParts.{StructParts}

@@ -40,15 +40,15 @@ use Rattle.ild_typed.proofs.CleanPairs.{pairs_names}
 use Rattle.ild_typed.proofs.CleanStructs.{split_of_pairs}
 use Rattle.ild_typed.proofs.CleanTypes.{layer_or_why}
 use Rattle.ild_typed.proofs.Cleans.{Clean, clean_of}
-use Rattle.ild_piece.specs.Entries.{HasLeft, Maps}
-use Rattle.ild_piece.specs.Pieces.{StandsFor}
-use Rattle.ild_piece.specs.declared.walk.MapEntries.{MapEntries}
-use Rattle.ild_piece.proofs.Stand.{piece_rises}
+use Rattle.ild_layer_piece.specs.Entries.{HasLeft, Maps}
+use Rattle.ild_layer_piece.specs.Pieces.{StandsFor}
+use Rattle.ild_layer_piece.specs.declared.walk.MapEntries.{MapEntries}
+use Rattle.ild_layer_piece.proofs.Stand.{piece_rises}
 use Rattle.ild_struct.specs.Parts.{ArePartsOf}
 use Rattle.ild_struct.specs.Present.{numbered}
-use Rattle.ild_fields.specs.Entries.{by_place}
+use Rattle.ild_layer_fields.specs.Entries.{by_place}
 use Rattle.ild_struct.specs.Source.{Shows}
-use Rattle.ild_fields.specs.Entries.{text_entries}
+use Rattle.ild_layer_fields.specs.Entries.{text_entries}
 use Rattle.ild_struct.specs.Stepping.{Starts}
 use Rattle.ild_struct.specs.declared.left.Left.TheVariants as R
 use Rattle.ild_struct.specs.declared.parts.StructParts.{StructParts}

@@ -9,8 +9,8 @@ use Rattle.ild_schema.specs.declared.def.TypeDef.TheVariants as D
 use Rattle.ild_schema.specs.declared.row.Row.{Row}
 use Rattle.ild_typed.specs.Fields.{is_implicit}
 use Rattle.ild_typed.specs.Layer as L
-use Rattle.ild_piece.specs.Answers.{Layered}
-use Rattle.ild_piece.specs.Pieces.{IsNumbered, StandsFor}
+use Rattle.ild_layer_piece.specs.Answers.{Layered}
+use Rattle.ild_layer_piece.specs.Pieces.{IsNumbered, StandsFor}
 use Rattle.ild_struct.specs.Source.{Shows}
 use Rattle.ild_struct.specs.Told.{AreTold}
 use Rattle.ild_struct.specs.declared.part.Part.{Part}

@@ -11,9 +11,9 @@ use Rattle.ild_schema.specs.declared.row.Row.{Row}
 use Rattle.ild_text.specs.Parts.{pairs_in, parts_left}
 use Rattle.ild_typed.specs.Fields.{is_implicit}
 use Rattle.ild_typed.specs.Strings.{pair_data}
-use Rattle.ild_piece.specs.Entries.{HasLeft}
-use Rattle.ild_piece.specs.Pieces.{StandsFor}
-use Rattle.ild_fields.specs.Entries.{by_place, text_entries}
+use Rattle.ild_layer_piece.specs.Entries.{HasLeft}
+use Rattle.ild_layer_piece.specs.Pieces.{StandsFor}
+use Rattle.ild_layer_fields.specs.Entries.{by_place, text_entries}
 use Rattle.ild_struct.specs.declared.left.Left.{Left}
 use Rattle.ild_struct.specs.declared.left.Left.TheVariants as L
 use Rattle.ild_struct.specs.declared.present.Present.{Present}

@@ -8,8 +8,8 @@ use Rattle.ild_schema.specs.declared.def.Field.{Field}
 use Rattle.ild_schema.specs.declared.def.StructForm.{StructForm}
 use Rattle.ild_schema.specs.declared.row.Row.{Row}
 use Rattle.ild_typed.specs.Fields.{is_implicit}
-use Rattle.ild_piece.specs.Answers.{told}
-use Rattle.ild_fields.specs.Causes.{struct_why}
+use Rattle.ild_layer_piece.specs.Answers.{told}
+use Rattle.ild_layer_fields.specs.Causes.{struct_why}
 use Rattle.ild_struct.specs.Source.{Shows}
 use Rattle.ild_struct.specs.declared.source.Source.{Source}
 

@@ -12,8 +12,8 @@ use Rattle.ild_schema.specs.declared.row.Row.{Row}
 use Rattle.ild_text.specs.Parts.{parts, pairs_in}
 use Rattle.ild_typed.specs.Named.{split_entries}
 use Rattle.ild_typed.specs.Cuts.{parted}
-use Rattle.ild_piece.specs.Pieces.{StandsFor}
-use Rattle.ild_fields.specs.Entries.{text_entries}
+use Rattle.ild_layer_piece.specs.Pieces.{StandsFor}
+use Rattle.ild_layer_fields.specs.Entries.{text_entries}
 use Rattle.ild_struct.specs.declared.source.Source.{Source}
 use Rattle.ild_struct.specs.declared.source.Source.TheVariants as R
 

@@ -5,7 +5,7 @@ use Rattle.ild_data.specs.Data.{Data}
 use Rattle.ild_cbor.specs.declared.piece.Piece.{Piece}
 use Rattle.ild_schema.specs.declared.def.Field.{Field}
 use Rattle.ild_schema.specs.declared.row.Row.{Row}
-use Rattle.ild_piece.specs.Pieces.{StandsFor}
+use Rattle.ild_layer_piece.specs.Pieces.{StandsFor}
 use Rattle.ild_struct.specs.declared.left.Left.{Left}
 use Rattle.ild_struct.specs.Present.{ArePresent, Leaves}
 

@@ -3,15 +3,15 @@ use Rattle.std.specs.Prelude.{◌≡◌, ℕ, List, Option, Some}
 use Rattle.std.specs.List.{AllByRecursion}
 use Rattle.ild_cbor.specs.declared.piece.Piece.{Piece}
 use Rattle.ild_data.specs.Data.{Data}
-use Rattle.ild_piece.specs.Entries.{HasLeft, Maps}
-use Rattle.ild_piece.specs.Pieces.{StandsFor}
-use Rattle.ild_piece.specs.declared.walk.MapEntries.{MapEntries}
+use Rattle.ild_layer_piece.specs.Entries.{HasLeft, Maps}
+use Rattle.ild_layer_piece.specs.Pieces.{StandsFor}
+use Rattle.ild_layer_piece.specs.declared.walk.MapEntries.{MapEntries}
 use Rattle.ild_schema.specs.Clear.{AreNamesApart}
 use Rattle.ild_schema.specs.declared.def.Field.{Field}
 use Rattle.ild_schema.specs.declared.row.Row.{Row}
 use Rattle.ild_typed.specs.Strings.{members_in}
-use Rattle.ild_fields.specs.Entries.{by_place}
-use Rattle.ild_fields.specs.Told.{IsToldAt}
+use Rattle.ild_layer_fields.specs.Entries.{by_place}
+use Rattle.ild_layer_fields.specs.Told.{IsToldAt}
 use Rattle.ild_struct.specs.Present.{ArePresent}
 use Rattle.ild_struct.specs.declared.source.Source.{Source}
 use Rattle.ild_struct.specs.declared.source.Source.TheVariants as O

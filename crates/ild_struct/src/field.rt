@@ -5,7 +5,7 @@ ghost use Rattle.ild_cbor.specs.Nodes.{Stands};
 ghost use Rattle.ild_schema.specs.declared.def.Field.{Field as Schema};
 ghost use Rattle.ild_schema.specs.declared.row.Row.{Row};
 ghost use Rattle.ild_struct.specs.Parts.{ArePartsOf, HasNumber, IsFieldOf, IsPart, fields_of};
-ghost use Rattle.ild_piece.specs.Entries.{Found};
+ghost use Rattle.ild_layer_piece.specs.Entries.{Found};
 ghost use Rattle.ild_struct.specs.Reading.{IsLookedUp, shown};
 
 use crate::pairs::pair_value;
@@ -14,8 +14,8 @@ use crate::parts::StructParts;
 use crate::source::Source;
 use crate::texts::text_value;
 use ild_cbor::{Kind, Node, Piece};
-use ild_fields::text_of_field;
-use ild_piece::entry;
+use ild_layer_fields::text_of_field;
+use ild_layer_piece::entry;
 use ild_schema::Field;
 
 // A part that is written.

@@ -1,6 +1,6 @@
 //! What is left of a struct's parts.
 use ild_cbor::Items;
-use ild_piece::MapEntries;
+use ild_layer_piece::MapEntries;
 use ild_text::{JoinParts, PairParts};
 
 /// The parts that are left, by the form of the struct.

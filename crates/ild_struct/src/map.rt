@@ -1,7 +1,7 @@
 //! Structs as maps.
 ghost use Rattle.std.specs.Prelude.{◌≡◌, IfOk, true};
 ghost use Rattle.ild_data.specs.Data.{Data};
-ghost use Rattle.ild_piece.specs.Pieces.{IsNumbered, StandsFor};
+ghost use Rattle.ild_layer_piece.specs.Pieces.{IsNumbered, StandsFor};
 ghost use Rattle.ild_schema.specs.Clear.{AreNamesApart};
 ghost use Rattle.ild_schema.specs.declared.def.StructForm.TheVariants as S;
 ghost use Rattle.ild_struct.specs.Reading.{AnswersFound};
@@ -10,8 +10,8 @@ ghost use Rattle.ild_struct.specs.Told.{IsSurveyed};
 
 use crate::source::Source;
 use ild_cbor::{Piece, Why};
-use ild_fields::{Fields, note_entries};
-use ild_piece::entries;
+use ild_layer_fields::{Fields, note_entries};
+use ild_layer_piece::entries;
 
 /// A map in which the fields are looked up, and whether kinds tell that all its values are those of their fields; or the first
 /// cause why the piece is no struct.

@@ -4,8 +4,8 @@ ghost use Rattle.ild_data.specs.Data.{Data, items_of};
 ghost use Rattle.ild_data.specs.Key.{value_at};
 ghost use Rattle.ild_cbor.specs.Nodes.{Stands};
 ghost use Rattle.ild_cbor.specs.Steps.{HasItems};
-ghost use Rattle.ild_piece.specs.Entries.{Found};
-ghost use Rattle.ild_piece.specs.Pieces.{StandsFor};
+ghost use Rattle.ild_layer_piece.specs.Entries.{Found};
+ghost use Rattle.ild_layer_piece.specs.Pieces.{StandsFor};
 ghost use Rattle.ild_schema.specs.Clear.{AreNamesApart};
 ghost use Rattle.ild_schema.specs.declared.def.StructForm.TheVariants as S;
 ghost use Rattle.ild_schema.specs.declared.row.Row.{Row};
@@ -15,8 +15,8 @@ ghost use Rattle.ild_struct.specs.Source.{IsSourced};
 
 use crate::source::Source;
 use ild_cbor::{Items, Node, Piece, Why};
-use ild_fields::{Fields, Pair, note_pairs};
-use ild_piece::items;
+use ild_layer_fields::{Fields, Pair, note_pairs};
+use ild_layer_piece::items;
 
 /// A list of pairs in which the fields are looked up, or the first cause why the piece is no struct.
 pub(crate) fn listpairs_source<'b>(

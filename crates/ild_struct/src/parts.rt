@@ -2,7 +2,7 @@
 ghost use Rattle.ild_struct.specs.Source.{IsSourced};
 
 use crate::source::Source;
-use ild_fields::Fields;
+use ild_layer_fields::Fields;
 
 /// The fields of a struct in a block: borrows of the schema and of the block, with no memory of their own.
 #[derive(Clone, Copy)]

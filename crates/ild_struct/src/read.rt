@@ -4,8 +4,8 @@ ghost use Rattle.ild_schema.specs.declared.def.Field.{Field};
 ghost use Rattle.ild_schema.specs.declared.def.StructForm.{StructForm as Form};
 ghost use Rattle.ild_schema.specs.declared.row.Row.{Row};
 ghost use Rattle.ild_data.specs.Data.{Data};
-ghost use Rattle.ild_piece.specs.Answers.{Refused};
-ghost use Rattle.ild_piece.specs.Pieces.{IsNumbered, StandsFor};
+ghost use Rattle.ild_layer_piece.specs.Answers.{Refused};
+ghost use Rattle.ild_layer_piece.specs.Pieces.{IsNumbered, StandsFor};
 ghost use Rattle.ild_schema.specs.Clear.{ClearStruct};
 ghost use Rattle.ild_schema.specs.Delims.{HasDelims};
 ghost use Rattle.ild_schema.specs.declared.def.StructDef.{StructDef as Struct};
@@ -21,7 +21,7 @@ use crate::source::Source;
 use crate::texts::{stringjoin_source, stringpairs_source};
 use crate::tuple::tuple_source;
 use ild_cbor::{Piece, Why};
-use ild_fields::Fields;
+use ild_layer_fields::Fields;
 use ild_schema::{Accepted, StructForm, TypeDef, TypeNo};
 
 // A source of whose values no kind tells anything.

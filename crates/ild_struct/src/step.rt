@@ -3,13 +3,13 @@ ghost use Rattle.std.specs.Prelude.{◌<◌, IfSome, List, ℕ, map};
 ghost use Rattle.ild_data.specs.Data as T;
 ghost use Rattle.ild_data.specs.Data.{Data, Items as Parts, items_list, items_of};
 ghost use Rattle.ild_cbor.specs.Steps.{HasItems};
-ghost use Rattle.ild_piece.specs.Entries.{HasLeft};
+ghost use Rattle.ild_layer_piece.specs.Entries.{HasLeft};
 ghost use Rattle.ild_schema.specs.Clear.{AreNamesApart};
 ghost use Rattle.ild_schema.specs.declared.def.Field.{Field};
 ghost use Rattle.ild_text.specs.Parts.{pairs_in, parts_left};
 ghost use Rattle.ild_typed.specs.Strings.{pair_data};
 ghost use Rattle.std.specs.Iterator.{at_most};
-ghost use Rattle.ild_fields.specs.Entries.{by_place, text_entries};
+ghost use Rattle.ild_layer_fields.specs.Entries.{by_place, text_entries};
 ghost use Rattle.ild_struct.specs.Present.{HasPresent, PresentGives, count_left, numbered};
 ghost use Rattle.ild_struct.specs.declared.left.Left.TheVariants as L;
 ghost use Rattle.ild_struct.specs.Stepping.{Takes};
@@ -17,8 +17,8 @@ ghost use Rattle.ild_struct.specs.Stepping.{Takes};
 use crate::left::Left;
 use crate::present::Present;
 use ild_cbor::{Items, Piece};
-use ild_fields::{Fields, Pair};
-use ild_piece::MapEntries;
+use ild_layer_fields::{Fields, Pair};
+use ild_layer_piece::MapEntries;
 use ild_text::{JoinParts, PairParts};
 
 /// The number of a field, its part, and what is left behind it.

@@ -2,7 +2,7 @@
 ghost use Rattle.std.specs.Prelude.{◌≡◌, ◌<◌, ℕ, List, IfOk, length, option_map};
 ghost use Rattle.ild_data.specs.Data.{Data};
 ghost use Rattle.ild_data.specs.Key.{value_at};
-ghost use Rattle.ild_piece.specs.Pieces.{StandsFor};
+ghost use Rattle.ild_layer_piece.specs.Pieces.{StandsFor};
 ghost use Rattle.ild_schema.specs.Clear.{AreNamesApart};
 ghost use Rattle.ild_schema.specs.declared.def.Field.{Field as Schema};
 ghost use Rattle.ild_schema.specs.declared.def.StructForm.TheVariants as S;
@@ -13,8 +13,8 @@ ghost use Rattle.ild_struct.specs.Source.{IsSourced};
 
 use crate::source::Source;
 use ild_cbor::{Piece, Why};
-use ild_fields::{Fields, note_texts};
-use ild_piece::text;
+use ild_layer_fields::{Fields, note_texts};
+use ild_layer_piece::text;
 use ild_text::{PairParts, join_parts, pairs};
 
 /// A text of pairs in which the fields are looked up, or the first cause why the piece is no struct.

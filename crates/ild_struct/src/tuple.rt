@@ -2,7 +2,7 @@
 ghost use Rattle.std.specs.List.{list_any};
 ghost use Rattle.std.specs.Prelude.{◌≡◌, ◌≤◌, List, IfOk, length, not};
 ghost use Rattle.ild_data.specs.Data.{Data};
-ghost use Rattle.ild_piece.specs.Pieces.{StandsFor};
+ghost use Rattle.ild_layer_piece.specs.Pieces.{StandsFor};
 ghost use Rattle.ild_schema.specs.declared.row.Row.{Row};
 ghost use Rattle.ild_schema.specs.declared.def.StructForm.TheVariants as S;
 ghost use Rattle.ild_typed.specs.Named.{items_in};

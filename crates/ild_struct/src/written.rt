@@ -10,7 +10,7 @@ use crate::left::Left;
 use crate::parts::StructParts;
 use crate::present::Present;
 use crate::source::Source;
-use ild_piece::entries;
+use ild_layer_piece::entries;
 
 impl<'b> StructParts<'b> {
     // All parts, of which none was taken.

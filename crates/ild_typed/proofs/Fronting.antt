@@ -26,7 +26,7 @@ use Rattle.ild_schema.specs.Slots.{form_of, plainly}
 use Rattle.ild_schema.specs.Value as V
 use Rattle.ild_schema.specs.Value.{Value, Values, Pairs, Optionals, values_list, pairs_list, optionals_list}
 use Rattle.ild_schema.proofs.Legibly.{legible}
-use Rattle.ild_trie.proofs.Parts.{in_order-part, in_order-sorted}
+use Rattle.ild_hamt_trie.proofs.Parts.{in_order-part, in_order-sorted}
 use Rattle.ild_typed.specs.Composed.{usual, composed, member_form, map_form}
 use Rattle.ild_typed.specs.Fits.{FitsPast, ValueFits}
 use Rattle.ild_typed.specs.Hamt.{alone, whole, root_map}

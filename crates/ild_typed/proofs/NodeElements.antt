@@ -9,7 +9,7 @@ use Rattle.ild_data.specs.Spell.{cid_of}
 use Rattle.ild_data.specs.TrieShape.{TrieShape}
 use Rattle.ild_data.specs.ByteOrder.{bytewise}
 use Rattle.ild_data.specs.Trie.{TrieSlot, empty, bucket, child, is_used, entry_data, elements_of}
-use Rattle.ild_trie.proofs.Parts.{same_key, key_itself}
+use Rattle.ild_hamt_trie.proofs.Parts.{same_key, key_itself}
 use Rattle.ild_data.specs.Bytes.{AreBytes}
 use Rattle.ild_data.specs.Tree.{IsTree, AreTrees}
 use Rattle.ild_typed.specs.Node.{IsSlot}

@@ -16,7 +16,7 @@ use Rattle.ild_data.proofs.Lists.{items_by_list, length-items}
 use Rattle.ild_data.specs.TrieShape.{TrieShape}
 use Rattle.ild_data.specs.ByteOrder.{bytewise}
 use Rattle.ild_data.specs.Trie.{entry_data}
-use Rattle.ild_trie.proofs.Parts.{total}
+use Rattle.ild_hamt_trie.proofs.Parts.{total}
 use Rattle.ild_data.specs.Trie.{bucket}
 use Rattle.ild_typed.specs.Node.{IsSlot}
 use Rattle.ild_typed.specs.NodeReading.{text_in, key_in, pair_in, entry_in, entry_of_pair, rises, goes_on, are_entries, bucket_fits}

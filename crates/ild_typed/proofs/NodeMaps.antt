@@ -6,7 +6,7 @@ use Rattle.std.proofs.lemmas.List.{length-map, length-take, length-drop, get_or-
 use Rattle.std.proofs.lemmas.List.FromFn.{get_or-map-range_with_len, length-map-range_with_len}
 use Rattle.ild_data.specs.Bytes.{AreBytes}
 use Rattle.ild_data.specs.Trie.{TrieSlot, empty, is_used, byte_of, map_of}
-use Rattle.ild_trie.proofs.Bits.{bit_of-map}
+use Rattle.ild_hamt_trie.proofs.Bits.{bit_of-map}
 use Rattle.ild_typed.specs.NodeReading.{map_bit, map_bits}
 
 bit-is : (b : Bool) (n : ℕ) → n ≡ cond b 1 0 → (n == 1) ≡ b

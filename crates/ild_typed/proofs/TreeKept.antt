@@ -48,7 +48,7 @@ use Rattle.ild_typed.proofs.Basics.{map_from}
 use Rattle.ild_typed.proofs.Entries.{both_from}
 use Rattle.ild_typed.proofs.OneValue.{plain_safe, Way, as_null, as_layer, way_of, layer_data}
 use Rattle.ild_typed.proofs.Wholes.{one_block, one_within, whole_law}
-use Rattle.ild_trie.proofs.Index.{index_below}
+use Rattle.ild_hamt_trie.proofs.Index.{index_below}
 use Rattle.ild_typed.proofs.Treed.{EntryIn}
 use Rattle.ild_typed.proofs.TreeNodes.{all_split, part_in, sorted_in, node_of_in}
 use Rattle.ild_typed.proofs.TreeParts.{KeysFit, list_fits, struct_fits, union_fits, map_fits, rises_pairs, pairs_in}

@@ -16,10 +16,10 @@ use Rattle.ild_data.specs.Trie.{part, TrieSlot, empty, bucket, child, is_used, i
 use Rattle.ild_typed.specs.Known.{AreKnown}
 use Rattle.ild_typed.proofs.Basics.{map_from}
 use Rattle.ild_typed.proofs.Rising.{rising_same}
-use Rattle.ild_trie.proofs.Parts.{same_by_find, in_order-part, find-part, in_order-sorted, find-sorted, same_key, key_itself}
-use Rattle.ild_trie.proofs.Slots.{slot_at, all_some-length}
-use Rattle.ild_trie.proofs.Index.{index_below}
-use Rattle.ild_trie.proofs.Bits.{same_node}
+use Rattle.ild_hamt_trie.proofs.Parts.{same_by_find, in_order-part, find-part, in_order-sorted, find-sorted, same_key, key_itself}
+use Rattle.ild_hamt_trie.proofs.Slots.{slot_at, all_some-length}
+use Rattle.ild_hamt_trie.proofs.Index.{index_below}
+use Rattle.ild_hamt_trie.proofs.Bits.{same_node}
 
 -- what a slot says of its entries
 pub data SlotWay (most : ℕ) (below : List (List ℕ × Data) → Option Data) (es : List (List ℕ × Data)) (z : TrieSlot) : Type 0 where

@@ -53,7 +53,7 @@ use Rattle.ild_typed.proofs.Cleans.{none_of, false_or, never}
 use Rattle.ild_typed.proofs.CleanPairs.{pairs_names}
 use Rattle.ild_typed.proofs.CleanStructs.{split_of_pairs}
 use Rattle.ild_typed.proofs.CleanTypes.{layer_clean}
-use Rattle.ild_trie.proofs.Bits.{same_node}
+use Rattle.ild_hamt_trie.proofs.Bits.{same_node}
 
 -- ---- keys that are apart
 

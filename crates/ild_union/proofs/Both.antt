@@ -9,9 +9,9 @@ use Rattle.ild_data.specs.Key.{key_cmp, same_text, Rises}
 use Rattle.ild_data.proofs.Rising.{key_cmp_total, key_equal}
 use Rattle.ild_cbor.specs.declared.node.Node.{Node}
 use Rattle.ild_cbor.specs.Nodes.{Stands}
-use Rattle.ild_piece.specs.declared.walk.MapEntries.{MapEntries}
-use Rattle.ild_piece.specs.Entries.{EntriesGive, HasLeft}
-use Rattle.ild_piece.proofs.Walking.{first_left, none_left}
+use Rattle.ild_layer_piece.specs.declared.walk.MapEntries.{MapEntries}
+use Rattle.ild_layer_piece.specs.Entries.{EntriesGive, HasLeft}
+use Rattle.ild_layer_piece.proofs.Walking.{first_left, none_left}
 use Rattle.ild_typed.proofs.Basics.{both_true}
 use Rattle.ild_union.specs.Envelope.{AreBoth, is_one, has_stranger, lacks_one}
 

@@ -16,7 +16,7 @@ use Rattle.ild_typed.specs.Strings.{members_in}
 use Rattle.ild_typed.specs.UnionWhy.{is_discriminant, union_name, union_missing, union_count}
 use Rattle.ild_typed.specs.Why as W
 use Rattle.ild_typed.proofs.Unions.{only_map_data}
-use Rattle.ild_piece.proofs.Walking.{map_kind}
+use Rattle.ild_layer_piece.proofs.Walking.{map_kind}
 use Rattle.ild_union.proofs.Marking.{IsTold}
 use Rattle.ild_union.proofs.Order.{count_why}
 

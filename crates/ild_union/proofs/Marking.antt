@@ -22,8 +22,8 @@ use Rattle.ild_typed.specs.Kinds.{kind_of}
 use Rattle.ild_typed.specs.Named.{where_some}
 use Rattle.ild_typed.specs.UnionWhy.{is_discriminant, union_name, union_missing, union_count, union_prefix, union_member}
 use Rattle.ild_typed.specs.Why as W
-use Rattle.ild_piece.proofs.Searching.{all_of, ended, first_at, none_ended, text_agrees}
-use Rattle.ild_piece.specs.Pieces.{StandsFor}
+use Rattle.ild_layer_piece.proofs.Searching.{all_of, ended, first_at, none_ended, text_agrees}
+use Rattle.ild_layer_piece.specs.Pieces.{StandsFor}
 use Rattle.ild_union.specs.Answers.{UnionAnswer, member_of}
 use Rattle.ild_union.proofs.Order.{member_why}
 

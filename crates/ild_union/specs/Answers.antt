@@ -13,8 +13,8 @@ use Rattle.ild_schema.specs.declared.def.UnionDef.{UnionDef}
 use Rattle.ild_schema.specs.declared.row.Row.{Row}
 use Rattle.ild_typed.specs.Causes.{why_of}
 use Rattle.ild_typed.specs.Composed.{union_form}
-use Rattle.ild_piece.specs.Answers.{told}
-use Rattle.ild_piece.specs.Pieces.{StandsFor}
+use Rattle.ild_layer_piece.specs.Answers.{told}
+use Rattle.ild_layer_piece.specs.Pieces.{StandsFor}
 
 -- the number of a member and a piece for its data, of which the data are the union's layer
 abbrev pub IsMember : List Row → UnionDef → Data → ℕ × Piece → Type 0

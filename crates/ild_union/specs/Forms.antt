@@ -8,7 +8,7 @@ use Rattle.ild_schema.specs.declared.def.TypeDef.{TypeDef}
 use Rattle.ild_schema.specs.declared.def.TypeDef.TheVariants as D
 use Rattle.ild_schema.specs.declared.row.Row.{Row}
 use Rattle.ild_schema.specs.Kinds.{meant}
-use Rattle.ild_piece.specs.Pieces.{passed_key}
+use Rattle.ild_layer_piece.specs.Pieces.{passed_key}
 
 abbrev pub is_union : TypeDef → Bool
 is_union (D.Union u) = true

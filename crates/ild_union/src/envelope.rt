@@ -2,8 +2,8 @@
 ghost use Rattle.std.specs.Prelude.{◌≡◌, ◌<◌, ◌||◌, ◌&&◌, IfOk, List, false, ℕ, length};
 ghost use Rattle.ild_data.specs.Data.{Data};
 ghost use Rattle.ild_data.specs.Key.{Rises, same_text};
-ghost use Rattle.ild_piece.specs.Entries.{HasLeft};
-ghost use Rattle.ild_piece.specs.Pieces.{IsNumbered, StandsFor};
+ghost use Rattle.ild_layer_piece.specs.Entries.{HasLeft};
+ghost use Rattle.ild_layer_piece.specs.Pieces.{IsNumbered, StandsFor};
 ghost use Rattle.ild_schema.specs.Parts.{IsPartOf};
 ghost use Rattle.ild_schema.specs.Rows.{def_at};
 ghost use Rattle.ild_schema.specs.declared.def.TypeDef.TheVariants as D;
@@ -15,7 +15,7 @@ ghost use Rattle.ild_union.specs.Forms.{passes_over};
 
 use crate::keyed::member;
 use ild_cbor::{Node, Piece, Why};
-use ild_piece::{MapEntries, entries};
+use ild_layer_piece::{MapEntries, entries};
 use ild_schema::{Accepted, TypeNo};
 
 fn same(a: &str, b: &str) -> bool

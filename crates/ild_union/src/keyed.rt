@@ -2,7 +2,7 @@
 ghost use Rattle.std.specs.Prelude.{◌≡◌, ◌<◌, IfOk, false, length};
 ghost use Rattle.std.specs.Option.{option_and_then};
 ghost use Rattle.ild_data.specs.Data.{Data};
-ghost use Rattle.ild_piece.specs.Pieces.{IsNumbered, StandsFor};
+ghost use Rattle.ild_layer_piece.specs.Pieces.{IsNumbered, StandsFor};
 ghost use Rattle.ild_schema.specs.Parts.{IsPartOf, part_spelled};
 ghost use Rattle.ild_schema.specs.Rows.{def_at};
 ghost use Rattle.ild_schema.specs.declared.def.TypeDef.TheVariants as D;
@@ -12,7 +12,7 @@ ghost use Rattle.ild_union.specs.Answers.{UnionAnswer, member_of};
 ghost use Rattle.ild_union.specs.Forms.{passes_over};
 
 use ild_cbor::{Piece, Why};
-use ild_piece::entries;
+use ild_layer_piece::entries;
 use ild_schema::{Accepted, TypeNo};
 
 /// The member with a discriminant, for which the part stands.

@@ -2,7 +2,7 @@
 ghost use Rattle.std.specs.Prelude.{◌≡◌, ◌<◌, ◌≤◌, IfOk, IfSome, List, length};
 ghost use Rattle.std.specs.List.{position_from};
 ghost use Rattle.ild_data.specs.Data.{Data};
-ghost use Rattle.ild_piece.specs.Pieces.{StandsFor};
+ghost use Rattle.ild_layer_piece.specs.Pieces.{StandsFor};
 ghost use Rattle.ild_schema.specs.DataKinds.{is_marked, same_kind};
 ghost use Rattle.ild_schema.specs.Marks.{kind_of};
 ghost use Rattle.ild_schema.specs.declared.def.UnionForm.TheVariants as F;
@@ -10,7 +10,7 @@ ghost use Rattle.ild_schema.specs.declared.row.Row.{Row};
 ghost use Rattle.ild_union.specs.Answers.{UnionAnswer, word_of};
 
 use ild_cbor::{Kind, Piece, Why};
-use ild_piece::kind;
+use ild_layer_piece::kind;
 use ild_schema::{KindWord, Mark, Member, UnionDef};
 
 fn word_of(kind: Kind) -> KindWord

@@ -1,14 +1,14 @@
 //! Unions whose member stands behind a prefix, of a text or of bytes.
 ghost use Rattle.std.specs.Prelude.{◌≡◌, ◌<◌, ◌≤◌, IfOk, List, false, length};
 ghost use Rattle.ild_data.specs.Data.{Data};
-ghost use Rattle.ild_piece.specs.Pieces.{StandsFor};
+ghost use Rattle.ild_layer_piece.specs.Pieces.{StandsFor};
 ghost use Rattle.ild_schema.specs.declared.def.UnionForm.TheVariants as F;
 ghost use Rattle.ild_schema.specs.declared.row.Row.{Row};
 ghost use Rattle.ild_union.specs.Answers.{UnionAnswer};
 ghost use Rattle.ild_union.specs.Forms.{passes_over};
 
 use ild_cbor::{Piece, Why};
-use ild_piece::{bytes, text};
+use ild_layer_piece::{bytes, text};
 use ild_schema::UnionDef;
 use ild_text::{bytes_prefix, prefix};
 

@@ -1,8 +1,8 @@
 //! The layer of a union, form by form.
 ghost use Rattle.std.specs.Prelude.{◌≡◌, ◌<◌, IfOk, MatchResult, length};
 ghost use Rattle.ild_data.specs.Data.{Data};
-ghost use Rattle.ild_piece.specs.Answers.{Layered, Refused};
-ghost use Rattle.ild_piece.specs.Pieces.{IsNumbered, StandsFor};
+ghost use Rattle.ild_layer_piece.specs.Answers.{Layered, Refused};
+ghost use Rattle.ild_layer_piece.specs.Pieces.{IsNumbered, StandsFor};
 ghost use Rattle.ild_schema.specs.Copies.{base};
 ghost use Rattle.ild_schema.specs.Parts.{IsPartOf};
 ghost use Rattle.ild_schema.specs.Rows.{def_at};

@@ -8,12 +8,12 @@ use Rattle.ild_schema.specs.declared.number.Slot.{Slot}
 use Rattle.ild_schema.specs.declared.row.Row.{Row}
 use Rattle.ild_schema.specs.Value.{Value}
 use Rattle.ild_typed.specs.Schema.{IsSchema}
-use Rattle.ild_meant.specs.MeantLaws.{IsMeantTyped}
-use Rattle.ild_meant.proofs.KeyTests.{keys_are_tested}
-use Rattle.ild_meant.proofs.Meanings.{meant_is_read}
-use Rattle.ild_meant.proofs.MeantTyped.{meant_is_typed}
-use Rattle.ild_meant.proofs.Mismatched.{nothing_where_broken}
-use Rattle.ild_meant.proofs.Reading.{read_is_meant}
+use Rattle.ild_value_meaning.specs.MeantLaws.{IsMeantTyped}
+use Rattle.ild_value_meaning.proofs.KeyTests.{keys_are_tested}
+use Rattle.ild_value_meaning.proofs.Meanings.{meant_is_read}
+use Rattle.ild_value_meaning.proofs.MeantTyped.{meant_is_typed}
+use Rattle.ild_value_meaning.proofs.Mismatched.{nothing_where_broken}
+use Rattle.ild_value_meaning.proofs.Reading.{read_is_meant}
 use Rattle.ild_value.specs.declared.fault.ShownErr.{ShownErr}
 use Rattle.ild_value.specs.declared.fault.ShownErr.TheVariants as E
 use Rattle.ild_value.specs.Readings.{Means, IsRefused, MeansNone, rule_of}

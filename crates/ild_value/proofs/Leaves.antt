@@ -9,7 +9,7 @@ use Rattle.ild_schema.specs.declared.def.EnumMember.{EnumMember}
 use Rattle.ild_schema.specs.Copies.{base}
 use Rattle.ild_schema.specs.Table.{def_at, parts_of}
 use Rattle.ild_schema.specs.Parts.{part_named}
-use Rattle.ild_meant.specs.Names.{enum_named}
+use Rattle.ild_value_meaning.specs.Names.{enum_named}
 use Rattle.ild_data.specs.Data as D
 use Rattle.ild_data.specs.Data.{Data}
 use Rattle.ild_schema.specs.declared.def.TypeDef.{TypeDef}
@@ -20,9 +20,9 @@ use Rattle.ild_schema.specs.declared.row.Row.{Row}
 use Rattle.ild_schema.specs.Slots.{form_of}
 use Rattle.ild_schema.specs.Value as V
 use Rattle.ild_schema.specs.Value.{Value}
-use Rattle.ild_meant.specs.Meant.{is_null}
-use Rattle.ild_meant.specs.MeantRead.{meant_items, readings, scalar_by, text_by, link_by, list_by, map_by}
-use Rattle.ild_meant.specs.Mismatch.{Rule, Kind, Member, breaks, breaks_member, is_kind}
+use Rattle.ild_value_meaning.specs.Meant.{is_null}
+use Rattle.ild_value_meaning.specs.MeantRead.{meant_items, readings, scalar_by, text_by, link_by, list_by, map_by}
+use Rattle.ild_value_meaning.specs.Mismatch.{Rule, Kind, Member, breaks, breaks_member, is_kind}
 use Rattle.ild_value.specs.Readings.{Means, Breaks}
 
 pub own : (rows : List Row) (slot : Slot) (t : Data) (rule : Rule) → ((is_key : ℕ → List ℕ → Bool) → breaks rows is_key slot t rule ≡ true) → Breaks rows slot t slot.ty rule

@@ -18,8 +18,8 @@ use Rattle.ild_schema.specs.declared.row.Row.{Row}
 use Rattle.ild_schema.specs.Parts.{part_named}
 use Rattle.ild_schema.specs.Slots.{form_of}
 use Rattle.ild_typed.specs.Segment.{member_named, next_member}
-use Rattle.ild_meant.specs.Names.{slot_named, are_named}
-use Rattle.ild_meant.proofs.Members.{member-named}
+use Rattle.ild_value_meaning.specs.Names.{slot_named, are_named}
+use Rattle.ild_value_meaning.proofs.Members.{member-named}
 use Rattle.ild_value.specs.Parts.{IsMemberNamed}
 
 -- ---- fields

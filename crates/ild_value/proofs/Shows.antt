@@ -25,18 +25,18 @@ use Rattle.ild_typed.specs.Segment.{member_named}
 use Rattle.ild_typed.specs.Strings.{cons_both}
 use Rattle.ild_typed.specs.StructWhy.{must_stand}
 use Rattle.ild_typed.proofs.OfKinds.{any_at}
-use Rattle.ild_meant.specs.Names.{slot_named, are_named}
-use Rattle.ild_meant.specs.MeantRead.{meant, meant_items, readings, list_by, map_by, and_others, and_pairs, pairs_by, and_fields, field_of, or_implicit, fields_by, if_named, member_read}
-use Rattle.ild_meant.specs.Mismatch.{Rule, Name, Missing, Member, Key, breaks_name, breaks_missing, breaks_member, breaks_key, is_member, lacks, parts_named, with_part, list_parts, map_parts, parts_of, part_at}
-use Rattle.ild_meant.proofs.Meanings.{reading_at}
-use Rattle.ild_meant.proofs.Mismatched.{found_at, AreFirst}
+use Rattle.ild_value_meaning.specs.Names.{slot_named, are_named}
+use Rattle.ild_value_meaning.specs.MeantRead.{meant, meant_items, readings, list_by, map_by, and_others, and_pairs, pairs_by, and_fields, field_of, or_implicit, fields_by, if_named, member_read}
+use Rattle.ild_value_meaning.specs.Mismatch.{Rule, Name, Missing, Member, Key, breaks_name, breaks_missing, breaks_member, breaks_key, is_member, lacks, parts_named, with_part, list_parts, map_parts, parts_of, part_at}
+use Rattle.ild_value_meaning.proofs.Meanings.{reading_at}
+use Rattle.ild_value_meaning.proofs.Mismatched.{found_at, AreFirst}
 use Rattle.ild_value.specs.declared.fault.ShownErr.{ShownErr}
 use Rattle.ild_value.specs.declared.fault.ShownErr.TheVariants as E
 use Rattle.ild_value.specs.declared.fault.ShownRule.TheVariants as R
 use Rattle.ild_value.specs.Readings.{Means, Breaks, IsRefused, IsListOf, IsMapOf, IsUnit, rule_of}
 use Rattle.ild_value.specs.Parts.{only_member, FieldMeans, IsFieldRefused}
 use Rattle.ild_value.proofs.AllOf.{all_of}
-use Rattle.ild_shown.proofs.Fronts.{values_of-values_list, pairs_of-pairs_list, optionals_of-optionals_list}
+use Rattle.ild_value_shown.proofs.Fronts.{values_of-values_list, pairs_of-pairs_list, optionals_of-optionals_list}
 use Rattle.ild_value.proofs.Leaves.{own}
 
 -- ---- from a part to the whole

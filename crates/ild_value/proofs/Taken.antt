@@ -8,9 +8,9 @@ use Rattle.ild_data.specs.Seen.{data_of, pair_of}
 use Rattle.ild_data.specs.declared.tree.Tree.{Tree}
 use Rattle.ild_schema.specs.declared.def.Field.{Field}
 use Rattle.ild_schema.specs.declared.number.Slot.{Slot}
-use Rattle.ild_change.proofs.Maps.{own_text}
-use Rattle.ild_meant.specs.Names.{slot_named}
-use Rattle.ild_meant.proofs.Told.{AreProper}
+use Rattle.ild_splice_changes.proofs.Maps.{own_text}
+use Rattle.ild_value_meaning.specs.Names.{slot_named}
+use Rattle.ild_value_meaning.proofs.Told.{AreProper}
 use Rattle.ild_value.proofs.Entries.{value_seen, value_depth}
 
 abbrev pub found_depth : Option Tree → ℕ

@@ -9,8 +9,8 @@ use Rattle.ild_schema.specs.declared.row.Row.{Row}
 use Rattle.ild_schema.specs.Value.{Value}
 use Rattle.ild_typed.specs.OfType.{TestsKeys}
 use Rattle.ild_typed.specs.Segment.{member_named}
-use Rattle.ild_meant.specs.MeantRead.{readings, field_of}
-use Rattle.ild_meant.specs.Mismatch.{lacks}
+use Rattle.ild_value_meaning.specs.MeantRead.{readings, field_of}
+use Rattle.ild_value_meaning.specs.Mismatch.{lacks}
 use Rattle.ild_value.specs.declared.fault.ShownErr.{ShownErr}
 use Rattle.ild_value.specs.declared.fault.ShownErr.TheVariants as E
 use Rattle.ild_value.specs.declared.fault.ShownRule.TheVariants as R

@@ -10,10 +10,10 @@ use Rattle.ild_schema.specs.declared.row.Row.{Row}
 use Rattle.ild_schema.specs.Slots.{form_of}
 use Rattle.ild_schema.specs.Value.{Value}
 use Rattle.ild_typed.specs.OfType.{TestsKeys}
-use Rattle.ild_meant.specs.Meant.{Meant}
-use Rattle.ild_meant.specs.MeantRead.{meant}
-use Rattle.ild_meant.specs.Mismatch as M
-use Rattle.ild_meant.specs.Mismatch.{IsMismatch}
+use Rattle.ild_value_meaning.specs.Meant.{Meant}
+use Rattle.ild_value_meaning.specs.MeantRead.{meant}
+use Rattle.ild_value_meaning.specs.Mismatch as M
+use Rattle.ild_value_meaning.specs.Mismatch.{IsMismatch}
 use Rattle.ild_value.specs.declared.fault.ShownErr.{ShownErr}
 use Rattle.ild_value.specs.declared.fault.ShownErr.TheVariants as E
 use Rattle.ild_value.specs.declared.fault.ShownRule.{ShownRule}

@@ -9,5 +9,5 @@ mod read;
 mod scalar;
 
 pub use fault::{ShownErr, ShownRule};
-pub use ild_shown::copy;
+pub use ild_value_shown::copy;
 pub use meaning::{from_shown, of_shown};

@@ -1,7 +1,7 @@
 //! The value that a tree means in a slot.
 ghost use Rattle.std.specs.Prelude.{◌<◌, IfErr, IfOk, length};
 ghost use Rattle.ild_data.specs.Seen.{data_of};
-ghost use Rattle.ild_meant.specs.MeantLaws.{IsMeantTyped};
+ghost use Rattle.ild_value_meaning.specs.MeantLaws.{IsMeantTyped};
 ghost use Rattle.ild_schema.specs.ValueSeen.{value_of};
 ghost use Rattle.ild_value.specs.Readings.{IsRefused, Means, MeansNone};
 

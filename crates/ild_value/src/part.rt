@@ -1,8 +1,8 @@
 //! The fields and members of a type by their names, and fields that are left out.
 ghost use Rattle.std.specs.Prelude.{◌≡◌, ◌<◌, ◌≤◌, ◌⊎◌, IfErr, IfOk, List, MatchOption, None, Some, is_some, length, true};
-ghost use Rattle.ild_meant.specs.Meant.{of_scalar};
-ghost use Rattle.ild_meant.specs.MeantRead.{or_implicit};
-ghost use Rattle.ild_meant.specs.Names.{are_named, slot_named};
+ghost use Rattle.ild_value_meaning.specs.Meant.{of_scalar};
+ghost use Rattle.ild_value_meaning.specs.MeantRead.{or_implicit};
+ghost use Rattle.ild_value_meaning.specs.Names.{are_named, slot_named};
 ghost use Rattle.ild_schema.specs.Slots.{form_of};
 ghost use Rattle.ild_schema.specs.ValueSeen.{optional_of, value_of};
 ghost use Rattle.ild_schema.specs.declared.def.TypeDef.TheVariants as T;

@@ -23,7 +23,7 @@ use ild_schema::{
     Accepted, Field, Slot, StructDef, TypeDef, TypeNo, UnionDef, Val, ValFields, ValPairs, ValPart,
     Vals,
 };
-use ild_walk::is_text;
+use ild_view_walk::is_text;
 use std::alloc::Global;
 
 /// A tree. It is entered once a level of the tree, of which there are at most 127 in one that was read from JSON.

@@ -4,7 +4,7 @@ ghost use Rattle.ild_schema.specs.Slots.{form_of};
 ghost use Rattle.ild_schema.specs.declared.row.Row.{Row};
 ghost use Rattle.ild_data.specs.Data as D;
 ghost use Rattle.ild_data.specs.Data.{Data};
-ghost use Rattle.ild_meant.specs.Mismatch.{is_kind};
+ghost use Rattle.ild_value_meaning.specs.Mismatch.{is_kind};
 ghost use Rattle.ild_schema.specs.Table.{IsWithin};
 ghost use Rattle.ild_schema.specs.declared.def.TypeDef.TheVariants as T;
 ghost use Rattle.ild_schema.specs.ValueSeen.{value_of};

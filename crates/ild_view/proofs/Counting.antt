@@ -6,8 +6,8 @@ use Rattle.ild_cbor.specs.declared.piece.Piece.{Piece}
 use Rattle.ild_data.specs.Data as T
 use Rattle.ild_data.specs.Data.{Data}
 use Rattle.ild_data.proofs.Lists.{length-items}
-use Rattle.ild_entries.specs.Forms.{FormCount}
-use Rattle.ild_piece.specs.Answers.{Layered}
+use Rattle.ild_view_entries.specs.Forms.{FormCount}
+use Rattle.ild_layer_piece.specs.Answers.{Layered}
 use Rattle.ild_schema.specs.Legible.{IsLegible}
 use Rattle.ild_schema.specs.Slots.{form_of}
 use Rattle.ild_schema.specs.Value as V

@@ -2,7 +2,7 @@
 use Rattle.std.proofs.Common.{◌≡◌, ◌<◌, ◌≤◌, ℕ, true, false, not, length, Option, Some, None, refl, ap, subst, arith, List}
 use Rattle.ild_cbor.specs.declared.piece.Piece.{Piece}
 use Rattle.ild_data.specs.Data.{Data}
-use Rattle.ild_piece.specs.Pieces.{IsNumbered}
+use Rattle.ild_layer_piece.specs.Pieces.{IsNumbered}
 use Rattle.ild_schema.specs.Legible.{IsLegible}
 use Rattle.ild_schema.specs.Rules.{is_of}
 use Rattle.ild_schema.specs.Slots.{form_of}

@@ -8,7 +8,7 @@ use Rattle.ild_data.specs.Data.{Data}
 use Rattle.ild_data.specs.Key.{same_text, value_at}
 use Rattle.ild_data.specs.Tree.{IsTree}
 use Rattle.ild_data.proofs.Lists.{items_list-items_of}
-use Rattle.ild_piece.proofs.Searching.{all_then, text_agrees}
+use Rattle.ild_layer_piece.proofs.Searching.{all_then, text_agrees}
 use Rattle.ild_schema.specs.Clear.{IsClear}
 use Rattle.ild_schema.specs.Prelude.{anything}
 use Rattle.ild_schema.specs.Slots.{form_of, plainly}

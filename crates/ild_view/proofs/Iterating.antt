@@ -10,8 +10,8 @@ use Rattle.ild_cbor.specs.declared.items.Items.{Items as ItemsLeft}
 use Rattle.ild_cbor.specs.declared.node.Node.{Node}
 use Rattle.ild_cbor.specs.declared.piece.Piece.{Piece}
 use Rattle.ild_cbor.specs.declared.piece.Piece.TheVariants as Q
-use Rattle.ild_piece.specs.Entries.{Lists}
-use Rattle.ild_piece.specs.Pieces.{StandsFor}
+use Rattle.ild_layer_piece.specs.Entries.{Lists}
+use Rattle.ild_layer_piece.specs.Pieces.{StandsFor}
 use Rattle.ild_schema.specs.declared.def.MapForm.{MapForm}
 use Rattle.ild_schema.specs.declared.def.MapForm.TheVariants as MF
 use Rattle.ild_schema.specs.declared.number.Slot.{Slot}
@@ -27,13 +27,13 @@ use Rattle.ild_view.specs.Iterates.{EntriesStep, EntryFirst, FindsEntries, Finds
 use Rattle.ild_view.specs.Left.{HasElements, HasEntries, SomeElements, SomeEntries}
 use Rattle.ild_view.specs.Ordered.{entries_in}
 use Rattle.ild_view.specs.Parts.{IsPartView}
-use Rattle.ild_entries.specs.Left.{AreLeft, FindsLeft, FirstStep, FormLeft}
+use Rattle.ild_view_entries.specs.Left.{AreLeft, FindsLeft, FirstStep, FormLeft}
 use Rattle.ild_view.specs.View.{body_of, slot_of, table_of}
 use Rattle.ild_view.specs.declared.body.Body.{Body}
 use Rattle.ild_view.specs.declared.body.Body.TheVariants as B
 use Rattle.ild_view.specs.declared.elements.ViewItems.{ViewItems}
 use Rattle.ild_view.specs.declared.entries.ViewEntries.{ViewEntries}
-use Rattle.ild_entries.specs.declared.left.EntriesLeft.{EntriesLeft}
+use Rattle.ild_view_entries.specs.declared.left.EntriesLeft.{EntriesLeft}
 use Rattle.ild_view.specs.declared.view.View.{View}
 
 -- ---- a view of a part beside its data

@@ -1,9 +1,9 @@
-mod Opening
+pub mod Opening
 mod Parting
 mod Finding
 mod Handing
 mod Mapped
-mod Placing
+pub mod Placing
 mod Nulling
 mod Implying
 mod Reading

@@ -4,7 +4,7 @@ use Rattle.std.proofs.lemmas.Option.{same_Some}
 use Rattle.ild_data.specs.Data.{Data}
 use Rattle.ild_data.specs.Key.{value_at}
 use Rattle.ild_data.proofs.Lists.{members_list-members_of}
-use Rattle.ild_entries.specs.Forms.{MapDelims, ShowsMap}
+use Rattle.ild_view_entries.specs.Forms.{MapDelims, ShowsMap}
 use Rattle.ild_schema.specs.Clear.{ClearMap}
 use Rattle.ild_schema.specs.Copies.{base}
 use Rattle.ild_schema.specs.Delims.{MapDelims as Given}

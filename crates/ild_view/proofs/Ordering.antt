@@ -7,8 +7,8 @@ use Rattle.ild_data.specs.Data as T
 use Rattle.ild_data.specs.Data.{Data, Items, Members, items_list, members_list}
 use Rattle.ild_data.specs.Tree.{AreEntries, AreTrees, IsTree}
 use Rattle.ild_data.proofs.Lists.{items_list-items_of}
-use Rattle.ild_entries.specs.Forms.{ShowsMap}
-use Rattle.ild_piece.proofs.Searching.{all_then}
+use Rattle.ild_view_entries.specs.Forms.{ShowsMap}
+use Rattle.ild_layer_piece.proofs.Searching.{all_then}
 use Rattle.ild_schema.specs.Clear.{IsClear}
 use Rattle.ild_schema.specs.Copies.{base}
 use Rattle.ild_schema.specs.Legible.{IsLegible}

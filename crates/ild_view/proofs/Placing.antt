@@ -6,7 +6,7 @@ use Rattle.std.specs.List.{All, AllByRecursion}
 use Rattle.std.proofs.lemmas.Option.{same_Some, none-some}
 use Rattle.ild_cbor.specs.declared.piece.Piece.{Piece}
 use Rattle.ild_cbor.specs.declared.piece.Piece.TheVariants as Q
-use Rattle.ild_piece.specs.Pieces.{IsNumbered, form_key, inline_key, passed_key}
+use Rattle.ild_layer_piece.specs.Pieces.{IsNumbered, form_key, inline_key, passed_key}
 use Rattle.ild_schema.specs.Clear.{IsSafe}
 use Rattle.ild_schema.specs.Copies.{base}
 use Rattle.ild_schema.specs.Fitting.{ImplicitFits}

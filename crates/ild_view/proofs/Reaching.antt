@@ -11,7 +11,7 @@ use Rattle.ild_data.specs.Data.{Data, Items, items_list}
 use Rattle.ild_data.specs.Key.{same_text}
 use Rattle.ild_data.specs.Spell.{head, spell, spell_items}
 use Rattle.ild_data.proofs.Sizes.{items_count}
-use Rattle.ild_slots.specs.declared.view.NodeView.{NodeView}
+use Rattle.ild_node_slots.specs.declared.view.NodeView.{NodeView}
 use Rattle.ild_schema.specs.Legible.{IsLegible}
 use Rattle.ild_schema.specs.Prelude.{anything}
 use Rattle.ild_schema.specs.Slots.{form_of, plainly}

@@ -7,9 +7,9 @@ use Rattle.ild_cbor.specs.declared.piece.Piece.{Piece}
 use Rattle.ild_cbor.specs.declared.why.Why.{Why}
 use Rattle.ild_data.specs.Data.{Data}
 use Rattle.ild_data.specs.Trie.{TrieSlot}
-use Rattle.ild_piece.specs.Answers.{Layered, Refused, told}
-use Rattle.ild_piece.specs.Pieces.{StandsFor}
-use Rattle.ild_piece.proofs.Stand.{piece_rises}
+use Rattle.ild_layer_piece.specs.Answers.{Layered, Refused, told}
+use Rattle.ild_layer_piece.specs.Pieces.{StandsFor}
+use Rattle.ild_layer_piece.proofs.Stand.{piece_rises}
 use Rattle.ild_schema.specs.Copies.{base}
 use Rattle.ild_schema.specs.Legible.{IsLegible}
 use Rattle.ild_schema.specs.Parts.{IsPartOf, part_named}

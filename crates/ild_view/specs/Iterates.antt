@@ -2,7 +2,7 @@
 use Rattle.std.specs.Borrow.{Bor}
 use Rattle.std.specs.Prelude.{◌≡◌, ℕ, List, [], ◌∷◌, Option, Some, None}
 use Rattle.ild_cbor.specs.declared.items.Items.{Items}
-use Rattle.ild_entries.specs.declared.left.EntriesLeft.{EntriesLeft}
+use Rattle.ild_view_entries.specs.declared.left.EntriesLeft.{EntriesLeft}
 use Rattle.ild_schema.specs.declared.number.Slot.{Slot}
 use Rattle.ild_schema.specs.declared.row.Row.{Row}
 use Rattle.ild_typed.specs.At.{InSlot}

@@ -3,8 +3,8 @@ use Rattle.std.specs.Prelude.{ℕ, List}
 use Rattle.ild_data.specs.Data.{Data, Items, items_list}
 use Rattle.ild_cbor.specs.Steps.{HasItems}
 use Rattle.ild_cbor.specs.declared.items.Items.{Items as ItemsLeft}
-use Rattle.ild_entries.specs.Left.{AreLeft}
-use Rattle.ild_entries.specs.declared.left.EntriesLeft.{EntriesLeft}
+use Rattle.ild_view_entries.specs.Left.{AreLeft}
+use Rattle.ild_view_entries.specs.declared.left.EntriesLeft.{EntriesLeft}
 use Rattle.ild_schema.specs.declared.number.Slot.{Slot}
 use Rattle.ild_schema.specs.declared.row.Row.{Row}
 use Rattle.ild_typed.specs.At.{InSlot}

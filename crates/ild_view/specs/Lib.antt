@@ -13,3 +13,4 @@ pub mod Reaches
 pub mod Roots
 pub mod Safe
 pub mod View
+pub mod Whole

@@ -2,8 +2,8 @@
 use Rattle.std.specs.Prelude.{List, Option, Some, None}
 use Rattle.ild_data.specs.Data.{Data}
 use Rattle.ild_data.specs.Trie.{TrieSlot}
-use Rattle.ild_slots.specs.Views.{HasSlots}
-use Rattle.ild_slots.specs.declared.view.NodeView.{NodeView}
+use Rattle.ild_node_slots.specs.Views.{HasSlots}
+use Rattle.ild_node_slots.specs.declared.view.NodeView.{NodeView}
 use Rattle.ild_schema.specs.Value as V
 use Rattle.ild_schema.specs.Value.{Value}
 use Rattle.ild_typed.specs.Composed.{usual}

@@ -12,8 +12,8 @@ use Rattle.ild_view.specs.Body.{BodyStands}
 use Rattle.ild_view.specs.declared.body.Body.{Body}
 use Rattle.ild_view.specs.declared.body.Body.TheVariants as B
 use Rattle.ild_view.specs.declared.view.View.{View}
-use Rattle.ild_walk.specs.declared.fault.ViewErr.{ViewErr}
-use Rattle.ild_walk.specs.Checks.{Faults}
+use Rattle.ild_view_walk.specs.declared.fault.ViewErr.{ViewErr}
+use Rattle.ild_view_walk.specs.Checks.{Faults}
 
 abbrev pub table_of : View → List Row
 table_of v = v.acc.now

@@ -5,7 +5,7 @@ ghost use Rattle.ild_schema.specs.Value.{Value};
 ghost use Rattle.ild_typed.specs.At.{or_enter, reached, seen};
 ghost use Rattle.ild_typed.specs.Segment.{part};
 
-use crate::index::index;
+use crate::segment::index;
 use crate::step::{NoPath, Step};
 use crate::view::View;
 use ild_data::Path;

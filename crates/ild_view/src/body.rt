@@ -8,7 +8,7 @@ ghost use Rattle.ild_view.specs.Body.{BodyStands};
 
 use ild_cbor::Piece;
 use ild_data::{CidRef, Int};
-use ild_piece::{boolean, bytes, int, is_null, text};
+use ild_layer_piece::{boolean, bytes, int, is_null, text};
 use ild_schema::Scalar;
 
 /// What stands for a value.

@@ -3,13 +3,13 @@ ghost use Rattle.std.specs.Prelude.{◌≡◌, ◌<◌, IfErr, length, true};
 ghost use Rattle.ild_cbor.specs.Nodes.{Stands};
 ghost use Rattle.ild_data.specs.Data.{Data};
 ghost use Rattle.ild_view.specs.Safe.{is_safe};
-ghost use Rattle.ild_walk.specs.Told.{TellsPlace};
+ghost use Rattle.ild_view_walk.specs.Told.{TellsPlace};
 
 use crate::body::Body;
 use crate::view::View;
 use ild_cbor::{Node, Piece};
 use ild_schema::{Accepted, Slot};
-use ild_walk::{ViewErr, check_item};
+use ild_view_walk::{ViewErr, check_item};
 use std::alloc::Global;
 
 impl<'b> View<'b> {

@@ -2,7 +2,7 @@
 ghost use Rattle.std.specs.Prelude.{◌≡◌, ◌<◌, ◌≤◌, ◌^◌, List, Option, length, true, ℕ};
 ghost use Rattle.ild_cbor.specs.Scalar.{count_of};
 ghost use Rattle.ild_data.specs.Data.{Data};
-ghost use Rattle.ild_entries.specs.Forms.{FormCount, MapDelims, ShowsMap};
+ghost use Rattle.ild_view_entries.specs.Forms.{FormCount, MapDelims, ShowsMap};
 ghost use Rattle.ild_schema.specs.Value.{Value};
 ghost use Rattle.ild_schema.specs.declared.row.Row.{Row};
 ghost use Rattle.ild_struct.specs.Parts.{ArePartsOf, fields_of};
@@ -13,9 +13,9 @@ ghost use Rattle.ild_view.specs.Counted.{MayLack, count_in, is_optional_at, opti
 
 use crate::body::Body;
 use crate::view::View;
-use ild_entries::{form_count, parts_count};
 use ild_schema::{Field, MapForm, TypeDef};
 use ild_struct::{Present, StructParts, layer};
+use ild_view_entries::{form_count, parts_count};
 
 impl<'b> Body<'b> {
     /// How many parts a list or a map has, or `None` where it is something else.

@@ -2,7 +2,7 @@
 ghost use Rattle.std.specs.Prelude.{◌≡◌, IfSome, List, Option, true};
 ghost use Rattle.ild_cbor.specs.Span.{item_of};
 ghost use Rattle.ild_data.specs.Data.{Data};
-ghost use Rattle.ild_piece.specs.Entries.{Found};
+ghost use Rattle.ild_layer_piece.specs.Entries.{Found};
 ghost use Rattle.ild_schema.specs.Value.{Value};
 ghost use Rattle.ild_schema.specs.declared.row.Row.{Row};
 ghost use Rattle.ild_typed.specs.At.{seen};

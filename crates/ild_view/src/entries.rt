@@ -3,8 +3,8 @@ ghost use Rattle.std.specs.Prelude.{◌≡◌, ◌<◌, length, true};
 ghost use Rattle.ild_view.specs.Left.{SomeEntries};
 ghost use Rattle.ild_view.specs.Safe.{is_safe};
 
-use ild_entries::EntriesLeft;
 use ild_schema::{Accepted, Slot};
+use ild_view_entries::EntriesLeft;
 
 /// An iterator over the entries of a map, each as its key and a view of its value, which walks the map once.
 #[derive(Clone, Copy)]

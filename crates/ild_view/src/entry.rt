@@ -5,8 +5,8 @@ ghost use Rattle.ild_typed.specs.At.{seen};
 use crate::body::Body;
 use crate::form::ANYTHING;
 use crate::view::View;
-use ild_entries::{form_entry, map_entry};
 use ild_schema::TypeDef;
+use ild_view_entries::{form_entry, map_entry};
 
 impl<'b> View<'b> {
     ghost use Rattle.ild_view.specs.Parts.{HandsOut, entry_at};

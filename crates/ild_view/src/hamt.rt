@@ -13,7 +13,7 @@ use crate::body::Body;
 use crate::form::is_hamt;
 use crate::view::View;
 use ild_cbor::Piece;
-use ild_slots::{NodeView, root_of};
+use ild_node_slots::{NodeView, root_of};
 
 // The node of a root.
 fn node_of<'b>(body: &Body<'b>) -> Option<NodeView<'b>>

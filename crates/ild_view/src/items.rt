@@ -2,7 +2,7 @@
 ghost use Rattle.std.specs.Prelude.{◌≡◌, ◌<◌, IfSome, List};
 ghost use Rattle.std.specs.Iterator.{at_most};
 ghost use Rattle.ild_data.specs.Data.{Data};
-ghost use Rattle.ild_piece.specs.Entries.{Lists};
+ghost use Rattle.ild_layer_piece.specs.Entries.{Lists};
 ghost use Rattle.ild_schema.specs.Value.{Value};
 ghost use Rattle.ild_schema.specs.declared.row.Row.{Row};
 ghost use Rattle.ild_typed.specs.At.{InSlot, seen};
@@ -15,7 +15,7 @@ use crate::elements::ViewItems;
 use crate::form::element_slot;
 use crate::view::View;
 use ild_cbor::{Items, Piece};
-use ild_piece::items;
+use ild_layer_piece::items;
 
 impl<'b> Body<'b> {
     /// The items of a list in order, or `None` where it is no list.

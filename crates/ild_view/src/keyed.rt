@@ -1,7 +1,7 @@
 //! The entries of a map in one pass.
 ghost use Rattle.std.specs.Prelude.{◌<◌, IfSome, List, ℕ};
 ghost use Rattle.std.specs.Iterator.{at_most};
-ghost use Rattle.ild_entries.specs.Left.{most_left};
+ghost use Rattle.ild_view_entries.specs.Left.{most_left};
 ghost use Rattle.ild_schema.specs.Value.{Value};
 ghost use Rattle.ild_typed.specs.At.{InSlot, seen};
 ghost use Rattle.ild_view.specs.Left.{HasEntries, SomeEntries};
@@ -10,8 +10,8 @@ use crate::body::Body;
 use crate::entries::ViewEntries;
 use crate::form::ANYTHING;
 use crate::view::View;
-use ild_entries::{EntriesLeft, form_entries, map_entries};
 use ild_schema::TypeDef;
+use ild_view_entries::{EntriesLeft, form_entries, map_entries};
 
 impl<'b> ViewEntries<'b> {
     ghost use Rattle.ild_view.specs.Iterates.{EntryFirst};

@@ -11,7 +11,7 @@ use crate::body::Body;
 use crate::view::View;
 use ild_data::Tree;
 use ild_schema::Scalar;
-use ild_tree::piece_tree;
+use ild_view_tree::piece_tree;
 use std::alloc::{AllocError, Global};
 
 // The tree of a scalar.

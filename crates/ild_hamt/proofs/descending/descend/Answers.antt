@@ -1,7 +1,7 @@
 use Rattle.std.proofs.Common.{◌+◌, refl, sym, ap, ◌∙◌, arith}
 use Rattle.std.proofs.lemmas.List.Elements.{All-nil, All-push, All-same}
 use Rattle.std.proofs.lemmas.Result.{err_from_is_err_and}
-use Rattle.ild_climb.specs.NodeBytes.{IsNodeBytes}
+use Rattle.ild_hamt_climb.specs.NodeBytes.{IsNodeBytes}
 use Rattle.ild_typed.specs.Composed.{usual}
 use Rattle.ild_hamt.proofs.Going.{going-stopped, going-beyond, going-more, going-full, going-unnamed, going-done, going-start, room-next, stands-at}
 use Rattle.ild_hamt.proofs.descending.descend.Goals as goal

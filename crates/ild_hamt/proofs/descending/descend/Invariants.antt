@@ -3,8 +3,8 @@ use Rattle.std.specs.Prelude.{All}
 use Rattle.ild_data.specs.TrieShape.{trie_levels}
 use Rattle.ild_data.specs.Trie.{TrieSlot}
 use Rattle.ild_typed.specs.Composed.{usual}
-use Rattle.ild_slots.specs.Views.{HasSlots}
-use Rattle.ild_climb.specs.NodeBytes.{IsNodeBytes}
+use Rattle.ild_node_slots.specs.Views.{HasSlots}
+use Rattle.ild_hamt_climb.specs.NodeBytes.{IsNodeBytes}
 use Rattle.ild_hamt.proofs.Going.{Going}
 use Rattle.ild_hamt.proofs.descending.descend.Given as goal
 

@@ -1,9 +1,9 @@
 use Rattle.std.proofs.Common.{◌-◌, length, refl, sym, subst, arith, List}
 use Rattle.std.proofs.lemmas.Bool.{false≢true}
 use Rattle.ild_data.specs.Trie.{TrieSlot}
-use Rattle.ild_climb.specs.NodeBytes.{IsNodeBytes}
-use Rattle.ild_climb.specs.Seen.{Shows}
-use Rattle.ild_climb.specs.Way.{slot_for}
+use Rattle.ild_hamt_climb.specs.NodeBytes.{IsNodeBytes}
+use Rattle.ild_hamt_climb.specs.Seen.{Shows}
+use Rattle.ild_hamt_climb.specs.Way.{slot_for}
 use Rattle.ild_typed.specs.Composed.{usual}
 use Rattle.ild_hamt.proofs.Fulling.{node-last}
 use Rattle.ild_hamt.proofs.ending.end_slot.Goals as goal

@@ -1,6 +1,6 @@
 use Rattle.ild_data.specs.TrieShape.{index}
 use Rattle.ild_typed.specs.Composed.{usual}
-use Rattle.ild_climb.proofs.Shown.{slot-shows}
+use Rattle.ild_hamt_climb.proofs.Shown.{slot-shows}
 use Rattle.ild_hamt.proofs.ending.slot_at.Goals as goal
 
 pub returns : goal.returns

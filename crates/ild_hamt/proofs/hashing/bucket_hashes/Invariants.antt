@@ -1,7 +1,7 @@
 use Rattle.std.proofs.Common.{◌≡◌, ℕ, List, take}
 use Rattle.ild_data.specs.ByteOrder.{without}
 use Rattle.ild_data.specs.Data.{Data}
-use Rattle.ild_slots.specs.Views.{HasEntries}
+use Rattle.ild_node_slots.specs.Views.{HasEntries}
 use Rattle.ild_hamt.specs.Ends.{hashes_of}
 use Rattle.ild_hamt.proofs.hashing.bucket_hashes.Given as goal
 

@@ -1,4 +1,4 @@
-use Rattle.ild_climb.proofs.Shown.{child-shown, empty-shown, bucket-shown}
+use Rattle.ild_hamt_climb.proofs.Shown.{child-shown, empty-shown, bucket-shown}
 use Rattle.ild_hamt.proofs.reaching.child_at.Goals as goal
 
 pub returns-in-Child : goal.returns-in-Child

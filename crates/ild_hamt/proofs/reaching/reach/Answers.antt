@@ -1,7 +1,7 @@
 use Rattle.std.proofs.Common.{subst, List, ℕ}
-use Rattle.ild_climb.specs.NodeBytes.{IsNodeBlock}
+use Rattle.ild_hamt_climb.specs.NodeBytes.{IsNodeBlock}
 use Rattle.ild_typed.specs.Composed.{usual}
-use Rattle.ild_climb.proofs.NodeTests.{node-tested}
+use Rattle.ild_hamt_climb.proofs.NodeTests.{node-tested}
 use Rattle.ild_hamt.proofs.reaching.reach.Goals as goal
 
 pub returns-in-None-clause-fetched : goal.returns-in-None-clause-fetched

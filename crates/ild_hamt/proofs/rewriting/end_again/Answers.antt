@@ -2,7 +2,7 @@ use Rattle.std.proofs.Math.Logic.{∥∥₁_map}
 use Rattle.std.proofs.lemmas.Bool.{false≢true}
 use Rattle.ild_data.specs.TrieShape.{index}
 use Rattle.ild_typed.specs.Composed.{usual}
-use Rattle.ild_climb.proofs.Nested.{some-slot}
+use Rattle.ild_hamt_climb.proofs.Nested.{some-slot}
 use Rattle.ild_hamt.proofs.rewriting.end_again.Goals as goal
 
 pub returns-in-Some-clause-known : goal.returns-in-Some-clause-known

@@ -2,8 +2,8 @@ use Rattle.std.proofs.Common.{◌-◌, length, List, refl, sym, subst, arith}
 use Rattle.std.specs.Prelude.{IsSome, IfSome}
 use Rattle.ild_data.specs.Trie.{TrieSlot}
 use Rattle.ild_typed.specs.Composed.{usual}
-use Rattle.ild_slots.specs.Views.{HasSlots}
-use Rattle.ild_climb.specs.NodeBytes.{IsNodeBytes}
+use Rattle.ild_node_slots.specs.Views.{HasSlots}
+use Rattle.ild_hamt_climb.specs.NodeBytes.{IsNodeBytes}
 use Rattle.ild_hamt.proofs.Fulling.{node-last}
 use Rattle.ild_hamt.proofs.rewriting.end_view.Goals as goal
 

@@ -1,6 +1,7 @@
-use Rattle.std.proofs.Common.{◌-◌, arith}
+use Rattle.std.proofs.Common.{◌≡◌, ◌-◌, arith, rules}
 use Rattle.ild_data.specs.TrieShape.{trie_levels}
 use Rattle.ild_typed.specs.Composed.{usual}
+use Rattle.ild_node.specs.Keyed.{keyed_rows}
 use Rattle.ild_hamt.proofs.Leaving.{plans-few}
 use Rattle.ild_hamt.proofs.rewriting.slot_of.Goals as goal
 
@@ -8,3 +9,9 @@ pub returns-then-len-le-BUCKET_SIZE-clause-plans : goal.returns-then-len-le-BUCK
 returns-then-len-le-BUCKET_SIZE-clause-plans c = λ h hashed are.
     let le = c.len.ensures.count in
     plans-few h usual (trie_levels usual - c.args.depth) c.args.depth c.args.rows c.few_slot.result c.args.plan.now.items (omega (arith, le)) (c.few_slot.ensures.same (omega (arith, le)))
+
+pub returns-in-Err-Exhausted-clause-plans : goal.returns-in-Err-Exhausted-clause-plans
+returns-in-Err-Exhausted-clause-plans c = λ h hashed are.
+    let rows : keyed_rows c.deref-2.result.now ≡ c.args.rows = search rules in
+    let x = rw c.in-Err-Exhausted.field-0-is at (c.in-Err-Exhausted.ensures.plans h (rw c.deref-2.ensures.value (c.in_ok-keyed.ensures.hashes h (search rules) (search rules)))) in
+    rw rows at x

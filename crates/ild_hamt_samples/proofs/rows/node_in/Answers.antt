@@ -1,7 +1,7 @@
 use Rattle.std.proofs.Common.{sym, subst}
 use Rattle.ild_cbor.specs.Nodes.{Stands}
 use Rattle.ild_data.specs.Data.{Data}
-use Rattle.ild_slots.proofs.Trees.{spelled-value}
+use Rattle.ild_node_slots.proofs.Trees.{spelled-value}
 use Rattle.ild_hamt_samples.proofs.rows.node_in.Goals as goal
 
 pub returns-in-Ok : goal.returns-in-Ok

@@ -1,7 +1,7 @@
 use Rattle.std.proofs.Common.{◌≡◌, List, map, set, take}
 use Rattle.ild_data.specs.Trie.{TrieSlot, is_used}
 use Rattle.ild_typed.specs.Composed.{usual}
-use Rattle.ild_slots.specs.Views.{HasSlots}
+use Rattle.ild_node_slots.specs.Views.{HasSlots}
 use Rattle.ild_node.proofs.changed.used_after.Given as goal
 
 abbrev pub invariant-loop-j : goal.invariant-loop-j

@@ -1,7 +1,7 @@
 use Rattle.std.proofs.Common.{◌∙◌, sym, arith}
 use Rattle.ild_typed.specs.Composed.{usual}
-use Rattle.ild_trie.proofs.Bits.{same_node}
-use Rattle.ild_slots.proofs.Fits.{whole_map}
+use Rattle.ild_hamt_trie.proofs.Bits.{same_node}
+use Rattle.ild_node_slots.proofs.Fits.{whole_map}
 use Rattle.ild_node.proofs.laws.one_node.Goals as goal
 
 pub returns : goal.returns

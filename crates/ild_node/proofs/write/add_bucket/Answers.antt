@@ -1,6 +1,6 @@
 use Rattle.std.proofs.Common.{◌++◌, refl, ap, ◌∙◌, arith}
 use Rattle.ild_data.specs.Spell.{spell}
-use Rattle.ild_slots.specs.Form.{bucket_data}
+use Rattle.ild_node_slots.specs.Form.{bucket_data}
 use Rattle.ild_node.proofs.Writing.{grown-more, row-more, bucket-done}
 use Rattle.ild_node.proofs.write.add_bucket.Goals as goal
 

@@ -3,7 +3,7 @@ use Rattle.std.specs.Prelude.{Err}
 use Rattle.ild_cbor.specs.declared.why.BlockWhy.TheVariants as B
 use Rattle.ild_cbor.specs.declared.why.Why.{Why}
 use Rattle.ild_typed.specs.Schema.{IsSchema}
-use Rattle.ild_kept.specs.declared.fault.OpenFault.TheVariants as F
+use Rattle.ild_open_parts.specs.declared.fault.OpenFault.TheVariants as F
 use Rattle.ild_open.specs.Item.{LoadsIn}
 use Rattle.ild_open.proofs.Carrying.{loads_deep, loads_read}
 use Rattle.ild_open.proofs.loading.load_item.Goals as goal

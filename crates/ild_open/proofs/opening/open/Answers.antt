@@ -1,7 +1,7 @@
 use Rattle.std.proofs.Common.{◌≡◌, ℕ, List, None, sym, subst}
 use Rattle.std.specs.Prelude.{Ok, Err}
 use Rattle.ild_cbor.specs.Reading.{fault_of}
-use Rattle.ild_doc.specs.Docs.{block_in}
+use Rattle.ild_view_doc.specs.Docs.{block_in}
 use Rattle.ild_open.specs.Found.{HasKept, ReadsRoot}
 use Rattle.ild_open.proofs.Settling.{open_breaks, open_goes, open_stops, root_faultless}
 use Rattle.ild_open.proofs.opening.open.Goals as goal

@@ -5,7 +5,7 @@ use Rattle.std.proofs.lemmas.Bool.{ne_eqb, eq-eqb}
 use Rattle.std.proofs.lemmas.List.{length_push, append-nil, at_drop_all}
 use Rattle.std.proofs.lemmas.Iterator.{YieldsList-from_chars}
 use Rattle.std.proofs.lemmas.Iterator.Consumers.{YieldsList-turn, YieldsList-end}
-use Rattle.ild_grammar.specs.Value.{unescaped}
+use Rattle.ild_parse_grammar.specs.Value.{unescaped}
 use Rattle.ild_parse.proofs.Values.{kept_behind, kept_plain, passed_backslash}
 use Rattle.ild_parse.proofs.value.characters.Goals as goal
 

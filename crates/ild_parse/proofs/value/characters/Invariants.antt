@@ -1,7 +1,7 @@
 use Rattle.std.proofs.Common.{◌≡◌, ◌++◌, length, drop, false}
 use Rattle.std.specs.Prelude.{string_bytes}
 use Rattle.std.specs.Str.{chars, encode_utf8_all}
-use Rattle.ild_grammar.specs.Value.{unescaped}
+use Rattle.ild_parse_grammar.specs.Value.{unescaped}
 use Rattle.ild_parse.proofs.value.characters.Given as goal
 
 -- what is written, and what the rest means, is what all mean

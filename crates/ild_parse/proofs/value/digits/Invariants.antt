@@ -1,5 +1,5 @@
 use Rattle.std.proofs.Common.{◌≡◌, ◌^◌, ◌<◌, drop}
-use Rattle.ild_grammar.specs.Value.{value_of}
+use Rattle.ild_parse_grammar.specs.Value.{value_of}
 use Rattle.ild_parse.proofs.value.digits.Given as goal
 
 abbrev pub invariant-loop-digit : goal.invariant-loop-digit

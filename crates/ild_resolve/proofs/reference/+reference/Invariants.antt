@@ -1,5 +1,5 @@
 use Rattle.std.proofs.Common.{◌+◌, ◌*◌}
-use Rattle.ild_grammar.specs.ReferenceSeen.{refers_of, nesting, nesting_of}
+use Rattle.ild_parse_grammar.specs.ReferenceSeen.{refers_of, nesting, nesting_of}
 use Rattle.ild_resolve.proofs.reference.+reference.Given as goal
 
 abbrev pub decreases-inline_type : goal.decreases-inline_type

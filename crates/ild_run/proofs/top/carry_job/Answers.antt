@@ -1,5 +1,6 @@
-use Rattle.std.proofs.Common.{Some, true, false, refl}
-use Rattle.ild_session.specs.Session.{resting}
+use Rattle.ild_run_plain.specs.Plain.{plain_map}
+use Rattle.std.proofs.Common.{◌≡◌, Some, true, false, refl}
+use Rattle.ild_script_session.specs.Session.{resting}
 use Rattle.ild_edges.proofs.Later.{Later-trans}
 use Rattle.ild_schema.specs.Names.{declared_names}
 use Rattle.ild_run.specs.Opening.{job_seen}
@@ -28,7 +29,7 @@ returns-in-Ok-true-clause-ended g c =
     let work = rw c.in-Answer.is at opens.answer in
     let done = rw (c.as_slice-2.ensures.same, c.in-Ok-true.field-0-test) at c.in-Ok-true.ensures.done in
     ended_refused call (job_seen c.args.job.now) opens.taking refl opens.taken
-    (answered_all call (job_seen c.args.job.now) opens.taking _ c.new-value.result c.put_first.result c.in_default.field-0 (g.K.Store.moment c.put_first.new.store) (resting c.answer_all.new.session) true
+    (answered_all call (job_seen c.args.job.now) opens.taking _ c.new-value.result c.put_first.result c.in_default.field-0 (g.K.Store.moment c.put_first.new.store) (λ M s. (M ≡ plain_map) × (s ≡ resting c.answer_all.new.session)) true
     refl work c.new-value.ensures c.in_default.is c.put_first.ensures done)
 
 pub returns-in-Ok-false-clause-ended : goal.returns-in-Ok-false-clause-ended
@@ -38,7 +39,7 @@ returns-in-Ok-false-clause-ended g c =
     let work = rw c.in-Answer.is at opens.answer in
     let done = rw (c.as_slice-2.ensures.same, c.in-Ok-false.field-0-test) at c.in-Ok-false.ensures.done in
     ended_done call (job_seen c.args.job.now) opens.taking refl opens.taken
-    (answered_all call (job_seen c.args.job.now) opens.taking _ c.new-value.result c.put_first.result c.in_default.field-0 (g.K.Store.moment c.put_first.new.store) (resting c.answer_all.new.session) false
+    (answered_all call (job_seen c.args.job.now) opens.taking _ c.new-value.result c.put_first.result c.in_default.field-0 (g.K.Store.moment c.put_first.new.store) (λ M s. (M ≡ plain_map) × (s ≡ resting c.answer_all.new.session)) false
     refl work c.new-value.ensures c.in_default.is c.put_first.ensures done)
 
 pub returns-clause-ended : goal.returns-clause-ended
@@ -47,7 +48,7 @@ returns-clause-ended g c =
     let opens = c.in-Ok.ensures in
     let work = rw c.in-Answer.is at opens.answer in
     let cut = rw c.as_slice-2.ensures.same at c.in-Err-answer_all.ensures.part in
-    let some = answered_some call (job_seen c.args.job.now) opens.taking _ c.new-value.result c.put_first.result c.in_default.field-0 (g.K.Store.moment c.put_first.new.store) (resting c.answer_all.new.session)
+    let some = answered_some call (job_seen c.args.job.now) opens.taking _ c.new-value.result c.put_first.result c.in_default.field-0 (g.K.Store.moment c.put_first.new.store) (λ M s. (M ≡ plain_map) × (s ≡ resting c.answer_all.new.session))
     refl work c.new-value.ensures c.in_default.is c.put_first.ensures cut in
     rw c.cut_status.ensures (ended_cut call (job_seen c.args.job.now) opens.taking c.in-Err-answer_all.cut refl opens.taken some
     (cut_cause c.in-Err-answer_all.cut (g.W.Sink.output c.args.out.now) (g.W.Sink.output c.answer_all.new.out) c.in-Err-answer_all.ensures.sink))

@@ -1,6 +1,6 @@
 use Rattle.std.proofs.Common.{Option, subst}
 use Rattle.ild_cbor.specs.declared.node.Node.{Node}
-use Rattle.ild_piece.specs.Entries.{Found}
+use Rattle.ild_layer_piece.specs.Entries.{Found}
 use Rattle.ild_struct.specs.Reading.{shown}
 use Rattle.ild_struct.proofs.Looking.{keyed_part}
 use Rattle.ild_struct.proofs.field.keyed.Goals as goal

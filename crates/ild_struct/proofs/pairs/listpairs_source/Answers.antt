@@ -1,5 +1,5 @@
 use Rattle.std.proofs.Common.{List, Option, Some, None, true, subst}
-use Rattle.ild_piece.specs.Answers.{told}
+use Rattle.ild_layer_piece.specs.Answers.{told}
 use Rattle.ild_schema.specs.declared.def.Field.{Field}
 use Rattle.ild_typed.specs.Why.{Why}
 use Rattle.ild_struct.proofs.Forms.{Tells, items_of_list, pairs_even, pairs_odd}

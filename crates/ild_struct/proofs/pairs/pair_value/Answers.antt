@@ -1,4 +1,4 @@
-use Rattle.ild_fields.proofs.Pairing.{seek_found, seek_on, seek_end}
+use Rattle.ild_layer_fields.proofs.Pairing.{seek_found, seek_on, seek_end}
 use Rattle.ild_struct.proofs.pairs.pair_value.Goals as goal
 
 pub returns-in-Some-value_in : goal.returns-in-Some-value_in

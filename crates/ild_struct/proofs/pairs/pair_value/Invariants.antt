@@ -3,7 +3,7 @@ use Rattle.ild_data.specs.Data as T
 use Rattle.ild_data.specs.Data.{Data}
 use Rattle.ild_cbor.specs.Steps.{HasItems}
 use Rattle.ild_typed.specs.Strings.{pair_data}
-use Rattle.ild_fields.proofs.Pairing.{Seeking}
+use Rattle.ild_layer_fields.proofs.Pairing.{Seeking}
 use Rattle.ild_struct.proofs.pairs.pair_value.Given as goal
 
 abbrev pub invariant-loop-item : goal.invariant-loop-item

@@ -1,6 +1,6 @@
 use Rattle.std.proofs.Common.{sym, ◌∙◌}
 use Rattle.ild_typed.specs.Strings.{pair_data}
-use Rattle.ild_fields.proofs.Pairing.{value_there, value_other, value_none}
+use Rattle.ild_layer_fields.proofs.Pairing.{value_there, value_other, value_none}
 use Rattle.ild_struct.proofs.pairs.value_in.Goals as goal
 
 pub returns-then-eq : goal.returns-then-eq

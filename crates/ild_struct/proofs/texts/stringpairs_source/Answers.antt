@@ -1,10 +1,10 @@
 use Rattle.std.proofs.Common.{List, Option, Some, None, false, true, subst}
-use Rattle.ild_piece.specs.Answers.{told}
+use Rattle.ild_layer_piece.specs.Answers.{told}
 use Rattle.ild_schema.specs.declared.def.Field.{Field}
 use Rattle.ild_text.specs.Parts.{pairs_in}
 use Rattle.ild_typed.specs.Named.{names}
 use Rattle.ild_typed.specs.Why.{Why}
-use Rattle.ild_fields.specs.Entries.{text_entries}
+use Rattle.ild_layer_fields.specs.Entries.{text_entries}
 use Rattle.ild_struct.proofs.Forms.{Tells}
 use Rattle.ild_struct.proofs.Splitting.{only_text, pairs_answer, pairs_shown, unsplit_answer}
 use Rattle.ild_struct.proofs.texts.stringpairs_source.Goals as goal

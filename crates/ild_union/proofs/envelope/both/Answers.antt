@@ -1,5 +1,5 @@
 use Rattle.std.proofs.Common.{◌≡◌, [], ◌∷◌, sym, ◌∙◌, ap}
-use Rattle.ild_piece.proofs.Walking.{none_left, first_left}
+use Rattle.ild_layer_piece.proofs.Walking.{none_left, first_left}
 use Rattle.ild_union.proofs.Both.{none_there, one_there, stranger_there, three_there, two_there, first_order, other_order, two_left, only_two}
 use Rattle.ild_union.proofs.envelope.both.Goals as goal
 

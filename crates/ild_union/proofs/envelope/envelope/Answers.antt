@@ -3,8 +3,8 @@ use Rattle.ild_cbor.specs.declared.piece.Piece.TheVariants as P
 use Rattle.ild_schema.specs.Rows.{def_at}
 use Rattle.ild_schema.specs.declared.def.TypeDef.TheVariants as D
 use Rattle.ild_schema.specs.declared.def.UnionForm.TheVariants as UF
-use Rattle.ild_piece.proofs.Stand.{piece_rises}
-use Rattle.ild_piece.proofs.Walking.{walked, members_rise}
+use Rattle.ild_layer_piece.proofs.Stand.{piece_rises}
+use Rattle.ild_layer_piece.proofs.Walking.{walked, members_rise}
 use Rattle.ild_union.proofs.Enveloping.{keys_apart, envelope_told, no_text_there, entries_off, text_seen, no_text_seen}
 use Rattle.ild_union.proofs.Marking.{answered}
 use Rattle.ild_union.proofs.envelope.envelope.Goals as goal

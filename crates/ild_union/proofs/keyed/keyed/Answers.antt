@@ -3,7 +3,7 @@ use Rattle.ild_cbor.specs.declared.piece.Piece.TheVariants as P
 use Rattle.ild_schema.specs.Rows.{def_at}
 use Rattle.ild_schema.specs.declared.def.UnionForm.TheVariants as UF
 use Rattle.ild_typed.specs.Strings.{members_in}
-use Rattle.ild_piece.proofs.Walking.{walked, none_left, first_left}
+use Rattle.ild_layer_piece.proofs.Walking.{walked, none_left, first_left}
 use Rattle.ild_union.proofs.Keying.{keyed_told, keyed_count}
 use Rattle.ild_union.proofs.Marking.{answered}
 use Rattle.ild_union.proofs.keyed.keyed.Goals as goal

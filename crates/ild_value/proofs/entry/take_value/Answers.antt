@@ -1,7 +1,7 @@
 use Rattle.std.proofs.Common.{ap, ◌∙◌}
 use Rattle.ild_data.specs.Key.{value_at}
 use Rattle.ild_data.proofs.Rising.{rises_put}
-use Rattle.ild_change.proofs.Maps.{put-other}
+use Rattle.ild_splice_changes.proofs.Maps.{put-other}
 use Rattle.ild_value.proofs.Taken.{nulled}
 use Rattle.ild_value.proofs.entry.take_value.Goals as goal
 

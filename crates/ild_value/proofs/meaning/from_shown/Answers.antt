@@ -1,9 +1,9 @@
 use Rattle.ild_data.specs.Seen.{data_of}
 use Rattle.ild_schema.specs.ValueSeen.{value_of}
-use Rattle.ild_meant.specs.MeantLaws.{IsMeantTyped}
+use Rattle.ild_value_meaning.specs.MeantLaws.{IsMeantTyped}
 use Rattle.ild_value.specs.Readings.{Means, IsRefused, MeansNone}
 use Rattle.ild_value.proofs.Exact.{typed, none_meant, if_err}
-use Rattle.ild_shown.proofs.Picked.{if_ok}
+use Rattle.ild_value_shown.proofs.Picked.{if_ok}
 use Rattle.ild_value.proofs.meaning.from_shown.Goals as goal
 
 pub returns-clause-typed : goal.returns-clause-typed

@@ -1,7 +1,7 @@
 use Rattle.std.proofs.Common.{◌≡◌, take, map, true}
 use Rattle.ild_data.specs.Data.{members_of}
 use Rattle.ild_data.specs.Seen.{pair_of}
-use Rattle.ild_meant.specs.Names.{are_named}
+use Rattle.ild_value_meaning.specs.Names.{are_named}
 use Rattle.ild_value.proofs.part.are_named.Given as goal
 
 abbrev pub invariant-loop-pair : goal.invariant-loop-pair

@@ -16,9 +16,9 @@ use Rattle.ild_schema.specs.ValueSeen.{value_of, optional_of}
 use Rattle.ild_typed.specs.Fits.{IsTextOf}
 use Rattle.ild_typed.specs.Segment.{member_named}
 use Rattle.ild_typed.specs.StructWhy.{must_stand}
-use Rattle.ild_meant.specs.MeantRead.{or_implicit}
-use Rattle.ild_meant.proofs.Mismatched.{are_first}
-use Rattle.ild_meant.proofs.Told.{told}
+use Rattle.ild_value_meaning.specs.MeantRead.{or_implicit}
+use Rattle.ild_value_meaning.proofs.Mismatched.{are_first}
+use Rattle.ild_value_meaning.proofs.Told.{told}
 use Rattle.ild_value.specs.declared.fault.ShownErr.TheVariants as E
 use Rattle.ild_value.specs.declared.fault.ShownRule.TheVariants as R
 use Rattle.ild_value.specs.Parts.{FieldMeans, IsFieldRefused}
@@ -28,7 +28,7 @@ use Rattle.ild_value.proofs.Exact.{if_err}
 use Rattle.ild_value.proofs.Leaves.{any_means}
 use Rattle.ild_value.proofs.Entries.{only_depth, rises_seen}
 use Rattle.ild_value.proofs.Taken.{found_depth, found_low, kept_first, kept_next}
-use Rattle.ild_shown.proofs.Picked.{number_low, picked, if_ok}
+use Rattle.ild_value_shown.proofs.Picked.{number_low, picked, if_ok}
 use Rattle.ild_value.proofs.Shows.{read_item, read_pair, read_field, list_means, list_refused, map_means, map_refused, key_refused, key_read, struct_means, name_refused, field_refused, field_there, field_gone, field_missed, union_means, union_refused, many_refused, stranger_refused}
 use Rattle.ild_value.proofs.read.+read.Goals as goal
 

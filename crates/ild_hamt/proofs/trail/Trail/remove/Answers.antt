@@ -7,3 +7,6 @@ returns-clause-held g c = λ k slots es from.
 
 pub returns-clause-removes : goal.returns-clause-removes
 returns-clause-removes g c = λ k slots es from. c.remove_way.ensures.removes g.H.KeyHash.hash_of k slots es from
+
+pub returns-clause-edits : goal.returns-clause-edits
+returns-clause-edits g c = λ k slots last leads. c.remove_way.ensures.edits g.H.KeyHash.hash_of k slots last leads

@@ -3,7 +3,7 @@ use Rattle.std.specs.Prelude.{IsUtf8}
 use Rattle.std.specs.FinMap.{put}
 use Rattle.ild_data.specs.ByteOrder.{bytewise}
 use Rattle.ild_hamt.proofs.After.{holds-after, sound-put}
-use Rattle.ild_climb.proofs.Differing.{differs-put}
+use Rattle.ild_hamt_climb.proofs.Differing.{differs-put}
 use Rattle.ild_hamt.proofs.trail.Trail.set.Goals as goal
 
 pub returns-clause-held : goal.returns-clause-held
@@ -14,3 +14,6 @@ returns-clause-held g c = λ k v slots es from stands room.
 
 pub returns-clause-sets : goal.returns-clause-sets
 returns-clause-sets g c = λ k v slots es from stands room. c.set_way.ensures.sets g.H.KeyHash.hash_of k v slots es from stands room
+
+pub returns-clause-edits : goal.returns-clause-edits
+returns-clause-edits g c = λ k v slots last leads stands. c.set_way.ensures.edits g.H.KeyHash.hash_of k v slots last leads stands

@@ -1,7 +1,7 @@
 use Rattle.std.proofs.Common.{◌++◌, refl, sym, ap, ◌∙◌, append-nil, arith}
 use Rattle.ild_data.specs.Spell.{spell}
 use Rattle.ild_data.specs.Trie.{bucket}
-use Rattle.ild_slots.specs.Form.{bucket_data}
+use Rattle.ild_node_slots.specs.Form.{bucket_data}
 use Rattle.ild_node.proofs.Drafting.{written-more, bucket-sound}
 use Rattle.ild_node.proofs.draft.Draft.bucket.Goals as goal
 

@@ -1,0 +1,5 @@
+mod Leaving
+mod Alikes
+mod Ending
+mod Verdict
+mod Placed

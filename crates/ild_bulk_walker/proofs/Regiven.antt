@@ -1,0 +1,177 @@
+-- The blocks of a trie that is held give its entries.
+use Rattle.std.proofs.Common.{◌≡◌, ℕ, zero, suc, ◌+◌, ◌-◌, ◌<◌, ◌≤◌, ◌^◌, ◌==◌, nat_le, Bool, true, false, cond, List, [], ◌∷◌, ◌++◌, length, map, Option, Some, None, option_map, refl, sym, ap, ◌∙◌, subst, arith, flat_map}
+use Rattle.std.specs.Prelude.{is_some}
+use Rattle.std.specs.List.{AllByRecursion, range_with_len, filter}
+use Rattle.std.specs.FinMap.{find}
+use Rattle.std.specs.FinMap.Entries.{length-put}
+use Rattle.std.proofs.lemmas.Bool.{eqb-true, le-leb, leb-false}
+use Rattle.std.proofs.lemmas.Option.{same_Some}
+use Rattle.std.proofs.lemmas.List.FromFn.{length-map-range_with_len}
+use Rattle.ild_data.specs.ByteOrder.{bytewise, in_byte_order, IsInOrder}
+use Rattle.ild_data.specs.Data.{Data}
+use Rattle.ild_data.specs.Spell.{spell, id_of}
+use Rattle.ild_data.specs.Trie.{TrieSlot, empty, bucket, child, bucket_or, link_to, part, slot_of, all_some, at_depth, node_data, node_of, slots_at}
+use Rattle.ild_data.specs.TrieShape.{trie_levels}
+use Rattle.ild_typed.specs.Composed.{usual}
+use Rattle.ild_hamt_trie.specs.Walk.{part_or, in_trie_order}
+use Rattle.ild_hamt_trie.proofs.Bits.{same_node}
+use Rattle.ild_hamt_trie.proofs.Node.{slots-node, no_node, trie-sorted}
+use Rattle.ild_hamt_trie.proofs.Parts.{total, in_order-sorted, in_order-part}
+use Rattle.ild_hamt_trie.proofs.Slots.{all_some-cons, all_some-length}
+use Rattle.ild_hamt_trie.proofs.Walk.{sorted-walk}
+use Rattle.ild_node_slots.proofs.Fits.{whole_map}
+use Rattle.ild_node_slots.specs.Form.{IsNode}
+use Rattle.ild_bulk_walker.specs.Gives.{SlotGives, AtIndex, SlotsGive, TreeGives, RootGives}
+use Rattle.ild_bulk_walker.specs.Trees.{IsHeldNode, HoldsBelow, IsTrieOf}
+use Rattle.ild_bulk_walker.proofs.Opening.{all-join}
+use Rattle.ild_bulk_walker.proofs.Tried.{ordered, walk_step}
+
+-- ---- what holds of all entries holds of them in the order of the trie
+
+all-filter : {X : Type 0} (P : X → Type 0) (f : X → Bool) (xs : List X) → AllByRecursion P xs → AllByRecursion P (filter f xs)
+all-filter P f [] all = tt
+all-filter P f (x ∷ xs) all = by (f x) (all-filter P f xs all.1)
+  where
+    by : (b : Bool) → AllByRecursion P (filter f xs) → AllByRecursion P (cond b (x ∷ filter f xs) (filter f xs))
+    by true rest = (all.0, rest)
+    by false rest = rest
+
+all-flat : {X : Type 0} (P : X → Type 0) (f : ℕ → List X) (js : List ℕ) → ((j : ℕ) → AllByRecursion P (f j)) → AllByRecursion P (flat_map f js)
+all-flat P f [] each = tt
+all-flat P f (j ∷ js) each = all-join P (f j) (flat_map f js) (each j) (all-flat P f js each)
+
+all-or : (P : List ℕ × Data → Type 0) (b : Bool) (below : List (List ℕ × Data) → List (List ℕ × Data)) (es : List (List ℕ × Data)) → AllByRecursion P es → AllByRecursion P (below es) → AllByRecursion P (part_or b below es)
+all-or P true below es here beneath = here
+all-or P false below es here beneath = beneath
+
+all-none : (P : List ℕ × Data → Type 0) (h : List ℕ → List ℕ) (depth : ℕ) (es : List (List ℕ × Data)) → AllByRecursion P es → AllByRecursion P (in_trie_order h usual zero depth es)
+unfolding in_trie_order
+all-none P h depth es all = all
+
+all-walk : (P : List ℕ × Data → Type 0) (h : List ℕ → List ℕ) (left depth : ℕ) (es : List (List ℕ × Data)) → AllByRecursion P es → AllByRecursion P (in_trie_order h usual left depth es)
+all-walk P h zero depth es all = all-none P h depth es all
+all-walk P h (suc left) depth es all =
+    subst (λ (xs : List (List ℕ × Data)). AllByRecursion P xs) (sym (walk_step h usual left depth es))
+    (all-flat P (λ i. ordered h usual left depth (part (at_depth h usual depth) es i)) (range_with_len 0 (2 ^ usual.width)) (λ i.
+    let here = all-filter P (λ e. at_depth h usual depth e.0 == i) es all in
+    all-or P (nat_le (length (part (at_depth h usual depth) es i)) usual.bucket) (in_trie_order h usual left (depth + 1)) (part (at_depth h usual depth) es i) here
+    (all-walk P h left (depth + 1) (part (at_depth h usual depth) es i) here)))
+
+part-at : (at : List ℕ → ℕ) (i : ℕ) (es : List (List ℕ × Data)) → AllByRecursion (λ e. at e.0 ≡ i) (part at es i)
+part-at at i [] = tt
+part-at at i (e ∷ es) = by (at e.0 == i) refl (part-at at i es)
+  where
+    by : (b : Bool) → (at e.0 == i) ≡ b → AllByRecursion (λ f. at f.0 ≡ i) (part at es i) → AllByRecursion (λ f. at f.0 ≡ i) (cond b (e ∷ part at es i) (part at es i))
+    by true same rest = (eqb-true (at e.0) i same, rest)
+    by false same rest = rest
+
+ordered-at : (h : List ℕ → List ℕ) (left depth i : ℕ) (es : List (List ℕ × Data)) → AtIndex h usual depth i (ordered h usual left depth (part (at_depth h usual depth) es i))
+ordered-at h left depth i es =
+    let at : List ℕ → ℕ = at_depth h usual depth in
+    let here = part-at at i es in
+    all-or (λ e. at e.0 ≡ i) (nat_le (length (part at es i)) usual.bucket) (in_trie_order h usual left (depth + 1)) (part at es i) here (all-walk (λ e. at e.0 ≡ i) h left (depth + 1) (part at es i) here)
+
+-- ---- lengths
+
+shorter : (es : List (List ℕ × Data)) → length (in_byte_order es) ≤ length es
+shorter [] = omega arith
+shorter (e ∷ es) =
+    let long = length-put bytewise total e.0 e.1 (in_byte_order es) (in_order-sorted es) in
+    let rest = shorter es in
+    by (is_some (find bytewise e.0 (in_byte_order es))) long rest
+  where
+    by : (b : Bool) → length (in_byte_order (e ∷ es)) ≡ cond b (length (in_byte_order es)) (length (in_byte_order es) + 1) → length (in_byte_order es) ≤ length es → length (in_byte_order (e ∷ es)) ≤ suc (length es)
+    by true long rest = omega (arith, long, rest)
+    by false long rest = omega (arith, long, rest)
+
+walk-long : (h : List ℕ → List ℕ) (left depth : ℕ) (es : List (List ℕ × Data)) → IsInOrder es → length es ≤ length (in_trie_order h usual left depth es)
+walk-long h left depth es order =
+    let le = shorter (in_trie_order h usual left depth es) in
+    let same = ap (λ (xs : List (List ℕ × Data)). length xs) (sorted-walk h usual left depth es order) in
+    omega (arith, le, same)
+
+-- ---- one slot
+
+abbrev Beneath : (List ℕ → List ℕ) → List (List ℕ) → ℕ → ℕ → Type 0
+Beneath h held left depth = (fs : List (List ℕ × Data)) (node : Data) → IsInOrder fs → usual.bucket < length fs → node_of h usual left (depth + 1) fs ≡ Some node → IsHeldNode usual held node → HoldsBelow h usual held left (depth + 1) fs
+    → TreeGives h usual held left (depth + 1) (id_of (spell node)) (in_trie_order h usual left (depth + 1) fs)
+
+linked : (o : Option Data) (s : TrieSlot) → option_map link_to o ≡ Some s → (node : Data) × (o ≡ Some node) × (s ≡ child (id_of (spell node)))
+linked None s is = absurd cc
+linked (Some node) s is = (node, refl, sym (same_Some (link_to node) s is))
+
+slot-given : (h : List ℕ → List ℕ) (held : List (List ℕ)) (left depth : ℕ) (fs : List (List ℕ × Data)) (s : TrieSlot) → Beneath h held left depth → IsInOrder fs → slot_of usual.bucket (node_of h usual left (depth + 1)) fs ≡ Some s
+    → ((node : Data) → usual.bucket < length fs → node_of h usual left (depth + 1) fs ≡ Some node → IsHeldNode usual held node × HoldsBelow h usual held left (depth + 1) fs)
+    → SlotGives (TreeGives h usual held left (depth + 1)) s (ordered h usual left depth fs)
+slot-given h held left depth [] s beneath order is holds =
+    subst (λ z. SlotGives (TreeGives h usual held left (depth + 1)) z (ordered h usual left depth [])) (same_Some empty s is)
+    (ap (λ b. part_or b (in_trie_order h usual left (depth + 1)) []) (le-leb 0 usual.bucket (omega arith)))
+slot-given h held left depth (f ∷ fs) s beneath order is holds = by (nat_le (length (f ∷ fs)) usual.bucket) refl is
+  where
+    by : (b : Bool) → nat_le (length (f ∷ fs)) usual.bucket ≡ b → bucket_or b (node_of h usual left (depth + 1)) (f ∷ fs) ≡ Some s → SlotGives (TreeGives h usual held left (depth + 1)) s (part_or b (in_trie_order h usual left (depth + 1)) (f ∷ fs))
+    by true few made = subst (λ z. SlotGives (TreeGives h usual held left (depth + 1)) z (f ∷ fs)) (same_Some (bucket (f ∷ fs)) s made) refl
+    by false many made =
+        let more = leb-false (length (f ∷ fs)) usual.bucket many in
+        let l = linked (node_of h usual left (depth + 1) (f ∷ fs)) s made in
+        let held_so = holds l.0 more l.1 in
+        subst (λ z. SlotGives (TreeGives h usual held left (depth + 1)) z (in_trie_order h usual left (depth + 1) (f ∷ fs))) (sym l.2) (beneath (f ∷ fs) l.0 order more l.1 held_so.0 held_so.1)
+
+-- ---- all slots
+
+slots-given : (h : List ℕ → List ℕ) (held : List (List ℕ)) (left depth : ℕ) (es : List (List ℕ × Data)) (a n : ℕ) (slots : List TrieSlot) → Beneath h held left depth → IsInOrder es → HoldsBelow h usual held (suc left) depth es
+    → all_some (map (λ i. slot_of usual.bucket (node_of h usual left (depth + 1)) (part (at_depth h usual depth) es i)) (range_with_len a n)) ≡ Some slots
+    → SlotsGive h usual depth a (TreeGives h usual held left (depth + 1)) slots (flat_map (λ i. ordered h usual left depth (part (at_depth h usual depth) es i)) (range_with_len a n))
+slots-given h held left depth es a zero slots beneath order holds is = subst (λ ss. SlotsGive h usual depth a (TreeGives h usual held left (depth + 1)) ss []) (same_Some [] slots is) refl
+slots-given h held left depth es a (suc n) slots beneath order holds is =
+    let at : List ℕ → ℕ = at_depth h usual depth in
+    let slot_in : ℕ → Option TrieSlot = λ i. slot_of usual.bucket (node_of h usual left (depth + 1)) (part at es i) in
+    let c = all_some-cons (slot_in a) (map slot_in (range_with_len (a + 1) n)) slots is in
+    let more : List (List ℕ × Data) = flat_map (λ i. ordered h usual left depth (part at es i)) (range_with_len (a + 1) n) in
+    subst (λ ss. SlotsGive h usual depth a (TreeGives h usual held left (depth + 1)) ss (ordered h usual left depth (part at es a) ++ more)) (sym c.4) (
+      ordered h usual left depth (part at es a),
+      more,
+      refl,
+      ordered-at h left depth a es,
+      slot-given h held left depth (part at es a) c.0 beneath (in_order-part at es a order) c.2 (holds a),
+      slots-given h held left depth es (a + 1) n c.1 beneath order holds c.3,
+    )
+
+node-given : (h : List ℕ → List ℕ) (held : List (List ℕ)) (left depth : ℕ) (slots : List TrieSlot) (es : List (List ℕ × Data)) → Beneath h held left depth → IsInOrder es → HoldsBelow h usual held (suc left) depth es → slots_at h usual left depth es ≡ Some slots
+    → SlotsGive h usual depth 0 (TreeGives h usual held left (depth + 1)) slots (in_trie_order h usual (suc left) depth es)
+node-given h held left depth slots es beneath order holds is =
+    subst (λ xs. SlotsGive h usual depth 0 (TreeGives h usual held left (depth + 1)) slots xs) (sym (walk_step h usual left depth es)) (slots-given h held left depth es 0 (2 ^ usual.width) slots beneath order holds is)
+
+slots-long : (h : List ℕ → List ℕ) (left depth : ℕ) (es : List (List ℕ × Data)) (slots : List TrieSlot) → slots_at h usual left depth es ≡ Some slots → length slots ≡ 2 ^ usual.width
+slots-long h left depth es slots is =
+    all_some-length (map (λ i. slot_of usual.bucket (node_of h usual left (depth + 1)) (part (at_depth h usual depth) es i)) (range_with_len 0 (2 ^ usual.width))) slots is
+    ∙ length-map-range_with_len (λ i. slot_of usual.bucket (node_of h usual left (depth + 1)) (part (at_depth h usual depth) es i)) 0 (2 ^ usual.width)
+
+one-node : (ss ts : List TrieSlot) → length ss ≡ 2 ^ usual.width → length ts ≡ 2 ^ usual.width → node_data ss ≡ node_data ts → ss ≡ ts
+one-node ss ts long also same = same_node ss ts (whole_map usual.width (length ss) (omega arith) long) (also ∙ sym long) same
+
+tree-given : (h : List ℕ → List ℕ) (held : List (List ℕ)) (left depth : ℕ) (slots : List TrieSlot) (es : List (List ℕ × Data)) → IsInOrder es → HoldsBelow h usual held (suc left) depth es → slots_at h usual left depth es ≡ Some slots
+    → SlotsGive h usual depth 0 (TreeGives h usual held left (depth + 1)) slots (in_trie_order h usual (suc left) depth es)
+tree-given h held zero depth slots es order holds is =
+    node-given h held zero depth slots es (λ fs node o many there n b. absurd (let none : None ≡ Some node = sym (no_node h usual (depth + 1) fs) ∙ there in cc)) order holds is
+tree-given h held (suc left) depth slots es order holds is =
+    node-given h held (suc left) depth slots es (λ fs node o many there n b.
+    let s = slots-node h usual left (depth + 1) fs node there in
+    let same : s.0 ≡ n.slots = one-node s.0 n.slots (slots-long h left (depth + 1) fs s.0 s.1) n.block.form.many (sym s.2 ∙ n.is) in
+    record {
+      block = spell node;
+      slots = n.slots;
+      here = n.here;
+      node = n.block;
+      many = let long = walk-long h (suc left) (depth + 1) fs o in omega (arith, long, many);
+      gives = tree-given h held left (depth + 1) n.slots fs o b (s.1 ∙ ap Some same);
+    }) order holds is
+
+some-data : (h : List ℕ → List ℕ) (slots : List TrieSlot) (es : List (List ℕ × Data)) → length slots ≡ 2 ^ usual.width → node_of h usual 32 0 es ≡ Some (node_data slots) → slots_at h usual 31 0 es ≡ Some slots
+some-data h slots es long is =
+    let s = slots-node h usual 31 0 es (node_data slots) is in
+    s.1 ∙ ap Some (one-node s.0 slots (slots-long h 31 0 es s.0 s.1) long (sym s.2))
+
+pub trie-is-given : (h : List ℕ → List ℕ) (held : List (List ℕ)) (slots : List TrieSlot) (es : List (List ℕ × Data)) → IsNode usual slots → IsTrieOf h held slots es → RootGives h usual held (trie_levels usual - 1) slots es
+trie-is-given h held slots es form t =
+    subst (λ xs. SlotsGive h usual 0 0 (TreeGives h usual held 31 1) slots xs) (sym t.order)
+    (tree-given h held 31 0 slots (in_byte_order es) (in_order-sorted es) t.holds (some-data h slots (in_byte_order es) form.many (sym (trie-sorted h usual es 0 t.distinct) ∙ t.tree)))

@@ -1,0 +1,311 @@
+-- What a walker has still to give (IPLD HashMap), and what its calls do to it.
+use Rattle.std.specs.Prelude.{Bool, true, false, ◌≡◌, ◌↔◌, ◌⊎◌, ℕ, ◌+◌, ◌-◌, ◌^◌, ◌<◌, ◌≤◌, List, [], ◌∷◌, ◌++◌, length, Option, Some, None, Result, Ok, Err}
+use Rattle.ild_data.specs.Data.{Data}
+use Rattle.ild_data.specs.Spell.{spell}
+use Rattle.ild_data.specs.Trie.{TrieSlot}
+use Rattle.ild_data.specs.TrieShape.{trie_levels}
+use Rattle.ild_cbor.specs.declared.why.BlockWhy.TheVariants.{Shape as NoNode}
+use Rattle.ild_cbor.specs.declared.why.Why.TheVariants.{Trie}
+use Rattle.ild_edges.specs.Count.{Rose}
+use Rattle.ild_edges.specs.Store.{Moment}
+use Rattle.ild_typed.specs.Composed.{usual}
+use Rattle.ild_node_slots.specs.declared.fault.HamtFault.{HamtFault}
+use Rattle.ild_node_slots.specs.declared.fault.HamtFault.TheVariants.{Block, Store, Memory}
+use Rattle.ild_bulk_walker.specs.Fetching.{IsRefused, OnlyGets}
+use Rattle.ild_bulk_walker.specs.Gives.{RootGives}
+use Rattle.ild_bulk_walker.specs.Standing.{IsOn, KeepsOn, RowStands, way_of, last_of}
+use Rattle.ild_bulk_walker.specs.Steps.{steps_todo, path_of}
+use Rattle.ild_bulk_walker.specs.Reads.{NodesBeneath, LeftNodes, Spends}
+use Rattle.ild_bulk_walker.specs.Todo.{Todo, give, enter, leave, StillGives, fits}
+use Rattle.ild_bulk_walker.specs.declared.step.Child.{Child}
+use Rattle.ild_bulk_walker.specs.declared.step.Step.{Step}
+use Rattle.ild_bulk_walker.specs.declared.due.Due.{Due}
+use Rattle.ild_bulk_walker.specs.declared.due.Due.TheVariants as D
+use Rattle.ild_bulk_walker.specs.declared.row.Row.{Row}
+use Rattle.ild_bulk_walker.specs.declared.walker.Walker.{Walker}
+
+abbrev pub walker_todo : Walker → List Todo
+walker_todo w = steps_todo w.steps.items
+
+abbrev pub walker_path : Walker → List ℕ
+walker_path w = path_of w.path.items
+
+-- these entries are what the walker has still to give, where the store holds these blocks
+pub record StillAhead (h : List ℕ → List ℕ) (held : List (List ℕ)) (w : Walker) (es : List (List ℕ × Data)) : Type 0 where
+  pub gives : StillGives h usual held (walker_todo w) (walker_path w) w.given es
+
+-- the same, of a walker whose path is one of a trie's levels
+pub record Ahead (h : List ℕ → List ℕ) (held : List (List ℕ)) (w : Walker) (es : List (List ℕ × Data)) : Type 0 where
+  pub short : length (walker_path w) < trie_levels usual
+  pub still : StillAhead h held w es
+
+-- exactly what the tree beneath a root of these slots gives is ahead
+abbrev pub IsNew : List TrieSlot → Walker → Type 0
+IsNew slots w = (h : List ℕ → List ℕ) (held : List (List ℕ)) (es : List (List ℕ × Data)) → Ahead h held w es ↔ RootGives h usual held (trie_levels usual - 1) slots es
+
+-- the walker stands before all steps of the root, which is in the block `at`
+abbrev pub IsNewOn : List TrieSlot → List ℕ → Walker → Type 0
+IsNewOn slots at w = (told : Option (List (List ℕ))) → IsOn told slots at w
+
+-- of a told store, all blocks beneath the root are to be read
+abbrev pub IsNewLeft : List TrieSlot → Walker → Type 0
+IsNewLeft slots w = (held : List (List ℕ)) (n : ℕ) → NodesBeneath held slots n → LeftNodes held w n
+
+-- ---- the next step
+
+abbrev pub IsDue : List Todo → Due → Type 0
+IsDue todo D.Give = (k : List ℕ) × (v : Data) × (i : ℕ) × (rest : List Todo) × (todo ≡ give k v i ∷ rest)
+IsDue todo (D.Enter c) = (rest : List Todo) × (todo ≡ enter c.id.0 c.index ∷ rest)
+IsDue todo (D.Leave before) = (rest : List Todo) × (todo ≡ leave before ∷ rest)
+IsDue todo D.End = todo ≡ []
+
+pub record NextIs (t : Todo) (w : Walker) : Type 0 where
+  pub rest : List Todo
+  pub is : walker_todo w ≡ t ∷ rest
+
+-- an entry is to be given
+pub record GivesNext (w : Walker) : Type 0 where
+  pub key : List ℕ
+  pub value : Data
+  pub index : ℕ
+  pub rest : List Todo
+  pub is : walker_todo w ≡ give key value index ∷ rest
+
+-- nothing is to be left but a node of which nothing is given
+abbrev pub IsPast : ℕ → List Todo → Type 0
+IsPast given [] = Unit {0}
+IsPast given (give k v i ∷ todo) = Unit {0}
+IsPast given (enter id i ∷ todo) = Unit {0}
+IsPast given (leave before ∷ todo) = given ≤ before
+
+-- ---- what calls do
+
+-- the same entries are ahead, whatever is held
+abbrev pub SameAhead : Walker → Walker → Type 0
+SameAhead v w = (h : List ℕ → List ℕ) (held : List (List ℕ)) (es : List (List ℕ × Data)) → StillAhead h held v es ↔ StillAhead h held w es
+
+abbrev pub NothingAhead : Walker → Type 0
+NothingAhead w = (h : List ℕ → List ℕ) (held : List (List ℕ)) (es : List (List ℕ × Data)) → StillAhead h held w es → ⊥
+
+-- a node isn't one of a trie
+abbrev pub IsTrieFault : HamtFault → Type 0
+IsTrieFault (Block id why) = why ≡ NoNode Trie
+IsTrieFault e = ⊥
+
+-- the node in which the walk is, is at fault
+abbrev pub walker_here : Walker → List ℕ
+walker_here w = last_of w.at.0 (way_of w.path.items)
+
+abbrev pub IsFaultAt : List ℕ → HamtFault → Type 0
+IsFaultAt here (Block id why) = id.0 ≡ here
+IsFaultAt here e = ⊥
+
+abbrev pub LeaveAnswer : Walker → Result (Unit {0}) HamtFault → Type 0
+LeaveAnswer w (Ok u) = Unit {0}
+LeaveAnswer w (Err e) = IsTrieFault e × NothingAhead w
+
+-- nodes are left, or the tree isn't a trie
+pub record Leaves (v : Walker) (result : Result (Unit {0}) HamtFault) (w : Walker) : Type 0 where
+  pub answer : LeaveAnswer v result
+  pub same : SameAhead v w
+  pub given : w.given ≡ v.given
+  pub path : length (walker_path w) ≤ length (walker_path v)
+  pub on : (h : List ℕ → List ℕ) (told : Option (List (List ℕ))) (lacks : ℕ) → KeepsOn h told lacks lacks v result w
+  pub reads : (held : List (List ℕ)) (gets : ℕ) → Spends held gets gets v result w
+
+-- a child is entered: its steps stand before the leaving of its node, and the others behind
+pub record IsEntered (v : Walker) (c : Child) (steps : List Step) (w : Walker) : Type 0 where
+  pub rest : List Todo
+  pub was : walker_todo v ≡ enter c.id.0 c.index ∷ rest
+  pub todo : walker_todo w ≡ steps_todo steps ++ leave v.given ∷ rest
+  pub path : walker_path w ≡ walker_path v ++ c.index ∷ []
+  pub given : w.given ≡ v.given
+  pub children : w.path.items ≡ v.path.items ++ c ∷ []
+  pub at : w.at.0 ≡ v.at.0
+
+pub record IsUnchanged (v w : Walker) : Type 0 where
+  pub todo : walker_todo w ≡ walker_todo v
+  pub path : walker_path w ≡ walker_path v
+  pub given : w.given ≡ v.given
+  pub children : w.path.items ≡ v.path.items
+  pub at : w.at.0 ≡ v.at.0
+
+abbrev pub Opens : Walker → Child → List Step → Result (Unit {0}) HamtFault → Walker → Type 0
+Opens v c steps (Ok u) w = IsEntered v c steps w
+Opens v c steps (Err Memory) w = IsUnchanged v w
+Opens v c steps (Err e) w = ⊥
+
+-- the same, where the store tells what it holds
+abbrev pub SameTold : Moment → Walker → Walker → Type 0
+SameTold m v w = (h : List ℕ → List ℕ) (held : List (List ℕ)) (es : List (List ℕ × Data)) → m.blocks ≡ Some held → StillAhead h held v es ↔ StillAhead h held w es
+
+abbrev pub NothingTold : Moment → Walker → Type 0
+NothingTold m w = (h : List ℕ → List ℕ) (held : List (List ℕ)) (es : List (List ℕ × Data)) → m.blocks ≡ Some held → StillAhead h held w es → ⊥
+
+-- why a block is refused: it isn't there, it isn't a node, or the nodes aren't a trie
+abbrev pub IsCause : Moment → HamtFault → Moment → Type 0
+IsCause m (Block id why) n = IsRefused m id.0 why n ⊎ (why ≡ NoNode Trie)
+IsCause m e n = ⊥
+
+abbrev pub EnterAnswer : Moment → Walker → Result (Unit {0}) HamtFault → Walker → Moment → Type 0
+EnterAnswer m v (Ok u) w n = IsPast w.given (walker_todo w)
+EnterAnswer m v (Err Store) w n = Rose m.faults n.faults
+EnterAnswer m v (Err Memory) w n = Unit {0}
+EnterAnswer m v (Err e) w n = IsCause m e n × NothingTold m v
+
+-- children are entered, or why not; the path is one of a trie's levels
+pub record Enters (most : ℕ) (m : Moment) (v : Walker) (result : Result (Unit {0}) HamtFault) (w : Walker) (n : Moment) : Type 0 where
+  pub answer : EnterAnswer m v result w n
+  pub same : SameTold m v w
+  pub given : w.given ≡ v.given
+  pub short : length (walker_path w) < trie_levels usual
+  pub only : OnlyGets most m n
+  pub on : (h : List ℕ → List ℕ) → KeepsOn h m.blocks m.lacks n.lacks v result w
+  pub reads : (held : List (List ℕ)) → m.blocks ≡ Some held → Spends held m.gets n.gets v result w
+
+-- an entry is to be given, or nothing, or a node is to be left of which nothing is given
+abbrev pub IsReady : ℕ → List Todo → Type 0
+IsReady given [] = Unit {0}
+IsReady given (give k v i ∷ todo) = Unit {0}
+IsReady given (enter id i ∷ todo) = ⊥
+IsReady given (leave before ∷ todo) = given ≤ before
+
+-- ---- giving
+
+-- the next step gives an entry, of which the row was made, and the others are left
+pub record IsTaken (v : Walker) (row : Row) (w : Walker) : Type 0 where
+  pub value : Data
+  pub index : ℕ
+  pub rest : List Todo
+  pub was : walker_todo v ≡ give row.key value index ∷ rest
+  pub todo : walker_todo w ≡ rest
+  pub spelled : row.value ≡ spell value
+  pub path : walker_path w ≡ walker_path v
+  pub given : w.given ≡ v.given + 1
+  pub most : w.given < 2 ^ 64
+  pub children : w.path.items ≡ v.path.items
+  pub at : w.at.0 ≡ v.at.0
+  pub block : row.block.0 ≡ walker_here v
+
+abbrev pub Takes : Walker → Result (Option Row) HamtFault → Walker → Type 0
+Takes v (Ok (Some row)) w = IsTaken v row w
+Takes v (Ok None) w = ⊥
+Takes v (Err Memory) w = IsUnchanged v w
+Takes v (Err e) w = ⊥
+
+-- the row is that of the next step, which gives an entry
+pub record IsNextRow (v : Walker) (row : Row) : Type 0 where
+  pub value : Data
+  pub index : ℕ
+  pub rest : List Todo
+  pub was : walker_todo v ≡ give row.key value index ∷ rest
+  pub spelled : row.value ≡ spell value
+  pub block : row.block.0 ≡ walker_here v
+
+-- the next step gave an entry, and is passed
+pub record IsPassed (v w : Walker) : Type 0 where
+  pub first : Todo
+  pub was : walker_todo v ≡ first ∷ walker_todo w
+  pub path : walker_path w ≡ walker_path v
+  pub given : w.given ≡ v.given + 1
+  pub most : w.given < 2 ^ 64
+  pub children : w.path.items ≡ v.path.items
+  pub at : w.at.0 ≡ v.at.0
+
+abbrev pub PassesStep : Walker → Result (Unit {0}) HamtFault → Walker → Type 0
+PassesStep v (Ok u) w = IsPassed v w
+PassesStep v (Err Memory) w = IsUnchanged v w
+PassesStep v (Err e) w = ⊥
+
+-- the entries begin with this pair, and the others are what is still to be given
+pub record Begins (h : List ℕ → List ℕ) (held : List (List ℕ)) (key : List ℕ) (value : Data) (w : Walker) (es : List (List ℕ × Data)) : Type 0 where
+  pub rest : List (List ℕ × Data)
+  pub is : es ≡ (key, value) ∷ rest
+  pub still : StillAhead h held w rest
+
+pub record GivesStill (h : List ℕ → List ℕ) (v : Walker) (row : Row) (w : Walker) : Type 0 where
+  pub value : Data
+  pub spelled : row.value ≡ spell value
+  pub still : (held : List (List ℕ)) (es : List (List ℕ × Data)) → StillAhead h held v es ↔ Begins h held row.key value w es
+
+abbrev pub GiveAnswer : (List ℕ → List ℕ) → Walker → Result (Option Row) HamtFault → Walker → Type 0
+GiveAnswer h v (Ok (Some row)) w = GivesStill h v row w
+GiveAnswer h v (Ok None) w = (held : List (List ℕ)) (es : List (List ℕ × Data)) → StillAhead h held v es ↔ (es ≡ [])
+GiveAnswer h v (Err Memory) w = IsUnchanged v w
+GiveAnswer h v (Err e) w = IsTrieFault e × ((held : List (List ℕ)) (es : List (List ℕ × Data)) → StillAhead h held v es → ⊥) × IsUnchanged v w
+
+-- one more is given, and the count doesn't wrap
+abbrev pub Counts : Walker → Result (Option Row) HamtFault → Walker → Type 0
+Counts v (Ok (Some row)) w = (w.given ≡ v.given + 1) × (w.given < 2 ^ 64)
+Counts v (Ok None) w = w.given ≡ v.given
+Counts v (Err e) w = Unit {0}
+
+pub record Gives (h : List ℕ → List ℕ) (v : Walker) (result : Result (Option Row) HamtFault) (w : Walker) : Type 0 where
+  pub answer : GiveAnswer h v result w
+  pub counts : Counts v result w
+  pub path : walker_path w ≡ walker_path v
+  pub on : (told : Option (List (List ℕ))) (lacks : ℕ) → KeepsOn h told lacks lacks v result w
+  pub row : (told : Option (List (List ℕ))) → RowStands told v result
+  pub reads : (held : List (List ℕ)) (gets : ℕ) → Spends held gets gets v result w
+
+-- what a call that gives rows says, of one that only tells whether there was one
+abbrev pub AnyRow : (Result (Option Row) HamtFault → Type 0) → Result Bool HamtFault → Type 0
+AnyRow Says (Ok true) = (row : Row) × Says (Ok (Some row))
+AnyRow Says (Ok false) = Says (Ok None)
+AnyRow Says (Err e) = Says (Err e)
+
+-- an entry is next, and fits its place
+pub record FitsNext (h : List ℕ → List ℕ) (v : Walker) : Type 0 where
+  pub next : GivesNext v
+  pub fit : fits h usual (walker_path v) next.index next.key ≡ true
+
+-- whether an entry is next, or why none is to be given
+abbrev pub Judges : (List ℕ → List ℕ) → Walker → Result Bool HamtFault → Type 0
+Judges h v (Ok true) = FitsNext h v
+Judges h v (Ok false) = walker_todo v ≡ []
+Judges h v (Err e) = Gives h v (Err e) v
+
+-- ---- one call of next
+
+-- the same entries are ahead, where the store tells what it holds
+abbrev pub KeepsAhead : (List ℕ → List ℕ) → Moment → Walker → Walker → Type 0
+KeepsAhead h m v w = (held : List (List ℕ)) (es : List (List ℕ × Data)) → m.blocks ≡ Some held → Ahead h held v es ↔ Ahead h held w es
+
+-- the entries begin with this pair, and the others are ahead
+pub record BeginsWith (h : List ℕ → List ℕ) (held : List (List ℕ)) (key : List ℕ) (value : Data) (w : Walker) (es : List (List ℕ × Data)) : Type 0 where
+  pub rest : List (List ℕ × Data)
+  pub is : es ≡ (key, value) ∷ rest
+  pub ahead : Ahead h held w rest
+
+-- what was ahead were exactly the entries that begin with the row's pair and of whose rest it is ahead now
+pub record GivesRow (h : List ℕ → List ℕ) (m : Moment) (v : Walker) (row : Row) (w : Walker) : Type 0 where
+  pub value : Data
+  pub spelled : row.value ≡ spell value
+  pub ahead : (held : List (List ℕ)) (es : List (List ℕ × Data)) → m.blocks ≡ Some held → Ahead h held v es ↔ BeginsWith h held row.key value w es
+
+-- a row is given where what was ahead begins with it, and nothing where nothing was ahead; a block is refused only where no entries were
+abbrev pub NextAnswer : (List ℕ → List ℕ) → Moment → Walker → Result (Option Row) HamtFault → Walker → Moment → Type 0
+NextAnswer h m v (Ok (Some row)) w n = GivesRow h m v row w
+NextAnswer h m v (Ok None) w n = (held : List (List ℕ)) (es : List (List ℕ × Data)) → m.blocks ≡ Some held → Ahead h held v es ↔ (es ≡ [])
+NextAnswer h m v (Err Store) w n = Rose m.faults n.faults × KeepsAhead h m v w
+NextAnswer h m v (Err Memory) w n = KeepsAhead h m v w
+NextAnswer h m v (Err e) w n = IsCause m e n × ((held : List (List ℕ)) (es : List (List ℕ × Data)) → m.blocks ≡ Some held → Ahead h held v es → ⊥) × KeepsAhead h m v w
+
+pub record Nexts (h : List ℕ → List ℕ) (m : Moment) (v : Walker) (result : Result (Option Row) HamtFault) (w : Walker) (n : Moment) : Type 0 where
+  pub answer : NextAnswer h m v result w n
+  pub counts : Counts v result w
+  pub only : OnlyGets (trie_levels usual) m n
+  pub on : KeepsOn h m.blocks m.lacks n.lacks v result w
+  pub row : RowStands m.blocks v result
+  pub reads : (held : List (List ℕ)) → m.blocks ≡ Some held → Spends held m.gets n.gets v result w
+
+-- nodes are left and children entered, and an entry is to be given, or nothing
+pub record ComesNext (m : Moment) (v w : Walker) (n : Moment) : Type 0 where
+  pub between : Walker
+  pub short : length (walker_path v) < trie_levels usual
+  pub left : Leaves v (Ok (tt {0})) between
+  pub entered : Enters (trie_levels usual) m between (Ok (tt {0})) w n
+
+abbrev pub Readies : Moment → Walker → Result (Unit {0}) HamtFault → Walker → Moment → Type 0
+Readies m v (Ok u) w n = ComesNext m v w n
+Readies m v (Err e) w n = (h : List ℕ → List ℕ) → Nexts h m v (Err e) w n

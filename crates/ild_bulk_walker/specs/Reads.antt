@@ -1,0 +1,58 @@
+-- How many blocks of nodes hang beneath a root, and how many of them a walk has still to read.
+use Rattle.std.specs.Prelude.{◌≡◌, ◌⊎◌, ℕ, zero, suc, ◌+◌, ◌-◌, ◌≤◌, List, [], ◌∷◌, length, Some, Result, Ok, Err}
+use Rattle.ild_data.specs.Trie.{TrieSlot, empty, bucket, child}
+use Rattle.ild_data.specs.TrieShape.{trie_levels}
+use Rattle.ild_typed.specs.Composed.{usual}
+use Rattle.ild_node_slots.specs.declared.fault.HamtFault.{HamtFault}
+use Rattle.ild_bulk_walker.specs.OnTree.{IsNodeAt}
+use Rattle.ild_bulk_walker.specs.Steps.{steps_todo}
+use Rattle.ild_bulk_walker.specs.Todo.{Todo, give, enter, leave}
+use Rattle.ild_bulk_walker.specs.declared.walker.Walker.{Walker}
+
+abbrev pub SlotNodes : (List ℕ → ℕ → Type 0) → TrieSlot → ℕ → Type 0
+SlotNodes below empty n = n ≡ 0
+SlotNodes below (bucket es) n = n ≡ 0
+SlotNodes below (child id) n = below id n
+
+abbrev pub SlotsNodes : (List ℕ → ℕ → Type 0) → List TrieSlot → ℕ → Type 0
+SlotsNodes below [] n = n ≡ 0
+SlotsNodes below (s ∷ slots) n = (here : ℕ) × (more : ℕ) × (n ≡ here + more) × SlotNodes below s here × SlotsNodes below slots more
+
+-- what hangs beneath a child: the children of its node, or nothing where its block lacks or is none
+pub record NodesIn (held : List (List ℕ)) (below : List ℕ → ℕ → Type 0) (id : List ℕ) (n : ℕ) : Type 0 where
+  pub slots : List TrieSlot
+  pub node : IsNodeAt (Some held) id slots
+  pub many : SlotsNodes below slots n
+
+pub record NoNodes (held : List (List ℕ)) (id : List ℕ) (n : ℕ) : Type 0 where
+  pub none : (slots : List TrieSlot) → IsNodeAt (Some held) id slots → ⊥
+  pub zero : n ≡ 0
+
+-- so many blocks are beneath a link to a child, its own among them, where so many levels are left
+abbrev pub TreeNodes : List (List ℕ) → ℕ → List ℕ → ℕ → Type 0
+TreeNodes held zero id n = n ≡ 0
+TreeNodes held (suc left) id n = (more : ℕ) × (n ≡ 1 + more) × (NodesIn held (TreeNodes held left) id more ⊎ NoNodes held id more)
+
+-- so many are beneath a root of these slots, where a store holds these blocks
+abbrev pub NodesBeneath : List (List ℕ) → List TrieSlot → ℕ → Type 0
+NodesBeneath held slots n = SlotsNodes (TreeNodes held (trie_levels usual - 1)) slots n
+
+-- so many are still to be read, from a level on
+abbrev pub TodoNodes : List (List ℕ) → ℕ → List Todo → ℕ → Type 0
+TodoNodes held level [] n = n ≡ 0
+TodoNodes held level (give k v i ∷ todo) n = TodoNodes held level todo n
+TodoNodes held level (enter id i ∷ todo) n = (here : ℕ) × (more : ℕ) × (n ≡ here + more) × TreeNodes held (trie_levels usual - suc level) id here × TodoNodes held level todo more
+TodoNodes held level (leave before ∷ todo) n = TodoNodes held (level - 1) todo n
+
+pub record LeftNodes (held : List (List ℕ)) (w : Walker) (n : ℕ) : Type 0 where
+  pub many : TodoNodes held (length w.path.items) (steps_todo w.steps.items) n
+
+-- at most so many more gets than nodes that are no longer to be read
+pub record Spent (held : List (List ℕ)) (before now n : ℕ) (w : Walker) : Type 0 where
+  pub left : ℕ
+  pub nodes : LeftNodes held w left
+  pub gets : now + left ≤ before + n
+
+abbrev pub Spends : {A : Type 0} → List (List ℕ) → ℕ → ℕ → Walker → Result A HamtFault → Walker → Type 0
+Spends held before now v (Ok x) w = (n : ℕ) → LeftNodes held v n → Spent held before now n w
+Spends held before now v (Err e) w = (n : ℕ) → LeftNodes held v n → now ≤ before + n

@@ -1,5 +1,0 @@
-use Rattle.ild_change.proofs.Counts.{items_go_lem}
-use Rattle.ild_change.proofs.laws.items_go.Goals as goal
-
-pub returns : goal.returns
-returns c = items_go_lem

@@ -1,5 +1,0 @@
-use Rattle.ild_change.proofs.Spans.{parts_are_spans_lem, changes_are_spans_lem}
-use Rattle.ild_change.proofs.laws.parts_are_spans.Goals as goal
-
-pub returns : goal.returns
-returns c = record { part = parts_are_spans_lem; change = changes_are_spans_lem }

@@ -1,6 +1,0 @@
-use Rattle.std.proofs.Common.{◌∙◌}
-use Rattle.ild_clash.proofs.Occurring.{occurs_is}
-use Rattle.ild_clash.proofs.delimiter.occurs.Goals as goal
-
-pub returns : goal.returns
-returns c = c.is_some.ensures ∙ occurs_is c.args.part.now c.args.text.now c.find.result c.find.ensures

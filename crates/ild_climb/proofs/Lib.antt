@@ -1,9 +1,0 @@
-pub mod Shown
-pub mod NodeTests
-pub mod Nested
-pub mod Differing
-pub mod PutEach
-pub mod Weights
-pub mod Chain
-pub mod Upward
-pub mod Stopping

@@ -1,8 +1,0 @@
-use Rattle.std.proofs.Common.{◌≡◌, ℕ, List, take}
-use Rattle.ild_data.specs.Data.{Data}
-use Rattle.ild_slots.specs.Views.{HasEntries}
-use Rattle.ild_climb.specs.Gathering.{put_each}
-use Rattle.ild_climb.proofs.gathering.put_bucket.Given as goal
-
-abbrev pub invariant-loop-i : goal.invariant-loop-i
-invariant-loop-i l = (es : List (List ℕ × Data)) → HasEntries l.bucket es → l.rows ≡ put_each (take l.i es) l.initial.rows

@@ -1,6 +1,0 @@
-pub mod Seen
-pub mod NodeBytes
-pub mod Known
-pub mod Gathering
-pub mod Way
-pub mod Rewriting

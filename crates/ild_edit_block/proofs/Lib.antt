@@ -1,4 +1,0 @@
-mod Allowing
-mod Changing
-mod Numbering
-mod Replacing

@@ -1,5 +1,0 @@
-use Rattle.ild_edit_block.proofs.Allowing.{roots_are_viewed}
-use Rattle.ild_edit_block.proofs.laws.roots_are_viewed.Goals as goal
-
-pub returns : goal.returns
-returns c = roots_are_viewed

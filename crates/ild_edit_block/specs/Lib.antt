@@ -1,3 +1,0 @@
-pub mod Edits
-pub mod Changes
-pub mod Spliced

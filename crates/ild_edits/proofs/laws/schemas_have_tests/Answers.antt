@@ -1,5 +1,0 @@
-use Rattle.ild_edits.proofs.RoomTests.{schemas_have_tests}
-use Rattle.ild_edits.proofs.laws.schemas_have_tests.Goals as goal
-
-pub returns : goal.returns
-returns c = schemas_have_tests

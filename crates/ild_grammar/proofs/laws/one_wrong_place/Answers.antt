@@ -1,5 +1,0 @@
-use Rattle.ild_grammar.proofs.OnePlace.{one_wrong_place_lem}
-use Rattle.ild_grammar.proofs.laws.one_wrong_place.Goals as goal
-
-pub returns : goal.returns
-returns c = one_wrong_place_lem

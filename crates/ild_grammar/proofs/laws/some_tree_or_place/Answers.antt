@@ -1,5 +1,0 @@
-use Rattle.ild_grammar.proofs.OneTree.{some_tree_or_place_lem}
-use Rattle.ild_grammar.proofs.laws.some_tree_or_place.Goals as goal
-
-pub returns : goal.returns
-returns c = some_tree_or_place_lem

@@ -1,0 +1,10 @@
+pub mod Shown
+pub mod NodeTests
+pub mod Nested
+pub mod Differing
+pub mod PutEach
+pub mod Weights
+pub mod Chain
+pub mod Upward
+pub mod Stopping
+pub mod Planning

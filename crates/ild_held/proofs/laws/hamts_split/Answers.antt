@@ -1,5 +1,0 @@
-use Rattle.ild_held.proofs.Hamts.{hamts_split as law}
-use Rattle.ild_held.proofs.laws.hamts_split.Goals as goal
-
-pub returns : goal.returns
-returns c = law

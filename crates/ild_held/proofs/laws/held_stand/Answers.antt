@@ -1,5 +1,0 @@
-use Rattle.ild_held.proofs.Roots.{held_stand as law}
-use Rattle.ild_held.proofs.laws.held_stand.Goals as goal
-
-pub returns : goal.returns
-returns c = law

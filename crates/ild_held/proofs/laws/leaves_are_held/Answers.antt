@@ -1,5 +1,0 @@
-use Rattle.ild_held.proofs.Plainly.{leaves_are_held as law}
-use Rattle.ild_held.proofs.laws.leaves_are_held.Goals as goal
-
-pub returns : goal.returns
-returns c = law

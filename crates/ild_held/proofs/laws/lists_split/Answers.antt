@@ -1,5 +1,0 @@
-use Rattle.ild_held.proofs.Splitting.{lists_split as law}
-use Rattle.ild_held.proofs.laws.lists_split.Goals as goal
-
-pub returns : goal.returns
-returns c = law

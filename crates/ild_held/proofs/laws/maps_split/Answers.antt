@@ -1,5 +1,0 @@
-use Rattle.ild_held.proofs.Splitting.{maps_split as law}
-use Rattle.ild_held.proofs.laws.maps_split.Goals as goal
-
-pub returns : goal.returns
-returns c = law

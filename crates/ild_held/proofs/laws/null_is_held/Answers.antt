@@ -1,5 +1,0 @@
-use Rattle.ild_held.proofs.Plainly.{null_is_held as law}
-use Rattle.ild_held.proofs.laws.null_is_held.Goals as goal
-
-pub returns : goal.returns
-returns c = law

@@ -1,5 +1,0 @@
-use Rattle.ild_held.proofs.Roots.{standing_are_held as law}
-use Rattle.ild_held.proofs.laws.standing_are_held.Goals as goal
-
-pub returns : goal.returns
-returns c = law

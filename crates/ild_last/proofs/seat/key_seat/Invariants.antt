@@ -1,8 +1,0 @@
-use Rattle.std.proofs.Common.{ℕ, List}
-use Rattle.ild_data.specs.Data.{Data}
-use Rattle.ild_last.proofs.Seeking.{Seeking}
-use Rattle.ild_last.proofs.seat.key_seat.Given as goal
-use Rattle.ild_last.specs.Seats.{HasPairs}
-
-abbrev pub invariant-loop-item : goal.invariant-loop-item
-invariant-loop-item l = (es : List (List ℕ × Data)) → HasPairs l.items es → Seeking l.key es l.place l.left

@@ -1,5 +1,0 @@
-use Rattle.ild_lift.proofs.Pairs.{one_pair}
-use Rattle.ild_lift.proofs.laws.one_pair_is_one_change.Goals as goal
-
-pub returns : goal.returns
-returns c = one_pair

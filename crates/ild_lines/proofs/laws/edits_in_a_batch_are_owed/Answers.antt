@@ -1,5 +1,0 @@
-use Rattle.ild_lines.proofs.Leaving.{batches_owe}
-use Rattle.ild_lines.proofs.laws.edits_in_a_batch_are_owed.Goals as goal
-
-pub returns : goal.returns
-returns c = batches_owe

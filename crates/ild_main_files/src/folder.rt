@@ -1,0 +1,181 @@
+//! A folder of blocks as a store.
+ghost use Rattle.std.specs.Prelude.{◌≡◌, ◌≢◌, None, IfOk, IfSome};
+ghost use Rattle.ild_data.specs.Spell.{id_of};
+
+use crate::cause::cause;
+use crate::load::load;
+use crate::name::block_path;
+use crate::part::{Folder, place};
+use ild_data::{BlockId, LONGEST_BLOCK as LONGEST, Octets, block_id};
+use ild_edges::{EdgeErr, Store};
+use std::alloc::AllocError;
+use std::collections::BTreeSet;
+use std::io::ErrorKind;
+use std::rt::Files;
+
+/// The fronts of the ids of all blocks that may stand in a folder, where that is known: the store made it, and put them.
+type OwnBlocks = Option<BTreeSet<u64>>;
+
+/// The front of an id: its first eight bytes as a number. Where two blocks have one front, a put of the second looks for a file,
+/// and finds none.
+fn front(id: &BlockId) -> u64 {
+    let [a, b, c, d, e, f, g, h, ..] = id.0;
+    u64::from_be_bytes([a, b, c, d, e, f, g, h])
+}
+
+/// A folder with one file a block, named by the text of the block's CID. It tells nothing of what there is.
+///
+/// A file that doesn't hash to its name, or that is longer than a block may be, counts as not there. A block is written
+/// beside its name and then moved to it, so that no file under a block's name is ever a part of the block. In a folder that
+/// this store made itself, a put looks for a file only where it put that block before, or one whose id has the same front.
+#[derive(Drop)]
+pub struct FolderStore<'r, R: Files + AllocGlobal> {
+    rt: &'r R,
+    folder: &'r str,
+    own: OwnBlocks,
+    gets: u64,
+    puts: u64,
+    lacks: u64,
+    faults: u64,
+}
+
+impl<'r, R: Files + AllocGlobal> FolderStore<'r, R> {
+    /// The blocks in a folder, which is made when the first block is put.
+    pub fn new(rt: &'r R, folder: &'r str) -> FolderStore<'r, R>
+        ensures folder { result.folder.now ≡ folder.now }
+        ensures gets { result.gets ≡ 0 }
+        ensures puts { result.puts ≡ 0 }
+        ensures lacks { result.lacks ≡ 0 }
+        ensures faults { result.faults ≡ 0 }
+    {
+        FolderStore {
+            rt,
+            folder,
+            own: None,
+            gets: 0,
+            puts: 0,
+            lacks: 0,
+            faults: 0,
+        }
+    }
+}
+
+/// The block in a file, where the file holds the block of this id.
+fn held<R: Files + AllocGlobal>(rt: &R, path: &str, id: &BlockId) -> Result<Option<Octets>, EdgeErr>
+    ensures { IfOk result (λ block. IfSome block (λ b. id_of b ≡ id.now.0)) }
+{
+    match load(rt, path, LONGEST as u64, 0) {
+        Ok(bytes) => {
+            if bytes.len() <= LONGEST && block_id(&bytes) == *id {
+                Ok(Some(Octets::from_vec(bytes)))
+            } else {
+                Ok(None)
+            }
+        }
+        Err(error) => {
+            if error.kind() == ErrorKind::NotFound {
+                Ok(None)
+            } else {
+                Err(cause(error))
+            }
+        }
+    }
+}
+
+/// What a put hands back where a file holds a block of the id already: the block, where its bytes are others.
+fn other(block: Octets, bytes: &[u8]) -> Option<Octets>
+    ensures other { IfSome result (λ b. b ≢ bytes.now) }
+    ensures same { IfSome result (λ b. b ≡ block) }
+{
+    if block.as_slice() == bytes {
+        None
+    } else {
+        Some(block)
+    }
+}
+
+/// Whether a file may stand under the name of a block. In a folder that the store made only those do that it put, and from here on
+/// this block is one of them.
+fn may_hold(own: &mut OwnBlocks, id: &BlockId) -> Result<bool, AllocError> {
+    match own {
+        Some(ids) => Ok(!ids.insert(front(id))?),
+        None => Ok(true),
+    }
+}
+
+/// Writes a block into its file. Where the folder had to be made, what is in it is known from here on.
+fn write<R: Files + AllocGlobal>(
+    rt: &R,
+    folder: &str,
+    own: &mut OwnBlocks,
+    path: &str,
+    id: &BlockId,
+    bytes: &[u8],
+) -> Result<(), EdgeErr> {
+    match place(rt, folder, path, bytes) {
+        Ok(Folder::Found) => Ok(()),
+        Ok(Folder::Made) => {
+            let mut ids = BTreeSet::new(rt.alloc());
+            ids.insert(front(id))?;
+            *own = Some(ids);
+            Ok(())
+        }
+        Err(error) => Err(cause(error)),
+    }
+}
+
+/// Puts a block into its file, unless the file holds a block of its id already: other bytes are handed back.
+fn keep<R: Files + AllocGlobal>(
+    rt: &R,
+    folder: &str,
+    own: &mut OwnBlocks,
+    id: &BlockId,
+    bytes: &[u8],
+) -> Result<Option<Octets>, EdgeErr>
+    ensures { IfOk result (λ kept. IfSome kept (λ b. (id_of b ≡ id.now.0) × (b ≢ bytes.now))) }
+{
+    let path = block_path(rt.alloc(), folder, id)?;
+    if may_hold(own, id)? {
+        if let Some(block) = held(rt, path.as_str(), id)? {
+            return Ok(other(block, bytes));
+        }
+    }
+    if bytes.len() > LONGEST {
+        return Err(EdgeErr::Failed);
+    }
+    write(rt, folder, own, path.as_str(), id, bytes)?;
+    Ok(None)
+}
+
+impl<'r, R: Files + AllocGlobal> Store for FolderStore<'r, R> {
+    ghost moment = { λ s. record { blocks = None; given = None; gets = s.gets; puts = s.puts; lacks = s.lacks; faults = s.faults; beneath = None } };
+
+    fn get(&mut self, id: &BlockId) -> Result<Option<Octets>, EdgeErr> {
+        self.gets = self.gets.saturating_add(1);
+        let path = block_path(self.rt.alloc(), self.folder, id)?;
+        match held(self.rt, path.as_str(), id) {
+            Ok(Some(block)) => Ok(Some(block)),
+            Ok(None) => {
+                self.lacks = self.lacks.saturating_add(1);
+                Ok(None)
+            }
+            Err(EdgeErr::Failed) => {
+                self.faults = self.faults.saturating_add(1);
+                Err(EdgeErr::Failed)
+            }
+            Err(EdgeErr::Memory) => Err(EdgeErr::Memory),
+        }
+    }
+
+    fn put(&mut self, id: &BlockId, bytes: &[u8]) -> Result<Option<Octets>, EdgeErr> {
+        self.puts = self.puts.saturating_add(1);
+        match keep(self.rt, self.folder, &mut self.own, id, bytes) {
+            Ok(kept) => Ok(kept),
+            Err(EdgeErr::Failed) => {
+                self.faults = self.faults.saturating_add(1);
+                Err(EdgeErr::Failed)
+            }
+            Err(EdgeErr::Memory) => Err(EdgeErr::Memory),
+        }
+    }
+}

@@ -1,5 +1,0 @@
-use Rattle.ild_meant.proofs.MeantTyped.{meant_is_typed}
-use Rattle.ild_meant.proofs.laws.meant_is_typed.Goals as goal
-
-pub returns : goal.returns
-returns c = meant_is_typed

@@ -1,0 +1,57 @@
+-- The slots of a node that was read are sound.
+use Rattle.std.proofs.Common.{ℕ, zero, suc, ◌≤◌, List, [], ◌∷◌, ◌++◌, map, set, flat_map, arith}
+use Rattle.std.specs.List.{AllByRecursion}
+use Rattle.ild_data.specs.Data.{Data, items_of, items_depth, depth}
+use Rattle.ild_data.specs.Limits.{IsWithin}
+use Rattle.ild_data.specs.Tree.{AreTrees}
+use Rattle.ild_data.specs.Trie.{TrieSlot, empty, bucket, child, entry_data, elements_of, node_data}
+use Rattle.ild_typed.specs.Composed.{usual}
+use Rattle.ild_typed.specs.Nested.{TreeIn}
+use Rattle.ild_typed.specs.Node.{IsSlot}
+use Rattle.ild_node_slots.specs.Form.{AreSlots, bucket_data}
+use Rattle.ild_node_slots.specs.Views.{HasSlots}
+use Rattle.ild_node_slots.specs.declared.view.NodeView.{NodeView}
+use Rattle.ild_node.specs.Rows.{AreShallow}
+use Rattle.ild_node.specs.Written.{IsSound}
+
+items_in : (n : ℕ) (ds : List Data) → AreTrees (items_of ds) → items_depth (items_of ds) ≤ n → AllByRecursion (TreeIn n) ds
+items_in n [] trees le = tt
+items_in n (d ∷ ds) trees le = (record { tree = trees.0; nested = omega arith }, items_in n ds trees.1 (omega arith))
+
+pub all_left : {X : Type 0} (P : X → Type 0) (xs ys : List X) → AllByRecursion P (xs ++ ys) → AllByRecursion P xs
+all_left P [] ys all = tt
+all_left P (x ∷ xs) ys all = (all.0, all_left P xs ys all.1)
+
+pub all_right : {X : Type 0} (P : X → Type 0) (xs ys : List X) → AllByRecursion P (xs ++ ys) → AllByRecursion P ys
+all_right P [] ys all = all
+all_right P (x ∷ xs) ys all = all_right P xs ys all.1
+
+-- the elements leave room for the node
+pub elements_in : (slots : List TrieSlot) → IsWithin (node_data slots) → AllByRecursion (TreeIn 94) (flat_map elements_of slots)
+elements_in slots w = let le = w.nested in items_in 94 (flat_map elements_of slots) w.tree.1.0 (omega arith)
+
+entries_in : (es : List (List ℕ × Data)) → AllByRecursion (TreeIn 93) (map entry_data es) → AreShallow es
+entries_in [] all = tt
+entries_in (e ∷ es) all = (let le = all.0.nested in record { tree = all.0.tree.1.0; nested = omega arith }, entries_in es all.1)
+
+pub bucket_in : (es : List (List ℕ × Data)) → TreeIn 94 (bucket_data es) → AreShallow es
+bucket_in es t = let le = t.nested in entries_in es (items_in 93 (map entry_data es) t.tree (omega arith))
+
+slot_sound : (s : TrieSlot) → IsSlot usual s → AllByRecursion (TreeIn 94) (elements_of s) → IsSound usual s
+slot_sound empty form all = record { form = tt; values = tt }
+slot_sound (bucket es) form all = record { form = form; values = bucket_in es all.0 }
+slot_sound (child id) form all = record { form = form; values = tt }
+
+each_sound : (slots : List TrieSlot) → AreSlots usual slots → AllByRecursion (TreeIn 94) (flat_map elements_of slots) → AllByRecursion (IsSound usual) slots
+each_sound [] forms all = tt
+each_sound (s ∷ slots) forms all =
+    (slot_sound s forms.0 (all_left (TreeIn 94) (elements_of s) (flat_map elements_of slots) all), each_sound slots forms.1 (all_right (TreeIn 94) (elements_of s) (flat_map elements_of slots) all))
+
+pub slots-sound : (v : NodeView) (slots : List TrieSlot) → HasSlots usual v slots → AllByRecursion (IsSound usual) slots
+slots-sound v slots has = each_sound slots has.form.each (elements_in slots has.stands.within)
+
+-- another one in its place
+pub all-set : {X : Type 0} (P : X → Type 0) (xs : List X) (i : ℕ) (x : X) → AllByRecursion P xs → P x → AllByRecursion P (set xs i x)
+all-set P [] i x all is = tt
+all-set P (y ∷ xs) zero x all is = (is, all.1)
+all-set P (y ∷ xs) (suc i) x all is = (all.0, all-set P xs i x all.1 is)

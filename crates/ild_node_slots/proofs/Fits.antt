@@ -1,0 +1,124 @@
+-- What is read as a node is one, and a node is read.
+use Rattle.std.proofs.Common.{◌≡◌, ℕ, zero, suc, ◌*◌, ◌/◌, ◌%◌, ◌^◌, ◌≤◌, Bool, false, List, Option, Some, None, refl, sym, ap, ◌∙◌, subst, arith, flat_map}
+use Rattle.std.specs.Prelude.{MatchOption}
+use native.Mathlib.Numerals.{unary_clauses}
+use Rattle.ild_data.specs.Data.{Data, bytes, list, Items, items_of}
+use Rattle.ild_cbor.specs.declared.node.Node.{Node}
+use Rattle.ild_cbor.specs.Nodes.{Stands, IsPart}
+use Rattle.ild_cbor.specs.Span.{place_of}
+use Rattle.ild_cbor.specs.declared.items.Items.{Items as ItemsLeft}
+use Rattle.ild_cbor.specs.Scalar.{bytes_of}
+use Rattle.ild_cbor.specs.Steps.{IteratesItems, FindsItems, items_of as list_items}
+use Rattle.ild_data.specs.TrieShape.{TrieShape}
+use Rattle.ild_data.specs.Trie.{TrieSlot, map_of, elements_of, node_data}
+use Rattle.ild_node_slots.specs.Form.{IsNode}
+use Rattle.ild_typed.specs.NodeReading.{pair_in, parts_fit, pair_fits, node_fits}
+use Rattle.ild_node_slots.specs.Parts.{IsViewOf, PairIs}
+use Rattle.ild_node_slots.specs.Views.{HasSlots}
+use Rattle.ild_node_slots.specs.declared.view.NodeView.{NodeView}
+use Rattle.ild_node_slots.proofs.Iter.{iter-first}
+use Rattle.ild_typed.proofs.NodeRoots.{node-taken}
+
+-- a node of at least eight slots has whole bytes in its map
+pub whole_bytes : (w : ℕ) → 3 ≤ w → 2 ^ w ≡ 8 * (2 ^ w / 8)
+whole_bytes zero h = absurd (omega arith)
+whole_bytes (suc zero) h = absurd (omega arith)
+whole_bytes (suc (suc zero)) h = absurd (omega arith)
+whole_bytes (suc (suc (suc v))) h =
+    let a : 2 ^ suc (suc (suc v)) ≡ 2 * 2 ^ suc (suc v) = simp unary_clauses (omega arith) in
+    let b : 2 ^ suc (suc v) ≡ 2 * 2 ^ suc v = simp unary_clauses (omega arith) in
+    let c : 2 ^ suc v ≡ 2 * 2 ^ v = simp unary_clauses (omega arith) in
+    rw (a, b, c) (omega arith)
+
+pub whole_map : (w n : ℕ) → 3 ≤ w → n ≡ 2 ^ w → n % 8 ≡ 0
+whole_map w n wide is = let e = whole_bytes w wide in omega (arith, e, is)
+
+-- ---- nodes
+
+-- a node's view has these slots
+pub record SlotsIn (p : TrieShape) (v : NodeView) (t : Data) : Type 0 where
+  pub slots : List TrieSlot
+  pub is : t ≡ node_data slots
+  pub has : HasSlots p v slots
+
+-- a view of an item that stands for the node of slots has these slots
+has-slots : (p : TrieShape) (v : NodeView) (node : Node) (t : Data) (slots : List TrieSlot) (view : IsViewOf v node p t) → Stands node t → IsNode p slots → t ≡ node_data slots
+    → view.ones ≡ map_of slots → view.parts ≡ items_of (flat_map elements_of slots) → HasSlots p v slots
+has-slots p v node t slots view stands form is ones parts = record {
+  stands = subst (λ (n : Node). Stands n (node_data slots)) (sym view.node_is) (subst (λ (d : Data). Stands node d) is stands);
+  map = view.map ∙ ones;
+  part = subst (λ (n : Node). IsPart n v.data (place_of (node_data slots) 1) (list (items_of (flat_map elements_of slots)))) (sym view.node_is)
+      (subst (λ (d : Data). IsPart node v.data (place_of d 1) (list (items_of (flat_map elements_of slots)))) is
+      (subst (λ (ds : Items). IsPart node v.data (place_of t 1) (list ds)) parts view.elements));
+  elements = iter-first v.data (flat_map elements_of slots) v.elements (subst (λ (ds : Items). IteratesItems v.data ds v.elements) parts view.items);
+  form = form;
+}
+
+same_pair : (m n : List ℕ) (ds es : Items) → ◌≡◌ {A = Option (Data × Data)} (Some (bytes m, list ds)) (Some (bytes n, list es)) → (m ≡ n) × (ds ≡ es)
+same_pair m n ds es is =
+    let both : ◌≡◌ {A = Data × Data} (bytes m, list ds) (bytes n, list es) = cc in
+    (same_bytes m n (ap (λ (x : Data × Data). x.0) both), same_items ds es (ap (λ (x : Data × Data). x.1) both))
+  where
+    same_bytes : (m n : List ℕ) → bytes m ≡ bytes n → m ≡ n
+    same_bytes m n is = cc
+
+    same_items : (ds es : Items) → list ds ≡ list es → ds ≡ es
+    same_items ds es is = cc
+
+pub view-only : (p : TrieShape) (v : NodeView) (node : Node) (slots : List TrieSlot) → IsViewOf v node p (node_data slots) → Stands node (node_data slots) → IsNode p slots → HasSlots p v slots
+view-only p v node slots view stands form =
+    let same = same_pair (map_of slots) view.ones (items_of (flat_map elements_of slots)) view.parts view.pair in
+    has-slots p v node (node_data slots) slots view stands form refl (sym same.0) (sym same.1)
+
+pub view-taken : (p : TrieShape) (v : NodeView) (node : Node) (t : Data) → 3 ≤ p.width → IsViewOf v node p t → Stands node t → SlotsIn p v t
+view-taken p v node t wide view stands =
+    let n = node-taken p t wide stands.within.tree (ap (pair_fits p) view.pair ∙ view.fits) in
+    record {
+      slots = n.slots;
+      is = n.is;
+      has = view-only p v node n.slots (subst (λ (d : Data). IsViewOf v node p d) n.is view) (subst (λ (d : Data). Stands node d) n.is stands) (record { many = n.many; each = n.each });
+    }
+
+-- ---- the parts of a view
+
+pub record PartsOf (n : Node) (t : Data) (ones : List ℕ) (b : Node) (it : ItemsLeft) : Type 0 where
+  pub parts : Items
+  pub pair : pair_in t ≡ Some (bytes ones, list parts)
+  pub items : IteratesItems b parts it
+  pub elements : IsPart n b (place_of t 1) (list parts)
+
+bytes_is : (d : Data) (m : List ℕ) → Some m ≡ bytes_of d → d ≡ bytes m
+bytes_is (bytes s) m is = let same : s ≡ m = cc in ap bytes same
+bytes_is d m is = absurd cc
+
+parts_in : (n : Node) (t d e : Data) (ones : List ℕ) (b : Node) (it : ItemsLeft) → pair_in t ≡ Some (d, e) → d ≡ bytes ones → IsPart n b (place_of t 1) e → FindsItems b (list_items e) (Some it) → PartsOf n t ones b it
+parts_in n t d (list ds) ones b it pair is part finds = record { parts = ds; pair = pair ∙ ap (λ x. Some (x, list ds)) is; items = finds; elements = part }
+parts_in n t d e ones b it pair is part finds = absurd finds
+
+parts_by : (n : Node) (t : Data) (o : Option (Data × Data)) (a b : Node) (ones : List ℕ) (it : ItemsLeft) → o ≡ pair_in t → PairIs n t o (Some (a, b)) → ((d : Data) → Stands a d → Some ones ≡ bytes_of d)
+    → ((d : Data) → Stands b d → FindsItems b (list_items d) (Some it)) → PartsOf n t ones b it
+parts_by n t None a b ones it read pair keys items = absurd pair
+parts_by n t (Some x) a b ones it read pair keys items =
+    parts_in n t x.0 x.1 ones b it (sym read) (bytes_is x.0 ones (keys x.0 pair.0.stands)) pair.1 (items x.1 pair.1.stands)
+
+pub parts-of : (n : Node) (t : Data) (a b : Node) (ones : List ℕ) (it : ItemsLeft) → PairIs n t (pair_in t) (Some (a, b)) → ((d : Data) → Stands a d → Some ones ≡ bytes_of d)
+    → ((d : Data) → Stands b d → FindsItems b (list_items d) (Some it)) → PartsOf n t ones b it
+parts-of n t a b ones it pair keys items = parts_by n t (pair_in t) a b ones it refl pair keys items
+
+pub not-fits : (p : TrieShape) (n : Node) (t : Data) (ones : List ℕ) (b : Node) (it : ItemsLeft) (parts : PartsOf n t ones b it) (r : Bool) → r ≡ parts_fit p (bytes ones, list parts.parts) → r ≡ false → node_fits p t ≡ false
+not-fits p n t ones b it parts r is off = ap (pair_fits p) parts.pair ∙ sym is ∙ off
+
+not_listed : (p : TrieShape) (n : Node) (t d e : Data) (b : Node) → IsPart n b (place_of t 1) e → ((u : Data) → Stands b u → FindsItems b (list_items u) None) → parts_fit p (d, e) ≡ false
+not_listed p n t (bytes m) (list ds) b part items = absurd (items (list ds) part.stands)
+not_listed p n t (bytes m) e b part items = refl
+not_listed p n t d e b part items = refl
+
+-- an item whose second part is no list isn't read
+pub not-listed : (p : TrieShape) (n : Node) (t : Data) (a b : Node) (r : Option NodeView) (Q : NodeView → Type 0) → PairIs n t (pair_in t) (Some (a, b)) → ((u : Data) → Stands b u → FindsItems b (list_items u) None)
+    → r ≡ None → MatchOption r (node_fits p t ≡ false) Q
+not-listed p n t a b (Some v) Q pair items none = absurd cc
+not-listed p n t a b None Q pair items none = by (pair_in t) pair
+  where
+    by : (o : Option (Data × Data)) → PairIs n t o (Some (a, b)) → pair_fits p o ≡ false
+    by None pair = absurd pair
+    by (Some x) pair = not_listed p n t x.0 x.1 b pair.1 items

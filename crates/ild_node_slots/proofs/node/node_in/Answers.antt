@@ -1,0 +1,19 @@
+use Rattle.std.proofs.Common.{refl, arith}
+use Rattle.std.proofs.lemmas.Bool.{both_ways}
+use Rattle.ild_data.specs.Trie.{node_data}
+use Rattle.ild_node_slots.specs.Parts.{shape_of}
+use Rattle.ild_node_slots.proofs.Fits.{view-taken, view-only}
+use Rattle.ild_typed.proofs.NodeRoots.{node-read}
+use Rattle.ild_node_slots.proofs.node.node_in.Goals as goal
+
+pub returns-in-Some-clause-found : goal.returns-in-Some-clause-found
+returns-in-Some-clause-found c = λ t h.
+    let s = view-taken (shape_of c.args.shape) c.in-Some.view c.args.node t (omega arith) (c.in-Some.ensures.view t h) h in
+    (s.slots, s.is, s.has)
+
+pub returns-in-Some-clause-only : goal.returns-in-Some-clause-only
+returns-in-Some-clause-only c = λ slots h form. (refl, view-only (shape_of c.args.shape) c.in-Some.view c.args.node slots (c.in-Some.ensures.view (node_data slots) h) h form)
+
+pub returns-in-None-clause-only : goal.returns-in-None-clause-only
+returns-in-None-clause-only c = λ slots h form.
+    absurd (both_ways _ (c.in-None.ensures.view (node_data slots) h) (node-read (shape_of c.args.shape) slots (omega arith) form.many form.each))

@@ -1,0 +1,5 @@
+use Rattle.ild_node_slots.proofs.Around.{used-read}
+use Rattle.ild_node_slots.proofs.view.NodeView.is_used.Goals as goal
+
+pub returns : goal.returns
+returns c = λ slots has lt. used-read c.args.self.now slots c.args.i c.map_bit.result has lt c.map_bit.ensures

@@ -1,0 +1,5 @@
+use Rattle.ild_open_held.proofs.Plainly.{leaves_are_held as law}
+use Rattle.ild_open_held.proofs.laws.leaves_are_held.Goals as goal
+
+pub returns : goal.returns
+returns c = law

@@ -1,0 +1,35 @@
+//! What stands for a field: a piece, or nothing.
+ghost use Rattle.std.specs.Prelude.{◌≡◌, IfSome, [], false};
+ghost use Rattle.ild_struct.specs.Parts.{HasNumber};
+ghost use Rattle.ild_union.specs.Forms.{passes_over};
+ghost use Rattle.ild_open_parts.specs.Fields.{LeftOut, StandsThere};
+
+use crate::fault::OpenFault;
+use crate::keeping::implied;
+use crate::null::null_item;
+use ild_cbor::Piece;
+use ild_schema::{Field, Val};
+use ild_struct::Part;
+
+/// The piece that stands for a field, and nothing where none does.
+pub fn part_piece<'b>(part: &Part<'b>) -> Option<Piece<'b>>
+    ensures stands { IfSome result (StandsThere part.now) }
+    ensures free { HasNumber [] part.now → IfSome result (λ p. passes_over p ≡ false) }
+{
+    match part {
+        Part::Null => Some(Piece::Node(null_item())),
+        Part::Held(piece) => Some(*piece),
+        Part::Absent | Part::Implicit => None,
+    }
+}
+
+/// The value of a field for which no piece stands, and nothing where it is absent.
+pub fn left_out(field: &Field, part: &Part<'_>) -> Result<Option<Val>, OpenFault>
+    ensures { LeftOut field.now part.now result }
+{
+    match part {
+        Part::Absent => Ok(None),
+        Part::Implicit => Ok(Some(implied(field)?)),
+        Part::Null | Part::Held(_) => Err(OpenFault::Memory),
+    }
+}

@@ -1,0 +1,84 @@
+//! The rows of a HAMT, and what stands in each.
+ghost use Rattle.std.specs.Prelude.{◌≡◌, ◌<◌, length};
+ghost use Rattle.ild_open_parts.specs.Hamts.{ListsRoot, RowAnswer, told_fault};
+
+use crate::fault::OpenFault;
+use ild_bulk_walker::{Row, walk};
+use ild_cbor::{BlockWhy, Node, Piece, Why, check};
+use ild_data::{BlockId, KeyHash};
+use ild_edges::Store;
+use ild_node_slots::{HamtFault, root_of};
+use ild_schema::{Accepted, Slot, TypeNo};
+use ild_view_walk::{ViewErr, check_item, fits_text};
+use std::alloc::Global;
+
+// The fault of a walk, as that of a reader.
+fn walk_fault(fault: &HamtFault) -> OpenFault
+    ensures { result ≡ told_fault fault.now }
+{
+    match fault {
+        HamtFault::Block { id, why } => OpenFault::Block { id: *id, why: *why },
+        HamtFault::Store => OpenFault::Store,
+        HamtFault::Exhausted
+        | HamtFault::Clash { .. }
+        | HamtFault::Size
+        | HamtFault::NoKey
+        | HamtFault::Memory => OpenFault::Memory,
+    }
+}
+
+/// The entries of a HAMT whose root a piece is, in the order of their keys; its nodes are read from a store.
+pub fn hamt_rows<'b, K: Store, H: KeyHash>(
+    alloc: Global,
+    piece: &Piece<'b>,
+    at: BlockId,
+    keys: &H,
+    store: &mut K,
+) -> Result<Vec<Row>, OpenFault>
+    ensures { ListsRoot H.hash_of at.0 piece.now (K.moment store.old) result (K.moment store.new) }
+{
+    let Piece::Node(node) = piece else {
+        return Err(OpenFault::Memory);
+    };
+    let root = match root_of(*node) {
+        Ok(root) => root,
+        Err(_) => return Err(OpenFault::Memory),
+    };
+    match walk(alloc, root, at, keys, store) {
+        Ok(rows) => Ok(rows),
+        Err(fault) => Err(walk_fault(&fault)),
+    }
+}
+
+/// The value that a row spells, where it and the key fit in a room.
+pub fn row_item<'r>(
+    alloc: Global,
+    acc: &'r Accepted,
+    key: TypeNo,
+    value: Slot,
+    row: &'r Row,
+    room: u32,
+) -> Result<Node<'r>, OpenFault>
+    requires keyed { key.0 < length acc.now }
+    requires within { value.ty.0 < length acc.now }
+    ensures { RowAnswer acc.now room key value row.now result }
+{
+    let item = match check(row.value.as_slice()) {
+        Ok(item) => item,
+        Err(_) => return Err(OpenFault::Memory),
+    };
+    if !fits_text(alloc, acc, key, row.key.as_str(), room)? {
+        return Err(OpenFault::Block {
+            id: row.block,
+            why: BlockWhy::Shape(Why::Member),
+        });
+    }
+    match check_item(alloc, acc, value, item, room) {
+        Ok(()) => Ok(item),
+        Err(ViewErr::Shape { why, .. }) => Err(OpenFault::Block {
+            id: row.block,
+            why: BlockWhy::Shape(why),
+        }),
+        Err(ViewErr::Memory) => Err(OpenFault::Memory),
+    }
+}

@@ -1,0 +1,10 @@
+//! Reading the value that a piece of a block represents, over a store (IPLD Schemas).
+#![tactic(auto)]
+
+mod form;
+mod reader;
+mod reading;
+mod value;
+
+pub use ild_open_parts::{OpenFault, leaf};
+pub use value::read;

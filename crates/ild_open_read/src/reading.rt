@@ -1,0 +1,294 @@
+//! Reading the value for which a piece stands, part by part.
+ghost use Rattle.std.specs.Prelude.{◌≡◌, ◌<◌, ◌≤◌, [], false, Some, length};
+ghost use Rattle.ild_view_entries.specs.Forms.{MapDelims};
+ghost use Rattle.ild_layer_piece.specs.Pieces.{IsNumbered};
+ghost use Rattle.ild_schema.specs.Kinds.{meant};
+ghost use Rattle.ild_schema.specs.Table.{IsWithin};
+ghost use Rattle.ild_schema.specs.declared.def.TypeDef.TheVariants as D;
+ghost use Rattle.ild_struct.specs.Parts.{HasNumber};
+ghost use Rattle.ild_union.specs.Forms.{passes_over};
+ghost use Rattle.ild_layer_parts.specs.Ready.{IsInlined};
+ghost use Rattle.ild_open_parts.specs.Fields.{ReadsPart};
+ghost use Rattle.ild_open_parts.specs.Hamts.{ReadsHamt, ReadsListed};
+ghost use Rattle.ild_open_read.specs.Parts.{ReadsElements, ReadsFields, ReadsForm, ReadsLeft, ReadsMember, ReadsSlot};
+
+use crate::form::is_hamt;
+use crate::reader::Reader;
+use ild_bulk_walker::Row;
+use ild_cbor::Piece;
+use ild_data::{BlockId, KeyHash};
+use ild_edges::Store;
+use ild_layer_piece::items;
+use ild_open_parts::{
+    OpenFault, add, add_field, add_pair, hamt_rows, is_null_there, kept_leaf, left_out, levels,
+    member_of, part_piece, row_item, union_with,
+};
+use ild_schema::{
+    Accepted, Field, MapForm, Slot, StructDef, TypeDef, TypeNo, UnionDef, Val, ValFields, ValPairs,
+    Vals,
+};
+use ild_struct::{Part, layer};
+use ild_view_entries::{EntriesLeft, form_entries};
+
+// Reads the elements of a list.
+#[cycle(reads)]
+fn read_list<'b, K: Store, H: KeyHash>(
+    reader: &Reader<'_, H>,
+    acc: &'b Accepted,
+    elem: Slot,
+    piece: &Piece<'b>,
+    room: u32,
+    at: BlockId,
+    store: &mut K,
+) -> Result<Val, OpenFault>
+    requires within { elem.ty.0 < length acc.now }
+    requires room { room ≤ 96 }
+    ensures { ReadsElements H.hash_of at.0 acc.now room reader.now.keep elem piece.now (K.moment store.old) result (K.moment store.new) }
+{
+    let Some(mut left) = items(piece) else {
+        return Err(OpenFault::Memory);
+    };
+    let mut vals = Vals::new(reader.alloc);
+    while let Some(item) = left.next() {
+        let part = Piece::Node(item);
+        let val = read_slot(reader, acc, elem, &part, room, at, store)?;
+        add(&mut vals, reader.keep, val)?;
+    }
+    Ok(Val::List(vals))
+}
+
+// Reads the entries that are left of a map.
+#[cycle(reads)]
+fn read_pairs<'b, K: Store, H: KeyHash>(
+    reader: &Reader<'_, H>,
+    acc: &'b Accepted,
+    value: Slot,
+    entries: EntriesLeft<'b>,
+    room: u32,
+    at: BlockId,
+    store: &mut K,
+) -> Result<Val, OpenFault>
+    requires within { value.ty.0 < length acc.now }
+    requires room { room ≤ 96 }
+    ensures { ReadsLeft H.hash_of at.0 acc.now room reader.now.keep value entries.entry (K.moment store.old) result (K.moment store.new) }
+{
+    let mut kept = ValPairs::new(reader.alloc);
+    let mut left = entries;
+    while let Some((key, part, behind)) = left.split_first() {
+        let val = read_slot(reader, acc, value, &part, room, at, store)?;
+        add_pair(reader.alloc, &mut kept, reader.keep, key, val)?;
+        left = behind;
+    }
+    Ok(Val::Map(kept))
+}
+
+// Reads the entries that rows spell, each in the block of its row.
+#[cycle(reads)]
+fn read_rows<'r, K: Store, H: KeyHash>(
+    reader: &Reader<'_, H>,
+    acc: &'r Accepted,
+    key: TypeNo,
+    value: Slot,
+    rows: &'r [Row],
+    room: u32,
+    store: &mut K,
+) -> Result<Val, OpenFault>
+    requires keyed { key.0 < length acc.now }
+    requires within { value.ty.0 < length acc.now }
+    requires room { room ≤ 96 }
+    ensures { ReadsListed H.hash_of acc.now room reader.now.keep key value rows.now (K.moment store.old) result (K.moment store.new) }
+{
+    // It does no work: its clauses say what acceptance says of the table.
+    let _types = acc.types();
+    let mut pairs = ValPairs::new(reader.alloc);
+    let mut left = rows;
+    while let Some((row, behind)) = left.split_first() {
+        let item = row_item(reader.alloc, acc, key, value, row, room)?;
+        let part = Piece::Node(item);
+        let val = read_slot(reader, acc, value, &part, room, row.block, store)?;
+        add_pair(reader.alloc, &mut pairs, reader.keep, row.key.as_str(), val)?;
+        left = behind;
+    }
+    Ok(Val::Map(pairs))
+}
+
+// Reads the entries of a HAMT.
+#[cycle(reads)]
+fn read_hamt<'b, K: Store, H: KeyHash>(
+    reader: &Reader<'_, H>,
+    acc: &'b Accepted,
+    key: TypeNo,
+    value: Slot,
+    piece: &Piece<'b>,
+    room: u32,
+    at: BlockId,
+    store: &mut K,
+) -> Result<Val, OpenFault>
+    requires keyed { key.0 < length acc.now }
+    requires within { value.ty.0 < length acc.now }
+    requires room { room ≤ 96 }
+    ensures { ReadsHamt H.hash_of at.0 acc.now room reader.now.keep key value piece.now (K.moment store.old) result (K.moment store.new) }
+{
+    // It does no work: its clauses say what acceptance says of the table.
+    let _types = acc.types();
+    let rows = hamt_rows(reader.alloc, piece, at, reader.keys, store)?;
+    read_rows(reader, acc, key, value, rows.as_slice(), room, store)
+}
+
+// Reads a map, in each form.
+#[cycle(reads)]
+fn read_map<'b, K: Store, H: KeyHash>(
+    reader: &Reader<'_, H>,
+    acc: &'b Accepted,
+    key: TypeNo,
+    value: Slot,
+    form: &'b MapForm,
+    piece: &Piece<'b>,
+    room: u32,
+    at: BlockId,
+    store: &mut K,
+) -> Result<Val, OpenFault>
+    requires keyed { key.0 < length acc.now }
+    requires within { value.ty.0 < length acc.now }
+    requires numbered { IsNumbered acc.now piece.now }
+    requires delims { MapDelims form.now }
+    requires room { room ≤ 96 }
+    ensures { ReadsForm H.hash_of at.0 acc.now room reader.now.keep key value form.now piece.now (K.moment store.old) result (K.moment store.new) }
+{
+    // It does no work: its clauses say what acceptance says of the table.
+    let _types = acc.types();
+    if is_hamt(form) {
+        return read_hamt(reader, acc, key, value, piece, room, at, store);
+    }
+    match form_entries(acc, form, piece) {
+        Some(entries) => read_pairs(reader, acc, value, entries, room, at, store),
+        None => Err(OpenFault::Memory),
+    }
+}
+
+// Reads what stands for a field.
+#[cycle(reads)]
+fn read_field<'b, K: Store, H: KeyHash>(
+    reader: &Reader<'_, H>,
+    acc: &'b Accepted,
+    field: &'b Field,
+    part: &Part<'b>,
+    room: u32,
+    at: BlockId,
+    store: &mut K,
+) -> Result<Option<Val>, OpenFault>
+    requires within { field.now.slot.ty.0 < length acc.now }
+    requires plain { HasNumber [] part.now }
+    requires room { room ≤ 96 }
+    ensures { ReadsPart H.hash_of at.0 acc.now room reader.now.keep field.now part.now (K.moment store.old) result (K.moment store.new) }
+{
+    // It does no work: its clauses say what acceptance says of the table.
+    let _types = acc.types();
+    let Some(piece) = part_piece(part) else {
+        return left_out(field, part);
+    };
+    let val = read_slot(reader, acc, field.slot, &piece, room, at, store)?;
+    Ok(Some(val))
+}
+
+// Reads the fields of a struct.
+#[cycle(reads)]
+fn read_struct<'b, K: Store, H: KeyHash>(
+    reader: &Reader<'_, H>,
+    acc: &'b Accepted,
+    ty: TypeNo,
+    def: &'b StructDef,
+    piece: &Piece<'b>,
+    room: u32,
+    at: BlockId,
+    store: &mut K,
+) -> Result<Val, OpenFault>
+    requires within { ty.0 < length acc.now }
+    requires known { meant acc.now ty.0 ≡ Some (D.Struct def.now) }
+    requires parts { IsWithin (length acc.now) (D.Struct def.now) }
+    requires numbered { IsNumbered acc.now piece.now }
+    requires room { room ≤ 96 }
+    ensures { ReadsFields H.hash_of at.0 acc.now room reader.now.keep def.now piece.now (K.moment store.old) result (K.moment store.new) }
+{
+    // It does no work: its clauses say what acceptance says of the table.
+    let _types = acc.types();
+    let parts = match layer(acc, ty, *piece) {
+        Ok(parts) => parts,
+        Err(_) => return Err(OpenFault::Memory),
+    };
+    let mut fields = ValFields::new(reader.alloc);
+    for (i, field) in def.fields.as_slice().iter().enumerate() {
+        let part = parts.field(i);
+        let val = read_field(reader, acc, field, &part, room, at, store)?;
+        add_field(&mut fields, reader.keep, val)?;
+    }
+    Ok(Val::Struct(fields))
+}
+
+// Reads the member of a union.
+#[cycle(reads)]
+fn read_union<'b, K: Store, H: KeyHash>(
+    reader: &Reader<'_, H>,
+    acc: &'b Accepted,
+    ty: TypeNo,
+    def: &'b UnionDef,
+    piece: &Piece<'b>,
+    room: u32,
+    at: BlockId,
+    store: &mut K,
+) -> Result<Val, OpenFault>
+    requires within { ty.0 < length acc.now }
+    requires known { meant acc.now ty.0 ≡ Some (D.Union def.now) }
+    requires parts { IsWithin (length acc.now) (D.Union def.now) }
+    requires numbered { IsNumbered acc.now piece.now }
+    requires plain { passes_over piece.now ≡ false }
+    requires room { room ≤ 96 }
+    ensures { ReadsMember H.hash_of at.0 acc.now room reader.now.keep def.now piece.now (K.moment store.old) result (K.moment store.new) }
+{
+    let Some((number, slot, part)) = member_of(acc, ty, def, piece) else {
+        return Err(OpenFault::Memory);
+    };
+    let val = read_slot(reader, acc, slot, &part, room, at, store)?;
+    union_with(reader.alloc, reader.keep, number, val)
+}
+
+/// The value of a slot for which a piece stands, which was checked against the slot, in a room.
+#[cycle(reads)]
+pub(crate) fn read_slot<'b, K: Store, H: KeyHash>(
+    reader: &Reader<'_, H>,
+    acc: &'b Accepted,
+    slot: Slot,
+    piece: &Piece<'b>,
+    room: u32,
+    at: BlockId,
+    store: &mut K,
+) -> Result<Val, OpenFault>
+    requires within { slot.ty.0 < length acc.now }
+    requires numbered { IsNumbered acc.now piece.now }
+    requires inlined { IsInlined acc.now slot piece.now }
+    requires room { room ≤ 96 }
+    ensures { ReadsSlot H.hash_of at.0 acc.now room reader.now.keep slot piece.now (K.moment store.old) result (K.moment store.new) }
+{
+    // It does no work: its clauses say what acceptance says of the table.
+    let _types = acc.types();
+    if is_null_there(slot, piece) {
+        return Ok(Val::Null);
+    }
+    let ty = slot.ty;
+    let def = acc.def(acc.base(ty));
+    let Some(less) = room.checked_sub(levels(def)) else {
+        return Err(OpenFault::Memory);
+    };
+    match def {
+        TypeDef::List { elem, .. } => read_list(reader, acc, *elem, piece, less, at, store),
+        TypeDef::Map {
+            key,
+            value,
+            form,
+            ..
+        } => read_map(reader, acc, *key, *value, form, piece, less, at, store),
+        TypeDef::Struct(def) => read_struct(reader, acc, ty, def, piece, less, at, store),
+        TypeDef::Union(def) => read_union(reader, acc, ty, def, piece, less, at, store),
+        _ => kept_leaf(reader.alloc, acc, slot, piece, reader.keep),
+    }
+}

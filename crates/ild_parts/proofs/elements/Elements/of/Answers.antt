@@ -1,5 +1,0 @@
-use Rattle.ild_parts.proofs.Leading.{first_elements}
-use Rattle.ild_parts.proofs.elements.Elements.of.Goals as goal
-
-pub returns-clause-has : goal.returns-clause-has
-returns-clause-has c = λ ds has. first_elements c.args.slot c.args.items ds has

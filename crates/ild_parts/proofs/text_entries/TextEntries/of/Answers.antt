@@ -1,5 +1,0 @@
-use Rattle.std.proofs.Common.{refl}
-use Rattle.ild_parts.proofs.text_entries.TextEntries.of.Goals as goal
-
-pub returns-clause-has : goal.returns-clause-has
-returns-clause-has c = λ inner entry. record { inner = inner; entry = entry; at = 0; is = refl }

@@ -1,0 +1,4 @@
+pub mod Allowing
+mod Changing
+mod Numbering
+mod Replacing

@@ -1,0 +1,8 @@
+use Rattle.std.proofs.Common.{subst, sym}
+use Rattle.ild_data.specs.Spell.{spell}
+use Rattle.ild_splice.specs.Made.{Makes}
+use Rattle.ild_path_block.proofs.answer.Replaced.block_with.Goals as goal
+
+pub returns : goal.returns
+returns c = λ rows is_key edit w p path t u held stands.
+    subst (λ y. Makes (spell y) c.replace.result) (sym held.is) ((c.replace.ensures held.new stands).makes t held.old held.place held.item)

@@ -1,0 +1,66 @@
+//! The steps along a path.
+ghost use Rattle.std.specs.Prelude.{◌≡◌, ◌∷◌, ℕ, IfOk, IsSomeAnd, List, Some, true};
+ghost use Rattle.ild_path_holder.specs.Along.{LeadAlong, holder_at, is_holder};
+ghost use Rattle.ild_path_holder.specs.Holders.{IsLast};
+ghost use Rattle.ild_schema.specs.Value.{Value};
+ghost use Rattle.ild_typed.specs.At.{InSlot, seen};
+ghost use Rattle.ild_view.specs.View.{IsView, slot_of, table_of};
+
+use crate::part::part_steps;
+use ild_data::Path;
+use ild_path_steps::PartSteps;
+use ild_view::View;
+use std::alloc::{AllocError, Global};
+
+/// The last holder of a path: the one in which its last segment is sought.
+#[derive(Drop)]
+pub struct LastHolder<'a> {
+    /// The steps to it from the root: from each holder to that of the next segment.
+    pub steps: Vec<PartSteps<'a>>,
+    /// Its view.
+    pub view: View<'a>,
+}
+
+/// The last holder of a path, with the steps to it. There is one where the path leads to a holder.
+pub fn last_holder<'a>(
+    alloc: Global,
+    root: &View<'a>,
+    path: &'a Path,
+) -> Result<Option<LastHolder<'a>>, AllocError>
+    ensures { (f : Value) (s : List ℕ) (ss : List (List ℕ)) (l : InSlot) → IsView root.now f → path.now ≡ s ∷ ss → holder_at (table_of root.now) (slot_of root.now, f) s ss ≡ Some l → is_holder (seen (table_of root.now) l) ≡ true → IfOk result (λ r. IsSomeAnd r (IsLast (table_of root.now) (slot_of root.now, f) l s ss)) }
+{
+    // It does no work: its clauses say what acceptance says of the table.
+    let _types = root.schema().types();
+    let segments = path.as_slice();
+    let mut steps = Vec::new(alloc);
+    let mut view = *root;
+    let mut k = 1;
+    while k < segments.len() {
+        let segment = segments[k - 1].as_str();
+        let Some(part) = view.part(segment) else {
+            return Ok(None);
+        };
+        let Some(next) = part_steps(&view, segment) else {
+            return Ok(None);
+        };
+        steps.push(next)?;
+        view = part;
+        k += 1;
+    }
+    Ok(Some(LastHolder { steps, view }))
+}
+
+/// The steps along a path, from each holder to that of the next segment: none from the last holder. There are some where the path
+/// leads to a holder.
+pub fn steps_along<'a>(
+    alloc: Global,
+    root: &View<'a>,
+    path: &'a Path,
+) -> Result<Option<Vec<PartSteps<'a>>>, AllocError>
+    ensures { (f : Value) (s : List ℕ) (ss : List (List ℕ)) (l : InSlot) → IsView root.now f → path.now ≡ s ∷ ss → holder_at (table_of root.now) (slot_of root.now, f) s ss ≡ Some l → is_holder (seen (table_of root.now) l) ≡ true → IfOk result (λ r. IsSomeAnd r (λ steps. LeadAlong (table_of root.now) (slot_of root.now, f) s ss steps.items)) }
+{
+    match last_holder(alloc, root, path)? {
+        Some(last) => Ok(Some(last.steps)),
+        None => Ok(None),
+    }
+}

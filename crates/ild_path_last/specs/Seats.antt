@@ -1,0 +1,46 @@
+-- Where a pair stands in a list of pairs, by its key.
+use Rattle.std.specs.Prelude.{◌≡◌, ℕ, Bool, true, false, is_some, List, [], ◌∷◌, Option, Some, None, map}
+use Rattle.ild_cbor.specs.Steps.{HasItems}
+use Rattle.ild_cbor.specs.declared.items.Items.{Items}
+use Rattle.ild_data.specs.Data as T
+use Rattle.ild_data.specs.Data.{Data}
+use Rattle.ild_data.specs.Key.{same_text}
+use Rattle.ild_path_changes.specs.Pairs.{at_pair}
+use Rattle.ild_path_changes.specs.Places.{field_data, field_named, field_place, left_out, written, written_before}
+use Rattle.ild_schema.specs.Clear.{AreNamesApart}
+use Rattle.ild_schema.specs.Marks.{field_text}
+use Rattle.ild_schema.specs.declared.def.Field.{Field}
+use Rattle.ild_typed.specs.Fields.{field_entries}
+use Rattle.ild_typed.specs.Strings.{listpairs, pair_data}
+use Rattle.ild_path_last.specs.Change.{IsShown, located}
+use Rattle.ild_path_last.specs.declared.change.LastChange.{LastChange}
+use Rattle.ild_path_last.specs.declared.seat.Seat.{Seat}
+
+-- an iterator that has these pairs left
+abbrev pub HasPairs : Items → List (List ℕ × Data) → Type 0
+HasPairs s es = HasItems s (T.items_of (map pair_data es))
+
+-- the place, and whether there is something
+pub record IsSeat (seat : Seat) (place : ℕ) (there : Option Data) : Type 0 where
+  pub place_is : seat.place ≡ place
+  pub there_is : seat.there ≡ is_some there
+
+-- an iterator behind the first pair, where that has this key
+abbrev pub Passes : List ℕ → List (List ℕ × Data) → Option Items → Type 0
+Passes k [] None = Unit {0}
+Passes k [] (Some s) = ⊥
+Passes k (e ∷ es) None = same_text k e.0 ≡ false
+Passes k (e ∷ es) (Some s) = (same_text k e.0 ≡ true) × HasPairs s es
+
+-- the place of a field's pair among those that are written before it, and whether it is written
+abbrev pub FindsField : Items → List Field → ℕ → Seat → Type 0
+FindsField s fs number seat =
+    (ds : List (Option Data)) (es : List (List ℕ × Data)) (k : List ℕ) (g : Field) → field_entries fs ds ≡ Some es → HasPairs s es → AreNamesApart fs → field_named k fs ≡ Some g → number ≡ field_place k fs
+    → IsSeat seat (written_before left_out k fs ds) (written left_out g (field_data k fs ds))
+
+-- the change of this pair
+abbrev pub ChangesPair : (Data → Type 0) → List Field → ℕ → Bool → LastChange → Type 0
+ChangesPair Holds fs number after result =
+    (ds : List (Option Data)) (es : List (List ℕ × Data)) (k : List ℕ) (g : Field) (d x u : Option Data) → field_entries fs ds ≡ Some es → Holds (listpairs es) → AreNamesApart fs → field_named k fs ≡ Some g → number ≡ field_place k fs
+    → after ≡ is_some (written left_out g d) → IsShown (written left_out g d) x
+    → at_pair (written_before left_out k fs ds) (field_text g) (written left_out g (field_data k fs ds)) (written left_out g d) ≡ located result x u

@@ -1,0 +1,69 @@
+-- How many levels a part may nest at the end of a path, so that the whole value stays within its limit: what the limit leaves, and
+-- whether a key may stand there by itself.
+use Rattle.std.specs.Prelude.{◌≡◌, ◌↔◌, ℕ, List, [], ◌∷◌, Bool, Option, Some, None}
+use Rattle.std.specs.Option.{option_map_or}
+use Rattle.ild_data.specs.Data as T
+use Rattle.ild_schema.specs.declared.def.TypeDef.{TypeDef}
+use Rattle.ild_schema.specs.declared.def.TypeDef.TheVariants as D
+use Rattle.ild_schema.specs.declared.number.Slot.{Slot}
+use Rattle.ild_schema.specs.declared.row.Row.{Row}
+use Rattle.ild_schema.specs.Prelude.{number}
+use Rattle.ild_schema.specs.Slots.{plainly}
+use Rattle.ild_schema.specs.Value.{Value}
+use Rattle.ild_typed.specs.At.{InSlot, seen, last_holder, changed_in}
+use Rattle.ild_typed.specs.Fits.{Fits}
+use Rattle.ild_typed.specs.Holder.{Holder, entries}
+use Rattle.ild_typed.specs.Layers.{Shows}
+use Rattle.ild_typed.specs.OfType.{OfType, TestsKeys}
+use Rattle.ild_typed.specs.Segment.{part, set_part}
+use Rattle.ild_path_edits.specs.Along.{room_below}
+use Rattle.ild_path_edits.specs.Table.{MayStand, slot_to_set, slot_to_insert, insert_part}
+
+-- how a part comes to its place
+pub data Coming : Type 0 where
+  by_set : Coming
+  by_insert : Coming
+
+abbrev pub slot_for : Coming → Holder → List ℕ → Option Slot
+slot_for by_set h s = slot_to_set h s
+slot_for by_insert h s = slot_to_insert h s
+
+abbrev pub brought : Coming → Value → Holder → List ℕ → Holder
+brought by_set w h s = set_part h s w
+brought by_insert w h s = insert_part h s w
+
+-- What a room leaves at the end of a path: each holder on it takes its levels, the one in which the last segment is sought too.
+abbrev pub room_left : List Row → ℕ → InSlot → List (List ℕ) → ℕ
+room_left rows room p [] = room
+room_left rows room p (s ∷ ss) = option_map_or (λ q. room_left rows (room_below rows room p s) q ss) (part (seen rows p) s) (room_below rows room p s)
+
+-- a key nests no deeper than the room, as the text of a value of the key type
+abbrev pub KeyFits : List Row → ℕ → Holder → List ℕ → Type 0
+KeyFits rows room (entries key slot paired ps) s = Shows (Fits rows room) rows (plainly (number key)) (T.text s)
+KeyFits rows room h s = Unit {0}
+
+-- the same, by the form of the holder's type
+abbrev pub FormKeyFits : List Row → ℕ → TypeDef → List ℕ → Type 0
+FormKeyFits rows room (D.Map key key_at slot at form) s = Shows (Fits rows room) rows (plainly key) (T.text s)
+FormKeyFits rows room d s = Unit {0}
+
+-- a part may come to this place
+abbrev pub HasPlace : Holder → List ℕ → Type 0
+HasPlace h s = (how : Coming) × (slot : Slot) × (slot_for how h s ≡ Some slot)
+
+-- What is answered of a place: the room that is left there, where the key fits in it.
+abbrev pub IsRoom : List Row → ℕ → Holder → List ℕ → Option ℕ → Type 0
+IsRoom rows room h s None = KeyFits rows room h s → ⊥
+IsRoom rows room h s (Some n) = (n ≡ room) × KeyFits rows room h s
+
+-- a part fits in the room that was answered
+abbrev pub FitsIn : List Row → Slot → Value → Option ℕ → Type 0
+FitsIn rows slot w None = ⊥
+FitsIn rows slot w (Some n) = Fits rows n slot w
+
+-- What is answered tells of each part that comes to the end of a path whether the changed value stays within its limit.
+abbrev pub TellsRoom : List Row → ℕ → InSlot → List (List ℕ) → Option ℕ → Type 0
+TellsRoom rows limit p path o =
+    (is_key : ℕ → List ℕ → Bool) → TestsKeys rows is_key → (how : Coming) (s : List ℕ) (ss : List (List ℕ)) (l : Holder × List ℕ) (slot : Slot) (w : Value)
+    → path ≡ s ∷ ss → last_holder rows p s ss ≡ Some l → slot_for how l.0 l.1 ≡ Some slot → MayStand is_key l.0 l.1 → OfType rows slot w
+    → Fits rows limit p.0 (changed_in rows (brought how w) p s ss) ↔ FitsIn rows slot w o

@@ -1,0 +1,12 @@
+//! How much room an edit leaves to a part, and whether it leaves a hole: laws, and the calls that tell it from views.
+#![tactic(auto)]
+
+mod form;
+mod hole;
+mod laws;
+mod room;
+
+pub use form::levels;
+pub use hole::{PartEdit, leaves_hole};
+pub use laws::rooms_are_left_along_the_path;
+pub use room::room_left;

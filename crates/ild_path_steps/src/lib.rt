@@ -1,0 +1,16 @@
+//! The steps from a holder's item in a block to the item of its part, form by form (IPLD Schemas, "Representations"): where the
+//! change of a part is one change of the block.
+#![tactic(auto)]
+
+mod any;
+mod map;
+mod pair;
+mod part;
+mod steps;
+mod structs;
+mod union;
+
+pub use pair::is_keyed;
+pub use part::steps_to;
+pub use steps::PartSteps;
+pub use structs::name_in_block;

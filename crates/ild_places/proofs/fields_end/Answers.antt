@@ -1,5 +1,0 @@
-use Rattle.ild_places.proofs.Ending.{fields_end}
-use Rattle.ild_places.proofs.fields_end.Goals as goal
-
-pub returns : goal.returns
-returns c = fields_end

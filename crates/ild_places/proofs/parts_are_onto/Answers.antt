@@ -1,5 +1,0 @@
-use Rattle.ild_places.proofs.Inlining.{parts_are_onto}
-use Rattle.ild_places.proofs.parts_are_onto.Goals as goal
-
-pub returns : goal.returns
-returns c = parts_are_onto

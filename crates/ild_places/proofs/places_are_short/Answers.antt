@@ -1,5 +1,0 @@
-use Rattle.ild_places.proofs.Composing.{placed_short}
-use Rattle.ild_places.proofs.places_are_short.Goals as goal
-
-pub returns : goal.returns
-returns c = placed_short

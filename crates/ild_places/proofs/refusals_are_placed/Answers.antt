@@ -1,5 +1,0 @@
-use Rattle.ild_places.proofs.Refusing.{refusals_are_placed}
-use Rattle.ild_places.proofs.refusals_are_placed.Goals as goal
-
-pub returns : goal.returns
-returns c = refusals_are_placed

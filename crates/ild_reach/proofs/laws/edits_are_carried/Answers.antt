@@ -1,5 +1,0 @@
-use Rattle.ild_reach.proofs.Edits.{edits_are_carried}
-use Rattle.ild_reach.proofs.laws.edits_are_carried.Goals as goal
-
-pub returns : goal.returns
-returns c = edits_are_carried

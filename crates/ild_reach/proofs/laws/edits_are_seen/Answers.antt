@@ -1,5 +1,0 @@
-use Rattle.ild_reach.proofs.Seeing.{edits_are_seen}
-use Rattle.ild_reach.proofs.laws.edits_are_seen.Goals as goal
-
-pub returns : goal.returns
-returns c = edits_are_seen

@@ -1,4 +1,0 @@
-use Rattle.ild_read.proofs.value.read.Goals as goal
-
-pub returns : goal.returns
-returns g c = c.read_slot.ensures

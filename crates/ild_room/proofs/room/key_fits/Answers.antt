@@ -1,4 +1,0 @@
-use Rattle.ild_room.proofs.room.key_fits.Goals as goal
-
-pub returns-in-Map : goal.returns-in-Map
-returns-in-Map c = rw c.in-Map.is c.fits_text.ensures

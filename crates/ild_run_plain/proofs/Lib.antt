@@ -1,0 +1,4 @@
+pub mod Entries
+pub mod Edits
+pub mod Staying
+pub mod Standing

@@ -1,0 +1,24 @@
+use Rattle.std.proofs.Common.{None, Some}
+use Rattle.ild_schema.specs.ValueSeen.{value_of}
+use Rattle.ild_run_show.proofs.OneShown.{has_shown}
+use Rattle.ild_run_show.proofs.showing.show.Goals as goal
+
+pub returns-in-Ok-text_of : goal.returns-in-Ok-text_of
+returns-in-Ok-text_of g c =
+    let opened = c.in-Ok.ensures in
+    let val = value_of c.in-Ok.opened.1 in
+    record {
+      answer = has_shown g.H.KeyHash.hash_of c.args.acc.now c.args.ty c.args.id.now.0 (g.K.Store.moment c.args.store.now) val (Some c.in-Ok-text_of.text) (λ held told. (opened.answer.value held told).stands) c.in-Ok-text_of.ensures.ok;
+      reads = opened.only;
+      gets = opened.gets;
+    }
+
+pub returns-in-Err-Reserved : goal.returns-in-Err-Reserved
+returns-in-Err-Reserved g c =
+    let opened = c.in-Ok.ensures in
+    let val = value_of c.in-Ok.opened.1 in
+    record {
+      answer = has_shown g.H.KeyHash.hash_of c.args.acc.now c.args.ty c.args.id.now.0 (g.K.Store.moment c.args.store.now) val None (λ held told. (opened.answer.value held told).stands) (c.in-Err-Reserved.ensures.err c.in-Err-Reserved.field-0-is);
+      reads = opened.only;
+      gets = opened.gets;
+    }

@@ -1,0 +1,58 @@
+-- What answering lines leaves, one at a time and all of a script.
+use Rattle.std.specs.Prelude.{◌≡◌, ℕ, ◌+◌, List, [], ◌++◌, length, Bool, Option, Some, None}
+use Rattle.std.specs.List.{list_any, cons_option}
+use denote.Ref.{Bor}
+use Rattle.ild_edges.specs.Sink.{Appends, AppendsFront}
+use Rattle.ild_edges.specs.Store.{Moment, Later}
+use Rattle.ild_script.specs.declared.reply.Reply.{Reply}
+use Rattle.ild_script.specs.Line.{lines_of}
+use Rattle.ild_script.specs.Reply.{reply_text, is_no}
+use Rattle.ild_script_session.specs.Session.{Stage, Meaning}
+use Rattle.ild_script_session.specs.Run.{texts}
+use Rattle.ild_script_session.specs.Stands.{IsAnswered, AreAnswered, Leads, Ran}
+
+-- the lines that are left of a script
+abbrev pub lines_left : Option (Bor (List ℕ)) → List (List ℕ)
+lines_left None = []
+lines_left (Some b) = lines_of b.now
+
+abbrev pub bytes_left : Option (Bor (List ℕ)) → ℕ
+bytes_left None = 0
+bytes_left (Some b) = length b.now + 1
+
+-- Of which meanings and at which stages the session stood, and stands, is what `Stood` and `Stands` say.
+module _ {V : Type 0} (Stood Stands : Meaning V → Stage V → Type 0) where
+  -- a line was answered, and its reply written
+  pub record LineDone (m : Moment) (line : List ℕ) (n : Moment) (was now : Option (List ℕ)) (refused : Bool) : Type 0 where
+    pub reply : Option Reply
+    pub answered : IsAnswered m line reply n
+    pub leads : (M : Meaning V) (s : Stage V) → Stood M s → Leads M (Stands M) m s line reply n
+    pub written : Appends was now (texts (cons_option reply []))
+    pub refused_is : refused ≡ list_any is_no (cons_option reply [])
+
+  -- a line was answered, and a front of its reply written
+  pub record LineCut (m : Moment) (line : List ℕ) (n : Moment) (was now : Option (List ℕ)) : Type 0 where
+    pub reply : Reply
+    pub answered : IsAnswered m line (Some reply) n
+    pub leads : (M : Meaning V) (s : Stage V) → Stood M s → Leads M (Stands M) m s line (Some reply) n
+    pub written : AppendsFront was now (reply_text reply)
+
+  -- these lines were answered, and their replies written
+  pub record LinesDone (m : Moment) (lines : List (List ℕ)) (n : Moment) (was now : Option (List ℕ)) (refused : Bool) : Type 0 where
+    pub replies : List Reply
+    pub answered : AreAnswered m lines replies n
+    pub ran : (M : Meaning V) (s : Stage V) → Stood M s → Ran M (Stands M) m s lines replies n
+    pub later : Later m n
+    pub written : Appends was now (texts replies)
+    pub refused_is : refused ≡ list_any is_no replies
+
+  -- the first of these lines were answered, and a front of their replies written
+  pub record LinesCut (m : Moment) (lines : List (List ℕ)) (n : Moment) (was now : Option (List ℕ)) : Type 0 where
+    pub first : List (List ℕ)
+    pub rest : List (List ℕ)
+    pub split : lines ≡ first ++ rest
+    pub replies : List Reply
+    pub answered : AreAnswered m first replies n
+    pub ran : (M : Meaning V) (s : Stage V) → Stood M s → Ran M (Stands M) m s first replies n
+    pub later : Later m n
+    pub written : AppendsFront was now (texts replies)

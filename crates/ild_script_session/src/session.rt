@@ -1,0 +1,32 @@
+//! What answers the lines of a script.
+ghost use Rattle.std.specs.Prelude.{◌≡◌, Some};
+ghost use Rattle.ild_edges.specs.Store.{Moment};
+ghost use Rattle.ild_script.specs.declared.reply.No.{No};
+ghost use Rattle.ild_script.specs.declared.reply.Reply.TheVariants as R;
+ghost use Rattle.ild_script_session.specs.Session.{Stage, Meaning};
+ghost use Rattle.ild_script_session.specs.Stands.{IsAnswered, Leads, StaysAt};
+
+use ild_edges::Store;
+use ild_script::Reply;
+use std::alloc::Global;
+
+/// What answers the lines of a script, one after another. It stands at the stage to which they have come; where its value stands in a
+/// store, by what that store holds too.
+pub trait Session {
+    /// The values, as contracts see them.
+    ghost Value: { Type 0 };
+
+    /// Of which meaning of lines, and at which stage, it stands, over a store at a moment.
+    ghost stands: { Self → Moment → Meaning Value → Stage Value → Type 0 };
+
+    /// Answers a line over a store, and goes on to the stage behind it. The empty line has no reply.
+    fn answer<K: Store>(&mut self, alloc: Global, line: &[u8], store: &mut K) -> Option<Reply>
+        // Over each store, also one that does not tell what it holds.
+        ensures answered { IsAnswered (K.moment store.old) line.now result (K.moment store.new) }
+
+        // From the stage at which it stands. What lines mean stays.
+        ensures leads { (M : Meaning Value) (s : Stage Value) → stands self.old (K.moment store.old) M s → Leads M (stands self.new (K.moment store.new) M) (K.moment store.old) s line.now result (K.moment store.new) }
+
+        // A line that is refused leaves the state, whatever a store holds.
+        ensures kept { (refusal : No) → result ≡ Some (R.No refusal) → (m : Moment) (M : Meaning Value) (s : Stage Value) → stands self.old m M s → StaysAt (stands self.new m M) s };
+}

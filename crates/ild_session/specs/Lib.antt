@@ -1,7 +1,0 @@
-pub mod Session
-pub mod Batch
-pub mod Step
-pub mod Run
-pub mod Plain
-pub mod Lines
-pub mod Puts

@@ -1,7 +1,0 @@
-pub mod Fielding
-pub mod Holding
-mod Indexing
-pub mod Leading
-pub mod Listing
-mod Pairing
-pub mod Standing

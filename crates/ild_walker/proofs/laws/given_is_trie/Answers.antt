@@ -1,6 +1,0 @@
-use Rattle.ild_walker.proofs.Regiven.{trie-is-given}
-use Rattle.ild_walker.proofs.Tried.{given-is-trie}
-use Rattle.ild_walker.proofs.laws.given_is_trie.Goals as goal
-
-pub returns : goal.returns
-returns c = λ h held slots es form. (given-is-trie h held slots es form, trie-is-given h held slots es form)

@@ -1,5 +1,0 @@
-use Rattle.ild_walker.proofs.Tried.{given-counted}
-use Rattle.ild_walker.proofs.laws.nodes_are_the_tries.Goals as goal
-
-pub returns : goal.returns
-returns c = λ h held slots es form gives. given-counted h held slots es form gives

@@ -1,5 +1,0 @@
-use Rattle.std.proofs.Common.{length}
-use Rattle.ild_walker.proofs.walker.+agrees.Given as goal
-
-abbrev pub decreases-agrees : goal.decreases-agrees
-decreases-agrees l = length l.path.now

@@ -1,8 +1,0 @@
-use Rattle.ild_walker.specs.Ahead.{FitsNext}
-use Rattle.ild_walker.proofs.Nexting.{taken}
-use Rattle.ild_walker.proofs.walker.Walker.give.Goals as goal
-
-pub returns-then-branch : goal.returns-then-branch
-returns-then-branch g c =
-    let f : FitsNext g.H.KeyHash.hash_of c.args.self.now = rw c.if-branch.true at c.in_ok-is_next.ensures in
-    taken g.H.KeyHash.hash_of c.args.self.now c.take_row.new.self f.next c.take_row.result f.fit c.take_row.ensures

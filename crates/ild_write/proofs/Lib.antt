@@ -1,4 +1,0 @@
-mod Leaving
-mod Alikes
-mod Ending
-mod Verdict
