@@ -1,0 +1,186 @@
+-- In a text, what has no data breaks a delimiter rule.
+use Rattle.std.proofs.Common.{◌≡◌, ℕ, List, Bool, true, false, Option, Some, None, refl, sym, ◌∙◌, ap, subst}
+use Rattle.std.specs.Prelude.{option_and_then, option_map, slice_get}
+use Rattle.std.proofs.lemmas.Option.{none-some, same_Some}
+use Rattle.ild_data.specs.Data as T
+use Rattle.ild_data.specs.Data.{Data, items_of}
+use Rattle.ild_path_block.specs.Changes.{in_last}
+use Rattle.ild_path_block.specs.Items.{becoming}
+use Rattle.ild_path_block.specs.declared.edit.PartEdit.{PartEdit}
+use Rattle.ild_path_block.specs.declared.edit.PartEdit.TheVariants as E
+use Rattle.ild_path_changes.proofs.Lifting.{chained, opened}
+use Rattle.ild_path_delimiter.proofs.Freeing.{edit_free, set_free}
+use Rattle.ild_path_delimiter.proofs.Held.{IsHeld, is_held}
+use Rattle.ild_path_delimiter.specs.Texts.{CanText}
+use Rattle.ild_path_edits.proofs.KeepTyped.{IsWholeOfType, whole_is_kept}
+use Rattle.ild_path_edits.specs.Along.{IsFree, Passes}
+use Rattle.ild_path_edits.specs.Table.{MayStand, slot_to_set}
+use Rattle.ild_path_holder.specs.Along.{is_holder}
+use Rattle.ild_path_steps.proofs.Holding.{Held, of_any, of_elements, of_entries, of_fields, of_member, of_nothing}
+use Rattle.ild_schema.proofs.Legibly.{legible}
+use Rattle.ild_schema.specs.Slots.{form_of}
+use Rattle.ild_schema.specs.Value as V
+use Rattle.ild_schema.specs.Value.{Value}
+use Rattle.ild_schema.specs.Whole.{is_whole}
+use Rattle.ild_schema.specs.declared.def.Field.{Field}
+use Rattle.ild_schema.specs.declared.def.MapForm.{MapForm}
+use Rattle.ild_schema.specs.declared.def.MapForm.TheVariants as MF
+use Rattle.ild_schema.specs.declared.def.StructDef.{StructDef}
+use Rattle.ild_schema.specs.declared.def.StructForm.{StructForm}
+use Rattle.ild_schema.specs.declared.def.StructForm.TheVariants as S
+use Rattle.ild_schema.specs.declared.def.TypeDef.{TypeDef}
+use Rattle.ild_schema.specs.declared.def.TypeDef.TheVariants as D
+use Rattle.ild_schema.specs.declared.number.Slot.{Slot}
+use Rattle.ild_schema.specs.declared.number.TypeNo.{TypeNo}
+use Rattle.ild_schema.specs.declared.row.Row.{Row}
+use Rattle.ild_typed.proofs.Flat.{IsFlat, flat_alone, flat_whole}
+use Rattle.ild_typed.proofs.Judging.{tree_sound}
+use Rattle.ild_typed.proofs.MakingValues.{typed_tree}
+use Rattle.ild_typed.proofs.OneValue.{Way, as_layer, as_null, way_of}
+use Rattle.ild_typed.specs.At.{InSlot, seen}
+use Rattle.ild_typed.specs.Composed.{composed, map_form, struct_form}
+use Rattle.ild_typed.specs.Fields.{all_items, field_entries, tuple_items}
+use Rattle.ild_typed.specs.Hamt.{alone, whole}
+use Rattle.ild_typed.specs.Holder.{Holder, any_elements, any_entries, elements, entries, fields, member, nothing, value_of}
+use Rattle.ild_typed.specs.Judged.{breaks, is_exhausted, is_hole, map_exhausts, tuple_hole}
+use Rattle.ild_typed.specs.Layer as L
+use Rattle.ild_typed.specs.Layer.{Layer, as_map, as_struct}
+use Rattle.ild_typed.specs.OfType.{OfType, TestsKeys}
+use Rattle.ild_typed.specs.Represented.{represented, represented_pairs}
+use Rattle.ild_typed.specs.Schema.{IsSchema}
+use Rattle.ild_typed.specs.Segment.{set_part}
+use Rattle.ild_typed.specs.Strings.{in_key_order, listpairs, map_data, stringjoin, stringpairs, text_in}
+use Rattle.ild_view.specs.Parts.{member_held}
+
+-- any hash, since a text has no nodes
+abbrev H : List ℕ → List ℕ
+H x = x
+
+other : {A : Type 0} (u : Data) (j : List ℕ) → u ≡ T.text j → text_in u ≡ None → A
+other u j e none = absurd (none-some j (sym none ∙ ap text_in e))
+
+text_flat : (o : Option (List ℕ)) (d : Data) → option_map T.text o ≡ Some d → IsFlat d
+text_flat o d e = let x = opened T.text o d e in subst IsFlat x.2 tt
+
+-- ---- forms that stand as texts
+
+struct_whole : (r : StructDef) (form : StructForm) (ds : List (Option Data)) (j : List ℕ) → r.form ≡ form → struct_form form r.fields ds ≡ Some (T.text j) → (v : Value) → is_hole (Some (D.Struct r)) v ≡ false
+struct_whole r S.Map ds j is made v = let x = opened (λ es. map_data (in_key_order es)) (field_entries r.fields ds) (T.text j) made in other (map_data (in_key_order x.0)) j x.2 refl
+struct_whole r S.Tuple ds j is made v = let x = opened (λ xs. T.list (items_of xs)) (tuple_items r.fields ds) (T.text j) made in other (T.list (items_of x.0)) j x.2 refl
+struct_whole r S.ListPairs ds j is made v = let x = opened listpairs (field_entries r.fields ds) (T.text j) made in other (listpairs x.0) j x.2 refl
+struct_whole r (S.StringPairs inner entry) ds j is made (V.struct os) = ap (λ f. tuple_hole f os) is
+struct_whole r (S.StringJoin delim) ds j is made (V.struct os) = ap (λ f. tuple_hole f os) is
+struct_whole r form ds j is made v = refl
+
+struct_flat : (form : StructForm) (fs : List Field) (ds es : List (Option Data)) (j : List ℕ) (d : Data) → struct_form form fs ds ≡ Some (T.text j) → struct_form form fs es ≡ Some d → IsFlat d
+struct_flat S.Map fs ds es j d made new = let x = opened (λ es. map_data (in_key_order es)) (field_entries fs ds) (T.text j) made in other (map_data (in_key_order x.0)) j x.2 refl
+struct_flat S.Tuple fs ds es j d made new = let x = opened (λ xs. T.list (items_of xs)) (tuple_items fs ds) (T.text j) made in other (T.list (items_of x.0)) j x.2 refl
+struct_flat S.ListPairs fs ds es j d made new = let x = opened listpairs (field_entries fs ds) (T.text j) made in other (listpairs x.0) j x.2 refl
+struct_flat (S.StringPairs inner entry) fs ds es j d made new = let x = chained (stringpairs inner entry) (field_entries fs es) d new in text_flat _ d x.2
+struct_flat (S.StringJoin delim) fs ds es j d made new = let x = chained (stringjoin delim) (all_items fs es) d new in text_flat _ d x.2
+
+map_whole : (rows : List Row) (k : TypeNo) (k_at : ℕ) (elem : Slot) (at : ℕ) (form : MapForm) (es : List (List ℕ × Data)) (j : List ℕ) → map_form alone form (L.map es) ≡ Some (T.text j) → (v : Value) → is_exhausted H rows (Some (D.Map k k_at elem at form)) v ≡ false
+map_whole rows k k_at elem at MF.Map es j made v = other (map_data es) j (same_Some (map_data es) (T.text j) made) refl
+map_whole rows k k_at elem at MF.ListPairs es j made v = other (listpairs es) j (same_Some (listpairs es) (T.text j) made) refl
+map_whole rows k k_at elem at (MF.StringPairs inner entry) es j made (V.map ps) = refl
+map_whole rows k k_at elem at MF.Hamt es j made v = absurd (none-some (T.text j) made)
+map_whole rows k k_at elem at form es j made v = refl
+
+map_flat : (form : MapForm) (es : List (List ℕ × Data)) (l : Layer Data) (j : List ℕ) (d : Data) → map_form alone form (L.map es) ≡ Some (T.text j) → map_form (whole H) form l ≡ Some d → IsFlat d
+map_flat MF.Map es l j d made new = other (map_data es) j (same_Some (map_data es) (T.text j) made) refl
+map_flat MF.ListPairs es l j d made new = other (listpairs es) j (same_Some (listpairs es) (T.text j) made) refl
+map_flat (MF.StringPairs inner entry) es l j d made new = let x = chained (stringpairs inner entry) (as_map l) d new in text_flat _ d x.2
+map_flat MF.Hamt es l j d made new = absurd (none-some (T.text j) made)
+
+passes_by : (test : Option TypeDef → Value → Bool) (rows : List Row) (slot : Slot) (F : Option TypeDef) → form_of rows slot ≡ F → ((v : Value) → test F v ≡ false) → (k : Holder) → Passes test rows slot k
+passes_by test rows slot F e all (fields fs os) = ap (λ F. test F (value_of (fields fs os))) e ∙ all (value_of (fields fs os))
+passes_by test rows slot F e all (member ms n v) = ap (λ F. test F (value_of (member ms n v))) e ∙ all (value_of (member ms n v))
+passes_by test rows slot F e all (entries key elem paired ps) = ap (λ F. test F (value_of (entries key elem paired ps))) e ∙ all (value_of (entries key elem paired ps))
+passes_by test rows slot F e all (elements elem vs) = ap (λ F. test F (value_of (elements elem vs))) e ∙ all (value_of (elements elem vs))
+passes_by test rows slot F e all (any_entries ms) = tt
+passes_by test rows slot F e all (any_elements ds) = tt
+passes_by test rows slot F e all (nothing v) = tt
+
+module _ (rows : List Row) (p : InSlot) (j : List ℕ) (made : represented alone rows p.0 p.1 ≡ Some (T.text j)) (holds : is_holder (seen rows p) ≡ true) where
+  held : IsHeld rows p (T.text j)
+  held = is_held rows p (T.text j) made holds
+
+  no_any : {A : Type 0} (v : Value) → seen rows p ≡ nothing v → A
+  no_any v z = let wrong : false ≡ true = sym (ap is_holder z) ∙ holds in absurd cc
+
+  no_holes : (k : Holder) → Passes is_hole rows p.0 k
+  no_holes k = passes_by is_hole rows p.0 (Some (held).type) (held).known (by (held).type (held).held) k where
+    by : (d : TypeDef) → Held rows d (seen rows p) (T.text j) → (v : Value) → is_hole (Some d) v ≡ false
+    by d (of_fields r os ds e z a b) = subst (λ d. (v : Value) → is_hole (Some d) v ≡ false) (sym e) (struct_whole r r.form ds j refl b)
+    by d (of_member u n v m x e z a b g) = subst (λ d. (v : Value) → is_hole (Some d) v ≡ false) (sym e) (λ v. refl)
+    by d (of_entries k k_at elem at form ps es e z a b) = subst (λ d. (v : Value) → is_hole (Some d) v ≡ false) (sym e) (λ v. refl)
+    by d (of_elements elem at vs ds e z a b) = subst (λ d. (v : Value) → is_hole (Some d) v ≡ false) (sym e) (λ v. refl)
+    by d (of_any e z) = no_any _ z
+    by d (of_nothing v z) = no_any v z
+
+  has_tries : (k : Holder) → Passes (is_exhausted H rows) rows p.0 k
+  has_tries k = passes_by (is_exhausted H rows) rows p.0 (Some (held).type) (held).known (by (held).type (held).held) k where
+    by : (d : TypeDef) → Held rows d (seen rows p) (T.text j) → (v : Value) → is_exhausted H rows (Some d) v ≡ false
+    by d (of_fields r os ds e z a b) = subst (λ d. (v : Value) → is_exhausted H rows (Some d) v ≡ false) (sym e) (λ v. refl)
+    by d (of_member u n v m x e z a b g) = subst (λ d. (v : Value) → is_exhausted H rows (Some d) v ≡ false) (sym e) (λ v. refl)
+    by d (of_entries k k_at elem at form ps es e z a b) = subst (λ d. (v : Value) → is_exhausted H rows (Some d) v ≡ false) (sym e) (map_whole rows k k_at elem at form es j b)
+    by d (of_elements elem at vs ds e z a b) = subst (λ d. (v : Value) → is_exhausted H rows (Some d) v ≡ false) (sym e) (λ v. refl)
+    by d (of_any e z) = no_any _ z
+    by d (of_nothing v z) = no_any v z
+
+  -- whatever becomes of it stands as no list and no map, but for a union
+  stays_flat : member_held (seen rows p) ≡ None → (v : Value) (d : Data) → represented (whole H) rows p.0 v ≡ Some d → IsFlat d
+  stays_flat single v d new = by (way_of (whole H) rows p.0 v d new) where
+    by_form : (c : TypeDef) (l : Layer Data) → Held rows c (seen rows p) (T.text j) → composed (whole H) c l ≡ Some d → IsFlat d
+    by_form c l (of_fields r os ds e z a b) done =
+        let x = chained (struct_form r.form r.fields) (as_struct l) d (subst (λ c. composed (whole H) c l ≡ Some d) e done) in
+        struct_flat r.form r.fields ds x.0 j d b x.2
+    by_form c l (of_member u n v m x e z a b g) done = absurd (none-some _ (sym single ∙ ap member_held z ∙ ap (option_map _) a))
+    by_form c l (of_entries k k_at elem at form ps es e z a b) done = map_flat form es l j d b (subst (λ c. composed (whole H) c l ≡ Some d) e done)
+    by_form c l (of_elements elem at vs ds e z a b) done = other (T.list (items_of ds)) j (sym b) refl
+    by_form c l (of_any e z) done = no_any _ z
+    by_form c l (of_nothing v z) done = no_any v z
+
+    by : Way (whole H) rows p.0 v d → IsFlat d
+    by (as_null a n z) = subst IsFlat (sym z) tt
+    by (as_layer c l is has done) =
+        let same : (held).type ≡ c = same_Some (held).type c (sym (held).known ∙ is) in
+        by_form (held).type l (held).held (subst (λ c. composed (whole H) c l ≡ Some d) (sym same) done)
+
+module _ (rows : List Row) (is_key : ℕ → List ℕ → Bool) (schema : IsSchema rows) (keys : TestsKeys rows is_key) (w : Value) where
+  new_sound : (slot : Slot) (x : List ℕ) → represented alone rows slot w ≡ Some (T.text x) → (is_whole w ≡ true) × IsFree is_hole rows slot w × IsFree (breaks rows) rows slot w × IsFree (is_exhausted H rows) rows slot w
+  new_sound slot x e = tree_sound H rows slot w (T.text x) (flat_whole H rows slot w (T.text x) e tt)
+
+  keeps : (edit : PartEdit) (p : InSlot) (s : List ℕ) → IsWholeOfType rows p.0 p.1 → CanText rows is_key edit (seen rows p) s w → IsWholeOfType rows p.0 (value_of ((in_last edit w).made (seen rows p) s))
+  keeps (E.Set n) p s is can = (whole_is_kept rows is_key schema keys).set p s can.0 w is can.1 can.2 (can.3, (new_sound can.0 can.4 can.5).0)
+  keeps (E.Insert n) p s is can = (whole_is_kept rows is_key schema keys).inserted p s can.0 w is can.1 can.2 (can.3, (new_sound can.0 can.4 can.5).0)
+  keeps E.Delete p s is can = (whole_is_kept rows is_key schema keys).deleted p s is can
+
+  -- so a text without data has a broken delimiter
+  no_data_breaks : (p : InSlot) (j : List ℕ) (v : Value) → represented alone rows p.0 p.1 ≡ Some (T.text j) → is_holder (seen rows p) ≡ true → member_held (seen rows p) ≡ None → IsWholeOfType rows p.0 v → IsFree is_hole rows p.0 v
+      → IsFree (is_exhausted H rows) rows p.0 v → represented alone rows p.0 v ≡ None → IsFree (breaks rows) rows p.0 v → ⊥
+  no_data_breaks p j v made holds single k hole full none free =
+      let d = typed_tree H rows (legible rows schema.accepted).made p.0 v (k.0.0, k.0.1, k.1) hole free full in
+      none-some d.0 (sym none ∙ flat_alone H rows p.0 v d.0 d.1 (stays_flat rows p j made holds single v d.0 d.1))
+
+  -- by an edit
+  pub text_breaks : (edit : PartEdit) (p : InSlot) (s j : List ℕ) → OfType rows p.0 p.1 → represented alone rows p.0 p.1 ≡ Some (T.text j) → is_holder (seen rows p) ≡ true → member_held (seen rows p) ≡ None → CanText rows is_key edit (seen rows p) s w
+      → becoming rows edit w p s ≡ None → IsFree (breaks rows) rows p.0 (value_of ((in_last edit w).made (seen rows p) s)) → ⊥
+  text_breaks edit p s j is made holds single can none free =
+      let k = (in_last edit w).made (seen rows p) s in
+      let old = tree_sound H rows p.0 p.1 (T.text j) (flat_whole H rows p.0 p.1 (T.text j) made tt) in
+      let hole = edit_free is_hole rows is_key schema keys edit p s w is old.1 can (λ slot x e. (new_sound slot x e).1) (no_holes rows p j made holds k) in
+      let full = edit_free (is_exhausted H rows) rows is_key schema keys edit p s w is old.3 can (λ slot x e. (new_sound slot x e).3) (has_tries rows p j made holds k) in
+      no_data_breaks p j (value_of k) made holds single (keeps edit p s (is, old.0) can) hole full none free
+
+  -- by a part that becomes a text
+  pub set_breaks : (p : InSlot) (s j : List ℕ) (slot : Slot) (x : List ℕ) → OfType rows p.0 p.1 → represented alone rows p.0 p.1 ≡ Some (T.text j) → is_holder (seen rows p) ≡ true → member_held (seen rows p) ≡ None
+      → slot_to_set (seen rows p) s ≡ Some slot → MayStand is_key (seen rows p) s → OfType rows slot w → represented alone rows slot w ≡ Some (T.text x) → represented alone rows p.0 (value_of (set_part (seen rows p) s w)) ≡ None
+      → IsFree (breaks rows) rows p.0 (value_of (set_part (seen rows p) s w)) → ⊥
+  set_breaks p s j slot x is made holds single at stands fits shown none free =
+      let k = set_part (seen rows p) s w in
+      let old = tree_sound H rows p.0 p.1 (T.text j) (flat_whole H rows p.0 p.1 (T.text j) made tt) in
+      let new = new_sound slot x shown in
+      let hole = set_free is_hole rows is_key schema keys p s slot w is old.1 at stands fits new.1 (no_holes rows p j made holds k) in
+      let full = set_free (is_exhausted H rows) rows is_key schema keys p s slot w is old.3 at stands fits new.3 (has_tries rows p j made holds k) in
+      no_data_breaks p j (value_of k) made holds single ((whole_is_kept rows is_key schema keys).set p s slot w (is, old.0) at stands (fits, new.0)) hole full none free

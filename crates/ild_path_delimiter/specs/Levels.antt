@@ -1,0 +1,31 @@
+-- What an edit makes of a holder, as a text.
+use Rattle.std.specs.Prelude.{◌≡◌, ℕ, List, Some, None}
+use Rattle.ild_data.specs.Data.{Data, text}
+use Rattle.ild_data.specs.Spell.{spell}
+use Rattle.ild_data.specs.Tree.{IsTree}
+use Rattle.ild_path_delimiter.specs.declared.level.Level.{Level}
+use Rattle.ild_path_delimiter.specs.declared.level.Level.TheVariants as V
+use Rattle.ild_path_last.specs.Change.{becomes}
+use Rattle.ild_schema.specs.declared.row.Row.{Row}
+use Rattle.ild_typed.specs.At.{InSlot, seen}
+use Rattle.ild_typed.specs.Hamt.{alone}
+use Rattle.ild_typed.specs.Holder.{Holder}
+use Rattle.ild_typed.specs.Represented.{represented}
+use Rattle.ild_typed.specs.Strings.{text_in}
+use Rattle.ild_view.specs.Parts.{member_held}
+
+-- the item of these data, which are a text
+abbrev pub IsTextItem : Data → Level → Type 0
+IsTextItem u V.Free = ⊥
+IsTextItem u V.Broken = ⊥
+IsTextItem u (V.Text b) = (j : List ℕ) × (u ≡ text j) × (b ≡ spell u)
+
+-- the data that a holder of a slot becomes are a tree
+abbrev pub HasTree : List Row → InSlot → Holder → Type 0
+HasTree rows q k = (u : Data) → becomes rows q.0 k ≡ Some u → IsTree u
+
+-- The holder q becomes k: it stood as no text; or as one, and has no data any more, and is no union; or its data are a text again.
+abbrev pub LevelIs : List Row → InSlot → Holder → Level → Type 0
+LevelIs rows q k V.Free = (t : Data) → represented alone rows q.0 q.1 ≡ Some t → text_in t ≡ None
+LevelIs rows q k V.Broken = (j : List ℕ) × (represented alone rows q.0 q.1 ≡ Some (text j)) × (member_held (seen rows q) ≡ None) × (becomes rows q.0 k ≡ None)
+LevelIs rows q k (V.Text b) = (j : List ℕ) × (becomes rows q.0 k ≡ Some (text j)) × (b ≡ spell (text j))

@@ -1,0 +1,57 @@
+//! The block of an edit.
+ghost use Rattle.std.specs.Prelude.{ℕ, Bool, List};
+ghost use Rattle.ild_path_edit.specs.Made.{MakesBlock};
+ghost use Rattle.ild_data.specs.Data.{Data};
+ghost use Rattle.ild_data.specs.Spell.{spell};
+ghost use Rattle.ild_path_block.specs.Edits.{Edits};
+ghost use Rattle.ild_path_block.specs.Spliced.{IsReplaced};
+ghost use Rattle.ild_schema.specs.Value.{Value};
+ghost use Rattle.ild_view.specs.View.{slot_of, table_of};
+
+use crate::item::item_at;
+use crate::views::are_texts;
+use ild_cbor::check;
+use ild_data::{Octets, Path};
+use ild_path_block::{PartEdit, Replaced, Spliced, spliced};
+use ild_splice::SpliceErr;
+use ild_view::View;
+use std::alloc::Global;
+
+// The block with the item of what a holder becomes in the place of its own.
+fn with_holder<'a>(
+    alloc: Global,
+    root: &View<'a>,
+    path: &'a Path,
+    edit: &PartEdit<'_>,
+    holder: &Replaced<'_>,
+) -> Result<Octets, SpliceErr>
+    ensures { (is_key : ℕ → List ℕ → Bool) (f w c : Value) (t u : Data) → Edits is_key root.now path.now edit.now f w c t u → IsReplaced (table_of root.now) is_key edit.now w (slot_of root.now, f) path.now t u holder.now → MakesBlock (spell u) result }
+{
+    // They do no work: their clauses say what acceptance says of the table, and that segments are texts.
+    let _types = root.schema().types();
+    are_texts(path);
+    let item = item_at(alloc, root, path, edit, holder.holder)?;
+    match check(item.as_slice()) {
+        Ok(new) => holder.block_with(alloc, &new),
+        Err(_) => Err(SpliceErr::Memory),
+    }
+}
+
+/// The block of what an edit of the part at a path makes of the value of a root view.
+///
+/// Where a holder on the path stands as a whole, as the text of its parts or as a member with its mark, its item is made anew, from
+/// that of the last holder outwards.
+pub fn block_of_edit<'a>(
+    alloc: Global,
+    root: &View<'a>,
+    path: &'a Path,
+    edit: &PartEdit<'_>,
+) -> Result<Octets, SpliceErr>
+    ensures { (is_key : ℕ → List ℕ → Bool) (f w c : Value) (t u : Data) → Edits is_key root.now path.now edit.now f w c t u → MakesBlock (spell u) result }
+{
+    match spliced(alloc, root, path, edit)? {
+        Some(Spliced::Block(block)) => Ok(block),
+        Some(Spliced::Holder(holder)) => with_holder(alloc, root, path, edit, &holder),
+        None => Err(SpliceErr::Memory),
+    }
+}

@@ -1,0 +1,92 @@
+//! What is told of an edit at a path of a block.
+use ild_cbor::{Node, check};
+use ild_compile::compile;
+use ild_data::{Path, Txt};
+use ild_path_block::PartEdit;
+use ild_path_delimiter::{TextEdit, breaks_delimiter};
+use ild_path_edit::block_of_edit;
+use ild_schema::{Accepted, Slot};
+use ild_view::View;
+use std::alloc::Global;
+use std::process::Abort;
+use std::test::Fail;
+
+/// A declared type, a block of it, a path, what is done (`set`, `ins` or `del`), and with which item; then what is told: `block` with the
+/// new block, or `delimiter`.
+pub type Row = (
+    &'static str,
+    &'static [u8],
+    &'static [&'static str],
+    (&'static str, &'static [u8]),
+    (&'static str, &'static [u8]),
+);
+
+fn view_of<'b>(alloc: Global, acc: &'b Accepted, name: &str, root: Node<'b>) -> Option<View<'b>> {
+    let ty = acc.type_named(name)?;
+    if ty.0 >= acc.types() {
+        return None;
+    }
+    let slot = Slot {
+        ty,
+        nullable: false,
+    };
+    View::check(alloc, acc, slot, root, 96).ok()
+}
+
+fn path_of(alloc: Global, segments: &[&str]) -> Option<Path> {
+    let mut path = Path::new(alloc);
+    for segment in segments {
+        path.push(Txt::of(alloc, segment).ok()?).ok()?;
+    }
+    Some(path)
+}
+
+fn edit_of<'n>(verb: &str, new: &'n [u8]) -> Option<PartEdit<'n>> {
+    match verb {
+        "set" => Some(PartEdit::Set(check(new).ok()?)),
+        "ins" => Some(PartEdit::Insert(check(new).ok()?)),
+        _ => Some(PartEdit::Delete),
+    }
+}
+
+// Whether a delimiter rule breaks; of a part that is no text none does.
+fn is_broken(alloc: Global, view: &View<'_>, path: &Path, edit: &PartEdit<'_>) -> Option<bool> {
+    let edit = match edit {
+        PartEdit::Set(new) => match new.text() {
+            Some(text) => TextEdit::Set(text),
+            None => return Some(false),
+        },
+        PartEdit::Insert(new) => match new.text() {
+            Some(text) => TextEdit::Insert(text),
+            None => return Some(false),
+        },
+        PartEdit::Delete => TextEdit::Delete,
+    };
+    breaks_delimiter(alloc, view, path, edit).ok()
+}
+
+fn is_so(alloc: Global, acc: &Accepted, row: &Row) -> Option<bool> {
+    let (name, block, segments, (verb, new), (told, want)) = *row;
+    let view = view_of(alloc, acc, name, check(block).ok()?)?;
+    let path = path_of(alloc, segments)?;
+    let edit = edit_of(verb, new)?;
+    if is_broken(alloc, &view, &path, &edit)? {
+        return Some(told == "delimiter");
+    }
+    let changed = block_of_edit(alloc, &view, &path, &edit).ok()?;
+    Some(told == "block" && changed.as_slice() == want)
+}
+
+/// Each row of a table is so, under a schema.
+pub(crate) fn all_so(rt: &impl Abort, alloc: Global, src: &str, table: &[Row]) -> Result<(), Fail> {
+    let acc = compile(alloc, src.as_bytes()).ok().ok_or("a schema")?;
+    for row in table {
+        assert!(rt;
+            is_so(alloc, &acc, row).ok_or("an edit")?,
+            "{} {:?}",
+            row.0,
+            row.1
+        );
+    }
+    Ok(())
+}

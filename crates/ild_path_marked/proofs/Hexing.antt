@@ -1,0 +1,72 @@
+-- Bytes that are read from hexadecimal, one after the other.
+use Rattle.std.proofs.Common.{◌≡◌, ℕ, ◌-◌, ◌*◌, ◌/◌, ◌≤◌, true, false, length, take, take_all, drop, get_or, arith, List, [], ◌∷◌, ◌++◌, Option, Some, None, append_assoc, append-nil, refl, sym, ap, ◌∙◌}
+use Rattle.std.specs.Option.{unwrap_or}
+use Rattle.ild_path_marked.specs.Parts.{hex_bytes}
+use Rattle.std.specs.Prelude.{is_some, option_and_then, option_map}
+use Rattle.std.proofs.lemmas.Option.{same_Some}
+use Rattle.ild_schema.specs.Hex.{bytes_of_hex, hex_byte}
+
+one_more : (bytes : List ℕ) (byte : ℕ) (o : Option (List ℕ)) → option_map (λ more. bytes ++ more) (option_map (λ rest. byte ∷ rest) o) ≡ option_map (λ more. (bytes ++ byte ∷ []) ++ more) o
+one_more bytes byte None = refl
+one_more bytes byte (Some rest) = ap Some (sym (append_assoc bytes (byte ∷ []) rest))
+
+-- two digits at the head
+two_more : (rest : List ℕ) → 2 ≤ length rest → rest ≡ get_or rest 0 0 ∷ get_or rest 1 0 ∷ take (length rest - 2) (drop 2 rest)
+two_more [] h = absurd (omega arith)
+two_more (a ∷ []) h = absurd (omega arith)
+two_more (a ∷ b ∷ more) h = ap (λ xs. a ∷ b ∷ xs) (sym (take_all (length (a ∷ b ∷ more) - 2) more (omega arith)))
+
+hex_step : (r : Option (List ℕ)) (bytes new : List ℕ) (a b byte : ℕ) (rest more : List ℕ) → rest ≡ a ∷ b ∷ more → hex_byte a b ≡ Some byte → new ≡ bytes ++ byte ∷ []
+    → r ≡ option_map (λ more. bytes ++ more) (bytes_of_hex rest) → r ≡ option_map (λ more. new ++ more) (bytes_of_hex more)
+hex_step r bytes new a b byte rest more there is grown so_far =
+    let one : bytes_of_hex (a ∷ b ∷ more) ≡ option_map (λ rest. byte ∷ rest) (bytes_of_hex more) = rw is refl in
+    so_far ∙ ap (λ xs. option_map (λ more. bytes ++ more) (bytes_of_hex xs)) there ∙ ap (option_map (λ more. bytes ++ more)) one
+    ∙ one_more bytes byte (bytes_of_hex more) ∙ ap (λ xs. option_map (λ more. xs ++ more) (bytes_of_hex more)) (sym grown)
+
+pub hex_next : (r : Option (List ℕ)) (bytes new : List ℕ) (byte : ℕ) (rest : List ℕ) → 2 ≤ length rest → hex_byte (get_or rest 0 0) (get_or rest 1 0) ≡ Some byte → new ≡ bytes ++ byte ∷ []
+    → r ≡ option_map (λ more. bytes ++ more) (bytes_of_hex rest) → r ≡ option_map (λ more. new ++ more) (bytes_of_hex (take (length rest - 2) (drop 2 rest)))
+hex_next r bytes new byte rest long is grown so_far = hex_step r bytes new (get_or rest 0 0) (get_or rest 1 0) byte rest (take (length rest - 2) (drop 2 rest)) (two_more rest long) is grown so_far
+
+pub hex_passes : (rest : List ℕ) (byte : ℕ) → 2 ≤ length rest → hex_byte (get_or rest 0 0) (get_or rest 1 0) ≡ Some byte
+    → is_some (bytes_of_hex rest) ≡ is_some (bytes_of_hex (take (length rest - 2) (drop 2 rest)))
+hex_passes rest byte long is = ap (λ xs. is_some (bytes_of_hex xs)) (two_more rest long) ∙ by (take (length rest - 2) (drop 2 rest)) (hex_byte (get_or rest 0 0) (get_or rest 1 0)) is
+  where
+    same : (o : Option (List ℕ)) → is_some (option_map (λ more. byte ∷ more) o) ≡ is_some o
+    same None = refl
+    same (Some more) = refl
+
+    by : (more : List ℕ) (o : Option ℕ) → o ≡ Some byte → is_some (option_and_then (λ b. option_map (λ more. b ∷ more) (bytes_of_hex more)) o) ≡ is_some (bytes_of_hex more)
+    by more o e = rw e (same (bytes_of_hex more))
+
+-- two digits a byte
+length_at : (a b : ℕ) (more s : List ℕ) (o : Option ℕ) (p : Option (List ℕ)) → ((rest : List ℕ) → p ≡ Some rest → length more ≡ 2 * length rest)
+    → option_and_then (λ byte. option_map (λ rest. byte ∷ rest) p) o ≡ Some s → length (a ∷ b ∷ more) ≡ 2 * length s
+length_at a b more s None p below e = absurd cc
+length_at a b more s (Some byte) None below e = absurd cc
+length_at a b more s (Some byte) (Some rest) below e =
+    let l = below rest refl in
+    let m = ap length (same_Some (byte ∷ rest) s e) in
+    omega arith
+
+hex_length : (text s : List ℕ) → bytes_of_hex text ≡ Some s → length text ≡ 2 * length s
+hex_length [] s e = ap (λ xs. 2 * length xs) (same_Some [] s e)
+hex_length (a ∷ []) s e = absurd cc
+hex_length (a ∷ b ∷ more) s e = length_at a b more s (hex_byte a b) (bytes_of_hex more) (λ rest is. hex_length more rest is) e
+
+pub hex_counted : (text : List ℕ) → is_some (bytes_of_hex text) ≡ true → length text / 2 ≡ length (hex_bytes text)
+hex_counted text some = by (bytes_of_hex text) refl some
+  where
+    by : (o : Option (List ℕ)) → bytes_of_hex text ≡ o → is_some o ≡ true → length text / 2 ≡ length (unwrap_or o [])
+    by None is e = absurd cc
+    by (Some s) is e = let l = hex_length text s is in omega arith
+
+-- a text that is none in hexadecimal
+none_of : (o : Option (List ℕ)) → is_some o ≡ false → unwrap_or o [] ≡ []
+none_of None e = refl
+none_of (Some s) e = absurd cc
+
+pub hex_uncounted : (text : List ℕ) → is_some (bytes_of_hex text) ≡ false → 0 ≡ length (hex_bytes text)
+hex_uncounted text none = ap length (sym (none_of (bytes_of_hex text) none))
+
+pub no_hex : (out text : List ℕ) → is_some (bytes_of_hex text) ≡ false → out ≡ out ++ hex_bytes text
+no_hex out text none = sym (append-nil out) ∙ ap (λ xs. out ++ xs) (sym (none_of (bytes_of_hex text) none))

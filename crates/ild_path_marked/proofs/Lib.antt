@@ -1,0 +1,3 @@
+pub mod Hexing
+pub mod Inlining
+pub mod Prefixing

@@ -1,0 +1,10 @@
+use Rattle.std.proofs.Common.{◌≡◌, ◌++◌, length}
+use Rattle.std.specs.Prelude.{option_map}
+use Rattle.ild_schema.specs.Hex.{bytes_of_hex}
+use Rattle.ild_path_marked.proofs.hex.add_pairs.Given as goal
+
+abbrev pub invariant-loop-rest : goal.invariant-loop-rest
+invariant-loop-rest l = option_map (λ more. l.initial.out ++ more) (bytes_of_hex l.text) ≡ option_map (λ more. l.out ++ more) (bytes_of_hex l.rest)
+
+abbrev pub decreases-loop-rest : goal.decreases-loop-rest
+decreases-loop-rest l = length l.rest

@@ -1,0 +1,19 @@
+use Rattle.std.proofs.Common.{◌∙◌, ap, refl, subst}
+use Rattle.std.specs.Prelude.{slice_get}
+use Rattle.ild_path_changes.specs.Places.{left_out, written}
+use Rattle.ild_path_last.specs.Change.{NewIs}
+use Rattle.ild_path_pairs.proofs.Placing.{struct_told}
+use Rattle.ild_path_pairs.proofs.change.struct_item.Goals as goal
+use Rattle.ild_path_steps.proofs.Fielding.{field_is, numbered}
+use Rattle.ild_schema.specs.Marks.{field_text}
+use Rattle.ild_text.specs.Parts.{pairs_in}
+
+pub returns-in-Some : goal.returns-in-Some
+returns-in-Some c = λ ds es fresh k g d made was apart named place new anew.
+    let j = c.args.joined.now in
+    let fs = c.args.fields.now in
+    let seat = c.field_seat-seat in
+    let field = field_is fs fs k c.args.number c.index-fields-number.result g refl c.index-fields-number.is place named in
+    let at = ap (slice_get fs) place ∙ numbered k fs g named in
+    struct_told j.inner.now j.entry.now j.text.now seat.result c.with_item.result fs c.args.number ds es fresh (pairs_in c.in-Some.split) k c.name_in_block.result.now g d (c.in-Some.ensures es was) seat.ensures.place (seat.ensures.there g at) made was apart named place
+    anew (c.name_in_block.ensures ∙ ap field_text field) (c.with_item.ensures (written left_out g d) (subst (λ x. NewIs c.written.result (written left_out x d)) field (c.written.ensures d new)))

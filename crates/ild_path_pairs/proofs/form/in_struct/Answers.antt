@@ -1,0 +1,7 @@
+use Rattle.ild_path_pairs.proofs.Becoming.{struct_form_told}
+use Rattle.ild_path_pairs.proofs.form.in_struct.Goals as goal
+
+pub returns-in-StringPairs : goal.returns-in-StringPairs
+returns-in-StringPairs c = λ ds k g d form made clear named place new gone.
+    struct_form_told c.args.def.now.fields c.as_slice.result.now c.args.number c.in-StringPairs.inner c.in-StringPairs.entry c.as_str.result.now c.as_str-in-StringPairs.result.now c.args.text.now c.args.new c.struct_item.result c.struct_item.ensures
+    c.as_str.ensures.same c.as_str-in-StringPairs.ensures.same c.as_slice.ensures c.args.def.now.form c.in-StringPairs.is ds k g d made clear named place new gone
