@@ -1,0 +1,71 @@
+-- A key of a HAMT looked up: the nodes on its way, and the value there (IPLD HashMap).
+use Rattle.std.specs.Prelude.{◌≡◌, ℕ, ◌+◌, ◌≤◌, Bool, List, length, Option, Some, None, Result, Ok, Err}
+use Rattle.ild_cbor.specs.declared.why.Why.{Why}
+use Rattle.ild_cbor.specs.declared.why.BlockWhy.TheVariants as B
+use Rattle.ild_data.specs.Data.{Data}
+use Rattle.ild_data.specs.Key.{value_at}
+use Rattle.ild_data.specs.Trie.{TrieSlot}
+use Rattle.ild_data.specs.TrieShape.{trie_levels}
+use Rattle.ild_edges.specs.Count.{Rose}
+use Rattle.ild_edges.specs.Store.{Moment, block_at}
+use Rattle.ild_schema.specs.declared.number.Slot.{Slot}
+use Rattle.ild_schema.specs.declared.number.TypeNo.{TypeNo}
+use Rattle.ild_schema.specs.declared.row.Row.{Row}
+use Rattle.ild_schema.specs.Value.{Value, Pairs, map, pairs_list}
+use Rattle.ild_node_slots.specs.declared.fault.HamtFault.{HamtFault}
+use Rattle.ild_node_slots.specs.declared.fault.HamtFault.TheVariants as F
+use Rattle.ild_hamt_trie.specs.Way.{way}
+use Rattle.ild_typed.specs.Composed.{usual}
+use Rattle.ild_typed.specs.Node.{IsRoot}
+use Rattle.ild_typed.specs.OfType.{TestsKeys}
+use Rattle.ild_typed.specs.Schema.{IsSchema}
+use Rattle.ild_view_walk.specs.Checks.{IsRefusal}
+use Rattle.ild_hamt.specs.Descending.{IsTrailOf}
+use Rattle.ild_open_held.specs.Held.{IsHeld}
+use Rattle.ild_path_entry.specs.Entry.{IsEntry}
+use Rattle.ild_path_entry.specs.declared.entry.Entry.{Entry}
+use Rattle.ild_path_nodes.specs.NodeLaws.{IsHamt}
+use Rattle.ild_path_held.specs.Hamts.{IsTrieIn}
+use Rattle.ild_path_enter.specs.declared.lookup.Entered.{Entered}
+
+-- the item's value, or why it is none
+abbrev pub EntryAnswer : List Row → Slot → ℕ → Data → Result Entry HamtFault → Type 0
+EntryAnswer rows s room t (Ok e) = IsEntry rows s room t e
+EntryAnswer rows s room t (Err (F.Block id why)) = (cause : Why) × (why ≡ B.Shape cause) × (ty : TypeNo) × IsRefusal rows room s t ty cause
+EntryAnswer rows s room t (Err F.Memory) = Unit {0}
+EntryAnswer rows s room t (Err e) = ⊥
+
+-- the map of these pairs is held in five levels more than its values have, as the HAMT of these entries with the root t
+pub record CanEnter (h : List ℕ → List ℕ) (rows : List Row) (is_key : ℕ → List ℕ → Bool) (was : List (List ℕ)) (s elem : Slot) (room : ℕ) (t : Data) (ps : Pairs) (es : List (List ℕ × Data)) : Type 0 where
+  pub schema : IsSchema rows
+  pub keys : TestsKeys rows is_key
+  pub hamt : IsHamt rows s elem
+  pub held : IsHeld (block_at was) h rows (room + 5) s t (map ps)
+  pub trie : IsTrieIn h rows was elem ps t es
+
+-- the value at a key, which is held, as one of its slot
+pub record IsValueThere (h : List ℕ → List ℕ) (rows : List Row) (was : List (List ℕ)) (elem : Slot) (room : ℕ) (w : Value) (e : Entry) : Type 0 where
+  pub tree : Data
+  pub held : IsHeld (block_at was) h rows room elem tree w
+  pub entry : IsEntry rows elem room tree e
+
+abbrev pub EntryThere : (List ℕ → List ℕ) → List Row → List (List ℕ) → Slot → ℕ → Option Value → Option Entry → Type 0
+EntryThere h rows was elem room None None = Unit {0}
+EntryThere h rows was elem room (Some w) (Some e) = IsValueThere h rows was elem room w e
+EntryThere h rows was elem room None (Some e) = ⊥
+EntryThere h rows was elem room (Some w) None = ⊥
+
+pub record IsEnteredAt (h : List ℕ → List ℕ) (rows : List Row) (was : List (List ℕ)) (elem : Slot) (room : ℕ) (t : Data) (ps : Pairs) (es : List (List ℕ × Data)) (k : List ℕ) (r : Entered) : Type 0 where
+  pub found : (slots : List TrieSlot) → IsRoot usual slots t → IsTrailOf h usual k slots es r.trail
+  pub value : EntryThere h rows was elem room (value_at k (pairs_list ps)) r.entry
+
+-- no block is refused
+abbrev pub EnterAnswer : (List ℕ → List ℕ) → List Row → List (List ℕ) → Slot → ℕ → Data → Pairs → List (List ℕ × Data) → List ℕ → Moment → Result Entered HamtFault → Moment → Type 0
+EnterAnswer h rows was elem room t ps es k m (Ok r) n = IsEnteredAt h rows was elem room t ps es k r
+EnterAnswer h rows was elem room t ps es k m (Err F.Store) n = Rose m.faults n.faults
+EnterAnswer h rows was elem room t ps es k m (Err F.Memory) n = Unit {0}
+EnterAnswer h rows was elem room t ps es k m (Err e) n = ⊥
+
+pub record EntersHamt (h : List ℕ → List ℕ) (rows : List Row) (was : List (List ℕ)) (elem : Slot) (room : ℕ) (t : Data) (ps : Pairs) (es : List (List ℕ × Data)) (k : List ℕ) (m : Moment) (result : Result Entered HamtFault) (n : Moment) : Type 0 where
+  pub answer : EnterAnswer h rows was elem room t ps es k m result n
+  pub gets : n.gets ≤ m.gets + length (way h usual k (trie_levels usual) 0 es)

@@ -1,0 +1,9 @@
+pub mod Halting
+pub mod InBlock
+pub mod Slots
+pub mod Keys
+pub mod Passing
+pub mod Reading
+pub mod Hamts
+pub mod Going
+pub mod Inwarding

@@ -1,0 +1,56 @@
+use Rattle.std.proofs.Common.{List, Ok, refl, sym, subst, ◌∙◌}
+use Rattle.std.proofs.lemmas.Result.{err_from_is_err_and}
+use Rattle.ild_path_hops.specs.Hops.{AreHops}
+use Rattle.ild_path_hops.specs.declared.hop.Hop.{Hop}
+use Rattle.ild_path_inward.specs.Inwards.{CanGoOn}
+use Rattle.ild_path_inward.specs.Levels.{GoesIn}
+use Rattle.ild_path_inward.specs.declared.level.Level.{Level}
+use Rattle.ild_path_inward.proofs.Inwarding.{can_go_on, fails_inward, goes_further, hops_more, no_more, stops_inward}
+use Rattle.ild_path_inward.proofs.inward.+go_from.Goals as goal
+
+pub returns-in_err-front-clause-told : goal.returns-in_err-front-clause-told
+returns-in_err-front-clause-told g t c = λ was limit p q d told go are.
+    let h = g.H.KeyHash.hash_of in
+    let rows = c.args.acc.now in
+    let on = can_go_on h rows was c.args.hops.items limit p q c.args.room d c.args.root.now go are in
+    let own = c.in_err-front.ensures.told was q on.0 told (subst (λ (gs : List Hop). CanGoOn h rows was c.args.room q on.0 c.args.root.now gs) (sym c.deref.ensures.value) on.1) in
+    let r = err_from_is_err_and c.from_residual.result c.from_residual.ensures.1 in
+    rw (r.1, r.2) (fails_inward h rows was limit p c.args.hops.items q c.args.room are c.args.segments.now (g.K.Store.moment c.args.store.now) (g.K.Store.moment c.go_on.new.store) c.in_err-front.field-0.0 own)
+
+pub returns-in_err-push-in-Passes-clause-told : goal.returns-in_err-push-in-Passes-clause-told
+returns-in_err-push-in-Passes-clause-told g t c = λ was limit p q d told go are.
+    let h = g.H.KeyHash.hash_of in
+    let rows = c.args.acc.now in
+    let m = g.K.Store.moment c.args.store.now in
+    let k = g.K.Store.moment c.go_on.new.store in
+    let on = can_go_on h rows was c.args.hops.items limit p q c.args.room d c.args.root.now go are in
+    let own = c.in_ok-front.ensures.told was q on.0 told (subst (λ (gs : List Hop). CanGoOn h rows was c.args.room q on.0 c.args.root.now gs) (sym c.deref.ensures.value) on.1) in
+    let pass = subst (λ (l : Level). GoesIn h rows was c.args.room q c.args.segments.now m (Ok l) k) c.in-Passes.is own in
+    let r = err_from_is_err_and c.from_residual-in_err-push-in-Passes.result c.from_residual-in_err-push-in-Passes.ensures.1 in
+    rw (r.1, r.2) (no_more h rows was limit p c.args.hops.items q c.args.room are c.args.segments.now m k c.in-Passes.hop c.in-Passes.behind.now pass.0 c.in-Passes.less pass.1 pass.2)
+
+pub returns-in-Stops-clause-told : goal.returns-in-Stops-clause-told
+returns-in-Stops-clause-told g t c = λ was limit p q d told go are.
+    let h = g.H.KeyHash.hash_of in
+    let rows = c.args.acc.now in
+    let m = g.K.Store.moment c.args.store.now in
+    let k = g.K.Store.moment c.go_on.new.store in
+    let on = can_go_on h rows was c.args.hops.items limit p q c.args.room d c.args.root.now go are in
+    let own = c.in_ok-front.ensures.told was q on.0 told (subst (λ (gs : List Hop). CanGoOn h rows was c.args.room q on.0 c.args.root.now gs) (sym c.deref.ensures.value) on.1) in
+    let stop = subst (λ (l : Level). GoesIn h rows was c.args.room q c.args.segments.now m (Ok l) k) c.in-Stops.is own in
+    stops_inward h rows was limit p c.args.hops.items q c.args.room are c.args.segments.now m k c.in-Stops.field-0 _ refl refl refl refl stop
+
+pub returns-in_ok-push-in-Passes-clause-told : goal.returns-in_ok-push-in-Passes-clause-told
+returns-in_ok-push-in-Passes-clause-told g t c = λ was limit p q d told go are.
+    let h = g.H.KeyHash.hash_of in
+    let rows = c.args.acc.now in
+    let m = g.K.Store.moment c.args.store.now in
+    let k = g.K.Store.moment c.go_on.new.store in
+    let on = can_go_on h rows was c.args.hops.items limit p q c.args.room d c.args.root.now go are in
+    let own = c.in_ok-front.ensures.told was q on.0 told (subst (λ (gs : List Hop). CanGoOn h rows was c.args.room q on.0 c.args.root.now gs) (sym c.deref.ensures.value) on.1) in
+    let pass = subst (λ (l : Level). GoesIn h rows was c.args.room q c.args.segments.now m (Ok l) k) c.in-Passes.is own in
+    let items = c.in_ok-push-in-Passes.ensures.items in
+    let more = hops_more h rows was limit p c.args.hops.items q c.args.room are c.args.segments.now m k c.in-Passes.hop c.in-Passes.behind.now pass.0 c.in-Passes.less pass.1 pass.2 in
+    let rest = c.go_from.ensures.told was limit p pass.0 d (c.go_on.ensures.reads.blocks ∙ told) go (subst (λ (gs : List Hop). AreHops h rows was limit p gs pass.0 c.in-Passes.less) (sym items) more) in
+    goes_further h rows was limit p c.args.hops.items q c.args.room are c.args.segments.now m k c.in-Passes.hop c.in-Passes.behind.now pass.0 c.in-Passes.less pass.1 pass.2
+    (g.K.Store.moment c.go_from.new.store) c.go_from.result c.go_on.ensures.reads c.push.new.self.items items rest

@@ -1,0 +1,125 @@
+//! A path through the HAMTs on its way.
+ghost use Rattle.std.specs.Prelude.{◌≡◌, ℕ, List, [], Some, length};
+ghost use Rattle.ild_data.specs.Data.{Data};
+ghost use Rattle.ild_open_parts.specs.Reads.{OnlyReads};
+ghost use Rattle.ild_path_hops.specs.Hops.{AreHops};
+ghost use Rattle.ild_path_inward.specs.Inwards.{CanGoOn, GoesInward};
+ghost use Rattle.ild_path_inward.specs.Levels.{CanGo, GoesIn, Shortens};
+ghost use Rattle.ild_typed.specs.At.{InSlot};
+ghost use Rattle.ild_view.specs.View.{table_of};
+
+use crate::level::{Level, Stand, go_in};
+use ild_data::{KeyHash, Path, Txt};
+use ild_edges::Store;
+use ild_node::HamtFault;
+use ild_path_hops::Hop;
+use ild_schema::Accepted;
+use ild_view::View;
+use std::alloc::Global;
+
+/// How far a path leads, from block to block.
+#[derive(Drop)]
+pub struct Inward<'s, 'p> {
+    /// The HAMTs through which it passes, from the root inward.
+    pub hops: Vec<Hop<'s>>,
+    /// The segments from the root of the innermost block to the last part that it reaches.
+    pub front: Path,
+    /// The segments that are left; the first of them leads to no part.
+    pub left: &'p [Txt],
+    /// How many levels the part may nest.
+    pub room: u32,
+}
+
+// What becomes of a path in the innermost block.
+fn go_on<'s, 'p, K: Store, H: KeyHash>(
+    alloc: Global,
+    acc: &'s Accepted,
+    root: &View<'_>,
+    hops: &[Hop<'s>],
+    segments: &'p [Txt],
+    room: u32,
+    keys: &H,
+    store: &mut K,
+) -> Result<Level<'s, 'p>, HamtFault>
+    requires { table_of root.now ≡ acc.now }
+    ensures reads { OnlyReads (K.moment store.old) (K.moment store.new) }
+    ensures behind { Shortens (length segments.now) result }
+    ensures told { (was : List (List ℕ)) (q : InSlot) (t : Data) → (K.moment store.old).blocks ≡ Some was → CanGoOn H.hash_of acc.now was room q t root.now hops.now
+        → GoesIn H.hash_of acc.now was room q segments.now (K.moment store.old) result (K.moment store.new) }
+{
+    match hops.last() {
+        Some(hop) => {
+            let entry = &hop.entry;
+            go_in(
+                alloc,
+                entry.schema(),
+                &entry.view(),
+                segments,
+                room,
+                keys,
+                store,
+            )
+        }
+        None => go_in(alloc, acc, root, segments, room, keys, store),
+    }
+}
+
+// The way on from the innermost block, behind these HAMTs.
+fn go_from<'s, 'p, K: Store, H: KeyHash>(
+    alloc: Global,
+    acc: &'s Accepted,
+    root: &View<'_>,
+    hops: Vec<Hop<'s>>,
+    segments: &'p [Txt],
+    room: u32,
+    keys: &H,
+    store: &mut K,
+) -> Result<Inward<'s, 'p>, HamtFault>
+    requires { table_of root.now ≡ acc.now }
+    ensures reads { OnlyReads (K.moment store.old) (K.moment store.new) }
+    ensures told { (was : List (List ℕ)) (limit : ℕ) (p q : InSlot) (t : Data) → (K.moment store.old).blocks ≡ Some was → CanGo H.hash_of acc.now was limit p t root.now → AreHops H.hash_of acc.now was limit p hops.entry.items q room
+        → GoesInward H.hash_of acc.now was limit p hops.entry.items q segments.now (K.moment store.old) result (K.moment store.new) }
+{
+    let mut hops = hops;
+    match go_on(alloc, acc, root, &hops, segments, room, keys, store)? {
+        Level::Stops(Stand { front, left, room }) => Ok(Inward {
+            hops,
+            front,
+            left,
+            room,
+        }),
+        Level::Passes(hop, behind, less) => {
+            hops.push(hop)?;
+            go_from(alloc, acc, root, hops, behind, less, keys, store)
+        }
+    }
+}
+
+/// How far some segments lead from a root view, whose value may nest so many levels: each HAMT on the way is entered at its key, by gets
+/// alone, of no more nodes than there are on the keys' ways. No block is refused on a store that holds the value. A fault of the store
+/// comes only where it failed.
+pub fn go_inward<'s, 'p, K: Store, H: KeyHash>(
+    alloc: Global,
+    acc: &'s Accepted,
+    root: &View<'_>,
+    segments: &'p [Txt],
+    room: u32,
+    keys: &H,
+    store: &mut K,
+) -> Result<Inward<'s, 'p>, HamtFault>
+    requires { table_of root.now ≡ acc.now }
+    ensures reads { OnlyReads (K.moment store.old) (K.moment store.new) }
+    ensures told { (was : List (List ℕ)) (p : InSlot) (t : Data) → (K.moment store.old).blocks ≡ Some was → CanGo H.hash_of acc.now was room p t root.now
+        → GoesInward H.hash_of acc.now was room p [] p segments.now (K.moment store.old) result (K.moment store.new) }
+{
+    go_from(
+        alloc,
+        acc,
+        root,
+        Vec::new(alloc),
+        segments,
+        room,
+        keys,
+        store,
+    )
+}

@@ -1,0 +1,12 @@
+//! The way of a path inward, from block to block, through the HAMTs on it (IPLD Schemas; IPLD HashMap).
+#![tactic(auto)]
+
+mod copy;
+mod halt;
+mod inward;
+mod level;
+mod slot;
+
+pub use halt::{Halt, halt_in};
+pub use inward::{Inward, go_inward};
+pub use slot::value_slot;

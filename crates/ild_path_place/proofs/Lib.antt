@@ -1,0 +1,9 @@
+pub mod Deleting
+pub mod Slotted
+pub mod Lasting
+pub mod Keying
+pub mod AtEnd
+pub mod Whole
+pub mod Located
+pub mod Docked
+pub mod Fitting

@@ -1,0 +1,95 @@
+use Rattle.std.proofs.Common.{◌∙◌, IsUtf8, Result, Ok, Err, refl, sym, subst}
+use Rattle.std.proofs.lemmas.Result.{err_from_is_err_and}
+use Rattle.ild_view.specs.View.{slot_of}
+use Rattle.ild_path_inward.proofs.Reading.{only_viewed}
+use Rattle.ild_schema.specs.Value.{map}
+use Rattle.ild_schema.specs.declared.number.Slot.{Slot}
+use Rattle.ild_path_place.specs.Endings.{EndsKey}
+use Rattle.ild_node_slots.specs.declared.fault.HamtFault.TheVariants.{Memory}
+use Rattle.ild_schema.specs.Slots.{form_of}
+use Rattle.ild_path_place.specs.Keys.{FitsAs}
+use Rattle.ild_path_place.specs.Slots.{SlotAnswer}
+use Rattle.ild_path_place.specs.declared.ending.Found.{Found}
+use Rattle.ild_path_place.specs.declared.fault.PathFault.{PathFault}
+use Rattle.ild_path_place.specs.declared.place.End.TheVariants.{AtKey}
+use Rattle.ild_path_place.specs.declared.refusal.Refusal.{Refusal}
+use Rattle.ild_path_place.proofs.Keying.{can, ends_refused, ends_there, ends_wrong, fitted, slotted}
+use Rattle.ild_path_place.proofs.ending.end_at_key.Goals as goal
+
+pub returns-in_err-trail-clause-reads : goal.returns-in_err-trail-clause-reads
+returns-in_err-trail-clause-reads g c = only_viewed c.args.holder.now (g.K.Store.moment c.args.store.now) (g.K.Store.moment c.enter.new.store) c.in_err-trail.ensures.reads
+
+pub returns-in-Err-clause-reads : goal.returns-in-Err-clause-reads
+returns-in-Err-clause-reads g c = only_viewed c.args.holder.now (g.K.Store.moment c.args.store.now) (g.K.Store.moment c.enter.new.store) c.in_ok-trail.ensures.reads
+
+pub returns-in_err-key_fits-clause-reads : goal.returns-in_err-key_fits-clause-reads
+returns-in_err-key_fits-clause-reads g c = only_viewed c.args.holder.now (g.K.Store.moment c.args.store.now) (g.K.Store.moment c.enter.new.store) c.in_ok-trail.ensures.reads
+
+pub returns-clause-reads : goal.returns-clause-reads
+returns-clause-reads g c = only_viewed c.args.holder.now (g.K.Store.moment c.args.store.now) (g.K.Store.moment c.enter.new.store) c.in_ok-trail.ensures.reads
+
+pub returns-in_err-trail-clause-told : goal.returns-in_err-trail-clause-told
+returns-in_err-trail-clause-told g c = λ was limit q told x.
+    let h = g.H.KeyHash.hash_of in
+    let rows = c.args.acc.now in
+    let view = c.args.holder.now in
+    let is = c.in-Some.ensures in
+    let ready = can h rows was limit q c.args.front c.args.room view x c.in-Some.slot is c.saturating_sub-less.result c.saturating_sub-less.ensures in
+    let e = c.in_err-trail.ensures.trie _ was (slot_of view) x.tree x.ps _ x.stands told ready in
+    let r = err_from_is_err_and c.from_residual.result c.from_residual.ensures.1 in
+    subst (λ k. EndsKey h rows was limit q c.args.front c.args.room view x k c.args.k c.args.verb (g.K.Store.moment c.args.store.now) c.from_residual.result (g.K.Store.moment c.enter.new.store)) c.as_str.ensures.same
+    (rw (r.1, r.2) (ends_wrong h rows was limit q c.args.front c.args.room view x c.in-Some.slot is c.saturating_sub-less.result c.saturating_sub-less.ensures c.as_str.result.now (g.K.Store.moment c.args.store.now) (g.K.Store.moment c.enter.new.store) e.gets
+    c.args.k c.args.verb c.in_err-trail.field-0.0 e.answer))
+
+pub returns-in-Err-clause-told : goal.returns-in-Err-clause-told
+returns-in-Err-clause-told g c = λ was limit q told x.
+    let h = g.H.KeyHash.hash_of in
+    let rows = c.args.acc.now in
+    let view = c.args.holder.now in
+    let m = g.K.Store.moment c.args.store.now in
+    let n = g.K.Store.moment c.enter.new.store in
+    let is = c.in-Some.ensures in
+    let ready = can h rows was limit q c.args.front c.args.room view x c.in-Some.slot is c.saturating_sub-less.result c.saturating_sub-less.ensures in
+    let e = c.in_ok-trail.ensures.trie _ was (slot_of view) x.tree x.ps _ x.stands told ready in
+    let answer = slotted h rows was limit q c.args.front c.args.room view x c.in-Some.slot is c.saturating_sub-less.result c.saturating_sub-less.ensures c.as_str.result.now c.in_ok-trail.field-0.entry e.answer.value c.is_some-there.result c.is_some-there.ensures c.args.verb
+    c.slot_at_key.result c.slot_at_key.ensures in
+    let own = subst (λ (r : Result Slot Refusal). SlotAnswer rows (slot_of view, map x.ps) c.as_str.result.now c.args.verb r) c.in-Err.is answer in
+    subst (λ i. EndsKey h rows was limit q c.args.front c.args.room view x i c.args.k c.args.verb m (Err c.refused.result) n) c.as_str.ensures.same
+    (subst (λ (z : PathFault). EndsKey h rows was limit q c.args.front c.args.room view x c.as_str.result.now c.args.k c.args.verb m (Err z) n) (sym c.refused.ensures)
+    (ends_refused h rows was limit q c.args.front c.args.room view x c.in-Some.slot is c.saturating_sub-less.result c.saturating_sub-less.ensures c.as_str.result.now m n e.gets c.args.k c.args.verb c.in-Err.refusal own))
+
+pub returns-in_err-key_fits-clause-told : goal.returns-in_err-key_fits-clause-told
+returns-in_err-key_fits-clause-told g c = λ was limit q told x.
+    let h = g.H.KeyHash.hash_of in
+    let rows = c.args.acc.now in
+    let view = c.args.holder.now in
+    let m = g.K.Store.moment c.args.store.now in
+    let n = g.K.Store.moment c.enter.new.store in
+    let is = c.in-Some.ensures in
+    let ready = can h rows was limit q c.args.front c.args.room view x c.in-Some.slot is c.saturating_sub-less.result c.saturating_sub-less.ensures in
+    let e = c.in_ok-trail.ensures.trie _ was (slot_of view) x.tree x.ps _ x.stands told ready in
+    let r = err_from_is_err_and c.from_residual-in_err-key_fits.result c.from_residual-in_err-key_fits.ensures.1 in
+    subst (λ i. EndsKey h rows was limit q c.args.front c.args.room view x i c.args.k c.args.verb m c.from_residual-in_err-key_fits.result n) c.as_str.ensures.same
+    (rw (r.1, r.2) (ends_wrong h rows was limit q c.args.front c.args.room view x c.in-Some.slot is c.saturating_sub-less.result c.saturating_sub-less.ensures c.as_str.result.now m n e.gets c.args.k c.args.verb Memory tt))
+
+pub returns-clause-told : goal.returns-clause-told
+returns-clause-told g c = λ was limit q told x.
+    let h = g.H.KeyHash.hash_of in
+    let rows = c.args.acc.now in
+    let view = c.args.holder.now in
+    let m = g.K.Store.moment c.args.store.now in
+    let n = g.K.Store.moment c.enter.new.store in
+    let is = c.in-Some.ensures in
+    let ready = can h rows was limit q c.args.front c.args.room view x c.in-Some.slot is c.saturating_sub-less.result c.saturating_sub-less.ensures in
+    let e = c.in_ok-trail.ensures.trie _ was (slot_of view) x.tree x.ps _ x.stands told ready in
+    let answer = slotted h rows was limit q c.args.front c.args.room view x c.in-Some.slot is c.saturating_sub-less.result c.saturating_sub-less.ensures c.as_str.result.now c.in_ok-trail.field-0.entry e.answer.value c.is_some-there.result c.is_some-there.ensures c.args.verb
+    c.slot_at_key.result c.slot_at_key.ensures in
+    let utf8 = subst IsUtf8 (sym c.as_str.ensures.same) c.as_str.ensures.utf8 in
+    let fits = subst (λ i. FitsAs rows (form_of rows (slot_of view)) c.is_some-there.result i c.in_ok-key_fits.key_fits) (c.as_str-2.ensures.same ∙ sym c.as_str.ensures.same) c.in_ok-key_fits.ensures in
+    let key = fitted h rows was limit q c.args.front c.args.room view x c.in-Some.slot is c.saturating_sub-less.result c.saturating_sub-less.ensures c.as_str.result.now c.in_ok-trail.field-0.entry e.answer.value c.is_some-there.result c.is_some-there.ensures utf8
+    c.in_ok-key_fits.key_fits fits in
+    let found : Found = record { end = AtKey c.args.front c.in_ok-trail.field-0.trail c.in_ok-trail.field-0.entry; slot = c.in-Ok.slot; key_fits = c.in_ok-key_fits.key_fits } in
+    subst (λ i. EndsKey h rows was limit q c.args.front c.args.room view x i c.args.k c.args.verb m (Ok found) n) c.as_str.ensures.same
+    (ends_there h rows was limit q c.args.front c.args.room view x c.in-Some.slot is c.saturating_sub-less.result c.saturating_sub-less.ensures c.as_str.result.now m n e.gets
+    c.args.k c.args.verb found c.in_ok-trail.field-0.trail c.in_ok-trail.field-0.entry refl utf8 e.answer.found e.answer.value
+    (subst (λ (r : Result Slot Refusal). SlotAnswer rows (slot_of view, map x.ps) c.as_str.result.now c.args.verb r) c.in-Ok.is answer) key)

@@ -1,0 +1,34 @@
+use Rattle.std.proofs.Common.{◌-◌, List, ℕ, [], ◌∷◌, ◌++◌, take, sym, subst, ◌∙◌, length}
+use Rattle.ild_schema.specs.declared.row.Row.{Row}
+use Rattle.ild_schema.specs.Slots.{plainly}
+use Rattle.ild_typed.specs.At.{InSlot}
+use Rattle.ild_typed.specs.Schema.{IsSchema}
+use Rattle.ild_view_doc.specs.Docs.{block_in, table_in, type_in}
+use Rattle.ild_path_inward.specs.Levels.{CanGo}
+use Rattle.ild_path_place.specs.Places.{Locates}
+use Rattle.ild_path_place.proofs.Docked.{can_go}
+use Rattle.ild_path_place.proofs.Located.{empty, split_last}
+use Rattle.ild_path_place.proofs.Whole.{locates_whole}
+use Rattle.ild_path_place.proofs.locating.locate.Goals as goal
+
+pub returns-in-Some-clause-stands : goal.returns-in-Some-clause-stands
+returns-in-Some-clause-stands g c = λ was v told own st.
+    let h = g.H.KeyHash.hash_of in
+    let rows = table_in c.args.doc.now in
+    let p : InSlot = (plainly (type_in c.args.doc.now), v) in
+    let schema = subst IsSchema c.schema.ensures (record { table = c.types-types.ensures.table; accepted = c.types-types.ensures.accepted }) in
+    let go = can_go h rows schema was (type_in c.args.doc.now) (block_in c.args.doc.now) v st own c.view.result c.view.ensures.table c.view.ensures.slot c.view.ensures.front in
+    let same = c.schema-in-Some.ensures in
+    let own = c.locate_last.ensures.told was p st.tree told (subst (λ (r : List Row). CanGo h r was 96 p st.tree c.view.result) (sym same) go) in
+    subst (λ (xs : List (List ℕ)). Locates h rows was p xs c.args.verb (g.K.Store.moment c.args.store.now) c.locate_last.result (g.K.Store.moment c.locate_last.new.store))
+    (split_last c.as_slice-segments.result.now c.in-Some.last.now c.in-Some.ensures.value ∙ c.as_slice-segments.ensures)
+    (subst (λ (r : List Row). Locates h r was p (take (length c.as_slice-segments.result.now - 1) c.as_slice-segments.result.now ++ c.in-Some.last.now ∷ []) c.args.verb (g.K.Store.moment c.args.store.now) c.locate_last.result (g.K.Store.moment c.locate_last.new.store)) same own)
+
+pub returns-in-None-clause-stands : goal.returns-in-None-clause-stands
+returns-in-None-clause-stands g c = λ was v told own st.
+    let h = g.H.KeyHash.hash_of in
+    let rows = table_in c.args.doc.now in
+    let p : InSlot = (plainly (type_in c.args.doc.now), v) in
+    subst (λ (xs : List (List ℕ)). Locates h rows was p xs c.args.verb (g.K.Store.moment c.args.store.now) c.whole.result (g.K.Store.moment c.args.store.now))
+    (sym (empty c.as_slice-segments.result.now c.in-None.ensures.value) ∙ c.as_slice-segments.ensures)
+    (locates_whole h rows was p (g.K.Store.moment c.args.store.now) _ c.view-in-None.ensures.slot c.args.verb c.whole.result c.whole.ensures.whole)

@@ -1,0 +1,44 @@
+use Rattle.std.proofs.Common.{List, refl, sym, subst, ◌∙◌}
+use Rattle.std.proofs.lemmas.Result.{err_from_is_err_and}
+use Rattle.ild_path_hops.specs.declared.hop.Hop.{Hop}
+use Rattle.ild_path_inward.specs.Inwards.{CanGoOn}
+use Rattle.ild_path_place.proofs.Located.{ends_there, ends_wrong, fails, goes_on, leads, nil_by, nowhere}
+use Rattle.ild_path_place.proofs.locating.locate_last.Goals as goal
+
+pub returns-in_err-hops-clause-told : goal.returns-in_err-hops-clause-told
+returns-in_err-hops-clause-told g c = λ was p d told x.
+    let r = err_from_is_err_and c.from_residual.result c.from_residual.ensures.1 in
+    rw (r.1, r.2) (fails g.H.KeyHash.hash_of c.args.acc.now was p d c.args.root x c.args.front.now c.args.last.now c.args.verb (g.K.Store.moment c.args.store.now) (g.K.Store.moment c.go_inward.new.store)
+    c.in_err-hops.field-0.0 (c.in_err-hops.ensures.told was p d told x))
+
+pub returns-then-not-is_empty-clause-told : goal.returns-then-not-is_empty-clause-told
+returns-then-not-is_empty-clause-told g c = λ was p d told x.
+    nowhere g.H.KeyHash.hash_of c.args.acc.now was p d c.args.root x c.args.front.now c.args.last.now c.args.verb (g.K.Store.moment c.args.store.now) (g.K.Store.moment c.go_inward.new.store)
+    c.in_ok-hops.field-0 (c.in_ok-hops.ensures.told was p d told x) c.is_empty.result c.is_empty.ensures c.if-not-is_empty.true c.saturating_sub.result c.saturating_sub.ensures
+
+pub returns-in_err-end-clause-told : goal.returns-in_err-end-clause-told
+returns-in_err-end-clause-told g c = λ was p d told x.
+    let h = g.H.KeyHash.hash_of in
+    let rows = c.args.acc.now in
+    let m = g.K.Store.moment c.args.store.now in
+    let k = g.K.Store.moment c.go_inward.new.store in
+    let a = c.in_ok-hops.ensures.told was p d told x in
+    let none = nil_by h rows was p d c.args.root x c.args.front.now c.args.last.now c.args.verb m k c.in_ok-hops.field-0 a c.is_empty.result c.is_empty.ensures c.if-not-is_empty.false in
+    let on = goes_on h rows was p d c.args.root x c.args.front.now c.args.last.now c.args.verb m k c.in_ok-hops.field-0 a none in
+    let to = leads h rows was p d c.args.root x c.args.front.now c.args.last.now c.args.verb m k c.in_ok-hops.field-0 a none in
+    let z = c.in_err-end.ensures.told was a.0.less a.0.inner a.0.holder on.0 (c.go_inward.ensures.reads.blocks ∙ told) (subst (λ (gs : List Hop). CanGoOn h rows was a.0.less a.0.inner on.0 c.args.root gs) (sym c.deref.ensures.value) on.1) to in
+    let r = err_from_is_err_and c.from_residual-in_err-end.result c.from_residual-in_err-end.ensures.1 in
+    rw (r.1, r.2) (ends_wrong h rows was p d c.args.root x c.args.front.now c.args.last.now c.args.verb m k c.in_ok-hops.field-0 a none c.go_inward.ensures.reads (g.K.Store.moment c.end_behind.new.store) _ refl c.in_err-end.field-0.0 z)
+
+pub returns-clause-told : goal.returns-clause-told
+returns-clause-told g c = λ was p d told x.
+    let h = g.H.KeyHash.hash_of in
+    let rows = c.args.acc.now in
+    let m = g.K.Store.moment c.args.store.now in
+    let k = g.K.Store.moment c.go_inward.new.store in
+    let a = c.in_ok-hops.ensures.told was p d told x in
+    let none = nil_by h rows was p d c.args.root x c.args.front.now c.args.last.now c.args.verb m k c.in_ok-hops.field-0 a c.is_empty.result c.is_empty.ensures c.if-not-is_empty.false in
+    let on = goes_on h rows was p d c.args.root x c.args.front.now c.args.last.now c.args.verb m k c.in_ok-hops.field-0 a none in
+    let to = leads h rows was p d c.args.root x c.args.front.now c.args.last.now c.args.verb m k c.in_ok-hops.field-0 a none in
+    let z = c.in_ok-end.ensures.told was a.0.less a.0.inner a.0.holder on.0 (c.go_inward.ensures.reads.blocks ∙ told) (subst (λ (gs : List Hop). CanGoOn h rows was a.0.less a.0.inner on.0 c.args.root gs) (sym c.deref.ensures.value) on.1) to in
+    ends_there h rows was p d c.args.root x c.args.front.now c.args.last.now c.args.verb m k c.in_ok-hops.field-0 a none c.go_inward.ensures.reads (g.K.Store.moment c.end_behind.new.store) _ c.in_ok-end.field-0 _ refl refl refl refl refl z

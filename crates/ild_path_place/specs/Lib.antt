@@ -1,0 +1,9 @@
+pub mod Faults
+pub mod Tells
+pub mod Places
+pub mod Slots
+pub mod Keys
+pub mod Endings
+pub mod Inner
+pub mod Comes
+pub mod Exhausting

@@ -1,0 +1,112 @@
+//! The end of a path, at the holder of its last segment.
+ghost use Rattle.std.specs.Prelude.{◌≡◌, ℕ, List, Some};
+ghost use Rattle.ild_open_parts.specs.Reads.{OnlyReads};
+ghost use Rattle.ild_path_place.specs.Endings.{CanEndAt, EndsIn, EndsKey, fault_at};
+ghost use Rattle.ild_schema.specs.Value.{Value};
+ghost use Rattle.ild_typed.specs.At.{InSlot};
+ghost use Rattle.ild_view.specs.View.{IsView, slot_of, table_of};
+
+use crate::fault::PathFault;
+use crate::key::fits_key;
+use crate::place::End;
+use crate::refusal::{Refusal, slot_at_key, slot_in_block};
+use crate::verb::Verb;
+use ild_data::{KeyHash, Path, Txt};
+use ild_edges::Store;
+use ild_path_enter::{Entered, enter};
+use ild_path_inward::value_slot;
+use ild_path_rules::key_fits;
+use ild_schema::{Accepted, Slot};
+use ild_view::View;
+use std::alloc::Global;
+
+/// How many levels a HAMT takes of the room of its values.
+const HAMT_LEVELS: u32 = 5;
+
+/// What was found at the end of a path.
+#[derive(Drop)]
+pub(crate) struct Found<'b> {
+    pub(crate) end: End<'b>,
+    pub(crate) slot: Slot,
+    pub(crate) key_fits: bool,
+}
+
+// Why there is no place at the segment with a number.
+fn refused(refusal: Refusal, k: usize) -> PathFault
+    ensures { result ≡ fault_at k refusal }
+{
+    match refusal {
+        Refusal::Path => PathFault::Path { k },
+        Refusal::Mismatch => PathFault::Mismatch,
+    }
+}
+
+/// The end at a holder that is no HAMT.
+pub(crate) fn end_in_block<'b>(
+    alloc: Global,
+    holder: &View<'_>,
+    front: Path,
+    last: &Txt,
+    k: usize,
+    verb: Verb,
+) -> Result<Found<'b>, PathFault>
+    ensures { (f : Value) → IsView holder.now f → EndsIn (table_of holder.now) (slot_of holder.now, f) front last.now k verb result }
+{
+    let slot = match slot_in_block(holder, last.as_str(), verb) {
+        Ok(slot) => slot,
+        Err(refusal) => return Err(refused(refusal, k)),
+    };
+    let key_fits = key_fits(alloc, holder, last.as_str())?;
+    let mut path = front;
+    path.push(last.copy()?)?;
+    Ok(Found {
+        end: End::InBlock(path),
+        slot,
+        key_fits,
+    })
+}
+
+/// The end at a key of a HAMT.
+pub(crate) fn end_at_key<'b, K: Store, H: KeyHash>(
+    alloc: Global,
+    acc: &'b Accepted,
+    holder: &View<'_>,
+    front: Path,
+    last: &Txt,
+    k: usize,
+    room: u32,
+    verb: Verb,
+    keys: &H,
+    store: &mut K,
+) -> Result<Found<'b>, PathFault>
+    requires { table_of holder.now ≡ acc.now }
+    ensures reads { OnlyReads (K.moment store.old) (K.moment store.new) }
+    ensures told { (was : List (List ℕ)) (limit : ℕ) (q : InSlot) → (K.moment store.old).blocks ≡ Some was → (x : CanEndAt H.hash_of acc.now was limit q front room holder.now)
+        → EndsKey H.hash_of acc.now was limit q front room holder.now x last.now k verb (K.moment store.old) result (K.moment store.new) }
+{
+    let Some(slot) = value_slot(acc, holder) else {
+        return Err(PathFault::Memory);
+    };
+    let less = room.saturating_sub(HAMT_LEVELS);
+    let Entered { trail, entry } = enter(
+        alloc,
+        acc,
+        slot,
+        holder,
+        last.as_str(),
+        less,
+        keys,
+        store,
+    )?;
+    let there = entry.is_some();
+    let slot = match slot_at_key(slot, there, verb) {
+        Ok(slot) => slot,
+        Err(refusal) => return Err(refused(refusal, k)),
+    };
+    let key_fits = fits_key(alloc, acc, holder, there, last.as_str())?;
+    Ok(Found {
+        end: End::AtKey(front, trail, entry),
+        slot,
+        key_fits,
+    })
+}

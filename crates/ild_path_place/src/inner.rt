@@ -1,0 +1,83 @@
+//! The end of a path in the innermost block.
+ghost use Rattle.std.specs.Prelude.{◌≡◌, ℕ, List, Some};
+ghost use Rattle.ild_data.specs.Data.{Data};
+ghost use Rattle.ild_open_parts.specs.Reads.{OnlyReads};
+ghost use Rattle.ild_path_inward.specs.Inwards.{CanGoOn};
+ghost use Rattle.ild_path_place.specs.Inner.{CanEnd, EndsThere, LeadsTo};
+ghost use Rattle.ild_typed.specs.At.{InSlot};
+ghost use Rattle.ild_view.specs.View.{table_of};
+
+use crate::ending::{Found, end_at_key, end_in_block};
+use crate::fault::PathFault;
+use crate::verb::Verb;
+use ild_data::{KeyHash, Path, Txt};
+use ild_edges::Store;
+use ild_path_hops::Hop;
+use ild_path_inward::halt_in;
+use ild_schema::Accepted;
+use ild_view::View;
+use std::alloc::Global;
+
+// The end of a path in the block with this root view: the segments to the holder of its last segment, which has this number.
+fn end_of<'b, K: Store, H: KeyHash>(
+    alloc: Global,
+    acc: &'b Accepted,
+    inner: &View<'_>,
+    front: Path,
+    last: &Txt,
+    k: usize,
+    room: u32,
+    verb: Verb,
+    keys: &H,
+    store: &mut K,
+) -> Result<Found<'b>, PathFault>
+    requires { table_of inner.now ≡ acc.now }
+    ensures reads { OnlyReads (K.moment store.old) (K.moment store.new) }
+    ensures told { (was : List (List ℕ)) (limit : ℕ) (q holder : InSlot) (d : Data) → (K.moment store.old).blocks ≡ Some was → CanEnd H.hash_of acc.now was limit q d inner.now → LeadsTo acc.now limit q front room holder
+        → EndsThere H.hash_of acc.now was limit q front holder last.now k verb (K.moment store.old) result (K.moment store.new) }
+{
+    let holder = halt_in(inner, front.as_slice(), room).view;
+    match holder.hamt() {
+        Some(_) => end_at_key(alloc, acc, &holder, front, last, k, room, verb, keys, store),
+        None => end_in_block(alloc, &holder, front, last, k, verb),
+    }
+}
+
+/// The end of a path behind these HAMTs.
+pub(crate) fn end_behind<'b, K: Store, H: KeyHash>(
+    alloc: Global,
+    acc: &'b Accepted,
+    root: &View<'_>,
+    hops: &[Hop<'b>],
+    front: Path,
+    last: &Txt,
+    k: usize,
+    room: u32,
+    verb: Verb,
+    keys: &H,
+    store: &mut K,
+) -> Result<Found<'b>, PathFault>
+    requires { table_of root.now ≡ acc.now }
+    ensures reads { OnlyReads (K.moment store.old) (K.moment store.new) }
+    ensures told { (was : List (List ℕ)) (limit : ℕ) (q holder : InSlot) (d : Data) → (K.moment store.old).blocks ≡ Some was → CanGoOn H.hash_of acc.now was limit q d root.now hops.now → LeadsTo acc.now limit q front room holder
+        → EndsThere H.hash_of acc.now was limit q front holder last.now k verb (K.moment store.old) result (K.moment store.new) }
+{
+    match hops.last() {
+        Some(hop) => {
+            let entry = &hop.entry;
+            end_of(
+                alloc,
+                entry.schema(),
+                &entry.view(),
+                front,
+                last,
+                k,
+                room,
+                verb,
+                keys,
+                store,
+            )
+        }
+        None => end_of(alloc, acc, root, front, last, k, room, verb, keys, store),
+    }
+}

@@ -1,0 +1,62 @@
+//! Places.
+use crate::verb::{Verb, comes};
+use ild_data::Path;
+use ild_hamt::Trail;
+use ild_path_entry::Entry;
+use ild_path_hops::Hop;
+use ild_schema::Slot;
+use ild_view::View;
+
+/// How a path ends in the innermost block.
+#[derive(Drop)]
+pub enum End<'b> {
+    /// With the whole of it: the path is empty.
+    Whole,
+    /// With these segments, none of which is a HAMT's key.
+    InBlock(Path),
+    /// With the segments to a HAMT and its key, whose trail this is, and the value there, if there is one.
+    AtKey(Path, Trail, Option<Entry<'b>>),
+}
+
+/// The place at which a path ends, in a value whose root view this is, for what is to be done there. What it tells was found
+/// when it was located.
+#[derive(Drop)]
+pub struct Place<'b> {
+    pub(crate) root: View<'b>,
+    pub(crate) verb: Verb,
+    pub(crate) hops: Vec<Hop<'b>>,
+    pub(crate) end: End<'b>,
+    pub(crate) slot: Slot,
+    pub(crate) key_fits: bool,
+}
+
+impl<'b> Place<'b> {
+    ghost use Rattle.std.specs.Prelude.{◌≡◌};
+    ghost use Rattle.ild_path_place.specs.Tells.{fits_in, slot_in};
+    ghost use Rattle.ild_path_place.specs.Exhausting.{Exhausts};
+
+    /// The slot of the part. Inside an Any it is that of any value, or null.
+    pub fn slot(&self) -> Slot
+        ensures { result ≡ slot_in self.now }
+    {
+        self.slot
+    }
+
+    /// Whether the last segment is a key that is there, or a text of the type of keys, or no key at all.
+    pub fn key_fits(&self) -> bool
+        ensures { result ≡ fits_in self.now }
+    {
+        self.key_fits
+    }
+
+    /// Whether the HAMT at whose key a part is to come would have no trie with it: the key is new, and too many keys agree with it in
+    /// all bits of their hashes.
+    pub fn exhausted(&self) -> bool
+        ensures { Exhausts self.now.verb self.now.end result }
+    {
+        match &self.end {
+            End::AtKey(_, trail, _) => trail.exhausted() & comes(self.verb),
+            End::Whole | End::InBlock(_) => false,
+        }
+    }
+}

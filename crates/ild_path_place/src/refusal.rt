@@ -1,0 +1,73 @@
+//! Whether something may be done at a segment.
+ghost use Rattle.ild_path_place.specs.Slots.{IsSlotOr, KeySlot, SlotAnswer};
+ghost use Rattle.ild_path_place.specs.declared.verb.Verb.TheVariants.{Read, Del};
+ghost use Rattle.ild_schema.specs.Value.{Value};
+ghost use Rattle.ild_view.specs.View.{IsView, slot_of, table_of};
+
+use crate::verb::Verb;
+use ild_path_rules::{DeleteFault, refusal_to_delete, slot_to_insert, slot_to_set};
+use ild_schema::Slot;
+use ild_view::View;
+
+/// Why nothing may be done at a segment.
+#[derive(Clone, Copy, Debug, PartialEq, Eq)]
+pub(crate) enum Refusal {
+    /// No part is there, or none may come there.
+    Path,
+    /// What is there can't be deleted.
+    Mismatch,
+}
+
+// The slot of the part at a segment.
+fn slot_there(holder: &View<'_>, segment: &str) -> Result<Slot, Refusal>
+    ensures { (f : Value) → IsView holder.now f → SlotAnswer (table_of holder.now) (slot_of holder.now, f) segment.now Read result }
+{
+    match holder.part(segment) {
+        Some(part) => Ok(part.slot()),
+        None => Err(Refusal::Path),
+    }
+}
+
+// The slot of the part at a segment, where it may be deleted.
+fn slot_to_delete(holder: &View<'_>, segment: &str) -> Result<Slot, Refusal>
+    ensures { (f : Value) → IsView holder.now f → SlotAnswer (table_of holder.now) (slot_of holder.now, f) segment.now Del result }
+{
+    match refusal_to_delete(holder, segment) {
+        Some(DeleteFault::Path) => Err(Refusal::Path),
+        Some(DeleteFault::Mismatch) => Err(Refusal::Mismatch),
+        None => slot_there(holder, segment),
+    }
+}
+
+// A slot, if there is one.
+fn slot_or(slot: Option<Slot>) -> Result<Slot, Refusal>
+    ensures { IsSlotOr slot result }
+{
+    match slot {
+        Some(slot) => Ok(slot),
+        None => Err(Refusal::Path),
+    }
+}
+
+/// The slot of the part that comes to a segment, or of the one that is there, of a holder that is no HAMT.
+pub(crate) fn slot_in_block(holder: &View<'_>, segment: &str, verb: Verb) -> Result<Slot, Refusal>
+    ensures { (f : Value) → IsView holder.now f → SlotAnswer (table_of holder.now) (slot_of holder.now, f) segment.now verb result }
+{
+    match verb {
+        Verb::Read => slot_there(holder, segment),
+        Verb::Set => slot_or(slot_to_set(holder, segment)),
+        Verb::Ins => slot_or(slot_to_insert(holder, segment)),
+        Verb::Del => slot_to_delete(holder, segment),
+    }
+}
+
+/// The same at a key of a HAMT whose values are of this slot, by whether it is there.
+pub(crate) fn slot_at_key(slot: Slot, there: bool, verb: Verb) -> Result<Slot, Refusal>
+    ensures { KeySlot slot there verb result }
+{
+    match verb {
+        Verb::Set => Ok(slot),
+        Verb::Ins => { if there { Err(Refusal::Path) } else { Ok(slot) } }
+        Verb::Read | Verb::Del => { if there { Ok(slot) } else { Err(Refusal::Path) } }
+    }
+}

@@ -1,0 +1,51 @@
+-- Blocks among others, and blocks that are too long.
+use Rattle.std.proofs.Common.{◌≡◌, inl, inr, ⊎_elim, ℕ, zero, suc, ◌<◌, ◌≤◌, Bool, true, false, ◌||◌, List, [], ◌∷◌, length, refl, sym, ap, ◌∙◌, subst, arith, slice_index_or}
+use Rattle.std.proofs.lemmas.Bool.{or_cases}
+use Rattle.std.proofs.lemmas.List.{length-append}
+use Rattle.ild_data.specs.Data.{Data}
+use Rattle.ild_data.specs.Spell.{spell}
+use Rattle.ild_data.specs.Tree.{IsTree}
+use Rattle.ild_typed.specs.Composed.{usual}
+use Rattle.ild_typed.specs.Hamt.{root_map}
+use Rattle.ild_bulk.specs.Build.{any_long, is_long}
+use Rattle.ild_bulk.specs.Putting.{IsAmong}
+use Rattle.ild_path_nodes.specs.NodeLaws.{AreAmong}
+
+contained : (k : ℕ) (xs : List (List ℕ)) (x : List ℕ) → k < length xs → slice_index_or xs k x ≡ x → IsAmong x xs
+contained k [] x less is = absurd (omega (arith, less))
+contained zero (y ∷ ys) x less is = inl (sym is)
+contained (suc k) (y ∷ ys) x less is = inr (contained k ys x (omega (arith, less)) is)
+
+pub among_of : (b : List ℕ) (bs held : List (List ℕ)) → AreAmong bs held → IsAmong b bs → IsAmong b held
+among_of b [] held all is = absurd is
+among_of b (c ∷ cs) held all is =
+    ⊎_elim (λ same. subst (λ z. IsAmong z held) (sym same) (contained all.0.0 held c all.0.1 all.0.2)) (λ more. among_of b cs held all.1 more) is
+
+or_first : (a b : Bool) → a ≡ true → (a || b) ≡ true
+or_first true b is = refl
+or_first false b is = absurd cc
+
+or_later : (a b : Bool) → b ≡ true → (a || b) ≡ true
+or_later true b is = refl
+or_later false b is = is
+
+pub long_root : (b : List ℕ) (bs : List (List ℕ)) → is_long b ≡ true → any_long (b ∷ bs) ≡ true
+long_root b bs is = or_first (is_long b) (any_long bs) is
+
+pub long_one : (bs : List (List ℕ)) → any_long bs ≡ true → (b : List ℕ) × IsAmong b bs × (is_long b ≡ true)
+long_one [] is = absurd cc
+long_one (b ∷ bs) is = ⊎_elim (λ here. (b, inl refl, here)) (λ more. let x = long_one bs more in (x.0, inr x.1, x.2)) (or_cases (is_long b) (any_long bs) is)
+
+pub long_any : (b : List ℕ) (bs : List (List ℕ)) → IsAmong b bs → is_long b ≡ true → any_long bs ≡ true
+long_any b [] is long = absurd is
+long_any b (c ∷ cs) is long = ⊎_elim (λ same. or_first (is_long c) (any_long cs) (ap is_long (sym same) ∙ long)) (λ more. or_later (is_long c) (any_long cs) (long_any b cs more long)) is
+
+-- ---- the root map around a node
+
+pub root_longer : (node : Data) → length (spell node) ≤ length (spell (root_map usual node))
+root_longer node =
+    let rest : List ℕ = 103 ∷ 104 ∷ 97 ∷ 115 ∷ 104 ∷ 65 ∷ 108 ∷ 103 ∷ 18 ∷ 106 ∷ 98 ∷ 117 ∷ 99 ∷ 107 ∷ 101 ∷ 116 ∷ 83 ∷ 105 ∷ 122 ∷ 101 ∷ 3 ∷ [] in
+    omega (arith, length-append (spell node) rest)
+
+pub node_tree : (node : Data) → IsTree (root_map usual node) → IsTree node
+node_tree node is = is.1

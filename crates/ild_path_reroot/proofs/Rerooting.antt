@@ -1,0 +1,180 @@
+-- What a rewritten way leaves of a HAMT.
+use Rattle.std.proofs.Common.{◌≡◌, inl, inr, ⊎_elim, ℕ, ◌+◌, ◌≤◌, true, List, ◌∷◌, length, Option, Some, None, sym, ap, ◌∙◌, subst, arith}
+use Rattle.std.specs.Prelude.{Result, Ok, Err, is_some}
+use Rattle.std.specs.FinMap.{find, put as insert}
+use Rattle.std.proofs.lemmas.Bool.{or_cases, ltb-true, lt-ltb}
+use Rattle.std.proofs.lemmas.List.{length-reverse}
+use Rattle.std.proofs.lemmas.Option.{same_Some}
+use Rattle.ild_data.specs.ByteOrder.{bytewise, without as remove}
+use Rattle.ild_data.specs.Data.{Data}
+use Rattle.ild_data.specs.Key.{value_at}
+use Rattle.ild_data.specs.Limits.{longest_block}
+use Rattle.ild_data.specs.Spell.{spell}
+use Rattle.ild_data.specs.Tree.{IsTree}
+use Rattle.ild_data.specs.TrieBlocks.{nodes_beneath}
+use Rattle.ild_data.specs.TrieShape.{trie_levels}
+use Rattle.ild_edges.specs.Store.{Moment, Later, Keeps, block_at}
+use Rattle.ild_edges.specs.Told.{IfTold, BothTold}
+use Rattle.ild_edges.proofs.Later.{Later-refl}
+use Rattle.ild_schema.specs.declared.number.Slot.{Slot}
+use Rattle.ild_schema.specs.declared.row.Row.{Row}
+use Rattle.ild_schema.specs.Value.{Value, Pairs, pairs_list}
+use Rattle.ild_node_slots.specs.declared.fault.HamtFault.{HamtFault}
+use Rattle.ild_node_slots.specs.declared.fault.HamtFault.TheVariants as F
+use Rattle.ild_hamt_trie.specs.Way.{way}
+use Rattle.ild_typed.specs.Blocks.{nodes}
+use Rattle.ild_typed.specs.Composed.{usual}
+use Rattle.ild_typed.specs.Hamt.{root_map}
+use Rattle.ild_typed.proofs.TreeValues.{whole_tree}
+use Rattle.ild_bulk.specs.Build.{any_long, is_long}
+use Rattle.ild_bulk.specs.Putting.{IsAmong, PutsAll}
+use Rattle.ild_hamt_climb.specs.Rewriting.{HasRoot, IsLongWay, Rewrites, way_up}
+use Rattle.ild_bulk_walker.specs.Trees.{HoldsBelow}
+use Rattle.ild_hamt.specs.Removing.{Removes}
+use Rattle.ild_hamt.specs.Rewriting.{HoldsAfter}
+use Rattle.ild_hamt.specs.declared.trail.Trail.{Trail}
+use Rattle.ild_hamt.proofs.Beneath.{among-turned, way-beneath}
+use Rattle.ild_open_held.specs.Held.{IsHeld}
+use Rattle.ild_path_held.specs.Hamts.{IsTrieIn, IsValueOf}
+use Rattle.ild_path_held.specs.HeldEdits.{HasTrie}
+use Rattle.ild_path_held.proofs.Holding.{held_stays}
+use Rattle.ild_path_held.proofs.Tries.{hamts_are_put, hamts_are_cut, hamts_have_tries}
+use Rattle.ild_path_entered.specs.Entered.{with_entry, without_entry}
+use Rattle.ild_path_reroot.specs.Reroots.{AddsNodes, EditAnswer, EditsHamt, IsCut, IsHamtHeld, IsPut, MakesRoot}
+use Rattle.ild_path_reroot.proofs.Among.{among_of, long_root, long_one, long_any, node_tree, root_longer}
+
+-- v is the HAMT of the new entries, and is held where their nodes are; the nodes of the old entries are held
+pub record Ready (h : List ℕ → List ℕ) (rows : List Row) (was : List (List ℕ)) (s : Slot) (room : ℕ) (v : Value) (x : Data) (es fs : List (List ℕ × Data)) : Type 0 where
+  pub has : HasTrie h rows s v x fs
+  pub tree : IsTree x
+  pub holds : HoldsBelow h usual was (trie_levels usual) 0 es
+  pub made : (now : List (List ℕ)) → Keeps was now → HoldsBelow h usual now (trie_levels usual) 0 fs → IsHeld (block_at now) h rows room s (root_map usual has.node) v
+
+told_from : {A : Type 0} (o q : Option A) (was : A) (P Q : A → A → Type 0) → o ≡ Some was → ((now : A) → P was now → Q was now) → BothTold o q P → BothTold o q Q
+told_from None q was P Q is f t = absurd cc
+told_from (Some a) None was P Q is f t = absurd t
+told_from (Some a) (Some b) was P Q is f t = let same : was ≡ a = cc in subst (λ c. Q c b) same (f b (subst (λ c. P c b) (sym same) t))
+
+told_now : {A : Type 0} (o q : Option A) (was : A) (P Q : A → A → Type 0) (R : A → Type 0) → o ≡ Some was → ((now : A) → P was now → Q was now → R now) → BothTold o q P → BothTold o q Q → IfTold q R
+told_now None q was P Q R is f t u = absurd cc
+told_now (Some a) None was P Q R is f t u = absurd t
+told_now (Some a) (Some b) was P Q R is f t u = let same : was ≡ a = cc in f b (subst (λ c. P c b) (sym same) t) (subst (λ c. Q c b) (sym same) u)
+
+module _ (h : List ℕ → List ℕ) (rows : List Row) (was : List (List ℕ)) (s : Slot) (room : ℕ) (v : Value) (x : Data) (k : List ℕ) (es fs : List (List ℕ × Data)) (ready : Ready h rows was s room v x es fs) (m n : Moment) where
+  -- a block of the way is a node of v
+  of_way : (b : List ℕ) → IsAmong b (way_up h usual k fs) → IsAmong b (nodes h rows s v)
+  of_way b is = among_of b (nodes_beneath h usual (trie_levels usual) 0 fs) (nodes h rows s v) ready.has.among (way-beneath h usual k (trie_levels usual) 0 fs b (among-turned b (way h usual k (trie_levels usual) 0 fs) is))
+
+  pub same_node : (root : List ℕ) → HasRoot h usual fs root → root ≡ spell ready.has.node
+  same_node root has = has.spelled ∙ ap spell (same_Some has.node ready.has.node (sym has.is ∙ ready.has.is_node))
+
+  pub tree_node : IsTree ready.has.node
+  tree_node = node_tree ready.has.node (subst IsTree ready.has.root ready.tree)
+
+  long_map : (root : List ℕ) → HasRoot h usual fs root → is_long root ≡ true → is_long (spell x) ≡ true
+  long_map root has is =
+      let node = ready.has.node in
+      ap (λ y. is_long (spell y)) ready.has.root ∙ lt-ltb longest_block (length (spell (root_map usual node))) (omega (arith, root_longer node, ltb-true longest_block (length (spell node)) (sym (ap is_long (same_node root has)) ∙ is)))
+
+  too_long : IsLongWay h usual k fs → any_long (spell x ∷ nodes h rows s v) ≡ true
+  too_long is =
+      ⊎_elim (λ here. long_root (spell x) (nodes h rows s v) (long_map is.root is.has here))
+      (λ more. let y = long_one (way_up h usual k fs) more in long_any y.0 (spell x ∷ nodes h rows s v) (inr (of_way y.0 y.1)) y.2)
+      (or_cases (is_long is.root) (any_long (way_up h usual k fs)) is.long)
+
+  failed : (e : HamtFault) → Rewrites h usual k fs m (Err e) n → EditAnswer h rows room s v x m (Err e) n
+  failed F.Exhausted is = absurd is
+  failed F.NoKey is = absurd is
+  failed F.Size is = too_long is.0
+  failed F.Memory is = tt
+  failed F.Store is = is.puts.answer
+  failed (F.Block id why) is = absurd is.puts.answer
+  failed (F.Clash id kept new) is = let a = is.puts.answer in (of_way new a.0, a.1, a.2, a.3, a.4)
+
+  abbrev Moves : Type 0
+  Moves = Later m n × (n.puts ≤ m.puts + length (way h usual k (trie_levels usual) 0 fs))
+
+  still : n ≡ m → Moves
+  still is = (subst (Later m) (sym is) (Later-refl m), let same = ap (λ (y : Moment). y.puts) is in omega (arith, same))
+
+  put_all : (r : Result (Unit {0}) HamtFault) → PutsAll m (way_up h usual k fs) r n → Moves
+  put_all r puts = (puts.later, let up = puts.puts in omega (arith, length-reverse (way h usual k (trie_levels usual) 0 fs), up))
+
+  moved : (e : HamtFault) → Rewrites h usual k fs m (Err e) n → Moves
+  moved F.Exhausted is = absurd is
+  moved F.NoKey is = absurd is
+  moved F.Size is = still is.1
+  moved F.Memory is = ⊎_elim still (λ stops. put_all (Err F.Memory) stops.puts) is
+  moved F.Store is = put_all (Err F.Store) is.puts
+  moved (F.Block id why) is = put_all (Err (F.Block id why)) is.puts
+  moved (F.Clash id kept new) is = put_all (Err (F.Clash id kept new)) is.puts
+
+  module _ (told : m.blocks ≡ Some was) where
+    added : (r : Result (List ℕ) HamtFault) → BothTold m.blocks n.blocks (HoldsAfter h es fs r) → BothTold m.blocks n.blocks (AddsNodes h rows s v)
+    added r after =
+        told_from m.blocks n.blocks was (HoldsAfter h es fs r) (AddsNodes h rows s v) told
+        (λ now is. record {
+          nodes = λ id b held. ⊎_elim (λ before. inl before) (λ among. inr (among_of b (nodes_beneath h usual (trie_levels usual) 0 fs) (nodes h rows s v) ready.has.among among)) (is.nodes id b held);
+          whole = is.whole ready.holds;
+        }) after
+
+    pub edit_failed : (e : HamtFault) → Rewrites h usual k fs m (Err e) n → BothTold m.blocks n.blocks (HoldsAfter h es fs (Err e)) → EditsHamt h rows s room k fs v x m (Err e) n
+    edit_failed e is after = let y = moved e is in record { answer = failed e is; later = y.0; adds = added (Err e) after; puts = y.1 }
+
+    answered : (root : List ℕ) → Rewrites h usual k fs m (Ok root) n → BothTold m.blocks n.blocks (HoldsAfter h es fs (Ok root)) → (r : Result (List ℕ) HamtFault) → MakesRoot (spell (root_map usual ready.has.node)) r → EditAnswer h rows room s v x m r n
+    answered root is after (Ok b) makes = (
+      makes.0 ∙ ap spell (sym ready.has.root),
+      makes.1,
+      told_now m.blocks n.blocks was Keeps (HoldsAfter h es fs (Ok root)) (λ now. IsHeld (block_at now) h rows room s x v) told
+          (λ now keeps x'. subst (λ y. IsHeld (block_at now) h rows room s y v) (sym ready.has.root) (ready.made now keeps (x'.held ready.holds))) is.2.later.keeps after,
+    )
+    answered root is after (Err F.Size) makes = long_root (spell x) (nodes h rows s v) (ap (λ y. is_long (spell y)) ready.has.root ∙ lt-ltb longest_block (length (spell (root_map usual ready.has.node))) makes)
+    answered root is after (Err F.Memory) makes = tt
+    answered root is after (Err F.Exhausted) makes = absurd makes
+    answered root is after (Err F.NoKey) makes = absurd makes
+    answered root is after (Err F.Store) makes = absurd makes
+    answered root is after (Err (F.Block id why)) makes = absurd makes
+    answered root is after (Err (F.Clash id kept new)) makes = absurd makes
+
+    pub edit_done : (root : List ℕ) → Rewrites h usual k fs m (Ok root) n → BothTold m.blocks n.blocks (HoldsAfter h es fs (Ok root)) → (r : Result (List ℕ) HamtFault) → MakesRoot (spell (root_map usual ready.has.node)) r → EditsHamt h rows s room k fs v x m r n
+    edit_done root is after r makes = let y = put_all (Ok tt) is.2 in record { answer = answered root is after r makes; later = y.0; adds = added (Ok root) after; puts = y.1 }
+
+-- ---- an entry put, and gone
+
+pub put_ready : (h : List ℕ → List ℕ) (rows : List Row) (was : List (List ℕ)) (s elem : Slot) (t d x : Data) (ps : Pairs) (es : List (List ℕ × Data)) (k : List ℕ) (room : ℕ) (w : Value) (trail : Trail)
+    → IsHamtHeld h rows was s elem t ps es k trail → IsPut h rows was s elem room ps k w d x → Ready h rows was s room (with_entry k w ps) x es (insert bytewise k d es)
+put_ready h rows was s elem t d x ps es k room w trail at put =
+    let has = (hamts_have_tries h rows was s elem t x ps es k at.hamt at.trie).0 w d put.held.tree put.tree in
+    record {
+      has = has;
+      tree = (whole_tree h rows at.schema.table.texts.spelled room s (with_entry k w ps) x put.fits put.tree).tree;
+      holds = at.trie.holds;
+      made = λ now keeps holds. hamts_are_put h rows was now keeps at.before room put.less s elem t t d has.node ps es k w at.hamt at.held at.trie at.utf8 (held_stays h rows was now put.less elem d w keeps put.held) put.fits has.is_node holds;
+    }
+
+pub cut_ready : (h : List ℕ → List ℕ) (rows : List Row) (was : List (List ℕ)) (s elem : Slot) (t x : Data) (ps : Pairs) (es : List (List ℕ × Data)) (k : List ℕ) (room : ℕ) (trail : Trail)
+    → IsHamtHeld h rows was s elem t ps es k trail → IsCut h rows s room ps k x → Ready h rows was s room (without_entry k ps) x es (remove k es)
+cut_ready h rows was s elem t x ps es k room trail at cut =
+    let has = (hamts_have_tries h rows was s elem t x ps es k at.hamt at.trie).1 cut.tree in
+    record {
+      has = has;
+      tree = (whole_tree h rows at.schema.table.texts.spelled room s (without_entry k ps) x cut.fits cut.tree).tree;
+      holds = at.trie.holds;
+      made = λ now keeps holds. hamts_are_cut h rows was now keeps at.before room s elem t t has.node ps es k at.hamt at.held at.trie cut.fits has.is_node holds;
+    }
+
+none_there : (h : List ℕ → List ℕ) (rows : List Row) (elem : Slot) (o : Option Value) (q : Option Data) → IsValueOf h rows elem o q → is_some o ≡ true → q ≡ None → ⊥
+none_there h rows elem None q is there none = cc
+none_there h rows elem (Some w) None is there none = is
+none_there h rows elem (Some w) (Some d) is there none = cc
+
+pub cut_rewrites : (h : List ℕ → List ℕ) (rows : List Row) (was : List (List ℕ)) (elem : Slot) (t : Data) (ps : Pairs) (es : List (List ℕ × Data)) (k : List ℕ) (m n : Moment) (r : Result (List ℕ) HamtFault)
+    → IsTrieIn h rows was elem ps t es → is_some (value_at k (pairs_list ps)) ≡ true → Removes h usual k es m r n → Rewrites h usual k (remove k es) m r n
+cut_rewrites h rows was elem t ps es k m n (Ok root) trie there is = is.1
+cut_rewrites h rows was elem t ps es k m n (Err F.NoKey) trie there is = absurd (none_there h rows elem (value_at k (pairs_list ps)) (find bytewise k es) (trie.found k) there is.0)
+cut_rewrites h rows was elem t ps es k m n (Err F.Exhausted) trie there is = is.1
+cut_rewrites h rows was elem t ps es k m n (Err F.Size) trie there is = is.1
+cut_rewrites h rows was elem t ps es k m n (Err F.Memory) trie there is = is.1
+cut_rewrites h rows was elem t ps es k m n (Err F.Store) trie there is = is.1
+cut_rewrites h rows was elem t ps es k m n (Err (F.Block id why)) trie there is = is.1
+cut_rewrites h rows was elem t ps es k m n (Err (F.Clash id kept new)) trie there is = is.1

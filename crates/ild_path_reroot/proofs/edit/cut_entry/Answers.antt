@@ -1,0 +1,34 @@
+use Rattle.std.specs.Prelude.{Ok, Err}
+use Rattle.std.proofs.lemmas.Result.{err_from_is_err_and}
+use Rattle.ild_data.specs.ByteOrder.{without}
+use Rattle.ild_hamt.specs.Rewriting.{IsTrailFrom}
+use Rattle.ild_schema.specs.Value.{hamt}
+use Rattle.ild_path_entered.specs.Entered.{without_entry}
+use Rattle.ild_path_reroot.proofs.Rerooting.{cut_rewrites, edit_done, edit_failed, cut_ready, same_node, tree_node}
+use Rattle.ild_path_reroot.proofs.Causing.{caused_after}
+use Rattle.ild_path_reroot.proofs.edit.cut_entry.Goals as goal
+
+-- src/edit.rt:42:16
+pub returns-in_err-node-clause-cuts : goal.returns-in_err-node-clause-cuts
+returns-in_err-node-clause-cuts g c = λ rows was s elem t x ps es k room view told at new.
+    let slots = c.in-Some.ensures (hamt t) view in
+    let from : IsTrailFrom c.in-Some.root c.args.trail g.H.KeyHash.hash_of k slots.0 es = record { has = slots.2; trail = at.trail slots.0 slots.1 } in
+    let ready = cut_ready g.H.KeyHash.hash_of rows was s elem t x ps es k room c.args.trail at new in
+    let p = err_from_is_err_and c.from_residual.result c.from_residual.ensures.1 in
+    rw (p.1, p.2) (edit_failed g.H.KeyHash.hash_of rows was s room (without_entry k ps) x k es (without k es) ready (g.K.Store.moment c.args.store.now) (g.K.Store.moment c.remove.new.store) told c.in_err-node.field-0.0
+    (cut_rewrites g.H.KeyHash.hash_of rows was elem t ps es k (g.K.Store.moment c.args.store.now) (g.K.Store.moment c.remove.new.store) (Err c.in_err-node.field-0.0) at.trie new.there (c.in_err-node.ensures.removes k slots.0 es from)) (c.in_err-node.ensures.held k slots.0 es from))
+
+-- src/edit.rt:24:1
+pub returns-clause-cuts : goal.returns-clause-cuts
+returns-clause-cuts g c = λ rows was s elem t x ps es k room view told at new.
+    let slots = c.in-Some.ensures (hamt t) view in
+    let from : IsTrailFrom c.in-Some.root c.args.trail g.H.KeyHash.hash_of k slots.0 es = record { has = slots.2; trail = at.trail slots.0 slots.1 } in
+    let ready = cut_ready g.H.KeyHash.hash_of rows was s elem t x ps es k room c.args.trail at new in
+    let sets = cut_rewrites g.H.KeyHash.hash_of rows was elem t ps es k (g.K.Store.moment c.args.store.now) (g.K.Store.moment c.remove.new.store) (Ok c.in_ok-node.node) at.trie new.there (c.in_ok-node.ensures.removes k slots.0 es from) in
+    let held = c.in_ok-node.ensures.held k slots.0 es from in
+    edit_done g.H.KeyHash.hash_of rows was s room (without_entry k ps) x k es (without k es) ready (g.K.Store.moment c.args.store.now) (g.K.Store.moment c.remove.new.store) told c.in_ok-node.node sets held c.root_around.result
+    (c.root_around.ensures.made ready.has.node (same_node g.H.KeyHash.hash_of rows was s room (without_entry k ps) x k es (without k es) ready (g.K.Store.moment c.args.store.now) (g.K.Store.moment c.remove.new.store) c.in_ok-node.node sets.0)
+    (tree_node g.H.KeyHash.hash_of rows was s room (without_entry k ps) x k es (without k es) ready (g.K.Store.moment c.args.store.now) (g.K.Store.moment c.remove.new.store)))
+
+pub returns-clause-caused : goal.returns-clause-caused
+returns-clause-caused g c = caused_after _ _ c.in_ok-node.node c.root_around.result c.in_ok-node.ensures.caused c.root_around.ensures.fault
