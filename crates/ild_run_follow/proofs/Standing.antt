@@ -1,0 +1,100 @@
+-- What stands at the views to which a path leads.
+use Rattle.std.proofs.Common.{◌≡◌, ℕ, List, Option, Some, None, sym, ap, ◌∙◌, subst}
+use Rattle.std.proofs.Math.Logic.{∥∥₁_elim, ∥∥₁_map}
+use Rattle.std.proofs.Props.{props}
+use Rattle.std.proofs.lemmas.Option.{same_Some}
+use Rattle.ild_data.specs.Data.{Data}
+use Rattle.ild_edges.specs.Store.{Below, Keeps, Moment, StaysBelow, StaysGiven, block_at}
+use Rattle.ild_edges.specs.Told.{BothTold}
+use Rattle.ild_typed_fronts.proofs.Representing.{fronts_are_fronts, fronts_represent}
+use Rattle.ild_typed_fronts.specs.Front.{front}
+use Rattle.ild_open_held.specs.Held.{IsHeld}
+use Rattle.ild_open_held_parts.specs.Leads.{IsFrontOf}
+use Rattle.ild_open_parts.specs.Reads.{OnlyReads}
+use Rattle.ild_schema.specs.Value.{Value}
+use Rattle.ild_schema.specs.declared.number.Slot.{Slot}
+use Rattle.ild_schema.specs.declared.row.Row.{Row}
+use Rattle.ild_typed.specs.At.{InSlot}
+use Rattle.ild_typed.specs.Hamt.{alone}
+use Rattle.ild_typed.specs.Represented.{represented}
+use Rattle.ild_typed.specs.Schema.{IsSchema}
+use Rattle.ild_view.specs.Body.{BodyStands}
+use Rattle.ild_view.specs.Parts.{IsPartView}
+use Rattle.ild_view.specs.View.{IsView, body_of, slot_of, table_of}
+use Rattle.ild_view.specs.declared.view.View.{View}
+use Rattle.ild_run_follow.specs.Tells.{IsAt}
+use Rattle.ild_run_follow.proofs.Slots.{safe_is}
+
+-- ---- gets alone, of which it is known that they were
+
+kept_same : (a b : Option (List (List ℕ))) → b ≡ a → BothTold a b Keeps
+kept_same None b is = subst (λ (x : Option (List (List ℕ))). BothTold None x Keeps) (sym is) tt
+kept_same (Some held) b is = subst (λ (x : Option (List (List ℕ))). BothTold (Some held) x Keeps) (sym is) (λ id c here. here)
+
+given_same : (a b : Option (List (List ℕ))) → b ≡ a → BothTold a b StaysGiven
+given_same None b is = subst (λ (x : Option (List (List ℕ))). BothTold None x StaysGiven) (sym is) tt
+given_same (Some held) b is = subst (λ (x : Option (List (List ℕ))). BothTold (Some held) x StaysGiven) (sym is) (λ id here. here)
+
+below_of : (m n : Moment) (a b : Option Below) → ∥ BothTold a b (StaysBelow m n) ∥₁ → BothTold a b (StaysBelow m n)
+below_of m n None None some = tt
+below_of m n None (Some c) some = ∥∥₁_elim some (hlevel props) (λ x. x)
+below_of m n (Some b) None some = ∥∥₁_elim some (hlevel props) (λ x. x)
+below_of m n (Some b) (Some c) some = record {
+  names = ∥∥₁_elim some (hlevel props) (λ x. x.names);
+  blocks = ∥∥₁_elim some (hlevel props) (λ x. x.blocks);
+  given = ∥∥₁_elim some (hlevel props) (λ x. x.given);
+  puts = ∥∥₁_elim some (hlevel props) (λ x. x.puts);
+  gets = λ p q. ∥∥₁_elim some (hlevel props) (λ x. x.gets p q);
+}
+
+pub only_of : (m n : Moment) → ∥ OnlyReads m n ∥₁ → OnlyReads m n
+only_of m n some =
+    let blocks : n.blocks ≡ m.blocks = ∥∥₁_elim some (hlevel props) (λ o. o.blocks) in
+    let given : n.given ≡ m.given = ∥∥₁_elim some (hlevel props) (λ o. o.given) in
+    record {
+      blocks = blocks;
+      given = given;
+      puts = ∥∥₁_elim some (hlevel props) (λ o. o.puts);
+      later = record {
+        keeps = kept_same m.blocks n.blocks blocks;
+        given = given_same m.given n.given given;
+        gets = ∥∥₁_elim some (hlevel props) (λ o. o.later.gets);
+        puts = ∥∥₁_elim some (hlevel props) (λ o. o.later.puts);
+        lacks = ∥∥₁_elim some (hlevel props) (λ o. o.later.lacks);
+        faults = ∥∥₁_elim some (hlevel props) (λ o. o.later.faults);
+        beneath = below_of m n m.beneath n.beneath (∥∥₁_map some (λ o. o.later.beneath));
+      };
+    }
+
+-- ---- values at views
+
+-- the front of a value that is held at a view is what the view stands for
+pub viewed : (h : List ℕ → List ℕ) (view : View) (m : Moment) (t : Data) (v : Value) → IsSchema (table_of view) → IsAt h view m t v → IsView view (front h (table_of view) (slot_of view) v)
+viewed h view m t v schema at = record {
+  room = 96;
+  tree = t;
+  stands = at.stands;
+  front = fronts_are_fronts h (table_of view) schema 96 (slot_of view) v t (safe_is (table_of view) (slot_of view) view.safe) at.value.fits at.value.tree;
+}
+
+-- and a view of the front of a value that is held is one of its data
+at_view : (h : List ℕ → List ℕ) (held : List (List ℕ)) (m : Moment) → m.blocks ≡ Some held → (view : View) (p : InSlot) (f : Value) → slot_of view ≡ p.0 → f ≡ front h (table_of view) p.0 p.1 → IsView view f
+    → (tree : Data) → IsHeld (block_at held) h (table_of view) 96 p.0 tree p.1 → IsAt h view m tree p.1
+at_view h held m told view p f is_slot is_front v tree has =
+    let rows = table_of view in
+    let same : v.tree ≡ tree =
+    same_Some v.tree tree (sym v.front.tree ∙ ap (λ (s : Slot). represented alone rows s f) is_slot ∙ ap (represented alone rows p.0) is_front ∙ fronts_represent h rows p.0 p.1 ∙ has.tree) in
+    record {
+      held = held;
+      told = told;
+      stands = subst (BodyStands rows (body_of view)) same v.stands;
+      value = subst (λ (s : Slot). IsHeld (block_at held) h rows 96 s tree p.1) (sym is_slot) has;
+    }
+
+pub part_at : (h : List ℕ → List ℕ) (rows : List Row) (held : List (List ℕ)) (m : Moment) → m.blocks ≡ Some held → (q p : InSlot) (view : View) → IsPartView rows q view → (x : IsFrontOf (block_at held) h rows 96 q p)
+    → IsAt h view m x.tree p.1
+part_at h rows held m told q p view w x =
+    let slot : slot_of view ≡ p.0 = w.slot ∙ ap (λ (y : InSlot). y.0) x.front in
+    let own : q.1 ≡ front h rows p.0 p.1 = ap (λ (y : InSlot). y.1) x.front in
+    at_view h held m told view p q.1 slot (subst (λ (r : List Row). q.1 ≡ front h r p.0 p.1) (sym w.table) own) w.view x.tree
+    (subst (λ (r : List Row). IsHeld (block_at held) h r 96 p.0 x.tree p.1) (sym w.table) x.held)

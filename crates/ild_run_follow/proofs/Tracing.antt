@@ -1,0 +1,69 @@
+-- A trail through a HAMT, and the value at its end.
+use Rattle.std.proofs.Common.{◌≡◌, ℕ, List, Option, Some, Result, Ok, Err, sym, ◌∙◌, subst}
+use Rattle.std.proofs.lemmas.Option.{same_Some}
+use Rattle.ild_cbor.specs.declared.node.Node.{Node}
+use Rattle.ild_cbor.specs.declared.why.BlockWhy.{BlockWhy}
+use Rattle.ild_cbor.specs.declared.why.Why.{Why}
+use Rattle.ild_data.specs.Data.{Data}
+use Rattle.ild_data.specs.Trie.{TrieSlot}
+use Rattle.ild_data.specs.declared.id.BlockId.{BlockId}
+use Rattle.ild_edges.specs.Store.{Moment}
+use Rattle.ild_hamt.specs.Descending.{DescendAnswer, Descends, TrailIs}
+use Rattle.ild_hamt.specs.declared.trail.Trail.{Trail}
+use Rattle.ild_schema.specs.declared.def.TypeDef.{TypeDef}
+use Rattle.ild_schema.specs.declared.number.Slot.{Slot}
+use Rattle.ild_schema.specs.declared.number.TypeNo.{TypeNo}
+use Rattle.ild_schema.specs.declared.row.Row.{Row}
+use Rattle.ild_node_slots.specs.declared.fault.HamtFault.{HamtFault}
+use Rattle.ild_node_slots.specs.declared.fault.HamtFault.TheVariants as H
+use Rattle.ild_typed.specs.Composed.{usual}
+use Rattle.ild_typed.specs.Fits.{Fits}
+use Rattle.ild_typed.specs.Layers.{Shows}
+use Rattle.ild_typed.specs.Schema.{IsSchema}
+use Rattle.ild_typed.specs.WhyLaws.{RefusedHaveNoFront}
+use Rattle.ild_view.specs.View.{Views}
+use Rattle.ild_view.specs.declared.view.View.{View}
+use Rattle.ild_view_walk.specs.Checks.{IsRefusal}
+use Rattle.ild_run_follow.specs.Enters.{ChecksEntry, EnterAnswer, EntersTrie, IsValueSlot}
+use Rattle.ild_run_follow.specs.Faults.{hamt_fault}
+use Rattle.ild_run_follow.specs.Tells.{FailsOnly}
+use Rattle.ild_run_follow.specs.declared.fault.ReadFault.{ReadFault}
+use Rattle.ild_run_follow.specs.declared.fault.ReadFault.TheVariants as F
+use Rattle.ild_run_follow.proofs.Slots.{safe_is}
+
+abbrev pub entered_as : Result Trail HamtFault → Result Trail ReadFault
+entered_as (Ok t) = Ok t
+entered_as (Err e) = Err (hamt_fault e)
+
+module _ (h : List ℕ → List ℕ) (k : List ℕ) (slots : List TrieSlot) (m n : Moment) where
+  enter_answer : (es : List (List ℕ × Data)) (r : Result Trail HamtFault) (bs : List (List ℕ)) (last : List TrieSlot) → DescendAnswer h usual k m bs last r n → TrailIs h usual k slots es r → EnterAnswer h k slots es m (entered_as r) n
+  enter_answer es (Ok t) bs last a is = is
+  enter_answer es (Err (H.Block id why)) bs last a is = absurd is
+  enter_answer es (Err H.Store) bs last a is = a
+  enter_answer es (Err H.Memory) bs last a is = tt
+  enter_answer es (Err e) bs last a is = absurd is
+
+  enter_failed : (r : Result Trail HamtFault) (bs : List (List ℕ)) (last : List TrieSlot) → DescendAnswer h usual k m bs last r n → FailsOnly m (entered_as r) n
+  enter_failed (Ok t) bs last a = tt
+  enter_failed (Err (H.Block id why)) bs last a = tt
+  enter_failed (Err H.Store) bs last a = a
+  enter_failed (Err H.Memory) bs last a = tt
+  enter_failed (Err e) bs last a = tt
+
+  pub enters : (r : Result Trail HamtFault) → Descends h usual k slots m r n → EntersTrie h k slots m (entered_as r) n
+  enters r d = record {
+    answer = λ es t. enter_answer es r d.bs d.last d.answer (d.trie es t.held t.root t.told t.holds).trail;
+    gets = λ es t. (d.trie es t.held t.root t.told t.holds).gets;
+    only = record { later = d.reads.later; blocks = d.reads.blocks; given = d.reads.given; puts = d.reads.puts };
+    failed = enter_failed r d.bs d.last d.answer;
+  }
+
+module _ (rows : List Row) (schema : IsSchema rows) (never : RefusedHaveNoFront) (d : Option TypeDef) (node : Node) (slot : Slot) (is : IsValueSlot rows d (Some slot)) (t : Data) where
+  pub checks_view : (view : View) → Views rows 96 slot node t (Ok view) → ChecksEntry rows d node t (Ok view)
+  checks_view view v = (slot, is.0, v.0)
+
+  pub checks_refused : (id : BlockId) (w : BlockWhy) (ty : TypeNo) (why : Why) → IsRefusal rows 96 slot t ty why → ChecksEntry rows d node t (Err (F.Block id w))
+  checks_refused id w ty why v = λ s e shows.
+      let same : s ≡ slot = same_Some s slot (sym e ∙ is.0) in
+      let f : Shows (Fits rows 96) rows slot t = subst (λ (u : Slot). Shows (Fits rows 96) rows u t) same shows in
+      never rows schema 96 slot (safe_is rows slot is.2) t v.refusal v.refused f.0 (record { fits = f.1; tree = f.2 })

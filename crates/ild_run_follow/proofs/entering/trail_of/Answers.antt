@@ -1,0 +1,16 @@
+use Rattle.std.proofs.Common.{Err, Result, sym, ap, ◌∙◌, subst}
+use Rattle.ild_hamt.specs.declared.trail.Trail.{Trail}
+use Rattle.ild_run_follow.specs.Enters.{EntersTrie}
+use Rattle.ild_run_follow.specs.declared.fault.ReadFault.{ReadFault}
+use Rattle.ild_run_follow.proofs.Tracing.{entered_as, enters}
+use Rattle.ild_run_follow.proofs.entering.trail_of.Goals as goal
+
+pub returns-in-Ok : goal.returns-in-Ok
+returns-in-Ok g c = λ slots has.
+    subst (λ (r : Result Trail ReadFault). EntersTrie g.H.KeyHash.hash_of c.args.key.now slots (g.K.Store.moment c.args.store.now) r (g.K.Store.moment c.descend.new.store)) (ap entered_as c.in-Ok.is)
+    (enters g.H.KeyHash.hash_of c.args.key.now slots (g.K.Store.moment c.args.store.now) (g.K.Store.moment c.descend.new.store) c.descend.result (c.descend.ensures slots has))
+
+pub returns-in-Err : goal.returns-in-Err
+returns-in-Err g c = λ slots has.
+    subst (λ (r : Result Trail ReadFault). EntersTrie g.H.KeyHash.hash_of c.args.key.now slots (g.K.Store.moment c.args.store.now) r (g.K.Store.moment c.descend.new.store)) (ap entered_as c.in-Err.is ∙ ap Err (sym c.of_hamt.ensures))
+    (enters g.H.KeyHash.hash_of c.args.key.now slots (g.K.Store.moment c.args.store.now) (g.K.Store.moment c.descend.new.store) c.descend.result (c.descend.ensures slots has))

@@ -1,0 +1,95 @@
+//! What is told of the part at a view.
+ghost use Rattle.std.specs.Prelude.{◌≡◌, ◌<◌, IfOk, length, true};
+ghost use Rattle.ild_data.specs.Seen.{data_of};
+ghost use Rattle.ild_run_follow.specs.Tells.{LoadsPart, TellsHere, ToldBy};
+ghost use Rattle.ild_run_follow.specs.Told.{is_loaded};
+
+use crate::fault::{ReadFault, of_open};
+use crate::kind::Tell;
+use ild_data::{KeyHash, Tree};
+use ild_edges::Store;
+use ild_open::load;
+use ild_schema::{Accepted, Slot, Val};
+use ild_value_parts::{count, parts};
+use ild_value_shown::shown;
+use ild_view::View;
+use std::alloc::{AllocError, Global};
+
+// The value at a view.
+fn loaded<K: Store, H: KeyHash>(
+    alloc: Global,
+    view: &View<'_>,
+    keys: &H,
+    store: &mut K,
+) -> Result<Val, ReadFault>
+    ensures { LoadsPart H.hash_of view.now (K.moment store.old) result (K.moment store.new) }
+{
+    // It does no work: its clauses say what acceptance says of the table.
+    let _types = view.schema().types();
+    match load(alloc, view, keys, store) {
+        Ok(val) => Ok(val),
+        Err(fault) => Err(of_open(&fault)),
+    }
+}
+
+// What is told of a value that was loaded.
+fn told_by(
+    alloc: Global,
+    acc: &Accepted,
+    slot: Slot,
+    val: &Val,
+    tell: Tell,
+) -> Result<Option<Tree>, AllocError>
+    requires { slot.ty.0 < length acc.now }
+    ensures { IfOk result (ToldBy acc.now slot val.now tell) }
+{
+    match tell {
+        Tell::Shown => {
+            let tree = shown(alloc, acc, slot, val)?;
+            Ok(Some(tree))
+        }
+        Tell::Count => Ok(count(acc, slot, val)),
+        Tell::Parts => parts(alloc, acc, slot, val),
+        Tell::Representation => Ok(None),
+        Tell::Presence => Ok(None),
+    }
+}
+
+// What is told of the part at a view once it is loaded.
+fn tell_loaded<K: Store, H: KeyHash>(
+    alloc: Global,
+    view: &View<'_>,
+    tell: Tell,
+    keys: &H,
+    store: &mut K,
+) -> Result<Tree, ReadFault>
+    requires loads { is_loaded tell ≡ true }
+    ensures { TellsHere H.hash_of view.now tell (K.moment store.old) result (K.moment store.new) }
+{
+    let val = loaded(alloc, view, keys, store)?;
+    match told_by(alloc, view.schema(), view.slot(), &val, tell)? {
+        Some(tree) => Ok(tree),
+        None => Err(ReadFault::Path),
+    }
+}
+
+/// What is told of the part at a view.
+pub(crate) fn tell_here<K: Store, H: KeyHash>(
+    alloc: Global,
+    view: &View<'_>,
+    tell: Tell,
+    keys: &H,
+    store: &mut K,
+) -> Result<Tree, ReadFault>
+    ensures { TellsHere H.hash_of view.now tell (K.moment store.old) result (K.moment store.new) }
+{
+    // It does no work, as above.
+    let _types = view.schema().types();
+    match tell {
+        Tell::Presence => Ok(Tree::Bool(true)),
+        Tell::Representation => Ok(view.rep(alloc)?),
+        Tell::Shown => tell_loaded(alloc, view, Tell::Shown, keys, store),
+        Tell::Count => tell_loaded(alloc, view, Tell::Count, keys, store),
+        Tell::Parts => tell_loaded(alloc, view, Tell::Parts, keys, store),
+    }
+}

@@ -1,0 +1,2 @@
+mod Empties
+mod Putting

@@ -1,0 +1,189 @@
+-- Putting the block of an empty value.
+use Rattle.std.proofs.Common.{◌≡◌, ◌⊎◌, ℕ, ◌+◌, ◌≤◌, List, [], ◌∷◌, Option, Some, None, Result, Ok, Err, sym, ap, ◌∙◌, subst, inl, inr, arith}
+use Rattle.std.specs.Prelude.{length, Contains}
+use Rattle.std.specs.List.{AllByRecursion}
+use Rattle.std.proofs.lemmas.List.Elements.{Contains-push_cases}
+use Rattle.ild_build_blocks.specs.Builds.{Builds, BuildAnswer}
+use Rattle.ild_build_blocks.specs.declared.fault.BuildFault.{BuildFault}
+use Rattle.ild_build_blocks.specs.declared.fault.BuildFault.TheVariants as B
+use Rattle.ild_data.specs.Limits.{longest_block}
+use Rattle.ild_data.specs.Spell.{spell, id_of}
+use Rattle.ild_data.specs.declared.id.BlockId.{BlockId}
+use Rattle.ild_edges.proofs.Later.{Later-trans}
+use Rattle.ild_edges.specs.Store.{Moment, block_at}
+use Rattle.ild_edges.specs.Told.{IfTold, BothTold}
+use Rattle.ild_schema.specs.Slots.{plainly}
+use Rattle.ild_schema.specs.Value.{Value}
+use Rattle.ild_schema.specs.declared.number.TypeNo.{TypeNo}
+use Rattle.ild_schema.specs.declared.row.Row.{Row}
+use Rattle.ild_script_session.specs.Puts.{PutAnswer, PutsBlock}
+use Rattle.ild_script_session.specs.Step.{AddsOnly}
+use Rattle.ild_script_session.specs.declared.putting.PutFault.{PutFault}
+use Rattle.ild_script_session.specs.declared.putting.PutFault.TheVariants as P
+use Rattle.ild_view_doc.specs.Docs.{IsDoc, block_in}
+use Rattle.ild_view_doc.specs.declared.doc.Doc.{Doc}
+use Rattle.ild_run_open.specs.Empty.{IsEmpty, empty_blocks}
+use Rattle.ild_run_open.specs.Starts.{KeepsEmpty, Starts, EmptyStops}
+use Rattle.ild_run_open.specs.Steps.{built_fault, put_fault, BuildsEmpty, BuildEmptyAnswer, PutsEmpty, PutEmptyAnswer}
+use Rattle.ild_run_open.specs.declared.start.Start.TheVariants as S
+use Rattle.ild_run_open.specs.declared.start.StartFault.{StartFault}
+use Rattle.ild_run_open.specs.declared.start.StartFault.TheVariants as F
+use Rattle.ild_run_open.proofs.Empties.{fits, one_block, nodes_gone, empty_block}
+
+-- ---- what came
+
+abbrev CameOnly : List (List ℕ) → List (List ℕ) → List (List ℕ) → Type 0
+CameOnly bs was now = (id b : List ℕ) → block_at now id ≡ Some b → (block_at was id ≡ Some b) ⊎ Contains bs b
+
+not_in_none : (b : List ℕ) → Contains [] b → ⊥
+not_in_none b among = let less = among.1 in absurd (omega (arith, less))
+
+more_came : (bs : List (List ℕ)) (a b : Option (List (List ℕ))) → BothTold a b (CameOnly []) → BothTold a b (CameOnly bs)
+more_came bs None None p = tt
+more_came bs None (Some y) p = absurd p
+more_came bs (Some x) None p = absurd p
+more_came bs (Some x) (Some y) p = λ id b held. by b (p id b held)
+  where
+    by : {A : Type 0} (b : List ℕ) → A ⊎ Contains [] b → A ⊎ Contains bs b
+    by b (inl held) = inl held
+    by b (inr among) = absurd (not_in_none b among)
+
+then_came : (bs : List (List ℕ)) (a b c : Option (List (List ℕ))) → BothTold a b (CameOnly []) → BothTold b c (CameOnly bs) → BothTold a c (CameOnly bs)
+then_came bs None None None p q = tt
+then_came bs None None (Some z) p q = absurd q
+then_came bs None (Some y) c p q = absurd p
+then_came bs (Some x) None c p q = absurd p
+then_came bs (Some x) (Some y) None p q = absurd q
+then_came bs (Some x) (Some y) (Some z) p q = λ id b held. by id b (q id b held)
+  where
+    then_by : (b : List ℕ) {A : Type 0} → A ⊎ Contains [] b → A ⊎ Contains bs b
+    then_by b (inl held) = inl held
+    then_by b (inr among) = absurd (not_in_none b among)
+
+    by : (id b : List ℕ) → (block_at y id ≡ Some b) ⊎ Contains bs b → (block_at x id ≡ Some b) ⊎ Contains bs b
+    by id b (inl there) = then_by b (p id b there)
+    by id b (inr among) = inr among
+
+-- ---- the block
+
+-- what building answers, as what is told of it
+abbrev pub block_result : Result (List ℕ) BuildFault → Result (List ℕ) StartFault
+block_result (Ok b) = Ok b
+block_result (Err f) = Err (built_fault f)
+
+module _ (h : List ℕ → List ℕ) (rows : List Row) (ty : TypeNo) (v : Value) (empty : IsEmpty rows ty v) (m n : Moment) where
+  answered : (result : Result (List ℕ) BuildFault) → BuildAnswer h rows (plainly ty) v m result n → BuildEmptyAnswer h rows ty v m (block_result result) n
+  answered (Ok b) built = record {
+    tree = built.has.tree;
+    storable = record {
+      fits = fits rows ty v empty;
+      tree = built.has.represented;
+      sized = subst (λ (bs : List (List ℕ)). AllByRecursion (λ b. length b ≤ longest_block) bs) (sym (one_block h rows ty v built.has.tree empty)) (built.has.sized.0, tt);
+    };
+    spelled = built.spelled;
+  }
+  answered (Err B.Store) built = built.0
+  answered (Err B.Exhausted) built = tt
+  answered (Err B.Size) built = tt
+  answered (Err (B.Clash id kept new)) built = tt
+  answered (Err B.Memory) built = tt
+
+  pub builds : (result : Result (List ℕ) BuildFault) → Builds h rows (plainly ty) v m result n → BuildsEmpty h rows ty v m (block_result result) n
+  builds result x =
+      let few : n.puts ≤ m.puts + 0 = nodes_gone h rows ty v (λ ns. n.puts ≤ m.puts + length ns) empty x.steps.puts in
+      let some : m.puts ≤ n.puts = x.steps.later.puts in
+      record {
+        answer = answered result x.answer;
+        later = x.steps.later;
+        adds = nodes_gone h rows ty v (AddsOnly m n) empty x.steps.adds;
+        gets = x.steps.gets;
+        puts = omega (arith, few, some);
+      }
+
+  unbuilt : (f : StartFault) → BuildEmptyAnswer h rows ty v m (Err f) n → EmptyStops h rows ty m f n
+  unbuilt F.Store answer = answer
+  unbuilt F.Memory answer = tt
+  unbuilt F.Mismatch answer = absurd answer
+  unbuilt (F.Block id why) answer = absurd answer
+  unbuilt (F.Clash id) answer = absurd answer
+
+  pub not_put : (f : StartFault) → BuildsEmpty h rows ty v m (Err f) n → PutsEmpty h rows ty m (Err f) n
+  not_put f x = record {
+    answer = unbuilt f x.answer;
+    asks = record {
+      later = x.later;
+      adds = more_came (empty_blocks h rows ty) m.blocks n.blocks x.adds;
+      gets = let same = x.gets in omega (arith, same);
+      puts = let same = x.puts in omega (arith, same);
+    };
+  }
+
+-- ---- the put
+
+abbrev pub put_result : List ℕ → Result BlockId PutFault → Result (List ℕ) StartFault
+put_result block (Ok id) = Ok block
+put_result block (Err f) = Err (put_fault f)
+
+module _ (h : List ℕ → List ℕ) (rows : List Row) (ty : TypeNo) (v : Value) (empty : IsEmpty rows ty v) (m j n : Moment) (block : List ℕ) (built : BuildsEmpty h rows ty v m (Ok block) j) where
+  blocks_are : block ∷ [] ≡ empty_blocks h rows ty
+  blocks_are = ap (λ b. b ∷ []) built.answer.spelled ∙ sym (empty_block h rows ty v built.answer.tree empty built.answer.storable.tree)
+
+  is_block : (b : List ℕ) → Contains (block ∷ []) b → block ≡ b
+  is_block b among = by (Contains-push_cases [] block b among)
+    where
+      by : Contains [] b ⊎ (block ≡ b) → block ≡ b
+      by (inl none) = absurd (not_in_none b none)
+      by (inr same) = same
+
+  keeps : (result : Result BlockId PutFault) → PutsBlock j block result n → KeepsEmpty h rows ty m n
+  keeps result puts = record {
+    later = Later-trans m j n built.later puts.later;
+    adds = subst (AddsOnly m n) blocks_are (then_came (block ∷ []) m.blocks j.blocks n.blocks built.adds puts.adds);
+    gets = let same = built.gets in let no = puts.gets in omega (arith, same, no);
+    puts = let same = built.puts in let one = puts.puts in omega (arith, same, one);
+  }
+
+  put_answer : (result : Result BlockId PutFault) → PutAnswer j block result n → PutEmptyAnswer h rows ty m (put_result block result) n
+  put_answer (Ok id) answer = record { value = v; empty = empty; is = built.answer; held = answer.1 }
+  put_answer (Err P.Failed) answer = let rose = answer in let before = built.later.faults in omega (arith, rose, before)
+  put_answer (Err (P.Clash id)) answer =
+      let hit = answer.1 in
+      record {
+        hit = record { kept = hit.kept; new = hit.new; held = hit.held; among = subst (λ (bs : List (List ℕ)). Contains bs hit.new) blocks_are hit.among; collide = hit.collide };
+        named = answer.0 ∙ ap id_of (is_block hit.new hit.among);
+      }
+  put_answer (Err P.Memory) answer = tt
+
+  pub puts : (result : Result BlockId PutFault) → PutsBlock j block result n → PutsEmpty h rows ty m (put_result block result) n
+  puts result x = record { answer = put_answer result x.answer; asks = keeps result x }
+
+-- ---- its document
+
+told_one : (told : Option (List (List ℕ))) (held : List (List ℕ)) (b : List ℕ) → told ≡ Some held → IfTold told (λ blocks. AllByRecursion (λ x. block_at blocks (id_of x) ≡ Some x) (b ∷ [])) → block_at held (id_of b) ≡ Some b
+told_one told held b is holds = (subst (λ o. IfTold o (λ blocks. AllByRecursion (λ x. block_at blocks (id_of x) ≡ Some x) (b ∷ []))) is holds).0
+
+pub starts : (h : List ℕ → List ℕ) (rows : List Row) (ty : TypeNo) (m n : Moment) (block : List ℕ) (d : Doc) → PutsEmpty h rows ty m (Ok block) n → IsDoc rows ty block d → Starts h rows ty S.Empty m (Ok d) n
+starts h rows ty m n block d puts doc =
+    let has = puts.answer in
+    let spelled : block_in d ≡ spell has.is.tree = doc.block ∙ has.is.spelled in
+    record {
+      asks = puts.asks;
+      answer = record {
+        table = doc.table;
+        type = doc.type;
+        first = λ held told. record {
+          value = has.value;
+          is = record {
+            stands = record {
+              tree = has.is.tree;
+              storable = has.is.storable;
+              root = ap id_of spelled;
+              all = subst (λ (bs : List (List ℕ)). AllByRecursion (λ b. block_at held (id_of b) ≡ Some b) bs) (sym (one_block h rows ty has.value has.is.tree has.empty))
+                  (subst (λ b. block_at held (id_of b) ≡ Some b) has.is.spelled (told_one n.blocks held block told has.held), tt);
+            };
+            spelled = spelled;
+          };
+          from = has.empty;
+        };
+      };
+    }

@@ -1,0 +1,53 @@
+//! What is told of a part, as a reply.
+ghost use Rattle.std.specs.Prelude.{◌≡◌, ◌⊎◌};
+ghost use Rattle.ild_data.specs.Seen.{data_of};
+ghost use Rattle.ild_script_meaning.specs.Lines.{printed};
+ghost use Rattle.ild_run_reads.specs.Replies.{RepliesAs, refusal_of};
+
+use ild_data::{KeyHash, Path, Tree};
+use ild_edges::Store;
+use ild_json::{PrintErr, print};
+use ild_run_follow::{ReadFault, Tell, tell};
+use ild_script::{No, Reply};
+use ild_view::View;
+use std::alloc::Global;
+
+// Data as a reply.
+fn reply_of(alloc: Global, tree: &Tree) -> Reply
+    ensures { (result ≡ printed (data_of tree.now)) ⊎ (result ≡ Reply.No No.Memory) }
+{
+    match print(alloc, tree) {
+        Ok(json) => Reply::Ok(json),
+        Err(PrintErr::Reserved) => Reply::No(No::Reserved),
+        Err(PrintErr::Memory) => Reply::No(No::Memory),
+    }
+}
+
+// A fault as a refusal.
+fn refusal(fault: &ReadFault) -> No
+    ensures { result ≡ refusal_of fault.now }
+{
+    match fault {
+        ReadFault::Path => No::Path,
+        ReadFault::Block { .. } => No::Block,
+        ReadFault::Store => No::Store,
+        ReadFault::Memory => No::Memory,
+    }
+}
+
+/// The reply to a read of the value at a view: the reply that is due on the plain value, or a refusal for a cause that is there.
+pub fn read<K: Store, H: KeyHash>(
+    alloc: Global,
+    view: &View<'_>,
+    path: &Path,
+    what: Tell,
+    keys: &H,
+    store: &mut K,
+) -> Reply
+    ensures { RepliesAs H.hash_of view.now path.now what (K.moment store.old) result (K.moment store.new) }
+{
+    match tell(alloc, view, path, what, keys, store) {
+        Ok(tree) => reply_of(alloc, &tree),
+        Err(fault) => Reply::No(refusal(&fault)),
+    }
+}

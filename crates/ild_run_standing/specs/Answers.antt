@@ -1,0 +1,33 @@
+-- What an answer to a line leaves of a document and of the store.
+use Rattle.std.specs.Prelude.{◌≡◌, ℕ, List, Option, Some}
+use Rattle.ild_edges.specs.Count.{Rose}
+use Rattle.ild_edges.specs.Store.{Moment, Later}
+use Rattle.ild_schema.specs.Value.{Value}
+use Rattle.ild_script.specs.declared.reply.No.{No}
+use Rattle.ild_script.specs.declared.reply.No.TheVariants as N
+use Rattle.ild_script.specs.declared.reply.Reply.{Reply}
+use Rattle.ild_script.specs.declared.reply.Reply.TheVariants as R
+use Rattle.ild_path_edits.specs.Judged.{Tests, AreTests}
+use Rattle.ild_script_session.specs.Session.{idle, resting}
+use Rattle.ild_script_session.specs.Step.{Replies}
+use Rattle.ild_script_meaning.specs.Ask.{Ask}
+use Rattle.ild_script_meaning.specs.Lines.{Setting, due, typed_lines}
+use Rattle.ild_view_doc.specs.Docs.{table_in, type_in, block_in}
+use Rattle.ild_view_doc.specs.declared.doc.Doc.{Doc}
+use Rattle.ild_run_standing.specs.Standing.{IsAt, IsHeldAt, setting_of}
+
+-- The document stands at the next value then, and the reply is what the ask is due on the value before.
+pub record LeadsOn (h : List ℕ → List ℕ) (w : Setting) (new : Doc) (a : Ask) (m : Moment) (v : Value) (reply : Option Reply) (n : Moment) : Type 0 where
+  pub next : Value
+  pub at : IsAt h new n next
+  pub replies : Replies (typed_lines w) m (resting v) (due w a (idle v)) reply n (resting next)
+
+-- Of every store: what was held is held, the table and the type stay, a refusal leaves the block, and that the store failed is told only
+-- where it did. From where the document stands, whichever the tests of its table are: the reply due, and it stands at what is due next.
+pub record AnswersAs (h : List ℕ → List ℕ) (old new : Doc) (a : Ask) (m : Moment) (reply : Option Reply) (n : Moment) : Type 0 where
+  pub later : Later m n
+  pub table : table_in new ≡ table_in old
+  pub type : type_in new ≡ type_in old
+  pub kept : (refusal : No) → reply ≡ Some (R.No refusal) → block_in new ≡ block_in old
+  pub failed : reply ≡ Some (R.No N.Store) → Rose m.faults n.faults
+  pub leads : (tests : Tests) (v : Value) → AreTests (table_in old) tests → IsHeldAt h old tests m v → LeadsOn h (setting_of h old tests) new a m v reply n
