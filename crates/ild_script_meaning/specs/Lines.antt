@@ -23,7 +23,7 @@ use Rattle.ild_typed.specs.Hamt.{whole}
 use Rattle.ild_typed.specs.Represented.{represented}
 use Rattle.ild_typed.specs.Shown.{shown}
 use Rattle.ild_typed.specs.Stands.{Frame, blocks_of, root_id}
-use Rattle.ild_typed_places.specs.Places.{children_of, places_of}
+use Rattle.ild_typed_places.specs.Places.{children_in, children_of, places_of}
 use Rattle.ild_path_edits.specs.Edit.{Edit, path_of, line_change}
 use Rattle.ild_path_edits.specs.Judged.{Tests, edited}
 use Rattle.ild_script_session.specs.Session.{State, idle, Due, Meaning}
@@ -39,9 +39,13 @@ pub record Setting : Type 0 where
   pub tests : Tests
   pub ty : TypeNo
 
--- for each place at which a block stands in a part, the ids of its children there
-abbrev pub children_in : Setting → InSlot → List ℕ → List (List (List ℕ))
-children_in w p b = children_of w.hash w.rows p b
+-- for each place at which a block stands in a value, the ids of its children there
+abbrev pub value_children : Setting → Value → List ℕ → List (List (List ℕ))
+value_children w v b = children_in w.frame w.hash w.rows w.ty v b
+
+-- in a part, beneath the block in which that stands
+abbrev pub part_children : Setting → InSlot → List ℕ → List (List (List ℕ))
+part_children w p b = children_of w.hash w.rows p b
 
 -- for each place of a value's blocks, the block and all from there on down
 abbrev pub places_in : Setting → Value → List (List ℕ × List (List ℕ))
@@ -151,9 +155,9 @@ edit_blocks w v e (Err N.Exhausted) = option_map_or (λ q. nodes w.hash w.rows q
 edit_blocks w v e (Err refusal) = []
 
 abbrev pub edit_children : Setting → Value → Edit (List ℕ) → Result Value No → List ℕ → List (List (List ℕ))
-edit_children w v e (Ok c) = children_in w (in_slot w c)
-edit_children w v e (Err N.Size) = option_map_or (λ c. children_in w (in_slot w c)) (result_ok (line_changed w v e)) no_places
-edit_children w v e (Err N.Exhausted) = option_map_or (children_in w) (part_of w v e) no_places
+edit_children w v e (Ok c) = value_children w c
+edit_children w v e (Err N.Size) = option_map_or (value_children w) (result_ok (line_changed w v e)) no_places
+edit_children w v e (Err N.Exhausted) = option_map_or (part_children w) (part_of w v e) no_places
 edit_children w v e (Err refusal) = no_places
 
 -- outside a batch an edit replies the new root, inside one null
@@ -196,7 +200,7 @@ kept_due w s blocks = record {
   reply = Some (root_reply w s.value);
   next = idle s.value;
   adds = blocks;
-  children = children_in w (in_slot w s.value);
+  children = value_children w s.value;
   gets = 0;
   puts = length (different blocks);
   owes = 0;

@@ -62,6 +62,7 @@ fn answer_and_write<S: Session, K: Store, W: Sink>(
 ) -> Result<bool, Cut>
     ensures done { IfOk result (λ refused. LineDone (S.stands session.old (K.moment store.old)) (S.stands session.new (K.moment store.new)) (K.moment store.old) line.now (K.moment store.new) (W.output out.old).written (W.output out.new).written refused) }
     ensures part { OnErr result (LineCut (S.stands session.old (K.moment store.old)) (S.stands session.new (K.moment store.new)) (K.moment store.old) line.now (K.moment store.new) (W.output out.old).written (W.output out.new).written) }
+    ensures same { S.subject session.new ≡ S.subject session.old }
     ensures faults { (W.output out.old).faults ≤ (W.output out.new).faults }
     ensures sink { IsErrOf result cut.Sink → Rose (W.output out.old).faults (W.output out.new).faults }
 {
@@ -84,6 +85,7 @@ pub fn answer_all<S: Session, K: Store, W: Sink>(
 ) -> Result<bool, Cut>
     ensures done { IfOk result (λ refused. LinesDone (S.stands session.old (K.moment store.old)) (S.stands session.new (K.moment store.new)) (K.moment store.old) (lines_of script.now) (K.moment store.new) (W.output out.old).written (W.output out.new).written refused) }
     ensures part { OnErr result (LinesCut (S.stands session.old (K.moment store.old)) (S.stands session.new (K.moment store.new)) (K.moment store.old) (lines_of script.now) (K.moment store.new) (W.output out.old).written (W.output out.new).written) }
+    ensures same { S.subject session.new ≡ S.subject session.old }
     ensures faults { (W.output out.old).faults ≤ (W.output out.new).faults }
     ensures sink { IsErrOf result cut.Sink → Rose (W.output out.old).faults (W.output out.new).faults }
 {

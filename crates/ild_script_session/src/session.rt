@@ -16,6 +16,12 @@ pub trait Session {
     /// The values, as contracts see them.
     ghost Value: { Type 0 };
 
+    /// What it is about, as the type of its value.
+    ghost Subject: { Type 0 };
+
+    /// That stays.
+    ghost subject: { Self → Subject };
+
     /// Of which meaning of lines, and at which stage, it stands, over a store at a moment.
     ghost stands: { Self → Moment → Meaning Value → Stage Value → Type 0 };
 
@@ -28,5 +34,6 @@ pub trait Session {
         ensures leads { (M : Meaning Value) (s : Stage Value) → stands self.old (K.moment store.old) M s → Leads M (stands self.new (K.moment store.new) M) (K.moment store.old) s line.now result (K.moment store.new) }
 
         // A line that is refused leaves the state, whatever a store holds.
-        ensures kept { (refusal : No) → result ≡ Some (R.No refusal) → (m : Moment) (M : Meaning Value) (s : Stage Value) → stands self.old m M s → StaysAt (stands self.new m M) s };
+        ensures kept { (refusal : No) → result ≡ Some (R.No refusal) → (m : Moment) (M : Meaning Value) (s : Stage Value) → stands self.old m M s → StaysAt (stands self.new m M) s }
+        ensures same { subject self.new ≡ subject self.old };
 }

@@ -1,4 +1,4 @@
-use Rattle.std.proofs.Common.{Result, Ok, Err, OnErr, arith}
+use Rattle.std.proofs.Common.{Result, Ok, Err, OnErr, refl, ◌∙◌, arith}
 use Rattle.ild_script.specs.Line.{lines_of}
 use Rattle.ild_script_session.specs.Lines.{lines_left, LineDone, LineCut}
 use Rattle.ild_script_session.specs.Session.{Meaning, Stage}
@@ -15,6 +15,7 @@ loop-rest-smaller g c = rw c.in-Some.is (omega (arith, c.cut_line.ensures.less))
 pub loop-rest-init : goal.loop-rest-init
 loop-rest-init g c = record {
   so_far = so_far_none (g.S.Session.stands c.args.session.now (g.K.Store.moment c.args.store.now)) (lines_of c.args.script.now) (g.K.Store.moment c.args.store.now) (g.W.Sink.output c.args.out.now).written;
+  same = refl;
   faults = omega arith;
 }
 
@@ -33,6 +34,7 @@ loop-rest-preserved g c =
       so_far = so_far_more Stood Stands Then (lines_of c.args.script.now) c.cut_line.result.0.now (lines_left c.cut_line.result.1) (lines_left c.loop-rest.rest) m n o
           was then now c.loop-rest.refused c.in_ok-refused.field-0
           c.loop-rest.invariant.so_far (rw c.in-Some.is c.cut_line.ensures.cut) one;
+      same = c.in_ok-refused.ensures.same ∙ c.loop-rest.invariant.same;
       faults = omega arith;
     }
 

@@ -1,4 +1,4 @@
-use Rattle.std.proofs.Common.{◌≤◌}
+use Rattle.std.proofs.Common.{◌≡◌, ◌≤◌}
 use Rattle.ild_script.specs.Line.{lines_of}
 use Rattle.ild_script_session.specs.Lines.{lines_left, bytes_left}
 use Rattle.ild_script_session.proofs.Runs.{SoFar}
@@ -8,6 +8,7 @@ abbrev pub invariant-loop-rest : goal.invariant-loop-rest
 invariant-loop-rest g l = record {
   so_far : SoFar (g.S.Session.stands l.initial.session (g.K.Store.moment l.initial.store)) (g.S.Session.stands l.session (g.K.Store.moment l.store))
       (lines_of l.script) (lines_left l.rest) (g.K.Store.moment l.initial.store) (g.K.Store.moment l.store) (g.W.Sink.output l.initial.out).written (g.W.Sink.output l.out).written l.refused;
+  same : g.S.Session.subject l.session ≡ g.S.Session.subject l.initial.session;
   faults : (g.W.Sink.output l.initial.out).faults ≤ (g.W.Sink.output l.out).faults;
 }
 
