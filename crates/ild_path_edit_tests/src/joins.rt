@@ -4,7 +4,14 @@ use crate::told::{Row, all_so};
 use std::test::Fail;
 
 const SRC: &str =
-    "type J struct { a String b String } representation stringjoin { join \":\" } type JJ struct { j J c String } representation stringjoin { join \"/\" } type Q {String:String} representation stringpairs { innerDelim \"=\" entryDelim \"&\" } type QJ {String:J} representation stringpairs { innerDelim \"=\" entryDelim \"&\" } type PS struct { a String (rename \"x\") b optional String c String (implicit \"n\") } representation stringpairs { innerDelim \"=\" entryDelim \"&\" } type SU union { | J \"j.\" | Name \"n.\" } representation stringprefix type Name string type KU union { | SU string | Int int } representation kinded type W struct { q Q u KU j JJ } type X struct { q SU z String } representation stringjoin { join \"::\" }";
+    "type J struct { a String b String } representation stringjoin { join \":\" } type JJ struct { j \
+     J c String } representation stringjoin { join \"/\" } type Q {String:String} representation \
+     stringpairs { innerDelim \"=\" entryDelim \"&\" } type QJ {String:J} representation stringpairs \
+     { innerDelim \"=\" entryDelim \"&\" } type PS struct { a String (rename \"x\") b optional \
+     String c String (implicit \"n\") } representation stringpairs { innerDelim \"=\" entryDelim \
+     \"&\" } type SU union { | J \"j.\" | Name \"n.\" } representation stringprefix type Name string \
+     type KU union { | SU string | Int int } representation kinded type W struct { q Q u KU j JJ } \
+     type X struct { q SU z String } representation stringjoin { join \"::\" }";
 
 const JOINS: [Row; 5] = [
     ("J", b"cx:y", &["a"], ("set", b"bzz"), ("block", b"dzz:y")),

@@ -3,7 +3,13 @@ use crate::told::{Row, all_so};
 use std::test::Fail;
 
 const SRC: &str =
-    "type Dot struct { x Int (rename \"y\") } type Box struct { w Int h optional Int } type K union { | Dot \"dot\" | Box \"box\" } representation keyed type E union { | Dot \"dot\" | Box \"box\" } representation envelope { discriminantKey \"t\" contentKey \"c\" } type N union { | Dot \"dot\" | Box \"box\" } representation inline { discriminantKey \"k\" } type B union { | One \"01\" | Two \"02ff\" } representation bytesprefix type One bytes type Two bytes type D union { | Dot map | Int int } representation kinded type L [K] type M {String:N} type Hold union { | E \"e\" | B \"b\" } representation keyed";
+    "type Dot struct { x Int (rename \"y\") } type Box struct { w Int h optional Int } type K union \
+     { | Dot \"dot\" | Box \"box\" } representation keyed type E union { | Dot \"dot\" | Box \"box\" \
+     } representation envelope { discriminantKey \"t\" contentKey \"c\" } type N union { | Dot \
+     \"dot\" | Box \"box\" } representation inline { discriminantKey \"k\" } type B union { | One \
+     \"01\" | Two \"02ff\" } representation bytesprefix type One bytes type Two bytes type D union { \
+     | Dot map | Int int } representation kinded type L [K] type M {String:N} type Hold union { | E \
+     \"e\" | B \"b\" } representation keyed";
 
 const UNIONS: [Row; 10] = [
     (
