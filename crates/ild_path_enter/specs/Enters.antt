@@ -69,3 +69,9 @@ EnterAnswer h rows was elem room t ps es k m (Err e) n = ⊥
 pub record EntersHamt (h : List ℕ → List ℕ) (rows : List Row) (was : List (List ℕ)) (elem : Slot) (room : ℕ) (t : Data) (ps : Pairs) (es : List (List ℕ × Data)) (k : List ℕ) (m : Moment) (result : Result Entered HamtFault) (n : Moment) : Type 0 where
   pub answer : EnterAnswer h rows was elem room t ps es k m result n
   pub gets : n.gets ≤ m.gets + length (way h usual k (trie_levels usual) 0 es)
+
+-- over every store: it failed only where faults rose
+abbrev pub FailsOnly : {A : Type 0} → Moment → Result A HamtFault → Moment → Type 0
+FailsOnly m (Ok x) n = Unit {0}
+FailsOnly m (Err F.Store) n = Rose m.faults n.faults
+FailsOnly m (Err e) n = Unit {0}

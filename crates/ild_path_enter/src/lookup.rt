@@ -1,7 +1,9 @@
 //! One HAMT on a path.
-ghost use Rattle.std.specs.Prelude.{◌≡◌, ◌<◌, ℕ, Bool, List, Some, length, true};
+ghost use Rattle.std.specs.Option.{ForSome};
+ghost use Rattle.std.specs.Prelude.{◌≡◌, ◌<◌, ℕ, Bool, IfOk, List, Some, length, true};
 ghost use Rattle.ild_data.specs.Data.{Data};
-ghost use Rattle.ild_path_enter.specs.Enters.{CanEnter, EntersHamt};
+ghost use Rattle.ild_path_enter.specs.Enters.{CanEnter, EntersHamt, FailsOnly};
+ghost use Rattle.ild_path_entry.specs.Entry.{table_in};
 ghost use Rattle.ild_open_parts.specs.Reads.{OnlyReads};
 ghost use Rattle.ild_schema.specs.Value.{Pairs, Value, hamt};
 ghost use Rattle.ild_schema.specs.declared.number.Slot.{Slot as Place};
@@ -26,7 +28,7 @@ pub struct Entered<'s> {
 }
 
 /// A key of the HAMT at a view is looked up, by gets alone, of no more nodes than there are on its way. The room is that of its
-/// values.
+/// values. A fault of the store comes only where it failed.
 pub fn enter<'s, K: Store, H: KeyHash>(
     alloc: Global,
     acc: &'s Accepted,
@@ -40,6 +42,8 @@ pub fn enter<'s, K: Store, H: KeyHash>(
     requires within { slot.ty.0 < length acc.now }
     requires safe { is_safe acc.now slot ≡ true }
     ensures reads { (f : Value) → IsView view.now f → OnlyReads (K.moment store.old) (K.moment store.new) }
+    ensures table { IfOk result (λ entered. ForSome entered.entry (λ entry. table_in entry ≡ acc.now)) }
+    ensures failed { FailsOnly (K.moment store.old) result (K.moment store.new) }
     ensures trie { (is_key : ℕ → List ℕ → Bool) (was : List (List ℕ)) (s : Place) (t : Data) (ps : Pairs) (es : List (List ℕ × Data)) → IsView view.now (hamt t) → (K.moment store.old).blocks ≡ Some was
         → CanEnter H.hash_of acc.now is_key was s slot room t ps es → EntersHamt H.hash_of acc.now was slot room t ps es key.now (K.moment store.old) result (K.moment store.new) }
 {

@@ -7,3 +7,4 @@ pub mod Reading
 pub mod Hamts
 pub mod Going
 pub mod Inwarding
+pub mod Failing

@@ -10,6 +10,7 @@ use Rattle.ild_node_slots.specs.declared.fault.HamtFault.TheVariants as F
 use Rattle.ild_open_held.specs.Held.{IsHeld}
 use Rattle.ild_path_edits.specs.Stop.{stopped}
 use Rattle.ild_path_entered.specs.Entered.{IsEntered}
+use Rattle.ild_path_entry.specs.Entry.{table_in}
 use Rattle.ild_path_held.specs.HeldEdits.{room_at}
 use Rattle.ild_path_hops.specs.Hops.{IsHop, front_of, key_of}
 use Rattle.ild_path_hops.specs.declared.hop.Hop.{Hop}
@@ -61,6 +62,14 @@ met_on h rows p path = met rows (counts h rows) p path
 abbrev pub Shortens : ℕ → Result Level HamtFault → Type 0
 Shortens n (Ok (L.Passes hop behind room)) = length behind.now < n
 Shortens n r = Unit {0}
+
+-- its entry is one under this schema
+abbrev pub IsUnder : List Row → Hop → Type 0
+IsUnder rows hop = table_in hop.entry ≡ rows
+
+abbrev pub PassesUnder : List Row → Result Level HamtFault → Type 0
+PassesUnder rows (Ok (L.Passes hop behind room)) = IsUnder rows hop
+PassesUnder rows r = Unit {0}
 
 -- ---- what is known of a block, and what is answered
 

@@ -1,10 +1,11 @@
 //! A path through the HAMTs on its way.
-ghost use Rattle.std.specs.Prelude.{◌≡◌, ℕ, List, [], Some, length};
+ghost use Rattle.std.specs.Prelude.{◌≡◌, ℕ, All, IfOk, List, [], Some, length};
 ghost use Rattle.ild_data.specs.Data.{Data};
 ghost use Rattle.ild_open_parts.specs.Reads.{OnlyReads};
+ghost use Rattle.ild_path_enter.specs.Enters.{FailsOnly};
 ghost use Rattle.ild_path_hops.specs.Hops.{AreHops};
 ghost use Rattle.ild_path_inward.specs.Inwards.{CanGoOn, GoesInward};
-ghost use Rattle.ild_path_inward.specs.Levels.{CanGo, GoesIn, Shortens};
+ghost use Rattle.ild_path_inward.specs.Levels.{CanGo, GoesIn, IsUnder, PassesUnder, Shortens};
 ghost use Rattle.ild_typed.specs.At.{InSlot};
 ghost use Rattle.ild_view.specs.View.{table_of};
 
@@ -43,6 +44,8 @@ fn go_on<'s, 'p, K: Store, H: KeyHash>(
 ) -> Result<Level<'s, 'p>, HamtFault>
     requires { table_of root.now ≡ acc.now }
     ensures reads { OnlyReads (K.moment store.old) (K.moment store.new) }
+    ensures failed { FailsOnly (K.moment store.old) result (K.moment store.new) }
+    ensures under { All (IsUnder acc.now) hops.now → PassesUnder acc.now result }
     ensures behind { Shortens (length segments.now) result }
     ensures told { (was : List (List ℕ)) (q : InSlot) (t : Data) → (K.moment store.old).blocks ≡ Some was → CanGoOn H.hash_of acc.now was room q t root.now hops.now
         → GoesIn H.hash_of acc.now was room q segments.now (K.moment store.old) result (K.moment store.new) }
@@ -77,6 +80,8 @@ fn go_from<'s, 'p, K: Store, H: KeyHash>(
 ) -> Result<Inward<'s, 'p>, HamtFault>
     requires { table_of root.now ≡ acc.now }
     ensures reads { OnlyReads (K.moment store.old) (K.moment store.new) }
+    ensures failed { FailsOnly (K.moment store.old) result (K.moment store.new) }
+    ensures under { All (IsUnder acc.now) hops.entry.items → IfOk result (λ inward. All (IsUnder acc.now) inward.hops.items) }
     ensures told { (was : List (List ℕ)) (limit : ℕ) (p q : InSlot) (t : Data) → (K.moment store.old).blocks ≡ Some was → CanGo H.hash_of acc.now was limit p t root.now → AreHops H.hash_of acc.now was limit p hops.entry.items q room
         → GoesInward H.hash_of acc.now was limit p hops.entry.items q segments.now (K.moment store.old) result (K.moment store.new) }
 {
@@ -109,6 +114,8 @@ pub fn go_inward<'s, 'p, K: Store, H: KeyHash>(
 ) -> Result<Inward<'s, 'p>, HamtFault>
     requires { table_of root.now ≡ acc.now }
     ensures reads { OnlyReads (K.moment store.old) (K.moment store.new) }
+    ensures failed { FailsOnly (K.moment store.old) result (K.moment store.new) }
+    ensures under { IfOk result (λ inward. All (IsUnder acc.now) inward.hops.items) }
     ensures told { (was : List (List ℕ)) (p : InSlot) (t : Data) → (K.moment store.old).blocks ≡ Some was → CanGo H.hash_of acc.now was room p t root.now
         → GoesInward H.hash_of acc.now was room p [] p segments.now (K.moment store.old) result (K.moment store.new) }
 {

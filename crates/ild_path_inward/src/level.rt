@@ -2,7 +2,8 @@
 ghost use Rattle.std.specs.Prelude.{◌≡◌, ◌+◌, ℕ, List, Some, length};
 ghost use Rattle.ild_data.specs.Data.{Data};
 ghost use Rattle.ild_open_parts.specs.Reads.{OnlyReads};
-ghost use Rattle.ild_path_inward.specs.Levels.{CanEnterAt, CanGo, GoesIn, IsBehind, KeyIs, Shortens};
+ghost use Rattle.ild_path_enter.specs.Enters.{FailsOnly};
+ghost use Rattle.ild_path_inward.specs.Levels.{CanEnterAt, CanGo, GoesIn, IsBehind, KeyIs, PassesUnder, Shortens};
 ghost use Rattle.ild_schema.specs.Value.{Value};
 ghost use Rattle.ild_typed.specs.At.{InSlot};
 ghost use Rattle.ild_view.specs.Roots.{root_in};
@@ -64,6 +65,8 @@ fn enter_at<'s, 'p, K: Store, H: KeyHash>(
 ) -> Result<Level<'s, 'p>, HamtFault>
     requires { table_of halt.now.view ≡ acc.now }
     ensures reads { (f : Value) → IsView halt.now.view f → OnlyReads (K.moment store.old) (K.moment store.new) }
+    ensures failed { FailsOnly (K.moment store.old) result (K.moment store.new) }
+    ensures under { PassesUnder acc.now result }
     ensures behind { Shortens (length behind.now + 1) result }
     ensures told { (was : List (List ℕ)) (limit : ℕ) (p : InSlot) (path : List (List ℕ)) → (K.moment store.old).blocks ≡ Some was → CanEnterAt H.hash_of acc.now was limit p path front key.now behind.now halt.now
         → GoesIn H.hash_of acc.now was limit p path (K.moment store.old) result (K.moment store.new) }
@@ -112,6 +115,8 @@ pub(crate) fn go_in<'s, 'p, K: Store, H: KeyHash>(
 ) -> Result<Level<'s, 'p>, HamtFault>
     requires { table_of root.now ≡ acc.now }
     ensures reads { OnlyReads (K.moment store.old) (K.moment store.new) }
+    ensures failed { FailsOnly (K.moment store.old) result (K.moment store.new) }
+    ensures under { PassesUnder acc.now result }
     ensures behind { Shortens (length segments.now) result }
     ensures told { (was : List (List ℕ)) (p : InSlot) (t : Data) → (K.moment store.old).blocks ≡ Some was → CanGo H.hash_of acc.now was room p t root.now
         → GoesIn H.hash_of acc.now was room p segments.now (K.moment store.old) result (K.moment store.new) }

@@ -1,8 +1,10 @@
-use Rattle.std.proofs.Common.{refl}
+use Rattle.std.proofs.Common.{Err, refl}
 use Rattle.std.proofs.lemmas.Result.{err_from_is_err_and}
 use Rattle.ild_schema.specs.Value.{hamt}
 use Rattle.ild_view.specs.Roots.{root_in}
 use Rattle.ild_path_enter.proofs.Entering.{has_none, has_value, no_trail, no_value, only_reads, slots_in}
+use Rattle.ild_path_enter.specs.declared.lookup.Entered.{Entered}
+use Rattle.ild_path_enter.proofs.Failing.{entry_fails, entry_table, fails_viewed, none_table, some_table, trail_fails}
 use Rattle.ild_path_enter.proofs.lookup.enter.Goals.{in-Some-found+in_ok-entry_in-in-Some-found, in-None-found}
 use Rattle.ild_path_enter.proofs.lookup.enter.Goals as goal
 
@@ -49,4 +51,31 @@ returns-clause-trie g c = λ is_key was s t ps es view told can.
       | in-None-found w ↦
           has_none g.H.KeyHash.hash_of c.args.acc.now is_key was s c.args.slot c.args.room t ps es can c.args.key.now (g.K.Store.moment c.args.store.now) (g.K.Store.moment c.descend.new.store)
           c.in-Some.root c.in_ok-trail.trail _ refl w.entry-is told x (c.in_ok-trail.ensures x.0 x.2) (λ is. w.in-None-found.ensures g.H.KeyHash.hash_of c.args.key.now x.0 es x.2 is)
+    ]
+
+pub returns-in_err-trail-clause-failed : goal.returns-in_err-trail-clause-failed
+returns-in_err-trail-clause-failed g c =
+    let m = g.K.Store.moment c.args.store.now in
+    let n = g.K.Store.moment c.descend.new.store in
+    let e = c.in_err-trail.field-0.0 in
+    let p = err_from_is_err_and c.from_residual.result c.from_residual.ensures.1 in
+    rw (p.1, p.2) (fails_viewed Entered c.args.view.now m n (Err e) (λ f view.
+    let s = slots_in (root_in f) c.in-Some.root (c.in-Some.ensures f view) in
+    trail_fails g.H.KeyHash.hash_of c.args.key.now s.0 m n e (c.in_err-trail.ensures s.0 s.1)))
+
+pub returns-in_err-entry_in-in-Some-found-clause-failed :
+    goal.returns-in_err-entry_in-in-Some-found-clause-failed
+returns-in_err-entry_in-in-Some-found-clause-failed g c =
+    let m = g.K.Store.moment c.args.store.now in
+    let n = g.K.Store.moment c.descend.new.store in
+    let p = err_from_is_err_and c.from_residual-in_err-entry_in-in-Some-found.result c.from_residual-in_err-entry_in-in-Some-found.ensures.1 in
+    rw (p.1, p.2) (entry_fails c.args.acc.now c.args.slot c.args.room c.in-Some-found.item m n c.in_err-entry_in-in-Some-found.field-0.0 c.in_err-entry_in-in-Some-found.ensures)
+
+pub returns-clause-table : goal.returns-clause-table
+returns-clause-table g c =
+    elim c.match-found.branch [
+      | in-Some-found+in_ok-entry_in-in-Some-found w ↦
+          some_table c.args.acc.now _ w.in_ok-entry_in-in-Some-found.field-0 w.entry-is
+          (entry_table c.args.acc.now c.args.slot c.args.room w.in-Some-found.item w.in_ok-entry_in-in-Some-found.field-0 w.in_ok-entry_in-in-Some-found.ensures)
+      | in-None-found w ↦ none_table c.args.acc.now _ w.entry-is
     ]

@@ -1,10 +1,14 @@
 use Rattle.std.proofs.Common.{List, Ok, refl, sym, subst, ◌∙◌}
 use Rattle.std.proofs.lemmas.Result.{err_from_is_err_and}
+use Rattle.std.specs.List.{All}
+use Rattle.std.proofs.lemmas.List.Elements.{All-push}
 use Rattle.ild_path_hops.specs.Hops.{AreHops}
 use Rattle.ild_path_hops.specs.declared.hop.Hop.{Hop}
 use Rattle.ild_path_inward.specs.Inwards.{CanGoOn}
-use Rattle.ild_path_inward.specs.Levels.{GoesIn}
+use Rattle.ild_path_inward.specs.Levels.{GoesIn, IsUnder, PassesUnder}
 use Rattle.ild_path_inward.specs.declared.level.Level.{Level}
+use Rattle.ild_path_inward.specs.declared.inward.Inward.{Inward}
+use Rattle.ild_path_inward.proofs.Failing.{later_fails, same_fails}
 use Rattle.ild_path_inward.proofs.Inwarding.{can_go_on, fails_inward, goes_further, hops_more, no_more, stops_inward}
 use Rattle.ild_path_inward.proofs.inward.+go_from.Goals as goal
 
@@ -54,3 +58,22 @@ returns-in_ok-push-in-Passes-clause-told g t c = λ was limit p q d told go are.
     let rest = c.go_from.ensures.told was limit p pass.0 d (c.go_on.ensures.reads.blocks ∙ told) go (subst (λ (gs : List Hop). AreHops h rows was limit p gs pass.0 c.in-Passes.less) (sym items) more) in
     goes_further h rows was limit p c.args.hops.items q c.args.room are c.args.segments.now m k c.in-Passes.hop c.in-Passes.behind.now pass.0 c.in-Passes.less pass.1 pass.2
     (g.K.Store.moment c.go_from.new.store) c.go_from.result c.go_on.ensures.reads c.push.new.self.items items rest
+
+pub returns-in_err-front-clause-failed : goal.returns-in_err-front-clause-failed
+returns-in_err-front-clause-failed g t c =
+    let r = err_from_is_err_and c.from_residual.result c.from_residual.ensures.1 in
+    rw (r.1, r.2) (same_fails Level Inward (g.K.Store.moment c.args.store.now) (g.K.Store.moment c.go_on.new.store) c.in_err-front.field-0.0 c.in_err-front.ensures.failed)
+
+pub returns-in_ok-push-in-Passes-clause-failed : goal.returns-in_ok-push-in-Passes-clause-failed
+returns-in_ok-push-in-Passes-clause-failed g t c =
+    later_fails Inward (g.K.Store.moment c.args.store.now) (g.K.Store.moment c.go_on.new.store) (g.K.Store.moment c.go_from.new.store) c.go_on.ensures.reads c.go_from.result c.go_from.ensures.failed
+
+pub returns-in-Stops-clause-under : goal.returns-in-Stops-clause-under
+returns-in-Stops-clause-under g t c = λ all. all
+
+pub returns-in_ok-push-in-Passes-clause-under : goal.returns-in_ok-push-in-Passes-clause-under
+returns-in_ok-push-in-Passes-clause-under g t c = λ all.
+    let rows = c.args.acc.now in
+    let own = c.in_ok-front.ensures.under (subst (λ (gs : List Hop). All (IsUnder rows) gs) (sym c.deref.ensures.value) all) in
+    let passed = subst (λ (l : Level). PassesUnder rows (Ok l)) c.in-Passes.is own in
+    c.go_from.ensures.under (subst (λ (gs : List Hop). All (IsUnder rows) gs) (sym c.in_ok-push-in-Passes.ensures.items) (All-push (IsUnder rows) c.args.hops.items c.in-Passes.hop all passed))

@@ -1,6 +1,7 @@
 use Rattle.std.proofs.Common.{List, sym, subst, ◌∙◌}
 use Rattle.ild_schema.specs.declared.row.Row.{Row}
-use Rattle.ild_path_inward.specs.Levels.{CanGo, GoesIn}
+use Rattle.ild_path_inward.proofs.Failing.{last_under}
+use Rattle.ild_path_inward.specs.Levels.{CanGo, GoesIn, PassesUnder}
 use Rattle.ild_path_inward.proofs.Inwarding.{can_go}
 use Rattle.ild_path_inward.proofs.inward.go_on.Goals as goal
 
@@ -17,3 +18,8 @@ returns-in-Some-clause-told g c = λ was q t told on.
 pub returns-in-None-clause-told : goal.returns-in-None-clause-told
 returns-in-None-clause-told g c = λ was q t told on.
     c.go_in-in-None.ensures.told was q t told (record { schema = on.schema; low = on.low; held = on.held; stands = on.top c.in-None.ensures.value })
+
+pub returns-in-Some-clause-under : goal.returns-in-Some-clause-under
+returns-in-Some-clause-under g c = λ all.
+    let same = c.schema.ensures ∙ last_under c.args.acc.now c.args.hops.now c.in-Some.hop.now c.in-Some.ensures.value all in
+    subst (λ (r : List Row). PassesUnder r c.go_in.result) same c.go_in.ensures.under

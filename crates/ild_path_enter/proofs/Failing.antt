@@ -1,0 +1,66 @@
+-- Over every store: a fault of the store comes only where it failed, and an entry is one under the schema.
+use Rattle.std.proofs.Common.{◌≡◌, ℕ, List, Option, Some, None, Result, Ok, Err, ap, sym, ◌∙◌, subst}
+use Rattle.std.specs.Option.{ForSome}
+use Rattle.std.proofs.lemmas.Option.{none-some, same_Some}
+use Rattle.std.proofs.Math.Logic.{∥∥₁_elim}
+use Rattle.std.proofs.Props.{props}
+use Rattle.ild_cbor.specs.Nodes.{Stands}
+use Rattle.ild_cbor.specs.declared.node.Node.{Node}
+use Rattle.ild_data.specs.Data.{Data}
+use Rattle.ild_data.specs.Trie.{TrieSlot}
+use Rattle.ild_edges.specs.Store.{Moment}
+use Rattle.ild_hamt.specs.Descending.{DescendAnswer, Descends}
+use Rattle.ild_hamt.specs.declared.trail.Trail.{Trail}
+use Rattle.ild_node_slots.specs.declared.fault.HamtFault.{HamtFault}
+use Rattle.ild_node_slots.specs.declared.fault.HamtFault.TheVariants as F
+use Rattle.ild_path_enter.specs.Enters.{EntryAnswer, FailsOnly}
+use Rattle.ild_path_enter.specs.declared.lookup.Entered.{Entered}
+use Rattle.ild_path_entry.specs.Entry.{IsEntry, table_in}
+use Rattle.ild_path_entry.specs.declared.entry.Entry.{Entry}
+use Rattle.ild_schema.specs.Value.{Value}
+use Rattle.ild_schema.specs.declared.number.Slot.{Slot}
+use Rattle.ild_schema.specs.declared.row.Row.{Row}
+use Rattle.ild_typed.specs.Composed.{usual}
+use Rattle.ild_view.specs.View.{IsView}
+use Rattle.ild_view.specs.declared.view.View.{View}
+
+-- whatever the view stands for
+pub fails_viewed : (A : Type 0) (v : View) (m n : Moment) (r : Result A HamtFault) → ((f : Value) → IsView v f → FailsOnly m r n) → FailsOnly m r n
+fails_viewed A v m n (Ok x) all = tt
+fails_viewed A v m n (Err F.Store) all = ∥∥₁_elim v.stands (hlevel props) (λ s. all s.value (record { room = s.room; tree = s.tree; stands = s.stands; front = s.front }))
+fails_viewed A v m n (Err F.Memory) all = tt
+fails_viewed A v m n (Err (F.Block id why)) all = tt
+fails_viewed A v m n (Err F.Exhausted) all = tt
+fails_viewed A v m n (Err F.NoKey) all = tt
+fails_viewed A v m n (Err F.Size) all = tt
+fails_viewed A v m n (Err (F.Clash id kept new)) all = tt
+
+pub trail_fails : (h : List ℕ → List ℕ) (k : List ℕ) (slots : List TrieSlot) (m n : Moment) (e : HamtFault) → Descends h usual k slots m (Err e) n → FailsOnly {A = Entered} m (Err e) n
+trail_fails h k slots m n e d = by e d.answer where
+  by : (f : HamtFault) → DescendAnswer h usual k m d.bs d.last (Err f) n → FailsOnly {A = Entered} m (Err f) n
+  by F.Store a = a
+  by F.Memory a = tt
+  by (F.Block id why) a = tt
+  by F.Exhausted a = tt
+  by F.NoKey a = tt
+  by F.Size a = tt
+  by (F.Clash id kept new) a = tt
+
+-- the item of an entry asks nothing of the store
+pub entry_fails : (rows : List Row) (s : Slot) (room : ℕ) (node : Node) (m n : Moment) (e : HamtFault) → ((d : Data) → Stands node d → EntryAnswer rows s room d (Err e)) → FailsOnly {A = Entered} m (Err e) n
+entry_fails rows s room node m n F.Store says = ∥∥₁_elim node.stands (hlevel props) (λ s. absurd (says s.of s.spells))
+entry_fails rows s room node m n F.Memory says = tt
+entry_fails rows s room node m n (F.Block id why) says = tt
+entry_fails rows s room node m n F.Exhausted says = tt
+entry_fails rows s room node m n F.NoKey says = tt
+entry_fails rows s room node m n F.Size says = tt
+entry_fails rows s room node m n (F.Clash id kept new) says = tt
+
+pub entry_table : (rows : List Row) (s : Slot) (room : ℕ) (node : Node) (e : Entry) → ((d : Data) → Stands node d → IsEntry rows s room d e) → table_in e ≡ rows
+entry_table rows s room node e says = ∥∥₁_elim node.stands (hlevel props) (λ st. (says st.of st.spells).table)
+
+pub some_table : (rows : List Row) (o : Option Entry) (e : Entry) → o ≡ Some e → table_in e ≡ rows → ForSome o (λ x. table_in x ≡ rows)
+some_table rows o e is own = λ x there. ap table_in (same_Some x e (sym there ∙ is)) ∙ own
+
+pub none_table : (rows : List Row) (o : Option Entry) → o ≡ None → ForSome o (λ x. table_in x ≡ rows)
+none_table rows o is = λ x there. absurd (none-some x (sym is ∙ there))
