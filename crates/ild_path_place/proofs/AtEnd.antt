@@ -1,6 +1,6 @@
 -- The end of a path in a block whose value is held.
 use Rattle.std.proofs.Common.{◌≡◌, ℕ, ◌+◌, ◌≤◌, List, [], ◌∷◌, ◌++◌, Bool, true, false, true≢false, Option, Some, None, Result, Ok, Err, option_map, refl, ap, sym, ◌∙◌, subst, arith}
-use Rattle.std.specs.Prelude.{◌&&◌, not, option_and_then}
+use Rattle.std.specs.Prelude.{◌&&◌, IfOk, not, option_and_then}
 use Rattle.std.specs.Option.{option_map_or}
 use Rattle.std.proofs.lemmas.Option.{none-some, same_Some}
 use Rattle.ild_data.specs.Data.{Data}
@@ -17,10 +17,13 @@ use Rattle.ild_path_inward.proofs.Hamts.{HamtOf, hamt_of, plain_root, room_less}
 use Rattle.ild_path_inward.specs.Halts.{HaltsAt}
 use Rattle.ild_path_inward.specs.Levels.{CanGo, counts}
 use Rattle.ild_path_inward.specs.declared.halt.Halt.{Halt}
+use Rattle.ild_path_place.proofs.Holing.{hole_of_front, no_hole_in_front}
 use Rattle.ild_path_place.proofs.Lasting.{ends}
 use Rattle.ild_path_place.specs.Endings.{CanEndAt, EndsIn, EndsKey, KeyAnswer}
+use Rattle.ild_path_place.specs.Holes.{VerbHole}
 use Rattle.ild_path_place.specs.Inner.{EndAnswer, EndsThere, LeadsTo}
 use Rattle.ild_path_place.specs.Places.{EndsAt}
+use Rattle.ild_path_place.specs.Rooms.{HasRoom}
 use Rattle.ild_path_place.specs.Slots.{SlotAnswer, part_slot}
 use Rattle.ild_path_place.specs.declared.ending.Found.{Found}
 use Rattle.ild_path_place.specs.declared.fault.PathFault.{PathFault}
@@ -29,10 +32,16 @@ use Rattle.ild_path_place.specs.declared.refusal.Refusal.{Refusal}
 use Rattle.ild_path_place.specs.declared.refusal.Refusal.TheVariants as R
 use Rattle.ild_path_place.specs.declared.verb.Verb.{Verb}
 use Rattle.ild_path_place.specs.declared.verb.Verb.TheVariants as V
+use Rattle.ild_path_room.proofs.Telling.{view_typed}
+use Rattle.ild_schema.specs.declared.def.TypeDef.{TypeDef}
 use Rattle.ild_schema.specs.declared.number.Slot.{Slot}
 use Rattle.ild_schema.specs.declared.row.Row.{Row}
+use Rattle.ild_schema.specs.Slots.{form_of}
 use Rattle.ild_schema.specs.Value.{Value, map}
+use Rattle.ild_typed.proofs.Judging.{tree_sound}
 use Rattle.ild_typed.specs.At.{InSlot, at, seen}
+use Rattle.ild_typed.specs.Judged.{is_hole}
+use Rattle.ild_typed.specs.OfType.{OfType}
 use Rattle.ild_typed.specs.Segment.{part}
 use Rattle.ild_typed_fronts.proofs.Pathing.{paths_of_fronts}
 use Rattle.ild_typed_fronts.proofs.Seeing.{parts_of_fronts, tables_of_fronts}
@@ -49,6 +58,15 @@ stops_at x q e = by x.part x.left e where
   by : (p : InSlot) (left : List (List ℕ)) → part_at p left ≡ Some q → p ≡ q
   by p [] e = same_Some p q e
   by p (s ∷ ss) e = absurd (none-some q e)
+
+-- what was found before
+pub room_kept : {E : Type 0} (rows : List Row) (slot : Slot) (room : ℕ) (s : List ℕ) (left : Option ℕ) (r : Result Found E) → IfOk r (λ found. found.room ≡ left) → HasRoom rows slot room s left → IfOk r (λ found. HasRoom rows slot room s found.room)
+room_kept rows slot room s left (Ok found) e has = subst (HasRoom rows slot room s) (sym e) has
+room_kept rows slot room s left (Err z) e has = tt
+
+pub hole_kept : {E : Type 0} (rows : List Row) (q : InSlot) (s : List ℕ) (verb : Verb) (hole : Bool) (r : Result Found E) → IfOk r (λ found. found.hole ≡ hole) → VerbHole rows q s verb hole → IfOk r (λ found. VerbHole rows q s verb found.hole)
+hole_kept rows q s verb hole (Ok found) e has = subst (VerbHole rows q s verb) (sym e) has
+hole_kept rows q s verb hole (Err z) e has = tt
 
 in_more : (rows : List Row) (front ss : List (List ℕ)) (p q : InSlot) → at rows p front ≡ Some q → in_one_block rows p front ≡ true → in_one_block rows p (front ++ ss) ≡ in_one_block rows q ss
 in_more rows [] ss p q e inside = ap (λ r. in_one_block rows r ss) (same_Some p q e)
@@ -78,6 +96,27 @@ module _ (h : List ℕ → List ℕ) (rows : List Row) (was : List (List ℕ)) (
 
   held : (t : Data) × IsHeld (block_at was) h rows (room_at rows limit q front) holder.0 t holder.1
   held = held_parts (block_at was) h rows Key x.schema (schemas_have_tests rows x.schema).1.keys limit q holder d front x.held to.there
+
+  pub room_low : room ≤ 96
+  room_low = let le = room_less rows front limit q in let low = x.low in let e = to.room_is in omega (arith, low, e, le)
+
+  pub of_holder : (s : List ℕ) (o : Option ℕ) → HasRoom rows (slot_of halt.view) room s o → HasRoom rows holder.0 room s o
+  of_holder s o has = subst (λ (z : Slot). HasRoom rows z room s o) holder_view.slot has
+
+  -- the hole that is left in the holder, by what is told of its front
+  pub hole_there : (s : List ℕ) (verb : Verb) (b : Bool) (form : TypeDef) → form_of rows holder.0 ≡ Some form
+      → ((f : Value) → IsView halt.view f → is_hole (form_of (table_of halt.view) (slot_of halt.view)) f ≡ false → VerbHole (table_of halt.view) (slot_of halt.view, f) s verb b) → VerbHole rows holder s verb b
+  hole_there s verb b form form_is told =
+      let f = front_of h rows holder.0 holder.1 in
+      let tests = schemas_have_tests rows x.schema in
+      let sound = tree_sound h rows holder.0 holder.1 held.0 held.1.tree in
+      let typed : OfType rows holder.0 f =
+      subst (λ (z : Slot). OfType rows z f) holder_view.slot (subst (λ r. OfType r (slot_of halt.view) f) holder_view.table (view_typed halt.view f holder_view.view)) in
+      let own : is_hole (form_of rows holder.0) f ≡ false → VerbHole rows (front_in h rows holder) s verb b =
+      subst (λ (z : Slot). is_hole (form_of rows z) f ≡ false → VerbHole rows (z, f) s verb b) holder_view.slot
+      (subst (λ r. is_hole (form_of r (slot_of halt.view)) f ≡ false → VerbHole r (slot_of halt.view, f) s verb b) holder_view.table (told f holder_view.view)) in
+      hole_of_front h rows tests.0.is_key tests.1.keys holder (room_at rows limit q front, held.1.fits) typed sound.0 sound.1 s form form_is verb b
+      (own (no_hole_in_front h rows holder.0 holder.1 form form_is sound.1))
 
   -- ---- at a HAMT
 

@@ -1,10 +1,17 @@
 -- The value of a root block that stands in a store.
-use Rattle.std.proofs.Common.{◌≡◌, ℕ, List, true≢false, Some, sym, ◌∙◌, arith}
+use Rattle.std.proofs.Common.{◌≡◌, ℕ, List, true≢false, Some, Result, Ok, Err, sym, ◌∙◌, subst, arith}
+use Rattle.std.specs.Prelude.{IfOk}
 use Rattle.std.proofs.lemmas.Option.{same_Some}
+use Rattle.ild_cbor.specs.Block.{IsBlockOf}
+use Rattle.ild_data.specs.Data.{Data}
 use Rattle.ild_data.specs.Spell.{id_of, spell}
 use Rattle.ild_edges.specs.Store.{block_at}
 use Rattle.ild_open_held.proofs.Roots.{standing_are_held}
 use Rattle.ild_path_inward.specs.Levels.{CanGo}
+use Rattle.ild_path_place.specs.Rooted.{IsRootedAt}
+use Rattle.ild_path_place.specs.Tells.{root_at}
+use Rattle.ild_path_place.specs.declared.fault.PathFault.{PathFault}
+use Rattle.ild_path_place.specs.declared.place.Place.{Place}
 use Rattle.ild_schema.specs.Clear.{IsSafe}
 use Rattle.ild_schema.specs.declared.number.TypeNo.{TypeNo}
 use Rattle.ild_schema.specs.declared.row.Row.{Row}
@@ -16,6 +23,7 @@ use Rattle.ild_typed.specs.Stands.{Stands, bare}
 use Rattle.ild_typed_fronts.proofs.Representing.{fronts_are_fronts}
 use Rattle.ild_typed_fronts.specs.Front.{front}
 use Rattle.ild_view.specs.View.{IsView, slot_of, table_of}
+use Rattle.ild_view.specs.Whole.{IsWholeView}
 use Rattle.ild_view.specs.declared.view.View.{View}
 use Rattle.ild_view_doc.specs.Block.{IsRootBlock}
 
@@ -43,3 +51,13 @@ module _ (h : List ℕ → List ℕ) (rows : List Row) (schema : IsSchema rows) 
     held = (standing_are_held (block_at was) h rows n (id_of b) v st).held;
     stands = record { table = table; slot = slot; view = stands (front h rows (plainly n) v) root };
   }
+
+  -- the place that has this root view
+  pub rooted : (view : View) → CanGo h rows was 96 (plainly n, v) st.tree view → ((t : Data) → IsBlockOf b t → IsWholeView view t) → (r : Result Place PathFault) → IfOk r (λ place. root_at place ≡ view) → IfOk r (IsRootedAt h rows was (plainly n, v))
+  unfolding root
+  rooted view go whole (Ok place) is = record {
+    tree = st.tree;
+    goes = subst (CanGo h rows was 96 (plainly n, v) st.tree) (sym is) go;
+    whole = subst (λ (w : View). IsWholeView w st.tree) (sym is) (whole st.tree root.block);
+  }
+  rooted view go whole (Err e) is = tt

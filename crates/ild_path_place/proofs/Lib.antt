@@ -7,3 +7,8 @@ pub mod Whole
 pub mod Located
 pub mod Docked
 pub mod Fitting
+pub mod Rooming
+pub mod Staying
+pub mod PartSlots
+pub mod Failing
+pub mod Holing

@@ -4,21 +4,30 @@ use Rattle.std.specs.Option.{option_map_or}
 use Rattle.std.proofs.lemmas.Option.{none-some, same_Some}
 use Rattle.ild_data.specs.Data.{Data}
 use Rattle.ild_edges.specs.Count.{Rose}
-use Rattle.ild_edges.specs.Store.{Moment}
+use Rattle.ild_edges.specs.Store.{Moment, block_at}
 use Rattle.ild_node_slots.specs.declared.fault.HamtFault.{HamtFault}
 use Rattle.ild_node_slots.specs.declared.fault.HamtFault.TheVariants as H
 use Rattle.ild_open_parts.specs.Reads.{OnlyReads}
+use Rattle.ild_open_held.specs.Held.{IsHeld}
+use Rattle.ild_path_edits.proofs.RoomTests.{schemas_have_tests}
 use Rattle.ild_path_edits.proofs.Stops.{stops_tell}
+use Rattle.ild_path_edits.specs.Along.{taken}
 use Rattle.ild_path_edits.specs.Stop.{Stop, part_at}
+use Rattle.ild_path_held.proofs.Holding.{held_parts}
+use Rattle.ild_path_held.specs.HeldEdits.{room_at}
 use Rattle.ild_path_hops.specs.Hops.{AreHops}
 use Rattle.ild_path_inward.proofs.Inwarding.{can_go_on}
 use Rattle.ild_path_inward.specs.Inwards.{CanGoOn, GoesInward, through}
 use Rattle.ild_path_inward.specs.Levels.{CanGo, counts, met_on}
 use Rattle.ild_path_inward.specs.declared.inward.Inward.{Inward}
+use Rattle.ild_path_place.proofs.Holing.{hole_is}
 use Rattle.ild_path_place.proofs.Lasting.{holder_last, is_allowed, is_kept, is_nowhere, stops_before}
+use Rattle.ild_path_place.proofs.Rooming.{at_last, hops_room, room_is, room_split}
 use Rattle.ild_path_place.specs.Faults.{hamt_fault}
+use Rattle.ild_path_place.specs.Holes.{HoleIs, VerbHole}
 use Rattle.ild_path_place.specs.Inner.{EndsThere, LeadsTo}
 use Rattle.ild_path_place.specs.Places.{EndsAt, Locates, SlotIs}
+use Rattle.ild_path_place.specs.Rooms.{HasRoom, RoomIs}
 use Rattle.ild_path_place.specs.declared.ending.Found.{Found}
 use Rattle.ild_path_place.specs.declared.fault.PathFault.{PathFault}
 use Rattle.ild_path_place.specs.declared.fault.PathFault.TheVariants as F
@@ -27,6 +36,7 @@ use Rattle.ild_path_place.specs.declared.verb.Verb.{Verb}
 use Rattle.ild_path_room.proofs.Telling.{none_behind}
 use Rattle.ild_path_within.proofs.Splitting.{ways_split}
 use Rattle.ild_schema.specs.declared.row.Row.{Row}
+use Rattle.ild_schema.specs.Slots.{form_of}
 use Rattle.ild_typed.specs.At.{InSlot, at, met, seen}
 use Rattle.ild_path_edits.specs.Table.{key_fits}
 use Rattle.ild_typed.specs.Holder.{Holder}
@@ -71,6 +81,10 @@ nil_right (x ∷ xs) = ap (λ ys. x ∷ ys) (nil_right xs)
 assoc : (xs ys zs : List (List ℕ)) → (xs ++ ys) ++ zs ≡ xs ++ (ys ++ zs)
 assoc [] ys zs = refl
 assoc (x ∷ xs) ys zs = ap (λ ws. x ∷ ws) (assoc xs ys zs)
+
+some_left : (front : List (List ℕ)) (s : List ℕ) → front ++ s ∷ [] ≡ [] → ⊥
+some_left [] s e = absurd cc
+some_left (t ∷ front) s e = absurd cc
 
 module _ (h : List ℕ → List ℕ) (rows : List Row) (was : List (List ℕ)) (p : InSlot) (d : Data) (root : View) (x : CanGo h rows was 96 p d root) (front : List (List ℕ)) (s : List ℕ) (verb : Verb) (m k : Moment) where
   abbrev path : List (List ℕ)
@@ -119,6 +133,17 @@ module _ (h : List ℕ → List ℕ) (rows : List Row) (was : List (List ℕ)) (
           ap (λ xs. xs ++ s ∷ []) (a.0.split ∙ ap (λ xs. through i.hops.items ++ (i.front ++ xs)) none ∙ ap (λ xs. through i.hops.items ++ xs) (nil_right i.front))
           ∙ assoc (through i.hops.items) i.front (s ∷ [])
 
+      holder_held : (t : Data) × IsHeld (block_at was) h rows (room_at rows 96 p front) (a.0.holder).0 t (a.0.holder).1
+      holder_held = let tests = schemas_have_tests rows x.schema in held_parts (block_at was) h rows tests.0.is_key x.schema tests.1.keys 96 p a.0.holder d front x.held there
+
+      room_left : room_at rows 96 p path ≡ i.room - taken (form_of rows (a.0.holder).0)
+      room_left =
+          ap (room_at rows 96 p) whole ∙ hops_room rows h was i.hops.items 96 p a.0.inner a.0.less a.0.hops_are (i.front ++ s ∷ []) ∙ room_split rows i.front (s ∷ []) a.0.less a.0.inner a.0.holder a.0.there
+          ∙ at_last rows (room_at rows a.0.less a.0.inner i.front) a.0.holder s ∙ ap (λ n. n - taken (form_of rows (a.0.holder).0)) (sym a.0.room_is)
+
+      room_there : (o : Option ℕ) → HasRoom rows (a.0.holder).0 i.room s o → RoomIs rows p path o
+      room_there o has = room_is rows x.schema p a.0.holder front s i.room o x.held.fits there (room_at rows 96 p front, holder_held.1.fits) room_left has
+
       module _ (reads : OnlyReads m k) (n : Moment) where
         within : n.gets ≤ k.gets + counts h rows a.0.holder s → n.gets ≤ m.gets + met_on h rows p path
         within own =
@@ -136,9 +161,9 @@ module _ (h : List ℕ → List ℕ) (rows : List Row) (was : List (List ℕ)) (
         ends_wrong number is F.Store z = record { answer = rose z.answer; gets = within z.gets }
         ends_wrong number is F.Memory z = record { answer = tt; gets = within z.gets }
 
-        pub ends_there : (number : ℕ) (found : Found) (place : Place) → place.verb ≡ verb → place.hops.items ≡ i.hops.items → place.end ≡ found.end → place.slot ≡ found.slot → place.key_fits ≡ found.key_fits
-            → EndsThere h rows was a.0.less a.0.inner i.front a.0.holder s number verb k (Ok found) n → Locates h rows was p path verb m (Ok place) n
-        ends_there number found place b c e f fits z =
+        pub ends_there : (number : ℕ) (found : Found) (place : Place) → place.verb ≡ verb → place.hops.items ≡ i.hops.items → place.end ≡ found.end → place.slot ≡ found.slot → place.key_fits ≡ found.key_fits → place.room ≡ found.room → place.hole ≡ found.hole
+            → HasRoom rows (a.0.holder).0 i.room s found.room → VerbHole rows a.0.holder s verb found.hole → EndsThere h rows was a.0.less a.0.inner i.front a.0.holder s number verb k (Ok found) n → Locates h rows was p path verb m (Ok place) n
+        ends_there number found place b c e f fits nests holed has left_hole z =
             let own = is_allowed rows front s p a.0.holder there verb found.slot z.answer.0 in
             record {
               answer = record {
@@ -151,7 +176,10 @@ module _ (h : List ℕ → List ℕ) (rows : List Row) (was : List (List ℕ)) (
                 rest = i.front ++ s ∷ [];
                 split = whole ∙ ap (λ gs. through gs ++ (i.front ++ s ∷ [])) (sym c);
                 ends = subst (EndsAt h rows was a.0.less a.0.inner (i.front ++ s ∷ [])) (sym e) z.answer.1;
+                top = λ end. absurd (some_left i.front s (subst (EndsAt h rows was a.0.less a.0.inner (i.front ++ s ∷ [])) (sym e ∙ end) z.answer.1));
                 slot_is = subst (SlotIs rows p path verb) (sym f) own.slot_is;
+                room_is = subst (RoomIs rows p path) (sym nests) (room_there found.room has);
+                hole_is = subst (HoleIs rows p path verb) (sym holed) (hole_is rows p a.0.holder front s verb found.hole there left_hole);
                 key = λ is_key tests. fits ∙ z.answer.2 is_key tests ∙ sym (ap (λ o. option_map_or (λ (l : Holder × List ℕ). key_fits is_key l.0 l.1) o true) (holder_last rows front s p a.0.holder there));
               };
               gets = within z.gets;

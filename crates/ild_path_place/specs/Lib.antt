@@ -3,6 +3,10 @@ pub mod Tells
 pub mod Places
 pub mod Slots
 pub mod Keys
+pub mod Rooms
+pub mod Holes
+pub mod Parts
+pub mod Rooted
 pub mod Endings
 pub mod Inner
 pub mod Comes

@@ -1,6 +1,6 @@
 -- The place at which a path ends in a value, and why there is none (IPLD Schemas; IPLD HashMap). The value is plain: of the HAMTs on the
 -- path it has the entries.
-use Rattle.std.specs.Prelude.{◌≡◌, ℕ, ◌+◌, ◌-◌, ◌≤◌, Bool, true, IsUtf8, List, [], ◌∷◌, ◌++◌, length, Option, Some, None, Result, Ok, Err, option_map}
+use Rattle.std.specs.Prelude.{◌≡◌, ℕ, ◌+◌, ◌-◌, ◌≤◌, Bool, true, false, IsUtf8, List, [], ◌∷◌, ◌++◌, length, Option, Some, None, Result, Ok, Err, option_map}
 use Rattle.ild_data.specs.Data.{Data}
 use Rattle.ild_data.specs.Key.{value_at}
 use Rattle.ild_data.specs.Trie.{TrieSlot}
@@ -32,7 +32,9 @@ use Rattle.ild_typed.specs.Holder.{Holder}
 use Rattle.ild_typed.specs.Node.{IsRoot}
 use Rattle.ild_typed.specs.Represented.{represented}
 use Rattle.ild_typed_fronts.specs.Front.{in_one_block}
-use Rattle.ild_path_place.specs.Tells.{fits_in, slot_in}
+use Rattle.ild_path_place.specs.Holes.{HoleIs}
+use Rattle.ild_path_place.specs.Rooms.{RoomIs}
+use Rattle.ild_path_place.specs.Tells.{fits_in, hole_in, room_in, slot_in}
 use Rattle.ild_path_place.specs.declared.fault.PathFault.{PathFault}
 use Rattle.ild_path_place.specs.declared.fault.PathFault.TheVariants as F
 use Rattle.ild_path_place.specs.declared.place.End.{End}
@@ -112,8 +114,11 @@ pub record IsPlace (h : List ℕ → List ℕ) (rows : List Row) (was : List (Li
   pub rest : List (List ℕ)
   pub split : path ≡ through place.hops.items ++ rest
   pub ends : EndsAt h rows was less inner rest place.end
+  pub top : place.end ≡ D.Whole → place.hops.items ≡ []
   pub slot_is : SlotIs rows p path verb (slot_in place)
   pub key : (is_key : ℕ → List ℕ → Bool) → TestsKeys rows is_key → fits_in place ≡ fits_at is_key rows p path
+  pub room_is : RoomIs rows p path (room_in place)
+  pub hole_is : HoleIs rows p path verb (hole_in place)
 
 abbrev pub LocateAnswer : (List ℕ → List ℕ) → List Row → List (List ℕ) → InSlot → List (List ℕ) → Verb → Moment → Result Place PathFault → Moment → Type 0
 LocateAnswer h rows was p path verb m (Ok place) n = IsPlace h rows was p path verb place
@@ -130,8 +135,8 @@ pub record Locates (h : List ℕ → List ℕ) (rows : List Row) (was : List (Li
 
 -- with the empty path
 abbrev pub LocatesWhole : Slot → Verb → Result Place PathFault → Type 0
-LocatesWhole slot V.Read (Ok place) = (place.verb ≡ V.Read) × (place.hops.items ≡ []) × (place.end ≡ D.Whole) × (place.slot ≡ slot) × (place.key_fits ≡ true)
-LocatesWhole slot V.Set (Ok place) = (place.verb ≡ V.Set) × (place.hops.items ≡ []) × (place.end ≡ D.Whole) × (place.slot ≡ slot) × (place.key_fits ≡ true)
+LocatesWhole slot V.Read (Ok place) = (place.verb ≡ V.Read) × (place.hops.items ≡ []) × (place.end ≡ D.Whole) × (place.slot ≡ slot) × (place.key_fits ≡ true) × (place.room ≡ Some 96) × (place.hole ≡ false)
+LocatesWhole slot V.Set (Ok place) = (place.verb ≡ V.Set) × (place.hops.items ≡ []) × (place.end ≡ D.Whole) × (place.slot ≡ slot) × (place.key_fits ≡ true) × (place.room ≡ Some 96) × (place.hole ≡ false)
 LocatesWhole slot V.Ins (Err e) = e ≡ F.Path 0
 LocatesWhole slot V.Del (Err e) = e ≡ F.Mismatch
 LocatesWhole slot verb r = ⊥

@@ -1,5 +1,5 @@
 -- What may be done at a segment of a holder: the slot of the part that comes, or of the one that is there.
-use Rattle.std.specs.Prelude.{◌≡◌, ℕ, Bool, true, false, List, Option, Some, None, Result, Ok, Err, option_map}
+use Rattle.std.specs.Prelude.{◌≡◌, ◌<◌, ℕ, Bool, true, false, List, length, Option, Some, None, Result, Ok, Err, option_map}
 use Rattle.ild_path_edits.specs.Table.{key_fits, refusal_to_delete, slot_to_insert, slot_to_set}
 use Rattle.ild_path_place.specs.declared.refusal.Refusal.{Refusal}
 use Rattle.ild_path_place.specs.declared.refusal.Refusal.TheVariants as R
@@ -11,6 +11,7 @@ use Rattle.ild_script.specs.declared.reply.No.TheVariants as N
 use Rattle.ild_typed.specs.At.{InSlot, seen}
 use Rattle.ild_typed.specs.OfType.{TestsKeys}
 use Rattle.ild_typed.specs.Segment.{part}
+use Rattle.ild_view.specs.Safe.{is_safe}
 
 abbrev pub part_slot : List Row → InSlot → List ℕ → Option Slot
 part_slot rows q s = option_map (λ r. r.0) (part (seen rows q) s)
@@ -45,3 +46,7 @@ KeySlot slot true V.Ins r = r ≡ Err R.Path
 KeySlot slot false V.Ins r = r ≡ Ok slot
 KeySlot slot true verb r = r ≡ Ok slot
 KeySlot slot false verb r = r ≡ Err R.Path
+
+-- a slot of the table, in which null, where it may stand, stands for null alone
+abbrev pub IsPartSlot : List Row → Slot → Type 0
+IsPartSlot rows slot = (slot.ty.0 < length rows) × (is_safe rows slot ≡ true)

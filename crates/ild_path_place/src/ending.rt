@@ -1,7 +1,9 @@
 //! The end of a path, at the holder of its last segment.
-ghost use Rattle.std.specs.Prelude.{◌≡◌, ℕ, List, Some};
+ghost use Rattle.std.specs.Prelude.{◌≡◌, ℕ, IfOk, List, Some};
 ghost use Rattle.ild_open_parts.specs.Reads.{OnlyReads};
 ghost use Rattle.ild_path_place.specs.Endings.{CanEndAt, EndsIn, EndsKey, fault_at};
+ghost use Rattle.ild_path_place.specs.Rooted.{FailsOnly};
+ghost use Rattle.ild_path_place.specs.Slots.{IsPartSlot};
 ghost use Rattle.ild_schema.specs.Value.{Value};
 ghost use Rattle.ild_typed.specs.At.{InSlot};
 ghost use Rattle.ild_view.specs.View.{IsView, slot_of, table_of};
@@ -29,6 +31,8 @@ pub(crate) struct Found<'b> {
     pub(crate) end: End<'b>,
     pub(crate) slot: Slot,
     pub(crate) key_fits: bool,
+    pub(crate) room: Option<u32>,
+    pub(crate) hole: bool,
 }
 
 // Why there is no place at the segment with a number.
@@ -41,16 +45,21 @@ fn refused(refusal: Refusal, k: usize) -> PathFault
     }
 }
 
-/// The end at a holder that is no HAMT.
+/// The end at a holder that is no HAMT, which leaves this room to the part, and may have a hole then.
 pub(crate) fn end_in_block<'b>(
     alloc: Global,
     holder: &View<'_>,
     front: Path,
     last: &Txt,
     k: usize,
+    left: Option<u32>,
+    hole: bool,
     verb: Verb,
 ) -> Result<Found<'b>, PathFault>
-    ensures { (f : Value) → IsView holder.now f → EndsIn (table_of holder.now) (slot_of holder.now, f) front last.now k verb result }
+    ensures part { IfOk result (λ found. IsPartSlot (table_of holder.now) found.slot) }
+    ensures room { IfOk result (λ found. found.room ≡ left) }
+    ensures hole { IfOk result (λ found. found.hole ≡ hole) }
+    ensures ends { (f : Value) → IsView holder.now f → EndsIn (table_of holder.now) (slot_of holder.now, f) front last.now k verb result }
 {
     let slot = match slot_in_block(holder, last.as_str(), verb) {
         Ok(slot) => slot,
@@ -63,10 +72,12 @@ pub(crate) fn end_in_block<'b>(
         end: End::InBlock(path),
         slot,
         key_fits,
+        room: left,
+        hole,
     })
 }
 
-/// The end at a key of a HAMT.
+/// The end at a key of a HAMT, which leaves this room to the part, and may have a hole then.
 pub(crate) fn end_at_key<'b, K: Store, H: KeyHash>(
     alloc: Global,
     acc: &'b Accepted,
@@ -75,12 +86,18 @@ pub(crate) fn end_at_key<'b, K: Store, H: KeyHash>(
     last: &Txt,
     k: usize,
     room: u32,
+    left: Option<u32>,
+    hole: bool,
     verb: Verb,
     keys: &H,
     store: &mut K,
 ) -> Result<Found<'b>, PathFault>
     requires { table_of holder.now ≡ acc.now }
     ensures reads { OnlyReads (K.moment store.old) (K.moment store.new) }
+    ensures failed { FailsOnly (K.moment store.old) result (K.moment store.new) }
+    ensures part { IfOk result (λ found. IsPartSlot acc.now found.slot) }
+    ensures room { IfOk result (λ found. found.room ≡ left) }
+    ensures hole { IfOk result (λ found. found.hole ≡ hole) }
     ensures told { (was : List (List ℕ)) (limit : ℕ) (q : InSlot) → (K.moment store.old).blocks ≡ Some was → (x : CanEndAt H.hash_of acc.now was limit q front room holder.now)
         → EndsKey H.hash_of acc.now was limit q front room holder.now x last.now k verb (K.moment store.old) result (K.moment store.new) }
 {
@@ -108,5 +125,7 @@ pub(crate) fn end_at_key<'b, K: Store, H: KeyHash>(
         end: End::AtKey(front, trail, entry),
         slot,
         key_fits,
+        room: left,
+        hole,
     })
 }

@@ -1,14 +1,22 @@
 //! The end of a path in the innermost block.
-ghost use Rattle.std.specs.Prelude.{◌≡◌, ℕ, List, Some};
+ghost use Rattle.std.specs.Option.{ForSome};
+ghost use Rattle.std.specs.Prelude.{◌≡◌, ◌≤◌, ℕ, All, IfOk, List, Some};
 ghost use Rattle.ild_data.specs.Data.{Data};
 ghost use Rattle.ild_open_parts.specs.Reads.{OnlyReads};
 ghost use Rattle.ild_path_inward.specs.Inwards.{CanGoOn};
+ghost use Rattle.ild_path_inward.specs.Levels.{IsUnder};
+ghost use Rattle.ild_path_place.specs.Holes.{VerbHole};
 ghost use Rattle.ild_path_place.specs.Inner.{CanEnd, EndsThere, LeadsTo};
+ghost use Rattle.ild_path_place.specs.Rooted.{FailsOnly};
+ghost use Rattle.ild_path_place.specs.Rooms.{HasRoom};
+ghost use Rattle.ild_path_place.specs.Slots.{IsPartSlot};
 ghost use Rattle.ild_typed.specs.At.{InSlot};
 ghost use Rattle.ild_view.specs.View.{table_of};
 
 use crate::ending::{Found, end_at_key, end_in_block};
 use crate::fault::PathFault;
+use crate::hole::leaves;
+use crate::room::room_in;
 use crate::verb::Verb;
 use ild_data::{KeyHash, Path, Txt};
 use ild_edges::Store;
@@ -33,13 +41,22 @@ fn end_of<'b, K: Store, H: KeyHash>(
 ) -> Result<Found<'b>, PathFault>
     requires { table_of inner.now ≡ acc.now }
     ensures reads { OnlyReads (K.moment store.old) (K.moment store.new) }
+    ensures failed { FailsOnly (K.moment store.old) result (K.moment store.new) }
+    ensures part { IfOk result (λ found. IsPartSlot acc.now found.slot) }
+    ensures deep { IfOk result (λ found. ForSome found.room (λ n. n ≤ 96)) }
+    ensures room { (was : List (List ℕ)) (limit : ℕ) (q holder : InSlot) (d : Data) → CanEnd H.hash_of acc.now was limit q d inner.now → LeadsTo acc.now limit q front room holder → IfOk result (λ found. HasRoom acc.now holder.0 room last.now found.room) }
+    ensures hole { (was : List (List ℕ)) (limit : ℕ) (q holder : InSlot) (d : Data) → CanEnd H.hash_of acc.now was limit q d inner.now → LeadsTo acc.now limit q front room holder → IfOk result (λ found. VerbHole acc.now holder last.now verb found.hole) }
     ensures told { (was : List (List ℕ)) (limit : ℕ) (q holder : InSlot) (d : Data) → (K.moment store.old).blocks ≡ Some was → CanEnd H.hash_of acc.now was limit q d inner.now → LeadsTo acc.now limit q front room holder
         → EndsThere H.hash_of acc.now was limit q front holder last.now k verb (K.moment store.old) result (K.moment store.new) }
 {
     let holder = halt_in(inner, front.as_slice(), room).view;
+    let left = room_in(alloc, acc, &holder, last.as_str(), room)?;
+    let hole = leaves(&holder, last.as_str(), verb);
     match holder.hamt() {
-        Some(_) => end_at_key(alloc, acc, &holder, front, last, k, room, verb, keys, store),
-        None => end_in_block(alloc, &holder, front, last, k, verb),
+        Some(_) => end_at_key(
+            alloc, acc, &holder, front, last, k, room, left, hole, verb, keys, store,
+        ),
+        None => end_in_block(alloc, &holder, front, last, k, left, hole, verb),
     }
 }
 
@@ -59,6 +76,11 @@ pub(crate) fn end_behind<'b, K: Store, H: KeyHash>(
 ) -> Result<Found<'b>, PathFault>
     requires { table_of root.now ≡ acc.now }
     ensures reads { OnlyReads (K.moment store.old) (K.moment store.new) }
+    ensures failed { FailsOnly (K.moment store.old) result (K.moment store.new) }
+    ensures part { All (IsUnder acc.now) hops.now → IfOk result (λ found. IsPartSlot acc.now found.slot) }
+    ensures deep { IfOk result (λ found. ForSome found.room (λ n. n ≤ 96)) }
+    ensures room { (was : List (List ℕ)) (limit : ℕ) (q holder : InSlot) (d : Data) → CanGoOn H.hash_of acc.now was limit q d root.now hops.now → LeadsTo acc.now limit q front room holder → IfOk result (λ found. HasRoom acc.now holder.0 room last.now found.room) }
+    ensures hole { (was : List (List ℕ)) (limit : ℕ) (q holder : InSlot) (d : Data) → CanGoOn H.hash_of acc.now was limit q d root.now hops.now → LeadsTo acc.now limit q front room holder → IfOk result (λ found. VerbHole acc.now holder last.now verb found.hole) }
     ensures told { (was : List (List ℕ)) (limit : ℕ) (q holder : InSlot) (d : Data) → (K.moment store.old).blocks ≡ Some was → CanGoOn H.hash_of acc.now was limit q d root.now hops.now → LeadsTo acc.now limit q front room holder
         → EndsThere H.hash_of acc.now was limit q front holder last.now k verb (K.moment store.old) result (K.moment store.new) }
 {

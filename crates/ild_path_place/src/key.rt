@@ -10,8 +10,8 @@ use ild_view::View;
 use ild_view_walk::is_text;
 use std::alloc::{AllocError, Global};
 
-// What the table says of a slot's type, copies followed.
-fn form(acc: &Accepted, slot: Slot) -> &TypeDef
+/// What the table says of a slot's type, copies followed.
+pub(crate) fn form(acc: &Accepted, slot: Slot) -> &TypeDef
     requires { slot.ty.0 < length acc.now }
     ensures form { form_of acc.now slot ≡ Some result.now }
     ensures within { IsWithin (length acc.now) result.now }

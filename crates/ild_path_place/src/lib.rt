@@ -4,14 +4,18 @@
 
 mod ending;
 mod fault;
+mod hole;
 mod inner;
 mod key;
 mod locating;
+mod parts;
 mod place;
 mod refusal;
+mod room;
 mod verb;
 
 pub use fault::PathFault;
 pub use locating::locate;
+pub use parts::Parts;
 pub use place::{End, Place};
 pub use verb::Verb;

@@ -6,6 +6,7 @@ ghost use Rattle.ild_edges.specs.Store.{block_at};
 ghost use Rattle.ild_open_parts.specs.Reads.{OnlyReads};
 ghost use Rattle.ild_path_inward.specs.Levels.{CanGo};
 ghost use Rattle.ild_path_place.specs.Places.{LocatesWhole, Locates};
+ghost use Rattle.ild_path_place.specs.Rooted.{FailsOnly, IsRootedAt};
 ghost use Rattle.ild_path_place.specs.Tells.{IsPlaceOf, root_at};
 ghost use Rattle.ild_schema.specs.Slots.{plainly};
 ghost use Rattle.ild_schema.specs.Value.{Value};
@@ -18,6 +19,7 @@ use crate::ending::Found;
 use crate::fault::PathFault;
 use crate::inner::end_behind;
 use crate::place::{End, Place};
+use crate::room::ROOM;
 use crate::verb::Verb;
 use ild_data::{KeyHash, Path, Txt};
 use ild_edges::Store;
@@ -26,9 +28,6 @@ use ild_schema::Accepted;
 use ild_view::View;
 use ild_view_doc::Doc;
 use std::alloc::Global;
-
-/// How many levels a value may nest.
-const ROOM: u32 = 96;
 
 // The place of the whole: nothing is inserted there, and it isn't deleted.
 fn whole<'b>(alloc: Global, root: View<'b>, verb: Verb) -> Result<Place<'b>, PathFault>
@@ -43,6 +42,8 @@ fn whole<'b>(alloc: Global, root: View<'b>, verb: Verb) -> Result<Place<'b>, Pat
             end: End::Whole,
             slot: root.slot(),
             key_fits: true,
+            room: Some(ROOM),
+            hole: false,
         }),
         Verb::Ins => Err(PathFault::Path { k: 0 }),
         Verb::Del => Err(PathFault::Mismatch),
@@ -63,6 +64,7 @@ fn locate_last<'b, K: Store, H: KeyHash>(
     requires { table_of root ≡ acc.now }
     ensures root { IfOk result (λ place. root_at place ≡ root.entry) }
     ensures reads { OnlyReads (K.moment store.old) (K.moment store.new) }
+    ensures failed { FailsOnly (K.moment store.old) result (K.moment store.new) }
     ensures told { (was : List (List ℕ)) (p : InSlot) (d : Data) → (K.moment store.old).blocks ≡ Some was → CanGo H.hash_of acc.now was 96 p d root.entry
         → Locates H.hash_of acc.now was p (front.now ++ last.now ∷ []) verb (K.moment store.old) result (K.moment store.new) }
 {
@@ -81,6 +83,8 @@ fn locate_last<'b, K: Store, H: KeyHash>(
         end,
         slot,
         key_fits,
+        room: nests,
+        hole,
     } = end_behind(
         alloc,
         acc,
@@ -101,12 +105,14 @@ fn locate_last<'b, K: Store, H: KeyHash>(
         end,
         slot,
         key_fits,
+        room: nests,
+        hole,
     })
 }
 
 /// The place at which a path ends in a root block's value, for what is to be done there: each HAMT on the way is entered at its key, by
 /// gets alone. `Path` comes exactly where a segment leads nowhere, or nothing may be done at the last one; `Mismatch` where what is to
-/// be deleted can't go. On a store that holds the value no block is refused.
+/// be deleted can't go. On a store that holds the value no block is refused. A fault of the store comes only where it failed.
 pub fn locate<'b, K: Store, H: KeyHash>(
     alloc: Global,
     doc: &'b Doc<'_>,
@@ -116,10 +122,14 @@ pub fn locate<'b, K: Store, H: KeyHash>(
     store: &mut K,
 ) -> Result<Place<'b>, PathFault>
     ensures only { OnlyReads (K.moment store.old) (K.moment store.new) }
+    ensures failed { FailsOnly (K.moment store.old) result (K.moment store.new) }
     ensures of { IfOk result (λ place. IsPlaceOf (table_in doc.now) (type_in doc.now) place) }
     ensures stands { (was : List (List ℕ)) (v : Value) → (K.moment store.old).blocks ≡ Some was → block_at was (id_of (block_in doc.now)) ≡ Some (block_in doc.now)
         → Stands bare (block_at was) H.hash_of (table_in doc.now) (type_in doc.now) (id_of (block_in doc.now)) v
         → Locates H.hash_of (table_in doc.now) was (plainly (type_in doc.now), v) path.now verb (K.moment store.old) result (K.moment store.new) }
+    ensures rooted { (was : List (List ℕ)) (v : Value) → (K.moment store.old).blocks ≡ Some was → block_at was (id_of (block_in doc.now)) ≡ Some (block_in doc.now)
+        → Stands bare (block_at was) H.hash_of (table_in doc.now) (type_in doc.now) (id_of (block_in doc.now)) v
+        → IfOk result (IsRootedAt H.hash_of (table_in doc.now) was (plainly (type_in doc.now), v)) }
 {
     // It does no work: its clauses say what acceptance says of the table.
     let _types = doc.schema().types();

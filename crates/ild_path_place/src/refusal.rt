@@ -1,5 +1,6 @@
 //! Whether something may be done at a segment.
-ghost use Rattle.ild_path_place.specs.Slots.{IsSlotOr, KeySlot, SlotAnswer};
+ghost use Rattle.std.specs.Prelude.{IfOk};
+ghost use Rattle.ild_path_place.specs.Slots.{IsPartSlot, IsSlotOr, KeySlot, SlotAnswer};
 ghost use Rattle.ild_path_place.specs.declared.verb.Verb.TheVariants.{Read, Del};
 ghost use Rattle.ild_schema.specs.Value.{Value};
 ghost use Rattle.ild_view.specs.View.{IsView, slot_of, table_of};
@@ -20,7 +21,8 @@ pub(crate) enum Refusal {
 
 // The slot of the part at a segment.
 fn slot_there(holder: &View<'_>, segment: &str) -> Result<Slot, Refusal>
-    ensures { (f : Value) → IsView holder.now f → SlotAnswer (table_of holder.now) (slot_of holder.now, f) segment.now Read result }
+    ensures answer { (f : Value) → IsView holder.now f → SlotAnswer (table_of holder.now) (slot_of holder.now, f) segment.now Read result }
+    ensures part { IfOk result (IsPartSlot (table_of holder.now)) }
 {
     match holder.part(segment) {
         Some(part) => Ok(part.slot()),
@@ -30,7 +32,8 @@ fn slot_there(holder: &View<'_>, segment: &str) -> Result<Slot, Refusal>
 
 // The slot of the part at a segment, where it may be deleted.
 fn slot_to_delete(holder: &View<'_>, segment: &str) -> Result<Slot, Refusal>
-    ensures { (f : Value) → IsView holder.now f → SlotAnswer (table_of holder.now) (slot_of holder.now, f) segment.now Del result }
+    ensures answer { (f : Value) → IsView holder.now f → SlotAnswer (table_of holder.now) (slot_of holder.now, f) segment.now Del result }
+    ensures part { IfOk result (IsPartSlot (table_of holder.now)) }
 {
     match refusal_to_delete(holder, segment) {
         Some(DeleteFault::Path) => Err(Refusal::Path),
@@ -51,8 +54,11 @@ fn slot_or(slot: Option<Slot>) -> Result<Slot, Refusal>
 
 /// The slot of the part that comes to a segment, or of the one that is there, of a holder that is no HAMT.
 pub(crate) fn slot_in_block(holder: &View<'_>, segment: &str, verb: Verb) -> Result<Slot, Refusal>
-    ensures { (f : Value) → IsView holder.now f → SlotAnswer (table_of holder.now) (slot_of holder.now, f) segment.now verb result }
+    ensures answer { (f : Value) → IsView holder.now f → SlotAnswer (table_of holder.now) (slot_of holder.now, f) segment.now verb result }
+    ensures part { IfOk result (IsPartSlot (table_of holder.now)) }
 {
+    // It does no work: its clauses say what acceptance says of the table.
+    let _types = holder.schema().types();
     match verb {
         Verb::Read => slot_there(holder, segment),
         Verb::Set => slot_or(slot_to_set(holder, segment)),

@@ -13,6 +13,12 @@ use Rattle.ild_path_place.specs.declared.ending.Found.{Found}
 use Rattle.ild_path_place.specs.declared.fault.PathFault.{PathFault}
 use Rattle.ild_path_place.specs.declared.place.End.TheVariants.{AtKey}
 use Rattle.ild_path_place.specs.declared.refusal.Refusal.{Refusal}
+use Rattle.std.specs.Prelude.{IfOk}
+use Rattle.ild_path_enter.specs.declared.lookup.Entered.{Entered}
+use Rattle.ild_path_place.specs.Rooted.{FailsOnly}
+use Rattle.ild_path_place.specs.Slots.{IsPartSlot}
+use Rattle.ild_path_place.proofs.Failing.{path_fails, refused_fails}
+use Rattle.ild_path_place.proofs.PartSlots.{key_fits}
 use Rattle.ild_path_place.proofs.Keying.{can, ends_refused, ends_there, ends_wrong, fitted, slotted}
 use Rattle.ild_path_place.proofs.ending.end_at_key.Goals as goal
 
@@ -88,8 +94,26 @@ returns-clause-told g c = λ was limit q told x.
     let fits = subst (λ i. FitsAs rows (form_of rows (slot_of view)) c.is_some-there.result i c.in_ok-key_fits.key_fits) (c.as_str-2.ensures.same ∙ sym c.as_str.ensures.same) c.in_ok-key_fits.ensures in
     let key = fitted h rows was limit q c.args.front c.args.room view x c.in-Some.slot is c.saturating_sub-less.result c.saturating_sub-less.ensures c.as_str.result.now c.in_ok-trail.field-0.entry e.answer.value c.is_some-there.result c.is_some-there.ensures utf8
     c.in_ok-key_fits.key_fits fits in
-    let found : Found = record { end = AtKey c.args.front c.in_ok-trail.field-0.trail c.in_ok-trail.field-0.entry; slot = c.in-Ok.slot; key_fits = c.in_ok-key_fits.key_fits } in
+    let found : Found = record { end = AtKey c.args.front c.in_ok-trail.field-0.trail c.in_ok-trail.field-0.entry; slot = c.in-Ok.slot; key_fits = c.in_ok-key_fits.key_fits; room = c.args.left; hole = c.args.hole } in
     subst (λ i. EndsKey h rows was limit q c.args.front c.args.room view x i c.args.k c.args.verb m (Ok found) n) c.as_str.ensures.same
     (ends_there h rows was limit q c.args.front c.args.room view x c.in-Some.slot is c.saturating_sub-less.result c.saturating_sub-less.ensures c.as_str.result.now m n e.gets
     c.args.k c.args.verb found c.in_ok-trail.field-0.trail c.in_ok-trail.field-0.entry refl utf8 e.answer.found e.answer.value
     (subst (λ (r : Result Slot Refusal). SlotAnswer rows (slot_of view, map x.ps) c.as_str.result.now c.args.verb r) c.in-Ok.is answer) key)
+
+pub returns-in_err-trail-clause-failed : goal.returns-in_err-trail-clause-failed
+returns-in_err-trail-clause-failed g c =
+    let r = err_from_is_err_and c.from_residual.result c.from_residual.ensures.1 in
+    rw (r.1, r.2) (path_fails Entered Found (g.K.Store.moment c.args.store.now) (g.K.Store.moment c.enter.new.store) c.in_err-trail.field-0.0 c.in_err-trail.ensures.failed)
+
+pub returns-in-Err-clause-failed : goal.returns-in-Err-clause-failed
+returns-in-Err-clause-failed g c =
+    let m = g.K.Store.moment c.args.store.now in
+    let n = g.K.Store.moment c.enter.new.store in
+    subst (λ (z : PathFault). FailsOnly {A = Found} m (Err z) n) (sym c.refused.ensures) (refused_fails Found m n c.args.k c.in-Err.refusal)
+
+pub returns-clause-part : goal.returns-clause-part
+returns-clause-part g c =
+    let rows = c.args.acc.now in
+    let is = c.in-Some.ensures in
+    subst (λ (z : Result Slot Refusal). IfOk z (IsPartSlot rows)) c.in-Ok.is
+    (key_fits rows c.in-Some.slot (is.1, is.2) c.is_some-there.result c.args.verb c.slot_at_key.result c.slot_at_key.ensures)

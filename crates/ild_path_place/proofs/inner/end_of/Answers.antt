@@ -1,8 +1,15 @@
-use Rattle.std.proofs.Common.{List, ℕ, refl, subst}
+use Rattle.std.proofs.Common.{List, ℕ, refl, ◌∙◌, subst}
 use Rattle.ild_path_inward.specs.Halts.{HaltsAt}
 use Rattle.ild_schema.specs.Value.{Value}
 use Rattle.ild_view.specs.View.{IsView, slot_of, table_of}
-use Rattle.ild_path_place.proofs.AtEnd.{can_end_at, ends_at_key, ends_in_block}
+use Rattle.std.specs.Prelude.{IfOk}
+use Rattle.ild_path_place.specs.Slots.{IsPartSlot}
+use Rattle.ild_path_place.specs.declared.ending.Found.{Found}
+use Rattle.ild_schema.specs.declared.row.Row.{Row}
+use Rattle.ild_path_place.proofs.Failing.{block_fails}
+use Rattle.ild_path_place.proofs.AtEnd.{can_end_at, ends_at_key, ends_in_block, hole_kept, hole_there, of_holder, room_kept, room_low}
+use Rattle.ild_path_place.specs.Holes.{VerbHole}
+use Rattle.ild_path_place.specs.Rooms.{HasRoom}
 use Rattle.ild_path_place.proofs.inner.end_of.Goals as goal
 
 pub returns-in-Some-clause-told : goal.returns-in-Some-clause-told
@@ -22,4 +29,57 @@ returns-in-None-clause-told g c = λ was limit q holder d told x to.
     let view = c.args.inner.now in
     let halts : (f : Value) → IsView view f → HaltsAt (table_of view) c.args.room (slot_of view, f) c.args.front c.halt_in.result = λ f is. subst (λ (p : List (List ℕ)). HaltsAt (table_of view) c.args.room (slot_of view, f) p c.halt_in.result) c.as_slice.ensures (c.halt_in.ensures.halts f is) in
     ends_in_block h rows was limit q d view x c.args.front c.args.room holder to c.halt_in.result halts c.in-None.ensures
-    c.args.last.now c.args.k c.args.verb (g.K.Store.moment c.args.store.now) (g.K.Store.moment c.args.store.now) c.end_in_block.result refl c.end_in_block.ensures
+    c.args.last.now c.args.k c.args.verb (g.K.Store.moment c.args.store.now) (g.K.Store.moment c.args.store.now) c.end_in_block.result refl c.end_in_block.ensures.ends
+
+pub returns-in-Some-clause-room : goal.returns-in-Some-clause-room
+returns-in-Some-clause-room g c = λ was limit q holder d x to.
+    let h = g.H.KeyHash.hash_of in
+    let rows = c.args.acc.now in
+    let view = c.args.inner.now in
+    let halts : (f : Value) → IsView view f → HaltsAt (table_of view) c.args.room (slot_of view, f) c.args.front c.halt_in.result = λ f is. subst (λ (p : List (List ℕ)). HaltsAt (table_of view) c.args.room (slot_of view, f) p c.halt_in.result) c.as_slice.ensures (c.halt_in.ensures.halts f is) in
+    let low = room_low h rows was limit q d view x c.args.front c.args.room holder to c.halt_in.result halts in
+    let has = subst (λ (s : List ℕ). HasRoom rows (slot_of c.halt_in.result.view) c.args.room s c.in_ok-left.left) c.as_str.ensures.same (c.in_ok-left.ensures.room low) in
+    let own = of_holder h rows was limit q d view x c.args.front c.args.room holder to c.halt_in.result halts c.args.last.now c.in_ok-left.left has in
+    room_kept rows holder.0 c.args.room c.args.last.now c.in_ok-left.left c.end_at_key.result c.end_at_key.ensures.room own
+
+pub returns-in-None-clause-room : goal.returns-in-None-clause-room
+returns-in-None-clause-room g c = λ was limit q holder d x to.
+    let h = g.H.KeyHash.hash_of in
+    let rows = c.args.acc.now in
+    let view = c.args.inner.now in
+    let halts : (f : Value) → IsView view f → HaltsAt (table_of view) c.args.room (slot_of view, f) c.args.front c.halt_in.result = λ f is. subst (λ (p : List (List ℕ)). HaltsAt (table_of view) c.args.room (slot_of view, f) p c.halt_in.result) c.as_slice.ensures (c.halt_in.ensures.halts f is) in
+    let low = room_low h rows was limit q d view x c.args.front c.args.room holder to c.halt_in.result halts in
+    let has = subst (λ (s : List ℕ). HasRoom rows (slot_of c.halt_in.result.view) c.args.room s c.in_ok-left.left) c.as_str.ensures.same (c.in_ok-left.ensures.room low) in
+    let own = of_holder h rows was limit q d view x c.args.front c.args.room holder to c.halt_in.result halts c.args.last.now c.in_ok-left.left has in
+    room_kept rows holder.0 c.args.room c.args.last.now c.in_ok-left.left c.end_in_block.result c.end_in_block.ensures.room own
+
+pub returns-in-None-clause-failed : goal.returns-in-None-clause-failed
+returns-in-None-clause-failed g c =
+    let m = g.K.Store.moment c.args.store.now in
+    block_fails c.halt_in.result.view c.args.front c.args.last.now c.args.k c.args.verb m m c.end_in_block.result c.end_in_block.ensures.ends
+
+pub returns-in-None-clause-part : goal.returns-in-None-clause-part
+returns-in-None-clause-part g c =
+    subst (λ (r : List Row). IfOk c.end_in_block.result (λ (found : Found). IsPartSlot r found.slot)) (c.halt_in.ensures.table ∙ c.requires) c.end_in_block.ensures.part
+
+pub returns-in-Some-clause-hole : goal.returns-in-Some-clause-hole
+returns-in-Some-clause-hole g c = λ was limit q holder d x to.
+    let h = g.H.KeyHash.hash_of in
+    let rows = c.args.acc.now in
+    let view = c.args.inner.now in
+    let halts : (f : Value) → IsView view f → HaltsAt (table_of view) c.args.room (slot_of view, f) c.args.front c.halt_in.result = λ f is. subst (λ (p : List (List ℕ)). HaltsAt (table_of view) c.args.room (slot_of view, f) p c.halt_in.result) c.as_slice.ensures (c.halt_in.ensures.halts f is) in
+    let low = room_low h rows was limit q d view x c.args.front c.args.room holder to c.halt_in.result halts in
+    let has = of_holder h rows was limit q d view x c.args.front c.args.room holder to c.halt_in.result halts c.as_str.result.now c.in_ok-left.left (c.in_ok-left.ensures.room low) in
+    let own = hole_there h rows was limit q d view x c.args.front c.args.room holder to c.halt_in.result halts c.as_str-2.result.now c.args.verb c.leaves-hole.result has.form has.form_is c.leaves-hole.ensures in
+    hole_kept rows holder c.args.last.now c.args.verb c.leaves-hole.result c.end_at_key.result c.end_at_key.ensures.hole (subst (λ (s : List ℕ). VerbHole rows holder s c.args.verb c.leaves-hole.result) c.as_str-2.ensures.same own)
+
+pub returns-in-None-clause-hole : goal.returns-in-None-clause-hole
+returns-in-None-clause-hole g c = λ was limit q holder d x to.
+    let h = g.H.KeyHash.hash_of in
+    let rows = c.args.acc.now in
+    let view = c.args.inner.now in
+    let halts : (f : Value) → IsView view f → HaltsAt (table_of view) c.args.room (slot_of view, f) c.args.front c.halt_in.result = λ f is. subst (λ (p : List (List ℕ)). HaltsAt (table_of view) c.args.room (slot_of view, f) p c.halt_in.result) c.as_slice.ensures (c.halt_in.ensures.halts f is) in
+    let low = room_low h rows was limit q d view x c.args.front c.args.room holder to c.halt_in.result halts in
+    let has = of_holder h rows was limit q d view x c.args.front c.args.room holder to c.halt_in.result halts c.as_str.result.now c.in_ok-left.left (c.in_ok-left.ensures.room low) in
+    let own = hole_there h rows was limit q d view x c.args.front c.args.room holder to c.halt_in.result halts c.as_str-2.result.now c.args.verb c.leaves-hole.result has.form has.form_is c.leaves-hole.ensures in
+    hole_kept rows holder c.args.last.now c.args.verb c.leaves-hole.result c.end_in_block.result c.end_in_block.ensures.hole (subst (λ (s : List ℕ). VerbHole rows holder s c.args.verb c.leaves-hole.result) c.as_str-2.ensures.same own)

@@ -6,7 +6,8 @@ use Rattle.ild_typed.specs.Schema.{IsSchema}
 use Rattle.ild_view_doc.specs.Docs.{block_in, table_in, type_in}
 use Rattle.ild_path_inward.specs.Levels.{CanGo}
 use Rattle.ild_path_place.specs.Places.{Locates}
-use Rattle.ild_path_place.proofs.Docked.{can_go}
+use Rattle.ild_path_place.proofs.Failing.{whole_fails}
+use Rattle.ild_path_place.proofs.Docked.{can_go, rooted}
 use Rattle.ild_path_place.proofs.Located.{empty, split_last}
 use Rattle.ild_path_place.proofs.Whole.{locates_whole}
 use Rattle.ild_path_place.proofs.locating.locate.Goals as goal
@@ -32,3 +33,29 @@ returns-in-None-clause-stands g c = λ was v told own st.
     subst (λ (xs : List (List ℕ)). Locates h rows was p xs c.args.verb (g.K.Store.moment c.args.store.now) c.whole.result (g.K.Store.moment c.args.store.now))
     (sym (empty c.as_slice-segments.result.now c.in-None.ensures.value) ∙ c.as_slice-segments.ensures)
     (locates_whole h rows was p (g.K.Store.moment c.args.store.now) _ c.view-in-None.ensures.slot c.args.verb c.whole.result c.whole.ensures.whole)
+
+pub returns-in-None-clause-failed : goal.returns-in-None-clause-failed
+returns-in-None-clause-failed g c =
+    let m = g.K.Store.moment c.args.store.now in
+    whole_fails _ c.args.verb m m c.whole.result c.whole.ensures.whole
+
+pub returns-in-Some-clause-rooted : goal.returns-in-Some-clause-rooted
+returns-in-Some-clause-rooted g c = λ was v told own st.
+    let h = g.H.KeyHash.hash_of in
+    let rows = table_in c.args.doc.now in
+    let n = type_in c.args.doc.now in
+    let b = block_in c.args.doc.now in
+    let schema = subst IsSchema c.schema.ensures (record { table = c.types-types.ensures.table; accepted = c.types-types.ensures.accepted }) in
+    let go = can_go h rows schema was n b v st own c.view.result c.view.ensures.table c.view.ensures.slot c.view.ensures.front in
+    rooted h rows schema was n b v st own c.view.result go c.view.ensures.whole c.locate_last.result c.locate_last.ensures.root
+
+pub returns-in-None-clause-rooted : goal.returns-in-None-clause-rooted
+returns-in-None-clause-rooted g c = λ was v told own st.
+    let h = g.H.KeyHash.hash_of in
+    let rows = table_in c.args.doc.now in
+    let n = type_in c.args.doc.now in
+    let b = block_in c.args.doc.now in
+    let schema = subst IsSchema c.schema.ensures (record { table = c.types-types.ensures.table; accepted = c.types-types.ensures.accepted }) in
+    let view = c.view-in-None.result in
+    let go = can_go h rows schema was n b v st own view c.view-in-None.ensures.table c.view-in-None.ensures.slot c.view-in-None.ensures.front in
+    rooted h rows schema was n b v st own view go c.view-in-None.ensures.whole c.whole.result c.whole.ensures.root

@@ -2,6 +2,11 @@ use Rattle.std.proofs.Common.{List, refl, sym, subst, ◌∙◌}
 use Rattle.std.proofs.lemmas.Result.{err_from_is_err_and}
 use Rattle.ild_path_hops.specs.declared.hop.Hop.{Hop}
 use Rattle.ild_path_inward.specs.Inwards.{CanGoOn}
+use Rattle.std.proofs.Common.{Err}
+use Rattle.ild_path_inward.specs.declared.inward.Inward.{Inward}
+use Rattle.ild_path_place.specs.declared.ending.Found.{Found}
+use Rattle.ild_path_place.specs.declared.place.Place.{Place}
+use Rattle.ild_path_place.proofs.Failing.{later_fails, path_fails, same_fails}
 use Rattle.ild_path_place.proofs.Located.{ends_there, ends_wrong, fails, goes_on, leads, nil_by, nowhere}
 use Rattle.ild_path_place.proofs.locating.locate_last.Goals as goal
 
@@ -40,5 +45,21 @@ returns-clause-told g c = λ was p d told x.
     let none = nil_by h rows was p d c.args.root x c.args.front.now c.args.last.now c.args.verb m k c.in_ok-hops.field-0 a c.is_empty.result c.is_empty.ensures c.if-not-is_empty.false in
     let on = goes_on h rows was p d c.args.root x c.args.front.now c.args.last.now c.args.verb m k c.in_ok-hops.field-0 a none in
     let to = leads h rows was p d c.args.root x c.args.front.now c.args.last.now c.args.verb m k c.in_ok-hops.field-0 a none in
-    let z = c.in_ok-end.ensures.told was a.0.less a.0.inner a.0.holder on.0 (c.go_inward.ensures.reads.blocks ∙ told) (subst (λ (gs : List Hop). CanGoOn h rows was a.0.less a.0.inner on.0 c.args.root gs) (sym c.deref.ensures.value) on.1) to in
-    ends_there h rows was p d c.args.root x c.args.front.now c.args.last.now c.args.verb m k c.in_ok-hops.field-0 a none c.go_inward.ensures.reads (g.K.Store.moment c.end_behind.new.store) _ c.in_ok-end.field-0 _ refl refl refl refl refl z
+    let ready = subst (λ (gs : List Hop). CanGoOn h rows was a.0.less a.0.inner on.0 c.args.root gs) (sym c.deref.ensures.value) on.1 in
+    let z = c.in_ok-end.ensures.told was a.0.less a.0.inner a.0.holder on.0 (c.go_inward.ensures.reads.blocks ∙ told) ready to in
+    let has = c.in_ok-end.ensures.room was a.0.less a.0.inner a.0.holder on.0 ready to in
+    let holed = c.in_ok-end.ensures.hole was a.0.less a.0.inner a.0.holder on.0 ready to in
+    ends_there h rows was p d c.args.root x c.args.front.now c.args.last.now c.args.verb m k c.in_ok-hops.field-0 a none c.go_inward.ensures.reads (g.K.Store.moment c.end_behind.new.store) _ c.in_ok-end.field-0 _ refl refl refl refl refl refl refl has holed z
+
+pub returns-in_err-hops-clause-failed : goal.returns-in_err-hops-clause-failed
+returns-in_err-hops-clause-failed g c =
+    let r = err_from_is_err_and c.from_residual.result c.from_residual.ensures.1 in
+    rw (r.1, r.2) (path_fails Inward Place (g.K.Store.moment c.args.store.now) (g.K.Store.moment c.go_inward.new.store) c.in_err-hops.field-0.0 c.in_err-hops.ensures.failed)
+
+pub returns-in_err-end-clause-failed : goal.returns-in_err-end-clause-failed
+returns-in_err-end-clause-failed g c =
+    let k = g.K.Store.moment c.go_inward.new.store in
+    let n = g.K.Store.moment c.end_behind.new.store in
+    let e = c.in_err-end.field-0.0 in
+    let r = err_from_is_err_and c.from_residual-in_err-end.result c.from_residual-in_err-end.ensures.1 in
+    rw (r.1, r.2) (later_fails Place (g.K.Store.moment c.args.store.now) k n c.go_inward.ensures.reads (Err e) (same_fails Found Place k n e c.in_err-end.ensures.failed))

@@ -1,0 +1,4 @@
+pub mod Refusals
+pub mod Lasting
+pub mod Exhausting
+pub mod Telling
