@@ -32,11 +32,11 @@ use Rattle.ild_typed.specs.Schema.{IsSchema}
 use Rattle.ild_typed.specs.Segment.{index_of, set_field, set_part}
 use Rattle.ild_typed.specs.Slots.{element_of, fields_of}
 
-neither : (a b : Bool) → (a || b) ≡ false → (a ≡ false) × (b ≡ false)
+pub neither : (a b : Bool) → (a || b) ≡ false → (a ≡ false) × (b ≡ false)
 neither true b h = absurd cc
 neither false b h = (refl, h)
 
-both_false : (a b : Bool) → a ≡ false → b ≡ false → (a || b) ≡ false
+pub both_false : (a b : Bool) → a ≡ false → b ≡ false → (a || b) ≡ false
 both_false a b p q = λ i. p i || q i
 
 in_slot : (o : Option Slot) (u : Slot) (f : Slot → Bool) → o ≡ Some u → option_map_or f o false ≡ false → f u ≡ false
@@ -120,7 +120,7 @@ module _ (test : Option TypeDef → Value → Bool) (rows : List Row) where
   union_deleted slot (Some (D.Union u)) n v s h = h
   union_deleted slot F n v s h = h
 
-  deleted : (slot : Slot) (v : Value) (s : List ℕ) → Free slot v → Passes test rows slot (delete_part (holder_of rows slot v) s) → Free slot (value_of (delete_part (holder_of rows slot v) s))
+  pub deleted : (slot : Slot) (v : Value) (s : List ℕ) → Free slot v → Passes test rows slot (delete_part (holder_of rows slot v) s) → Free slot (value_of (delete_part (holder_of rows slot v) s))
   deleted slot (V.list vs) s h passes = list_deleted slot (form_of rows slot) vs s refl h passes
   deleted slot (V.map ps) s h passes = map_deleted slot (form_of rows slot) ps s refl h passes
   deleted slot (V.struct os) s h passes = struct_deleted slot (form_of rows slot) os s refl h passes
@@ -219,7 +219,7 @@ module _ (test : Option TypeDef → Value → Bool) (rows : List Row) where
         → Passes test rows p.0 (set_part (seen rows p) s w) → Free p.0 (value_of (set_part (seen rows p) s w))
     set_free p s slot w is free at stands new fine passes = (set_is_judged rows is_key test schema keys p s slot w is free at stands new).1 (passes, fine)
 
-    insert_free : (p : InSlot) (s : List ℕ) (u : Slot) (w : Value) → OfType rows p.0 p.1 → Free p.0 p.1 → slot_to_insert (seen rows p) s ≡ Some u → MayStand is_key (seen rows p) s → OfType rows u w → Free u w
+    pub insert_free : (p : InSlot) (s : List ℕ) (u : Slot) (w : Value) → OfType rows p.0 p.1 → Free p.0 p.1 → slot_to_insert (seen rows p) s ≡ Some u → MayStand is_key (seen rows p) s → OfType rows u w → Free u w
         → Passes test rows p.0 (insert_part (seen rows p) s w) → Free p.0 (value_of (insert_part (seen rows p) s w))
     insert_free p s u w is free at stands new fine passes = by (is_list (seen rows p)) refl where
       by : (b : Bool) → is_list (seen rows p) ≡ b → Free p.0 (value_of (insert_part (seen rows p) s w))

@@ -1,8 +1,8 @@
 mod Breaking
 mod Climbing
-mod Freeing
+pub mod Freeing
 mod Held
 mod Making
-mod Quiet
+pub mod Quiet
 mod Telling
-mod Texts
+pub mod Texts

@@ -1,12 +1,5 @@
 //! From the last holder of a path outwards.
-ghost use Rattle.std.specs.Prelude.{◌≡◌, ℕ, Bool, IfOk, List};
-ghost use Rattle.ild_path_block.specs.Edits.{Makes};
-ghost use Rattle.ild_path_delimiter.specs.Texts.{BringsText};
-ghost use Rattle.ild_path_edits.specs.Along.{IsFree};
-ghost use Rattle.ild_schema.specs.Value.{Value};
-ghost use Rattle.ild_typed.specs.Judged.{breaks as breaks_in, breaks_delimiter};
-ghost use Rattle.ild_typed.specs.OfType.{TestsKeys};
-ghost use Rattle.ild_view.specs.View.{IsView, slot_of, table_of};
+ghost use Rattle.ild_path_delimiter.specs.Tells.{TellsOfEdit};
 
 use crate::level::{Level, level_above, level_of};
 use ild_data::Path;
@@ -22,7 +15,7 @@ pub(crate) fn breaks(
     path: &Path,
     edit: &PartEdit<'_>,
 ) -> Result<bool, AllocError>
-    ensures { (is_key : ℕ → List ℕ → Bool) (f c w : Value) → TestsKeys (table_of root.now) is_key → IsView root.now f → IsFree (breaks_in (table_of root.now)) (table_of root.now) (slot_of root.now) f → BringsText (table_of root.now) (slot_of root.now, f) path.now edit.now w → Makes (table_of root.now) is_key edit.now w (slot_of root.now, f) path.now c → IfOk result (λ b. b ≡ breaks_delimiter (table_of root.now) (slot_of root.now) c) }
+    ensures { TellsOfEdit root.now path.now edit.now result }
 {
     // They do no work: their clauses say what acceptance says of the table, and that segments are texts.
     let _types = root.schema().types();

@@ -1,13 +1,7 @@
 //! Whether an edit breaks a delimiter rule.
-ghost use Rattle.std.specs.Prelude.{◌≡◌, ℕ, Bool, IfOk, List, Ok};
+ghost use Rattle.std.specs.Prelude.{◌≡◌, IfOk};
 ghost use Rattle.ild_data.specs.Spell.{spell_text};
-ghost use Rattle.ild_path_delimiter.specs.TextEdits.{TextIs, edit_of};
-ghost use Rattle.ild_path_edits.specs.Along.{IsFree};
-ghost use Rattle.ild_path_edits.specs.Edit.{change};
-ghost use Rattle.ild_schema.specs.Value.{Value};
-ghost use Rattle.ild_typed.specs.Judged.{breaks as breaks_in, breaks_delimiter};
-ghost use Rattle.ild_typed.specs.OfType.{TestsKeys};
-ghost use Rattle.ild_view.specs.View.{IsView, slot_of, table_of};
+ghost use Rattle.ild_path_delimiter.specs.Tells.{TellsOfTextEdit};
 
 use crate::along::breaks;
 use ild_cbor::check;
@@ -48,7 +42,7 @@ pub fn breaks_delimiter(
     path: &Path,
     edit: TextEdit<'_>,
 ) -> Result<bool, AllocError>
-    ensures { (is_key : ℕ → List ℕ → Bool) (f c w : Value) → TestsKeys (table_of root.now) is_key → IsView root.now f → IsFree (breaks_in (table_of root.now)) (table_of root.now) (slot_of root.now) f → TextIs (table_of root.now) (slot_of root.now, f) path.now edit.entry w → change (table_of root.now) is_key (slot_of root.now, f) (edit_of edit.entry w path.now) ≡ Ok c → IfOk result (λ b. b ≡ breaks_delimiter (table_of root.now) (slot_of root.now) c) }
+    ensures { TellsOfTextEdit root.now path.now edit.entry result }
 {
     // It does no work: its clauses say what acceptance says of the table.
     let _types = root.schema().types();

@@ -1,20 +1,14 @@
 //! What an edit makes of one holder on its path, as a text.
 ghost use Rattle.std.specs.Prelude.{◌≡◌, ℕ, IfOk, IsSomeAnd, List, Some, slice_get, true};
-ghost use Rattle.ild_data.specs.Data.{Data, text};
+ghost use Rattle.ild_data.specs.Data.{Data};
 ghost use Rattle.ild_data.specs.Spell.{spell};
 ghost use Rattle.ild_data.specs.Tree.{IsTree};
 ghost use Rattle.ild_path_block.specs.Changes.{Allows, in_last};
-ghost use Rattle.ild_path_delimiter.specs.Levels.{HasTree, IsTextItem, LevelIs};
-ghost use Rattle.ild_path_edits.specs.Table.{slot_to_set};
+ghost use Rattle.ild_path_delimiter.specs.Levels.{HasTree, IsTextItem, LevelAboveIs, LevelIs};
 ghost use Rattle.ild_path_holder.specs.Along.{is_holder};
 ghost use Rattle.ild_schema.specs.Value.{Value};
-ghost use Rattle.ild_schema.specs.declared.number.Slot.{Slot};
 ghost use Rattle.ild_schema.specs.declared.row.Row.{Row};
 ghost use Rattle.ild_typed.specs.At.{InSlot, seen};
-ghost use Rattle.ild_typed.specs.Hamt.{alone};
-ghost use Rattle.ild_typed.specs.OfType.{OfType};
-ghost use Rattle.ild_typed.specs.Represented.{represented};
-ghost use Rattle.ild_typed.specs.Segment.{set_part};
 ghost use Rattle.ild_view.specs.Parts.{IsPartView};
 
 use ild_cbor::check;
@@ -101,7 +95,7 @@ pub(crate) fn level_above(
     k: usize,
     part: &Octets,
 ) -> Result<Level, AllocError>
-    ensures { (rows : List Row) (q : InSlot) (slot : Slot) (s j : List ℕ) (v : Value) → IsSomeAnd (slice_get views.now k) (IsPartView rows q) → slice_get segments.now k ≡ Some s → is_holder (seen rows q) ≡ true → slot_to_set (seen rows q) s ≡ Some slot → OfType rows slot v → represented alone rows slot v ≡ Some (text j) → IsTree (text j) → part.now ≡ spell (text j) → HasTree rows q (set_part (seen rows q) s v) → IfOk result (LevelIs rows q (set_part (seen rows q) s v)) }
+    ensures { LevelAboveIs views.now segments.now k part.now result }
 {
     match check(part.as_slice()) {
         Ok(node) => level_of(alloc, views, segments, k, &PartEdit::Set(node)),

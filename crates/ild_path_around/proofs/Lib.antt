@@ -1,0 +1,10 @@
+pub mod Outside
+pub mod Keys
+pub mod Alike
+pub mod Staying
+pub mod Entries
+pub mod Slots
+pub mod TextEdits
+pub mod Behind
+pub mod AtPlace
+pub mod Told
