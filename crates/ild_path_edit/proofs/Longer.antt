@@ -224,7 +224,7 @@ is_held rows p q u s made there = by (way_of alone rows p.0 p.1 u made) where
   by (as_layer d l is has done) = record { type = d; known = is; held = held_by rows p.0 u d is p.1 made }
 
 -- of a part that is not left out
-part_shorter : (rows : List Row) → IsLegible rows → form_of rows anything ≡ Some D.Any → (p q : InSlot) (s : List ℕ) (t u : Data) → represented alone rows p.0 p.1 ≡ Some u → represented alone rows q.0 q.1 ≡ Some t → part (seen rows p) s ≡ Some q
+pub part_shorter : (rows : List Row) → IsLegible rows → form_of rows anything ≡ Some D.Any → (p q : InSlot) (s : List ℕ) (t u : Data) → represented alone rows p.0 p.1 ≡ Some u → represented alone rows q.0 q.1 ≡ Some t → part (seen rows p) s ≡ Some q
     → is_left_out (form_of rows p.0) s t ≡ false → Shorter t u
 part_shorter rows legible any_there p q s t u made partly there out = let h = is_held rows p q u s made there in by h.type h.known h.held where
   by : (d : TypeDef) → form_of rows p.0 ≡ Some d → Held rows d (seen rows p) u → Shorter t u

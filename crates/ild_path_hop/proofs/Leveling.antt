@@ -66,6 +66,7 @@ use Rattle.ild_path_entered.specs.Entered.{with_entry}
 use Rattle.ild_path_entered.proofs.Editing.{sets_stand, sets_have_data}
 use Rattle.ild_path_entered.proofs.Holding.{put_typed}
 use Rattle.ild_path_reroot.specs.Reroots.{AddsNodes, EditAnswer, EditsHamt, IsHamtHeld, IsPut, MakesRoot}
+use Rattle.ild_path_reroot.proofs.Coming.{IsPartOf, adds_whole}
 use Rattle.ild_path_reroot.proofs.Among.{among_of, long_root, long_one, long_any}
 use Rattle.ild_path_hop.specs.Levels.{IsDataOfPart, IsLevel, IsSetThere, LevelAnswer, SetsLevel, with_set}
 
@@ -199,6 +200,9 @@ module _ (h : List ℕ → List ℕ) (is_key : ℕ → List ℕ → Bool) (was :
   among : AreAmong (nodes h Rows slot M) (nodes h Rows S C)
   among = nodes_of_parts h Rows is_key level.schema level.keys (S, C) (slot, M) path (room, set.fits) there
 
+  is_part : IsPartOf h Rows (S, C) (slot, M)
+  is_part = record { path = path; there = there; among = among }
+
   part : IsDataOfPart h Rows (S, C) X
   part = record { path = path; part = (slot, M); at = there; tree = own.1 }
 
@@ -210,8 +214,7 @@ module _ (h : List ℕ → List ℕ) (is_key : ℕ → List ℕ → Bool) (was :
 
     added : BothTold m.blocks n.blocks (AddsNodes h Rows slot M) → BothTold m.blocks n.blocks (AddsNodes h Rows S C)
     added adds =
-        told-map m.blocks n.blocks (AddsNodes h Rows slot M) (AddsNodes h Rows S C)
-        (λ a b x. record { nodes = λ id y held. ⊎_elim (λ before. inl before) (λ more. inr (among_of y (nodes h Rows slot M) (nodes h Rows S C) among more)) (x.nodes id y held); whole = x.whole }) adds
+        told-map m.blocks n.blocks (AddsNodes h Rows slot M) (AddsNodes h Rows S C) (λ a b x. adds_whole h Rows (S, C) (slot, M) is_part a b x) adds
 
     failed : (e : HamtFault) → EditAnswer h Rows Less slot M X m (Err e) n → LevelAnswer h Rows room S C u X m (Err e) n
     failed F.Exhausted is = absurd is
@@ -220,7 +223,7 @@ module _ (h : List ℕ → List ℕ) (is_key : ℕ → List ℕ → Bool) (was :
     failed F.Memory is = tt
     failed F.Store is = is
     failed (F.Block id why) is = absurd is
-    failed (F.Clash id kept new) is = (among_of new (nodes h Rows slot M) (nodes h Rows S C) among is.0, is.1, is.2, is.3, is.4)
+    failed (F.Clash id kept new) is = (among_of new (nodes h Rows slot M) (nodes h Rows S C) among is.0, is.1, is.2, is.3, is.4, is.5)
 
     pub level_failed : (e : HamtFault) → EditsHamt h Rows slot Less k (insert bytewise k d es) M X m (Err e) n → SetsLevel h Rows room S C u k (insert bytewise k d es) m (Err e) n
     level_failed e x = record { hamt = X; part = part; answer = failed e x.answer; later = x.later; adds = added x.adds; puts = x.puts }

@@ -97,7 +97,7 @@ LevelAnswer h rows room s c u x m (Ok b) n = (b ≡ spell u) × (length b ≤ lo
 LevelAnswer h rows room s c u x m (Err F.Size) n = any_long (spell u ∷ spell x ∷ nodes h rows s c) ≡ true
 LevelAnswer h rows room s c u x m (Err F.Store) n = Rose m.faults n.faults
 LevelAnswer h rows room s c u x m (Err (F.Clash id kept new)) n =
-    IsAmong new (nodes h rows s c) × (id_of kept ≡ id.0) × (id_of new ≡ id.0) × (kept ≢ new) × IfTold n.blocks (λ held. block_at held id.0 ≡ Some kept)
+    IsAmong new (nodes h rows s c) × (id_of kept ≡ id.0) × (id_of new ≡ id.0) × (kept ≢ new) × IfTold n.blocks (λ held. block_at held id.0 ≡ Some kept) × (length new ≤ longest_block)
 LevelAnswer h rows room s c u x m (Err F.Memory) n = Unit {0}
 LevelAnswer h rows room s c u x m (Err e) n = ⊥
 

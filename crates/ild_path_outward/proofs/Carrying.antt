@@ -1,6 +1,6 @@
 -- All levels outward.
 use Rattle.std.proofs.Common.{◌≡◌, ◌⊎◌, inl, inr, ⊎_elim, ℕ, ◌+◌, ◌≤◌, Bool, true, List, [], ◌∷◌, ◌++◌, length, map, Option, Some, None, refl, sym, ap, ◌∙◌, subst}
-use Rattle.std.specs.Prelude.{Result, Ok, Err, IsSome, option_and_then}
+use Rattle.std.specs.Prelude.{Result, Ok, Err, option_and_then}
 use Rattle.std.proofs.Common.{append_assoc}
 use Rattle.std.specs.FinMap.{put as insert}
 use Rattle.std.specs.List.{AllByRecursion}
@@ -14,7 +14,6 @@ use Rattle.ild_edges.specs.Store.{Moment, Later, Keeps, block_at}
 use Rattle.ild_edges.specs.Told.{IfTold, BothTold}
 use Rattle.ild_edges.proofs.Later.{Later-refl, Later-trans}
 use Rattle.ild_bulk.specs.Build.{any_long, is_long}
-use Rattle.ild_bulk.proofs.Childs.{over-more}
 use Rattle.ild_bulk.proofs.Puts.{told-same}
 use Rattle.ild_schema.specs.declared.number.Slot.{Slot}
 use Rattle.ild_schema.specs.declared.row.Row.{Row}
@@ -43,6 +42,7 @@ use Rattle.ild_path_held.proofs.Holding.{held_parts, held_stays}
 use Rattle.ild_path_entered.proofs.Editing.{sets_have_data, sets_stand, through_at, with_key, with_typed}
 use Rattle.ild_path_entered.proofs.Holding.{put_typed}
 use Rattle.ild_path_reroot.specs.Reroots.{AddsNodes}
+use Rattle.ild_path_reroot.proofs.Coming.{IsPartOf, came_stays, came_whole}
 use Rattle.ild_path_reroot.proofs.Among.{among_of, long_any, long_one}
 use Rattle.ild_path_entry.specs.Entry.{IsEntry}
 use Rattle.ild_path_hop.specs.Levels.{IsDataOfPart, with_set}
@@ -103,27 +103,21 @@ told_here : {A : Type 0} (o : Option A) (a : A) (P : A → Type 0) → o ≡ Som
 told_here o a P is p = subst (λ q. IfTold q P) (sym is) p
 
 -- what comes to a store level by level
-more_nodes : (h : List ℕ → List ℕ) (rows : List Row) (s r : Slot) (c d : Value) (was mid now : List (List ℕ)) → Keeps mid now → AreAmong (nodes h rows r d) (nodes h rows s c)
-    → AddsNodes h rows s c was mid → AddsNodes h rows r d mid now → AddsNodes h rows s c was now
-more_nodes h rows s r c d was mid now keeps among x y = record {
-  nodes = λ id b there. ⊎_elim (λ before. x.nodes id b before) (λ more. inr (among_of b (nodes h rows r d) (nodes h rows s c) among more)) (y.nodes id b there);
-  whole = λ id b there.
-      ⊎_elim (λ before. ⊎_elim (λ old. inl old) (λ over. inr (over-more (λ i. IsSome (block_at mid i)) (λ i. IsSome (block_at now i)) b (λ i is. stays i (block_at mid i) refl is) over)) (x.whole id b before))
-      (λ over. inr over) (y.whole id b there);
+more_nodes : (h : List ℕ → List ℕ) (rows : List Row) (p q : InSlot) (was mid now : List (List ℕ)) → Keeps mid now → IsPartOf h rows p q
+    → AddsNodes h rows p.0 p.1 was mid → AddsNodes h rows q.0 q.1 mid now → AddsNodes h rows p.0 p.1 was now
+more_nodes h rows p q was mid now keeps part x y = record {
+  came = λ id b there.
+      ⊎_elim (λ before. ⊎_elim (λ old. inl old) (λ new. inr (came_stays h rows p mid now b keeps new)) (x.came id b before)) (λ new. inr (came_whole h rows p q part now b new)) (y.came id b there);
 }
-  where
-    stays : (i : List ℕ) (o : Option (List ℕ)) → block_at mid i ≡ o → IsSome o → IsSome (block_at now i)
-    stays i None e is = absurd cc
-    stays i (Some b) e is = subst IsSome (sym (keeps i b e)) refl
 
-pub more_told : (h : List ℕ → List ℕ) (rows : List Row) (s r : Slot) (c d : Value) (a o q : Option (List (List ℕ))) → AreAmong (nodes h rows r d) (nodes h rows s c)
-    → BothTold a o (AddsNodes h rows s c) → BothTold o q Keeps → BothTold o q (AddsNodes h rows r d) → BothTold a q (AddsNodes h rows s c)
-more_told h rows s r c d None None None among x k y = tt
-more_told h rows s r c d None None (Some z) among x k y = absurd y
-more_told h rows s r c d None (Some b) q among x k y = absurd x
-more_told h rows s r c d (Some a) None q among x k y = absurd x
-more_told h rows s r c d (Some a) (Some b) None among x k y = absurd y
-more_told h rows s r c d (Some a) (Some b) (Some z) among x k y = more_nodes h rows s r c d a b z k among x y
+pub more_told : (h : List ℕ → List ℕ) (rows : List Row) (p r : InSlot) (a o q : Option (List (List ℕ))) → IsPartOf h rows p r
+    → BothTold a o (AddsNodes h rows p.0 p.1) → BothTold o q Keeps → BothTold o q (AddsNodes h rows r.0 r.1) → BothTold a q (AddsNodes h rows p.0 p.1)
+more_told h rows p r None None None part x k y = tt
+more_told h rows p r None None (Some z) part x k y = absurd y
+more_told h rows p r None (Some b) q part x k y = absurd x
+more_told h rows p r (Some a) None q part x k y = absurd x
+more_told h rows p r (Some a) (Some b) None part x k y = absurd y
+more_told h rows p r (Some a) (Some b) (Some z) part x k y = more_nodes h rows p r a b z k part x y
 
 pub none_or_last : (hs : List Hop) → (hs ≡ []) ⊎ ((before : List Hop) × (above : Hop) × (hs ≡ before ++ above ∷ []))
 none_or_last [] = inl refl
@@ -146,10 +140,6 @@ caused_later m n k e before x = record { cause = by e x.cause; later = Later-tra
   by F.Memory is = is
   by F.NoKey is = is
   by F.Size is = is
-
-pub caused_then : (m n k : Moment) (r : Result (List ℕ) HamtFault) → Later m n → CausedBy n r k → CausedBy m r k
-caused_then m n k (Ok b) before x = record { cause = tt; later = Later-trans m n k before x.later }
-caused_then m n k (Err e) before x = caused_later m n k e before x
 
 -- ---- the whole way
 
@@ -183,7 +173,7 @@ module _ (h : List ℕ → List ℕ) (is_key : ℕ → List ℕ → Bool) (was :
     short = x.short;
     made = refl;
     later = Later-refl m;
-    adds = told-same m.blocks m.blocks (AddsNodes h Rows S C) refl (λ a. record { nodes = λ id b e. inl e; whole = λ id b e. inl e });
+    adds = told-same m.blocks m.blocks (AddsNodes h Rows S C) refl (λ a. record { came = λ id b e. inl e });
     puts = omega arith;
   }
 
@@ -360,13 +350,13 @@ module _ (h : List ℕ → List ℕ) (is_key : ℕ → List ℕ → Bool) (was :
       failed F.Size z = too_long z.hamt z.part z.answer
       failed F.Store z = rose_later m.faults n.faults k.faults y.later.faults z.answer
       failed F.Memory z = tt
-      failed (F.Clash id kept more) z = (among_of more (nodes h Rows Mid.0 Level) (nodes h Rows S C) among z.answer.0, z.answer.1, z.answer.2, z.answer.3, z.answer.4)
+      failed (F.Clash id kept more) z = (among_of more (nodes h Rows Mid.0 Level) (nodes h Rows S C) among z.answer.0, z.answer.1, z.answer.2, z.answer.3, z.answer.4, z.answer.5)
       failed F.Exhausted z = absurd z.answer
       failed F.NoKey z = absurd z.answer
       failed (F.Block id why) z = absurd z.answer
 
       added : (r : Result (List ℕ) HamtFault) → Stepped r → BothTold m.blocks k.blocks (AddsNodes h Rows S C)
-      added r z = more_told h Rows S Mid.0 C Level m.blocks n.blocks k.blocks among y.adds z.later.keeps z.adds
+      added r z = more_told h Rows (S, C) (Mid.0, Level) m.blocks n.blocks k.blocks (record { path = Path; there = there; among = among }) y.adds z.later.keeps z.adds
 
       pub step_failed : (e : HamtFault) → Stepped (Err e) → SetsEnd h Rows room S C u (path_of_hops hops) m (Err e) k
       step_failed e z = record { answer = failed e z; later = Later-trans m n k y.later z.later; adds = added (Err e) z; puts = let a = z.puts in let b = y.puts in omega (arith, a, b, met_more) }

@@ -3,9 +3,9 @@ use Rattle.std.proofs.Common.{◌≡◌, ℕ, List, length, Option, Some, ap, sy
 use Rattle.std.specs.Prelude.{is_some, if◌then◌else◌}
 use Rattle.std.specs.FinMap.{put as insert}
 use Rattle.std.specs.Option.{option_map_or}
-use Rattle.ild_data.specs.ByteOrder.{bytewise, in_byte_order, without as remove}
+use Rattle.ild_data.specs.ByteOrder.{bytewise, in_byte_order}
 use Rattle.ild_data.specs.Data.{Data}
-use Rattle.ild_data.specs.Key.{put, without}
+use Rattle.ild_data.specs.Key.{put}
 use Rattle.ild_data.specs.Trie.{trie}
 use Rattle.ild_data.specs.TrieShape.{trie_levels}
 use Rattle.ild_hamt_trie.specs.Way.{way}
@@ -21,9 +21,9 @@ use Rattle.ild_typed.proofs.Basics.{map_from}
 use Rattle.ild_typed_fronts.proofs.Pathing.{pairs_back}
 use Rattle.ild_path_nodes.specs.NodeLaws.{IsHamt}
 use Rattle.ild_path_held.specs.Hamts.{IsTrieIn}
-use Rattle.ild_path_held.proofs.Orders.{sorted_put, sorted_without}
-use Rattle.ild_path_held.proofs.Tries.{cut_data, map_data, put_data}
-use Rattle.ild_path_entered.specs.Entered.{with_entry, without_entry}
+use Rattle.ild_path_held.proofs.Orders.{sorted_put}
+use Rattle.ild_path_held.proofs.Tries.{map_data, put_data}
+use Rattle.ild_path_entered.specs.Entered.{with_entry}
 use Rattle.ild_script_meaning.specs.Costs.{met_in, on_way}
 
 -- a map with data in which an entry was put counts at its key the nodes on the key's way in the trie of the new entries
@@ -37,20 +37,6 @@ put_counted h rows held s elem ps t es is tried k w d x new made =
     let y = map_from (root_map usual) (trie h usual pairs 0) x (sym (map_data h rows s elem is (pairs_of (put k w xs)) pairs e) ∙ made) in
     let order : insert bytewise k d es ≡ in_byte_order pairs = ap (insert bytewise k d) tried.order ∙ sorted_put k d tried.pairs in
     ap (λ (o : Option TypeDef). met_in h rows o (with_entry k w ps) k) is.3
-    ∙ ap (λ o. option_map_or (on_way h k) o 0) e
-    ∙ ap (λ (o : Option Data). if is_some o then length (way h usual k (trie_levels usual) 0 (in_byte_order pairs)) else 0) y.there
-    ∙ ap (λ fs. length (way h usual k (trie_levels usual) 0 fs)) (sym order)
-
--- and one from which an entry went
-pub cut_counted : (h : List ℕ → List ℕ) (rows : List Row) (held : List (List ℕ)) (s elem : Slot) (ps : Pairs) (t : Data) (es : List (List ℕ × Data)) (is : IsHamt rows s elem) → IsTrieIn h rows held elem ps t es
-    → (k : List ℕ) (x : Data) → represented (whole h) rows s (without_entry k ps) ≡ Some x → met_in h rows (form_of rows s) (without_entry k ps) k ≡ length (way h usual k (trie_levels usual) 0 (remove k es))
-cut_counted h rows held s elem ps t es is tried k x made =
-    let xs = pairs_list ps in
-    let pairs : List (List ℕ × Data) = without k tried.pairs in
-    let e : represented_pairs (whole h) rows elem (pairs_of (without k xs)) ≡ Some pairs = cut_data h rows elem k xs tried.pairs (ap (represented_pairs (whole h) rows elem) (pairs_back ps) ∙ tried.represents) in
-    let y = map_from (root_map usual) (trie h usual pairs 0) x (sym (map_data h rows s elem is (pairs_of (without k xs)) pairs e) ∙ made) in
-    let order : remove k es ≡ in_byte_order pairs = ap (remove k) tried.order ∙ sorted_without k tried.pairs tried.rises in
-    ap (λ (o : Option TypeDef). met_in h rows o (without_entry k ps) k) is.3
     ∙ ap (λ o. option_map_or (on_way h k) o 0) e
     ∙ ap (λ (o : Option Data). if is_some o then length (way h usual k (trie_levels usual) 0 (in_byte_order pairs)) else 0) y.there
     ∙ ap (λ fs. length (way h usual k (trie_levels usual) 0 fs)) (sym order)

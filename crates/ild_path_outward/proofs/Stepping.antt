@@ -46,8 +46,6 @@ use Rattle.ild_path_entry.specs.declared.entry.Entry.{Entry}
 use Rattle.ild_path_hop.specs.Levels.{IsLevel, IsSetThere, SetsEntry, with_set}
 use Rattle.ild_path_hop.proofs.Leveling.{item_stands}
 use Rattle.ild_path_hops.specs.declared.hop.Hop.{Hop}
-use Rattle.ild_path_hop.specs.Levels.{CutsEntry, IsCutThere}
-use Rattle.ild_path_outward.specs.CutSteps.{CutsIn}
 use Rattle.ild_path_outward.specs.Steps.{IsStep, SetsIn, SetsStep}
 
 -- a key that is there may stay
@@ -66,7 +64,7 @@ module _ (h : List ℕ → List ℕ) (is_key : ℕ → List ℕ → Bool) (rows 
     part = record { path = []; part = (s, Changed); at = refl; tree = x.tree };
     answer = tt;
     later = Later-refl m;
-    adds = told-same m.blocks m.blocks (AddsNodes h rows s Changed) refl (λ a. record { nodes = λ id b e. inl e; whole = λ id b e. inl e });
+    adds = told-same m.blocks m.blocks (AddsNodes h rows s Changed) refl (λ a. record { came = λ id b e. inl e });
     puts = omega arith;
   }
 
@@ -147,16 +145,3 @@ last_get before above x e =
 
 pub last_is : (before : List Hop) (above x : Hop) (hops : List Hop) → hops ≡ before ++ above ∷ [] → Some x ≡ slice_get hops (length hops - 1) → x ≡ above
 last_is before above x hops is e = last_get before above x (subst (λ hs. Some x ≡ slice_get hs (length hs - 1)) is e)
-
--- ---- the same where an entry goes
-
-pub cuts_in : (h : List ℕ → List ℕ) (view : View) (path : List (List ℕ)) (trail : Trail) (m n : Moment) (r : Result (List ℕ) HamtFault)
-    → ((is_key : ℕ → List ℕ → Bool) (was : List (List ℕ)) (room : ℕ) (v : Value) (t u : Data) (slot elem : Slot) (ps : Pairs) (es : List (List ℕ × Data)) (k : List ℕ) → m.blocks ≡ Some was → IsLevel h is_key was room v t view
-    → IsCutThere h is_key was room v view path slot elem ps es k u trail → CutsEntry h room v path ps es k u view m r n) → CutsIn h (table_of view) (slot_of view) view path trail m r n
-cuts_in h view path trail m n r cuts = λ is_key was k told x root.
-    cuts is_key was x.room x.v x.t x.u x.slot x.elem x.ps x.es k told (record { schema = x.schema; keys = x.keys; held = x.held; root = root })
-    (record { entered = x.entered; root = x.root; data_is = x.data_is; trie = x.trie; trail = x.found; utf8 = x.utf8; there = x.there; fits = x.fits; tree = x.tree })
-
-pub cuts_at : (h : List ℕ → List ℕ) (rows : List Row) (s : Slot) (view : View) (path : List (List ℕ)) (trail : Trail) (m n : Moment) (r : Result (List ℕ) HamtFault) → table_of view ≡ rows → slot_of view ≡ s
-    → CutsIn h (table_of view) (slot_of view) view path trail m r n → CutsIn h rows s view path trail m r n
-cuts_at h rows s view path trail m n r table slot is = subst (λ y. CutsIn h y s view path trail m r n) table (subst (λ y. CutsIn h (table_of view) y view path trail m r n) slot is)

@@ -1,5 +1,2 @@
-pub mod AtKey
-pub mod CutKey
-pub mod CutSteps
 pub mod Outward
 pub mod Steps

@@ -60,7 +60,7 @@ EndAnswer h rows room s c u m (Ok b) n = (b ≡ spell u) × (length b ≤ longes
 EndAnswer h rows room s c u m (Err F.Size) n = (any_long (nodes h rows s c) ≡ true) ⊎ HasLongPart h rows (s, c)
 EndAnswer h rows room s c u m (Err F.Store) n = Rose m.faults n.faults
 EndAnswer h rows room s c u m (Err (F.Clash id kept new)) n =
-    IsAmong new (nodes h rows s c) × (id_of kept ≡ id.0) × (id_of new ≡ id.0) × (kept ≢ new) × IfTold n.blocks (λ held. block_at held id.0 ≡ Some kept)
+    IsAmong new (nodes h rows s c) × (id_of kept ≡ id.0) × (id_of new ≡ id.0) × (kept ≢ new) × IfTold n.blocks (λ held. block_at held id.0 ≡ Some kept) × (length new ≤ longest_block)
 EndAnswer h rows room s c u m (Err F.Memory) n = Unit {0}
 EndAnswer h rows room s c u m (Err e) n = ⊥
 

@@ -4,7 +4,6 @@ ghost use Rattle.std.specs.Prelude.{◌≡◌, []};
 ghost use Rattle.ild_cbor.specs.Nodes.{Stands};
 ghost use Rattle.ild_data.specs.Spell.{spell};
 ghost use Rattle.ild_edges.specs.Store.{Moment};
-ghost use Rattle.ild_path_outward.specs.CutSteps.{CutsBelow, CutsIn};
 ghost use Rattle.ild_path_outward.specs.Steps.{SetsBelow, SetsIn};
 ghost use Rattle.ild_node.specs.Rows.{NestsIn, deepest_value};
 ghost use Rattle.ild_view.specs.View.{slot_of, table_of};
@@ -15,7 +14,7 @@ use ild_edges::Store;
 use ild_hamt::Trail;
 use ild_node::HamtFault;
 use ild_path_entry::Entry;
-use ild_path_hop::{remove_entry, set_entry};
+use ild_path_hop::set_entry;
 use ild_path_hops::Hop;
 use ild_view::View;
 use std::alloc::Global;
@@ -79,29 +78,4 @@ pub(crate) fn set_in<'a, K: Store, H: KeyHash>(
         return Err(HamtFault::Memory);
     }
     set_last(alloc, root, hops, front, trail, &value.node(), keys, store)
-}
-
-/// The block of the last of these hops, or of the root where there is none, in which the entry at a trail's key of the HAMT at a path is
-/// gone. The new nodes of the HAMT are put, each behind those beneath it.
-pub(crate) fn remove_last<'a, K: Store, H: KeyHash>(
-    alloc: Global,
-    root: View<'a>,
-    hops: &'a [Hop<'_>],
-    front: &'a Path,
-    trail: Trail,
-    keys: &H,
-    store: &mut K,
-) -> Result<Octets, HamtFault>
-    ensures gets { (K.moment store.new).gets ≡ (K.moment store.old).gets }
-    ensures caused { CausedBy (K.moment store.old) result (K.moment store.new) }
-    ensures root { hops.now ≡ [] → CutsIn H.hash_of (table_of root.entry) (slot_of root.entry) root.entry front.now trail (K.moment store.old) result (K.moment store.new) }
-    ensures below { CutsBelow H.hash_of hops.now front.now trail (K.moment store.old) result (K.moment store.new) }
-{
-    match hops.last() {
-        Some(hop) => {
-            let level = hop.entry.view();
-            remove_entry(alloc, &level, front, trail, keys, store)
-        }
-        None => remove_entry(alloc, &root, front, trail, keys, store),
-    }
 }

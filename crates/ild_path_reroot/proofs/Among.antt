@@ -1,8 +1,9 @@
 -- Blocks among others, and blocks that are too long.
 use Rattle.std.proofs.Common.{◌≡◌, inl, inr, ⊎_elim, ℕ, zero, suc, ◌<◌, ◌≤◌, Bool, true, false, ◌||◌, List, [], ◌∷◌, length, refl, sym, ap, ◌∙◌, subst, arith, slice_index_or}
-use Rattle.std.proofs.lemmas.Bool.{or_cases}
+use Rattle.std.proofs.lemmas.Bool.{or_cases, ltb-false}
 use Rattle.std.proofs.lemmas.List.{length-append}
 use Rattle.ild_data.specs.Data.{Data}
+use Rattle.ild_data.specs.Limits.{longest_block}
 use Rattle.ild_data.specs.Spell.{spell}
 use Rattle.ild_data.specs.Tree.{IsTree}
 use Rattle.ild_typed.specs.Composed.{usual}
@@ -39,6 +40,13 @@ long_one (b ∷ bs) is = ⊎_elim (λ here. (b, inl refl, here)) (λ more. let x
 pub long_any : (b : List ℕ) (bs : List (List ℕ)) → IsAmong b bs → is_long b ≡ true → any_long bs ≡ true
 long_any b [] is long = absurd is
 long_any b (c ∷ cs) is long = ⊎_elim (λ same. or_first (is_long c) (any_long cs) (ap is_long (sym same) ∙ long)) (λ more. or_later (is_long c) (any_long cs) (long_any b cs more long)) is
+
+-- where none is too long
+pub short_one : (b : List ℕ) (bs : List (List ℕ)) → any_long bs ≡ false → IsAmong b bs → length b ≤ longest_block
+short_one b bs none is = by (is_long b) refl where
+  by : (t : Bool) → is_long b ≡ t → length b ≤ longest_block
+  by true e = absurd (let same : true ≡ false = sym (long_any b bs is e) ∙ none in cc)
+  by false e = ltb-false longest_block (length b) e
 
 -- ---- the root map around a node
 

@@ -1,3 +1,4 @@
 pub mod Among
 pub mod Causing
+pub mod Coming
 pub mod Rerooting

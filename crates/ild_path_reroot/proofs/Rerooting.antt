@@ -1,5 +1,5 @@
 -- What a rewritten way leaves of a HAMT.
-use Rattle.std.proofs.Common.{◌≡◌, inl, inr, ⊎_elim, ℕ, ◌+◌, ◌≤◌, true, List, ◌∷◌, length, Option, Some, None, sym, ap, ◌∙◌, subst, arith}
+use Rattle.std.proofs.Common.{◌≡◌, inl, inr, ⊎_elim, ℕ, ◌+◌, ◌≤◌, true, false, List, ◌∷◌, length, Option, Some, None, sym, ap, ◌∙◌, subst, arith}
 use Rattle.std.specs.Prelude.{Result, Ok, Err, is_some}
 use Rattle.std.specs.FinMap.{find, put as insert}
 use Rattle.std.proofs.lemmas.Bool.{or_cases, ltb-true, lt-ltb}
@@ -26,8 +26,10 @@ use Rattle.ild_typed.specs.Blocks.{nodes}
 use Rattle.ild_typed.specs.Composed.{usual}
 use Rattle.ild_typed.specs.Hamt.{root_map}
 use Rattle.ild_typed.proofs.TreeValues.{whole_tree}
+use Rattle.ild_typed_places.specs.Places.{places_in}
 use Rattle.ild_bulk.specs.Build.{any_long, is_long}
 use Rattle.ild_bulk.specs.Putting.{IsAmong, PutsAll}
+use Rattle.ild_bulk.proofs.Puts.{told-map, told-same}
 use Rattle.ild_hamt_climb.specs.Rewriting.{HasRoot, IsLongWay, Rewrites, way_up}
 use Rattle.ild_bulk_walker.specs.Trees.{HoldsBelow}
 use Rattle.ild_hamt.specs.Removing.{Removes}
@@ -41,26 +43,26 @@ use Rattle.ild_path_held.proofs.Holding.{held_stays}
 use Rattle.ild_path_held.proofs.Tries.{hamts_are_put, hamts_are_cut, hamts_have_tries}
 use Rattle.ild_path_entered.specs.Entered.{with_entry, without_entry}
 use Rattle.ild_path_reroot.specs.Reroots.{AddsNodes, EditAnswer, EditsHamt, IsCut, IsHamtHeld, IsPut, MakesRoot}
-use Rattle.ild_path_reroot.proofs.Among.{among_of, long_root, long_one, long_any, node_tree, root_longer}
+use Rattle.ild_path_children.specs.Ways.{AddsPlaced, WayIn}
+use Rattle.ild_path_children.proofs.Leaving.{leave_ways}
+use Rattle.ild_path_children.proofs.Mapping.{are_cut, are_put}
+use Rattle.ild_path_reroot.proofs.Among.{among_of, long_root, long_one, long_any, node_tree, root_longer, short_one}
 
--- v is the HAMT of the new entries, and is held where their nodes are; the nodes of the old entries are held
-pub record Ready (h : List ℕ → List ℕ) (rows : List Row) (was : List (List ℕ)) (s : Slot) (room : ℕ) (v : Value) (x : Data) (es fs : List (List ℕ × Data)) : Type 0 where
+-- v is the HAMT of the new entries, and is held where their nodes are; the nodes of the old entries are held, and the new ones on the
+-- way of the key stand over them
+pub record Ready (h : List ℕ → List ℕ) (rows : List Row) (was : List (List ℕ)) (s : Slot) (room : ℕ) (v : Value) (x : Data) (k : List ℕ) (es fs : List (List ℕ × Data)) : Type 0 where
   pub has : HasTrie h rows s v x fs
   pub tree : IsTree x
   pub holds : HoldsBelow h usual was (trie_levels usual) 0 es
+  pub placed : WayIn (places_in h rows s v) was (way h usual k (trie_levels usual) 0 fs)
   pub made : (now : List (List ℕ)) → Keeps was now → HoldsBelow h usual now (trie_levels usual) 0 fs → IsHeld (block_at now) h rows room s (root_map usual has.node) v
-
-told_from : {A : Type 0} (o q : Option A) (was : A) (P Q : A → A → Type 0) → o ≡ Some was → ((now : A) → P was now → Q was now) → BothTold o q P → BothTold o q Q
-told_from None q was P Q is f t = absurd cc
-told_from (Some a) None was P Q is f t = absurd t
-told_from (Some a) (Some b) was P Q is f t = let same : was ≡ a = cc in subst (λ c. Q c b) same (f b (subst (λ c. P c b) (sym same) t))
 
 told_now : {A : Type 0} (o q : Option A) (was : A) (P Q : A → A → Type 0) (R : A → Type 0) → o ≡ Some was → ((now : A) → P was now → Q was now → R now) → BothTold o q P → BothTold o q Q → IfTold q R
 told_now None q was P Q R is f t u = absurd cc
 told_now (Some a) None was P Q R is f t u = absurd t
 told_now (Some a) (Some b) was P Q R is f t u = let same : was ≡ a = cc in f b (subst (λ c. P c b) (sym same) t) (subst (λ c. Q c b) (sym same) u)
 
-module _ (h : List ℕ → List ℕ) (rows : List Row) (was : List (List ℕ)) (s : Slot) (room : ℕ) (v : Value) (x : Data) (k : List ℕ) (es fs : List (List ℕ × Data)) (ready : Ready h rows was s room v x es fs) (m n : Moment) where
+module _ (h : List ℕ → List ℕ) (rows : List Row) (was : List (List ℕ)) (s : Slot) (room : ℕ) (v : Value) (x : Data) (k : List ℕ) (es fs : List (List ℕ × Data)) (ready : Ready h rows was s room v x k es fs) (m n : Moment) where
   -- a block of the way is a node of v
   of_way : (b : List ℕ) → IsAmong b (way_up h usual k fs) → IsAmong b (nodes h rows s v)
   of_way b is = among_of b (nodes_beneath h usual (trie_levels usual) 0 fs) (nodes h rows s v) ready.has.among (way-beneath h usual k (trie_levels usual) 0 fs b (among-turned b (way h usual k (trie_levels usual) 0 fs) is))
@@ -89,7 +91,7 @@ module _ (h : List ℕ → List ℕ) (rows : List Row) (was : List (List ℕ)) (
   failed F.Memory is = tt
   failed F.Store is = is.puts.answer
   failed (F.Block id why) is = absurd is.puts.answer
-  failed (F.Clash id kept new) is = let a = is.puts.answer in (of_way new a.0, a.1, a.2, a.3, a.4)
+  failed (F.Clash id kept new) is = let a = is.puts.answer in (of_way new a.0, a.1, a.2, a.3, a.4, short_one new (is.root ∷ way_up h usual k fs) is.short (inr a.0))
 
   abbrev Moves : Type 0
   Moves = Later m n × (n.puts ≤ m.puts + length (way h usual k (trie_levels usual) 0 fs))
@@ -110,16 +112,29 @@ module _ (h : List ℕ → List ℕ) (rows : List Row) (was : List (List ℕ)) (
   moved (F.Clash id kept new) is = put_all (Err (F.Clash id kept new)) is.puts
 
   module _ (told : m.blocks ≡ Some was) where
-    added : (r : Result (List ℕ) HamtFault) → BothTold m.blocks n.blocks (HoldsAfter h es fs r) → BothTold m.blocks n.blocks (AddsNodes h rows s v)
-    added r after =
-        told_from m.blocks n.blocks was (HoldsAfter h es fs r) (AddsNodes h rows s v) told
-        (λ now is. record {
-          nodes = λ id b held. ⊎_elim (λ before. inl before) (λ among. inr (among_of b (nodes_beneath h usual (trie_levels usual) 0 fs) (nodes h rows s v) ready.has.among among)) (is.nodes id b held);
-          whole = is.whole ready.holds;
-        }) after
+    -- where such puts of the way were done
+    put_came : (root : List ℕ) (r : Result (Unit {0}) HamtFault) → any_long (root ∷ way_up h usual k fs) ≡ false → PutsAll m (way_up h usual k fs) r n → BothTold m.blocks n.blocks (AddsNodes h rows s v)
+    put_came root r short puts =
+        told-map m.blocks n.blocks (AddsPlaced (places_in h rows s v) (way_up h usual k fs)) (AddsNodes h rows s v)
+        (λ a b x. record {
+          came = λ id y held. ⊎_elim (λ before. inl before) (λ new. inr (record { among = of_way y new.0; short = short_one y (root ∷ way_up h usual k fs) short (inr new.0); whole = new.1 })) (x id y held);
+        }) (leave_ways (places_in h rows s v) was (way h usual k (trie_levels usual) 0 fs) m n r told ready.placed puts)
 
-    pub edit_failed : (e : HamtFault) → Rewrites h usual k fs m (Err e) n → BothTold m.blocks n.blocks (HoldsAfter h es fs (Err e)) → EditsHamt h rows s room k fs v x m (Err e) n
-    edit_failed e is after = let y = moved e is in record { answer = failed e is; later = y.0; adds = added (Err e) after; puts = y.1 }
+    none_came : n ≡ m → BothTold m.blocks n.blocks (AddsNodes h rows s v)
+    none_came same = told-same m.blocks n.blocks (AddsNodes h rows s v) (ap (λ (y : Moment). y.blocks) same) (λ a. record { came = λ id b held. inl held })
+
+    added : (r : Result (List ℕ) HamtFault) → Rewrites h usual k fs m r n → BothTold m.blocks n.blocks (AddsNodes h rows s v)
+    added (Ok root) is = put_came root (Ok tt) is.1 is.2
+    added (Err F.Exhausted) is = absurd is
+    added (Err F.NoKey) is = absurd is
+    added (Err F.Size) is = none_came is.1
+    added (Err F.Memory) is = ⊎_elim none_came (λ stops. put_came stops.root (Err F.Memory) stops.short stops.puts) is
+    added (Err F.Store) is = put_came is.root (Err F.Store) is.short is.puts
+    added (Err (F.Block id why)) is = put_came is.root (Err (F.Block id why)) is.short is.puts
+    added (Err (F.Clash id kept new)) is = put_came is.root (Err (F.Clash id kept new)) is.short is.puts
+
+    pub edit_failed : (e : HamtFault) → Rewrites h usual k fs m (Err e) n → EditsHamt h rows s room k fs v x m (Err e) n
+    edit_failed e is = let y = moved e is in record { answer = failed e is; later = y.0; adds = added (Err e) is; puts = y.1 }
 
     answered : (root : List ℕ) → Rewrites h usual k fs m (Ok root) n → BothTold m.blocks n.blocks (HoldsAfter h es fs (Ok root)) → (r : Result (List ℕ) HamtFault) → MakesRoot (spell (root_map usual ready.has.node)) r → EditAnswer h rows room s v x m r n
     answered root is after (Ok b) makes = (
@@ -137,29 +152,31 @@ module _ (h : List ℕ → List ℕ) (rows : List Row) (was : List (List ℕ)) (
     answered root is after (Err (F.Clash id kept new)) makes = absurd makes
 
     pub edit_done : (root : List ℕ) → Rewrites h usual k fs m (Ok root) n → BothTold m.blocks n.blocks (HoldsAfter h es fs (Ok root)) → (r : Result (List ℕ) HamtFault) → MakesRoot (spell (root_map usual ready.has.node)) r → EditsHamt h rows s room k fs v x m r n
-    edit_done root is after r makes = let y = put_all (Ok tt) is.2 in record { answer = answered root is after r makes; later = y.0; adds = added (Ok root) after; puts = y.1 }
+    edit_done root is after r makes = let y = put_all (Ok tt) is.2 in record { answer = answered root is after r makes; later = y.0; adds = added (Ok root) is; puts = y.1 }
 
 -- ---- an entry put, and gone
 
 pub put_ready : (h : List ℕ → List ℕ) (rows : List Row) (was : List (List ℕ)) (s elem : Slot) (t d x : Data) (ps : Pairs) (es : List (List ℕ × Data)) (k : List ℕ) (room : ℕ) (w : Value) (trail : Trail)
-    → IsHamtHeld h rows was s elem t ps es k trail → IsPut h rows was s elem room ps k w d x → Ready h rows was s room (with_entry k w ps) x es (insert bytewise k d es)
+    → IsHamtHeld h rows was s elem t ps es k trail → IsPut h rows was s elem room ps k w d x → Ready h rows was s room (with_entry k w ps) x k es (insert bytewise k d es)
 put_ready h rows was s elem t d x ps es k room w trail at put =
     let has = (hamts_have_tries h rows was s elem t x ps es k at.hamt at.trie).0 w d put.held.tree put.tree in
     record {
       has = has;
       tree = (whole_tree h rows at.schema.table.texts.spelled room s (with_entry k w ps) x put.fits put.tree).tree;
       holds = at.trie.holds;
+      placed = are_put h rows was at.before put.less s elem t d x ps es k w at.hamt at.held at.trie put.held put.tree;
       made = λ now keeps holds. hamts_are_put h rows was now keeps at.before room put.less s elem t t d has.node ps es k w at.hamt at.held at.trie at.utf8 (held_stays h rows was now put.less elem d w keeps put.held) put.fits has.is_node holds;
     }
 
 pub cut_ready : (h : List ℕ → List ℕ) (rows : List Row) (was : List (List ℕ)) (s elem : Slot) (t x : Data) (ps : Pairs) (es : List (List ℕ × Data)) (k : List ℕ) (room : ℕ) (trail : Trail)
-    → IsHamtHeld h rows was s elem t ps es k trail → IsCut h rows s room ps k x → Ready h rows was s room (without_entry k ps) x es (remove k es)
+    → IsHamtHeld h rows was s elem t ps es k trail → IsCut h rows s room ps k x → Ready h rows was s room (without_entry k ps) x k es (remove k es)
 cut_ready h rows was s elem t x ps es k room trail at cut =
     let has = (hamts_have_tries h rows was s elem t x ps es k at.hamt at.trie).1 cut.tree in
     record {
       has = has;
       tree = (whole_tree h rows at.schema.table.texts.spelled room s (without_entry k ps) x cut.fits cut.tree).tree;
       holds = at.trie.holds;
+      placed = are_cut h rows was at.before s elem t x ps es k at.hamt at.held at.trie cut.tree;
       made = λ now keeps holds. hamts_are_cut h rows was now keeps at.before room s elem t t has.node ps es k at.hamt at.held at.trie cut.fits has.is_node holds;
     }
 

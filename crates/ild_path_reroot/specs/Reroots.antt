@@ -1,5 +1,5 @@
 -- A HAMT of which one entry is put or goes: the data of its root then, and what a store holds (IPLD HashMap).
-use Rattle.std.specs.Prelude.{◌≡◌, ◌≢◌, ℕ, ◌+◌, ◌≤◌, ◌<◌, true, IsUtf8, List, ◌∷◌, length, Some, Result, Ok, Err, is_some}
+use Rattle.std.specs.Prelude.{◌≡◌, ◌≢◌, ◌⊎◌, ℕ, ◌+◌, ◌≤◌, ◌<◌, true, IsUtf8, List, ◌∷◌, length, Some, Result, Ok, Err, is_some}
 use Rattle.std.specs.FinMap.{put as insert}
 use Rattle.ild_data.specs.ByteOrder.{bytewise, without as remove}
 use Rattle.ild_data.specs.Data.{Data}
@@ -24,9 +24,10 @@ use Rattle.ild_typed.specs.Hamt.{whole}
 use Rattle.ild_typed.specs.Node.{IsRoot}
 use Rattle.ild_typed.specs.Represented.{represented}
 use Rattle.ild_typed.specs.Schema.{IsSchema}
+use Rattle.ild_typed_places.specs.Places.{children_of}
+use Rattle.ild_script_session.specs.Step.{IsWhole}
 use Rattle.ild_bulk.specs.Build.{any_long}
-use Rattle.ild_bulk.specs.Children.{AddsWhole}
-use Rattle.ild_bulk.specs.Putting.{AddsOnly, IsAmong}
+use Rattle.ild_bulk.specs.Putting.{IsAmong}
 use Rattle.ild_hamt.specs.Descending.{IsTrailOf}
 use Rattle.ild_hamt.specs.declared.trail.Trail.{Trail}
 use Rattle.ild_open_held.specs.Held.{IsHeld}
@@ -79,14 +80,19 @@ EditAnswer h rows room s v x m (Ok b) n = (b ≡ spell x) × (length b ≤ longe
 EditAnswer h rows room s v x m (Err F.Size) n = any_long (spell x ∷ nodes h rows s v) ≡ true
 EditAnswer h rows room s v x m (Err F.Store) n = Rose m.faults n.faults
 EditAnswer h rows room s v x m (Err (F.Clash id kept new)) n =
-    IsAmong new (nodes h rows s v) × (id_of kept ≡ id.0) × (id_of new ≡ id.0) × (kept ≢ new) × IfTold n.blocks (λ held. block_at held id.0 ≡ Some kept)
+    IsAmong new (nodes h rows s v) × (id_of kept ≡ id.0) × (id_of new ≡ id.0) × (kept ≢ new) × IfTold n.blocks (λ held. block_at held id.0 ≡ Some kept) × (length new ≤ longest_block)
 EditAnswer h rows room s v x m (Err F.Memory) n = Unit {0}
 EditAnswer h rows room s v x m (Err e) n = ⊥
 
--- each block that is held now was held, or is a node of v whose children are all held
+-- a block that came is a node of v, no longer than a block may be, and at one of the places where it stands in v its children are all held
+pub record NodeCame (h : List ℕ → List ℕ) (rows : List Row) (s : Slot) (v : Value) (now : List (List ℕ)) (b : List ℕ) : Type 0 where
+  pub among : IsAmong b (nodes h rows s v)
+  pub short : length b ≤ longest_block
+  pub whole : IsWhole now (children_of h rows (s, v) b)
+
+-- each block that is held now was held, or came as such a node
 pub record AddsNodes (h : List ℕ → List ℕ) (rows : List Row) (s : Slot) (v : Value) (was now : List (List ℕ)) : Type 0 where
-  pub nodes : AddsOnly (nodes h rows s v) was now
-  pub whole : AddsWhole was now
+  pub came : (id b : List ℕ) → block_at now id ≡ Some b → (block_at was id ≡ Some b) ⊎ NodeCame h rows s v now b
 
 -- the HAMT becomes v, by puts of no more blocks than it has on the way of the key
 pub record EditsHamt (h : List ℕ → List ℕ) (rows : List Row) (s : Slot) (room : ℕ) (k : List ℕ) (es : List (List ℕ × Data)) (v : Value) (x : Data) (m : Moment) (result : Result (List ℕ) HamtFault) (n : Moment) : Type 0 where

@@ -5,6 +5,7 @@ use Rattle.ild_path_edit.proofs.Making.{failed, item_stands, made_block, made_tr
 use Rattle.ild_schema.specs.Accept.{IsAccepted}
 use Rattle.ild_schema.specs.Table.{IsTable}
 use Rattle.ild_typed.specs.Schema.{IsSchema}
+use Rattle.ild_typed.specs.At.{InSlot}
 use Rattle.ild_view.specs.View.{slot_of, table_of}
 use Rattle.ild_path_edit.proofs.block.with_holder.Goals as goal
 
@@ -23,4 +24,7 @@ returns-in-Ok c = λ is_key f w x t u e held.
     let made = replaced_made c.args.root.now is_key c.args.path.now c.args.edit.now f w x t u schema e c.args.holder.now held in
     let found = c.in-Ok.ensures.found in
     let it = c.in_ok-item.ensures is_key f w x t u held.new e made in
-    made_block (spell u) c.block_with.result (c.block_with.ensures rows is_key c.args.edit.now w (slot_of c.args.root.now, f) c.args.path.now t u held (item_stands c.as_slice.result.now c.in-Ok.new found.0 held.new found.1 found.2 (c.as_slice.ensures.same ∙ it.0) (made_tree rows is_key schema e.keys c.args.edit.now w (slot_of c.args.root.now, f) c.args.path.now c.are_texts.ensures c.args.holder.now.holder held.new made)))
+    let q : InSlot = (slot_of c.args.root.now, f) in
+    let tree = made_tree rows is_key schema e.keys c.args.edit.now w q c.args.path.now c.are_texts.ensures c.args.holder.now.holder held.new made in
+    let item = item_stands c.as_slice.result.now c.in-Ok.new found.0 held.new found.1 found.2 (c.as_slice.ensures.same ∙ it.0) tree in
+    made_block (spell u) c.block_with.result (c.block_with.ensures rows is_key c.args.edit.now w q c.args.path.now t u held item)

@@ -9,7 +9,12 @@ use Rattle.ild_path_hop.proofs.level.remove_entry.Goals as goal
 
 pub returns-in-Ok-Enter-clause-cuts : goal.returns-in-Ok-Enter-clause-cuts
 returns-in-Ok-Enter-clause-cuts g c = λ is_key was room v t u slot elem ps es k told level set.
-    absurd (not_entered g.H.KeyHash.hash_of is_key was room v t u c.args.root.now c.args.front.now slot elem ps es k c.args.trail level set c.in-Ok-Enter.field-0-0 c.in-Ok-Enter.field-0-1 (rw c.in-Ok-Enter.field-0-is at (c.in-Ok-Enter.ensures (front g.H.KeyHash.hash_of (table_of c.args.root.now) (slot_of c.args.root.now) v) (root_view g.H.KeyHash.hash_of is_key was room v t u c.args.root.now c.args.front.now slot elem ps es k c.args.trail level set))))
+    let h = g.H.KeyHash.hash_of in
+    let root = c.args.root.now in
+    let path = c.args.front.now in
+    let view = root_view h is_key was room v t u root path slot elem ps es k c.args.trail level set in
+    let entered = rw c.in-Ok-Enter.field-0-is at (c.in-Ok-Enter.ensures (front h (table_of root) (slot_of root) v) view) in
+    absurd (not_entered h is_key was room v t u root path slot elem ps es k c.args.trail level set c.in-Ok-Enter.field-0-0 c.in-Ok-Enter.field-0-1 entered)
 
 pub returns-in-Err-clause-cuts : goal.returns-in-Err-clause-cuts
 returns-in-Err-clause-cuts g c = λ is_key was room v t u slot elem ps es k told level set.

@@ -16,7 +16,7 @@ returns-in_err-node-clause-cuts g c = λ rows was s elem t x ps es k room view t
     let ready = cut_ready g.H.KeyHash.hash_of rows was s elem t x ps es k room c.args.trail at new in
     let p = err_from_is_err_and c.from_residual.result c.from_residual.ensures.1 in
     rw (p.1, p.2) (edit_failed g.H.KeyHash.hash_of rows was s room (without_entry k ps) x k es (without k es) ready (g.K.Store.moment c.args.store.now) (g.K.Store.moment c.remove.new.store) told c.in_err-node.field-0.0
-    (cut_rewrites g.H.KeyHash.hash_of rows was elem t ps es k (g.K.Store.moment c.args.store.now) (g.K.Store.moment c.remove.new.store) (Err c.in_err-node.field-0.0) at.trie new.there (c.in_err-node.ensures.removes k slots.0 es from)) (c.in_err-node.ensures.held k slots.0 es from))
+    (cut_rewrites g.H.KeyHash.hash_of rows was elem t ps es k (g.K.Store.moment c.args.store.now) (g.K.Store.moment c.remove.new.store) (Err c.in_err-node.field-0.0) at.trie new.there (c.in_err-node.ensures.removes k slots.0 es from)))
 
 -- src/edit.rt:24:1
 pub returns-clause-cuts : goal.returns-clause-cuts

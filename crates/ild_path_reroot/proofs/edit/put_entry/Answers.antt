@@ -18,7 +18,7 @@ returns-in_err-node-clause-puts g c = λ rows was s elem t d x ps es k room w vi
     let ready = put_ready g.H.KeyHash.hash_of rows was s elem t d x ps es k room w c.args.trail at new in
     let p = err_from_is_err_and c.from_residual.result c.from_residual.ensures.1 in
     rw (p.1, p.2) (edit_failed g.H.KeyHash.hash_of rows was s room (with_entry k w ps) x k es (put bytewise k d es) ready (g.K.Store.moment c.args.store.now) (g.K.Store.moment c.set.new.store) told c.in_err-node.field-0.0
-    (c.in_err-node.ensures.sets k d slots.0 es from stands (ap is_some ready.has.is_node)) (c.in_err-node.ensures.held k d slots.0 es from stands (ap is_some ready.has.is_node)))
+    (c.in_err-node.ensures.sets k d slots.0 es from stands (ap is_some ready.has.is_node)))
 
 -- src/edit.rt:24:1
 pub returns-clause-puts : goal.returns-clause-puts

@@ -1,0 +1,4 @@
+pub mod Topping
+pub mod Wayward
+pub mod Mapping
+pub mod Leaving

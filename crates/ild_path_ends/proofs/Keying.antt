@@ -1,0 +1,137 @@
+-- An entry of a HAMT in a block is set, or goes.
+use Rattle.std.proofs.Common.{◌≡◌, ◌⊎◌, inl, inr, ⊎_elim, ℕ, ◌+◌, ◌≤◌, Bool, true, List, [], ◌∷◌, ◌++◌, length, Option, Some, None, refl, subst, arith}
+use Rattle.std.specs.Prelude.{Result, Ok, Err}
+use Rattle.std.specs.FinMap.{put as insert}
+use Rattle.std.specs.Option.{option_map_or}
+use Rattle.ild_data.specs.ByteOrder.{bytewise}
+use Rattle.std.proofs.lemmas.Bool.{ltb-true}
+use Rattle.ild_cbor.specs.declared.node.Node.{Node}
+use Rattle.ild_data.specs.Data.{Data}
+use Rattle.ild_data.specs.Limits.{longest_block}
+use Rattle.ild_data.specs.Spell.{spell}
+use Rattle.ild_data.specs.TrieShape.{trie_levels}
+use Rattle.ild_edges.specs.Store.{Moment}
+use Rattle.ild_edges.proofs.Later.{Later-refl}
+use Rattle.ild_bulk.specs.Build.{any_long, is_long}
+use Rattle.ild_bulk.proofs.Puts.{told-same}
+use Rattle.ild_schema.specs.declared.number.Slot.{Slot}
+use Rattle.ild_schema.specs.declared.row.Row.{Row}
+use Rattle.ild_schema.specs.Slots.{form_of}
+use Rattle.ild_schema.specs.Value.{Value}
+use Rattle.ild_node_slots.specs.declared.fault.HamtFault.{HamtFault}
+use Rattle.ild_node_slots.specs.declared.fault.HamtFault.TheVariants as F
+use Rattle.ild_hamt_trie.specs.Way.{way}
+use Rattle.ild_typed.specs.At.{InSlot, at, met, seen}
+use Rattle.ild_typed.specs.Blocks.{nodes}
+use Rattle.ild_typed.specs.Composed.{usual}
+use Rattle.ild_typed.specs.Hamt.{whole}
+use Rattle.ild_typed.specs.OfType.{OfType, TestsKeys}
+use Rattle.ild_typed.specs.Represented.{represented}
+use Rattle.ild_typed.specs.Schema.{IsSchema}
+use Rattle.ild_typed.specs.Segment.{part}
+use Rattle.ild_view.specs.View.{slot_of, table_of}
+use Rattle.ild_view.specs.declared.view.View.{View}
+use Rattle.ild_hamt.specs.declared.trail.Trail.{Trail}
+use Rattle.ild_path_block.specs.Edits.{IsRootView}
+use Rattle.ild_path_within.specs.Within.{with_part}
+use Rattle.ild_path_within.proofs.Splitting.{ways_split}
+use Rattle.ild_typed_fronts.specs.Front.{front as showing}
+use Rattle.ild_path_entered.proofs.Editing.{sets_stand}
+use Rattle.ild_path_reroot.specs.Reroots.{AddsNodes}
+use Rattle.ild_path_reroot.proofs.Among.{long_any, long_one}
+use Rattle.ild_path_hop.specs.Levels.{IsCutThere, IsDataOfPart, IsLevel, IsSetThere, LevelAnswer, SetsLevel, with_set}
+use Rattle.ild_path_outward.specs.Outward.{EndAnswer, HasLongPart, SetsEnd}
+use Rattle.ild_script_meaning.specs.Costs.{blocks_met, met_in}
+use Rattle.ild_path_ends.specs.AtKey.{IsKeyCut, IsKeyLevel, IsKeySet, SetsKey}
+
+-- ---- in the block of a view
+
+module _ (h : List ℕ → List ℕ) (is_key : ℕ → List ℕ → Bool) (was : List (List ℕ)) (front : List (List ℕ)) (k : List ℕ) (found : Trail) (view : View) where
+  pub key_level : (x : IsKeyLevel h is_key (table_of view) (slot_of view) was front k found) → IsRootView view (showing h (table_of view) (slot_of view) x.v) x.t → IsLevel h is_key was x.less x.v x.t view
+  key_level x root = record { schema = x.schema; keys = x.keys; held = x.held; root = root }
+
+  pub key_set : (n : Node) (x : IsKeySet h is_key (table_of view) (slot_of view) was front k found n)
+      → IsSetThere h is_key was x.level.less x.level.v view front x.level.key.slot x.level.key.elem x.level.key.ps x.level.key.es k x.w x.d x.u found
+  key_set n x = record {
+    entered = x.level.key.entered;
+    root = x.level.key.root;
+    data_is = x.level.key.data_is;
+    trie = x.level.key.trie;
+    trail = x.level.key.trail;
+    utf8 = x.level.key.utf8;
+    key = x.fitting;
+    less = x.around;
+    new = x.comes;
+    fits = x.fits;
+    tree = x.tree;
+  }
+
+  pub key_cut : (x : IsKeyCut h is_key (table_of view) (slot_of view) was front k found) → IsCutThere h is_key was x.level.less x.level.v view front x.level.key.slot x.level.key.elem x.level.key.ps x.level.key.es k x.u found
+  key_cut x = record {
+    entered = x.level.key.entered;
+    root = x.level.key.root;
+    data_is = x.level.key.data_is;
+    trie = x.level.key.trie;
+    trail = x.level.key.trail;
+    utf8 = x.level.key.utf8;
+    there = x.there;
+    fits = x.fits;
+    tree = x.tree;
+  }
+
+-- nothing was done
+pub level_none : (h : List ℕ → List ℕ) (rows : List Row) (room : ℕ) (s : Slot) (c : Value) (u : Data) (k : List ℕ) (es : List (List ℕ × Data)) (m : Moment) → represented (whole h) rows s c ≡ Some u → SetsLevel h rows room s c u k es m (Err F.Memory) m
+level_none h rows room s c u k es m tree = record {
+  hamt = u;
+  part = record { path = []; part = (s, c); at = refl; tree = tree };
+  answer = tt;
+  later = Later-refl m;
+  adds = told-same m.blocks m.blocks (AddsNodes h rows s c) refl (λ a. record { came = λ id b e. inl e });
+  puts = omega arith;
+}
+
+-- ---- the level as the end of a path
+
+module _ (h : List ℕ → List ℕ) (rows : List Row) (room : ℕ) (s : Slot) (c : Value) (u : Data) (tree : represented (whole h) rows s c ≡ Some u) (m n : Moment) where
+  long_part : (d : Data) → IsDataOfPart h rows (s, c) d → is_long (spell d) ≡ true → HasLongPart h rows (s, c)
+  long_part d part long = record { tree = d; part = part; long = ltb-true longest_block (length (spell d)) long }
+
+  too_long : (d : Data) → IsDataOfPart h rows (s, c) d → any_long (spell u ∷ spell d ∷ nodes h rows s c) ≡ true → (any_long (nodes h rows s c) ≡ true) ⊎ HasLongPart h rows (s, c)
+  too_long d part is =
+      let z = long_one (spell u ∷ spell d ∷ nodes h rows s c) is in
+      ⊎_elim (λ same. inr (long_part u (record { path = []; part = (s, c); at = refl; tree = tree }) (subst (λ b. is_long b ≡ true) same z.2)))
+      (⊎_elim (λ same. inr (long_part d part (subst (λ b. is_long b ≡ true) same z.2))) (λ more. inl (long_any z.0 (nodes h rows s c) more z.2))) z.1
+
+  end_answer : (d : Data) → IsDataOfPart h rows (s, c) d → (r : Result (List ℕ) HamtFault) → LevelAnswer h rows room s c u d m r n → EndAnswer h rows room s c u m r n
+  end_answer d part (Ok b) is = is
+  end_answer d part (Err F.Size) is = too_long d part is
+  end_answer d part (Err F.Store) is = is
+  end_answer d part (Err F.Memory) is = tt
+  end_answer d part (Err (F.Clash id kept new)) is = is
+  end_answer d part (Err F.Exhausted) is = absurd is
+  end_answer d part (Err F.NoKey) is = absurd is
+  end_answer d part (Err (F.Block id why)) is = absurd is
+
+  pub level_end : (path : List (List ℕ)) (k : List ℕ) (es : List (List ℕ × Data)) (r : Result (List ℕ) HamtFault) → 1 + length (way h usual k (trie_levels usual) 0 es) ≤ blocks_met h rows (s, c) path
+      → SetsLevel h rows room s c u k es m r n → SetsEnd h rows room s c u path m r n
+  level_end path k es r few x = record { answer = end_answer x.hamt x.part r x.answer; later = x.later; adds = x.adds; puts = let a = x.puts in omega (arith, a, few) }
+
+met_one : (rows : List Row) (count : InSlot → List ℕ → ℕ) (p : InSlot) (s : List ℕ) → met rows count p (s ∷ []) ≡ count p s
+met_one rows count p s = by (part (seen rows p) s) where
+  by : (o : Option InSlot) → count p s + option_map_or (λ q. met rows count q []) o 0 ≡ count p s
+  by None = omega arith
+  by (Some q) = omega arith
+
+-- what is met on the way of the path and the key, where the map there has become another
+pub met_at_key : (h : List ℕ → List ℕ) (rows : List Row) (is_key : ℕ → List ℕ → Bool) (schema : IsSchema rows) (keys : TestsKeys rows is_key) (p : InSlot) (front : List (List ℕ)) (slot : Slot) (old new : Value) (k : List ℕ) (few : ℕ)
+    → OfType rows p.0 p.1 → at rows p front ≡ Some (slot, old) → OfType rows slot new → met_in h rows (form_of rows slot) new k ≡ few → 1 + few ≤ blocks_met h rows (p.0, with_part rows p front new) (front ++ (k ∷ []))
+met_at_key h rows is_key schema keys p front slot old new k few typed there typed_new counted =
+    let count : InSlot → List ℕ → ℕ = λ r s. met_in h rows (form_of rows r.0) r.1 s in
+    let here = (sets_stand rows is_key schema keys p (slot, old) front new typed there typed_new).0 in
+    let split = ways_split rows count (p.0, with_part rows p front new) (slot, new) front (k ∷ []) here in
+    let last = met_one rows count (slot, new) k in
+    omega (arith, split, last, counted)
+
+pub set_none : (h : List ℕ → List ℕ) (rows : List Row) (s : Slot) (view : View) (front : List (List ℕ)) (found : Trail) (n : Node) (m : Moment) → SetsKey h rows s view front found n m (Err F.Memory) m
+set_none h rows s view front found n m = λ is_key was k told x root.
+    level_none h rows x.level.less s (with_set rows s x.level.v front x.level.key.ps k x.w) x.u k (insert bytewise k x.d x.level.key.es) m x.tree

@@ -1,0 +1,9 @@
+mod Telling
+mod Finishing
+mod Moving
+mod Inner
+mod Ending
+mod Counting
+mod Keying
+mod AtKeys
+mod Carried

@@ -1,0 +1,3 @@
+pub mod Shorter
+pub mod Trie
+pub mod Parts
