@@ -1,0 +1,5 @@
+mod Staying
+mod Coming
+mod Answering
+mod Safe
+mod Placing

@@ -1,0 +1,4 @@
+pub mod PlaceLaws
+pub mod Replaces
+pub mod Pieces
+pub mod Replaced
