@@ -163,14 +163,14 @@ places_of_parts h rows p q path e = along h rows path p q e
 
 -- ---- children
 
-abbrev ids_at : Place → List (List ℕ)
+abbrev pub ids_at : Place → List (List ℕ)
 ids_at q = map id_of (tops q.1)
 
-abbrev ids_of : List ℕ → List Place → List (List (List ℕ))
+abbrev pub ids_of : List ℕ → List Place → List (List (List ℕ))
 ids_of b qs = map ids_at (filter (λ r. same_text b r.0) qs)
 
 -- each place of a block is listed with the ids of its children
-all_listed : (b : List ℕ) (qs : List Place) → AllByRecursion (λ r. same_text b r.0 ≡ true → Contains (ids_of b qs) (ids_at r)) qs
+pub all_listed : (b : List ℕ) (qs : List Place) → AllByRecursion (λ r. same_text b r.0 ≡ true → Contains (ids_of b qs) (ids_at r)) qs
 all_listed b [] = tt
 all_listed b (r ∷ qs) = by (same_text b r.0) (all_listed b qs) where
   by : (t : Bool) → AllByRecursion (λ x. same_text b x.0 ≡ true → Contains (ids_of b qs) (ids_at x)) qs
