@@ -1,0 +1,13 @@
+pub mod Deciding
+pub mod Judging
+pub mod Around
+pub mod Still
+pub mod Reading
+pub mod Composing
+pub mod Replying
+pub mod Finding
+pub mod Settling
+pub mod Going
+pub mod Joining
+pub mod Listing
+pub mod Building

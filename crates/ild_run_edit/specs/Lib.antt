@@ -1,0 +1,5 @@
+pub mod Edits
+pub mod Judges
+pub mod Moves
+pub mod Roots
+pub mod Swaps

@@ -1,0 +1,43 @@
+//! A part goes from its place.
+ghost use Rattle.std.specs.Prelude.{◌≡◌, IfOk};
+ghost use Rattle.ild_path_place.specs.Tells.{table_at};
+ghost use Rattle.ild_run_edit.specs.Moves.{GoesFrom};
+ghost use Rattle.ild_run_edit.specs.Swaps.{SwapsTo};
+
+use crate::putting::done_fault;
+use ild_data::{KeyHash, Octets};
+use ild_edges::Store;
+use ild_path::erase;
+use ild_path_around::breaks_around;
+use ild_path_place::Place;
+use ild_schema::Accepted;
+use ild_script::No;
+use std::alloc::Global;
+
+/// The new root block, where the part at a place goes; or the first of hole, delimiter and size.
+pub(crate) fn erase_part<K: Store, H: KeyHash>(
+    alloc: Global,
+    place: Place<'_>,
+    acc: &Accepted,
+    keys: &H,
+    store: &mut K,
+) -> Result<Octets, No>
+    requires { acc.now ≡ table_at place }
+    ensures swaps { SwapsTo place.entry result }
+    ensures goes { GoesFrom H.hash_of place.entry (K.moment store.old) result (K.moment store.new) }
+{
+    // It does no work: its clauses say what acceptance says of the types.
+    acc.types();
+    if place.hole() {
+        return Err(No::Hole);
+    }
+    match breaks_around(alloc, &place, None) {
+        Ok(true) => return Err(No::Delimiter),
+        Ok(false) => {}
+        Err(_) => return Err(No::Memory),
+    }
+    match erase(alloc, place, keys, store) {
+        Ok(block) => Ok(block),
+        Err(fault) => Err(done_fault(&fault)),
+    }
+}

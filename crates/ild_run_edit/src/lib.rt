@@ -1,0 +1,13 @@
+//! One edit of a document of a type: a part is set, inserted or deleted at a path (IPLD Schemas, "typed nodes"; IPLD HashMap).
+#![tactic(auto)]
+
+mod bringing;
+mod editing;
+mod erasing;
+mod part;
+mod putting;
+mod rooting;
+mod verb;
+
+pub use editing::edit;
+pub use verb::EditVerb;
