@@ -9,4 +9,4 @@ held_in : (told : Option (List (List ℕ))) (held : List (List ℕ)) (b : List �
 held_in told held b is has = (subst (λ (x : Option (List (List ℕ))). IfTold x (λ held. (block_at held (id_of b) ≡ Some b) × Unit {0})) is has).0
 
 pub can_be_apart : CanBeApart
-can_be_apart script n held is only own kept new may has collide = collide.differ (own kept new (only (id_of kept) kept (held_in n.blocks held kept is has)) may collide.one_id)
+can_be_apart rows ty tests start v script own n held is only come one kept new may has collide = collide.differ (one kept new (only (id_of kept) kept (held_in n.blocks held kept is has)) (come new may) collide.one_id)

@@ -5,7 +5,6 @@ use Rattle.ild_compile.proofs.OneVerdict.{one_verdict_lem}
 use Rattle.ild_edges.specs.Inputs.{MayBe}
 use Rattle.ild_edges.specs.declared.inputs.Taken.{Taken}
 use Rattle.ild_json.specs.Printing.{json_text}
-use Rattle.ild_schema.specs.Names.{number_named}
 use Rattle.ild_schema.specs.Slots.{plainly}
 use Rattle.ild_schema.specs.Table.{IsTable}
 use Rattle.ild_schema.specs.Value.{Value as Typed}
@@ -14,10 +13,11 @@ use Rattle.ild_schema.specs.declared.row.Row.{Row}
 use Rattle.ild_run_show.specs.Shows.{HasShown, NotOpened}
 use Rattle.ild_run_show.proofs.OneShown.{shown_stands, none_refused}
 use Rattle.ild_typed.specs.Shown.{shown}
+use Rattle.ild_run_open.specs.declared.start.Start.{Start}
 use Rattle.ild_run.specs.Work.{Work, Taking, ends, lists, answers, makes, opens, root_work, compiled_work, schema_work, job_work, work_of, IsVerdict, IsTaking, AreTaken}
 use Rattle.ild_run.specs.Shown.{hash}
 use Rattle.ild_run.specs.Words.{Job, shows}
-use Rattle.ild_run.specs.Ended.{Call, IsDue, HasScript, HasRoot, Says}
+use Rattle.ild_run.specs.Ended.{Call, IsDue, HasRoot, Says}
 use Rattle.ild_run.specs.Complete.{IsGivenRoot, LetsShow, ShownBy, ShowsPlainly}
 use Rattle.ild_run.specs.declared.fault.Fault.{Fault}
 use Rattle.ild_run.specs.declared.fault.Fault.TheVariants as F
@@ -60,12 +60,9 @@ no_end : (w : Work) (f : Fault) (rows : List Row) (n : TypeNo) (id : List ℕ) �
 no_end w f rows n id (inl is) other ended = let e : opens rows n id ≡ ends f = sym is ∙ ended in cc
 no_end w f rows n id (inr is) other ended = other (let e : ends F.Memory ≡ ends f = sym is ∙ ended in cc)
 
-no_script : (w : Work) (rows : List Row) (n : TypeNo) (id : List ℕ) → Opening w rows n id → HasScript w → ⊥
-no_script w rows n id (inl is) has = subst HasScript is has
-no_script w rows n id (inr is) has = subst HasScript is has
-
-no_answers : (w : Work) (rows : List Row) (n : TypeNo) (id lines : List ℕ) → Opening w rows n id → w ≡ answers lines → ⊥
-no_answers w rows n id lines is work = no_script w rows n id is (subst HasScript (sym work) tt)
+no_answers : (w : Work) (rows : List Row) (n : TypeNo) (id : List ℕ) (run : List Row) (m : TypeNo) (start : Start) (script : List ℕ) → Opening w rows n id → w ≡ answers run m start script → ⊥
+no_answers w rows n id run m start script (inl is) work = let e : opens rows n id ≡ answers run m start script = sym is ∙ work in cc
+no_answers w rows n id run m start script (inr is) work = let e : ends F.Memory ≡ answers run m start script = sym is ∙ work in cc
 
 no_list : (w : Work) (names : List (List ℕ)) (rows : List Row) (n : TypeNo) (id : List ℕ) → Opening w rows n id → w ≡ lists names → ⊥
 no_list w names rows n id (inl is) listed = let e : opens rows n id ≡ lists names = sym is ∙ listed in cc
@@ -80,7 +77,7 @@ abbrev OfOpened : (List Row → TypeNo → List ℕ → Type 0) → Work → Typ
 OfOpened P (opens rows n id) = P rows n id
 OfOpened P (ends f) = ⊥
 OfOpened P (lists names) = ⊥
-OfOpened P (answers b) = ⊥
+OfOpened P (answers rows n start b) = ⊥
 OfOpened P (makes rows n b) = ⊥
 
 said : (P : List Row → TypeNo → List ℕ → Type 0) (w : Work) (rows opened : List Row) (n m : TypeNo) (id j : List ℕ) → Opening w rows n id → w ≡ opens opened m j → P opened m j → P rows n id
@@ -97,16 +94,17 @@ record IsOfTable (P : List Row → TypeNo → List ℕ → Type 0) (rows : List 
 no_fault : (c : Call) (v : Typed) (given : IsGivenRoot c v) → LetsShow c → (t : Taking) (f : Fault) → AreTaken c.job c.before.supply t → IsDue c t f → f ≡ F.Memory
 no_fault c v given calm t F.Memory taken due = refl
 no_fault c v given calm t F.Words taken due = absurd (no_end (work_of c.job t) F.Words given.rows given.type given.root (work_opens c v given t taken) (λ e. cc) due)
-no_fault c v given calm t F.NotBuilt taken due = absurd (no_end (work_of c.job t) F.NotBuilt given.rows given.type given.root (work_opens c v given t taken) (λ e. cc) due)
 no_fault c v given calm t (F.Schema f) taken due = absurd (no_end (work_of c.job t) (F.Schema f) given.rows given.type given.root (work_opens c v given t taken) (λ e. cc) due)
 no_fault c v given calm t (F.Input role T.Failed) taken due = absurd (calm.inputs due.0)
 no_fault c v given calm t (F.Input role T.Absent) taken due = absurd (no_end (work_of c.job t) (F.Input role T.Absent) given.rows given.type given.root (work_opens c v given t taken) (λ e. cc) due.0)
 no_fault c v given calm t (F.Input role T.Long) taken due = absurd (no_end (work_of c.job t) (F.Input role T.Long) given.rows given.type given.root (work_opens c v given t taken) (λ e. cc) due.0)
 no_fault c v given calm t F.Store taken due = absurd (calm.store due.0)
-no_fault c v given calm t (F.Clash id) taken (inl due) = absurd (no_script (work_of c.job t) given.rows given.type given.root (work_opens c v given t taken) due.2)
+no_fault c v given calm t (F.Clash id) taken (inl due) = absurd (no_answers (work_of c.job t) given.rows given.type given.root due.rows due.type due.start due.bytes (work_opens c v given t taken) due.work)
 no_fault c v given calm t (F.Clash id) taken (inr clash) = absurd (no_value (work_of c.job t) clash.rows clash.type clash.bytes given.rows given.type given.root (work_opens c v given t taken) clash.work)
-no_fault c v given calm t (F.Value r) taken due = absurd (no_value (work_of c.job t) due.rows due.type due.bytes given.rows given.type given.root (work_opens c v given t taken) due.work)
-no_fault c v given calm t (F.Root id why) taken due =
+no_fault c v given calm t (F.Value r) taken (inl due) = absurd (let x = due.1 in no_answers (work_of c.job t) given.rows given.type given.root x.rows x.type x.start x.bytes (work_opens c v given t taken) x.work)
+no_fault c v given calm t (F.Value r) taken (inr due) = absurd (no_value (work_of c.job t) due.rows due.type due.bytes given.rows given.type given.root (work_opens c v given t taken) due.work)
+no_fault c v given calm t (F.Root id why) taken (inl due) = absurd (no_answers (work_of c.job t) given.rows given.type given.root due.rows due.type due.start due.bytes (work_opens c v given t taken) due.work)
+no_fault c v given calm t (F.Root id why) taken (inr due) =
     let P : List Row → TypeNo → List ℕ → Type 0 = λ rows n root. NotOpened hash rows n root c.before.moment id.0 why c.after.moment in
     let it = said P (work_of c.job t) given.rows due.rows given.type due.type given.root due.root (work_opens c v given t taken) due.work due.refused in
     absurd (none_refused hash given.rows given.type given.root v c.before.moment c.after.moment id.0 why given.held given.store given.stands it)
@@ -119,18 +117,17 @@ same_json c v given t json taken has =
     shown_stands hash given.rows (record { table = it.table; accepted = given.compiles.accepted }) given.type given.root v c.before.moment json given.held given.store given.stands it.holds
 
 pub shown_by : (c : Call) (v : Typed) (given : IsGivenRoot c v) → LetsShow c → (t : Taking) (status : Status) → AreTaken c.job c.before.supply t → Says c t status → (status ≡ S.Memory) ⊎ ShowsPlainly c given.rows given.type v status
-shown_by c v given calm t S.Done taken (inl all) = absurd (no_answers (work_of c.job t) given.rows given.type given.root all.bytes (work_opens c v given t taken) all.work)
+shown_by c v given calm t S.Done taken (inl all) = absurd (no_answers (work_of c.job t) given.rows given.type given.root all.rows all.type all.start all.bytes (work_opens c v given t taken) all.work)
 shown_by c v given calm t S.Done taken (inr (inl listed)) = absurd (no_list (work_of c.job t) listed.names given.rows given.type given.root (work_opens c v given t taken) listed.work)
 shown_by c v given calm t S.Done taken (inr (inr (inl made))) = absurd (no_value (work_of c.job t) made.rows made.type made.bytes given.rows given.type given.root (work_opens c v given t taken) made.work)
 shown_by c v given calm t S.Done taken (inr (inr (inr there))) =
     inr (subst (ShownBy c S.Done) (sym (same_json c v given t (Some there.0) taken there.1.has)) (refl, there.1.written))
-shown_by c v given calm t S.Refused taken (inl all) = absurd (no_answers (work_of c.job t) given.rows given.type given.root all.bytes (work_opens c v given t taken) all.work)
+shown_by c v given calm t S.Refused taken (inl all) = absurd (no_answers (work_of c.job t) given.rows given.type given.root all.rows all.type all.start all.bytes (work_opens c v given t taken) all.work)
 shown_by c v given calm t S.Refused taken (inr there) = inr (subst (ShownBy c S.Refused) (sym (same_json c v given t None taken there.has)) (refl, there.written))
 shown_by c v given calm t S.Memory taken says = inl refl
 shown_by c v given calm t S.SinkFault taken says = absurd (calm.sink says.0)
 shown_by c v given calm t S.Words taken says = absurd (let e = no_fault c v given calm t F.Words taken says.due in cc)
-shown_by c v given calm t S.Schema taken (inl tells) = absurd (let e = no_fault c v given calm t F.NotBuilt taken tells.due in cc)
-shown_by c v given calm t S.Schema taken (inr tells) = absurd (let e = no_fault c v given calm t (F.Schema tells.0) taken tells.1.due in cc)
+shown_by c v given calm t S.Schema taken tells = absurd (let e = no_fault c v given calm t (F.Schema tells.0) taken tells.1.due in cc)
 shown_by c v given calm t S.Input taken says = absurd (let e = no_fault c v given calm t (F.Input says.0 says.1) taken says.2.due in cc)
 shown_by c v given calm t S.StoreFault taken (inl tells) = absurd (let e = no_fault c v given calm t F.Store taken tells.due in cc)
 shown_by c v given calm t S.StoreFault taken (inr tells) = absurd (let e = no_fault c v given calm t (F.Clash tells.0) taken tells.1.due in cc)

@@ -1,6 +1,6 @@
 -- Where nothing stands in the way, a value that a store can hold is created.
 use Rattle.std.specs.Prelude.{Contains}
-use Rattle.std.proofs.Common.{◌≡◌, ◌⊎◌, ℕ, List, [], ◌∷◌, Bool, true, false, Option, Some, None, refl, sym, ap, ◌∙◌, subst, inl, inr}
+use Rattle.std.proofs.Common.{◌≡◌, ◌⊎◌, ℕ, List, Option, Some, None, refl, sym, ap, ◌∙◌, subst, inl, inr}
 use Rattle.ild_compile.specs.Compile.{Verdict, table}
 use Rattle.ild_compile.proofs.OneVerdict.{one_verdict_lem}
 use Rattle.ild_run_create.specs.Creates.{Created, Clashes}
@@ -17,10 +17,11 @@ use Rattle.ild_schema.specs.Value.{Value as Typed}
 use Rattle.ild_schema.specs.declared.number.TypeNo.{TypeNo}
 use Rattle.ild_schema.specs.declared.row.Row.{Row}
 use Rattle.ild_typed.specs.Stands.{bare, root_id, blocks_of, Stands}
+use Rattle.ild_run_open.specs.declared.start.Start.{Start}
 use Rattle.ild_run.specs.Work.{Work, Taking, ends, lists, answers, makes, opens, type_work, compiled_work, schema_work, job_work, work_of, IsVerdict, IsTaking, AreTaken}
 use Rattle.ild_run.specs.Shown.{hash}
 use Rattle.ild_run.specs.Words.{Job, creates}
-use Rattle.ild_run.specs.Ended.{Call, IsDue, HasScript, CreatesValue, Says}
+use Rattle.ild_run.specs.Ended.{Call, IsDue, CreatesValue, Says}
 use Rattle.ild_run.specs.Complete.{IsGivenValue, LetsCreate, CreatesPlainly}
 use Rattle.ild_run.specs.declared.fault.Fault.{Fault}
 use Rattle.ild_run.specs.declared.fault.Fault.TheVariants as F
@@ -69,12 +70,9 @@ no_end : (w : Work) (f : Fault) (rows : List Row) (n : TypeNo) (b : List ℕ) �
 no_end w f rows n b (inl is) other ended = let e : makes rows n b ≡ ends f = sym is ∙ ended in cc
 no_end w f rows n b (inr is) other ended = other (let e : ends F.Memory ≡ ends f = sym is ∙ ended in cc)
 
-no_script : (w : Work) (rows : List Row) (n : TypeNo) (b : List ℕ) → Creating w rows n b → HasScript w → ⊥
-no_script w rows n b (inl is) has = subst HasScript is has
-no_script w rows n b (inr is) has = subst HasScript is has
-
-no_answers : (w : Work) (rows : List Row) (n : TypeNo) (b lines : List ℕ) → Creating w rows n b → w ≡ answers lines → ⊥
-no_answers w rows n b lines is work = no_script w rows n b is (subst HasScript (sym work) tt)
+no_answers : (w : Work) (rows : List Row) (n : TypeNo) (b : List ℕ) (run : List Row) (m : TypeNo) (start : Start) (script : List ℕ) → Creating w rows n b → w ≡ answers run m start script → ⊥
+no_answers w rows n b run m start script (inl is) work = let e : makes rows n b ≡ answers run m start script = sym is ∙ work in cc
+no_answers w rows n b run m start script (inr is) work = let e : ends F.Memory ≡ answers run m start script = sym is ∙ work in cc
 
 no_list : (w : Work) (names : List (List ℕ)) (rows : List Row) (n : TypeNo) (b : List ℕ) → Creating w rows n b → w ≡ lists names → ⊥
 no_list w names rows n b (inl is) listed = let e : makes rows n b ≡ lists names = sym is ∙ listed in cc
@@ -89,7 +87,7 @@ abbrev OfMade : (List Row → TypeNo → List ℕ → Type 0) → Work → Type 
 OfMade P (makes rows n b) = P rows n b
 OfMade P (ends f) = ⊥
 OfMade P (lists names) = ⊥
-OfMade P (answers b) = ⊥
+OfMade P (answers rows n start b) = ⊥
 OfMade P (opens rows n id) = ⊥
 
 said : (P : List Row → TypeNo → List ℕ → Type 0) (w : Work) (rows made : List Row) (n m : TypeNo) (b c : List ℕ) → Creating w rows n b → w ≡ makes made m c → P made m c → P rows n b
@@ -106,13 +104,12 @@ record IsOfTable (P : List Row → TypeNo → List ℕ → Type 0) (rows : List 
 no_fault : (c : Call) (v : Typed) (d : Data) (given : IsGivenValue c v d) → LetsCreate c given.rows given.type v d → (t : Taking) (f : Fault) → AreTaken c.job c.before.supply t → IsDue c t f → f ≡ F.Memory
 no_fault c v d given calm t F.Memory taken due = refl
 no_fault c v d given calm t F.Words taken due = absurd (no_end (work_of c.job t) F.Words given.rows given.type given.bytes (work_makes c v d given t taken) (λ e. cc) due)
-no_fault c v d given calm t F.NotBuilt taken due = absurd (no_end (work_of c.job t) F.NotBuilt given.rows given.type given.bytes (work_makes c v d given t taken) (λ e. cc) due)
 no_fault c v d given calm t (F.Schema f) taken due = absurd (no_end (work_of c.job t) (F.Schema f) given.rows given.type given.bytes (work_makes c v d given t taken) (λ e. cc) due)
 no_fault c v d given calm t (F.Input role T.Failed) taken due = absurd (calm.inputs due.0)
 no_fault c v d given calm t (F.Input role T.Absent) taken due = absurd (no_end (work_of c.job t) (F.Input role T.Absent) given.rows given.type given.bytes (work_makes c v d given t taken) (λ e. cc) due.0)
 no_fault c v d given calm t (F.Input role T.Long) taken due = absurd (no_end (work_of c.job t) (F.Input role T.Long) given.rows given.type given.bytes (work_makes c v d given t taken) (λ e. cc) due.0)
 no_fault c v d given calm t F.Store taken due = absurd (calm.store due.0)
-no_fault c v d given calm t (F.Clash id) taken (inl due) = absurd (no_script (work_of c.job t) given.rows given.type given.bytes (work_makes c v d given t taken) due.2)
+no_fault c v d given calm t (F.Clash id) taken (inl due) = absurd (no_answers (work_of c.job t) given.rows given.type given.bytes due.rows due.type due.start due.bytes (work_makes c v d given t taken) due.work)
 no_fault c v d given calm t (F.Clash id) taken (inr clash) =
     let P : List Row → TypeNo → List ℕ → Type 0 = IsOfTable (λ rows n b. Clashes hash rows n b c.before.moment c.after.moment id.0) in
     let it = said P (work_of c.job t) given.rows clash.rows given.type clash.type given.bytes clash.bytes (work_makes c v d given t taken) clash.work (record { table = clash.table; holds = clash.clash }) in
@@ -123,8 +120,10 @@ no_fault c v d given calm t (F.Clash id) taken (inr clash) =
     subst (λ (x : Typed). Contains (blocks_of bare hash given.rows given.type x d) hit.new) same.0
     (subst (λ (x : Data). Contains (blocks_of bare hash given.rows given.type tried.value x) hit.new) same.1 hit.among) in
     absurd (calm.apart hit.kept hit.new among hit.held hit.collide)
-no_fault c v d given calm t (F.Root id why) taken due = absurd (no_root (work_of c.job t) due.rows due.type due.root given.rows given.type given.bytes (work_makes c v d given t taken) due.work)
-no_fault c v d given calm t (F.Value r) taken due =
+no_fault c v d given calm t (F.Root id why) taken (inl due) = absurd (no_answers (work_of c.job t) given.rows given.type given.bytes due.rows due.type due.start due.bytes (work_makes c v d given t taken) due.work)
+no_fault c v d given calm t (F.Root id why) taken (inr due) = absurd (no_root (work_of c.job t) due.rows due.type due.root given.rows given.type given.bytes (work_makes c v d given t taken) due.work)
+no_fault c v d given calm t (F.Value r) taken (inl due) = absurd (let x = due.1 in no_answers (work_of c.job t) given.rows given.type given.bytes x.rows x.type x.start x.bytes (work_makes c v d given t taken) x.work)
+no_fault c v d given calm t (F.Value r) taken (inr due) =
     let P : List Row → TypeNo → List ℕ → Type 0 = IsOfTable (λ rows n b. IsFirst hash rows n b r) in
     let it = said P (work_of c.job t) given.rows due.rows given.type due.type given.bytes due.bytes (work_makes c v d given t taken) due.work (record { table = due.table; holds = due.refused }) in
     absurd (made_unrefused hash given.rows (record { table = it.table; accepted = given.compiles.accepted }) given.type given.bytes v d r given.makes it.holds.cause)
@@ -144,19 +143,18 @@ created_so c v d given t taken made =
     }
 
 pub created_by : (c : Call) (v : Typed) (d : Data) (given : IsGivenValue c v d) → LetsCreate c given.rows given.type v d → (t : Taking) (status : Status) → AreTaken c.job c.before.supply t → Says c t status → (status ≡ S.Memory) ⊎ CreatesPlainly c given.rows given.type v d status
-created_by c v d given calm t S.Done taken (inl all) = absurd (no_answers (work_of c.job t) given.rows given.type given.bytes all.bytes (work_makes c v d given t taken) all.work)
+created_by c v d given calm t S.Done taken (inl all) = absurd (no_answers (work_of c.job t) given.rows given.type given.bytes all.rows all.type all.start all.bytes (work_makes c v d given t taken) all.work)
 created_by c v d given calm t S.Done taken (inr (inl listed)) = absurd (no_list (work_of c.job t) listed.names given.rows given.type given.bytes (work_makes c v d given t taken) listed.work)
 created_by c v d given calm t S.Done taken (inr (inr (inl made))) = inr (created_so c v d given t taken made)
 created_by c v d given calm t S.Done taken (inr (inr (inr shows))) =
     absurd (let has = shows.1.has in no_root (work_of c.job t) has.rows has.type has.root given.rows given.type given.bytes (work_makes c v d given t taken) has.work)
-created_by c v d given calm t S.Refused taken (inl all) = absurd (no_answers (work_of c.job t) given.rows given.type given.bytes all.bytes (work_makes c v d given t taken) all.work)
+created_by c v d given calm t S.Refused taken (inl all) = absurd (no_answers (work_of c.job t) given.rows given.type given.bytes all.rows all.type all.start all.bytes (work_makes c v d given t taken) all.work)
 created_by c v d given calm t S.Refused taken (inr shows) =
     absurd (let has = shows.has in no_root (work_of c.job t) has.rows has.type has.root given.rows given.type given.bytes (work_makes c v d given t taken) has.work)
 created_by c v d given calm t S.Memory taken says = inl refl
 created_by c v d given calm t S.SinkFault taken says = absurd (calm.sink says.0)
 created_by c v d given calm t S.Words taken says = absurd (let e = no_fault c v d given calm t F.Words taken says.due in cc)
-created_by c v d given calm t S.Schema taken (inl tells) = absurd (let e = no_fault c v d given calm t F.NotBuilt taken tells.due in cc)
-created_by c v d given calm t S.Schema taken (inr tells) = absurd (let e = no_fault c v d given calm t (F.Schema tells.0) taken tells.1.due in cc)
+created_by c v d given calm t S.Schema taken tells = absurd (let e = no_fault c v d given calm t (F.Schema tells.0) taken tells.1.due in cc)
 created_by c v d given calm t S.Input taken says = absurd (let e = no_fault c v d given calm t (F.Input says.0 says.1) taken says.2.due in cc)
 created_by c v d given calm t S.StoreFault taken (inl tells) = absurd (let e = no_fault c v d given calm t F.Store taken tells.due in cc)
 created_by c v d given calm t S.StoreFault taken (inr tells) = absurd (let e = no_fault c v d given calm t (F.Clash tells.0) taken tells.1.due in cc)

@@ -1,13 +1,9 @@
 -- How a call ends, from how its steps ended.
-use Rattle.std.proofs.Common.{◌≡◌, ◌⊎◌, ℕ, ◌+◌, ◌≤◌, List, [], Bool, true, false, Option, Some, None, Result, Ok, Err, refl, sym, ap, ◌∙◌, subst, inl, inr, arith}
-use Rattle.std.specs.Prelude.{IsErrOf}
+use Rattle.std.proofs.Common.{◌≡◌, ◌⊎◌, ℕ, List, Bool, true, false, Option, Some, None, Result, Ok, Err, refl, sym, ap, ◌∙◌, subst, inl, inr}
 use Rattle.ild_edges.specs.Count.{Rose}
 use Rattle.ild_edges.specs.Sink.{Output, Appends, AppendsFront}
-use Rattle.ild_edges.specs.Store.{Moment, Later}
+use Rattle.ild_edges.specs.Store.{Moment}
 use Rattle.ild_edges.specs.declared.inputs.Taken.TheVariants as Taken
-use Rattle.ild_run_plain.specs.Plain.{plain_map}
-use Rattle.ild_run_plain.specs.Value.{Value, blocks_of}
-use Rattle.ild_run_plain.proofs.Edits.{carries_plain}
 use Rattle.ild_run_create.specs.Creates.{CreateAnswer}
 use Rattle.ild_run_create.specs.declared.fault.CreateFault.{CreateFault}
 use Rattle.ild_run_create.specs.declared.fault.CreateFault.TheVariants as V
@@ -15,17 +11,18 @@ use Rattle.ild_data.specs.declared.id.BlockId.{BlockId}
 use Rattle.ild_schema.specs.Table.{IsTable}
 use Rattle.ild_schema.specs.declared.number.TypeNo.{TypeNo}
 use Rattle.ild_schema.specs.declared.row.Row.{Row}
-use Rattle.ild_script.specs.declared.reply.Reply.{Reply}
-use Rattle.ild_script.specs.Line.{lines_of}
-use Rattle.ild_script_session.specs.Lines.{LinesDone, LinesCut}
-use Rattle.ild_script_session.specs.Run.{Run}
-use Rattle.ild_script_session.specs.Session.{Meaning, Stage, resting}
-use Rattle.ild_script_session.specs.Step.{Holds}
-use Rattle.ild_script_session.proofs.Steps.{run_gets, run_puts}
-use Rattle.ild_run.specs.First.{Tries}
+use Rattle.ild_run_open.specs.Starts.{Asks, Stops}
+use Rattle.ild_run_open.specs.declared.start.Start.{Start}
+use Rattle.ild_run_open.specs.declared.start.Start.TheVariants as B
+use Rattle.ild_run_open.specs.declared.start.StartFault.{StartFault}
+use Rattle.ild_run_open.specs.declared.start.StartFault.TheVariants as P
+use Rattle.ild_run_script.specs.Scripts.{ScriptAnswer, AnswersAll as ScriptAll, AnswersSome as ScriptSome}
+use Rattle.ild_run_script.specs.declared.fault.ScriptFault.{ScriptFault}
+use Rattle.ild_run_script.specs.declared.fault.ScriptFault.TheVariants as X
+use Rattle.ild_run.specs.Answered.{start_fault, AnsweredTold, AnsweredAs}
 use Rattle.ild_run.proofs.Openings.{taking_of}
-use Rattle.ild_run.specs.Opening.{PutsFirst, FirstAnswer, InputsFault}
-use Rattle.ild_run.specs.Fault.{fault_text, status_of, cut_status}
+use Rattle.ild_run.specs.Opening.{InputsFault}
+use Rattle.ild_run.specs.Fault.{fault_text, status_of}
 use Rattle.ild_run.specs.Work.{Work, Taking, in_roles, lists, answers, makes, opens, work_of, job_work, IsTaking, AreTaken, Takes, Reaches}
 use Rattle.ild_run.specs.Words.{Job}
 use Rattle.ild_run.specs.Cut.{CutAs, ToldAs}
@@ -35,12 +32,11 @@ use Rattle.ild_run.specs.Shown.{hash, Replied, ShownTold, ShownAs}
 use Rattle.ild_run_show.specs.Shows.{Shows}
 use Rattle.ild_run_show.specs.declared.fault.ShowFault.{ShowFault}
 use Rattle.ild_run_show.specs.declared.fault.ShowFault.TheVariants as W
-use Rattle.ild_run.specs.Ended.{Call, IsDue, HasScript, Leaves, Answers, AnswersAll, AnswersSome, ListsNames, ListsSome, CreatesSome, ReadsRoot, HasRoot, reply_on, ShowsSome, Tells, TellsFront, Says, Ended}
+use Rattle.ild_run.specs.Ended.{Call, IsDue, AsksScript, StopsScript, Leaves, AnswersAll, AnswersSome, ListsSome, CreatesSome, ReadsRoot, HasRoot, reply_on, ShowsSome, Tells, TellsFront, Says, Ended}
 use Rattle.ild_run.specs.declared.fault.Fault.{Fault}
 use Rattle.ild_run.specs.declared.fault.Fault.TheVariants as F
 use Rattle.ild_run.specs.declared.fault.Role.{Role}
 use Rattle.ild_run.specs.declared.fault.Trouble.TheVariants as T
-use Rattle.ild_script_session.specs.declared.cut.Cut.{Cut}
 use Rattle.ild_script_session.specs.declared.cut.Cut.TheVariants as C
 use Rattle.ild_run.specs.declared.status.Status.{Status}
 use Rattle.ild_run.specs.declared.status.Status.TheVariants as S
@@ -48,8 +44,7 @@ use Rattle.ild_run.specs.declared.status.Status.TheVariants as S
 -- a fault that was told whole
 says_told : (c : Call) (t : Taking) (f : Fault) → Tells c t f → Says c t (status_of f)
 says_told c t F.Words tells = tells
-says_told c t F.NotBuilt tells = inl tells
-says_told c t (F.Schema f) tells = inr (f, tells)
+says_told c t (F.Schema f) tells = (f, tells)
 says_told c t (F.Input role trouble) tells = (role, trouble, tells)
 says_told c t F.Store tells = inl tells
 says_told c t (F.Clash id) tells = inr (id, tells)
@@ -91,113 +86,8 @@ ended_words c status none same told =
 pub ended_unread : (c : Call) (status : Status) → c.after.moment ≡ c.before.moment → ToldAs F.Memory c.before.output status c.after.output → Ended c status
 ended_unread c status same told = let some = taking_of c.job c.before.supply in ended_told c some.0 F.Memory status some.1 tt (inl same) told
 
--- the work of a call whose inputs were taken
-has_script : (found : Option Job) (job : Job) (t : Taking) (b : List ℕ) → found ≡ Some job → job_work job t ≡ answers b → work_of found t ≡ answers b
-has_script found job t b named is = ap (λ j. work_of j t) named ∙ is
-
-has : (w : Work) (b : List ℕ) → w ≡ answers b → HasScript w
-has w b is = subst HasScript (sym is) tt
-
 are_taken : (c : Call) (job : Job) (t : Taking) → c.job ≡ Some job → IsTaking job c.before.supply t → AreTaken c.job c.before.supply t
 are_taken c job t named taken = subst (λ (j : Option Job). AreTaken j c.before.supply t) (sym named) taken
-
-due_first : (c : Call) (t : Taking) (f : Fault) → HasScript (work_of c.job t) → FirstAnswer c.before.moment [] (Err f) c.after.moment → IsDue c t f
-due_first c t F.Store has answer = (answer, inl has)
-due_first c t (F.Clash id) has answer = inl (answer.0, answer.1, has)
-due_first c t F.Memory has answer = tt
-due_first c t F.Words has answer = absurd answer
-due_first c t F.NotBuilt has answer = absurd answer
-due_first c t (F.Schema f) has answer = absurd answer
-due_first c t (F.Input role trouble) has answer = absurd answer
-due_first c t (F.Value r) has answer = absurd answer
-due_first c t (F.Root id why) has answer = absurd answer
-
-leaves_first : (c : Call) (t : Taking) (f : Fault) → HasScript (work_of c.job t) → FirstAnswer c.before.moment [] (Err f) c.after.moment → Tries (blocks_of []) c.before.moment c.after.moment → Leaves c t f
-leaves_first c t F.Store has answer tries = inl tries
-leaves_first c t (F.Clash id) has answer tries = inl tries
-leaves_first c t F.Memory has answer tries = inr (inl (has, tries))
-leaves_first c t (F.Value r) has answer tries = absurd answer
-leaves_first c t (F.Root id why) has answer tries = absurd answer
-leaves_first c t F.Words has answer tries = absurd answer
-leaves_first c t F.NotBuilt has answer tries = absurd answer
-leaves_first c t (F.Schema f) has answer tries = absurd answer
-leaves_first c t (F.Input role trouble) has answer tries = absurd answer
-
--- a call whose first block was not put
-pub ended_first : (c : Call) (job : Job) (t : Taking) (b : List ℕ) (v : Value) (f : Fault) (status : Status) → c.job ≡ Some job → IsTaking job c.before.supply t
-    → job_work job t ≡ answers b → v ≡ [] → PutsFirst c.before.moment v (Err f) c.after.moment → ToldAs f c.before.output status c.after.output → Ended c status
-ended_first c job t b v f status named a work empty puts told =
-    let has' = has (work_of c.job t) b (has_script c.job job t b named work) in
-    let puts' = subst (λ (x : Value). PutsFirst c.before.moment x (Err f) c.after.moment) empty puts in
-    ended_told c t f status (are_taken c job t named a) (due_first c t f has' puts'.answer) (leaves_first c t f has' puts'.answer puts'.tries) told
-
--- lines that were answered from the first value on
-answers_from : (c : Call) (lines : List (List ℕ)) (replies : List Reply) (k : Moment) (s : Stage Value) → Later c.before.moment k → Holds k (blocks_of []) → Tries (blocks_of []) c.before.moment k
-    → Run plain_map k (resting []) lines replies c.after.moment s → Answers c lines replies s
-answers_from c lines replies k s later stands tries run = record {
-  opened = k;
-  later = later;
-  carried = carries_plain k [] stands;
-  tries = tries;
-  run = run;
-  gets = let most = run_gets plain_map k (resting []) lines replies c.after.moment s run (carries_plain k [] stands) in let first = tries.gets in omega (arith, most, first);
-  puts = let most = run_puts plain_map k (resting []) lines replies c.after.moment s run (carries_plain k [] stands) in let first : k.puts ≤ c.before.moment.puts + 1 = tries.puts in omega (arith, most, first);
-}
-
--- a call whose lines were all answered
-pub answered_all : (c : Call) (job : Job) (t : Taking) (b : List ℕ) (v : Value) (r : Result (Unit {0}) Fault) (u : Unit {0}) (k : Moment) (Stands : Meaning Value → Stage Value → Type 0) (refused : Bool) → c.job ≡ Some job → job_work job t ≡ answers b → v ≡ [] → r ≡ Ok u → PutsFirst c.before.moment v r k
-    → LinesDone (λ M s. (M ≡ plain_map) × (s ≡ resting v)) Stands k (lines_of b) c.after.moment c.before.output.written c.after.output.written refused → AnswersAll c t refused
-answered_all c job t b v r u k Stands refused named work empty ok puts done =
-    let puts' = subst (λ (x : Result (Unit {0}) Fault). PutsFirst c.before.moment [] x k) ok (subst (λ (x : Value). PutsFirst c.before.moment x r k) empty puts) in
-    let done' = subst (λ (x : Value). LinesDone (λ M s. (M ≡ plain_map) × (s ≡ resting x)) Stands k (lines_of b) c.after.moment c.before.output.written c.after.output.written refused) empty done in
-    let ran = done'.ran plain_map (resting []) (refl, refl) in
-    record {
-      bytes = b;
-      work = has_script c.job job t b named work;
-      replies = done'.replies;
-      last = ran.stage;
-      answered = answers_from c (lines_of b) done'.replies k ran.stage puts'.later puts'.answer puts'.tries ran.run;
-      stands = (ran.carries (carries_plain k [] puts'.answer)).kept;
-      written = done'.written;
-      refused_is = done'.refused_is;
-    }
-
--- a call whose replies were cut off
-pub answered_some : (c : Call) (job : Job) (t : Taking) (b : List ℕ) (v : Value) (r : Result (Unit {0}) Fault) (u : Unit {0}) (k : Moment) (Stands : Meaning Value → Stage Value → Type 0) → c.job ≡ Some job → job_work job t ≡ answers b → v ≡ [] → r ≡ Ok u → PutsFirst c.before.moment v r k
-    → LinesCut (λ M s. (M ≡ plain_map) × (s ≡ resting v)) Stands k (lines_of b) c.after.moment c.before.output.written c.after.output.written → AnswersSome c t
-answered_some c job t b v r u k Stands named work empty ok puts cut =
-    let puts' = subst (λ (x : Result (Unit {0}) Fault). PutsFirst c.before.moment [] x k) ok (subst (λ (x : Value). PutsFirst c.before.moment x r k) empty puts) in
-    let cut' = subst (λ (x : Value). LinesCut (λ M s. (M ≡ plain_map) × (s ≡ resting x)) Stands k (lines_of b) c.after.moment c.before.output.written c.after.output.written) empty cut in
-    let ran = cut'.ran plain_map (resting []) (refl, refl) in
-    record {
-      bytes = b;
-      work = has_script c.job job t b named work;
-      first = cut'.first;
-      rest = cut'.rest;
-      lines = cut'.split;
-      replies = cut'.replies;
-      last = ran.stage;
-      answered = answers_from c cut'.first cut'.replies k ran.stage puts'.later puts'.answer puts'.tries ran.run;
-      written = cut'.written;
-    }
-
-says_cut : (c : Call) (t : Taking) (cut : Cut) → AnswersSome c t → CutAs c.before.output (cut_status cut) c.after.output → Says c t (cut_status cut)
-says_cut c t C.Sink some rose = (rose, inr (inl some))
-says_cut c t C.Memory some rose = inr (inr (inl some))
-
-pub ended_cut : (c : Call) (job : Job) (t : Taking) (cut : Cut) → c.job ≡ Some job → IsTaking job c.before.supply t → AnswersSome c t → CutAs c.before.output (cut_status cut) c.after.output → Ended c (cut_status cut)
-ended_cut c job t cut named a some rose = record { taking = t; taken = are_taken c job t named a; says = says_cut c t cut some rose }
-
-pub ended_done : (c : Call) (job : Job) (t : Taking) → c.job ≡ Some job → IsTaking job c.before.supply t → AnswersAll c t false → Ended c S.Done
-ended_done c job t named a all = record { taking = t; taken = are_taken c job t named a; says = inl all }
-
-pub ended_refused : (c : Call) (job : Job) (t : Taking) → c.job ≡ Some job → IsTaking job c.before.supply t → AnswersAll c t true → Ended c S.Refused
-ended_refused c job t named a all = record { taking = t; taken = are_taken c job t named a; says = inl all }
-
--- why a text was cut off
-pub cut_cause : (cut : Cut) (m n : Output) → (IsErrOf {T = Bool} (Err cut) C.Sink → Rose m.faults n.faults) → CutAs m (cut_status cut) n
-cut_cause C.Sink m n rose = rose refl
-cut_cause C.Memory m n rose = tt
 
 is_work : (c : Call) (job : Job) (t : Taking) (w : Work) → c.job ≡ Some job → job_work job t ≡ w → work_of c.job t ≡ w
 is_work c job t w named is = ap (λ j. work_of j t) named ∙ is
@@ -209,7 +99,6 @@ due_inputs : (c : Call) (job : Job) (t : Taking) (f : Fault) → c.job ≡ Some 
 due_inputs c job t (F.Input role T.Failed) named fault = (fault.0, reaches c job role t named fault.1)
 due_inputs c job t (F.Input role T.Absent) named fault = (is_work c job t _ named fault.0, fault.1)
 due_inputs c job t (F.Input role T.Long) named fault = (is_work c job t _ named fault.0, fault.1)
-due_inputs c job t F.NotBuilt named fault = is_work c job t _ named fault
 due_inputs c job t (F.Schema f) named fault = is_work c job t _ named fault
 due_inputs c job t F.Memory named fault = tt
 due_inputs c job t F.Words named fault = is_work c job t _ named fault
@@ -220,7 +109,6 @@ due_inputs c job t (F.Clash id) named fault = absurd fault
 
 leaves_inputs : (c : Call) (job : Job) (t : Taking) (f : Fault) → InputsFault c.before.supply job t f c.after.supply → c.after.moment ≡ c.before.moment → Leaves c t f
 leaves_inputs c job t (F.Input role trouble) fault same = same
-leaves_inputs c job t F.NotBuilt fault same = same
 leaves_inputs c job t (F.Schema f) fault same = same
 leaves_inputs c job t F.Memory fault same = inl same
 leaves_inputs c job t F.Words fault same = same
@@ -276,7 +164,7 @@ says_root c t S.StoreFault some rose = absurd rose
 says_root c t S.Value some rose = absurd rose
 
 due_made : (c : Call) (t : Taking) (rows : List Row) (n : TypeNo) (b : List ℕ) (f : CreateFault) → work_of c.job t ≡ makes rows n b → IsTable rows → CreateAnswer hash rows n b c.before.moment (Err f) c.after.moment → IsDue c t (made_fault f)
-due_made c t rows n b (V.Refused r) work table answer = record { rows = rows; table = table; type = n; bytes = b; work = work; refused = answer.0 }
+due_made c t rows n b (V.Refused r) work table answer = inr (record { rows = rows; table = table; type = n; bytes = b; work = work; refused = answer.0 })
 due_made c t rows n b V.Store work table answer = (answer.0, inr (inl (record { rows = rows; type = n; bytes = b; work = work; tried = answer.1 })))
 due_made c t rows n b (V.Clash id) work table answer = inr (record { rows = rows; table = table; type = n; bytes = b; work = work; clash = answer })
 due_made c t rows n b V.Memory work table answer = tt
@@ -338,7 +226,7 @@ says_present c t rows n id (Ok json) status work table shows told =
 says_present c t rows n id (Err W.Reserved) status work table shows told =
     says_reserved c t status (record { rows = rows; table = table; type = n; root = id; work = work; shown = shows.answer; reads = shows.reads }) told
 says_present c t rows n id (Err (W.Block at why)) status work table shows told =
-    says_by c t (F.Root at why) status (record { rows = rows; table = table; type = n; root = id; work = work; refused = shows.answer }) (record { rows = rows; type = n; root = id; work = work; reads = shows.reads }) told.told
+    says_by c t (F.Root at why) status (inr (record { rows = rows; table = table; type = n; root = id; work = work; refused = shows.answer })) (inr (record { rows = rows; type = n; root = id; work = work; reads = shows.reads })) told.told
 says_present c t rows n id (Err W.Store) status work table shows told =
     let reads : ReadsRoot c t = record { rows = rows; type = n; root = id; work = work; reads = shows.reads } in
     says_by c t F.Store status (shows.answer, inr (inr reads)) (inr (inr reads)) told.told
@@ -351,4 +239,75 @@ ended_shown c job t rows n id status named a work shown = record {
   taking = t;
   taken = are_taken c job t named a;
   says = says_present c t rows n id shown.result status (is_work c job t (opens rows n id) named work) shown.table shown.shows shown.told;
+}
+
+-- ---- a script that is answered
+
+store_rose : (rows : List Row) (n : TypeNo) (start : Start) (m k : Moment) → Stops hash rows n start m P.Store k → Rose m.faults k.faults
+store_rose rows n (B.Root root) m k rose = rose
+store_rose rows n B.Empty m k rose = rose
+
+mismatch_same : (rows : List Row) (n : TypeNo) (start : Start) (m k : Moment) → Stops hash rows n start m P.Mismatch k → k ≡ m
+mismatch_same rows n (B.Root root) m k stops = absurd stops
+mismatch_same rows n B.Empty m k stops = stops.1
+
+module _ (c : Call) (t : Taking) (rows : List Row) (n : TypeNo) (start : Start) (b : List ℕ) (work : work_of c.job t ≡ answers rows n start b) (table : IsTable rows) where
+  asked : Asks hash rows n start c.before.moment c.after.moment → AsksScript c t
+  asked asks = record { rows = rows; type = n; start = start; bytes = b; work = work; asks = asks }
+
+  stopped : (f : StartFault) → Stops hash rows n start c.before.moment f c.after.moment → StopsScript c t f
+  stopped f stops = record { rows = rows; table = table; type = n; start = start; bytes = b; work = work; stops = stops }
+
+  due_started : (f : StartFault) → Stops hash rows n start c.before.moment f c.after.moment → Asks hash rows n start c.before.moment c.after.moment → IsDue c t (start_fault f)
+  due_started (P.Block id why) stops asks = inl (stopped (P.Block id why) stops)
+  due_started P.Mismatch stops asks = inl (refl, stopped P.Mismatch stops)
+  due_started P.Store stops asks = (store_rose rows n start c.before.moment c.after.moment stops, inl (asked asks))
+  due_started (P.Clash id) stops asks = inl (stopped (P.Clash id) stops)
+  due_started P.Memory stops asks = tt
+
+  leaves_started : (f : StartFault) → Stops hash rows n start c.before.moment f c.after.moment → Asks hash rows n start c.before.moment c.after.moment → Leaves c t (start_fault f)
+  leaves_started (P.Block id why) stops asks = inl (asked asks)
+  leaves_started P.Mismatch stops asks = mismatch_same rows n start c.before.moment c.after.moment stops
+  leaves_started P.Store stops asks = inl (asked asks)
+  leaves_started (P.Clash id) stops asks = inl (asked asks)
+  leaves_started P.Memory stops asks = inr (inl (asked asks))
+
+  all_of : (refused : Bool) (behind : Output) → c.after.output ≡ behind → ScriptAll rows n start b c.before.moment c.before.output refused c.after.moment behind → AnswersAll c t refused
+  all_of refused behind same all = record {
+    rows = rows;
+    table = table;
+    type = n;
+    start = start;
+    bytes = b;
+    work = work;
+    all = subst (λ (o : Output). ScriptAll rows n start b c.before.moment c.before.output refused c.after.moment o) (sym same) all;
+  }
+
+  some_of : (behind : Output) → c.after.output ≡ behind → ScriptSome rows n start b c.before.moment c.before.output c.after.moment behind → AnswersSome c t
+  some_of behind same some = record {
+    rows = rows;
+    table = table;
+    type = n;
+    start = start;
+    bytes = b;
+    work = work;
+    some = subst (λ (o : Output). ScriptSome rows n start b c.before.moment c.before.output c.after.moment o) (sym same) some;
+  }
+
+  says_answered : (result : Result Bool ScriptFault) (behind : Output) (status : Status) → ScriptAnswer rows n start b c.before.moment c.before.output result c.after.moment behind → AnsweredTold result behind status c.after.output → Says c t status
+  says_answered (Ok false) behind status answer told = subst (λ (s : Status). Says c t s) (sym told.0) (inl (all_of false behind told.1 answer))
+  says_answered (Ok true) behind status answer told = subst (λ (s : Status). Says c t s) (sym told.0) (inl (all_of true behind told.1 answer))
+  says_answered (Err (X.Start f)) behind status answer told =
+      says_by c t (start_fault f) status (due_started f answer.0 answer.1) (leaves_started f answer.0 answer.1) (subst (λ (o : Output). ToldAs (start_fault f) o status c.after.output) answer.2 told).told
+  says_answered (Err (X.Cut C.Sink)) behind status answer told =
+      let rose = subst (λ (o : Output). Rose c.before.output.faults o.faults) (sym told.1) answer.0 in
+      subst (λ (s : Status). Says c t s) (sym told.0) (rose, inr (inl (some_of behind told.1 answer.1)))
+  says_answered (Err (X.Cut C.Memory)) behind status answer told = subst (λ (s : Status). Says c t s) (sym told.0) (inr (inr (inl (some_of behind told.1 answer))))
+
+pub ended_answered : (c : Call) (job : Job) (t : Taking) (rows : List Row) (n : TypeNo) (start : Start) (b : List ℕ) (status : Status) → c.job ≡ Some job → IsTaking job c.before.supply t → job_work job t ≡ answers rows n start b
+    → AnsweredAs rows n start b c.before.moment c.before.output status c.after.moment c.after.output → Ended c status
+ended_answered c job t rows n start b status named a work answered = record {
+  taking = t;
+  taken = are_taken c job t named a;
+  says = says_answered c t rows n start b (is_work c job t (answers rows n start b) named work) answered.table answered.result answered.behind status answered.scripts.answer answered.told;
 }

@@ -14,9 +14,9 @@ use Rattle.ild_run.specs.declared.fault.Fault.{Fault}
 use Rattle.ild_run.specs.declared.fault.Fault.TheVariants as F
 use Rattle.ild_run.specs.declared.fault.Role.{Role}
 use Rattle.ild_run.specs.declared.fault.Trouble.TheVariants as T
-use Rattle.ild_run.specs.Built.{is_built}
+use Rattle.ild_run_open.specs.declared.start.Start.{Start}
 use Rattle.ild_run.specs.Words.{Job, checks, runs, creates, shows, name_of}
-use Rattle.ild_run.specs.Work.{Taking, in_roles, built_work, type_work, root_work, IsVerdict, IsUnder, IsTaking, AreTaken, IsOpen}
+use Rattle.ild_run.specs.Work.{Taking, in_roles, run_work, type_work, root_work, IsVerdict, IsUnder, IsTaking, AreTaken}
 use Rattle.ild_run.specs.declared.open.Task.{Task}
 use Rattle.ild_run.specs.declared.open.Task.TheVariants as P
 use Rattle.ild_run.specs.Opening.{InputAnswer, TakesInput, CompileAnswer, OpensAnswer, IsReady, Opens, OpensBehind}
@@ -33,14 +33,14 @@ some_under m (Some name) = some_taken m.files name
 -- the name of the input that a job takes beside its schema
 abbrev other_name : Job → Option (List ℕ)
 other_name (checks schema) = None
-other_name (runs schema script) = Some script
+other_name (runs schema ty start script) = Some script
 other_name (creates schema ty value) = Some value
 other_name (shows schema ty id) = None
 
 -- it is the script's or the value's
 other_role_is : (job : Job) (m : Supply) (other : Taken) → IsUnder m other (other_name job) → IsUnder m other (name_of Role.Script job) × IsUnder m other (name_of Role.Value job)
 other_role_is (checks schema) m other is = (tt, tt)
-other_role_is (runs schema script) m other is = (is, tt)
+other_role_is (runs schema ty start script) m other is = (is, tt)
 other_role_is (creates schema ty value) m other is = (tt, is)
 other_role_is (shows schema ty id) m other is = (tt, tt)
 
@@ -105,7 +105,6 @@ opens_schema m n job name (F.Input Role.Value T.Failed) named answer after = abs
 opens_schema m n job name F.Memory named answer after =
     let some = some_under m (name_of Role.Schema job) in opens_before m n job some.0 None _ some.1 (no_verdict some.0) (λ script. tt) tt after
 opens_schema m n job name F.Words named answer after = absurd answer
-opens_schema m n job name F.NotBuilt named answer after = absurd answer
 opens_schema m n job name (F.Schema f) named answer after = absurd answer
 opens_schema m n job name F.Store named answer after = absurd answer
 opens_schema m n job name (F.Clash id) named answer after = absurd answer
@@ -118,7 +117,6 @@ opens_faulty m n job name b (F.Schema f) named is answer after = opens_before m 
 opens_faulty m n job name b F.Memory named is answer after = opens_before m n job (Taken.Bytes b) None _ (under m (Taken.Bytes b) name (name_of Role.Schema job) named is) tt (λ script. tt) tt after
 opens_faulty m n job name b (F.Input role trouble) named is answer after = absurd answer
 opens_faulty m n job name b F.Words named is answer after = absurd answer
-opens_faulty m n job name b F.NotBuilt named is answer after = absurd answer
 opens_faulty m n job name b F.Store named is answer after = absurd answer
 opens_faulty m n job name b (F.Clash id) named is answer after = absurd answer
 opens_faulty m n job name b (F.Value r) named is answer after = absurd answer
@@ -127,64 +125,6 @@ opens_faulty m n job name b (F.Root id why) named is answer after = absurd answe
 -- a call whose schema is checked
 pub opens_checked : (m n : Supply) (name : List ℕ) (b : List ℕ) (rows : List Row) → MayBe m.files name (Taken.Bytes b) → Compiles b (table rows) → After m n → Opens m (checks name) (Ok (P.List rows)) n
 opens_checked m n name b rows is compiles after = opens_before m n (checks name) (Taken.Bytes b) (Some (table rows)) _ is compiles (λ script. refl) tt after
-
--- a call that ends at a schema which nothing is built for
-pub opens_not_built : (m n : Supply) (name other : List ℕ) (b : List ℕ) (rows : List Row) → MayBe m.files name (Taken.Bytes b) → Compiles b (table rows) → is_built rows ≡ false → After m n → Opens m (runs name other) (Err F.NotBuilt) n
-opens_not_built m n name other b rows is compiles refused after =
-    opens_before m n (runs name other) (Taken.Bytes b) (Some (table rows)) _ is compiles (λ script. ap (λ t. built_work t script) refused) tt after
-
--- a call that comes to the script's input
-abbrev taking : List ℕ → List Row → Taken → Taking
-taking b rows script = record { input = in_roles (Taken.Bytes b) script; verdict = Some (table rows) }
-
-is_open : (b : List ℕ) (rows : List Row) (script : Taken) → is_built rows ≡ true → IsOpen (taking b rows script)
-is_open b rows script built = record { bytes = b; rows = rows; schema = refl; verdict = refl; built = built }
-
--- the task that the script's input is
-abbrev pub task_of : Result (List ℕ) Fault → Result Task Fault
-task_of (Ok b) = Ok (P.Answer b)
-task_of (Err f) = Err f
-
-script_answer : (m k n : Supply) (name other : List ℕ) (b : List ℕ) (rows : List Row) (result : Result (List ℕ) Fault) → is_built rows ≡ true → k.files ≡ m.files → m.lacks ≤ k.lacks → m.faults ≤ k.faults
-    → InputAnswer k Role.Script other result n → (t : Taken) × MayBe m.files other t × OpensAnswer m (runs name other) (taking b rows t) (task_of result) n
-script_answer m k n name other b rows (Ok c) built same lacks faults answer =
-    (Taken.Bytes c, subst (λ (x : Option (List (List ℕ × List ℕ))). MayBe x other (Taken.Bytes c)) same answer, ap (λ t. built_work t (Taken.Bytes c)) built)
-script_answer m k n name other b rows (Err (F.Input Role.Script T.Absent)) built same lacks faults answer =
-    (Taken.Absent, subst (λ (x : Option (List (List ℕ × List ℕ))). MayBe x other Taken.Absent) same answer.1, (ap (λ t. built_work t Taken.Absent) built, let rose = answer.2 in omega arith))
-script_answer m k n name other b rows (Err (F.Input Role.Script T.Long)) built same lacks faults answer =
-    (Taken.Long, subst (λ (x : Option (List (List ℕ × List ℕ))). MayBe x other Taken.Long) same answer.1, (ap (λ t. built_work t Taken.Long) built, let rose = answer.2 in omega arith))
-script_answer m k n name other b rows (Err (F.Input Role.Script T.Failed)) built same lacks faults answer =
-    let some = some_taken m.files other in (some.0, some.1, (let rose = answer.1 in omega arith, is_open b rows some.0 built))
-script_answer m k n name other b rows (Err (F.Input Role.Schema T.Absent)) built same lacks faults answer = absurd (other_role (sym answer.0))
-script_answer m k n name other b rows (Err (F.Input Role.Schema T.Long)) built same lacks faults answer = absurd (other_role (sym answer.0))
-script_answer m k n name other b rows (Err (F.Input Role.Schema T.Failed)) built same lacks faults answer = absurd (other_role (sym answer.0))
-script_answer m k n name other b rows (Err (F.Input Role.Value T.Absent)) built same lacks faults answer = absurd (value_script answer.0)
-script_answer m k n name other b rows (Err (F.Input Role.Value T.Long)) built same lacks faults answer = absurd (value_script answer.0)
-script_answer m k n name other b rows (Err (F.Input Role.Value T.Failed)) built same lacks faults answer = absurd (value_script answer.0)
-script_answer m k n name other b rows (Err (F.Value r)) built same lacks faults answer = absurd answer
-script_answer m k n name other b rows (Err (F.Root id why)) built same lacks faults answer = absurd answer
-script_answer m k n name other b rows (Err F.Memory) built same lacks faults answer = let some = some_taken m.files other in (some.0, some.1, tt)
-script_answer m k n name other b rows (Err F.Words) built same lacks faults answer = absurd answer
-script_answer m k n name other b rows (Err F.NotBuilt) built same lacks faults answer = absurd answer
-script_answer m k n name other b rows (Err (F.Schema f)) built same lacks faults answer = absurd answer
-script_answer m k n name other b rows (Err F.Store) built same lacks faults answer = absurd answer
-script_answer m k n name other b rows (Err (F.Clash id)) built same lacks faults answer = absurd answer
-
-script_ready : (result : Result (List ℕ) Fault) → IfOk (task_of result) IsReady
-script_ready (Ok b) = tt
-script_ready (Err f) = tt
-
-pub opens_script : (m k n : Supply) (name other : List ℕ) (b : List ℕ) (rows : List Row) (result : Result (List ℕ) Fault) → MayBe m.files name (Taken.Bytes b) → Compiles b (table rows) → is_built rows ≡ true → After m k → TakesInput k Role.Script other result n
-    → Opens m (runs name other) (task_of result) n
-opens_script m k n name other b rows result is compiles built after takes =
-    let t = script_answer m k n name other b rows result built after.files after.lacks after.faults takes.answer in
-    record {
-      taking = taking b rows t.0;
-      taken = record { input = all_roles (runs name other) m (Taken.Bytes b) t.0 is t.1; verdict = compiles };
-      answer = t.2;
-      ready = script_ready result;
-      after = After-trans m k n after takes.after;
-    }
 
 -- ---- a value that is to be created or shown
 
@@ -234,7 +174,6 @@ value_answer m k n name ty value b rows t (Err (F.Input Role.Script T.Long)) nam
 value_answer m k n name ty value b rows t (Err (F.Input Role.Script T.Failed)) named same lacks faults answer = absurd (value_script (sym answer.0))
 value_answer m k n name ty value b rows t (Err F.Memory) named same lacks faults answer = let some = some_taken m.files value in (some.0, some.1, tt)
 value_answer m k n name ty value b rows t (Err F.Words) named same lacks faults answer = absurd answer
-value_answer m k n name ty value b rows t (Err F.NotBuilt) named same lacks faults answer = absurd answer
 value_answer m k n name ty value b rows t (Err (F.Schema f)) named same lacks faults answer = absurd answer
 value_answer m k n name ty value b rows t (Err F.Store) named same lacks faults answer = absurd answer
 value_answer m k n name ty value b rows t (Err (F.Clash id)) named same lacks faults answer = absurd answer
@@ -256,6 +195,58 @@ opens_value k n rows ty value t result named within takes m name b is compiles a
       ready = value_ready rows t result within;
       after = After-trans m k n after takes.after;
     }
+
+-- ---- a script that is to be run
+
+-- the task that the script's input is
+abbrev pub script_task : List Row → TypeNo → Start → Result (List ℕ) Fault → Result Task Fault
+script_task rows n start (Ok b) = Ok (P.Answer rows n start b)
+script_task rows n start (Err f) = Err f
+
+script_answer : (m k n : Supply) (name ty script b : List ℕ) (rows : List Row) (t : TypeNo) (start : Start) (result : Result (List ℕ) Fault) → number_named ty rows ≡ Some t.0 → k.files ≡ m.files → m.lacks ≤ k.lacks → m.faults ≤ k.faults
+    → InputAnswer k Role.Script script result n → (x : Taken) × MayBe m.files script x × OpensAnswer m (runs name ty start script) (value_taking b rows x) (script_task rows t start result) n
+script_answer m k n name ty script b rows t start (Ok c) named same lacks faults answer =
+    (Taken.Bytes c, subst (λ (x : Option (List (List ℕ × List ℕ))). MayBe x script (Taken.Bytes c)) same answer, ap (λ found. run_work rows found start (Taken.Bytes c)) named)
+script_answer m k n name ty script b rows t start (Err (F.Input Role.Script T.Absent)) named same lacks faults answer =
+    (Taken.Absent, subst (λ (x : Option (List (List ℕ × List ℕ))). MayBe x script Taken.Absent) same answer.1, (ap (λ found. run_work rows found start Taken.Absent) named, let rose = answer.2 in omega arith))
+script_answer m k n name ty script b rows t start (Err (F.Input Role.Script T.Long)) named same lacks faults answer =
+    (Taken.Long, subst (λ (x : Option (List (List ℕ × List ℕ))). MayBe x script Taken.Long) same answer.1, (ap (λ found. run_work rows found start Taken.Long) named, let rose = answer.2 in omega arith))
+script_answer m k n name ty script b rows t start (Err (F.Input Role.Script T.Failed)) named same lacks faults answer =
+    let some = some_taken m.files script in
+    (some.0, some.1, (let rose = answer.1 in omega arith, record { bytes = b; rows = rows; schema = refl; verdict = refl; number = t.0; named = named }))
+script_answer m k n name ty script b rows t start (Err (F.Input Role.Schema T.Absent)) named same lacks faults answer = absurd (other_role (sym answer.0))
+script_answer m k n name ty script b rows t start (Err (F.Input Role.Schema T.Long)) named same lacks faults answer = absurd (other_role (sym answer.0))
+script_answer m k n name ty script b rows t start (Err (F.Input Role.Schema T.Failed)) named same lacks faults answer = absurd (other_role (sym answer.0))
+script_answer m k n name ty script b rows t start (Err (F.Input Role.Value T.Absent)) named same lacks faults answer = absurd (value_script answer.0)
+script_answer m k n name ty script b rows t start (Err (F.Input Role.Value T.Long)) named same lacks faults answer = absurd (value_script answer.0)
+script_answer m k n name ty script b rows t start (Err (F.Input Role.Value T.Failed)) named same lacks faults answer = absurd (value_script answer.0)
+script_answer m k n name ty script b rows t start (Err F.Memory) named same lacks faults answer = let some = some_taken m.files script in (some.0, some.1, tt)
+script_answer m k n name ty script b rows t start (Err F.Words) named same lacks faults answer = absurd answer
+script_answer m k n name ty script b rows t start (Err (F.Schema f)) named same lacks faults answer = absurd answer
+script_answer m k n name ty script b rows t start (Err F.Store) named same lacks faults answer = absurd answer
+script_answer m k n name ty script b rows t start (Err (F.Clash id)) named same lacks faults answer = absurd answer
+script_answer m k n name ty script b rows t start (Err (F.Value r)) named same lacks faults answer = absurd answer
+script_answer m k n name ty script b rows t start (Err (F.Root id why)) named same lacks faults answer = absurd answer
+
+script_ready : (rows : List Row) (t : TypeNo) (start : Start) (result : Result (List ℕ) Fault) → t.0 < length rows → IfOk (script_task rows t start result) IsReady
+script_ready rows t start (Ok b) within = within
+script_ready rows t start (Err f) within = tt
+
+pub opens_script : (k n : Supply) (rows : List Row) (ty script : List ℕ) (t : TypeNo) (start : Start) (result : Result (List ℕ) Fault) → number_named ty rows ≡ Some t.0 → t.0 < length rows
+    → TakesInput k Role.Script script result n → OpensBehind k rows (λ name. runs name ty start script) (script_task rows t start result) n
+opens_script k n rows ty script t start result named within takes m name b is compiles after =
+    let x = script_answer m k n name ty script b rows t start result named after.files after.lacks after.faults takes.answer in
+    record {
+      taking = value_taking b rows x.0;
+      taken = record { input = all_roles (runs name ty start script) m (Taken.Bytes b) x.0 is x.1; verdict = compiles };
+      answer = x.2;
+      ready = script_ready rows t start result within;
+      after = After-trans m k n after takes.after;
+    }
+
+pub opens_unscripted : (k : Supply) (rows : List Row) (ty : List ℕ) (start : Start) (script : List ℕ) → number_named ty rows ≡ None → OpensBehind k rows (λ name. runs name ty start script) (Err F.Words) k
+opens_unscripted k rows ty start script none m name b is compiles after =
+    opens_with m k (runs name ty start script) name b rows (Err F.Words) refl is compiles (λ t. ap (λ found. run_work rows found start t) none) tt after
 
 -- the type that has a name is in the table
 found_within : {A : Type 0} (p : A → Bool) (xs : List A) (k : ℕ) → IfSome (position_from p k xs) (λ i. i < k + length xs)

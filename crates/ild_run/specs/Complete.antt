@@ -1,5 +1,5 @@
 -- A call that nothing outside stands in the way of does all that its words ask for, unless memory is wanting.
-use Rattle.std.specs.Prelude.{◌≡◌, ◌≢◌, ◌⊎◌, ℕ, List, [], true, Option, Some, None, Contains, if◌then◌else◌}
+use Rattle.std.specs.Prelude.{◌≡◌, ◌⊎◌, ℕ, List, Option, Some, None, Contains, if◌then◌else◌}
 use Rattle.std.specs.List.{list_any}
 use Rattle.ild_compile.specs.Compile.{Compiles, table}
 use Rattle.ild_run_create.specs.Makes.{Makes}
@@ -12,8 +12,9 @@ use Rattle.ild_edges.specs.Sink.{Appends}
 use Rattle.ild_edges.specs.Store.{Moment, block_at}
 use Rattle.ild_edges.specs.Told.{IfTold}
 use Rattle.ild_edges.specs.declared.inputs.Taken.TheVariants as Taken
-use Rattle.ild_run_plain.specs.Plain.{line_due}
-use Rattle.ild_run_plain.specs.Value.{Value, blocks_of}
+use Rattle.ild_path_edits.specs.Judged.{Tests, AreTests}
+use Rattle.ild_run_open.specs.declared.start.Start.{Start}
+use Rattle.ild_run_script.specs.Plainly.{MayCome, StartsAt, plain_due}
 use Rattle.ild_json.specs.Printing.{json_text}
 use Rattle.ild_schema.specs.Slots.{plainly}
 use Rattle.ild_typed.specs.Shown.{shown}
@@ -27,8 +28,7 @@ use Rattle.ild_script.specs.Line.{lines_of}
 use Rattle.ild_script.specs.Reply.{is_no, reply_text}
 use Rattle.ild_script_session.specs.Session.{State, idle}
 use Rattle.ild_script_session.specs.Run.{texts}
-use Rattle.ild_script_session.specs.Plain.{PlainRun, MayPut, AreApart}
-use Rattle.ild_run.specs.Built.{is_built}
+use Rattle.ild_script_session.specs.Plain.{PlainRun, AreApart}
 use Rattle.ild_typed.specs.Stands.{bare, root_id, blocks_of as typed_blocks, Stands}
 use Rattle.ild_run.specs.Words.{checks, runs, creates, shows}
 use Rattle.ild_run.specs.Listed.{Lists}
@@ -37,37 +37,40 @@ use Rattle.ild_run.specs.Ended.{Call}
 use Rattle.ild_run.specs.declared.status.Status.{Status}
 use Rattle.ild_run.specs.declared.status.Status.TheVariants as S
 
--- the words ask for a run, the inputs tell and hold what they name, and the schema is one that scripts are run under
-pub record IsGiven (c : Call) (script : List ℕ) : Type 0 where
+-- the words ask for a run; the inputs tell and hold what they name; the schema is accepted, has the type, and these are tests of it; and the
+-- script starts from this value, which stands under the root in a store that tells what it holds, or is the empty one
+pub record IsGiven (c : Call) (tests : Tests) (v : Typed) (script : List ℕ) : Type 0 where
   pub schema_name : List ℕ
+  pub type_name : List ℕ
+  pub start : Start
   pub script_name : List ℕ
-  pub job : c.job ≡ Some (runs schema_name script_name)
+  pub job : c.job ≡ Some (runs schema_name type_name start script_name)
   pub files : List (List ℕ × List ℕ)
   pub told : c.before.supply.files ≡ Some files
   pub schema : List ℕ
   pub schema_held : taken_of (file_at files schema_name) ≡ Taken.Bytes schema
   pub rows : List Row
   pub compiles : Compiles schema (table rows)
-  pub built : is_built rows ≡ true
+  pub tested : AreTests rows tests
+  pub type : TypeNo
+  pub named : number_named type_name rows ≡ Some type.0
   pub script_held : taken_of (file_at files script_name) ≡ Taken.Bytes script
+  pub held : List (List ℕ)
+  pub store : c.before.moment.blocks ≡ Some held
+  pub starts : StartsAt rows type start held v
 
--- a block that a run of this script may put: the empty map's, or one of its lines
-abbrev pub MayCome : List ℕ → List ℕ → Type 0
-MayCome script b = Contains (blocks_of []) b ⊎ MayPut line_due (idle []) (lines_of script) b
-
--- no count of faults rose, the store tells what it holds, and no block that may come collides with one that it holds
-pub record IsUndisturbed (c : Call) (script : List ℕ) : Type 0 where
+-- no count of faults rose, and no block that may come collides with one that the store holds
+pub record IsUndisturbed (c : Call) (rows : List Row) (n : TypeNo) (tests : Tests) (start : Start) (v : Typed) (script : List ℕ) : Type 0 where
   pub inputs : Rose c.before.supply.faults c.after.supply.faults → ⊥
   pub store : Rose c.before.moment.faults c.after.moment.faults → ⊥
   pub sink : Rose c.before.output.faults c.after.output.faults → ⊥
-  pub told : c.before.moment.blocks ≢ None
-  pub apart : AreApart c.after.moment (MayCome script)
+  pub apart : AreApart c.after.moment (MayCome rows n tests start v script)
 
--- every line of the script was answered as on the plain value from the empty map on, and all replies were written
-pub record AnswersPlainly (c : Call) (script : List ℕ) (status : Status) : Type 0 where
+-- every line of the script was answered as on the plain value, or `no 14 memory`, and all replies were written
+pub record AnswersPlainly (c : Call) (rows : List Row) (n : TypeNo) (tests : Tests) (v : Typed) (script : List ℕ) (status : Status) : Type 0 where
   pub replies : List Reply
-  pub last : State Value
-  pub run : PlainRun line_due (idle []) (lines_of script) replies last
+  pub last : State Typed
+  pub run : PlainRun (plain_due rows n tests) (idle v) (lines_of script) replies last
   pub written : Appends c.before.output.written c.after.output.written (texts replies)
   pub status_is : status ≡ (if list_any is_no replies then S.Refused else S.Done)
 
@@ -156,15 +159,14 @@ ShowsPlainly c rows n v status = ShownBy c status (json_text (shown rows (plainl
 -- a script is answered plainly, the names of an accepted schema are listed, a value that a store can hold is created, and one that stands
 -- under a root is shown
 pub record IsComplete (c : Call) (status : Status) : Type 0 where
-  pub runs : (script : List ℕ) → IsGiven c script → IsUndisturbed c script → (status ≡ S.Memory) ⊎ AnswersPlainly c script status
+  pub runs : (tests : Tests) (v : Typed) (script : List ℕ) (given : IsGiven c tests v script) → IsUndisturbed c given.rows given.type tests given.start v script → (status ≡ S.Memory) ⊎ AnswersPlainly c given.rows given.type tests v script status
   pub checks : (rows : List Row) → IsGivenSchema c rows → IsCalm c → (status ≡ S.Memory) ⊎ ((status ≡ S.Done) × Lists (declared_names rows) c.before.output c.after.output)
   pub creates : (v : Typed) (d : Data) (given : IsGivenValue c v d) → LetsCreate c given.rows given.type v d → (status ≡ S.Memory) ⊎ CreatesPlainly c given.rows given.type v d status
   pub shows : (v : Typed) (given : IsGivenRoot c v) → LetsShow c → (status ≡ S.Memory) ⊎ ShowsPlainly c given.rows given.type v status
 
--- The premise on collisions can be met: where a store holds none but blocks that may come, as one does that held nothing
--- before, it is enough that no two of these have one id.
+-- The premise on collisions can be met: where all that a store holds, and all that may come, are among blocks of which no two have one id.
 abbrev pub CanBeApart : Type 0
-CanBeApart = (script : List ℕ) (n : Moment) (held : List (List ℕ)) → n.blocks ≡ Some held
-    → ((id b : List ℕ) → block_at held id ≡ Some b → MayCome script b)
-    → ((a b : List ℕ) → MayCome script a → MayCome script b → id_of a ≡ id_of b → a ≡ b)
-    → AreApart n (MayCome script)
+CanBeApart = (rows : List Row) (ty : TypeNo) (tests : Tests) (start : Start) (v : Typed) (script : List ℕ) (own : List (List ℕ)) (n : Moment) (held : List (List ℕ)) → n.blocks ≡ Some held
+    → ((id b : List ℕ) → block_at held id ≡ Some b → Contains own b) → ((b : List ℕ) → MayCome rows ty tests start v script b → Contains own b)
+    → ((a b : List ℕ) → Contains own a → Contains own b → id_of a ≡ id_of b → a ≡ b)
+    → AreApart n (MayCome rows ty tests start v script)

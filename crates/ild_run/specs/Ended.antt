@@ -1,10 +1,9 @@
 -- How a call ends: the status, what is written, and the cause.
-use Rattle.std.specs.Prelude.{◌≡◌, ◌⊎◌, ℕ, ◌+◌, ◌≤◌, List, [], ◌++◌, Bool, true, false, Option, Some, None}
-use Rattle.std.specs.List.{list_any}
+use Rattle.std.specs.Prelude.{◌≡◌, ◌⊎◌, ℕ, List, Bool, true, false, Option, Some, None}
 use Rattle.ild_edges.specs.Count.{Rose}
 use Rattle.ild_edges.specs.Inputs.{Supply}
 use Rattle.ild_edges.specs.Sink.{Output, Appends, AppendsFront}
-use Rattle.ild_edges.specs.Store.{Moment, Later}
+use Rattle.ild_edges.specs.Store.{Moment}
 use Rattle.ild_run_create.specs.Creates.{Tries as TriesToCreate, Created, Clashes}
 use Rattle.ild_run_create.specs.Refuses.{IsFirst}
 use Rattle.ild_run_create.specs.declared.fault.Refusal.{Refusal}
@@ -13,22 +12,21 @@ use Rattle.ild_schema.specs.declared.number.TypeNo.{TypeNo}
 use Rattle.ild_schema.specs.declared.row.Row.{Row}
 use Rattle.ild_script.specs.declared.reply.Reply.{Reply}
 use Rattle.ild_script.specs.declared.reply.Reply.TheVariants as R
-use Rattle.ild_script.specs.Line.{lines_of}
-use Rattle.ild_script.specs.Reply.{is_no, reply_text}
-use Rattle.ild_run_plain.specs.Value.{Value, root_of, blocks_of}
-use Rattle.ild_run_plain.specs.Plain.{plain_map}
-use Rattle.ild_script_session.specs.Session.{Stage, resting, left}
-use Rattle.ild_script_session.specs.Step.{Holds, Collides, Carries}
-use Rattle.ild_script_session.specs.Run.{Run, texts, most_gets, most_puts}
+use Rattle.ild_script.specs.Reply.{reply_text}
 use Rattle.ild_compile.specs.declared.error.SchemaFault.{SchemaFault}
 use Rattle.ild_run.specs.Words.{Job}
 use Rattle.ild_data.specs.declared.id.BlockId.{BlockId}
-use Rattle.ild_run.specs.First.{Tries}
+use Rattle.ild_run_create.specs.declared.fault.Refusal.TheVariants as N
+use Rattle.ild_run_open.specs.Starts.{Asks, Stops}
+use Rattle.ild_run_open.specs.declared.start.Start.{Start}
+use Rattle.ild_run_open.specs.declared.start.StartFault.{StartFault}
+use Rattle.ild_run_open.specs.declared.start.StartFault.TheVariants as P
+use Rattle.ild_run_script.specs.Scripts.{AnswersAll as ScriptAll, AnswersSome as ScriptSome}
 use Rattle.ild_cbor.specs.declared.why.BlockWhy.{BlockWhy}
 use Rattle.ild_open_parts.specs.Reads.{OnlyReads}
 use Rattle.ild_run_show.specs.Shows.{HasShown, NotOpened}
 use Rattle.ild_run.specs.Shown.{hash, reserved}
-use Rattle.ild_run.specs.Work.{Work, Taking, ends, lists, answers, makes, opens, work_of, AreTaken, Reaches}
+use Rattle.ild_run.specs.Work.{Taking, ends, lists, answers, makes, opens, work_of, AreTaken, Reaches}
 use Rattle.ild_run.specs.Fault.{fault_text}
 use Rattle.ild_run.specs.Listed.{Lists, ListsFront}
 use Rattle.ild_run.specs.declared.fault.Fault.{Fault}
@@ -56,13 +54,24 @@ abbrev pub call_of : Option Job → Supply → Moment → Output → Supply → 
 call_of job supply moment output supply' moment' output' =
     record { job = job; before = record { supply = supply; moment = moment; output = output }; after = record { supply = supply'; moment = moment'; output = output' } }
 
--- there are lines to answer
-abbrev pub HasScript : Work → Type 0
-HasScript (ends f) = ⊥
-HasScript (lists names) = ⊥
-HasScript (answers b) = Unit {0}
-HasScript (makes rows n b) = ⊥
-HasScript (opens rows n id) = ⊥
+-- a script was to be run, and nothing was asked of the store but what opening its document asks
+pub record AsksScript (c : Call) (t : Taking) : Type 0 where
+  pub rows : List Row
+  pub type : TypeNo
+  pub start : Start
+  pub bytes : List ℕ
+  pub work : work_of c.job t ≡ answers rows type start bytes
+  pub asks : Asks hash rows type start c.before.moment c.after.moment
+
+-- a script couldn't start, with this cause
+pub record StopsScript (c : Call) (t : Taking) (f : StartFault) : Type 0 where
+  pub rows : List Row
+  pub table : IsTable rows
+  pub type : TypeNo
+  pub start : Start
+  pub bytes : List ℕ
+  pub work : work_of c.job t ≡ answers rows type start bytes
+  pub stops : Stops hash rows type start c.before.moment f c.after.moment
 
 -- the input makes a value of the type, and nothing was asked of the store but to keep blocks of it
 pub record TriesValue (c : Call) (t : Taking) : Type 0 where
@@ -111,56 +120,41 @@ pub record LacksRoot (c : Call) (t : Taking) (id : List ℕ) (why : BlockWhy) : 
 abbrev pub IsDue : Call → Taking → Fault → Type 0
 IsDue c t (F.Input role T.Failed) = Rose c.before.supply.faults c.after.supply.faults × Reaches role c.job t
 IsDue c t (F.Input role trouble) = (work_of c.job t ≡ ends (F.Input role trouble)) × Rose c.before.supply.lacks c.after.supply.lacks
-IsDue c t F.Store = Rose c.before.moment.faults c.after.moment.faults × (HasScript (work_of c.job t) ⊎ (TriesValue c t ⊎ ReadsRoot c t))
-IsDue c t (F.Clash id) = ((id.0 ≡ root_of []) × Collides c.after.moment (blocks_of []) × HasScript (work_of c.job t)) ⊎ ClashesValue c t id.0
-IsDue c t (F.Value r) = RefusesValue c t r
-IsDue c t (F.Root id why) = LacksRoot c t id.0 why
+IsDue c t F.Store = Rose c.before.moment.faults c.after.moment.faults × (AsksScript c t ⊎ (TriesValue c t ⊎ ReadsRoot c t))
+IsDue c t (F.Clash id) = StopsScript c t (P.Clash id) ⊎ ClashesValue c t id.0
+IsDue c t (F.Value r) = ((r ≡ N.Mismatch) × StopsScript c t P.Mismatch) ⊎ RefusesValue c t r
+IsDue c t (F.Root id why) = StopsScript c t (P.Block id why) ⊎ LacksRoot c t id.0 why
 IsDue c t F.Memory = Unit {0}
 IsDue c t f = work_of c.job t ≡ ends f
 
--- What a fault leaves of the store: it is as it was, unless the call came to its first value, to a new one, or to a root; then
--- nothing was asked of the store but to keep the first value's block, or blocks of the new one, or to get blocks.
+-- What a fault leaves of the store: it is as it was, unless the call came to a script's document, to a new value, or to a root; then
+-- nothing was asked of the store but what opening the document asks, to keep blocks of the new value, or to get blocks.
 abbrev pub Leaves : Call → Taking → Fault → Type 0
-Leaves c t F.Store = Tries (blocks_of []) c.before.moment c.after.moment ⊎ (TriesValue c t ⊎ ReadsRoot c t)
-Leaves c t (F.Clash id) = Tries (blocks_of []) c.before.moment c.after.moment ⊎ TriesValue c t
-Leaves c t (F.Root id why) = ReadsRoot c t
-Leaves c t F.Memory =
-    (c.after.moment ≡ c.before.moment) ⊎ ((HasScript (work_of c.job t) × Tries (blocks_of []) c.before.moment c.after.moment) ⊎ (TriesValue c t ⊎ ReadsRoot c t))
+Leaves c t F.Store = AsksScript c t ⊎ (TriesValue c t ⊎ ReadsRoot c t)
+Leaves c t (F.Clash id) = AsksScript c t ⊎ TriesValue c t
+Leaves c t (F.Root id why) = AsksScript c t ⊎ ReadsRoot c t
+Leaves c t F.Memory = (c.after.moment ≡ c.before.moment) ⊎ (AsksScript c t ⊎ (TriesValue c t ⊎ ReadsRoot c t))
 Leaves c t f = c.after.moment ≡ c.before.moment
 
--- The empty map's block was put, and these lines were answered from it. All in all there were no more gets and puts than the
--- lines' bounds together, and that one put.
-pub record Answers (c : Call) (lines : List (List ℕ)) (replies : List Reply) (last : Stage Value) : Type 0 where
-  pub opened : Moment
-  pub later : Later c.before.moment opened
-  pub carried : Carries plain_map opened (resting [])
-  pub tries : Tries (blocks_of []) c.before.moment opened
-  pub run : Run plain_map opened (resting []) lines replies c.after.moment last
-  pub gets : c.after.moment.gets ≤ c.before.moment.gets + most_gets plain_map opened (resting []) lines replies c.after.moment last run
-  pub puts : c.after.moment.puts ≤ c.before.moment.puts + 1 + most_puts plain_map opened (resting []) lines replies c.after.moment last run
-
--- every line of the script was answered, and all replies were written; the value that the script leaves is held
+-- every line of the script was answered, and all replies were written
 pub record AnswersAll (c : Call) (t : Taking) (refused : Bool) : Type 0 where
+  pub rows : List Row
+  pub table : IsTable rows
+  pub type : TypeNo
+  pub start : Start
   pub bytes : List ℕ
-  pub work : work_of c.job t ≡ answers bytes
-  pub replies : List Reply
-  pub last : Stage Value
-  pub answered : Answers c (lines_of bytes) replies last
-  pub stands : Holds c.after.moment (blocks_of (left last.state))
-  pub written : Appends c.before.output.written c.after.output.written (texts replies)
-  pub refused_is : refused ≡ list_any is_no replies
+  pub work : work_of c.job t ≡ answers rows type start bytes
+  pub all : ScriptAll rows type start bytes c.before.moment c.before.output refused c.after.moment c.after.output
 
 -- the first lines of the script were answered, and a front of their replies was written
 pub record AnswersSome (c : Call) (t : Taking) : Type 0 where
+  pub rows : List Row
+  pub table : IsTable rows
+  pub type : TypeNo
+  pub start : Start
   pub bytes : List ℕ
-  pub work : work_of c.job t ≡ answers bytes
-  pub first : List (List ℕ)
-  pub rest : List (List ℕ)
-  pub lines : lines_of bytes ≡ first ++ rest
-  pub replies : List Reply
-  pub last : Stage Value
-  pub answered : Answers c first replies last
-  pub written : AppendsFront c.before.output.written c.after.output.written (texts replies)
+  pub work : work_of c.job t ≡ answers rows type start bytes
+  pub some : ScriptSome rows type start bytes c.before.moment c.before.output c.after.moment c.after.output
 
 -- a fault was due, and its line was written
 pub record Tells (c : Call) (t : Taking) (f : Fault) : Type 0 where
@@ -245,7 +239,7 @@ abbrev pub Says : Call → Taking → Status → Type 0
 Says c t S.Done = AnswersAll c t false ⊎ (ListsNames c t ⊎ (CreatesValue c t ⊎ ((json : List ℕ) × ShowsRoot c t (Some json))))
 Says c t S.Refused = AnswersAll c t true ⊎ ShowsRoot c t None
 Says c t S.Words = Tells c t F.Words
-Says c t S.Schema = Tells c t F.NotBuilt ⊎ ((f : SchemaFault) × Tells c t (F.Schema f))
+Says c t S.Schema = (f : SchemaFault) × Tells c t (F.Schema f)
 Says c t S.Root = (id : BlockId) × (why : BlockWhy) × Tells c t (F.Root id why)
 Says c t S.Input = (role : Role) × (trouble : Trouble) × Tells c t (F.Input role trouble)
 Says c t S.StoreFault = Tells c t F.Store ⊎ ((id : BlockId) × Tells c t (F.Clash id))

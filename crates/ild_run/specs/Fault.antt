@@ -21,7 +21,6 @@ use Rattle.ild_run.specs.declared.status.Status.TheVariants as S
 
 abbrev pub status_of : Fault → Status
 status_of F.Words = S.Words
-status_of F.NotBuilt = S.Schema
 status_of (F.Schema f) = S.Schema
 status_of (F.Input role trouble) = S.Input
 status_of F.Store = S.StoreFault
@@ -64,7 +63,6 @@ block_text (B.Shape why) = codes "fault 4 root shape "
 -- the line of a fault, with its line feed
 abbrev pub fault_text : Fault → List ℕ
 fault_text F.Words = codes "fault 2 words\n"
-fault_text F.NotBuilt = codes "fault 3 schema notbuilt\n"
 fault_text (F.Schema f) = schema_text f
 fault_text (F.Input role trouble) = input_text role trouble
 fault_text F.Store = codes "fault 6 store\n"

@@ -1,13 +1,11 @@
-pub mod RootText
 pub mod Words
-pub mod Built
 pub mod Work
-pub mod First
 pub mod Fault
 pub mod Cut
 pub mod Listed
 pub mod Opening
 pub mod Shown
 pub mod Made
+pub mod Answered
 pub mod Ended
 pub mod Complete

@@ -1,15 +1,10 @@
 -- What each step before the lines answers.
 use Rattle.std.specs.Prelude.{◌≡◌, ◌<◌, ℕ, List, length, Option, None, option_map, Result, Ok, Err, IfOk}
 use Rattle.ild_compile.specs.Compile.{table, faulty, Compiles}
-use Rattle.ild_data.specs.Spell.{id_of}
-use Rattle.ild_data.specs.declared.fault.TextErr.{TextErr}
-use Rattle.ild_data.specs.declared.fault.TextErr.TheVariants as E
 use Rattle.ild_data.specs.declared.id.BlockId.{BlockId}
 use Rattle.ild_edges.specs.Count.{Rose}
 use Rattle.ild_edges.specs.Inputs.{Supply, After, MayBe}
-use Rattle.ild_edges.specs.Store.{Moment, Later}
 use Rattle.ild_edges.specs.declared.inputs.Taken.{Taken}
-use Rattle.ild_run_plain.specs.Value.{Value, block_of, blocks_of}
 use Rattle.ild_schema.specs.Names.{declared_names}
 use Rattle.ild_schema.specs.declared.row.Row.{Row}
 use Rattle.ild_run.specs.declared.fault.Fault.{Fault}
@@ -20,16 +15,15 @@ use Rattle.ild_run.specs.declared.open.Job.{Job as Held}
 use Rattle.ild_run.specs.declared.open.Job.TheVariants as J
 use Rattle.ild_run.specs.declared.open.Task.{Task}
 use Rattle.ild_run.specs.declared.open.Task.TheVariants as P
-use Rattle.ild_script_session.specs.Step.{Holds, Collides}
-use Rattle.ild_run.specs.Words.{Job, checks, runs, creates, shows}
-use Rattle.ild_run.specs.First.{Tries}
-use Rattle.ild_run.specs.RootText.{root_of_text}
+use Rattle.ild_run_open.specs.declared.start.Start.{Start}
+use Rattle.ild_run.specs.Words.{Job, checks, runs, creates, shows, start_of_text}
+use Rattle.ild_data_root.specs.Root.{root_of_text}
 use Rattle.ild_run.specs.Work.{Work, Taking, ends, lists, answers, makes, opens, job_work, IsTaking, Takes}
 
 -- the job that the program holds
 abbrev pub job_seen : Held → Job
 job_seen (J.Check schema) = checks schema.now
-job_seen (J.Run schema script) = runs schema.now script.now
+job_seen (J.Run schema ty start script) = runs schema.now ty.now start script.now
 job_seen (J.New schema ty value) = creates schema.now ty.now value.now
 job_seen (J.Show schema ty root) = shows schema.now ty.now root.0
 
@@ -38,17 +32,13 @@ abbrev pub AsksFor : Option Job → Result (Option Held) Fault → Type 0
 AsksFor job (Ok found) = option_map job_seen found ≡ job
 AsksFor job (Err f) = f ≡ F.Memory
 
--- a text that is no CID's stands for no root
-abbrev pub no_root : TextErr → Result (Option BlockId) Fault
-no_root E.Memory = Err F.Memory
-no_root E.Prefix = Ok None
-no_root E.Digit = Ok None
-no_root E.Bits = Ok None
-no_root (E.Cid fault) = Ok None
-
 abbrev pub AsksRoot : List ℕ → Result (Option BlockId) Fault → Type 0
 AsksRoot text (Ok found) = option_map (λ (id : BlockId). id.0) found ≡ root_of_text text
 AsksRoot text (Err f) = f ≡ F.Memory
+
+abbrev pub AsksStart : List ℕ → Result (Option Start) Fault → Type 0
+AsksStart text (Ok found) = found ≡ start_of_text text
+AsksStart text (Err f) = f ≡ F.Memory
 
 abbrev pub InputAnswer : Supply → Role → List ℕ → Result (List ℕ) Fault → Supply → Type 0
 InputAnswer m role name (Ok b) n = MayBe m.files name (Taken.Bytes b)
@@ -75,7 +65,6 @@ abbrev pub InputsFault : Supply → Job → Taking → Fault → Supply → Type
 InputsFault m job t (F.Input role T.Failed) n = Rose m.faults n.faults × Takes role job t
 InputsFault m job t (F.Input role trouble) n = (job_work job t ≡ ends (F.Input role trouble)) × Rose m.lacks n.lacks
 InputsFault m job t F.Words n = job_work job t ≡ ends F.Words
-InputsFault m job t F.NotBuilt n = job_work job t ≡ ends F.NotBuilt
 InputsFault m job t (F.Schema f) n = job_work job t ≡ ends (F.Schema f)
 InputsFault m job t F.Memory n = Unit {0}
 InputsFault m job t f n = ⊥
@@ -83,14 +72,14 @@ InputsFault m job t f n = ⊥
 -- the work that a task is
 abbrev pub work_seen : Task → Work
 work_seen (P.List rows) = lists (declared_names rows)
-work_seen (P.Answer b) = answers b
+work_seen (P.Answer rows n start b) = answers rows n start b
 work_seen (P.Create rows n b) = makes rows n b
 work_seen (P.Show rows n id) = opens rows n id.0
 
--- a value that is to be created or shown has a type of its table
+-- a value has a type of its table
 abbrev pub IsReady : Task → Type 0
 IsReady (P.List rows) = Unit {0}
-IsReady (P.Answer b) = Unit {0}
+IsReady (P.Answer rows n start b) = n.0 < length rows
 IsReady (P.Create rows n b) = n.0 < length rows
 IsReady (P.Show rows n id) = n.0 < length rows
 
@@ -110,16 +99,3 @@ pub record Opens (m : Supply) (job : Job) (result : Result Task Fault) (n : Supp
 abbrev pub OpensBehind : Supply → List Row → (List ℕ → Job) → Result Task Fault → Supply → Type 0
 OpensBehind k rows job result n =
     (m : Supply) (name bytes : List ℕ) → MayBe m.files name (Taken.Bytes bytes) → Compiles bytes (table rows) → After m k → Opens m (job name) result n
-
-abbrev pub FirstAnswer : Moment → Value → Result (Unit {0}) Fault → Moment → Type 0
-FirstAnswer m v (Ok _) n = Holds n (blocks_of v)
-FirstAnswer m v (Err F.Store) n = Rose m.faults n.faults
-FirstAnswer m v (Err (F.Clash id)) n = (id.0 ≡ id_of (block_of v)) × Collides n (blocks_of v)
-FirstAnswer m v (Err F.Memory) n = Unit {0}
-FirstAnswer m v (Err f) n = ⊥
-
--- putting the first value's block
-pub record PutsFirst (m : Moment) (v : Value) (result : Result (Unit {0}) Fault) (n : Moment) : Type 0 where
-  pub answer : FirstAnswer m v result n
-  pub later : Later m n
-  pub tries : Tries (blocks_of v) m n

@@ -1,15 +1,17 @@
 -- The words of a call.
-use Rattle.std.specs.Prelude.{ℕ, List, [], ◌∷◌, map, ◌&&◌, Option, Some, None, option_map, if◌then◌else◌, codes, String, string_bytes}
+use Rattle.std.specs.Prelude.{ℕ, List, [], ◌∷◌, map, Option, Some, None, option_map, if◌then◌else◌, codes, String, string_bytes}
 use Rattle.std.specs.declared.alloc.Global.{Global}
 use Rattle.ild_data.specs.Key.{same_text}
-use Rattle.ild_run.specs.RootText.{root_of_text}
+use Rattle.ild_run_open.specs.declared.start.Start.{Start}
+use Rattle.ild_run_open.specs.declared.start.Start.TheVariants as S
+use Rattle.ild_data_root.specs.Root.{root_of_text}
 use Rattle.ild_run.specs.declared.fault.Role.{Role}
 
--- What words ask for, with the names of its inputs: a schema is checked, a script is run under a schema, a value of a schema's type
--- with this name, its second, is created, or the value of such a type that stands under a block id, its third, is shown.
+-- What words ask for, with the names of its inputs: a schema is checked; on a value of a schema's type with this name, its second, which
+-- starts so, a script is run; a value of such a type is created; or the one that stands under a block id, its third, is shown.
 pub data Job : Type 0 where
   checks : List ℕ → Job
-  runs : List ℕ → List ℕ → Job
+  runs : List ℕ → List ℕ → Start → List ℕ → Job
   creates : List ℕ → List ℕ → List ℕ → Job
   shows : List ℕ → List ℕ → List ℕ → Job
 
@@ -20,12 +22,19 @@ typed_job verb schema ty last =
     else if same_text verb (codes "show") then option_map (shows schema ty) (root_of_text last)
     else None
 
--- `check SCHEMA`, these two, and `run SCHEMA N - SCRIPT`
+-- where a script starts: `-`, from the empty value, or ROOT
+abbrev pub start_of_text : List ℕ → Option Start
+start_of_text text = if same_text text (codes "-") then Some S.Empty else option_map (λ id. S.Root (record { 0 = id })) (root_of_text text)
+
+-- `run SCHEMA TYPE ROOT SCRIPT`, and `run SCHEMA TYPE - SCRIPT`
+abbrev pub run_job : List ℕ → List ℕ → List ℕ → List ℕ → List ℕ → Option Job
+run_job verb schema ty start script = if same_text verb (codes "run") then option_map (λ s. runs schema ty s script) (start_of_text start) else None
+
+-- `check SCHEMA`, and these
 abbrev pub job_in : List (List ℕ) → Option Job
 job_in (verb ∷ schema ∷ []) = if same_text verb (codes "check") then Some (checks schema) else None
 job_in (verb ∷ schema ∷ ty ∷ last ∷ []) = typed_job verb schema ty last
-job_in (verb ∷ schema ∷ ty ∷ root ∷ script ∷ []) =
-    if same_text verb (codes "run") && (same_text ty (codes "N") && same_text root (codes "-")) then Some (runs schema script) else None
+job_in (verb ∷ schema ∷ ty ∷ start ∷ script ∷ []) = run_job verb schema ty start script
 job_in words = None
 
 abbrev pub job_of : List (String Global) → Option Job
@@ -34,14 +43,14 @@ job_of words = job_in (map string_bytes words)
 -- the name of the input that a job takes in a role, where it takes one
 abbrev pub name_of : Role → Job → Option (List ℕ)
 name_of Role.Schema (checks schema) = Some schema
-name_of Role.Schema (runs schema script) = Some schema
+name_of Role.Schema (runs schema ty start script) = Some schema
 name_of Role.Schema (creates schema ty value) = Some schema
 name_of Role.Schema (shows schema ty id) = Some schema
 name_of Role.Script (checks schema) = None
-name_of Role.Script (runs schema script) = Some script
+name_of Role.Script (runs schema ty start script) = Some script
 name_of Role.Script (creates schema ty value) = None
 name_of Role.Script (shows schema ty id) = None
 name_of Role.Value (checks schema) = None
-name_of Role.Value (runs schema script) = None
+name_of Role.Value (runs schema ty start script) = None
 name_of Role.Value (creates schema ty value) = Some value
 name_of Role.Value (shows schema ty id) = None

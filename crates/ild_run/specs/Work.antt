@@ -1,5 +1,5 @@
 -- What a call has to do, by its words and its inputs.
-use Rattle.std.specs.Prelude.{◌≡◌, ℕ, List, Bool, true, false, Option, Some, None}
+use Rattle.std.specs.Prelude.{◌≡◌, ℕ, List, Option, Some, None}
 use Rattle.ild_compile.specs.Compile.{Verdict, table, faulty, Compiles}
 use Rattle.ild_edges.specs.Inputs.{Supply, MayBe}
 use Rattle.ild_edges.specs.declared.inputs.Taken.{Taken}
@@ -10,15 +10,15 @@ use Rattle.ild_run.specs.declared.fault.Fault.{Fault}
 use Rattle.ild_run.specs.declared.fault.Fault.TheVariants as F
 use Rattle.ild_run.specs.declared.fault.Role.{Role}
 use Rattle.ild_run.specs.declared.fault.Trouble.TheVariants as T
-use Rattle.ild_run.specs.Built.{is_built}
+use Rattle.ild_run_open.specs.declared.start.Start.{Start}
 use Rattle.ild_run.specs.Words.{Job, checks, runs, creates, shows, name_of}
 
--- the call ends with a fault, lists names, answers the lines of a script, creates a value of a type of a table from bytes, or opens the
--- value of such a type that stands under a block id
+-- the call ends with a fault, lists names, answers the lines of a script on a value of a type of a table, which starts so, creates a value
+-- of such a type from bytes, or opens the one that stands under a block id
 pub data Work : Type 0 where
   ends : Fault → Work
   lists : List (List ℕ) → Work
-  answers : List ℕ → Work
+  answers : List Row → TypeNo → Start → List ℕ → Work
   makes : List Row → TypeNo → List ℕ → Work
   opens : List Row → TypeNo → List ℕ → Work
 
@@ -34,14 +34,10 @@ in_roles schema other Role.Script = other
 in_roles schema other Role.Value = other
 
 -- the script's input comes last
-abbrev pub script_work : Taken → Work
-script_work Taken.Absent = ends (F.Input Role.Script T.Absent)
-script_work Taken.Long = ends (F.Input Role.Script T.Long)
-script_work (Taken.Bytes b) = answers b
-
-abbrev pub built_work : Bool → Taken → Work
-built_work false script = ends F.NotBuilt
-built_work true script = script_work script
+abbrev pub script_work : List Row → TypeNo → Start → Taken → Work
+script_work rows n start Taken.Absent = ends (F.Input Role.Script T.Absent)
+script_work rows n start Taken.Long = ends (F.Input Role.Script T.Long)
+script_work rows n start (Taken.Bytes b) = answers rows n start b
 
 -- so does a value's
 abbrev pub value_work : List Row → TypeNo → Taken → Work
@@ -54,6 +50,10 @@ abbrev pub type_work : List Row → Option ℕ → Taken → Work
 type_work rows None value = ends F.Words
 type_work rows (Some n) value = value_work rows (record { 0 = n }) value
 
+abbrev pub run_work : List Row → Option ℕ → Start → Taken → Work
+run_work rows None start script = ends F.Words
+run_work rows (Some n) start script = script_work rows (record { 0 = n }) start script
+
 abbrev pub root_work : List Row → Option ℕ → List ℕ → Work
 root_work rows None id = ends F.Words
 root_work rows (Some n) id = opens rows (record { 0 = n }) id
@@ -61,7 +61,7 @@ root_work rows (Some n) id = opens rows (record { 0 = n }) id
 -- what a job does with a table
 abbrev pub table_work : Job → List Row → (Role → Taken) → Work
 table_work (checks schema) rows input = lists (declared_names rows)
-table_work (runs schema script) rows input = built_work (is_built rows) (input Role.Script)
+table_work (runs schema ty start script) rows input = run_work rows (number_named ty rows) start (input Role.Script)
 table_work (creates schema ty value) rows input = type_work rows (number_named ty rows) (input Role.Value)
 table_work (shows schema ty id) rows input = root_work rows (number_named ty rows) id
 
@@ -103,14 +103,6 @@ abbrev pub AreTaken : Option Job → Supply → Taking → Type 0
 AreTaken None supply t = Unit {0}
 AreTaken (Some job) supply t = IsTaking job supply t
 
--- the schema is one that scripts are run under
-pub record IsOpen (t : Taking) : Type 0 where
-  pub bytes : List ℕ
-  pub rows : List Row
-  pub schema : t.input Role.Schema ≡ Taken.Bytes bytes
-  pub verdict : t.verdict ≡ Some (table rows)
-  pub built : is_built rows ≡ true
-
 -- the schema has the type with this name
 pub record IsTypeOpen (ty : List ℕ) (t : Taking) : Type 0 where
   pub bytes : List ℕ
@@ -120,16 +112,16 @@ pub record IsTypeOpen (ty : List ℕ) (t : Taking) : Type 0 where
   pub number : ℕ
   pub named : number_named ty rows ≡ Some number
 
--- a job leads up to taking an input: each to its schema, that of a run, where the schema is open, to the script, and that of a new
--- value, where its type is, to the value
+-- a job leads up to taking an input: each to its schema, and where the type of its value is there, a run to the script, and that of a
+-- new value to the value
 abbrev pub Takes : Role → Job → Taking → Type 0
 Takes Role.Schema job t = Unit {0}
 Takes Role.Script (checks schema) t = ⊥
-Takes Role.Script (runs schema script) t = IsOpen t
+Takes Role.Script (runs schema ty start script) t = IsTypeOpen ty t
 Takes Role.Script (creates schema ty value) t = ⊥
 Takes Role.Script (shows schema ty id) t = ⊥
 Takes Role.Value (checks schema) t = ⊥
-Takes Role.Value (runs schema script) t = ⊥
+Takes Role.Value (runs schema ty start script) t = ⊥
 Takes Role.Value (creates schema ty value) t = IsTypeOpen ty t
 Takes Role.Value (shows schema ty id) t = ⊥
 

@@ -36,7 +36,6 @@ pub enum Trouble {
 #[derive(Clone, Copy)]
 pub enum Fault {
     Words,
-    NotBuilt,
     Schema(SchemaFault),
     Input(Role, Trouble),
     Store,
@@ -118,7 +117,7 @@ impl Fault {
     {
         match self {
             Fault::Words => Status::Words,
-            Fault::NotBuilt | Fault::Schema(_) => Status::Schema,
+            Fault::Schema(_) => Status::Schema,
             Fault::Input(_, _) => Status::Input,
             Fault::Store | Fault::Clash(_) => Status::StoreFault,
             Fault::Memory => Status::Memory,
@@ -150,7 +149,6 @@ pub fn write_fault<W: Sink>(alloc: Global, fault: Fault, out: &mut W) -> Result<
 {
     match fault {
         Fault::Words => write(out, b"fault 2 words\n"),
-        Fault::NotBuilt => write(out, b"fault 3 schema notbuilt\n"),
         Fault::Schema(fault) => match schema_text(alloc, fault) {
             Ok(line) => write(out, line.as_slice()),
             Err(_) => Err(Cut::Memory),

@@ -1,8 +1,6 @@
-//! The top call: a schema is checked, a value of any of its types is created or shown, or a script is run over a plain map from texts
-//! to integers, in one block.
+//! The top call: a schema is checked, a value of any of its types is created or shown, or a script is run on one.
 #![tactic(auto)]
 
-mod built;
 mod fault;
 mod laws;
 mod listed;

@@ -1,25 +1,24 @@
-//! What comes before the lines: the words, the inputs, the schema, and the empty map's block.
+//! What comes before the work: the words, the inputs, and the schema.
 ghost use Rattle.std.specs.Prelude.{◌≡◌, ◌<◌, IfSome, Some, length, option_map};
 ghost use Rattle.ild_schema.specs.Names.{number_named};
-ghost use Rattle.ild_run.specs.Words.{job_of, name_of, typed_job, creates, shows};
-ghost use Rattle.ild_run.specs.Opening.{job_seen, no_root, AsksFor, AsksRoot, CompileAnswer, TakesInput, Opens, OpensBehind, PutsFirst};
+ghost use Rattle.ild_run.specs.Words.{job_of, name_of, typed_job, run_job, creates, runs, shows};
+ghost use Rattle.ild_run.specs.Opening.{job_seen, AsksFor, AsksRoot, AsksStart, CompileAnswer, TakesInput, Opens, OpensBehind};
 
-use crate::built::is_built;
 use crate::fault::{Fault, Role, Trouble};
 use ild_compile::{CompileErr, compile};
-use ild_data::{BlockId, Octets, TextErr, cid_of_text};
-use ild_edges::{EdgeErr, Inputs, Store, Taken};
-use ild_run_plain::PlainMap;
+use ild_data::{BlockId, Octets};
+use ild_data_root::root_of_text;
+use ild_edges::{EdgeErr, Inputs, Taken};
+use ild_run_open::Start;
 use ild_schema::{Accepted, TypeNo};
-use ild_script_session::{PutFault, publish};
 use std::alloc::Global;
 
-/// What the words ask for, with the names of its inputs: the schema's, and for a run the script's; for a new value
-/// its type and its input, and to show one its type and its root.
+/// What the words ask for, with the names of its inputs: the schema's; for a run its type, where it starts and its script; for a new
+/// value its type and its input, and to show one its type and its root.
 #[derive(Clone, Copy)]
 pub enum Job<'w> {
     Check(&'w str),
-    Run(&'w str, &'w str),
+    Run(&'w str, &'w str, Start, &'w str),
     New(&'w str, &'w str, &'w str),
     Show(&'w str, &'w str, BlockId),
 }
@@ -31,30 +30,55 @@ impl Job<'_> {
     {
         match self {
             Job::Check(schema) => schema,
-            Job::Run(schema, _) => schema,
+            Job::Run(schema, _, _, _) => schema,
             Job::New(schema, _, _) => schema,
             Job::Show(schema, _, _) => schema,
         }
     }
 }
 
-/// What is asked for by a text that is no CID's.
-fn no_root(err: TextErr) -> Result<Option<BlockId>, Fault>
-    ensures { result ≡ no_root err }
+/// The id of the block whose CID has a text, if the text is that of one.
+fn asked_root(alloc: Global, text: &str) -> Result<Option<BlockId>, Fault>
+    ensures { AsksRoot text.now result }
 {
-    match err {
-        TextErr::Memory => Err(Fault::Memory),
-        TextErr::Prefix | TextErr::Digit | TextErr::Bits | TextErr::Cid(_) => Ok(None),
+    match root_of_text(alloc, text) {
+        Ok(found) => Ok(found),
+        Err(_) => Err(Fault::Memory),
     }
 }
 
-/// The id of the block whose CID has a text, if the text is that of one.
-fn root_of_text(alloc: Global, text: &str) -> Result<Option<BlockId>, Fault>
-    ensures { AsksRoot text.now result }
+/// Where a script starts by a word: from the empty value by `-`, or from the block whose CID has this text.
+fn start_of_text(alloc: Global, text: &str) -> Result<Option<Start>, Fault>
+    ensures { AsksStart text.now result }
 {
-    match cid_of_text(alloc, text) {
-        Ok(cid) => Ok(cid.view().block()),
-        Err(err) => no_root(err),
+    if text == "-" {
+        return Ok(Some(Start::Empty));
+    }
+    match asked_root(alloc, text) {
+        Ok(Some(root)) => Ok(Some(Start::Root(root))),
+        Ok(None) => Ok(None),
+        Err(fault) => Err(fault),
+    }
+}
+
+/// What five words ask for: that a script is run.
+fn run_job<'w>(
+    alloc: Global,
+    verb: &str,
+    schema: &'w str,
+    ty: &'w str,
+    start: &str,
+    script: &'w str,
+) -> Result<Option<Job<'w>>, Fault>
+    ensures { AsksFor (run_job verb.now schema.now ty.now start.now script.now) result }
+{
+    if verb != "run" {
+        return Ok(None);
+    }
+    match start_of_text(alloc, start) {
+        Ok(Some(start)) => Ok(Some(Job::Run(schema, ty, start, script))),
+        Ok(None) => Ok(None),
+        Err(fault) => Err(fault),
     }
 }
 
@@ -74,7 +98,7 @@ fn typed_job<'w>(
     if verb != "show" {
         return Ok(None);
     }
-    match root_of_text(alloc, last) {
+    match asked_root(alloc, last) {
         Ok(Some(root)) => Ok(Some(Job::Show(schema, ty, root))),
         Ok(None) => Ok(None),
         Err(fault) => Err(fault),
@@ -96,12 +120,15 @@ pub fn job_of(alloc: Global, words: &[String]) -> Result<Option<Job<'_>>, Fault>
                 last.as_str(),
             )
         }
-        [verb, schema, ty, root, script] => {
-            if verb.as_str() == "run" && ty.as_str() == "N" && root.as_str() == "-" {
-                Ok(Some(Job::Run(schema.as_str(), script.as_str())))
-            } else {
-                Ok(None)
-            }
+        [verb, schema, ty, start, script] => {
+            run_job(
+                alloc,
+                verb.as_str(),
+                schema.as_str(),
+                ty.as_str(),
+                start.as_str(),
+                script.as_str(),
+            )
         }
         _ => Ok(None),
     }
@@ -131,12 +158,12 @@ fn table_of(alloc: Global, bytes: &[u8]) -> Result<Accepted, Fault>
     }
 }
 
-/// What is to be done, once the inputs are taken: the names that a schema declares are listed, a script is answered, or a value of
-/// a type is created or shown.
+/// What is to be done, once the inputs are taken: the names that a schema declares are listed, a script is answered on a value of a type,
+/// or such a value is created or shown.
 #[derive(Drop)]
 pub enum Task {
     List(Accepted),
-    Answer(Octets),
+    Answer(Accepted, TypeNo, Start, Octets),
     Create(Accepted, TypeNo, Octets),
     Show(Accepted, TypeNo, BlockId),
 }
@@ -167,6 +194,25 @@ fn plan_value<I: Inputs>(
     }
 }
 
+/// Takes the script, if the type of its value is there.
+fn plan_script<I: Inputs>(
+    inputs: &mut I,
+    schema: Accepted,
+    ty: &str,
+    start: Start,
+    script: &str,
+) -> Result<Task, Fault>
+    ensures { OpensBehind (I.supply inputs.old) schema (λ name. runs name ty.now start script.now) result (I.supply inputs.new) }
+{
+    let Some(number) = type_named(&schema, ty) else {
+        return Err(Fault::Words);
+    };
+    match take_input(inputs, Role::Script, script) {
+        Ok(bytes) => Ok(Task::Answer(schema, number, start, bytes)),
+        Err(fault) => Err(fault),
+    }
+}
+
 /// That a root is to be opened, if its type is there.
 fn plan_root<I: Inputs>(
     inputs: &mut I,
@@ -188,30 +234,10 @@ pub fn plan<I: Inputs>(alloc: Global, inputs: &mut I, job: &Job<'_>) -> Result<T
 {
     let bytes = take_input(inputs, Role::Schema, job.schema())?;
     let schema = table_of(alloc, bytes.as_slice())?;
-    let script = match job {
-        Job::Check(_) => return Ok(Task::List(schema)),
-        Job::Run(_, script) => script,
-        Job::New(_, ty, value) => return plan_value(inputs, schema, ty, value),
-        Job::Show(_, ty, root) => return plan_root(inputs, schema, ty, *root),
-    };
-    if !is_built(&schema) {
-        return Err(Fault::NotBuilt);
-    }
-    let script = take_input(inputs, Role::Script, script)?;
-    Ok(Task::Answer(script))
-}
-
-/// Puts the block of the first value.
-pub fn put_first<K: Store>(alloc: Global, value: &PlainMap, store: &mut K) -> Result<(), Fault>
-    ensures { PutsFirst (K.moment store.old) value.now result (K.moment store.new) }
-{
-    let Ok(block) = value.block(alloc) else {
-        return Err(Fault::Memory);
-    };
-    match publish(store, block.as_slice()) {
-        Ok(_) => Ok(()),
-        Err(PutFault::Failed) => Err(Fault::Store),
-        Err(PutFault::Clash(id)) => Err(Fault::Clash(id)),
-        Err(PutFault::Memory) => Err(Fault::Memory),
+    match job {
+        Job::Check(_) => Ok(Task::List(schema)),
+        Job::Run(_, ty, start, script) => plan_script(inputs, schema, ty, *start, script),
+        Job::New(_, ty, value) => plan_value(inputs, schema, ty, value),
+        Job::Show(_, ty, root) => plan_root(inputs, schema, ty, *root),
     }
 }

@@ -8,22 +8,24 @@ ghost use Rattle.ild_run.specs.Fault.{cut_status};
 ghost use Rattle.ild_run.specs.Cut.{ToldAs};
 ghost use Rattle.ild_run.specs.Listed.{ListedAs};
 ghost use Rattle.ild_run.specs.Made.{MadeAs, made_fault};
+ghost use Rattle.ild_run.specs.Answered.{AnsweredAs, start_fault};
 ghost use Rattle.ild_run.specs.Shown.{Replied, ShownAs};
 ghost use Rattle.ild_run.specs.Ended.{Ended, call_of};
 ghost use Rattle.ild_run.specs.Complete.{IsComplete};
 
 use crate::fault::{Fault, write_fault};
 use crate::listed::names_json;
-use crate::open::{Job, Task, job_of, plan, put_first};
+use crate::open::{Job, Task, job_of, plan};
 use crate::status::Status;
 use ild_data::{BlockId, Sha256Keys, Txt};
 use ild_edges::{Inputs, Sink, Store};
-use ild_run_create::{CreateFault, create};
-use ild_run_plain::PlainMap;
+use ild_run_create::{CreateFault, Refusal, create};
+use ild_run_open::{Start, StartFault};
+use ild_run_script::{ScriptFault, run_script};
 use ild_run_show::{ShowFault, show};
 use ild_schema::{Accepted, TypeNo};
 use ild_script::{No, Reply};
-use ild_script_session::{Cut, answer_all, write_reply};
+use ild_script_session::{Cut, write_reply};
 use std::alloc::Global;
 
 /// The status of a call whose text was cut off.
@@ -128,6 +130,42 @@ fn present<K: Store, W: Sink>(
     }
 }
 
+/// The fault of a script that can't start. Where the type has no empty value, the value is refused as any other that isn't of the type.
+fn start_fault(fault: StartFault) -> Fault
+    ensures { result ≡ start_fault fault }
+{
+    match fault {
+        StartFault::Block { id, why } => Fault::Root(id, why),
+        StartFault::Mismatch => Fault::Value(Refusal::Mismatch),
+        StartFault::Store => Fault::Store,
+        StartFault::Clash(id) => Fault::Clash(id),
+        StartFault::Memory => Fault::Memory,
+    }
+}
+
+/// Answers a script on a value of a type, and answers how it ended.
+fn answer<K: Store, W: Sink>(
+    alloc: Global,
+    schema: &Accepted,
+    ty: TypeNo,
+    start: Start,
+    script: &[u8],
+    store: &mut K,
+    out: &mut W,
+) -> Status
+    requires within { ty.0 < length schema.now }
+    ensures { AnsweredAs schema.now ty start script.now (K.moment store.old) (W.output out.old) result (K.moment store.new) (W.output out.new) }
+{
+    // It does no work: its clauses say that the types are a table.
+    schema.types();
+    match run_script(alloc, schema, ty, start, script, store, out) {
+        Ok(false) => Status::Done,
+        Ok(true) => Status::Refused,
+        Err(ScriptFault::Start(fault)) => tell(alloc, start_fault(fault), out),
+        Err(ScriptFault::Cut(cut)) => cut_status(cut),
+    }
+}
+
 /// Does what a job asks for, and answers how it ended.
 fn carry_job<I: Inputs, K: Store, W: Sink>(
     alloc: Global,
@@ -145,22 +183,15 @@ fn carry_job<I: Inputs, K: Store, W: Sink>(
         Ok(task) => task,
         Err(fault) => return tell(alloc, fault, out),
     };
-    let script = match &task {
-        Task::List(schema) => return list(alloc, schema.names(), out),
-        Task::Answer(script) => script,
-        Task::Create(schema, ty, bytes) => {
-            return make(alloc, schema, *ty, bytes.as_slice(), store, out);
+    match &task {
+        Task::List(schema) => list(alloc, schema.names(), out),
+        Task::Answer(schema, ty, start, script) => {
+            answer(alloc, schema, *ty, *start, script.as_slice(), store, out)
         }
-        Task::Show(schema, ty, root) => return present(alloc, schema, *ty, root, store, out),
-    };
-    let mut value = PlainMap::new(alloc);
-    if let Err(fault) = put_first(alloc, &value, store) {
-        return tell(alloc, fault, out);
-    }
-    match answer_all(alloc, &mut value, script.as_slice(), store, out) {
-        Ok(false) => Status::Done,
-        Ok(true) => Status::Refused,
-        Err(cut) => cut_status(cut),
+        Task::Create(schema, ty, bytes) => {
+            make(alloc, schema, *ty, bytes.as_slice(), store, out)
+        }
+        Task::Show(schema, ty, root) => present(alloc, schema, *ty, root, store, out),
     }
 }
 
@@ -187,9 +218,9 @@ fn carry_out<I: Inputs, K: Store, W: Sink>(
 /// Does what the words say, and answers how it ended.
 ///
 /// Under `check` a schema is compiled, and the names that it declares are listed, or its first fault is told. Under `run` each
-/// line of the script is answered as the same command is on the plain value of the map, from the empty map on. A root that is
-/// printed is the id of the block built from scratch from the value at that line. A line that is refused changes nothing, and
-/// its cause is there. Under `new` the value of a type that an input means as DAG-JSON is built and put, and its root is printed;
+/// line of the script is answered as the same command is on the plain value of the type, from the value that stands under the root on,
+/// or from the empty map or list, whose block is put first. A root that is printed is the id of the block built from scratch from the
+/// value at that line. A line that is refused changes nothing, and its cause is there. Under `new` the value of a type that an input means as DAG-JSON is built and put, and its root is printed;
 /// or the first cause is told for which no store holds such a value. Under `show` the value of a type that stands under a root is read
 /// and written as DAG-JSON; or a block is told that isn't held, or isn't what has to stand there, where no such value does.
 pub fn run<I: Inputs, K: Store, W: Sink>(

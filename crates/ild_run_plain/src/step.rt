@@ -88,6 +88,10 @@ impl Session for PlainMap {
 
     ghost Value = { List (List ℕ × ℤ) };
 
+    ghost Subject = { Unit {0} };
+
+    ghost subject = { λ v. tt };
+
     ghost stands = { λ v m M s. (M ≡ plain_map) × (s ≡ resting v) };
 
     fn answer<K: Store>(&mut self, alloc: Global, line: &[u8], store: &mut K) -> Option<Reply> {

@@ -162,7 +162,7 @@ fn values_that_are_no_integer(rt: HostRuntime) -> Result<(), Fail> {
 /// Lines that aren't of the grammar.
 const NO_LINES: [&str; 12] = [
     "get", "put /a 1", "get a", "get /~9", "get  /a", "get /a ", "set /a", "root ", "root\r",
-    "ins /a 1", "begin", "get /~",
+    "ins /a", "begin", "get /~",
 ];
 
 #[test]
@@ -173,11 +173,11 @@ fn lines_that_are_none(rt: HostRuntime) -> Result<(), Fail> {
     Ok(())
 }
 
-/// Lines that name no place.
+/// Lines that name the whole, and such that name no place.
 const NO_PLACES: [(&str, &str, u8); 8] = [
-    ("get .", "no 2 path\n", 1),
-    ("set . 1", "no 2 path\n", 1),
-    ("del .", "no 2 path\n", 1),
+    ("get .", "ok {}\n", 0),
+    ("set . 1", "no 4 mismatch\n", 1),
+    ("del .", "no 4 mismatch\n", 1),
     ("get /a/b", "no 2 path\n", 1),
     ("set /a/b 1", "no 2 path\n", 1),
     ("del /a", "no 2 path\n", 1),
@@ -313,12 +313,7 @@ const GIVEN: [(&[&str], &str, &str, u8); 9] = [
     (&WORDS, "type N {String:Int}\n", EMPTY, 0),
     (&["check"], SCHEMA, "fault 2 words\n", 2),
     (&["check", "t"], SCHEMA, "fault 5 input schema absent\n", 5),
-    (
-        &["run", "s", "N", "-", "y"],
-        "",
-        "fault 3 schema notbuilt\n",
-        3,
-    ),
+    (&["run", "s", "N", "-", "y"], "", "fault 2 words\n", 2),
 ];
 
 #[test]
@@ -334,7 +329,7 @@ fn words_and_inputs(rt: HostRuntime) -> Result<(), Fail> {
     Ok(())
 }
 
-/// Schemas that scripts are run under, in other spellings.
+/// A plain map in other spellings.
 const OPEN: [&str; 6] = [
     "type N {String:Int}\n\n",
     "\ttype\r\nN{ String :Int }",
@@ -344,23 +339,43 @@ const OPEN: [&str; 6] = [
     "type N {String:Int} representation\n\nmap advanced HAMT",
 ];
 
-/// Accepted schemas that scripts aren't run under, and the names that each declares.
-const NOT_BUILT: [(&str, &str); 12] = [
-    ("", "[]"),
-    ("advanced HAMT", "[]"),
-    ("type M {String:Int}", "[\"M\"]"),
-    ("type N {String:nullable Int}", "[\"N\"]"),
-    ("type N {String:Any}", "[\"N\"]"),
-    ("type N {String:N}", "[\"N\"]"),
-    ("type N {String:[Int]}", "[\"N\"]"),
-    ("type N {String:Int} representation listpairs", "[\"N\"]"),
+const EMPTY_LIST: &str = "root bafyreidwx2fvfdiaox32v2mnn6sxu3j4qoxeqcuenhtgrv5qv6litfnmoe\n";
+
+const EMPTY_HAMT: &str = "root bafyreihn72qdqs5xwehgcqeepxbqs3zkocg5l7f4vn3asclloqtrgj3uqe\n";
+
+const NO_TYPE: &str = "fault 2 words\n";
+
+const NO_EMPTY: &str = "fault 9 value 4 mismatch\n";
+
+/// Accepted schemas, what `root` is answered on the empty value of their type `N`, the status, and the names that each declares.
+const OTHERS: [(&str, &str, u8, &str); 17] = [
+    ("", NO_TYPE, 2, "[]"),
+    ("advanced HAMT", NO_TYPE, 2, "[]"),
+    ("type M {String:Int}", NO_TYPE, 2, "[\"M\"]"),
+    ("type N {String:nullable Int}", EMPTY, 0, "[\"N\"]"),
+    ("type N {String:Any}", EMPTY, 0, "[\"N\"]"),
+    ("type N {String:N}", EMPTY, 0, "[\"N\"]"),
+    ("type N {String:[Int]}", EMPTY, 0, "[\"N\"]"),
     (
-        "type N {String:Int} representation advanced HAMT",
+        "type N {String:Int} representation listpairs",
+        EMPTY_LIST,
+        0,
         "[\"N\"]",
     ),
-    ("type N = Map", "[\"N\"]"),
-    ("type N {String:Int} type M bool", "[\"N\",\"M\"]"),
-    ("type M {String:Int} type N = M", "[\"M\",\"N\"]"),
+    (
+        "type N {String:Int} representation advanced HAMT",
+        EMPTY_HAMT,
+        0,
+        "[\"N\"]",
+    ),
+    ("type N = Map", EMPTY, 0, "[\"N\"]"),
+    ("type N = List", EMPTY_LIST, 0, "[\"N\"]"),
+    ("type N [Int]", EMPTY_LIST, 0, "[\"N\"]"),
+    ("type N {String:Int} type M bool", EMPTY, 0, "[\"N\",\"M\"]"),
+    ("type M {String:Int} type N = M", EMPTY, 0, "[\"M\",\"N\"]"),
+    ("type N bool", NO_EMPTY, 9, "[\"N\"]"),
+    ("type N struct {}", NO_EMPTY, 9, "[\"N\"]"),
+    ("type N = String", NO_EMPTY, 9, "[\"N\"]"),
 ];
 
 /// Schemas with a fault, and what is told of it.
@@ -409,11 +424,10 @@ fn schemas_for_scripts(rt: HostRuntime) -> Result<(), Fail> {
 }
 
 #[test]
-fn schemas_for_checks_alone(rt: HostRuntime) -> Result<(), Fail> {
-    let unbuilt = "fault 3 schema notbuilt\n";
-    for (schema, names) in NOT_BUILT {
+fn schemas_with_other_types(rt: HostRuntime) -> Result<(), Fail> {
+    for (schema, run, status, names) in OTHERS {
         let text = format!(in rt.alloc(); "ok {names}\n")?;
-        try_schema(&rt, rt.alloc(), schema, (unbuilt, 3), (text.as_str(), 0))?;
+        try_schema(&rt, rt.alloc(), schema, (run, status), (text.as_str(), 0))?;
     }
     Ok(())
 }

@@ -1,10 +1,10 @@
-use Rattle.std.proofs.Common.{ℕ, List, Ok, Err, Some, sym, subst, ◌≡◌}
+use Rattle.std.proofs.Common.{ℕ, List, Err, Some, sym, subst, ◌≡◌}
 use Rattle.std.proofs.lemmas.Option.{same_Some}
 use Rattle.std.proofs.lemmas.Result.{err_from_is_err_and}
 use Rattle.ild_edges.specs.Inputs.{Supply, MayBe}
 use Rattle.ild_edges.specs.declared.inputs.Taken.TheVariants as Taken
 use Rattle.ild_run.specs.Opening.{job_seen, CompileAnswer}
-use Rattle.ild_run.proofs.Openings.{opens_schema, opens_faulty, opens_checked, opens_not_built, opens_script}
+use Rattle.ild_run.proofs.Openings.{opens_schema, opens_faulty, opens_checked}
 use Rattle.ild_run.proofs.open.plan.Goals as goal
 
 -- what was taken under the schema's name, by its name in the words
@@ -29,27 +29,12 @@ returns-in-Check g c =
     let compiled = rw c.as_slice.ensures.same at c.in_ok-schema.ensures in
     rw c.in-Check.is (opens_checked m (g.I.Inputs.supply c.take_input.new.inputs) c.in-Check.field-0.now c.in_ok-bytes.bytes c.in_ok-schema.schema taken compiled c.in_ok-bytes.ensures.after)
 
-pub returns-then-not-is_built : goal.returns-then-not-is_built
-returns-then-not-is_built g c =
+pub returns-in-Run : goal.returns-in-Run
+returns-in-Run g c =
     let m = g.I.Inputs.supply c.args.inputs.now in
     let taken = by_name m c.in-Run.field-0.now c.schema.result.now c.in_ok-bytes.bytes (rw c.in-Run.is at c.schema.ensures) c.in_ok-bytes.ensures.answer in
     let compiled = rw c.as_slice.ensures.same at c.in_ok-schema.ensures in
-    rw c.in-Run.is (opens_not_built m (g.I.Inputs.supply c.take_input.new.inputs) c.in-Run.field-0.now c.in-Run.script.now c.in_ok-bytes.bytes c.in_ok-schema.schema taken compiled (sym c.if-not-is_built.ensures) c.in_ok-bytes.ensures.after)
-
-pub returns : goal.returns
-returns g c =
-    let m = g.I.Inputs.supply c.args.inputs.now in
-    let taken = by_name m c.in-Run.field-0.now c.schema.result.now c.in_ok-bytes.bytes (rw c.in-Run.is at c.schema.ensures) c.in_ok-bytes.ensures.answer in
-    let compiled = rw c.as_slice.ensures.same at c.in_ok-schema.ensures in
-    rw c.in-Run.is (opens_script m (g.I.Inputs.supply c.take_input.new.inputs) (g.I.Inputs.supply c.take_input-2.new.inputs) c.in-Run.field-0.now c.in-Run.script.now c.in_ok-bytes.bytes c.in_ok-schema.schema (Ok c.in_ok-script.script) taken compiled (sym c.if-not-is_built.ensures) c.in_ok-bytes.ensures.after c.in_ok-script.ensures)
-
-pub returns-in_err-script : goal.returns-in_err-script
-returns-in_err-script g c =
-    let m = g.I.Inputs.supply c.args.inputs.now in
-    let taken = by_name m c.in-Run.field-0.now c.schema.result.now c.in_ok-bytes.bytes (rw c.in-Run.is at c.schema.ensures) c.in_ok-bytes.ensures.answer in
-    let compiled = rw c.as_slice.ensures.same at c.in_ok-schema.ensures in
-    let p = err_from_is_err_and c.from_residual-in_err-script.result c.from_residual-in_err-script.ensures.1 in
-    rw (p.1, p.2, c.in-Run.is) (opens_script m (g.I.Inputs.supply c.take_input.new.inputs) (g.I.Inputs.supply c.take_input-2.new.inputs) c.in-Run.field-0.now c.in-Run.script.now c.in_ok-bytes.bytes c.in_ok-schema.schema (Err c.in_err-script.field-0.0) taken compiled (sym c.if-not-is_built.ensures) c.in_ok-bytes.ensures.after c.in_err-script.ensures)
+    rw c.in-Run.is (c.plan_script.ensures m c.in-Run.field-0.now c.in_ok-bytes.bytes taken compiled c.in_ok-bytes.ensures.after)
 
 pub returns-in-New : goal.returns-in-New
 returns-in-New g c =
@@ -58,8 +43,8 @@ returns-in-New g c =
     let compiled = rw c.as_slice.ensures.same at c.in_ok-schema.ensures in
     rw c.in-New.is (c.plan_value.ensures m c.in-New.field-0.now c.in_ok-bytes.bytes taken compiled c.in_ok-bytes.ensures.after)
 
-pub returns-in-Show : goal.returns-in-Show
-returns-in-Show g c =
+pub returns : goal.returns
+returns g c =
     let m = g.I.Inputs.supply c.args.inputs.now in
     let taken = by_name m c.in-Show.field-0.now c.schema.result.now c.in_ok-bytes.bytes (rw c.in-Show.is at c.schema.ensures) c.in_ok-bytes.ensures.answer in
     let compiled = rw c.as_slice.ensures.same at c.in_ok-schema.ensures in

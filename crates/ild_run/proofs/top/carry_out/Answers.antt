@@ -1,4 +1,4 @@
-use Rattle.std.proofs.Common.{Option, None, refl, sym, subst}
+use Rattle.std.proofs.Common.{Option, refl, sym, subst}
 use Rattle.ild_run.specs.Words.{Job, job_of}
 use Rattle.ild_run.specs.Ended.{Call, Ended, call_of}
 use Rattle.ild_run.proofs.Endings.{ended_words, ended_unread}

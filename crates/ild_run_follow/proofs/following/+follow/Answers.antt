@@ -19,7 +19,12 @@ tell_from-returns-in-Ok-Here g t c =
 pub tell_from-returns-in-Ok-Enter : goal.tell_from-returns-in-Ok-Enter
 tell_from-returns-in-Ok-Enter g t c =
     let schema = subst IsSchema c.schema.ensures (record { table = c.types-types.ensures.table; accepted = c.types-types.ensures.accepted }) in
-    tells_in g.H.KeyHash.hash_of c.args.view schema c.args.from (drop c.args.from c.args.path.now) c.args.tell (g.K.Store.moment c.args.store.now) (g.K.Store.moment c.tell_in.new.store) c.tell_in.result c.in-Ok-Enter.hamt c.in-Ok-Enter.k c.args.path.now refl (stepped c.args.view c.args.from (drop c.args.from c.args.path.now) c.in-Ok-Enter.field-0 _ c.in-Ok-Enter.field-0-is c.in-Ok-Enter.ensures) c.tell_in.ensures
+    let view = c.args.view in
+    let left = drop c.args.from c.args.path.now in
+    let step = stepped view c.args.from left c.in-Ok-Enter.field-0 _ c.in-Ok-Enter.field-0-is c.in-Ok-Enter.ensures in
+    let m = g.K.Store.moment c.args.store.now in
+    let n = g.K.Store.moment c.tell_in.new.store in
+    tells_in g.H.KeyHash.hash_of view schema c.args.from left c.args.tell m n c.tell_in.result c.in-Ok-Enter.hamt c.in-Ok-Enter.k c.args.path.now refl step c.tell_in.ensures
 
 pub tell_from-returns-in-Err : goal.tell_from-returns-in-Err
 tell_from-returns-in-Err g t c =

@@ -1,0 +1,22 @@
+use Rattle.std.proofs.Common.{◌≡◌, Some, Err, sym, subst}
+use Rattle.ild_data.specs.Spell.{id_of}
+use Rattle.ild_script.specs.Line.{Reading, outside, reads}
+use Rattle.ild_script.specs.Reads.{ReadsAs}
+use Rattle.ild_script.specs.declared.error.LineErr.{LineErr}
+use Rattle.ild_script.specs.declared.reply.No.TheVariants as N
+use Rattle.ild_script.specs.declared.reply.Reply.TheVariants as R
+use Rattle.ild_script_meaning.specs.Ask.{asked}
+use Rattle.ild_script_meaning.specs.Lines.{unbatched}
+use Rattle.ild_run_standing.specs.Answers.{AnswersAs}
+use Rattle.ild_run_document.proofs.Answering.{line_answers, memory_answers}
+use Rattle.ild_run_document.proofs.lines.answer_line.Goals as goal
+
+pub returns-in-Err-Line-clause-answers : goal.returns-in-Err-Line-clause-answers
+returns-in-Err-Line-clause-answers g c =
+    let m = g.K.Store.moment c.args.store.now in
+    let out : reads c.args.line.now ≡ outside = subst (λ (e : LineErr). ReadsAs c.args.line.now (Err e)) c.in-Err-Line.field-0-is c.in-Err-Line.ensures in
+    subst (λ (r : Reading). AnswersAs id_of c.args.doc.now c.args.doc.now (unbatched (asked r)) m (Some (R.No N.Line)) m) (sym out) (line_answers c.still_replies.ensures id_of c.args.doc.now m)
+
+pub returns-in-Err-Memory-clause-answers : goal.returns-in-Err-Memory-clause-answers
+returns-in-Err-Memory-clause-answers g c =
+    memory_answers c.still_replies.ensures id_of c.args.doc.now (g.K.Store.moment c.args.store.now) (unbatched (asked (reads c.args.line.now)))
