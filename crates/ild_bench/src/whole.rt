@@ -1,8 +1,8 @@
 //! Whole commands in memory: compiling a schema, and answering a script.
 use ild_compile::compile;
 use ild_edges::{MemSink, MemStore};
-use ild_run_plain::PlainMap;
-use ild_script_session::answer_all;
+use ild_run_open::Start;
+use ild_run_script::run_script;
 use std::alloc::Global;
 
 /// The schema is compiled.
@@ -15,12 +15,22 @@ pub(crate) fn compile_all(alloc: Global, bytes: &[u8], times: u32) -> Option<u64
     Some(sum)
 }
 
-/// The script is answered over the empty map and an empty store. Answers how many bytes the replies have.
+/// The script is answered over the empty map from texts to integers and an empty store. Answers how many bytes the replies have.
 fn replies_to(alloc: Global, script: &[u8]) -> Option<u64> {
-    let mut map = PlainMap::new(alloc);
+    let schema = compile(alloc, b"type M {String:Int}\n").ok()?;
+    let ty = schema.type_named("M")?;
     let mut store = MemStore::new(alloc, &[], &[]).ok()?;
     let mut out = MemSink::new(alloc, &[]).ok()?;
-    let _refused = answer_all(alloc, &mut map, script, &mut store, &mut out).ok()?;
+    let _refused = run_script(
+        alloc,
+        &schema,
+        ty,
+        Start::Empty,
+        script,
+        &mut store,
+        &mut out,
+    )
+    .ok()?;
     Some(out.bytes().len() as u64)
 }
 

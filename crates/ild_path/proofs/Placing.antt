@@ -19,10 +19,9 @@ use Rattle.ild_path_entry.specs.declared.entry.Entry.{Entry}
 use Rattle.ild_path_hops.specs.Hops.{AreHops, front_of, key_of}
 use Rattle.ild_path_hops.specs.HopLaws.{path_of_hops}
 use Rattle.ild_path_hops.specs.declared.hop.Hop.{Hop}
-use Rattle.ild_path_inward.specs.Inwards.{through}
 use Rattle.ild_path_place.specs.Parts.{ArePartsOf}
 use Rattle.ild_path_place.specs.Tells.{root_at, slot_at, table_at}
-use Rattle.ild_path_place.specs.Places.{EndsAt}
+use Rattle.ild_path_place.specs.Places.{EndsAt, through}
 use Rattle.ild_path_place.specs.declared.parts.Parts.{Parts}
 use Rattle.ild_path_place.specs.declared.place.End.{End}
 use Rattle.ild_path_place.specs.declared.place.End.TheVariants as D

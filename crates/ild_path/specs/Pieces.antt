@@ -7,9 +7,8 @@ use Rattle.ild_edges.specs.Store.{Moment}
 use Rattle.ild_node_slots.specs.declared.fault.HamtFault.{HamtFault}
 use Rattle.ild_node_slots.specs.declared.fault.HamtFault.TheVariants as H
 use Rattle.ild_path_block.specs.declared.edit.PartEdit.{PartEdit}
-use Rattle.ild_path_ends.specs.Ends.{EditsWhole}
+use Rattle.ild_path_ends.specs.Ends.{EditsWhole, IsLevel}
 use Rattle.ild_path_ends.specs.Parts.{IsChange}
-use Rattle.ild_path_hop.specs.Levels.{IsLevel}
 use Rattle.ild_path_hops.specs.Hops.{AreHops}
 use Rattle.ild_path_hops.specs.HopLaws.{path_of_hops}
 use Rattle.ild_path_hops.specs.declared.hop.Hop.{Hop}

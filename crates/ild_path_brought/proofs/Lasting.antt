@@ -31,12 +31,11 @@ use Rattle.ild_path_changes.proofs.HaveTrees.{has_trees}
 use Rattle.ild_path_changes.proofs.Lifting.{chained}
 use Rattle.ild_path_changes.proofs.Represented.{in_holders, inside_data, represents}
 use Rattle.ild_path_changes.specs.LiftLaws.{of_values}
-use Rattle.ild_path_edit.proofs.Sizes.{in_list}
+use Rattle.ild_path_sizes.proofs.Sizes.{in_list}
 use Rattle.ild_path_edits.specs.Edit.{Edit, set_at, ins_at, HasTextPath, new_slot}
 use Rattle.ild_path_edits.specs.EditLaws.{Brings}
 use Rattle.ild_path_edits.proofs.KeepTyped.{edits_keep_types}
-use Rattle.ild_path_hop.specs.Levels.{IsDataOfPart}
-use Rattle.ild_path_outward.specs.Outward.{HasLongPart}
+use Rattle.ild_path_sizes.specs.Long.{HasLongPart, IsDataOfPart}
 use Rattle.ild_path_long.proofs.Parts.{parts_are_in_blocks}
 use Rattle.ild_path_judged.specs.Place.{bringing}
 use Rattle.ild_path_judged.proofs.Last.{HeldBy, kept}

@@ -15,7 +15,7 @@ use ild_cbor::check;
 use ild_data::{Octets, Txt};
 use ild_layer_piece::text;
 use ild_path_block::PartEdit;
-use ild_path_item::new_item;
+use ild_path_edit::new_item;
 use ild_view::View;
 use std::alloc::{AllocError, Global};
 

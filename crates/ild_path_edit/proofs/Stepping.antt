@@ -24,7 +24,7 @@ use Rattle.ild_path_edits.proofs.Kept.{IsKept}
 use Rattle.ild_path_edits.proofs.Paths.{inside_of}
 use Rattle.ild_path_edits.specs.Edit.{del_at, ins_at, set_at}
 use Rattle.ild_path_edits.specs.Table.{slot_to_insert, slot_to_set}
-use Rattle.ild_path_edit.proofs.Longer.{no_longer}
+use Rattle.ild_path_sizes.proofs.Longer.{no_longer}
 use Rattle.ild_path_holder.proofs.Written.{has_part}
 use Rattle.ild_path_holder.specs.Along.{holder_at, is_holder}
 use Rattle.ild_schema.proofs.Legibly.{legible}

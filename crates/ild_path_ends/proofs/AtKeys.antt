@@ -36,7 +36,7 @@ use Rattle.ild_path_entered.specs.Entered.{with_entry, without_entry}
 use Rattle.ild_path_entered.specs.EnteredLaws.{fits_key}
 use Rattle.ild_path_entered.proofs.Editing.{at_entries, hamt_seen, sets_have_data, with_typed}
 use Rattle.ild_path_entered.proofs.Holding.{cut_typed, put_typed}
-use Rattle.ild_path_hop.specs.Levels.{IsLevel, with_cut, with_set}
+use Rattle.ild_path_outward.specs.Level.{IsLevel, with_cut, with_set}
 use Rattle.ild_path_hops.specs.Hops.{AreHops}
 use Rattle.ild_path_hops.specs.HopLaws.{path_of_hops}
 use Rattle.ild_path_hops.specs.declared.hop.Hop.{Hop}

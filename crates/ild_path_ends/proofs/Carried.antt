@@ -27,12 +27,13 @@ use Rattle.ild_path_within.proofs.Splitting.{paths_split, ways_split}
 use Rattle.ild_path_reroot.specs.Reroots.{AddsNodes}
 use Rattle.ild_path_reroot.proofs.Coming.{IsPartOf, came_whole, whole_stays}
 use Rattle.ild_path_reroot.proofs.Among.{among_of, long_any, long_one}
-use Rattle.ild_path_hop.specs.Levels.{IsLevel}
+use Rattle.ild_path_outward.specs.Level.{IsLevel}
 use Rattle.ild_path_hops.specs.Hops.{AreHops}
 use Rattle.ild_path_hops.specs.HopLaws.{path_of_hops}
 use Rattle.ild_path_hops.specs.declared.hop.Hop.{Hop}
 use Rattle.ild_path_hops.proofs.Hopping.{hops_stay}
-use Rattle.ild_path_outward.specs.Outward.{EndAnswer, HasLongPart, IsNewEnd, with_end}
+use Rattle.ild_path_outward.specs.Outward.{EndAnswer, IsNewEnd, with_end}
+use Rattle.ild_path_sizes.specs.Long.{HasLongPart}
 use Rattle.ild_script_meaning.specs.Costs.{blocks_met, met_in}
 use Rattle.ild_path_ends.specs.AtKey.{MakesAtKey}
 use Rattle.ild_path_ends.specs.Ends.{AddsBlocks, Came, EditsWhole, WholeAnswer}

@@ -41,7 +41,7 @@ use Rattle.ild_path_nodes.proofs.Changing.{nodes_of_parts}
 use Rattle.ild_path_held.specs.HeldEdits.{HasNodes, room_at}
 use Rattle.ild_path_held.proofs.Holding.{held_edits, held_parts}
 use Rattle.ild_path_entered.proofs.Editing.{sets_have_data, sets_stand, through_at, through_entries}
-use Rattle.ild_path_hop.specs.Levels.{IsLevel}
+use Rattle.ild_path_outward.specs.Level.{IsLevel}
 use Rattle.ild_path_hops.specs.Hops.{AreHops, step_of}
 use Rattle.ild_path_hops.specs.HopLaws.{path_of_hops}
 use Rattle.ild_path_hops.specs.declared.hop.Hop.{Hop}

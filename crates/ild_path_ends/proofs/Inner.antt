@@ -12,7 +12,7 @@ use Rattle.ild_view.specs.View.{slot_of, table_of}
 use Rattle.ild_view.specs.declared.view.View.{View}
 use Rattle.ild_path_block.specs.Edits.{IsRootView}
 use Rattle.ild_typed_fronts.specs.Front.{front}
-use Rattle.ild_path_hop.specs.Levels.{IsLevel}
+use Rattle.ild_path_outward.specs.Level.{IsLevel}
 use Rattle.ild_path_hops.specs.Hops.{AreHops}
 use Rattle.ild_path_hops.specs.declared.hop.Hop.{Hop}
 use Rattle.ild_path_hops.proofs.Hopping.{hops_end}

@@ -39,8 +39,9 @@ use Rattle.ild_typed_fronts.specs.Front.{front as showing}
 use Rattle.ild_path_entered.proofs.Editing.{sets_stand}
 use Rattle.ild_path_reroot.specs.Reroots.{AddsNodes}
 use Rattle.ild_path_reroot.proofs.Among.{long_any, long_one}
-use Rattle.ild_path_hop.specs.Levels.{IsCutThere, IsDataOfPart, IsLevel, IsSetThere, LevelAnswer, SetsLevel, with_set}
-use Rattle.ild_path_outward.specs.Outward.{EndAnswer, HasLongPart, SetsEnd}
+use Rattle.ild_path_outward.specs.Level.{IsCutThere, IsLevel, IsSetThere, LevelAnswer, SetsLevel, with_set}
+use Rattle.ild_path_outward.specs.Outward.{EndAnswer, SetsEnd}
+use Rattle.ild_path_sizes.specs.Long.{HasLongPart, IsDataOfPart}
 use Rattle.ild_script_meaning.specs.Costs.{blocks_met, met_in}
 use Rattle.ild_path_ends.specs.AtKey.{IsKeyCut, IsKeyLevel, IsKeySet, SetsKey}
 

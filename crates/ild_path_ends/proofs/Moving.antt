@@ -14,7 +14,7 @@ use Rattle.ild_typed.specs.Segment.{part}
 use Rattle.ild_path_edits.specs.Edit.{ins_at, new_slot, set_at}
 use Rattle.ild_path_edits.specs.Table.{slot_to_insert, slot_to_set}
 use Rattle.ild_path_edits.proofs.KeepTyped.{of_type_is_kept}
-use Rattle.ild_path_hop.proofs.Leveling.{slot_of_path}
+use Rattle.ild_path_outward.proofs.Stepping.{slot_of_path}
 use Rattle.ild_path_within.proofs.Splitting.{first_of_path}
 use Rattle.ild_typed_fronts.specs.Front.{front_in, in_one_block}
 use Rattle.ild_typed_fronts.proofs.Pathing.{first_plain, rest_plain}

@@ -28,7 +28,7 @@ use Rattle.ild_typed_fronts.specs.Front.{front as showing}
 use Rattle.ild_path_entered.specs.EnteredLaws.{fits_key}
 use Rattle.ild_path_entry.specs.Entry.{data_in}
 use Rattle.ild_path_entry.specs.declared.entry.Entry.{Entry}
-use Rattle.ild_path_hop.specs.Levels.{IsLevel, SetsLevel, with_cut, with_set}
+use Rattle.ild_path_outward.specs.Level.{IsLevel, SetsLevel, with_cut, with_set}
 use Rattle.ild_path_hops.specs.Hops.{AreHops}
 use Rattle.ild_path_hops.specs.HopLaws.{path_of_hops}
 use Rattle.ild_path_hops.specs.declared.hop.Hop.{Hop}

@@ -22,11 +22,11 @@ use Rattle.ild_hamt.specs.declared.trail.Trail.{Trail}
 use Rattle.ild_open_held.specs.Held.{IsHeld, IsHeldBlock}
 use Rattle.ild_typed_fronts.specs.Front.{in_one_block}
 use Rattle.ild_path_block.specs.declared.edit.PartEdit.{PartEdit}
-use Rattle.ild_path_hop.specs.Levels.{IsLevel}
+pub use Rattle.ild_path_outward.specs.Level.{IsLevel}
 use Rattle.ild_path_hops.specs.Hops.{AreHops}
 use Rattle.ild_path_hops.specs.HopLaws.{path_of_hops}
 use Rattle.ild_path_hops.specs.declared.hop.Hop.{Hop}
-use Rattle.ild_path_outward.specs.Outward.{HasLongPart}
+use Rattle.ild_path_sizes.specs.Long.{HasLongPart}
 use Rattle.ild_script_meaning.specs.Costs.{blocks_met}
 use Rattle.ild_script_session.specs.Step.{IsWhole}
 use Rattle.ild_typed_places.specs.Places.{children_of}

@@ -14,7 +14,7 @@ use Rattle.ild_view.specs.declared.view.View.{View}
 use Rattle.ild_open_held.specs.Held.{IsHeld}
 use Rattle.ild_typed_fronts.specs.Front.{in_one_block}
 use Rattle.ild_path_block.specs.declared.edit.PartEdit.{PartEdit}
-use Rattle.ild_path_hop.specs.Levels.{IsLevel}
+use Rattle.ild_path_outward.specs.Level.{IsLevel}
 use Rattle.ild_path_hops.specs.Hops.{AreHops}
 use Rattle.ild_path_hops.specs.HopLaws.{path_of_hops}
 use Rattle.ild_path_hops.specs.declared.hop.Hop.{Hop}

@@ -55,7 +55,8 @@ use Rattle.ild_path_entered.proofs.Holding.{cut_typed}
 use Rattle.ild_path_reroot.specs.Reroots.{AddsNodes, EditAnswer, EditsHamt, IsHamtHeld, IsCut, MakesRoot}
 use Rattle.ild_path_reroot.proofs.Coming.{IsPartOf, adds_whole}
 use Rattle.ild_path_reroot.proofs.Among.{among_of, long_root, long_one, long_any}
-use Rattle.ild_path_hop.specs.Levels.{IsDataOfPart, IsLevel, IsCutThere, LevelAnswer, SetsLevel, with_cut}
+use Rattle.ild_path_hop.specs.Levels.{IsLevel, IsCutThere, LevelAnswer, SetsLevel, with_cut}
+use Rattle.ild_path_sizes.specs.Long.{IsDataOfPart}
 use Rattle.ild_path_hop.proofs.Leveling.{reached_at, slot_of_path, told_here, view_of}
 
 -- ---- one level

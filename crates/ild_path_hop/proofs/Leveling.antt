@@ -68,7 +68,8 @@ use Rattle.ild_path_entered.proofs.Holding.{put_typed}
 use Rattle.ild_path_reroot.specs.Reroots.{AddsNodes, EditAnswer, EditsHamt, IsHamtHeld, IsPut, MakesRoot}
 use Rattle.ild_path_reroot.proofs.Coming.{IsPartOf, adds_whole}
 use Rattle.ild_path_reroot.proofs.Among.{among_of, long_root, long_one, long_any}
-use Rattle.ild_path_hop.specs.Levels.{IsDataOfPart, IsLevel, IsSetThere, LevelAnswer, SetsLevel, with_set}
+use Rattle.ild_path_hop.specs.Levels.{IsLevel, IsSetThere, LevelAnswer, SetsLevel, with_set}
+use Rattle.ild_path_sizes.specs.Long.{IsDataOfPart}
 
 -- ---- paths
 

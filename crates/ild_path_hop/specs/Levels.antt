@@ -30,7 +30,7 @@ use Rattle.ild_view.specs.View.{slot_of, table_of}
 use Rattle.ild_view.specs.declared.view.View.{View}
 use Rattle.ild_bulk.specs.Build.{any_long}
 use Rattle.ild_bulk.specs.Putting.{IsAmong}
-use Rattle.ild_path_block.specs.Edits.{IsRootView}
+pub use Rattle.ild_path_block.specs.Edits.{IsRootView}
 use Rattle.ild_hamt.specs.Descending.{IsTrailOf}
 use Rattle.ild_hamt.specs.declared.trail.Trail.{Trail}
 use Rattle.ild_open_held.specs.Held.{IsHeld}
@@ -40,6 +40,7 @@ use Rattle.ild_path_held.specs.Hamts.{IsTrieIn}
 use Rattle.ild_path_entered.specs.Entered.{IsEntered, with_entry, without_entry}
 use Rattle.ild_path_entered.specs.EnteredLaws.{fits_key}
 use Rattle.ild_path_reroot.specs.Reroots.{AddsNodes}
+use Rattle.ild_path_sizes.specs.Long.{IsDataOfPart}
 
 -- the view is that of the block of v, which has the data t and is held
 pub record IsLevel (h : List ℕ → List ℕ) (is_key : ℕ → List ℕ → Bool) (was : List (List ℕ)) (room : ℕ) (v : Value) (t : Data) (view : View) : Type 0 where
@@ -83,13 +84,6 @@ pub record IsCutThere (h : List ℕ → List ℕ) (is_key : ℕ → List ℕ →
   pub there : is_some (value_at k (pairs_list ps)) ≡ true
   pub fits : Fits (table_of view) room (slot_of view) (with_cut (table_of view) (slot_of view) v path ps k)
   pub tree : represented (whole h) (table_of view) (slot_of view) (with_cut (table_of view) (slot_of view) v path ps k) ≡ Some u
-
--- the data of a part of a value
-pub record IsDataOfPart (h : List ℕ → List ℕ) (rows : List Row) (p : InSlot) (x : Data) : Type 0 where
-  pub path : List (List ℕ)
-  pub part : InSlot
-  pub at : at rows p path ≡ Some part
-  pub tree : represented (whole h) rows part.0 part.1 ≡ Some x
 
 -- ---- the answer: the block of the new value, which is held but for this block; or why not. x are the data of the HAMT then
 abbrev pub LevelAnswer : (List ℕ → List ℕ) → List Row → ℕ → Slot → Value → Data → Data → Moment → Result (List ℕ) HamtFault → Moment → Type 0

@@ -15,9 +15,8 @@ ghost use Rattle.ild_typed.specs.Segment.{index_of};
 use crate::change::LastChange;
 use ild_cbor::{Kind, Piece};
 use ild_layer_piece::kind;
-use ild_path_steps::PartSteps;
+use ild_path_steps::{PartSteps, index};
 use ild_schema::{Accepted, Slot, TypeDef};
-use ild_view::index;
 
 /// Whether the parts of a holder have places.
 pub(crate) fn is_listed(acc: &Accepted, slot: Slot, piece: &Piece<'_>) -> bool

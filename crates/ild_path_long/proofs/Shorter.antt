@@ -13,7 +13,7 @@ use Rattle.ild_data.specs.Key.{same_text}
 use Rattle.ild_data.specs.Limits.{longest_block}
 use Rattle.ild_data.specs.Spell.{head, spell, spell_bool, spell_int, spell_text}
 use Rattle.ild_path_changes.specs.Places.{field_named, left_out}
-use Rattle.ild_path_edit.proofs.Longer.{part_shorter}
+use Rattle.ild_path_sizes.proofs.Longer.{part_shorter}
 use Rattle.ild_path_steps.specs.Steps.{is_left_out}
 use Rattle.ild_schema.specs.Copies.{base}
 use Rattle.ild_schema.specs.Fitting.{ImplicitFits}

@@ -11,7 +11,7 @@ use Rattle.ild_data.specs.TrieBlocks.{block_of, node_and_beneath, nodes_beneath,
 use Rattle.ild_data.specs.TrieShape.{TrieShape, trie_levels}
 use Rattle.ild_hamt_trie.proofs.Index.{index_below}
 use Rattle.ild_hamt_trie.proofs.Slots.{some_cons}
-use Rattle.ild_path_edit.proofs.Sizes.{in_list}
+use Rattle.ild_path_sizes.proofs.Sizes.{in_list}
 use Rattle.ild_path_reroot.proofs.Among.{root_longer}
 use Rattle.ild_typed.proofs.Basics.{map_from}
 use Rattle.ild_typed.proofs.TreeNodes.{all_split}

@@ -4,7 +4,7 @@ use Rattle.std.specs.Prelude.{◌≡◌, ℕ, Bool, true, List, ◌∷◌, Some}
 use Rattle.ild_bulk.specs.Build.{any_long}
 use Rattle.ild_data.specs.Data.{Data}
 use Rattle.ild_data.specs.Spell.{spell}
-use Rattle.ild_path_outward.specs.Outward.{HasLongPart}
+use Rattle.ild_path_sizes.specs.Long.{HasLongPart}
 use Rattle.ild_schema.specs.declared.row.Row.{Row}
 use Rattle.ild_typed.specs.At.{InSlot}
 use Rattle.ild_typed.specs.Blocks.{nodes}

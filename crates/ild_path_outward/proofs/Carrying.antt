@@ -30,7 +30,6 @@ use Rattle.ild_typed.specs.OfType.{OfType}
 use Rattle.ild_typed.specs.Represented.{represented}
 use Rattle.ild_view.specs.View.{slot_of, table_of}
 use Rattle.ild_view.specs.declared.view.View.{View}
-use Rattle.ild_path_block.specs.Edits.{IsRootView}
 use Rattle.ild_open_held.specs.Held.{IsHeld, IsHeldBlock}
 use Rattle.ild_path_within.specs.Within.{with_part}
 use Rattle.ild_path_within.proofs.Splitting.{parts_of_parts, paths_split, ways_split}
@@ -45,12 +44,13 @@ use Rattle.ild_path_reroot.specs.Reroots.{AddsNodes}
 use Rattle.ild_path_reroot.proofs.Coming.{IsPartOf, came_stays, came_whole}
 use Rattle.ild_path_reroot.proofs.Among.{among_of, long_any, long_one}
 use Rattle.ild_path_entry.specs.Entry.{IsEntry}
-use Rattle.ild_path_hop.specs.Levels.{IsDataOfPart, with_set}
+use Rattle.ild_path_hop.specs.Levels.{IsRootView, with_set}
 use Rattle.ild_path_hops.specs.Hops.{AreHops, front_of, key_of, step_of}
 use Rattle.ild_path_hops.specs.HopLaws.{IsLastHop, path_of_hops}
 use Rattle.ild_path_hops.specs.declared.hop.Hop.{Hop}
 use Rattle.ild_path_hops.proofs.Hopping.{hops_end, hops_leave, hops_pass, hops_stay}
-use Rattle.ild_path_outward.specs.Outward.{EndAnswer, HasLongPart, IsNewEnd, SetsEnd, with_end}
+use Rattle.ild_path_outward.specs.Outward.{EndAnswer, IsNewEnd, SetsEnd, with_end}
+use Rattle.ild_path_sizes.specs.Long.{HasLongPart, IsDataOfPart}
 use Rattle.ild_path_outward.specs.Steps.{IsStep, SetsBelow, SetsIn, SetsStep}
 use Rattle.std.proofs.Common.{arith}
 use Rattle.ild_path_entered.specs.Entered.{with_entry}

@@ -33,7 +33,6 @@ use Rattle.ild_view.specs.Safe.{is_safe}
 use Rattle.ild_view.specs.View.{slot_of, table_of}
 use Rattle.ild_view.specs.Whole.{IsWholeView}
 use Rattle.ild_view.specs.declared.view.View.{View}
-use Rattle.ild_path_block.specs.Edits.{IsRootView}
 use Rattle.ild_path_nodes.specs.NodeLaws.{IsHamt}
 use Rattle.ild_typed_fronts.specs.Front.{front}
 use Rattle.ild_typed_fronts.proofs.Representing.{fronts_are_fronts}
@@ -43,8 +42,9 @@ use Rattle.ild_path_reroot.specs.Reroots.{AddsNodes}
 use Rattle.ild_hamt.specs.declared.trail.Trail.{Trail}
 use Rattle.ild_path_entry.specs.Entry.{IsEntry, data_in, slot_in, table_in}
 use Rattle.ild_path_entry.specs.declared.entry.Entry.{Entry}
-use Rattle.ild_path_hop.specs.Levels.{IsLevel, IsSetThere, SetsEntry, with_set}
+use Rattle.ild_path_hop.specs.Levels.{IsLevel, IsRootView, IsSetThere, SetsEntry, with_set}
 use Rattle.ild_path_hop.proofs.Leveling.{item_stands}
+pub use Rattle.ild_path_hop.proofs.Leveling.{slot_of_path}
 use Rattle.ild_path_hops.specs.declared.hop.Hop.{Hop}
 use Rattle.ild_path_outward.specs.Steps.{IsStep, SetsIn, SetsStep}
 

@@ -24,7 +24,8 @@ use Rattle.ild_open_held.specs.Held.{IsHeld}
 use Rattle.ild_path_within.specs.Within.{with_part}
 use Rattle.ild_script_meaning.specs.Costs.{blocks_met}
 use Rattle.ild_path_reroot.specs.Reroots.{AddsNodes}
-use Rattle.ild_path_hop.specs.Levels.{IsDataOfPart, IsLevel}
+use Rattle.ild_path_hop.specs.Levels.{IsLevel}
+use Rattle.ild_path_sizes.specs.Long.{HasLongPart}
 use Rattle.ild_path_hops.specs.Hops.{AreHops}
 use Rattle.ild_path_hops.specs.HopLaws.{path_of_hops}
 use Rattle.ild_path_hops.specs.declared.hop.Hop.{Hop}
@@ -47,12 +48,6 @@ pub record IsNewEnd (h : List ℕ → List ℕ) (is_key : ℕ → List ℕ → B
   pub short : length new ≤ longest_block
   pub fits : Fits (table_of view) room (slot_of view) (with_end (table_of view) (slot_of view) v hops w)
   pub tree : represented (whole h) (table_of view) (slot_of view) (with_end (table_of view) (slot_of view) v hops w) ≡ Some u
-
--- a part of the value is by itself longer than a block may be
-pub record HasLongPart (h : List ℕ → List ℕ) (rows : List Row) (p : InSlot) : Type 0 where
-  pub tree : Data
-  pub part : IsDataOfPart h rows p tree
-  pub long : longest_block < length (spell tree)
 
 -- the block of the new value c, which is held but for this block; or why not
 abbrev pub EndAnswer : (List ℕ → List ℕ) → List Row → ℕ → Slot → Value → Data → Moment → Result (List ℕ) HamtFault → Moment → Type 0

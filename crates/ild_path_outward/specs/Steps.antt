@@ -17,7 +17,6 @@ use Rattle.ild_typed.specs.OfType.{TestsKeys}
 use Rattle.ild_typed.specs.Represented.{represented}
 use Rattle.ild_typed.specs.Schema.{IsSchema}
 use Rattle.ild_view.specs.declared.view.View.{View}
-use Rattle.ild_path_block.specs.Edits.{IsRootView}
 use Rattle.ild_hamt.specs.Descending.{IsTrailOf}
 use Rattle.ild_hamt.specs.declared.trail.Trail.{Trail}
 use Rattle.ild_open_held.specs.Held.{IsHeld}
@@ -26,7 +25,7 @@ use Rattle.ild_path_held.specs.Hamts.{IsTrieIn}
 use Rattle.ild_path_entered.specs.Entered.{IsEntered}
 use Rattle.ild_path_entered.specs.EnteredLaws.{fits_key}
 use Rattle.ild_path_entry.specs.Entry.{IsEntry}
-use Rattle.ild_path_hop.specs.Levels.{SetsLevel, with_set}
+use Rattle.ild_path_hop.specs.Levels.{IsRootView, SetsLevel, with_set}
 use Rattle.ild_path_hops.specs.declared.hop.Hop.{Hop}
 
 -- The path leads from a value v of this slot, in a room, to a HAMT, the trail is that of a key in it, and w comes to the key: it has the

@@ -16,7 +16,7 @@ use Rattle.ild_path_entry.specs.declared.entry.Entry.{Entry}
 use Rattle.ild_path_held.specs.Hamts.{IsTrieIn}
 use Rattle.ild_path_held.specs.HeldEdits.{room_at}
 use Rattle.ild_path_hops.specs.Hops.{AreHops}
-use Rattle.ild_path_inward.specs.Inwards.{through}
+pub use Rattle.ild_path_inward.specs.Inwards.{through}
 use Rattle.ild_path_inward.specs.Levels.{met_on}
 use Rattle.ild_schema.specs.declared.number.Slot.{Slot}
 use Rattle.ild_schema.specs.declared.row.Row.{Row}

@@ -10,6 +10,7 @@ mod steps;
 mod structs;
 mod union;
 
+pub use ild_view::index;
 pub use pair::is_keyed;
 pub use part::steps_to;
 pub use steps::PartSteps;

@@ -22,7 +22,7 @@ use Rattle.ild_path_held.specs.Hamts.{IsTrieIn, IsValueOf}
 use Rattle.ild_path_hops.proofs.Hopping.{hops_pass}
 use Rattle.ild_path_hops.specs.Hops.{AreHops, front_of, key_of, step_of}
 use Rattle.ild_path_hops.specs.declared.hop.Hop.{Hop}
-use Rattle.ild_path_inward.specs.Inwards.{through}
+use Rattle.ild_path_place.specs.Places.{through}
 use Rattle.ild_path_judged.proofs.Filled.{no_map}
 use Rattle.ild_path_judged.proofs.Tries.{some_is, trie_put}
 use Rattle.ild_path_judged.specs.Place.{bringing, exhausts_at, last_in, last_of}

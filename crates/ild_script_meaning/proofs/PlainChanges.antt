@@ -24,8 +24,8 @@ use Rattle.ild_typed.proofs.Lists.{pairs_list-pairs_of}
 use Rattle.ild_value_meaning.specs.MeantRead.{meant}
 use Rattle.ild_path_edits.specs.Edit.{set_at, del_at, new_slot, new_part, read_or, with_part, changed_by, line_change, del_in, unless_kept}
 use Rattle.ild_path_edits.specs.Table.{slot_to_set, unless_there, delete_part}
-use Rattle.ild_run_plain.specs.Change as P
-use Rattle.ild_run_plain.specs.Value as PV
+use Rattle.ild_script_meaning.specs.PlainChange as P
+use Rattle.ild_script_meaning.specs.PlainValue as PV
 use Rattle.ild_script_meaning.specs.PlainMap.{plain_rows, int_entry, as_value, IsBelowRoot}
 use Rattle.ild_script_meaning.proofs.PlainValues.{entry_there, entry_put, entry_gone}
 

@@ -10,7 +10,7 @@ use Rattle.ild_script.specs.declared.reply.No.TheVariants as N
 use Rattle.ild_typed.specs.Judged.{has_hole, breaks_delimiter, exhausts, is_hole, breaks, is_exhausted}
 use Rattle.ild_typed.specs.Stands.{bare, blocks_of}
 use Rattle.ild_path_edits.specs.Judged.{Tests, AreTests, judged, are_sized}
-use Rattle.ild_run_plain.specs.Value as P
+use Rattle.ild_script_meaning.specs.PlainValue as P
 use Rattle.ild_script_meaning.specs.PlainMap.{plain_rows, as_value, IsPlain}
 use Rattle.ild_script_meaning.proofs.PlainValues.{data_is, one_block, no_layer, map_fits}
 

@@ -34,9 +34,9 @@ use Rattle.ild_typed.specs.At.{at as path_at}
 use Rattle.ild_typed.specs.Stands.{bare, blocks_of, root_id}
 use Rattle.ild_path_edits.specs.Edit.{Edit, set_at, del_at}
 use Rattle.ild_path_edits.specs.Judged.{Tests, AreTests, judged_result, unless_judged}
-use Rattle.ild_run_plain.specs.Change as PC
-use Rattle.ild_run_plain.specs.Plain as P
-use Rattle.ild_run_plain.specs.Value as PV
+use Rattle.ild_script_meaning.specs.PlainChange as PC
+use Rattle.ild_script_meaning.specs.PlainLines as P
+use Rattle.ild_script_meaning.specs.PlainValue as PV
 use Rattle.ild_script_session.specs.Session.{idle}
 use Rattle.ild_script_meaning.specs.Ask.{shown_form, asked, asked_by}
 use Rattle.ild_script_meaning.specs.Lines.{Setting, due, edit_due, line_changed, changed, root_reply, value_blocks, short, printed_or, read_reply, told, show}

@@ -27,7 +27,7 @@ use Rattle.ild_typed.specs.Strings.{cons_both}
 use Rattle.ild_typed.specs.Represented.{represented, represented_pairs, layered}
 use Rattle.ild_typed.specs.Stands.{bare, blocks_of}
 use Rattle.ild_typed.proofs.Lists.{pairs_list-pairs_of}
-use Rattle.ild_run_plain.specs.Value as P
+use Rattle.ild_script_meaning.specs.PlainValue as P
 use Rattle.ild_script_meaning.specs.PlainMap.{plain_rows, int_entry, as_value, IsPlain}
 
 -- ---- entries

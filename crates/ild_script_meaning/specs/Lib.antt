@@ -3,5 +3,8 @@ pub mod Ask
 pub mod Costs
 pub mod Lines
 pub mod LinesLaws
+pub mod PlainValue
+pub mod PlainChange
+pub mod PlainLines
 pub mod PlainMap
 pub mod PlainLaws

@@ -2,8 +2,8 @@
 use Rattle.std.specs.Prelude.{ℕ, List}
 use Rattle.ild_script.specs.Line.{reads}
 use Rattle.ild_path_edits.specs.Judged.{Tests, AreTests}
-use Rattle.ild_run_plain.specs.Plain as P
-use Rattle.ild_run_plain.specs.Value as PV
+use Rattle.ild_script_meaning.specs.PlainLines as P
+use Rattle.ild_script_meaning.specs.PlainValue as PV
 use Rattle.ild_script_session.specs.Session.{idle}
 use Rattle.ild_script_meaning.specs.Lines.{line_due}
 use Rattle.ild_script_meaning.specs.PlainMap.{plain_rows, as_value, IsPlain, plain_setting, IsKnown, SameDue}

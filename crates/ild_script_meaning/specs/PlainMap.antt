@@ -18,7 +18,7 @@ use Rattle.ild_script.specs.declared.word.Word.{Word}
 use Rattle.ild_script.specs.declared.word.Word.TheVariants as W
 use Rattle.ild_typed.specs.Stands.{bare}
 use Rattle.ild_path_edits.specs.Judged.{Tests}
-use Rattle.ild_run_plain.specs.Value as P
+use Rattle.ild_script_meaning.specs.PlainValue as P
 use Rattle.ild_script_session.specs.Session.{State, Due}
 use Rattle.ild_script_meaning.specs.Lines.{Setting}
 

@@ -10,9 +10,9 @@ use Rattle.ild_script.specs.declared.reply.No.{No}
 use Rattle.ild_script.specs.declared.reply.No.TheVariants as N
 use Rattle.ild_script.specs.declared.reply.Reply.{Reply}
 use Rattle.ild_script.specs.declared.reply.Reply.TheVariants as R
-use Rattle.ild_run_plain.specs.Value.{Value, block_of, root_of, blocks_of}
-use Rattle.ild_run_plain.specs.Change.{Edit, set_at, del_at, only_segment, change, judged}
-use Rattle.ild_script_session.specs.Session.{State, Due, Meaning}
+use Rattle.ild_script_meaning.specs.PlainValue.{Value, block_of, root_of, blocks_of}
+use Rattle.ild_script_meaning.specs.PlainChange.{Edit, set_at, del_at, only_segment, change, judged}
+use Rattle.ild_script_session.specs.Session.{State, Due}
 
 -- what a line asks for
 pub data Ask : Type 0 where
@@ -78,6 +78,3 @@ due unknown s = quiet (Some (R.No N.Line)) s
 -- what a line is due; it doesn't matter what is held
 abbrev pub line_due : State Value → List ℕ → Due Value
 line_due s line = due (asked (reads line)) s
-
-abbrev pub plain_map : Meaning Value
-plain_map = record { due = λ held s line. line_due s line; blocks = blocks_of; places = λ v. (block_of v, blocks_of v) ∷ [] }

@@ -1,9 +1,8 @@
 -- The values of a plain map from texts to integers, and their one block.
-use Rattle.std.specs.Prelude.{ℕ, ℤ, List, [], ◌∷◌, ◌++◌, map, Bool, length, nat_le}
-use Rattle.std.specs.List.{flat_map}
+use Rattle.std.specs.Prelude.{ℕ, ℤ, List, [], ◌∷◌, map, Bool, length, nat_le}
 use Rattle.ild_data.specs.Data.{Data, integer, map as map_of, members_of}
 use Rattle.ild_data.specs.Limits.{longest_block}
-use Rattle.ild_data.specs.Spell.{spell, spell_text, spell_int, id_of}
+use Rattle.ild_data.specs.Spell.{spell, id_of}
 
 -- the entries, under rising keys
 abbrev pub Value : Type 0
@@ -30,7 +29,3 @@ blocks_of v = block_of v ∷ []
 -- whether each block of a value is within the limit
 abbrev pub is_storable : Value → Bool
 is_storable v = nat_le (length (block_of v)) longest_block
-
--- the spellings of the entries, one behind the other
-abbrev pub spell_entries : Value → List ℕ
-spell_entries v = flat_map (λ e. spell_text e.0 ++ spell_int e.1) v

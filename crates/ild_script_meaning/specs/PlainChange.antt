@@ -3,7 +3,7 @@ use Rattle.std.specs.Prelude.{ℕ, ℤ, List, [], ◌∷◌, Option, Some, None,
 use Rattle.ild_data.specs.Key.{put, value_at, without}
 use Rattle.ild_script.specs.declared.reply.No.{No}
 use Rattle.ild_script.specs.declared.reply.No.TheVariants as N
-use Rattle.ild_run_plain.specs.Value.{Value, is_storable}
+use Rattle.ild_script_meaning.specs.PlainValue.{Value, is_storable}
 use Rattle.ild_data.specs.Data.{Data, integer}
 use Rattle.ild_json.specs.Reading.{json_read}
 use Rattle.ild_json.specs.declared.error.JsonErr.{JsonErr}

@@ -14,7 +14,7 @@ use Rattle.ild_path_changes.proofs.Fields.{risen-at, written-at}
 use Rattle.ild_path_changes.proofs.Lifting.{chained, field_data-each, opened, present_field, tuple_item, written_is}
 use Rattle.ild_path_changes.proofs.Represented.{inside_data}
 use Rattle.ild_path_changes.specs.Places.{field_data, field_named, field_place, left_out, written}
-use Rattle.ild_path_edit.proofs.Sizes.{bytes_more, in_joined, in_list, in_map, in_paired, in_pairs, in_put, text_is, text_more}
+use Rattle.ild_path_sizes.proofs.Sizes.{bytes_more, in_joined, in_list, in_map, in_paired, in_pairs, in_put, text_is, text_more}
 use Rattle.ild_path_edits.proofs.HeldTyped.{held_is, inside_any, with_slot}
 use Rattle.ild_path_holder.proofs.Written.{is_written}
 use Rattle.ild_path_holder.specs.Along.{is_holder}

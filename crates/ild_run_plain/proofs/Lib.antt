@@ -1,4 +1,0 @@
-pub mod Entries
-pub mod Edits
-pub mod Staying
-pub mod Standing

@@ -1,4 +1,0 @@
-pub mod Value
-pub mod Change
-pub mod Plain
-pub mod Puts
