@@ -24,8 +24,8 @@ use ild_schema::{
 use std::alloc::{AllocError, Global};
 use std::collections::BTreeSet;
 
-/// The name of a field in a block.
-fn field_text(field: &Field) -> &Txt
+/// The name of a field in a block: the text that it is renamed to, or its name.
+pub fn field_text(field: &Field) -> &Txt
     ensures { result.now ≡ field_text field.now }
 {
     match &field.rename {
@@ -34,8 +34,8 @@ fn field_text(field: &Field) -> &Txt
     }
 }
 
-/// The text of an enum's member.
-fn member_text(member: &EnumMember) -> &Txt
+/// The text of an enum's member in a block: the one behind it, or its name.
+pub fn member_text(member: &EnumMember) -> &Txt
     ensures { result.now ≡ member_text member.now }
 {
     match &member.text {
@@ -115,8 +115,8 @@ fn see_name(schema: &Schema, ty: TypeNo, names: &mut [bool], name: &Txt) -> bool
     see_first(names, schema.part_named(ty, name.as_str()))
 }
 
-/// The integer of a member, where its text is one.
-pub(crate) fn member_integer(member: &EnumMember) -> Option<i128>
+/// The integer of an enum's member: the value of its text, where that is one in decimal, from -2^63 to 2^64 - 1.
+pub fn member_integer(member: &EnumMember) -> Option<i128>
     ensures { result ≡ member_integer member.now }
 {
     match &member.text {

@@ -41,8 +41,8 @@ pub(crate) fn is_hex(text: &[u8]) -> bool
     rest.is_empty()
 }
 
-/// The bytes of a text in hexadecimal, if it is one.
-pub(crate) fn bytes_of_hex(alloc: Global, text: &[u8]) -> Result<Option<Octets>, AllocError>
+/// The bytes of a text in hexadecimal, two digits of either case a byte, if it is one.
+pub fn bytes_of_hex(alloc: Global, text: &[u8]) -> Result<Option<Octets>, AllocError>
     ensures { IfOk result (λ bytes. bytes ≡ bytes_of_hex text.now) }
 {
     let mut bytes = Vec::new(alloc);

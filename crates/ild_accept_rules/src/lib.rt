@@ -10,7 +10,8 @@ mod prefix;
 mod seen;
 mod strategy;
 
-pub use clash::name_fault;
+pub use clash::{field_text, member_integer, member_text, name_fault};
 pub use delimiter::delim_fault;
+pub use hex::bytes_of_hex;
 pub use prefix::prefix_fault;
 pub use strategy::strategy_fault;
