@@ -7,14 +7,16 @@ use Rattle.ild_run_follow.proofs.following.+follow.Goals as goal
 
 pub tell_from-tell_in-requires : goal.tell_from-tell_in-requires
 tell_from-tell_in-requires g t c = λ κs le.
-    let behind = key_behind c.args.view c.args.from (drop c.args.from c.args.path.now) c.in-Ok-Enter.hamt c.in-Ok-Enter.k (stepped c.args.view c.args.from (drop c.args.from c.args.path.now) c.in-Ok-Enter.field-0 _ c.in-Ok-Enter.field-0-is c.in-Ok-Enter.ensures) in
+    let behind = key_behind c.args.view c.args.from (drop c.args.from c.args.path.now) c.in-Ok-Enter.hamt c.in-Ok-Enter.k
+    (stepped c.args.view c.args.from (drop c.args.from c.args.path.now) c.in-Ok-Enter.field-0 _ c.in-Ok-Enter.field-0-is c.in-Ok-Enter.ensures) in
     let lower = enters_lower (length c.args.path.now) c.args.from c.in-Ok-Enter.k behind in
     (omega (arith, lower), le)
 
 pub tell_from-returns-in-Ok-Here : goal.tell_from-returns-in-Ok-Here
 tell_from-returns-in-Ok-Here g t c =
     let schema = subst IsSchema c.schema.ensures (record { table = c.types-types.ensures.table; accepted = c.types-types.ensures.accepted }) in
-    tells_here g.H.KeyHash.hash_of c.args.view schema c.args.from (drop c.args.from c.args.path.now) c.args.tell (g.K.Store.moment c.args.store.now) (g.K.Store.moment c.tell_here.new.store) c.tell_here.result c.in-Ok-Here.part (stepped c.args.view c.args.from (drop c.args.from c.args.path.now) c.in-Ok-Here.field-0 _ c.in-Ok-Here.field-0-is c.in-Ok-Here.ensures) c.tell_here.ensures
+    tells_here g.H.KeyHash.hash_of c.args.view schema c.args.from (drop c.args.from c.args.path.now) c.args.tell (g.K.Store.moment c.args.store.now) (g.K.Store.moment c.tell_here.new.store) c.tell_here.result c.in-Ok-Here.part
+    (stepped c.args.view c.args.from (drop c.args.from c.args.path.now) c.in-Ok-Here.field-0 _ c.in-Ok-Here.field-0-is c.in-Ok-Here.ensures) c.tell_here.ensures
 
 pub tell_from-returns-in-Ok-Enter : goal.tell_from-returns-in-Ok-Enter
 tell_from-returns-in-Ok-Enter g t c =
@@ -29,20 +31,24 @@ tell_from-returns-in-Ok-Enter g t c =
 pub tell_from-returns-in-Err : goal.tell_from-returns-in-Err
 tell_from-returns-in-Err g t c =
     let schema = subst IsSchema c.schema.ensures (record { table = c.types-types.ensures.table; accepted = c.types-types.ensures.accepted }) in
-    tells_none g.H.KeyHash.hash_of c.args.view schema c.args.from (drop c.args.from c.args.path.now) c.args.tell (g.K.Store.moment c.args.store.now) (g.K.Store.moment c.args.store.now) c.absent.result c.in-Err.field-0 c.in-Err.ensures c.absent.ensures refl
+    tells_none g.H.KeyHash.hash_of c.args.view schema c.args.from (drop c.args.from c.args.path.now) c.args.tell (g.K.Store.moment c.args.store.now) (g.K.Store.moment c.args.store.now) c.absent.result c.in-Err.field-0
+    c.in-Err.ensures c.absent.ensures refl
 
 pub tell_in-returns-in_err-trail : goal.tell_in-returns-in_err-trail
 tell_in-returns-in_err-trail g t c =
     let schema = subst IsSchema c.schema.ensures (record { table = c.types-types.ensures.table; accepted = c.types-types.ensures.accepted }) in
     let here = ap Some c.as_str.ensures.same ∙ c.in-Some-get.ensures in
     let p = err_from_is_err_and c.from_residual.result c.from_residual.ensures.1 in
-    rw (p.1, p.2) (tells_stopped g.H.KeyHash.hash_of c.args.hamt schema (g.K.Store.moment c.args.store.now) c.args.path.now c.args.k c.args.tell c.in-Some.root c.in-Some.ensures c.as_str.result.now here (Err c.in_err-trail.field-0.0) (g.K.Store.moment c.trail_of.new.store) c.in_err-trail.ensures c.in_err-trail.field-0.0 refl)
+    rw (p.1, p.2) (tells_stopped g.H.KeyHash.hash_of c.args.hamt schema (g.K.Store.moment c.args.store.now) c.args.path.now c.args.k c.args.tell c.in-Some.root c.in-Some.ensures c.as_str.result.now here
+    (Err c.in_err-trail.field-0.0) (g.K.Store.moment c.trail_of.new.store) c.in_err-trail.ensures c.in_err-trail.field-0.0 refl)
 
 pub tell_in-returns-in_default-found : goal.tell_in-returns-in_default-found
 tell_in-returns-in_default-found g t c =
     let schema = subst IsSchema c.schema.ensures (record { table = c.types-types.ensures.table; accepted = c.types-types.ensures.accepted }) in
     let here = ap Some c.as_str.ensures.same ∙ c.in-Some-get.ensures in
-    tells_absent g.H.KeyHash.hash_of c.args.hamt schema (g.K.Store.moment c.args.store.now) c.args.path.now c.args.k c.args.tell c.in-Some.root c.in-Some.ensures c.as_str.result.now here (Ok c.in_ok-trail.trail) (g.K.Store.moment c.trail_of.new.store) c.in_ok-trail.ensures c.in_ok-trail.trail refl c.found.result (λ slots es has is. c.found.ensures g.H.KeyHash.hash_of c.as_str.result.now slots es has is) c.absent.result c.in_default-found.is c.absent.ensures
+    tells_absent g.H.KeyHash.hash_of c.args.hamt schema (g.K.Store.moment c.args.store.now) c.args.path.now c.args.k c.args.tell c.in-Some.root c.in-Some.ensures c.as_str.result.now here (Ok c.in_ok-trail.trail)
+    (g.K.Store.moment c.trail_of.new.store) c.in_ok-trail.ensures c.in_ok-trail.trail refl c.found.result (λ slots es has is. c.found.ensures g.H.KeyHash.hash_of c.as_str.result.now slots es has is) c.absent.result
+    c.in_default-found.is c.absent.ensures
 
 pub tell_in-overflow_add-k : goal.tell_in-overflow_add-k
 tell_in-overflow_add-k g t c =
@@ -60,10 +66,14 @@ pub tell_in-returns-in-Ok : goal.tell_in-returns-in-Ok
 tell_in-returns-in-Ok g t c =
     let schema = subst IsSchema c.schema.ensures (record { table = c.types-types.ensures.table; accepted = c.types-types.ensures.accepted }) in
     let here = ap Some c.as_str.ensures.same ∙ c.in-Some-get.ensures in
-    tells_on g.H.KeyHash.hash_of c.args.hamt schema (g.K.Store.moment c.args.store.now) c.args.path.now c.args.k c.args.tell c.in-Some.root c.in-Some.ensures c.as_str.result.now here (Ok c.in_ok-trail.trail) (g.K.Store.moment c.trail_of.new.store) c.in_ok-trail.ensures c.in_ok-trail.trail refl c.found.result (λ slots es has is. c.found.ensures g.H.KeyHash.hash_of c.as_str.result.now slots es has is) c.in-Some-found.node c.in-Ok.part (g.K.Store.moment c.tell_from.new.store) c.tell_from.result c.in-Some-found.is c.in-Ok.ensures c.tell_from.ensures
+    tells_on g.H.KeyHash.hash_of c.args.hamt schema (g.K.Store.moment c.args.store.now) c.args.path.now c.args.k c.args.tell c.in-Some.root c.in-Some.ensures c.as_str.result.now here (Ok c.in_ok-trail.trail)
+    (g.K.Store.moment c.trail_of.new.store) c.in_ok-trail.ensures c.in_ok-trail.trail refl c.found.result (λ slots es has is. c.found.ensures g.H.KeyHash.hash_of c.as_str.result.now slots es has is) c.in-Some-found.node
+    c.in-Ok.part (g.K.Store.moment c.tell_from.new.store) c.tell_from.result c.in-Some-found.is c.in-Ok.ensures c.tell_from.ensures
 
 pub tell_in-returns : goal.tell_in-returns
 tell_in-returns g t c =
     let schema = subst IsSchema c.schema.ensures (record { table = c.types-types.ensures.table; accepted = c.types-types.ensures.accepted }) in
     let here = ap Some c.as_str.ensures.same ∙ c.in-Some-get.ensures in
-    tells_refused g.H.KeyHash.hash_of c.args.hamt schema (g.K.Store.moment c.args.store.now) c.args.path.now c.args.k c.args.tell c.in-Some.root c.in-Some.ensures c.as_str.result.now here (Ok c.in_ok-trail.trail) (g.K.Store.moment c.trail_of.new.store) c.in_ok-trail.ensures c.in_ok-trail.trail refl c.found.result (λ slots es has is. c.found.ensures g.H.KeyHash.hash_of c.as_str.result.now slots es has is) c.in-Some-found.node c.in-Err.fault c.in-Some-found.is c.in-Err.ensures
+    tells_refused g.H.KeyHash.hash_of c.args.hamt schema (g.K.Store.moment c.args.store.now) c.args.path.now c.args.k c.args.tell c.in-Some.root c.in-Some.ensures c.as_str.result.now here (Ok c.in_ok-trail.trail)
+    (g.K.Store.moment c.trail_of.new.store) c.in_ok-trail.ensures c.in_ok-trail.trail refl c.found.result (λ slots es has is. c.found.ensures g.H.KeyHash.hash_of c.as_str.result.now slots es has is) c.in-Some-found.node
+    c.in-Err.fault c.in-Some-found.is c.in-Err.ensures
