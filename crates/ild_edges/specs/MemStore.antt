@@ -27,7 +27,7 @@ new_store fail_gets fail_puts = record { blocks = []; fail_gets = fail_gets; fai
 
 -- it tells its blocks, and no given ids
 abbrev pub moment_of : StoreState → Moment
-moment_of m = record { blocks = Some m.blocks; given = None; gets = m.gets; puts = m.puts; lacks = m.lacks; faults = m.faults; beneath = None }
+moment_of m = record { blocks = Some m.blocks; given = None; gets = m.gets; puts = m.puts; lacks = m.lacks; faults = m.faults; beneath = [] }
 
 -- what a get leaves
 abbrev pub after_get : StoreState → Result (Option (List ℕ)) EdgeErr → StoreState

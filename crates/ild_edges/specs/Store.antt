@@ -1,5 +1,5 @@
 -- What the calls of a store say. A content is a list of blocks, each under its id; of two with one id the first counts.
-use Rattle.std.specs.Prelude.{◌≡◌, ◌≢◌, ◌⊎◌, ◌↔◌, ℕ, ◌+◌, ◌-◌, ◌^◌, ◌<◌, ◌≤◌, List, Option, Some, None, Result, Ok, Err, find, Contains}
+use Rattle.std.specs.Prelude.{◌≡◌, ◌≢◌, ◌⊎◌, ◌↔◌, ℕ, ◌+◌, ◌-◌, ◌^◌, ◌<◌, ◌≤◌, List, [], ◌∷◌, Option, Some, None, Result, Ok, Err, find, Contains}
 use Rattle.ild_data.specs.Key.{same_text}
 use Rattle.ild_data.specs.Spell.{id_of}
 use Rattle.ild_edges.specs.Count.{Rose, bumped}
@@ -7,7 +7,7 @@ use Rattle.ild_edges.specs.Told.{IfTold, BothTold}
 use Rattle.ild_edges.specs.declared.error.EdgeErr.{EdgeErr}
 use Rattle.ild_edges.specs.declared.error.EdgeErr.TheVariants.{Failed, Memory}
 
--- The store beneath a batch: by which references the batch holds it and its own blocks, and how far it has come.
+-- A store beneath a batch: by which references the batch holds it and its own blocks, and how far it has come.
 pub record Below : Type 0 where
   pub names : ℕ × ℕ
   pub blocks : Option (List (List ℕ))
@@ -16,7 +16,8 @@ pub record Below : Type 0 where
   pub puts : ℕ
 
 -- A store at a moment: the blocks that it holds and the ids that it was given, where it tells them; how many gets and
--- puts there were, how often a block was not there, and how often a call failed.
+-- puts there were, how often a block was not there, and how often a call failed. Beneath a batch are the store over which it stands, and
+-- those beneath that; beneath another store are none.
 pub record Moment : Type 0 where
   pub blocks : Option (List (List ℕ))
   pub given : Option (List (List ℕ))
@@ -24,7 +25,7 @@ pub record Moment : Type 0 where
   pub puts : ℕ
   pub lacks : ℕ
   pub faults : ℕ
-  pub beneath : Option Below
+  pub beneath : List Below
 
 -- the block under an id
 abbrev pub block_at : List (List ℕ) → List ℕ → Option (List ℕ)
@@ -51,13 +52,23 @@ Gives id was now = (j : List ℕ) → Contains now j ↔ (Contains was j ⊎ (j 
 abbrev pub StaysGiven : List (List ℕ) → List (List ℕ) → Type 0
 StaysGiven was now = (id : List ℕ) → Contains was id → Contains now id
 
--- the store beneath is the same, holds the same, and was got from no oftener than its batch was asked
-pub record StaysBelow (m n : Moment) (b c : Below) : Type 0 where
+-- The store beneath is the same, holds the same, and was got from no oftener than its batch was asked, by these gets and puts before and
+-- now. Its count of gets doesn't fall, nor does it pass the end of its type.
+pub record StaysBelow (was now : ℕ × ℕ) (b c : Below) : Type 0 where
   pub names : c.names ≡ b.names
   pub blocks : c.blocks ≡ b.blocks
   pub given : c.given ≡ b.given
   pub puts : c.puts ≡ b.puts
-  pub gets : n.gets < 2 ^ 64 - 1 → n.puts < 2 ^ 64 - 1 → c.gets + (m.gets + m.puts) ≤ b.gets + (n.gets + n.puts)
+  pub more : b.gets ≤ c.gets
+  pub most : c.gets - (2 ^ 64 - 1) ≤ b.gets - (2 ^ 64 - 1)
+  pub gets : now.0 < 2 ^ 64 - 1 → now.1 < 2 ^ 64 - 1 → c.gets + (was.0 + was.1) ≤ b.gets + (now.0 + now.1)
+
+-- so do all beneath
+abbrev pub StayBelow : ℕ × ℕ → ℕ × ℕ → List Below → List Below → Type 0
+StayBelow was now [] [] = Unit {0}
+StayBelow was now [] (c ∷ cs) = ⊥
+StayBelow was now (b ∷ bs) [] = ⊥
+StayBelow was now (b ∷ bs) (c ∷ cs) = StaysBelow was now b c × StayBelow (b.gets, b.puts) (c.gets, c.puts) bs cs
 
 -- no count falls, what was held is held, and what was given is given
 pub record Later (m n : Moment) : Type 0 where
@@ -67,7 +78,7 @@ pub record Later (m n : Moment) : Type 0 where
   pub puts : m.puts ≤ n.puts
   pub lacks : m.lacks ≤ n.lacks
   pub faults : m.faults ≤ n.faults
-  pub beneath : BothTold m.beneath n.beneath (StaysBelow m n)
+  pub beneath : StayBelow (m.gets, m.puts) (n.gets, n.puts) m.beneath n.beneath
 
 -- what a get answers: the block under the id, or that there is none
 abbrev pub GetsAnswer : Moment → List ℕ → Result (Option (List ℕ)) EdgeErr → Moment → Type 0

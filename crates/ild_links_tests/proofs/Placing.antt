@@ -5,7 +5,7 @@ use Rattle.std.proofs.lemmas.Option.{same_Some, none-some}
 use Rattle.ild_data.specs.Key.{same_text}
 use Rattle.ild_data.specs.Spell.{id_of}
 use Rattle.ild_data.specs.declared.id.BlockId.{BlockId}
-use Rattle.ild_edges.specs.Store.{Moment, Below, StaysBelow, Later, Puts, Adds, IsFree, block_at}
+use Rattle.ild_edges.specs.Store.{Moment, Later, Puts, Adds, IsFree, block_at}
 use Rattle.ild_edges.specs.Told.{IfTold, BothTold}
 use Rattle.ild_edges.specs.declared.error.EdgeErr.TheVariants as D
 use Rattle.ild_links.specs.declared.error.TreeErr.TheVariants as E
@@ -41,21 +41,8 @@ both_same None (Some b) P is f = absurd (none-some b (sym is))
 both_same (Some a) None P is f = absurd (none-some a is)
 both_same (Some a) (Some b) P is f = subst (λ (x : List (List ℕ)). P a x) (same_Some a b (sym is)) (f a)
 
--- what stays beneath looks at no count of lacks
-beneath_lacks : (m n : Moment) (k l : ℕ) (b c : Option Below) → BothTold b c (StaysBelow m n) → BothTold b c (StaysBelow (with_lacks m k) (with_lacks n l))
-beneath_lacks m n k l None None t = tt
-beneath_lacks m n k l None (Some c) t = absurd t
-beneath_lacks m n k l (Some b) None t = absurd t
-beneath_lacks m n k l (Some b) (Some c) t = record { names = t.names; blocks = t.blocks; given = t.given; puts = t.puts; gets = t.gets }
-
-pub beneath_up : (m n : Moment) (k l : ℕ) (b c : Option Below) → BothTold b c (StaysBelow m (with_lacks n k)) → BothTold b c (StaysBelow m (with_lacks n l))
-beneath_up m n k l None None t = tt
-beneath_up m n k l None (Some c) t = absurd t
-beneath_up m n k l (Some b) None t = absurd t
-beneath_up m n k l (Some b) (Some c) t = record { names = t.names; blocks = t.blocks; given = t.given; puts = t.puts; gets = t.gets }
-
 later_lacks : (m n : Moment) (l : ℕ) → Later m n → Later (with_lacks m l) (with_lacks n l)
-later_lacks m n l later = record { keeps = later.keeps; given = later.given; gets = later.gets; puts = later.puts; lacks = omega arith; faults = later.faults; beneath = beneath_lacks m n l l m.beneath n.beneath later.beneath }
+later_lacks m n l later = record { keeps = later.keeps; given = later.given; gets = later.gets; puts = later.puts; lacks = omega arith; faults = later.faults; beneath = later.beneath }
 
 pub placed : (m n : Moment) (block : List ℕ) (id : BlockId) (l : ℕ) → id.0 ≡ id_of block → Puts m block (Ok None) n → Places (with_lacks m l) block (Ok id) (with_lacks n l)
 placed m n block id l is p = record {

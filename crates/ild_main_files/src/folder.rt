@@ -148,7 +148,7 @@ fn keep<R: Files + AllocGlobal>(
 }
 
 impl<'r, R: Files + AllocGlobal> Store for FolderStore<'r, R> {
-    ghost moment = { λ s. record { blocks = None; given = None; gets = s.gets; puts = s.puts; lacks = s.lacks; faults = s.faults; beneath = None } };
+    ghost moment = { λ s. record { blocks = None; given = None; gets = s.gets; puts = s.puts; lacks = s.lacks; faults = s.faults; beneath = [] } };
 
     fn get(&mut self, id: &BlockId) -> Result<Option<Octets>, EdgeErr> {
         self.gets = self.gets.saturating_add(1);

@@ -2,8 +2,9 @@
 use Rattle.std.proofs.Common.{◌≡◌, ℕ, List, Option, Some, None, sym, subst}
 use Rattle.std.proofs.Math.Logic.{∥∥₁_elim, ∥∥₁_map}
 use Rattle.std.proofs.Props.{props}
-use Rattle.ild_edges.specs.Store.{Below, Keeps, Moment, StaysBelow, StaysGiven}
+use Rattle.ild_edges.specs.Store.{Keeps, Moment, StaysGiven}
 use Rattle.ild_edges.specs.Told.{BothTold}
+use Rattle.ild_edges.proofs.Later.{below_of}
 use Rattle.ild_open_parts.specs.Reads.{OnlyReads}
 use Rattle.ild_schema.specs.Value.{Value}
 use Rattle.ild_view.specs.View.{IsView}
@@ -16,18 +17,6 @@ kept_same (Some held) b is = subst (λ (x : Option (List (List ℕ))). BothTold 
 given_same : (a b : Option (List (List ℕ))) → b ≡ a → BothTold a b StaysGiven
 given_same None b is = subst (λ (x : Option (List (List ℕ))). BothTold None x StaysGiven) (sym is) tt
 given_same (Some held) b is = subst (λ (x : Option (List (List ℕ))). BothTold (Some held) x StaysGiven) (sym is) (λ id here. here)
-
-below_of : (m n : Moment) (a b : Option Below) → ∥ BothTold a b (StaysBelow m n) ∥₁ → BothTold a b (StaysBelow m n)
-below_of m n None None some = tt
-below_of m n (Some b) (Some c) some = record {
-  names = ∥∥₁_elim some (hlevel props) (λ o. o.names);
-  blocks = ∥∥₁_elim some (hlevel props) (λ o. o.blocks);
-  given = ∥∥₁_elim some (hlevel props) (λ o. o.given);
-  puts = ∥∥₁_elim some (hlevel props) (λ o. o.puts);
-  gets = λ less fewer. ∥∥₁_elim some (hlevel props) (λ o. o.gets less fewer);
-}
-below_of m n None (Some c) some = ∥∥₁_elim some (hlevel props) (λ o. o)
-below_of m n (Some b) None some = ∥∥₁_elim some (hlevel props) (λ o. o)
 
 only_of : (m n : Moment) → ∥ OnlyReads m n ∥₁ → OnlyReads m n
 only_of m n some =
@@ -44,7 +33,7 @@ only_of m n some =
         puts = ∥∥₁_elim some (hlevel props) (λ o. o.later.puts);
         lacks = ∥∥₁_elim some (hlevel props) (λ o. o.later.lacks);
         faults = ∥∥₁_elim some (hlevel props) (λ o. o.later.faults);
-        beneath = below_of m n m.beneath n.beneath (∥∥₁_map some (λ o. o.later.beneath));
+        beneath = below_of (m.gets, m.puts) (n.gets, n.puts) m.beneath n.beneath (∥∥₁_map some (λ o. o.later.beneath));
       };
     }
 

@@ -4,8 +4,9 @@ use Rattle.std.proofs.Math.Logic.{∥∥₁_elim, ∥∥₁_map}
 use Rattle.std.proofs.Props.{props}
 use Rattle.std.proofs.lemmas.Option.{same_Some}
 use Rattle.ild_data.specs.Data.{Data}
-use Rattle.ild_edges.specs.Store.{Below, Keeps, Moment, StaysBelow, StaysGiven, block_at}
+use Rattle.ild_edges.specs.Store.{Keeps, Moment, StaysGiven, block_at}
 use Rattle.ild_edges.specs.Told.{BothTold}
+use Rattle.ild_edges.proofs.Later.{below_of}
 use Rattle.ild_typed_fronts.proofs.Representing.{fronts_are_fronts, fronts_represent}
 use Rattle.ild_typed_fronts.specs.Front.{front}
 use Rattle.ild_open_held.specs.Held.{IsHeld}
@@ -35,18 +36,6 @@ given_same : (a b : Option (List (List ℕ))) → b ≡ a → BothTold a b Stays
 given_same None b is = subst (λ (x : Option (List (List ℕ))). BothTold None x StaysGiven) (sym is) tt
 given_same (Some held) b is = subst (λ (x : Option (List (List ℕ))). BothTold (Some held) x StaysGiven) (sym is) (λ id here. here)
 
-below_of : (m n : Moment) (a b : Option Below) → ∥ BothTold a b (StaysBelow m n) ∥₁ → BothTold a b (StaysBelow m n)
-below_of m n None None some = tt
-below_of m n None (Some c) some = ∥∥₁_elim some (hlevel props) (λ x. x)
-below_of m n (Some b) None some = ∥∥₁_elim some (hlevel props) (λ x. x)
-below_of m n (Some b) (Some c) some = record {
-  names = ∥∥₁_elim some (hlevel props) (λ x. x.names);
-  blocks = ∥∥₁_elim some (hlevel props) (λ x. x.blocks);
-  given = ∥∥₁_elim some (hlevel props) (λ x. x.given);
-  puts = ∥∥₁_elim some (hlevel props) (λ x. x.puts);
-  gets = λ p q. ∥∥₁_elim some (hlevel props) (λ x. x.gets p q);
-}
-
 pub only_of : (m n : Moment) → ∥ OnlyReads m n ∥₁ → OnlyReads m n
 only_of m n some =
     let blocks : n.blocks ≡ m.blocks = ∥∥₁_elim some (hlevel props) (λ o. o.blocks) in
@@ -62,7 +51,7 @@ only_of m n some =
         puts = ∥∥₁_elim some (hlevel props) (λ o. o.later.puts);
         lacks = ∥∥₁_elim some (hlevel props) (λ o. o.later.lacks);
         faults = ∥∥₁_elim some (hlevel props) (λ o. o.later.faults);
-        beneath = below_of m n m.beneath n.beneath (∥∥₁_map some (λ o. o.later.beneath));
+        beneath = below_of (m.gets, m.puts) (n.gets, n.puts) m.beneath n.beneath (∥∥₁_map some (λ o. o.later.beneath));
       };
     }
 

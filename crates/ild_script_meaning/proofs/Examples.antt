@@ -113,7 +113,7 @@ same_block_once = refl
 
 -- what the store and the batch hold together
 abbrev moment : Moment
-moment = record { blocks = Some ((1 ∷ []) ∷ []); given = None; gets = 0; puts = 0; lacks = 0; faults = 0; beneath = None }
+moment = record { blocks = Some ((1 ∷ []) ∷ []); given = None; gets = 0; puts = 0; lacks = 0; faults = 0; beneath = [] }
 
 held_together : (together moment (record { state = batch; owed = 1; own = (2 ∷ []) ∷ [] })).blocks ≡ Some ((2 ∷ []) ∷ (1 ∷ []) ∷ [])
 held_together = refl
