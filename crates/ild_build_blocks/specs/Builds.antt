@@ -7,8 +7,9 @@ use Rattle.ild_data.specs.Limits.{longest_block}
 use Rattle.ild_data.specs.Spell.{spell, id_of}
 use Rattle.ild_edges.specs.Collide.{Collide}
 use Rattle.ild_edges.specs.Count.{Rose}
-use Rattle.ild_edges.specs.Store.{Moment, Later, block_at}
-use Rattle.ild_edges.specs.Told.{IfTold, BothTold}
+pub use Rattle.ild_edges.specs.Gained.{AddsOnly, Holds}
+use Rattle.ild_edges.specs.Store.{Moment, Later}
+use Rattle.ild_edges.specs.Told.{BothTold}
 use Rattle.ild_bulk.specs.Children.{AddsWhole}
 use Rattle.ild_bulk.specs.Putting.{GivesAll}
 use Rattle.ild_schema.specs.declared.number.Slot.{Slot}
@@ -44,14 +45,6 @@ pub record IsTooLong (h : List ℕ → List ℕ) (rows : List Row) (slot : Slot)
   pub long : longest_block < length block
 
 -- ---- what a store holds
-
--- each of these blocks is held under its id
-abbrev pub Holds : Moment → List (List ℕ) → Type 0
-Holds m blocks = IfTold m.blocks (λ held. AllByRecursion (λ b. block_at held (id_of b) ≡ Some b) blocks)
-
--- the blocks that came are among these
-abbrev pub AddsOnly : Moment → Moment → List (List ℕ) → Type 0
-AddsOnly m n blocks = BothTold m.blocks n.blocks (λ was now. (id b : List ℕ) → block_at now id ≡ Some b → (block_at was id ≡ Some b) ⊎ Contains blocks b)
 
 -- a block that is held collides with one of these, under this id
 pub record Collides (m : Moment) (blocks : List (List ℕ)) (id kept new : List ℕ) : Type 0 where

@@ -2,7 +2,8 @@
 use Rattle.std.specs.Prelude.{◌≡◌, ℕ, ◌+◌, ◌≤◌, Bool, true, List, length, Some, Result, Ok, Err, Contains}
 use Rattle.ild_cbor.specs.declared.why.BlockWhy.{BlockWhy}
 use Rattle.ild_edges.specs.Count.{Rose}
-use Rattle.ild_edges.specs.Store.{Moment, Later, block_at}
+pub use Rattle.ild_edges.specs.Gained.{OnlyReads}
+use Rattle.ild_edges.specs.Store.{Moment, block_at}
 use Rattle.ild_schema.specs.Value.{Value}
 use Rattle.ild_schema.specs.ValueSeen.{value_of}
 use Rattle.ild_schema.specs.declared.row.Row.{Row}
@@ -13,13 +14,6 @@ use Rattle.ild_open_held.specs.Splits.{AreHeld, Part, nodes_in}
 use Rattle.ild_open_parts.specs.Broken.{HasBrokenBlock}
 use Rattle.ild_open_parts.specs.declared.fault.OpenFault.{OpenFault}
 use Rattle.ild_open_parts.specs.declared.fault.OpenFault.TheVariants as F
-
--- gets alone
-pub record OnlyReads (m n : Moment) : Type 0 where
-  pub later : Later m n
-  pub blocks : n.blocks ≡ m.blocks
-  pub given : n.given ≡ m.given
-  pub puts : n.puts ≡ m.puts
 
 -- what is said of the fault of a reader: where a block is refused, that nothing is held, and what is wrong with the block of an id
 abbrev pub Stops : Type 0 → (List ℕ → BlockWhy → Type 0) → Moment → OpenFault → Moment → Type 0

@@ -17,7 +17,6 @@ use Rattle.ild_schema.specs.Value.{Value, Pairs, map, pairs_list}
 use Rattle.ild_node_slots.specs.declared.fault.HamtFault.{HamtFault}
 use Rattle.ild_node_slots.specs.declared.fault.HamtFault.TheVariants as F
 use Rattle.ild_hamt_trie.specs.Way.{way}
-use Rattle.ild_typed.specs.At.{InSlot, at}
 use Rattle.ild_typed.specs.Blocks.{nodes}
 use Rattle.ild_typed.specs.Composed.{usual}
 use Rattle.ild_typed.specs.Fits.{Fits}

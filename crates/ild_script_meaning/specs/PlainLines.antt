@@ -10,7 +10,7 @@ use Rattle.ild_script.specs.declared.reply.No.{No}
 use Rattle.ild_script.specs.declared.reply.No.TheVariants as N
 use Rattle.ild_script.specs.declared.reply.Reply.{Reply}
 use Rattle.ild_script.specs.declared.reply.Reply.TheVariants as R
-use Rattle.ild_script_meaning.specs.PlainValue.{Value, block_of, root_of, blocks_of}
+use Rattle.ild_script_meaning.specs.PlainValue.{Value, root_of, blocks_of}
 use Rattle.ild_script_meaning.specs.PlainChange.{Edit, set_at, del_at, only_segment, change, judged}
 use Rattle.ild_script_session.specs.Session.{State, Due}
 

@@ -1,43 +1,16 @@
 -- One line of a script over a store: answered as on the plain value, or refused for a cause that is there.
-use Rattle.std.specs.Prelude.{◌≡◌, ◌⊎◌, ℕ, ◌+◌, ◌≤◌, List, [], ◌∷◌, Option, Some, None, IsSome, IfSome, Contains}
+use Rattle.std.specs.Prelude.{◌≡◌, ◌⊎◌, ℕ, ◌+◌, ◌≤◌, List, Option, Some, None, IfSome, Contains}
 use Rattle.std.specs.List.{AllByRecursion}
-use Rattle.ild_data.specs.Spell.{id_of}
-use Rattle.ild_edges.specs.Collide.{Collide}
 use Rattle.ild_edges.specs.Count.{Rose}
-use Rattle.ild_edges.specs.Store.{Moment, Later, Keeps, block_at}
-use Rattle.ild_edges.specs.Told.{IfTold, BothTold}
+pub use Rattle.ild_edges.specs.Gained.{AddsOnly, AddsWhole, Collides, Holds, IsWhole}
+use Rattle.ild_edges.specs.Store.{Moment, Later, Keeps}
+use Rattle.ild_edges.specs.Told.{BothTold}
 use Rattle.ild_script.specs.declared.reply.No.{No}
 use Rattle.ild_script.specs.declared.reply.No.TheVariants as N
 use Rattle.ild_script.specs.declared.reply.Reply.{Reply}
 use Rattle.ild_script.specs.declared.reply.Reply.TheVariants as R
 use Rattle.ild_script_session.specs.Batch.{together, own_at, due_at, owed_at, puts_at}
 use Rattle.ild_script_session.specs.Session.{Stage, Due, Meaning, left}
-
--- each of these blocks is held under its id
-abbrev pub Holds : Moment → List (List ℕ) → Type 0
-Holds m blocks = IfTold m.blocks (λ held. AllByRecursion (λ b. block_at held (id_of b) ≡ Some b) blocks)
-
--- the blocks that came are among these
-abbrev pub AddsOnly : Moment → Moment → List (List ℕ) → Type 0
-AddsOnly m n blocks = BothTold m.blocks n.blocks (λ was now. (id b : List ℕ) → block_at now id ≡ Some b → (block_at was id ≡ Some b) ⊎ Contains blocks b)
-
--- of a block's places, with the ids of its children at each, one has all of them held
-pub record IsWhole (held : List (List ℕ)) (places : List (List (List ℕ))) : Type 0 where
-  pub ids : List (List ℕ)
-  pub place : Contains places ids
-  pub children : AllByRecursion (λ id. IsSome (block_at held id)) ids
-
--- each block that came has its children held, those of one of its places
-abbrev pub AddsWhole : Moment → Moment → (List ℕ → List (List (List ℕ))) → Type 0
-AddsWhole m n children = BothTold m.blocks n.blocks (λ was now. (id b : List ℕ) → block_at now id ≡ Some b → (block_at was id ≡ Some b) ⊎ IsWhole now (children b))
-
--- a block that is held collides with one of these
-pub record Collides (m : Moment) (blocks : List (List ℕ)) : Type 0 where
-  pub kept : List ℕ
-  pub new : List ℕ
-  pub held : Holds m (kept ∷ [])
-  pub among : Contains blocks new
-  pub collide : Collide kept new
 
 -- A block is lacking, or one came that isn't of its form: never where the store tells what it holds. Which bytes came, an
 -- untold store doesn't say, but that some came.

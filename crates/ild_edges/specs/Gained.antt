@@ -1,0 +1,40 @@
+-- What a store holds at a moment, and what came to it between two.
+use Rattle.std.specs.Prelude.{◌≡◌, ◌⊎◌, ℕ, List, [], ◌∷◌, Some, IsSome, Contains}
+use Rattle.std.specs.List.{AllByRecursion}
+use Rattle.ild_data.specs.Spell.{id_of}
+use Rattle.ild_edges.specs.Collide.{Collide}
+use Rattle.ild_edges.specs.Store.{Moment, Later, block_at}
+use Rattle.ild_edges.specs.Told.{IfTold, BothTold}
+
+-- each of these blocks is held under its id
+abbrev pub Holds : Moment → List (List ℕ) → Type 0
+Holds m blocks = IfTold m.blocks (λ held. AllByRecursion (λ b. block_at held (id_of b) ≡ Some b) blocks)
+
+-- the blocks that came are among these
+abbrev pub AddsOnly : Moment → Moment → List (List ℕ) → Type 0
+AddsOnly m n blocks = BothTold m.blocks n.blocks (λ was now. (id b : List ℕ) → block_at now id ≡ Some b → (block_at was id ≡ Some b) ⊎ Contains blocks b)
+
+-- of a block's places, with the ids of its children at each, one has all of them held
+pub record IsWhole (held : List (List ℕ)) (places : List (List (List ℕ))) : Type 0 where
+  pub ids : List (List ℕ)
+  pub place : Contains places ids
+  pub children : AllByRecursion (λ id. IsSome (block_at held id)) ids
+
+-- each block that came has its children held, those of one of its places
+abbrev pub AddsWhole : Moment → Moment → (List ℕ → List (List (List ℕ))) → Type 0
+AddsWhole m n children = BothTold m.blocks n.blocks (λ was now. (id b : List ℕ) → block_at now id ≡ Some b → (block_at was id ≡ Some b) ⊎ IsWhole now (children b))
+
+-- a block that is held collides with one of these
+pub record Collides (m : Moment) (blocks : List (List ℕ)) : Type 0 where
+  pub kept : List ℕ
+  pub new : List ℕ
+  pub held : Holds m (kept ∷ [])
+  pub among : Contains blocks new
+  pub collide : Collide kept new
+
+-- gets alone
+pub record OnlyReads (m n : Moment) : Type 0 where
+  pub later : Later m n
+  pub blocks : n.blocks ≡ m.blocks
+  pub given : n.given ≡ m.given
+  pub puts : n.puts ≡ m.puts
