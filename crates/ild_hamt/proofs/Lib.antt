@@ -2,6 +2,7 @@ pub mod After
 pub mod Beneath
 pub mod Edited
 pub mod Fulling
+pub mod Giving
 pub mod Going
 pub mod Hashed
 pub mod Holding

@@ -7,3 +7,4 @@ pub mod Holding
 pub mod Rewriting
 pub mod Removing
 pub mod Edits
+pub mod Given

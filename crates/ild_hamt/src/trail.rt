@@ -37,6 +37,7 @@ impl Trail {
     ghost use Rattle.ild_node.specs.Rows.{NestsIn, deepest_value};
     ghost use Rattle.ild_node_slots.specs.Views.{HasSlots};
     ghost use Rattle.ild_hamt.specs.Descending.{IsTrail, IsTrailOf, trail_blocks};
+    ghost use Rattle.ild_hamt.specs.Given.{GivesWay};
     ghost use Rattle.ild_hamt.specs.Edits.{CausedBy, Edits, IsTrailAlong, RemovesAlong, entries_at_end, is_full_at_end};
     ghost use Rattle.ild_hamt.specs.Removing.{Removes, RestIs};
     ghost use Rattle.ild_edges.specs.Told.{BothTold};
@@ -168,6 +169,9 @@ impl Trail {
         ensures held { (k : List ℕ) (v : Data) (slots : List TrieSlot) (es : List (List ℕ × Data)) → IsTrailFrom root.entry self H.hash_of k slots es → Stands val.now v
             → is_some (node_of H.hash_of usual (trie_levels usual) 0 (put bytewise k v es)) ≡ true
             → BothTold (K.moment store.old).blocks (K.moment store.new).blocks (HoldsAfter H.hash_of es (put bytewise k v es) result) }
+        // Each of the new nodes on the key's way was put, also one that was there before.
+        ensures gives { (k : List ℕ) (v : Data) (slots : List TrieSlot) (es : List (List ℕ × Data)) → IsTrailFrom root.entry self H.hash_of k slots es → Stands val.now v
+            → is_some (node_of H.hash_of usual (trie_levels usual) 0 (put bytewise k v es)) ≡ true → GivesWay H.hash_of k (put bytewise k v es) result (K.moment store.new) }
         // Over every store, of whatever trie the nodes on the way are.
         ensures edits { (k : List ℕ) (v : Data) (slots last : List TrieSlot) → IsTrailAlong root.entry self H.hash_of k slots last → Stands val.now v
             → Edits (trail_blocks self) (is_full_at_end H.hash_of k (trail_blocks self) last) (K.moment store.old) result (K.moment store.new) }
@@ -193,6 +197,9 @@ impl Trail {
         // Where the trie beneath the root was held, so is that beneath the answer; and each block that was added has its children held.
         ensures held { (k : List ℕ) (slots : List TrieSlot) (es : List (List ℕ × Data)) → IsTrailFrom root.entry self H.hash_of k slots es
             → BothTold (K.moment store.old).blocks (K.moment store.new).blocks (HoldsAfter H.hash_of es (without k es) result) }
+        // Each of the nodes on the key's way then was put, also one that was there before.
+        ensures gives { (k : List ℕ) (slots : List TrieSlot) (es : List (List ℕ × Data)) → IsTrailFrom root.entry self H.hash_of k slots es
+            → GivesWay H.hash_of k (without k es) result (K.moment store.new) }
         // Over every store, of whatever trie the nodes on the way are.
         ensures edits { (k : List ℕ) (slots last : List TrieSlot) → IsTrailAlong root.entry self H.hash_of k slots last
             → RemovesAlong k (entries_at_end H.hash_of k (trail_blocks self) last) (trail_blocks self) (K.moment store.old) result (K.moment store.new) }

@@ -3,6 +3,7 @@ use Rattle.std.specs.Prelude.{IsUtf8}
 use Rattle.std.specs.FinMap.{put}
 use Rattle.ild_data.specs.ByteOrder.{bytewise}
 use Rattle.ild_hamt.proofs.After.{holds-after, sound-put}
+use Rattle.ild_hamt.proofs.Giving.{way-given}
 use Rattle.ild_hamt_climb.proofs.Differing.{differs-put}
 use Rattle.ild_hamt.proofs.trail.Trail.set.Goals as goal
 
@@ -17,3 +18,7 @@ returns-clause-sets g c = λ k v slots es from stands room. c.set_way.ensures.se
 
 pub returns-clause-edits : goal.returns-clause-edits
 returns-clause-edits g c = λ k v slots last leads stands. c.set_way.ensures.edits g.H.KeyHash.hash_of k v slots last leads stands
+
+pub returns-clause-gives : goal.returns-clause-gives
+returns-clause-gives g c = λ k v slots es from stands room.
+    way-given g.H.KeyHash.hash_of k (put bytewise k v es) _ _ c.set_way.result (c.set_way.ensures.sets g.H.KeyHash.hash_of k v slots es from stands room)
