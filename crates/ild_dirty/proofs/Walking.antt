@@ -1,0 +1,195 @@
+-- Places that a walk reaches.
+use Rattle.std.proofs.Common.{◌≡◌, ◌≢◌, ◌⊎◌, inl, inr, ⊎_elim, ℕ, zero, suc, ◌+◌, ◌≤◌, ◌<◌, List, [], ◌∷◌, ◌++◌, length, get_or, Bool, true, false, cond, nat_eq, ◌-◌, Option, Some, None, refl, sym, ap, subst, ◌∙◌, arith}
+use Rattle.std.proofs.lemmas.Option.{same_Some, none-some}
+use Rattle.std.proofs.lemmas.List.{append_assoc, append-nil, get_or-set_same, get_or-set_other}
+use Rattle.std.proofs.Math.ListN.{set}
+use Rattle.std.specs.List.{position_from, find}
+use Rattle.ild_data.specs.Key.{same_text}
+use Rattle.ild_data.specs.Spell.{id_of}
+use Rattle.ild_edges.specs.Store.{block_at}
+use Rattle.ild_edges.proofs.Held.{block_at_id}
+use Rattle.ild_dirty.specs.Own.{index_at}
+use Rattle.ild_dirty.specs.Beneath.{Place, Places, place, no_places, beside, block_of, kind_of, IsTree, AreTrees, HasPlace, HasPlaceBelow, AgreesWith, blocks_in, blocks_below}
+use Rattle.ild_dirty.specs.Walk.{IsIn, IsOwn, own_block, IsOneOf, Grows, AreNoted}
+
+-- ---- members
+
+pub IsIn-left : {A : Type 0} (x : A) (xs ys : List A) → IsIn x xs → IsIn x (xs ++ ys)
+IsIn-left x [] ys is = absurd is
+IsIn-left x (y ∷ xs) ys (inl e) = inl e
+IsIn-left x (y ∷ xs) ys (inr more) = inr (IsIn-left x xs ys more)
+
+pub IsIn-right : {A : Type 0} (x : A) (xs ys : List A) → IsIn x ys → IsIn x (xs ++ ys)
+IsIn-right x [] ys is = is
+IsIn-right x (y ∷ xs) ys is = inr (IsIn-right x xs ys is)
+
+pub IsIn-append : {A : Type 0} (x : A) (xs ys : List A) → IsIn x (xs ++ ys) → IsIn x xs ⊎ IsIn x ys
+IsIn-append x [] ys is = inr is
+IsIn-append x (y ∷ xs) ys (inl e) = inl (inl e)
+IsIn-append x (y ∷ xs) ys (inr more) = ⊎_elim (λ here. inl (inr here)) (λ there. inr there) (IsIn-append x xs ys more)
+
+pub IsIn-one : {A : Type 0} (x y : A) → IsIn x (y ∷ []) → x ≡ y
+IsIn-one x y (inl e) = e
+IsIn-one x y (inr none) = absurd none
+
+pub IsIn-at : {A : Type 0} (xs : List A) (i : ℕ) (x d : A) → i < length xs → x ≡ get_or xs i d → IsIn x xs
+IsIn-at [] i x d lt is = absurd (omega (arith, lt))
+IsIn-at (y ∷ ys) zero x d lt is = inl is
+IsIn-at (y ∷ ys) (suc i) x d lt is = inr (IsIn-at ys i x d (omega (arith, lt)) is)
+
+-- ---- one place more
+
+of_one : (own : List (List ℕ)) (c : List ℕ × ℕ) (s : ℕ × ℕ) → IsOneOf own (c ∷ []) s → (index_at own c.0 ≡ Some s.0) × (c.1 ≡ s.1)
+of_one own c s one =
+    let is : one.child ≡ c = IsIn-one one.child c one.among in
+    (subst (λ (x : List ℕ × ℕ). index_at own x.0 ≡ Some s.0) is one.found, subst (λ (x : List ℕ × ℕ). x.1 ≡ s.1) is one.kind)
+
+pub grows_none : (own : List (List ℕ)) (c : List ℕ × ℕ) (old : List (ℕ × ℕ)) → None ≡ index_at own c.0 → Grows own (c ∷ []) old old
+grows_none own c old none = record {
+  more = [];
+  is = sym (append-nil old);
+  leads = λ s one. absurd (none-some s.0 (none ∙ (of_one own c s one).0));
+  only = λ s is. absurd is;
+}
+
+one_is : (own : List (List ℕ)) (c : List ℕ × ℕ) (i : ℕ) (s : ℕ × ℕ) → Some i ≡ index_at own c.0 → IsOneOf own (c ∷ []) s → s ≡ (i, c.1)
+one_is own c i (j, k) found one =
+    let both : (index_at own c.0 ≡ Some j) × (c.1 ≡ k) = of_one own c (j, k) one in
+    let same : i ≡ j = same_Some i j (found ∙ both.0) in
+    rw (same, both.1) refl
+
+pub grows_there : (own : List (List ℕ)) (c : List ℕ × ℕ) (i : ℕ) (old : List (ℕ × ℕ)) → Some i ≡ index_at own c.0 → IsIn (i, c.1) old → Grows own (c ∷ []) old old
+grows_there own c i old found there = record {
+  more = [];
+  is = sym (append-nil old);
+  leads = λ s one. subst (λ (x : ℕ × ℕ). IsIn x old) (sym (one_is own c i s found one)) there;
+  only = λ s is. absurd is;
+}
+
+pub grows_new : (own : List (List ℕ)) (c : List ℕ × ℕ) (i : ℕ) (old new : List (ℕ × ℕ)) → Some i ≡ index_at own c.0 → new ≡ old ++ (i, c.1) ∷ [] → Grows own (c ∷ []) old new
+grows_new own c i old new found is = record {
+  more = (i, c.1) ∷ [];
+  is = is;
+  leads = λ s one. rw (is, one_is own c i s found one) (IsIn-right (i, c.1) old ((i, c.1) ∷ []) (inl refl));
+  only = λ s among. record { child = c; among = inl refl; found = sym found ∙ ap (λ (x : ℕ × ℕ). Some x.0) (sym (IsIn-one s (i, c.1) among)); kind = ap (λ (x : ℕ × ℕ). x.1) (sym (IsIn-one s (i, c.1) among)) };
+}
+
+pub noted_more : (firsts : List (Option ℕ)) (old new more : List (ℕ × ℕ)) → new ≡ old ++ more → AreNoted firsts old → AreNoted firsts new
+noted_more firsts old new more is noted j k e = rw is (IsIn-left (j, k) old more (noted j k e))
+
+noted_by : (firsts : List (Option ℕ)) (old : List (ℕ × ℕ)) (i k : ℕ) → i < length firsts → AreNoted firsts old → (j l : ℕ) → (t : Bool) → t ≡ nat_eq j i → get_or (set firsts i (Some k)) j None ≡ Some l → IsIn (j, l) (old ++ (i, k) ∷ [])
+noted_by firsts old i k lt noted j l true is e =
+    let same : j ≡ i = grind (arith, is) in
+    let kind : k ≡ l = same_Some k l (sym (get_or-set_same firsts i (Some k) None lt) ∙ ap (λ n. get_or (set firsts i (Some k)) n None) (sym same) ∙ e) in
+    IsIn-right (j, l) old ((i, k) ∷ []) (inl (rw (same, kind) refl))
+noted_by firsts old i k lt noted j l false is e =
+    let apart : j ≢ i = λ same. grind (arith, is, same) in
+    IsIn-left (j, l) old ((i, k) ∷ []) (noted j l (sym (get_or-set_other firsts i j (Some k) None apart) ∙ e))
+
+pub noted_set : (firsts now : List (Option ℕ)) (old new : List (ℕ × ℕ)) (i k : ℕ) → i < length firsts → now ≡ set firsts i (Some k) → new ≡ old ++ (i, k) ∷ [] → AreNoted firsts old → AreNoted now new
+noted_set firsts now old new i k lt was is noted = rw (was, is) (λ j l e. noted_by firsts old i k lt noted j l (nat_eq j i) refl e)
+
+-- ---- places of many children
+
+one_more : (own : List (List ℕ)) (cs ds : List (List ℕ × ℕ)) (s : ℕ × ℕ) → IsOneOf own (cs ++ ds) s → IsOneOf own cs s ⊎ IsOneOf own ds s
+one_more own cs ds s one = ⊎_elim (λ first. inl (record { child = one.child; among = first; found = one.found; kind = one.kind })) (λ last. inr (record { child = one.child; among = last; found = one.found; kind = one.kind })) (IsIn-append one.child cs ds one.among)
+
+pub grows_then : (own : List (List ℕ)) (cs ds : List (List ℕ × ℕ)) (old mid new : List (ℕ × ℕ)) → Grows own cs old mid → Grows own ds mid new → Grows own (cs ++ ds) old new
+grows_then own cs ds old mid new first last = record {
+  more = first.more ++ last.more;
+  is = last.is ∙ ap (λ xs. xs ++ last.more) first.is ∙ append_assoc old first.more last.more;
+  leads = λ s one. ⊎_elim (λ in_first. subst (λ (xs : List (ℕ × ℕ)). IsIn s xs) (sym last.is) (IsIn-left s mid last.more (first.leads s in_first))) (λ in_last. last.leads s in_last) (one_more own cs ds s one);
+  only = λ s among. ⊎_elim
+      (λ came. let one : IsOneOf own cs s = first.only s came in record { child = one.child; among = IsIn-left one.child cs ds one.among; found = one.found; kind = one.kind })
+      (λ came. let one : IsOneOf own ds s = last.only s came in record { child = one.child; among = IsIn-right one.child cs ds one.among; found = one.found; kind = one.kind })
+      (IsIn-append s first.more last.more among);
+}
+
+pub grows_no : (own : List (List ℕ)) (old : List (ℕ × ℕ)) → Grows own [] old old
+grows_no own old = record { more = []; is = sym (append-nil old); leads = λ s one. absurd one.among; only = λ s is. absurd is }
+
+-- ---- trees of places
+
+block_by : (p : List ℕ → Bool) (t : Bool) (k i : ℕ) (x : List ℕ) (xs : List (List ℕ)) → cond t (Some k) (position_from p (k + 1) xs) ≡ Some i
+    → (position_from p (k + 1) xs ≡ Some i → (k + 1 ≤ i) × (i < k + 1 + length xs) × (find p xs ≡ Some (get_or xs (i - (k + 1)) []))) → (k ≤ i) × (i < k + length (x ∷ xs)) × (cond t (Some x) (find p xs) ≡ Some (get_or (x ∷ xs) (i - k) []))
+block_by p true k i x xs e rest =
+    let same : k ≡ i = same_Some k i e in
+    let none : i - k ≡ 0 = omega (arith, same) in
+    (omega (arith, same), omega (arith, same), ap (λ n. Some (get_or (x ∷ xs) n [])) (sym none))
+block_by p false k i x xs e rest =
+    let more : (k + 1 ≤ i) × (i < k + 1 + length xs) × (find p xs ≡ Some (get_or xs (i - (k + 1)) [])) = rest e in
+    let at_least : k + 1 ≤ i = more.0 in
+    let at_most : i < k + 1 + length xs = more.1 in
+    let next : i - k ≡ suc (i - (k + 1)) = omega (arith, at_least) in
+    (omega (arith, at_least), omega (arith, at_most), more.2 ∙ ap (λ n. Some (get_or (x ∷ xs) n [])) (sym next))
+
+block_from : (p : List ℕ → Bool) (k i : ℕ) (xs : List (List ℕ)) → position_from p k xs ≡ Some i → (k ≤ i) × (i < k + length xs) × (find p xs ≡ Some (get_or xs (i - k) []))
+block_from p k i [] e = absurd (none-some i e)
+block_from p k i (x ∷ xs) e = block_by p (p x) k i x xs e (block_from p (k + 1) i xs)
+
+-- an id that has a place is that of the block there
+pub index_found : (own : List (List ℕ)) (id : List ℕ) (i : ℕ) → index_at own id ≡ Some i → (i < length own) × (block_at own id ≡ Some (own_block own i))
+index_found own id i e =
+    let all : (0 ≤ i) × (i < 0 + length own) × (block_at own id ≡ Some (get_or own (i - 0) [])) = block_from (λ b. same_text (id_of b) id) 0 i own e in
+    let zero_off : i - 0 ≡ i = omega arith in
+    let lt : i < 0 + length own = all.1 in
+    (omega (arith, lt), all.2 ∙ ap (λ n. Some (get_or own n [])) zero_off)
+
+-- and its id leads there
+pub own_found : (own : List (List ℕ)) (id : List ℕ) (i : ℕ) → index_at own id ≡ Some i → IsOwn own i
+own_found own id i e =
+    let there : (i < length own) × (block_at own id ≡ Some (own_block own i)) = index_found own id i e in
+    record { within = there.0; found = ap (index_at own) (block_at_id own id (own_block own i) there.1) ∙ e }
+
+pub agrees_left : (own xs ys : List (List ℕ)) → AgreesWith own (xs ++ ys) → AgreesWith own xs
+agrees_left own [] ys all = tt
+agrees_left own (x ∷ xs) ys all = (all.0, agrees_left own xs ys all.1)
+
+pub agrees_right : (own xs ys : List (List ℕ)) → AgreesWith own (xs ++ ys) → AgreesWith own ys
+agrees_right own [] ys all = all
+agrees_right own (x ∷ xs) ys all = agrees_right own xs ys all.1
+
+agrees_top : (own : List (List ℕ)) (t : Place) → AgreesWith own (blocks_in t) → (block_at own (id_of (block_of t)) ≡ None) ⊎ (block_at own (id_of (block_of t)) ≡ Some (block_of t))
+agrees_top own (place b k ts) all = all.0
+
+-- the top of a tree is its first place
+pub has_top : (t : Place) → HasPlace t (block_of t) (kind_of t)
+has_top (place b k ts) = inl (refl, refl)
+
+agreed : (o : Option (List ℕ)) (c b : List ℕ) → (o ≡ None) ⊎ (o ≡ Some c) → o ≡ Some b → c ≡ b
+agreed o c b (inl none) e = absurd (none-some b (sym none ∙ e))
+agreed o c b (inr some) e = same_Some c b (sym some ∙ e)
+
+-- the block of the batch's own under the id of a tree's top is that top
+pub top_is : (own : List (List ℕ)) (t : Place) (id b : List ℕ) → AgreesWith own (blocks_in t) → id_of (block_of t) ≡ id → block_at own id ≡ Some b → block_of t ≡ b
+top_is own t id b agrees top found = agreed (block_at own (id_of (block_of t))) (block_of t) b (agrees_top own t agrees) (ap (block_at own) top ∙ found)
+
+child_below : (children : ℕ → List ℕ → List (List ℕ × ℕ)) (own : List (List ℕ)) (cs : List (List ℕ × ℕ)) (ts : Places) → AreTrees children cs ts → (c : List ℕ × ℕ) → IsIn c cs → (b : List ℕ) → AgreesWith own (blocks_below ts) → block_at own c.0 ≡ Some b → HasPlaceBelow ts b c.1
+child_below children own [] ts trees c is b agrees found = absurd is
+child_below children own (d ∷ cs) no_places trees c is b agrees found = absurd trees
+child_below children own (d ∷ cs) (beside t ts) trees c (inl same) b agrees found =
+    let top : block_of t ≡ b = top_is own t c.0 b (agrees_left own (blocks_in t) (blocks_below ts) agrees) (trees.0 ∙ ap (λ (x : List ℕ × ℕ). x.0) (sym same)) found in
+    let kind : kind_of t ≡ c.1 = trees.1 ∙ ap (λ (x : List ℕ × ℕ). x.1) (sym same) in
+    inl (rw (← top, ← kind) (has_top t))
+child_below children own (d ∷ cs) (beside t ts) trees c (inr more) b agrees found = inr (child_below children own cs ts trees.3 c more b (agrees_right own (blocks_in t) (blocks_below ts) agrees) found)
+
+mutual
+  -- where a block has a place, its children have places too
+  pub child_place : (children : ℕ → List ℕ → List (List ℕ × ℕ)) (own : List (List ℕ)) (t : Place) → IsTree children t → AgreesWith own (blocks_in t) → (b : List ℕ) (k : ℕ) → HasPlace t b k
+      → (c : List ℕ × ℕ) → IsIn c (children k b) → (d : List ℕ) → block_at own c.0 ≡ Some d → HasPlace t d c.1
+  child_place children own (place a j ts) tree agrees b k (inl here) c is d found =
+      let same : children k b ≡ children j a = rw (here.0, here.1) refl in
+      inr (child_below children own (children j a) ts tree c (subst (λ (cs : List (List ℕ × ℕ)). IsIn c cs) same is) d agrees.1 found)
+  child_place children own (place a j ts) tree agrees b k (inr below) c is d found = inr (child_places children own (children j a) ts tree agrees.1 b k below c is d found)
+
+  child_places : (children : ℕ → List ℕ → List (List ℕ × ℕ)) (own : List (List ℕ)) (cs : List (List ℕ × ℕ)) (ts : Places) → AreTrees children cs ts → AgreesWith own (blocks_below ts) → (b : List ℕ) (k : ℕ) → HasPlaceBelow ts b k
+      → (c : List ℕ × ℕ) → IsIn c (children k b) → (d : List ℕ) → block_at own c.0 ≡ Some d → HasPlaceBelow ts d c.1
+  child_places children own cs no_places trees agrees b k below c is d found = absurd below
+  child_places children own [] (beside t ts) trees agrees b k below c is d found = absurd trees
+  child_places children own (e ∷ cs) (beside t ts) trees agrees b k (inl here) c is d found = inl (child_place children own t trees.2 (agrees_left own (blocks_in t) (blocks_below ts) agrees) b k here c is d found)
+  child_places children own (e ∷ cs) (beside t ts) trees agrees b k (inr there) c is d found = inr (child_places children own cs ts trees.3 (agrees_right own (blocks_in t) (blocks_below ts) agrees) b k there c is d found)
+
+pub among_at : (xs : List (ℕ × ℕ)) (i j k : ℕ) (d : ℕ × ℕ) → i < length xs → (get_or xs i d).0 ≡ j → (get_or xs i d).1 ≡ k → IsIn (j, k) xs
+among_at [] i j k d lt first second = absurd (omega (arith, lt))
+among_at (x ∷ xs) zero j k d lt first second = inl (rw (← first, ← second) refl)
+among_at (x ∷ xs) (suc i) j k d lt first second = inr (among_at xs i j k d (omega (arith, lt)) first second)

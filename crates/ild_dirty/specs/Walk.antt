@@ -1,0 +1,126 @@
+-- The places that a walk reaches among a batch's own blocks, and an order of them in which children stand first.
+use Rattle.std.specs.Prelude.{◌≡◌, ◌⊎◌, ℕ, ◌+◌, ◌<◌, ◌≤◌, List, [], ◌∷◌, ◌++◌, length, get_or, Bool, true, false, ◌&&◌, ◌||◌, nat_eq, Option, Some, None, if◌then◌else◌}
+use Rattle.std.specs.Option.{option_map_or}
+use Rattle.ild_data.specs.Spell.{id_of}
+use Rattle.ild_dirty.specs.Own.{index_at}
+use Rattle.ild_dirty.specs.Beneath.{Place, HasPlace, IsTreeAt, AgreesWith, blocks_in}
+
+-- something is one of these
+abbrev pub IsIn : {A : Type 0} → A → List A → Type 0
+IsIn x [] = ⊥
+IsIn x (y ∷ ys) = (x ≡ y) ⊎ IsIn x ys
+
+-- one of the batch's own blocks, by its number
+abbrev pub own_block : List (List ℕ) → ℕ → List ℕ
+own_block own i = get_or own i []
+
+-- this place of one of the batch's own blocks is that of one of the children
+pub record IsOneOf (own : List (List ℕ)) (cs : List (List ℕ × ℕ)) (s : ℕ × ℕ) : Type 0 where
+  pub child : List ℕ × ℕ
+  pub among : IsIn child cs
+  pub found : index_at own child.0 ≡ Some s.0
+  pub kind : child.1 ≡ s.1
+
+-- of these children those that are the batch's own are among the places
+abbrev pub Leads : List (List ℕ) → List (List ℕ × ℕ) → List (ℕ × ℕ) → Type 0
+Leads own cs spots = (s : ℕ × ℕ) → IsOneOf own cs s → IsIn s spots
+
+-- places came behind those that were, all of these children
+pub record Grows (own : List (List ℕ)) (cs : List (List ℕ × ℕ)) (old new : List (ℕ × ℕ)) : Type 0 where
+  pub more : List (ℕ × ℕ)
+  pub is : new ≡ old ++ more
+  pub leads : Leads own cs new
+  pub only : (s : ℕ × ℕ) → IsIn s more → IsOneOf own cs s
+
+-- what is noted of a block is the kind of a place at which it was reached
+abbrev pub AreNoted : List (Option ℕ) → List (ℕ × ℕ) → Type 0
+AreNoted firsts spots = (j k : ℕ) → get_or firsts j None ≡ Some k → IsIn (j, k) spots
+
+-- the children of each of these places lead on
+abbrev pub LeadOn : List (List ℕ) → (ℕ → List ℕ → List (List ℕ × ℕ)) → List (ℕ × ℕ) → List (ℕ × ℕ) → Type 0
+LeadOn own children passed spots = (s : ℕ × ℕ) → IsIn s passed → Leads own (children s.1 (own_block own s.0)) spots
+
+-- each of these places is one of the tree
+abbrev pub ArePlaces : List (List ℕ) → Place → List (ℕ × ℕ) → Type 0
+ArePlaces own t spots = (s : ℕ × ℕ) → IsIn s spots → HasPlace t (own_block own s.0) s.1
+
+-- one of the batch's own blocks by its number, which its id leads to
+pub record IsOwn (own : List (List ℕ)) (i : ℕ) : Type 0 where
+  pub within : i < length own
+  pub found : index_at own (id_of (own_block own i)) ≡ Some i
+
+-- each of these places is that of one of the batch's own blocks
+abbrev pub AreInside : List (List ℕ) → List (ℕ × ℕ) → Type 0
+AreInside own spots = (s : ℕ × ℕ) → IsIn s spots → IsOwn own s.0
+
+-- all places of the batch's own blocks that are reached from an id
+pub record AreReached (own : List (List ℕ)) (children : ℕ → List ℕ → List (List ℕ × ℕ)) (id : List ℕ) (kind : ℕ) (spots : List (ℕ × ℕ)) : Type 0 where
+  pub rooted : Leads own ((id, kind) ∷ []) spots
+  pub closed : LeadOn own children spots spots
+  pub inside : AreInside own spots
+  pub sound : (t : Place) → IsTreeAt children id kind t → AgreesWith own (blocks_in t) → ArePlaces own t spots
+
+-- ---- the order
+
+abbrev pub is_in : ℕ → List ℕ → Bool
+is_in j [] = false
+is_in j (i ∷ is) = nat_eq i j || is_in j is
+
+-- a child is no block of the batch's own, or one of these
+abbrev pub is_done : List (List ℕ) → List ℕ → List ℕ × ℕ → Bool
+is_done own order c = option_map_or (λ j. is_in j order) (index_at own c.0) true
+
+abbrev pub are_done : List (List ℕ) → List ℕ → List (List ℕ × ℕ) → Bool
+are_done own order [] = true
+are_done own order (c ∷ cs) = is_done own order c && are_done own order cs
+
+-- at this place all children of the block are
+abbrev pub is_ready : List (List ℕ) → (ℕ → List ℕ → List (List ℕ × ℕ)) → List ℕ → ℕ × ℕ → Bool
+is_ready own children order s = are_done own order (children s.1 (own_block own s.0))
+
+-- a block is ready at one of the places at which it is reached
+pub record HasReady (own : List (List ℕ)) (children : ℕ → List ℕ → List (List ℕ × ℕ)) (spots : List (ℕ × ℕ)) (before : List ℕ) (i : ℕ) : Type 0 where
+  pub kind : ℕ
+  pub reached : IsIn (i, kind) spots
+  pub ready : is_ready own children before (i, kind) ≡ true
+
+-- each block stands once, and behind its children at one of its places
+abbrev pub Follows : List (List ℕ) → (ℕ → List ℕ → List (List ℕ × ℕ)) → List (ℕ × ℕ) → List ℕ → List ℕ → Type 0
+Follows own children spots before [] = Unit {0}
+Follows own children spots before (i ∷ is) = (is_in i before ≡ false) × HasReady own children spots before i × Follows own children spots (before ++ i ∷ []) is
+
+-- none of these places can be next
+abbrev pub AreStuck : List (List ℕ) → (ℕ → List ℕ → List (List ℕ × ℕ)) → List ℕ → List (ℕ × ℕ) → Type 0
+AreStuck own children order spots = (s : ℕ × ℕ) → IsIn s spots → (is_in s.0 order ≡ true) ⊎ (is_ready own children order s ≡ false)
+
+-- how many are not marked
+abbrev pub unmarked : List Bool → ℕ
+unmarked [] = 0
+unmarked (b ∷ bs) = (if b then 0 else 1) + unmarked bs
+
+-- marks of what stands in an order
+pub record AreMarks (own : List (List ℕ)) (order : List ℕ) (marks : List Bool) : Type 0 where
+  pub are : (j : ℕ) → get_or marks j false ≡ is_in j order
+  pub len : length marks ≡ length own
+  pub count : unmarked marks + length order ≡ length own
+
+-- an order so far, with its marks
+pub record IsSoFar (own : List (List ℕ)) (children : ℕ → List ℕ → List (List ℕ × ℕ)) (spots : List (ℕ × ℕ)) (order : List ℕ) (marks : List Bool) : Type 0 where
+  pub inside : AreInside own spots
+  pub marked : AreMarks own order marks
+  pub follows : Follows own children spots [] order
+
+-- what one pass over the places leaves
+pub record Passes (own : List (List ℕ)) (children : ℕ → List ℕ → List (List ℕ × ℕ)) (spots : List (ℕ × ℕ)) (old : List ℕ) (more : Bool) (new : List ℕ) (marks : List Bool) : Type 0 where
+  pub so_far : IsSoFar own children spots new marks
+  pub grown : length old ≤ length new
+  pub longer : more ≡ true → length old < length new
+  pub stuck : more ≡ false → AreStuck own children new spots
+
+-- an order of the blocks that are reached, with children first
+pub record IsPlan (own : List (List ℕ)) (children : ℕ → List ℕ → List (List ℕ × ℕ)) (id : List ℕ) (kind : ℕ) (order : List ℕ) : Type 0 where
+  pub spots : List (ℕ × ℕ)
+  pub reached : AreReached own children id kind spots
+  pub follows : Follows own children spots [] order
+  pub stuck : AreStuck own children order spots
+  pub most : length order ≤ length own
