@@ -1,7 +1,7 @@
 -- What calls of a batch say, by what it holds of its own and what the store beneath it answers.
-use Rattle.std.proofs.Common.{◌⊎◌, ◌≡◌, ◌≢◌, inl, inr, ⊎_elim, ℕ, zero, suc, ◌≤◌, List, [], ◌∷◌, ◌++◌, map, Bool, true, false, cond, Option, Some, None, Result, Ok, Err, refl, sym, ap, subst, ◌∙◌, arith}
-use Rattle.std.proofs.lemmas.List.{map-append}
-use Rattle.std.specs.Prelude.{option_map, Contains}
+use Rattle.std.proofs.Common.{◌⊎◌, ◌≡◌, ◌≢◌, inl, inr, ⊎_elim, ℕ, zero, suc, ◌+◌, ◌-◌, ◌^◌, ◌<◌, ◌≤◌, List, [], ◌∷◌, ◌++◌, length, map, Bool, true, false, cond, Option, Some, None, Result, Ok, Err, refl, sym, ap, subst, ◌∙◌, arith}
+use Rattle.std.proofs.lemmas.List.{map-append, length-append}
+use Rattle.std.specs.Prelude.{option_map, Contains, slice_get}
 use Rattle.std.specs.Option.{option_or}
 use Rattle.std.proofs.lemmas.Option.{same_Some, none-some}
 use Rattle.std.proofs.lemmas.List.Elements.{Contains-append_left, Contains-append_right, Contains-append_cases}
@@ -9,7 +9,7 @@ use Rattle.ild_data.specs.Key.{same_text}
 use Rattle.ild_data.specs.Spell.{id_of}
 use Rattle.ild_edges.specs.Count.{bumped}
 use Rattle.ild_edges.specs.Told.{IfTold, BothTold}
-use Rattle.ild_edges.specs.Store.{Moment, Below, StaysBelow, Later, Gets, GetsAnswer, Puts, Adds, IsFree, Keeps, Gives, block_at}
+use Rattle.ild_edges.specs.Store.{Moment, StaysBelow, asked_over, Later, Gets, GetsAnswer, Puts, Adds, IsFree, Keeps, Gives, block_at}
 use Rattle.ild_edges.specs.declared.error.EdgeErr.{EdgeErr}
 use Rattle.ild_edges.specs.declared.error.EdgeErr.TheVariants as E
 use Rattle.ild_edges.proofs.Held.{block_at_id, Adds-push, Adds-held, keeps_adds}
@@ -89,20 +89,33 @@ beneath_told own (Some x) (Some y) p = keeps_beneath own x y p
 beneath_told own None (Some y) p = absurd p
 beneath_told own (Some x) None p = absurd p
 
-abbrev pub below_of : ℕ × ℕ → Moment → Below
-below_of x m = record { names = x; blocks = m.blocks; given = m.given; gets = m.gets; puts = m.puts }
+-- what is beneath stays
+abbrev pub BelowStays : Moment → Moment → Type 0
+BelowStays m n = (i : ℕ) → BothTold (slice_get m.beneath i) (slice_get n.beneath i) (StaysBelow (asked_over m i) (asked_over n i))
+
+-- the store itself, and what is beneath that
+below_all : (x : ℕ × ℕ) (m n : Moment) (was now : List (List ℕ)) (g h p q : ℕ) → Later m n → BothTold (slice_get (batch_moment m was g p x).beneath 0) (slice_get (batch_moment n now h q x).beneath 0) (StaysBelow (g, p) (h, q)) → BelowStays (batch_moment m was g p x) (batch_moment n now h q x)
+below_all x m n was now g h p q later first zero = first
+below_all x m n was now g h p q later first (suc zero) = later.beneath zero
+below_all x m n was now g h p q later first (suc (suc i)) = later.beneath (suc i)
 
 -- the store beneath was not asked
-below_still : (x : ℕ × ℕ) (m : Moment) (was now : List (List ℕ)) (g h p q : ℕ) → g ≤ h → p ≤ q → StaysBelow (batch_moment m was g p x) (batch_moment m now h q x) (below_of x m) (below_of x m)
-below_still x m was now g h p q more_gets more_puts = record { names = refl; blocks = refl; given = refl; puts = refl; gets = λ few_gets few_puts. omega (arith, more_gets, more_puts) }
+below_still : (x : ℕ × ℕ) (m : Moment) (own : List (List ℕ)) (g h p q : ℕ) → g ≤ h → p ≤ q → BelowStays (batch_moment m own g p x) (batch_moment m own h q x)
+below_still x m own g h p q more_gets more_puts = below_all x m m own own g h p q (Later-refl m)
+    (record { names = refl; blocks = refl; given = refl; puts = refl; own = λ few. omega (arith, more_puts); more = omega arith; most = omega arith; gets = λ few_gets few_puts. omega (arith, more_gets, more_puts) })
 
 -- it was asked once, for one call of the batch
-below_asked : (x : ℕ × ℕ) (m n : Moment) (was now : List (List ℕ)) (g h p q : ℕ) (id : List ℕ) (r : Result (Option (List ℕ)) EdgeErr) → Gets m id r n → (((h ≡ bumped g) × (q ≡ p)) ⊎ ((h ≡ g) × (q ≡ bumped p))) → StaysBelow (batch_moment m was g p x) (batch_moment n now h q x) (below_of x m) (below_of x n)
-below_asked x m n was now g h p q id r asked (inl count) = record { names = refl; blocks = asked.blocks; given = asked.given; puts = asked.puts; gets = λ few_gets few_puts. omega (arith, few_gets, few_puts, count.0, count.1, asked.gets) }
-below_asked x m n was now g h p q id r asked (inr count) = record { names = refl; blocks = asked.blocks; given = asked.given; puts = asked.puts; gets = λ few_gets few_puts. omega (arith, few_gets, few_puts, count.0, count.1, asked.gets) }
+below_asked : (x : ℕ × ℕ) (m n : Moment) (was now : List (List ℕ)) (g h p q : ℕ) (id : List ℕ) (r : Result (Option (List ℕ)) EdgeErr) → Gets m id r n → (((h ≡ bumped g) × (q ≡ p)) ⊎ ((h ≡ g) × (q ≡ bumped p))) → (q < 2 ^ 64 - 1 → length now + p ≤ length was + q) → BelowStays (batch_moment m was g p x) (batch_moment n now h q x)
+below_asked x m n was now g h p q id r asked (inl count) grown = below_all x m n was now g h p q asked.later
+    (record { names = refl; blocks = asked.blocks; given = asked.given; puts = asked.puts; own = grown; more = asked.later.gets; most = omega (arith, asked.gets); gets = λ few_gets few_puts. omega (arith, few_gets, few_puts, count.0, count.1, asked.gets) })
+below_asked x m n was now g h p q id r asked (inr count) grown = below_all x m n was now g h p q asked.later
+    (record { names = refl; blocks = asked.blocks; given = asked.given; puts = asked.puts; own = grown; more = asked.later.gets; most = omega (arith, asked.gets); gets = λ few_gets few_puts. omega (arith, few_gets, few_puts, count.0, count.1, asked.gets) })
+
+own_grown : (own : List (List ℕ)) (b : List ℕ) (p q : ℕ) → q ≡ bumped p → q < 2 ^ 64 - 1 → length (own ++ b ∷ []) + p ≤ length own + q
+own_grown own b p q count few = omega (arith, count, few, length-append own (b ∷ []))
 
 -- the batch keeps its own blocks
-pub later_kept : (x : ℕ × ℕ) (m n : Moment) (own : List (List ℕ)) (g h p q : ℕ) → Later m n → g ≤ h → p ≤ q → StaysBelow (batch_moment m own g p x) (batch_moment n own h q x) (below_of x m) (below_of x n) → Later (batch_moment m own g p x) (batch_moment n own h q x)
+pub later_kept : (x : ℕ × ℕ) (m n : Moment) (own : List (List ℕ)) (g h p q : ℕ) → Later m n → g ≤ h → p ≤ q → BelowStays (batch_moment m own g p x) (batch_moment n own h q x) → Later (batch_moment m own g p x) (batch_moment n own h q x)
 later_kept x m n own g h p q later more_gets more_puts below = record {
   keeps = beneath_told own m.blocks n.blocks later.keeps;
   given = λ id is. is;
@@ -119,7 +132,7 @@ later_kept x m n own g h p q later more_gets more_puts below = record {
 pub gets_own : (x : ℕ × ℕ) (m : Moment) (own : List (List ℕ)) (g h p : ℕ) (id b : List ℕ) → h ≡ bumped g → g ≤ h → block_at own id ≡ Some b → Gets (batch_moment m own g p x) id (Ok (Some b)) (batch_moment m own h p x)
 gets_own x m own g h p id b count more is = record {
   answer = (block_at_id own id b is, if_all (λ held. own ++ held) (λ blocks. block_at blocks id ≡ Some b) m.blocks (λ held. own_first own held id b is));
-  later = later_kept x m m own g h p p (Later-refl m) more (omega arith) (below_still x m own own g h p p more (omega arith));
+  later = later_kept x m m own g h p p (Later-refl m) more (omega arith) (below_still x m own g h p p more (omega arith));
   blocks = refl;
   given = refl;
   gets = count;
@@ -136,7 +149,7 @@ get_beneath x m n own g h p id (Err E.Memory) none answer = tt
 pub gets_beneath : (x : ℕ × ℕ) (m n : Moment) (own : List (List ℕ)) (g h p : ℕ) (id : List ℕ) (r : Result (Option (List ℕ)) EdgeErr) → h ≡ bumped g → g ≤ h → block_at own id ≡ None → Gets m id r n → Gets (batch_moment m own g p x) id r (batch_moment n own h p x)
 gets_beneath x m n own g h p id r count more none gets = record {
   answer = get_beneath x m n own g h p id r none gets.answer;
-  later = later_kept x m n own g h p p gets.later more (omega arith) (below_asked x m n own own g h p p id r gets (inl (count, refl)));
+  later = later_kept x m n own g h p p gets.later more (omega arith) (below_asked x m n own own g h p p id r gets (inl (count, refl)) (λ few. omega arith));
   blocks = ap (option_map (λ held. own ++ held)) gets.blocks;
   given = refl;
   gets = count;
@@ -156,7 +169,7 @@ puts_own x m own g p q b count more is = record {
         (both (λ was now. IsFree b (own ++ was) × Adds b (own ++ was) (own ++ now)) m.blocks m.blocks refl (λ held. (inr (own_first own held (id_of b) b is), Adds-held (own ++ held) b (own_first own held (id_of b) b is)))),
     given_already (map id_of own) (id_of b) (Contains-map id_of own b (block_at-among own (id_of b) b is)),
   );
-  later = later_kept x m m own g g p q (Later-refl m) (omega arith) more (below_still x m own own g g p q (omega arith) more);
+  later = later_kept x m m own g g p q (Later-refl m) (omega arith) more (below_still x m own g g p q (omega arith) more);
   gets = refl;
   puts = count;
 }
@@ -165,7 +178,7 @@ puts_own x m own g p q b count more is = record {
 pub puts_other_own : (x : ℕ × ℕ) (m : Moment) (own : List (List ℕ)) (g p q : ℕ) (b c : List ℕ) → q ≡ bumped p → p ≤ q → block_at own (id_of b) ≡ Some c → c ≢ b → Puts (batch_moment m own g p x) b (Ok (Some c)) (batch_moment m own g q x)
 puts_other_own x m own g p q b c count more is apart = record {
   answer = (block_at_id own (id_of b) c is, apart, refl, if_all (λ held. own ++ held) (λ blocks. block_at blocks (id_of b) ≡ Some c) m.blocks (λ held. own_first own held (id_of b) c is), refl);
-  later = later_kept x m m own g g p q (Later-refl m) (omega arith) more (below_still x m own own g g p q (omega arith) more);
+  later = later_kept x m m own g g p q (Later-refl m) (omega arith) more (below_still x m own g g p q (omega arith) more);
   gets = refl;
   puts = count;
 }
@@ -180,7 +193,7 @@ puts_other_beneath x m n own g p q b c count more none gets apart = record {
     if_over (λ held. own ++ held) (λ blocks. block_at blocks (id_of b) ≡ Some c) (λ blocks. block_at blocks (id_of b) ≡ Some c) m.blocks gets.answer.1 (λ held is. then_held own held (id_of b) none ∙ is),
     refl,
   );
-  later = later_kept x m n own g g p q gets.later (omega arith) more (below_asked x m n own own g g p q (id_of b) (Ok (Some c)) gets (inr (refl, count)));
+  later = later_kept x m n own g g p q gets.later (omega arith) more (below_asked x m n own own g g p q (id_of b) (Ok (Some c)) gets (inr (refl, count)) (λ few. omega (arith, more)));
   gets = refl;
   puts = count;
 }
@@ -214,7 +227,7 @@ told_keeps b None (Some y) p = absurd p
 told_keeps b (Some x) None p = absurd p
 
 -- a block that is new to the batch, and that the store beneath may hold
-pub puts_new : (x : ℕ × ℕ) (m n : Moment) (own : List (List ℕ)) (g p q : ℕ) (b : List ℕ) → q ≡ bumped p → p ≤ q → block_at own (id_of b) ≡ None → Later m n → n.blocks ≡ m.blocks → IfTold m.blocks (IsFree b) → StaysBelow (batch_moment m own g p x) (batch_moment n (own ++ b ∷ []) g q x) (below_of x m) (below_of x n)
+pub puts_new : (x : ℕ × ℕ) (m n : Moment) (own : List (List ℕ)) (g p q : ℕ) (b : List ℕ) → q ≡ bumped p → p ≤ q → block_at own (id_of b) ≡ None → Later m n → n.blocks ≡ m.blocks → IfTold m.blocks (IsFree b) → BelowStays (batch_moment m own g p x) (batch_moment n (own ++ b ∷ []) g q x)
     → Puts (batch_moment m own g p x) b (Ok None) (batch_moment n (own ++ b ∷ []) g q x)
 puts_new x m n own g p q b count more none later same free below =
     let added : BothTold (option_map (λ held. own ++ held) m.blocks) (option_map (λ held. (own ++ b ∷ []) ++ held) n.blocks) (λ was now. IsFree b was × Adds b was now) = added_told own b m.blocks n.blocks same free none in
@@ -246,11 +259,11 @@ pub puts_lacking : (x : ℕ × ℕ) (m n : Moment) (own now : List (List ℕ)) (
     → Puts (batch_moment m own g p x) b (Ok None) (batch_moment n now g q x)
 puts_lacking x m n own now g p q b id count more is none pushed gets =
     let here : Gets m (id_of b) (Ok None) n = subst (λ (i : List ℕ). Gets m i (Ok None) n) is gets in
-    rw pushed (puts_new x m n own g p q b count more (ap (block_at own) (sym is) ∙ none) gets.later gets.blocks (free_lacks b m.blocks here.answer.0) (below_asked x m n own (own ++ b ∷ []) g g p q id (Ok None) gets (inr (refl, count))))
+    rw pushed (puts_new x m n own g p q b count more (ap (block_at own) (sym is) ∙ none) gets.later gets.blocks (free_lacks b m.blocks here.answer.0) (below_asked x m n own (own ++ b ∷ []) g g p q id (Ok None) gets (inr (refl, count)) (own_grown own b p q count)))
 
 -- the store beneath holds it
 pub puts_held : (x : ℕ × ℕ) (m n : Moment) (own now : List (List ℕ)) (g p q : ℕ) (b id c : List ℕ) → q ≡ bumped p → p ≤ q → id ≡ id_of b → block_at own id ≡ None → c ≡ b → now ≡ own ++ c ∷ [] → Gets m id (Ok (Some c)) n
     → Puts (batch_moment m own g p x) b (Ok None) (batch_moment n now g q x)
 puts_held x m n own now g p q b id c count more is none same pushed gets =
     let here : Gets m (id_of b) (Ok (Some b)) n = subst (λ (x : List ℕ). Gets m (id_of b) (Ok (Some x)) n) same (subst (λ (i : List ℕ). Gets m i (Ok (Some c)) n) is gets) in
-    rw (pushed ∙ ap (λ x. own ++ x ∷ []) same) (puts_new x m n own g p q b count more (ap (block_at own) (sym is) ∙ none) gets.later gets.blocks (free_has b m.blocks here.answer.1) (below_asked x m n own (own ++ b ∷ []) g g p q id (Ok (Some c)) gets (inr (refl, count))))
+    rw (pushed ∙ ap (λ x. own ++ x ∷ []) same) (puts_new x m n own g p q b count more (ap (block_at own) (sym is) ∙ none) gets.later gets.blocks (free_has b m.blocks here.answer.1) (below_asked x m n own (own ++ b ∷ []) g g p q id (Ok (Some c)) gets (inr (refl, count)) (own_grown own b p q count)))

@@ -1,5 +1,6 @@
 -- What the calls of a store say. A content is a list of blocks, each under its id; of two with one id the first counts.
-use Rattle.std.specs.Prelude.{◌≡◌, ◌≢◌, ◌⊎◌, ◌↔◌, ℕ, ◌+◌, ◌-◌, ◌^◌, ◌<◌, ◌≤◌, List, [], ◌∷◌, Option, Some, None, Result, Ok, Err, find, Contains}
+use Rattle.std.specs.Prelude.{◌≡◌, ◌≢◌, ◌⊎◌, ◌↔◌, ℕ, zero, suc, ◌+◌, ◌-◌, ◌^◌, ◌<◌, ◌≤◌, List, Option, Some, None, Result, Ok, Err, find, Contains}
+use Rattle.std.specs.List.{slice_get}
 use Rattle.ild_data.specs.Key.{same_text}
 use Rattle.ild_data.specs.Spell.{id_of}
 use Rattle.ild_edges.specs.Count.{Rose, bumped}
@@ -7,9 +8,11 @@ use Rattle.ild_edges.specs.Told.{IfTold, BothTold}
 use Rattle.ild_edges.specs.declared.error.EdgeErr.{EdgeErr}
 use Rattle.ild_edges.specs.declared.error.EdgeErr.TheVariants.{Failed, Memory}
 
--- A store beneath a batch: by which references the batch holds it and its own blocks, and how far it has come.
+-- A store beneath a batch: by which references the batch holds it and its own blocks, how many of these there are, and how far the store
+-- has come.
 pub record Below : Type 0 where
   pub names : ℕ × ℕ
+  pub own : ℕ
   pub blocks : Option (List (List ℕ))
   pub given : Option (List (List ℕ))
   pub gets : ℕ
@@ -53,22 +56,26 @@ abbrev pub StaysGiven : List (List ℕ) → List (List ℕ) → Type 0
 StaysGiven was now = (id : List ℕ) → Contains was id → Contains now id
 
 -- The store beneath is the same, holds the same, and was got from no oftener than its batch was asked, by these gets and puts before and
--- now. Its count of gets doesn't fall, nor does it pass the end of its type.
+-- now; and the batch keeps no more blocks than were put. The count of gets doesn't fall, nor does it pass the end of its type.
 pub record StaysBelow (was now : ℕ × ℕ) (b c : Below) : Type 0 where
   pub names : c.names ≡ b.names
   pub blocks : c.blocks ≡ b.blocks
   pub given : c.given ≡ b.given
   pub puts : c.puts ≡ b.puts
+  pub own : now.1 < 2 ^ 64 - 1 → c.own + was.1 ≤ b.own + now.1
   pub more : b.gets ≤ c.gets
   pub most : c.gets - (2 ^ 64 - 1) ≤ b.gets - (2 ^ 64 - 1)
   pub gets : now.0 < 2 ^ 64 - 1 → now.1 < 2 ^ 64 - 1 → c.gets + (was.0 + was.1) ≤ b.gets + (now.0 + now.1)
 
--- so do all beneath
-abbrev pub StayBelow : ℕ × ℕ → ℕ × ℕ → List Below → List Below → Type 0
-StayBelow was now [] [] = Unit {0}
-StayBelow was now [] (c ∷ cs) = ⊥
-StayBelow was now (b ∷ bs) [] = ⊥
-StayBelow was now (b ∷ bs) (c ∷ cs) = StaysBelow was now b c × StayBelow (b.gets, b.puts) (c.gets, c.puts) bs cs
+-- how often a store beneath was asked, by gets and puts
+abbrev pub calls_of : Option Below → ℕ × ℕ
+calls_of None = (0, 0)
+calls_of (Some b) = (b.gets, b.puts)
+
+-- how often what stands over a store beneath was asked: over the first it is the batch itself
+abbrev pub asked_over : Moment → ℕ → ℕ × ℕ
+asked_over m zero = (m.gets, m.puts)
+asked_over m (suc i) = calls_of (slice_get m.beneath i)
 
 -- no count falls, what was held is held, and what was given is given
 pub record Later (m n : Moment) : Type 0 where
@@ -78,7 +85,7 @@ pub record Later (m n : Moment) : Type 0 where
   pub puts : m.puts ≤ n.puts
   pub lacks : m.lacks ≤ n.lacks
   pub faults : m.faults ≤ n.faults
-  pub beneath : StayBelow (m.gets, m.puts) (n.gets, n.puts) m.beneath n.beneath
+  pub beneath : (i : ℕ) → BothTold (slice_get m.beneath i) (slice_get n.beneath i) (StaysBelow (asked_over m i) (asked_over n i))
 
 -- what a get answers: the block under the id, or that there is none
 abbrev pub GetsAnswer : Moment → List ℕ → Result (Option (List ℕ)) EdgeErr → Moment → Type 0

@@ -21,7 +21,7 @@ use Rattle.ild_links.specs.declared.hop.Hop.{Hop}
 use Rattle.ild_links.specs.declared.hop.Stop.{Stop}
 use Rattle.ild_links_tests.specs.Chain.{has_link, is_named, name_of, chain_link, chain_meaning, StopsIn}
 use Rattle.ild_links_tests.specs.ChainState.{Fetches, Places, with_lacks}
-use Rattle.ild_links_tests.proofs.Placing.{}
+use Rattle.ild_links_tests.proofs.Placing.{beneath_up}
 
 -- each block can be a tree's
 abbrev pub Any : Bool → TypeNo → List ℕ → Type 0
@@ -113,7 +113,7 @@ module _ (first : List ℕ) where
       let at : (held : List (List ℕ)) → m.blocks ≡ Some held → block_at held hop.id.0 ≡ Some b = λ held told. told_at m.blocks held (λ h. block_at h hop.id.0 ≡ Some b) told f.answer.1 in
       let never : (held : List (List ℕ)) → m.blocks ≡ Some held → ⊥ = λ held told. let yes_link : has_link b ≡ true = linked_block m hop path b held link told (at held told) in absurd (cc (sym none ∙ yes_link)) in
       let grew : m.lacks ≤ l = f.later.lacks in
-      let later : Later m (with_lacks s up) = record { keeps = f.later.keeps; given = f.later.given; gets = f.later.gets; puts = f.later.puts; lacks = omega arith; faults = f.later.faults; beneath = f.later.beneath } in record {
+      let later : Later m (with_lacks s up) = record { keeps = f.later.keeps; given = f.later.given; gets = f.later.gets; puts = f.later.puts; lacks = omega arith; faults = f.later.faults; beneath = beneath_up m s l up f.later.beneath } in record {
         answer = ((refl, λ held told. absurd (never held told)), λ untold. omega arith);
         later = later;
         whole = λ was now v told now_is st. absurd (never was told);

@@ -1,11 +1,12 @@
 -- What a put leaves of a chain's moment.
-use Rattle.std.proofs.Common.{◌≡◌, ◌⊎◌, inl, inr, ⊎_elim, ℕ, Bool, true, false, List, Option, Some, None, Ok, Err, refl, sym, ap, ◌∙◌, subst, arith}
+use Rattle.std.proofs.Common.{◌≡◌, ◌⊎◌, inl, inr, ⊎_elim, ℕ, zero, suc, Bool, true, false, List, Option, Some, None, Ok, Err, refl, sym, ap, ◌∙◌, subst, arith}
 use Rattle.std.specs.Cmp.Lexicographic.{same_text as text_same, other_text}
 use Rattle.std.proofs.lemmas.Option.{same_Some, none-some}
+use Rattle.std.specs.List.{slice_get}
 use Rattle.ild_data.specs.Key.{same_text}
 use Rattle.ild_data.specs.Spell.{id_of}
 use Rattle.ild_data.specs.declared.id.BlockId.{BlockId}
-use Rattle.ild_edges.specs.Store.{Moment, Later, Puts, Adds, IsFree, block_at}
+use Rattle.ild_edges.specs.Store.{Moment, StaysBelow, asked_over, Later, Puts, Adds, IsFree, block_at}
 use Rattle.ild_edges.specs.Told.{IfTold, BothTold}
 use Rattle.ild_edges.specs.declared.error.EdgeErr.TheVariants as D
 use Rattle.ild_links.specs.declared.error.TreeErr.TheVariants as E
@@ -41,8 +42,21 @@ both_same None (Some b) P is f = absurd (none-some b (sym is))
 both_same (Some a) None P is f = absurd (none-some a is)
 both_same (Some a) (Some b) P is f = subst (λ (x : List (List ℕ)). P a x) (same_Some a b (sym is)) (f a)
 
+-- what is beneath stays
+abbrev BelowStays : Moment → Moment → Type 0
+BelowStays m n = (i : ℕ) → BothTold (slice_get m.beneath i) (slice_get n.beneath i) (StaysBelow (asked_over m i) (asked_over n i))
+
+-- that looks at no count of lacks
+beneath_lacks : (m n : Moment) (k l : ℕ) → BelowStays m n → BelowStays (with_lacks m k) (with_lacks n l)
+beneath_lacks m n k l p zero = p zero
+beneath_lacks m n k l p (suc i) = p (suc i)
+
+pub beneath_up : (m n : Moment) (k l : ℕ) → BelowStays m (with_lacks n k) → BelowStays m (with_lacks n l)
+beneath_up m n k l p zero = p zero
+beneath_up m n k l p (suc i) = p (suc i)
+
 later_lacks : (m n : Moment) (l : ℕ) → Later m n → Later (with_lacks m l) (with_lacks n l)
-later_lacks m n l later = record { keeps = later.keeps; given = later.given; gets = later.gets; puts = later.puts; lacks = omega arith; faults = later.faults; beneath = later.beneath }
+later_lacks m n l later = record { keeps = later.keeps; given = later.given; gets = later.gets; puts = later.puts; lacks = omega arith; faults = later.faults; beneath = beneath_lacks m n l l later.beneath }
 
 pub placed : (m n : Moment) (block : List ℕ) (id : BlockId) (l : ℕ) → id.0 ≡ id_of block → Puts m block (Ok None) n → Places (with_lacks m l) block (Ok id) (with_lacks n l)
 placed m n block id l is p = record {

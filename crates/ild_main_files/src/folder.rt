@@ -1,5 +1,5 @@
 //! A folder of blocks as a store.
-ghost use Rattle.std.specs.Prelude.{◌≡◌, ◌≢◌, None, IfOk, IfSome};
+ghost use Rattle.std.specs.Prelude.{◌≡◌, ◌≢◌, [], None, IfOk, IfSome};
 ghost use Rattle.ild_data.specs.Spell.{id_of};
 
 use crate::cause::cause;

@@ -4,7 +4,8 @@ use Rattle.std.proofs.Math.Logic.{∥∥₁_elim, ∥∥₁_map}
 use Rattle.std.proofs.Props.{props}
 use Rattle.std.proofs.lemmas.Option.{same_Some}
 use Rattle.ild_data.specs.Data.{Data}
-use Rattle.ild_edges.specs.Store.{Keeps, Moment, StaysGiven, block_at}
+use Rattle.std.specs.List.{slice_get}
+use Rattle.ild_edges.specs.Store.{Keeps, Moment, asked_over, StaysGiven, block_at}
 use Rattle.ild_edges.specs.Told.{BothTold}
 use Rattle.ild_edges.proofs.Later.{below_of}
 use Rattle.ild_typed_fronts.proofs.Representing.{fronts_are_fronts, fronts_represent}
@@ -51,7 +52,7 @@ only_of m n some =
         puts = ∥∥₁_elim some (hlevel props) (λ o. o.later.puts);
         lacks = ∥∥₁_elim some (hlevel props) (λ o. o.later.lacks);
         faults = ∥∥₁_elim some (hlevel props) (λ o. o.later.faults);
-        beneath = below_of (m.gets, m.puts) (n.gets, n.puts) m.beneath n.beneath (∥∥₁_map some (λ o. o.later.beneath));
+        beneath = λ i. below_of (asked_over m i) (asked_over n i) (slice_get m.beneath i) (slice_get n.beneath i) (∥∥₁_map some (λ o. o.later.beneath i));
       };
     }
 

@@ -8,7 +8,7 @@ pub returns-in_ok-copy-in-Some-clause-gets : goal.returns-in_ok-copy-in-Some-cla
 returns-in_ok-copy-in-Some-clause-gets c =
     let was : block_at (blocks_of c.args.self.now.held) c.args.id.now.0 ≡ Some c.in_ok-copy-in-Some.field-0 = rw c.in_ok-copy-in-Some.ensures (sym c.in-Some.ensures) in record {
       answer = (block_at_id (blocks_of c.args.self.now.held) _ _ was, was);
-      later = record { keeps = keeps_all (blocks_of c.args.self.now.held); given = tt; gets = omega arith; puts = omega arith; lacks = omega arith; faults = omega arith; beneath = tt };
+      later = record { keeps = keeps_all (blocks_of c.args.self.now.held); given = tt; gets = omega arith; puts = omega arith; lacks = omega arith; faults = omega arith; beneath = λ i. tt };
       blocks = refl;
       given = refl;
       gets = c.saturating_add-self.ensures;

@@ -12,7 +12,7 @@ returns-in_ok-copy-clause-puts c =
     rw (c.in_ok-copy.ensures, ← c.requires) (sym c.in-Some.ensures) in
     let apart : c.in_ok-copy.field-0 ≢ c.args.bytes.now = rw (c.in_ok-copy.ensures, ← c.as_slice.ensures.same) (other_text _ _ c.if-eq.ensures) in record {
       answer = (block_at_id (blocks_of c.args.self.now.held) _ _ was, apart, refl, was, refl);
-      later = record { keeps = keeps_all (blocks_of c.args.self.now.held); given = tt; gets = omega arith; puts = omega arith; lacks = omega arith; faults = omega arith; beneath = tt };
+      later = record { keeps = keeps_all (blocks_of c.args.self.now.held); given = tt; gets = omega arith; puts = omega arith; lacks = omega arith; faults = omega arith; beneath = λ i. tt };
       gets = refl;
       puts = c.saturating_add-self.ensures;
     }
