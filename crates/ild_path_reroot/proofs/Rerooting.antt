@@ -32,6 +32,7 @@ use Rattle.ild_bulk.specs.Putting.{IsAmong, PutsAll}
 use Rattle.ild_bulk.proofs.Puts.{told-map, told-same}
 use Rattle.ild_hamt_climb.specs.Rewriting.{HasRoot, IsLongWay, Rewrites, way_up}
 use Rattle.ild_bulk_walker.specs.Trees.{HoldsBelow}
+use Rattle.ild_hamt.specs.Given.{AreIdsGiven, GivesWay}
 use Rattle.ild_hamt.specs.Removing.{Removes}
 use Rattle.ild_hamt.specs.Rewriting.{HoldsAfter}
 use Rattle.ild_hamt.specs.declared.trail.Trail.{Trail}
@@ -134,7 +135,7 @@ module _ (h : List ℕ → List ℕ) (rows : List Row) (was : List (List ℕ)) (
     added (Err (F.Clash id kept new)) is = put_came is.root (Err (F.Clash id kept new)) is.short is.puts
 
     pub edit_failed : (e : HamtFault) → Rewrites h usual k fs m (Err e) n → EditsHamt h rows s room k fs v x m (Err e) n
-    edit_failed e is = let y = moved e is in record { answer = failed e is; later = y.0; adds = added (Err e) is; puts = y.1 }
+    edit_failed e is = let y = moved e is in record { answer = failed e is; later = y.0; adds = added (Err e) is; puts = y.1; given = tt }
 
     answered : (root : List ℕ) → Rewrites h usual k fs m (Ok root) n → BothTold m.blocks n.blocks (HoldsAfter h es fs (Ok root)) → (r : Result (List ℕ) HamtFault) → MakesRoot (spell (root_map usual ready.has.node)) r → EditAnswer h rows room s v x m r n
     answered root is after (Ok b) makes = (
@@ -151,8 +152,15 @@ module _ (h : List ℕ → List ℕ) (rows : List Row) (was : List (List ℕ)) (
     answered root is after (Err (F.Block id why)) makes = absurd makes
     answered root is after (Err (F.Clash id kept new)) makes = absurd makes
 
-    pub edit_done : (root : List ℕ) → Rewrites h usual k fs m (Ok root) n → BothTold m.blocks n.blocks (HoldsAfter h es fs (Ok root)) → (r : Result (List ℕ) HamtFault) → MakesRoot (spell (root_map usual ready.has.node)) r → EditsHamt h rows s room k fs v x m r n
-    edit_done root is after r makes = let y = put_all (Ok tt) is.2 in record { answer = answered root is after r makes; later = y.0; adds = added (Ok root) is; puts = y.1 }
+    -- whatever was made of the root then
+    still_given : (r : Result (List ℕ) HamtFault) → IfTold n.given (AreIdsGiven (way h usual k (trie_levels usual) 0 fs)) → GivesWay h k fs r n
+    still_given (Ok b) all = all
+    still_given (Err e) all = tt
+
+    pub edit_done : (root : List ℕ) → Rewrites h usual k fs m (Ok root) n → BothTold m.blocks n.blocks (HoldsAfter h es fs (Ok root)) → GivesWay h k fs (Ok root) n
+        → (r : Result (List ℕ) HamtFault) → MakesRoot (spell (root_map usual ready.has.node)) r → EditsHamt h rows s room k fs v x m r n
+    edit_done root is after gives r makes =
+        let y = put_all (Ok tt) is.2 in record { answer = answered root is after r makes; later = y.0; adds = added (Ok root) is; puts = y.1; given = still_given r gives }
 
 -- ---- an entry put, and gone
 

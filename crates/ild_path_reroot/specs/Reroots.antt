@@ -29,6 +29,7 @@ use Rattle.ild_script_session.specs.Step.{IsWhole}
 use Rattle.ild_bulk.specs.Build.{any_long}
 use Rattle.ild_bulk.specs.Putting.{IsAmong}
 use Rattle.ild_hamt.specs.Descending.{IsTrailOf}
+use Rattle.ild_hamt.specs.Given.{GivesWay}
 use Rattle.ild_hamt.specs.declared.trail.Trail.{Trail}
 use Rattle.ild_open_held.specs.Held.{IsHeld}
 use Rattle.ild_path_nodes.specs.NodeLaws.{IsHamt}
@@ -94,12 +95,13 @@ pub record NodeCame (h : List ℕ → List ℕ) (rows : List Row) (s : Slot) (v 
 pub record AddsNodes (h : List ℕ → List ℕ) (rows : List Row) (s : Slot) (v : Value) (was now : List (List ℕ)) : Type 0 where
   pub came : (id b : List ℕ) → block_at now id ≡ Some b → (block_at was id ≡ Some b) ⊎ NodeCame h rows s v now b
 
--- the HAMT becomes v, by puts of no more blocks than it has on the way of the key
+-- the HAMT becomes v, by puts of no more blocks than it has on the way of the key, each of which was put where it did
 pub record EditsHamt (h : List ℕ → List ℕ) (rows : List Row) (s : Slot) (room : ℕ) (k : List ℕ) (es : List (List ℕ × Data)) (v : Value) (x : Data) (m : Moment) (result : Result (List ℕ) HamtFault) (n : Moment) : Type 0 where
   pub answer : EditAnswer h rows room s v x m result n
   pub later : Later m n
   pub adds : BothTold m.blocks n.blocks (AddsNodes h rows s v)
   pub puts : n.puts ≤ m.puts + length (way h usual k (trie_levels usual) 0 es)
+  pub given : GivesWay h k es result n
 
 abbrev pub Puts : (List ℕ → List ℕ) → List Row → Slot → ℕ → Pairs → List (List ℕ × Data) → List ℕ → Value → Data → Data → Moment → Result (List ℕ) HamtFault → Moment → Type 0
 Puts h rows s room ps es k w d x m result n = EditsHamt h rows s room k (insert bytewise k d es) (with_entry k w ps) x m result n

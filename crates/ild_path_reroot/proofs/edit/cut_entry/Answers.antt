@@ -26,7 +26,8 @@ returns-clause-cuts g c = λ rows was s elem t x ps es k room view told at new.
     let ready = cut_ready g.H.KeyHash.hash_of rows was s elem t x ps es k room c.args.trail at new in
     let sets = cut_rewrites g.H.KeyHash.hash_of rows was elem t ps es k (g.K.Store.moment c.args.store.now) (g.K.Store.moment c.remove.new.store) (Ok c.in_ok-node.node) at.trie new.there (c.in_ok-node.ensures.removes k slots.0 es from) in
     let held = c.in_ok-node.ensures.held k slots.0 es from in
-    edit_done g.H.KeyHash.hash_of rows was s room (without_entry k ps) x k es (without k es) ready (g.K.Store.moment c.args.store.now) (g.K.Store.moment c.remove.new.store) told c.in_ok-node.node sets held c.root_around.result
+    let gives = c.in_ok-node.ensures.gives k slots.0 es from in
+    edit_done g.H.KeyHash.hash_of rows was s room (without_entry k ps) x k es (without k es) ready (g.K.Store.moment c.args.store.now) (g.K.Store.moment c.remove.new.store) told c.in_ok-node.node sets held gives c.root_around.result
     (c.root_around.ensures.made ready.has.node (same_node g.H.KeyHash.hash_of rows was s room (without_entry k ps) x k es (without k es) ready (g.K.Store.moment c.args.store.now) (g.K.Store.moment c.remove.new.store) c.in_ok-node.node sets.0)
     (tree_node g.H.KeyHash.hash_of rows was s room (without_entry k ps) x k es (without k es) ready (g.K.Store.moment c.args.store.now) (g.K.Store.moment c.remove.new.store)))
 

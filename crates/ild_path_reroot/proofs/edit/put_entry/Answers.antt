@@ -28,7 +28,8 @@ returns-clause-puts g c = λ rows was s elem t d x ps es k room w view told at n
     let ready = put_ready g.H.KeyHash.hash_of rows was s elem t d x ps es k room w c.args.trail at new in
     let sets = c.in_ok-node.ensures.sets k d slots.0 es from stands (ap is_some ready.has.is_node) in
     let held = c.in_ok-node.ensures.held k d slots.0 es from stands (ap is_some ready.has.is_node) in
-    edit_done g.H.KeyHash.hash_of rows was s room (with_entry k w ps) x k es (put bytewise k d es) ready (g.K.Store.moment c.args.store.now) (g.K.Store.moment c.set.new.store) told c.in_ok-node.node sets held c.root_around.result
+    let gives = c.in_ok-node.ensures.gives k d slots.0 es from stands (ap is_some ready.has.is_node) in
+    edit_done g.H.KeyHash.hash_of rows was s room (with_entry k w ps) x k es (put bytewise k d es) ready (g.K.Store.moment c.args.store.now) (g.K.Store.moment c.set.new.store) told c.in_ok-node.node sets held gives c.root_around.result
     (c.root_around.ensures.made ready.has.node (same_node g.H.KeyHash.hash_of rows was s room (with_entry k w ps) x k es (put bytewise k d es) ready (g.K.Store.moment c.args.store.now) (g.K.Store.moment c.set.new.store) c.in_ok-node.node sets.0)
     (tree_node g.H.KeyHash.hash_of rows was s room (with_entry k w ps) x k es (put bytewise k d es) ready (g.K.Store.moment c.args.store.now) (g.K.Store.moment c.set.new.store)))
 
