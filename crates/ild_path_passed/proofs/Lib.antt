@@ -1,0 +1,9 @@
+pub mod Joined
+pub mod Trieing
+pub mod Keyed
+pub mod Mapping
+pub mod Parting
+pub mod Holding
+pub mod Stepping
+pub mod Passing
+pub mod Whole
