@@ -1,0 +1,4 @@
+pub mod Schema
+pub mod Numbers
+pub mod Generated
+pub mod Laws
