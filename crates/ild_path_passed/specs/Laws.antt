@@ -1,8 +1,6 @@
 -- The laws of places that an edit passes on (IPLD HashMap, "Element").
 use Rattle.std.specs.Prelude.{◌≡◌, ℕ, List, Bool, Contains, Some, Ok}
-use Rattle.std.specs.List.{AllByRecursion}
 use Rattle.ild_data.specs.Data.{Data}
-use Rattle.ild_data.specs.Spell.{id_of}
 use Rattle.ild_schema.specs.declared.number.TypeNo.{TypeNo}
 use Rattle.ild_schema.specs.declared.row.Row.{Row}
 use Rattle.ild_schema.specs.Slots.{plainly}
@@ -13,16 +11,13 @@ use Rattle.ild_typed.specs.OfType.{OfType, TestsKeys}
 use Rattle.ild_typed.specs.Represented.{represented}
 use Rattle.ild_typed.specs.Schema.{IsSchema}
 use Rattle.ild_typed.specs.Stands.{Frame, root_id}
+use Rattle.ild_hamt.specs.Given.{AreIdsGiven}
 use Rattle.ild_typed_places.specs.Carried.{Passed}
 use Rattle.ild_typed_places.specs.Places.{places_in, value_places}
 use Rattle.ild_path_edits.specs.Edit.{Edit, HasTextPath, new_slot, path_of, change}
 use Rattle.ild_path_edits.specs.EditLaws.{Brings}
 use Rattle.ild_path_nodes.specs.NodeLaws.{nodes_brought}
 use Rattle.ild_path_way.specs.Way.{nodes_met}
-
--- the ids of these blocks are given
-abbrev pub AreIdsGiven : List (List ℕ) → List (List ℕ) → Type 0
-AreIdsGiven bs given = AllByRecursion (λ b. Contains given (id_of b)) bs
 
 -- Where the nodes on the way of the edit's path in the changed value are given, and those of the part that it brings, each place of the
 -- changed value was there before with all beneath it, or is given.
