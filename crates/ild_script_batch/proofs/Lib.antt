@@ -1,0 +1,4 @@
+mod Changes
+mod Beneath
+mod Carrying
+mod Inside

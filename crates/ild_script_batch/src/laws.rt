@@ -1,0 +1,18 @@
+//! Laws of lines inside a batch.
+ghost use Rattle.ild_script_batch.specs.Inside.{AnswersInside, CarriedOverBatch, LaterBeneath};
+
+/// What a store beneath a batch says, where the batch says that it is later: it is the same, holds the same, and is later itself.
+pub fn later_beneath()
+    ensures { LaterBeneath }
+{}
+
+/// Where a store and a batch carry a value together, the batch carries it as a store that holds it outside any batch.
+pub fn carried_over_batch()
+    ensures { CarriedOverBatch }
+{}
+
+/// A read or an edit that a batch answers as a store does outside any batch is the line inside the batch: an edit tells no root, the store
+/// beneath gets no block, and the batch has no more blocks of its own than puts are owed.
+pub fn answers_inside()
+    ensures { AnswersInside }
+{}
