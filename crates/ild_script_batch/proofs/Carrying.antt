@@ -54,7 +54,7 @@ untold : (ps : List (List ℕ × List (List ℕ))) → AllByRecursion (λ p. Con
 untold [] = tt
 untold (p ∷ ps) = (inr tt, untold ps)
 
-carried_by : (w : Setting) (v : Value) (o : Option (List (List ℕ))) → IfTold o (λ held. AllByRecursion (IsHeld held) (value_blocks w v)) → AllByRecursion (λ p. Contains [] p.0 ⊎ IfTold o (λ held. AllByRecursion (IsHeld held) p.1)) (places_in w v)
+pub carried_by : (w : Setting) (v : Value) (o : Option (List (List ℕ))) → IfTold o (λ held. AllByRecursion (IsHeld held) (value_blocks w v)) → AllByRecursion (λ p. Contains [] p.0 ⊎ IfTold o (λ held. AllByRecursion (IsHeld held) p.1)) (places_in w v)
 carried_by w v None all = untold (places_in w v)
 carried_by w v (Some held) all = places_told w v held (tree_in w (in_slot w v)) all
 

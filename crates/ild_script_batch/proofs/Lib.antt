@@ -2,3 +2,6 @@ mod Changes
 mod Beneath
 mod Carrying
 mod Inside
+mod Listed
+mod Unkinded
+mod Commits

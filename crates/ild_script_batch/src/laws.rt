@@ -1,4 +1,5 @@
 //! Laws of lines inside a batch.
+ghost use Rattle.ild_script_batch.specs.Commits.{CarriedAgree, FlushesCommit};
 ghost use Rattle.ild_script_batch.specs.Inside.{AnswersInside, CarriedOverBatch, LaterBeneath};
 
 /// What a store beneath a batch says, where the batch says that it is later: it is the same, holds the same, and is later itself.
@@ -15,4 +16,14 @@ pub fn carried_over_batch()
 /// beneath gets no block, and the batch has no more blocks of its own than puts are owed.
 pub fn answers_inside()
     ensures { AnswersInside }
+{}
+
+/// Of a value that a store and a batch carry together, the batch has no other block under the id of one of its blocks.
+pub fn carried_agree()
+    ensures { CarriedAgree }
+{}
+
+/// A flush of a batch along the places of its value is the commit of the batch: the store holds the value then, or the batch stays open.
+pub fn flushes_commit()
+    ensures { FlushesCommit }
 {}

@@ -4,4 +4,4 @@
 
 mod laws;
 
-pub use laws::{answers_inside, carried_over_batch, later_beneath};
+pub use laws::{answers_inside, carried_agree, carried_over_batch, flushes_commit, later_beneath};
