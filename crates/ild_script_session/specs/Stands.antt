@@ -40,9 +40,3 @@ pub record Ran {V : Type 0} (M : Meaning V) (Stands : Stage V → Type 0) (m : M
   pub run : Run M m s lines replies n stage
   pub carries : Carries M m s → Carries M n stage
   pub stands : Stands stage
-
--- the session stands at a stage with the same state
-pub record StaysAt {V : Type 0} (Stands : Stage V → Type 0) (s : Stage V) : Type 0 where
-  pub stage : Stage V
-  pub stands : Stands stage
-  pub same : stage.state ≡ s.state

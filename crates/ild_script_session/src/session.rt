@@ -3,8 +3,8 @@ ghost use Rattle.std.specs.Prelude.{◌≡◌, Some};
 ghost use Rattle.ild_edges.specs.Store.{Moment};
 ghost use Rattle.ild_script.specs.declared.reply.No.{No};
 ghost use Rattle.ild_script.specs.declared.reply.Reply.TheVariants as R;
-ghost use Rattle.ild_script_session.specs.Session.{Stage, Meaning};
-ghost use Rattle.ild_script_session.specs.Stands.{IsAnswered, Leads, StaysAt};
+ghost use Rattle.ild_script_session.specs.Session.{State, Stage, Meaning};
+ghost use Rattle.ild_script_session.specs.Stands.{IsAnswered, Leads};
 
 use ild_edges::Store;
 use ild_script::Reply;
@@ -25,6 +25,9 @@ pub trait Session {
     /// Of which meaning of lines, and at which stage, it stands, over a store at a moment.
     ghost stands: { Self → Moment → Meaning Value → Stage Value → Type 0 };
 
+    /// Of which meaning of lines, and at which state, it is, whatever a store holds.
+    ghost is_at: { Self → Meaning Value → State Value → Type 0 };
+
     /// Answers a line over a store, and goes on to the stage behind it. The empty line has no reply.
     fn answer<K: Store>(&mut self, alloc: Global, line: &[u8], store: &mut K) -> Option<Reply>
         // Over each store, also one that does not tell what it holds.
@@ -33,7 +36,8 @@ pub trait Session {
         // From the stage at which it stands. What lines mean stays.
         ensures leads { (M : Meaning Value) (s : Stage Value) → stands self.old (K.moment store.old) M s → Leads M (stands self.new (K.moment store.new) M) (K.moment store.old) s line.now result (K.moment store.new) }
 
-        // A line that is refused leaves the state, whatever a store holds.
-        ensures kept { (refusal : No) → result ≡ Some (R.No refusal) → (m : Moment) (M : Meaning Value) (s : Stage Value) → stands self.old m M s → StaysAt (stands self.new m M) s }
+        // A line that is refused leaves the state, whatever a store holds; and where the session stands, it is at the stage's state.
+        ensures kept { (refusal : No) → result ≡ Some (R.No refusal) → (M : Meaning Value) (s : State Value) → is_at self.old M s → is_at self.new M s }
+        ensures stood { (M : Meaning Value) (s : Stage Value) → stands self.old (K.moment store.old) M s → is_at self.old M s.state }
         ensures same { subject self.new ≡ subject self.old };
 }
