@@ -45,6 +45,12 @@ pub record IsDoc (rows : List Row) (ty : TypeNo) (b : List ℕ) (d : Doc) : Type
   pub block : block_in d ≡ b
   pub root : HasRoot rows ty b
 
+-- the same block of the same type
+pub record IsSame (d e : Doc) : Type 0 where
+  pub table : table_in e ≡ table_in d
+  pub type : type_in e ≡ type_in d
+  pub block : block_in e ≡ block_in d
+
 abbrev pub Docs : List Row → TypeNo → List ℕ → Result Doc DocErr → Type 0
 Docs rows ty b (Ok d) = IsDoc rows ty b d
 Docs rows ty b (Err e) = Faults rows ty b e

@@ -1,5 +1,5 @@
 //! A block checked as a root, and what is told of it.
-ghost use Rattle.std.specs.Prelude.{◌≡◌, ◌<◌, length};
+ghost use Rattle.std.specs.Prelude.{◌≡◌, ◌<◌, IfOk, length};
 ghost use Rattle.ild_cbor.specs.Block.{IsBlockOf};
 ghost use Rattle.ild_data.specs.Data.{Data};
 ghost use Rattle.ild_data.specs.Spell.{id_of};
@@ -15,7 +15,7 @@ use ild_cbor::{check, known_root};
 use ild_data::{BlockId, Octets, block_id};
 use ild_schema::{Accepted, Slot, TypeNo};
 use ild_view::{View, ViewErr};
-use std::alloc::Global;
+use std::alloc::{AllocError, Global};
 
 /// How many levels a value may nest.
 const ROOM: u32 = 96;
@@ -31,7 +31,7 @@ fn slot_of_type(ty: TypeNo) -> Slot
 }
 
 impl<'s> Doc<'s> {
-    ghost use Rattle.ild_view_doc.specs.Docs.{Checks, Docs, block_in, table_in, type_in};
+    ghost use Rattle.ild_view_doc.specs.Docs.{Checks, Docs, IsSame, block_in, table_in, type_in};
 
     // Whether bytes are a root block of a type.
     fn check(alloc: Global, acc: &'s Accepted, ty: TypeNo, bytes: &[u8]) -> Result<(), DocErr>
@@ -71,6 +71,18 @@ impl<'s> Doc<'s> {
             }
             Err(fault) => Err(fault),
         }
+    }
+
+    /// A copy, which borrows the same schema.
+    pub fn copy(&self) -> Result<Doc<'s>, AllocError>
+        ensures { IfOk result (IsSame self.now) }
+    {
+        Ok(Doc {
+            acc: self.acc,
+            ty: self.ty,
+            block: self.block.copy()?,
+            root: self.root,
+        })
     }
 
     /// The schema.
