@@ -57,7 +57,7 @@ use Rattle.ild_path_reroot.proofs.Coming.{IsPartOf, adds_whole}
 use Rattle.ild_path_reroot.proofs.Among.{among_of, long_root, long_one, long_any}
 use Rattle.ild_path_hop.specs.Levels.{IsLevel, IsCutThere, LevelAnswer, SetsLevel, with_cut}
 use Rattle.ild_path_sizes.specs.Long.{IsDataOfPart}
-use Rattle.ild_path_hop.proofs.Leveling.{reached_at, slot_of_path, told_here, view_of}
+use Rattle.ild_path_hop.proofs.Leveling.{reached_at, slot_of_path, still_given, told_here, view_of}
 
 -- ---- one level
 
@@ -180,7 +180,7 @@ module _ (h : List ℕ → List ℕ) (is_key : ℕ → List ℕ → Bool) (was :
     failed (F.Clash id kept new) is = (among_of new (nodes h Rows slot M) (nodes h Rows S C) among is.0, is.1, is.2, is.3, is.4, is.5)
 
     pub level_failed : (e : HamtFault) → EditsHamt h Rows slot Less k (remove k es) M X m (Err e) n → SetsLevel h Rows room S C u k (remove k es) m (Err e) n
-    level_failed e x = record { hamt = X; part = part; answer = failed e x.answer; later = x.later; adds = added x.adds; puts = x.puts }
+    level_failed e x = record { hamt = X; part = part; answer = failed e x.answer; later = x.later; adds = added x.adds; puts = x.puts; given = tt }
 
     done : (root : List ℕ) → EditsHamt h Rows slot Less k (remove k es) M X m (Ok root) n → (r : Result (List ℕ) HamtFault) → MakesRoot (spell u) r → LevelAnswer h Rows room S C u X m r n
     done root x (Ok b) makes = (
@@ -199,4 +199,4 @@ module _ (h : List ℕ → List ℕ) (is_key : ℕ → List ℕ → Bool) (was :
     done root x (Err (F.Clash id kept new)) makes = absurd makes
 
     pub level_done : (root : List ℕ) → EditsHamt h Rows slot Less k (remove k es) M X m (Ok root) n → (r : Result (List ℕ) HamtFault) → MakesRoot (spell u) r → SetsLevel h Rows room S C u k (remove k es) m r n
-    level_done root x r makes = record { hamt = X; part = part; answer = done root x r makes; later = x.later; adds = added x.adds; puts = x.puts }
+    level_done root x r makes = record { hamt = X; part = part; answer = done root x r makes; later = x.later; adds = added x.adds; puts = x.puts; given = still_given h k (remove k es) root r n x.given }

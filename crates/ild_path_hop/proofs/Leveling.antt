@@ -39,6 +39,7 @@ use Rattle.ild_path_edits.specs.Table.{slot_to_set}
 use Rattle.ild_path_edits.proofs.KeepTyped.{of_type_is_kept}
 use Rattle.ild_path_block.specs.Edits.{Edits, IsPart, IsRootView}
 use Rattle.ild_path_block.specs.declared.edit.PartEdit.TheVariants as E
+use Rattle.ild_hamt.specs.Given.{GivesWay}
 use Rattle.ild_hamt.specs.declared.trail.Trail.{Trail}
 use Rattle.ild_open_held.specs.Held.{IsHeld}
 use Rattle.ild_cbor.specs.Block.{IsBlockOf}
@@ -95,6 +96,11 @@ pub told_here : {A : Type 0} (o q : Option A) (was : A) (P : A → A → Type 0)
 told_here None q was P Q R is f t u = absurd cc
 told_here (Some a) None was P Q R is f t u = absurd t
 told_here (Some a) (Some b) was P Q R is f t u = let same : was ≡ a = cc in f b (subst (λ c. P c b) (sym same) t) u
+
+-- what was given by the setting of an entry is given whatever was made of the block then
+pub still_given : (h : List ℕ → List ℕ) (k : List ℕ) (es : List (List ℕ × Data)) (root : List ℕ) (r : Result (List ℕ) HamtFault) (n : Moment) → GivesWay h k es (Ok root) n → GivesWay h k es r n
+still_given h k es root (Ok b) n all = all
+still_given h k es root (Err e) n all = tt
 
 pub item_stands : (b : List ℕ) (n : Node) (d x : Data) → IsBlockOf b d → IsRoot n b d → b ≡ spell x → IsTree x → Stands n x
 item_stands b n d x block root e tree = subst (Stands n) (one_within d x block.within tree (sym block.spelled ∙ e)) root.stands
@@ -227,7 +233,7 @@ module _ (h : List ℕ → List ℕ) (is_key : ℕ → List ℕ → Bool) (was :
     failed (F.Clash id kept new) is = (among_of new (nodes h Rows slot M) (nodes h Rows S C) among is.0, is.1, is.2, is.3, is.4, is.5)
 
     pub level_failed : (e : HamtFault) → EditsHamt h Rows slot Less k (insert bytewise k d es) M X m (Err e) n → SetsLevel h Rows room S C u k (insert bytewise k d es) m (Err e) n
-    level_failed e x = record { hamt = X; part = part; answer = failed e x.answer; later = x.later; adds = added x.adds; puts = x.puts }
+    level_failed e x = record { hamt = X; part = part; answer = failed e x.answer; later = x.later; adds = added x.adds; puts = x.puts; given = tt }
 
     done : (root : List ℕ) → EditsHamt h Rows slot Less k (insert bytewise k d es) M X m (Ok root) n → (r : Result (List ℕ) HamtFault) → MakesRoot (spell u) r → LevelAnswer h Rows room S C u X m r n
     done root x (Ok b) makes = (
@@ -246,4 +252,4 @@ module _ (h : List ℕ → List ℕ) (is_key : ℕ → List ℕ → Bool) (was :
     done root x (Err (F.Clash id kept new)) makes = absurd makes
 
     pub level_done : (root : List ℕ) → EditsHamt h Rows slot Less k (insert bytewise k d es) M X m (Ok root) n → (r : Result (List ℕ) HamtFault) → MakesRoot (spell u) r → SetsLevel h Rows room S C u k (insert bytewise k d es) m r n
-    level_done root x r makes = record { hamt = X; part = part; answer = done root x r makes; later = x.later; adds = added x.adds; puts = x.puts }
+    level_done root x r makes = record { hamt = X; part = part; answer = done root x r makes; later = x.later; adds = added x.adds; puts = x.puts; given = still_given h k (insert bytewise k d es) root r n x.given }

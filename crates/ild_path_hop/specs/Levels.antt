@@ -31,6 +31,7 @@ use Rattle.ild_bulk.specs.Build.{any_long}
 use Rattle.ild_bulk.specs.Putting.{IsAmong}
 pub use Rattle.ild_path_block.specs.Edits.{IsRootView}
 use Rattle.ild_hamt.specs.Descending.{IsTrailOf}
+use Rattle.ild_hamt.specs.Given.{GivesWay}
 use Rattle.ild_hamt.specs.declared.trail.Trail.{Trail}
 use Rattle.ild_open_held.specs.Held.{IsHeld}
 use Rattle.ild_path_within.specs.Within.{with_part}
@@ -101,6 +102,7 @@ pub record SetsLevel (h : List ℕ → List ℕ) (rows : List Row) (room : ℕ) 
   pub later : Later m n
   pub adds : BothTold m.blocks n.blocks (AddsNodes h rows s c)
   pub puts : n.puts ≤ m.puts + length (way h usual k (trie_levels usual) 0 es)
+  pub given : GivesWay h k es result n
 
 abbrev pub SetsEntry : (List ℕ → List ℕ) → ℕ → Value → List (List ℕ) → Pairs → List (List ℕ × Data) → List ℕ → Value → Data → Data → View → Moment → Result (List ℕ) HamtFault → Moment → Type 0
 SetsEntry h room v path ps es k w d u view m result n =
