@@ -5,3 +5,4 @@ mod Inside
 mod Listed
 mod Unkinded
 mod Commits
+mod Stages

@@ -4,4 +4,7 @@
 
 mod laws;
 
-pub use laws::{answers_inside, carried_agree, carried_over_batch, flushes_commit, later_beneath};
+pub use laws::{
+    answers_inside, batches_begin, batches_end, carried_agree, carried_over_batch, flushes_commit,
+    later_beneath, stages_stay,
+};
