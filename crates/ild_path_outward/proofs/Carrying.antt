@@ -1,7 +1,7 @@
 -- All levels outward.
 use Rattle.std.proofs.Common.{◌≡◌, ◌⊎◌, inl, inr, ⊎_elim, ℕ, ◌+◌, ◌≤◌, Bool, true, List, [], ◌∷◌, ◌++◌, length, map, Option, Some, None, refl, sym, ap, ◌∙◌, subst}
 use Rattle.std.specs.Prelude.{Result, Ok, Err, option_and_then}
-use Rattle.std.proofs.Common.{append_assoc}
+use Rattle.std.proofs.Common.{append_assoc, append-nil}
 use Rattle.std.specs.FinMap.{put as insert}
 use Rattle.std.specs.List.{AllByRecursion}
 use Rattle.std.proofs.lemmas.Bool.{ltb-true}
@@ -9,8 +9,8 @@ use Rattle.std.proofs.lemmas.Option.{same_Some}
 use Rattle.ild_data.specs.ByteOrder.{bytewise}
 use Rattle.ild_data.specs.Data.{Data}
 use Rattle.ild_data.specs.Limits.{longest_block}
-use Rattle.ild_data.specs.Spell.{spell}
-use Rattle.ild_edges.specs.Store.{Moment, Later, Keeps, block_at}
+use Rattle.ild_data.specs.Spell.{id_of, spell}
+use Rattle.ild_edges.specs.Store.{Moment, Later, Keeps, StaysGiven, block_at}
 use Rattle.ild_edges.specs.Told.{IfTold, BothTold}
 use Rattle.ild_edges.proofs.Later.{Later-refl, Later-trans}
 use Rattle.ild_bulk.specs.Build.{any_long, is_long}
@@ -55,7 +55,11 @@ use Rattle.ild_path_outward.specs.Steps.{IsStep, SetsBelow, SetsIn, SetsStep}
 use Rattle.std.proofs.Common.{arith}
 use Rattle.ild_path_entered.specs.Entered.{with_entry}
 use Rattle.ild_hamt.specs.Edits.{CausedBy, FaultCause}
-use Rattle.ild_path_outward.proofs.Counting.{put_counted}
+use Rattle.ild_hamt.specs.Given.{AreIdsGiven}
+use Rattle.ild_path_outward.proofs.Counting.{one_met, put_counted, put_met}
+use Rattle.ild_path_way.specs.Way.{nodes_met}
+use Rattle.ild_path_way.proofs.Splitting.{nodes_split, none_in_one_block}
+use Rattle.ild_path_way.proofs.Staying.{blocks_stay}
 use Rattle.ild_script_meaning.specs.Costs.{blocks_met, met_in}
 use Rattle.std.specs.Option.{option_map_or}
 use Rattle.ild_schema.specs.Slots.{form_of}
@@ -83,6 +87,9 @@ pub record IsUnderway (h : List ℕ → List ℕ) (rows : List Row) (room : ℕ)
   pub later : Later m n
   pub adds : BothTold m.blocks n.blocks (AddsNodes h rows s c)
   pub puts : n.puts + blocks_met h rows (s, c) (path_of_hops hops) ≤ m.puts + blocks_met h rows (s, c) path
+  pub behind : List (List ℕ)
+  pub split : nodes_met h rows (s, c) path ≡ nodes_met h rows (s, c) (path_of_hops hops) ++ behind
+  pub given : IfTold n.given (AreIdsGiven behind)
 
 -- ---- paths, and stores
 
@@ -101,6 +108,26 @@ told_at o a P is t = subst (λ q. IfTold q P) is t
 
 told_here : {A : Type 0} (o : Option A) (a : A) (P : A → Type 0) → o ≡ Some a → P a → IfTold o P
 told_here o a P is p = subst (λ q. IfTold q P) (sym is) p
+
+-- ids that are given
+none_given : (o : Option (List (List ℕ))) → IfTold o (AreIdsGiven [])
+none_given None = tt
+none_given (Some ids) = tt
+
+pub given_stay : (was now : List (List ℕ)) → StaysGiven was now → (bs : List (List ℕ)) → AreIdsGiven bs was → AreIdsGiven bs now
+given_stay was now stays [] all = tt
+given_stay was now stays (b ∷ bs) all = (stays (id_of b) all.0, given_stay was now stays bs all.1)
+
+given_both : (given : List (List ℕ)) (bs cs : List (List ℕ)) → AreIdsGiven bs given → AreIdsGiven cs given → AreIdsGiven (bs ++ cs) given
+given_both given [] cs x y = y
+given_both given (b ∷ bs) cs x y = (x.0, given_both given bs cs x.1 y)
+
+-- by a later call, beside those that were
+pub given_more : (o q : Option (List (List ℕ))) (bs cs : List (List ℕ)) → BothTold o q StaysGiven → IfTold o (AreIdsGiven cs) → IfTold q (AreIdsGiven bs) → IfTold q (AreIdsGiven (bs ++ cs))
+given_more None None bs cs stays x y = tt
+given_more None (Some now) bs cs stays x y = absurd stays
+given_more (Some was) None bs cs stays x y = tt
+given_more (Some was) (Some now) bs cs stays x y = given_both now bs cs y (given_stay was now stays cs x)
 
 -- what comes to a store level by level
 more_nodes : (h : List ℕ → List ℕ) (rows : List Row) (p q : InSlot) (was mid now : List (List ℕ)) → Keeps mid now → IsPartOf h rows p q
@@ -175,6 +202,9 @@ module _ (h : List ℕ → List ℕ) (is_key : ℕ → List ℕ → Bool) (was :
     later = Later-refl m;
     adds = told-same m.blocks m.blocks (AddsNodes h Rows S C) refl (λ a. record { came = λ id b e. inl e });
     puts = omega arith;
+    behind = [];
+    split = sym (append-nil (nodes_met h Rows (S, C) (path_of_hops hops)));
+    given = none_given m.given;
   }
 
   pub finish : (block : List ℕ) (n : Moment) → Underway [] block n → SetsEnd h Rows room S C u (path_of_hops hops) m (Ok block) n
@@ -189,6 +219,7 @@ module _ (h : List ℕ → List ℕ) (is_key : ℕ → List ℕ → Bool) (was :
         later = y.later;
         adds = y.adds;
         puts = y.puts;
+        given = subst (λ bs. IfTold n.given (AreIdsGiven bs)) (sym y.split) y.given;
       }
 
   -- ---- one level
@@ -316,6 +347,25 @@ module _ (h : List ℕ → List ℕ) (is_key : ℕ → List ℕ → Bool) (was :
         let own_count = put_counted h Rows y.now Last.last.slot y.q.0 Last.last.ps Last.last.root Last.last.es Last.last.entered.hamt Last.last.trie (key_of hop) y.w y.d map_data_is.0 y.comes.tree map_data_is.1 in
         omega (arith, all, outer, inner, last, own_count)
 
+    abbrev OwnWay : List (List ℕ)
+    OwnWay = way h usual (key_of hop) (trie_levels usual) 0 (insert bytewise (key_of hop) y.d Last.last.es)
+
+    level_nodes : nodes_met h Rows (Mid.0, Level) (front_of hop ++ (key_of hop ∷ [])) ≡ OwnWay
+    level_nodes =
+        let held = V.map Last.last.ps in
+        let here = (sets_stand Rows is_key x.level.schema x.level.keys Mid (Last.last.slot, held) (front_of hop) Map typed_mid Last.last.entered.at typed_map).0 in
+        let inside = blocks_stay Rows is_key x.level.schema x.level.keys Mid (Last.last.slot, held) (front_of hop) Map typed_mid Last.last.entered.inside Last.last.entered.at typed_map in
+        nodes_split h Rows (Mid.0, Level) (Last.last.slot, Map) (front_of hop) (key_of hop ∷ []) here
+        ∙ ap (λ ns. ns ++ nodes_met h Rows (Last.last.slot, Map) (key_of hop ∷ [])) (none_in_one_block h Rows (Mid.0, Level) (front_of hop) inside)
+        ∙ one_met h Rows (Last.last.slot, Map) (key_of hop)
+        ∙ put_met h Rows y.now Last.last.slot y.q.0 Last.last.ps Last.last.root Last.last.es Last.last.entered.hamt Last.last.trie (key_of hop) y.w y.d map_data_is.0 y.comes.tree map_data_is.1
+
+    nodes_more : nodes_met h Rows (S, C) (path_of_hops (hs ++ hop ∷ [])) ≡ nodes_met h Rows (S, C) Path ++ OwnWay
+    nodes_more =
+        ap (nodes_met h Rows (S, C)) (path_end hs hop)
+        ∙ nodes_split h Rows (S, C) (Mid.0, Level) Path (front_of hop ++ (key_of hop ∷ [])) there
+        ∙ ap (λ ns. nodes_met h Rows (S, C) Path ++ ns) level_nodes
+
     module _ (k : Moment) where
       abbrev Stepped : Result (List ℕ) HamtFault → Type 0
       Stepped r = SetsStep h is_key Rows Mid.0 y.now (front_of hop) (key_of hop) hop.trail step n r k
@@ -359,7 +409,7 @@ module _ (h : List ℕ → List ℕ) (is_key : ℕ → List ℕ → Bool) (was :
       added r z = more_told h Rows (S, C) (Mid.0, Level) m.blocks n.blocks k.blocks (record { path = Path; there = there; among = among }) y.adds z.later.keeps z.adds
 
       pub step_failed : (e : HamtFault) → Stepped (Err e) → SetsEnd h Rows room S C u (path_of_hops hops) m (Err e) k
-      step_failed e z = record { answer = failed e z; later = Later-trans m n k y.later z.later; adds = added (Err e) z; puts = let a = z.puts in let b = y.puts in omega (arith, a, b, met_more) }
+      step_failed e z = record { answer = failed e z; later = Later-trans m n k y.later z.later; adds = added (Err e) z; puts = let a = z.puts in let b = y.puts in omega (arith, a, b, met_more); given = tt }
 
       pub step_done : (b : List ℕ) → Stepped (Ok b) → Underway hs b k
       step_done b z =
@@ -381,4 +431,7 @@ module _ (h : List ℕ → List ℕ) (is_key : ℕ → List ℕ → Bool) (was :
             later = Later-trans m n k y.later z.later;
             adds = added (Ok b) z;
             puts = let a = z.puts in let b = y.puts in omega (arith, a, b, met_more);
+            behind = OwnWay ++ y.behind;
+            split = y.split ∙ ap (λ ns. ns ++ y.behind) nodes_more ∙ append_assoc (nodes_met h Rows (S, C) Path) OwnWay y.behind;
+            given = given_more n.given k.given OwnWay y.behind z.later.given y.given z.given;
           }

@@ -66,6 +66,7 @@ module _ (h : List ℕ → List ℕ) (is_key : ℕ → List ℕ → Bool) (rows 
     later = Later-refl m;
     adds = told-same m.blocks m.blocks (AddsNodes h rows s Changed) refl (λ a. record { came = λ id b e. inl e });
     puts = omega arith;
+    given = tt;
   }
 
   pub tree_d : IsTree x.d

@@ -1,5 +1,5 @@
 -- An edit beneath HAMTs: from the new block of the innermost value outward to that of the whole.
-use Rattle.std.specs.Prelude.{◌≡◌, ◌≢◌, ◌⊎◌, ℕ, ◌+◌, ◌≤◌, Bool, true, List, length, Some, Result, Ok, Err}
+use Rattle.std.specs.Prelude.{◌≡◌, ◌≢◌, ◌⊎◌, ℕ, ◌+◌, ◌≤◌, Bool, true, IfOk, List, length, Some, Result, Ok, Err}
 use Rattle.ild_data.specs.Data.{Data}
 use Rattle.ild_data.specs.Limits.{longest_block}
 use Rattle.ild_data.specs.Spell.{id_of, spell}
@@ -20,7 +20,9 @@ use Rattle.ild_view.specs.View.{slot_of, table_of}
 use Rattle.ild_view.specs.declared.view.View.{View}
 use Rattle.ild_bulk.specs.Build.{any_long}
 use Rattle.ild_bulk.specs.Putting.{IsAmong}
+use Rattle.ild_hamt.specs.Given.{AreIdsGiven}
 use Rattle.ild_open_held.specs.Held.{IsHeld}
+use Rattle.ild_path_way.specs.Way.{nodes_met}
 use Rattle.ild_path_within.specs.Within.{with_part}
 use Rattle.ild_script_meaning.specs.Costs.{blocks_met}
 use Rattle.ild_path_reroot.specs.Reroots.{AddsNodes}
@@ -59,12 +61,17 @@ EndAnswer h rows room s c u m (Err (F.Clash id kept new)) n =
 EndAnswer h rows room s c u m (Err F.Memory) n = Unit {0}
 EndAnswer h rows room s c u m (Err e) n = ⊥
 
+-- where the store tells its given ids, those of all nodes on the way of the path in the new value are among them
+abbrev pub GivesMet : (List ℕ → List ℕ) → List Row → InSlot → List (List ℕ) → Result (List ℕ) HamtFault → Moment → Type 0
+GivesMet h rows p path result n = IfOk result (λ b. IfTold n.given (AreIdsGiven (nodes_met h rows p path)))
+
 -- each put is of a node on the way of the path in the new value, of which the root's block is yet to be put
 pub record SetsEnd (h : List ℕ → List ℕ) (rows : List Row) (room : ℕ) (s : Slot) (c : Value) (u : Data) (path : List (List ℕ)) (m : Moment) (result : Result (List ℕ) HamtFault) (n : Moment) : Type 0 where
   pub answer : EndAnswer h rows room s c u m result n
   pub later : Later m n
   pub adds : BothTold m.blocks n.blocks (AddsNodes h rows s c)
   pub puts : n.puts + 1 ≤ m.puts + blocks_met h rows (s, c) path
+  pub given : GivesMet h rows (s, c) path result n
 
 -- over a store that tells its blocks
 abbrev pub CarriesOutward : (List ℕ → List ℕ) → View → List Hop → List ℕ → Moment → Result (List ℕ) HamtFault → Moment → Type 0
