@@ -1,8 +1,14 @@
 """Rows for the tests of edits at paths, by the plain program of the conformance cases, which builds each value from scratch.
 
     python3 tests/paths/rows.py overlaps      the rows of crates/ild_path_edit_tests/src/overlaps.rt
+    python3 tests/paths/rows.py worked        those of crates/ild_path_tests/src/worked.rt
+    python3 tests/paths/rows.py forest        those of crates/ild_path_tests/src/forest.rt
+    python3 tests/paths/rows.py linked        the blocks of crates/ild_path_tests/src/linked.rt
+    python3 tests/paths/rows.py club          what crates/ild_run_tests/src/club.rt tells of each failing call
 """
+import json
 import pathlib
+import re
 import sys
 
 sys.dont_write_bytecode = True
@@ -80,8 +86,257 @@ def overlaps():
         print("];")
 
 
+# ---- edits at places
+
+CLUB = (pathlib.Path(__file__).resolve().parents[2] / "examples/club/schema.ipldsch").read_text()
+WORDS = {"2 path": "path", "3 json": "json", "4 mismatch": "mismatch", "5 delimiter": "delimiter", "6 hole": "hole", "8 exhausted": "exhausted"}
+
+
+def changed(document, verb, path, text):
+    """The blocks of a document with an edit, the root first, which it then holds; or a word for why there are none."""
+    try:
+        value = document.edited(verb, path, text)
+        blocks = values.blocks_of(document.found, document.ty, value)
+    except values.Refused as refused:
+        return WORDS[str(refused)]
+    document.value = value
+    return blocks
+
+
+def told(blocks):
+    return blocks if isinstance(blocks, str) else values.cid_text(blocks[0])
+
+
+def item_of(document, verb, path, text):
+    """The item that represents the part which an edit brings, or None where the part is refused."""
+    if verb == "del":
+        return b""
+    probe = scripts.Document(document.found, document.ty, document.value)
+    if isinstance(changed(probe, verb, path, text), str):
+        return None
+    slot, value = probe.at(path)
+    return values.spelled(probe.rep(slot, value))
+
+
+def worked():
+    found = values.compiled(CLUB.encode())
+    ty = found.number("Club")
+    document = scripts.Document(found, ty, found.shown((ty, False), values.data_of(b'{"name":"Kite","users":{}}')))
+    print("const CLUB: &str =", quoted(re.sub("\\s+", " ", CLUB.split("\n", 1)[1]).strip()) + ";")
+    print("\nconst NO_USERS: &[u8] =", literal(values.blocks_of(found, ty, document.value)[0]) + ";")
+    lines = (pathlib.Path(__file__).resolve().parents[2] / "examples/club/script").read_bytes().splitlines()
+    places, edits = [], []
+    for line in lines:
+        verb, path, text = scripts.command(line)
+        if verb in ("set", "ins", "del"):
+            item = item_of(document, verb, path, text)
+            answer = told(changed(document, verb, path, text))
+            if item is not None:
+                places.append(f'("{verb}", {segments(path)}, {literal(item)}, "{answer}"),')
+            edits.append(f'({edit_text(verb, path, text)}, "{answer}"),')
+    print_rows("CLUB_PLACES", "Placed", places)
+    print_rows("CLUB_EDITS", "Row", edits)
+    abc = hamt_document()
+    print("\nconst NO_KEYS: &[u8] =", literal(values.blocks_of(abc.found, abc.ty, abc.value)[0]) + ";")
+    print("\nconst ABC: &[u8] =", literal(changed(abc, "set", ["abc"], b"1")[0]) + ";")
+
+
+def replies(document, script, failing=None):
+    """The replies to the lines of a script, of which one, by its number, meets a call of the store that fails."""
+    return ["no 12 store" if number == failing else document.reply(line) for number, line in enumerate(script)]
+
+
+def others_row(clean, refused):
+    """The replies that are others than where nothing fails, by their numbers."""
+    others = [f"({number}, {quoted(reply)})" for number, (reply, was) in enumerate(zip(refused, clean)) if reply != was]
+    return f"&[{', '.join(others)}],"
+
+
+CROWD = """get /users/k113/role
+len /users
+set /users/k120/age 7
+has /users/k120/nick
+rep /users/k146
+del /users/k132
+walk /users
+root
+"""
+
+
+def user(name):
+    return {"mail": f"{name}@x", "role": "Guest", "age": None, "contact": {"Phone": "1"}}
+
+
+def club_case(name, value, script, lines):
+    """A club with a script: its blocks, the replies, and those where an edit, or one of the first lines, meets a call that fails."""
+    found = values.compiled(CLUB.encode())
+    ty = found.number("Club")
+    text = json.dumps(value, separators=(",", ":")).encode()
+
+    def document():
+        return scripts.Document(found, ty, found.shown((ty, False), values.data_of(text)))
+
+    blocks = values.blocks_of(found, ty, document().value)
+    clean = replies(document(), script)
+    print(f"\nconst {name}: Session = Session {{")
+    print(f"    root: {quoted(values.cid_text(blocks[0]))},")
+    print(f"    blocks: &[{', '.join(map(literal, blocks))}],")
+    print("    script: &[" + ", ".join(quoted(line.decode()) for line in script) + "],")
+    print("    replies: &[" + ", ".join(map(quoted, clean)) + "],\n};")
+    edits = [n for n, reply in enumerate(clean) if reply.startswith("root ") and script[n] != b"root"]
+    print_rows(f"{name}_EDITS", "Others", [others_row(clean, replies(document(), script, n)) for n in edits])
+    print_rows(f"{name}_LINES", "Others", [others_row(clean, replies(document(), script, n)) for n in range(lines)])
+
+
+def club():
+    print("const CLUB: &str =", quoted(re.sub("\\s+", " ", CLUB.split("\n", 1)[1]).strip()) + ";")
+    script = (pathlib.Path(__file__).resolve().parents[2] / "examples/club/script").read_bytes().splitlines()
+    club_case("KITE", {"name": "Kite", "users": {}}, script, 0)
+    crowd = {name: user(name) for name in ("k113", "k120", "k132", "k146")}
+    club_case("CROWD", {"name": "Kite", "users": crowd}, CROWD.encode().splitlines(), 6)
+
+
+def hamt_document(pairs="{}"):
+    found = values.compiled(b"type H {String:Int} representation advanced HAMT")
+    ty = found.number("H")
+    return scripts.Document(found, ty, found.shown((ty, False), values.data_of(pairs.encode())))
+
+
+def linked():
+    """The root block of a HAMT with one child, before and behind the CID of the child, and the child."""
+    values.hash_of = padded
+    document = hamt_document('{"a1":1,"a2":2,"a3":3,"a4":4}')
+    root, child = values.blocks_of(document.found, document.ty, document.value)
+    front, back = root.split(values.binary_cid(child))
+    for name, block in (("FRONT", front), ("BACK", back), ("CHILD", child)):
+        print(f"const {name}: &[u8] =", literal(block) + ";\n")
+    print("const SET: &str =", quoted(told(changed(document, "set", ["a4"], b"5"))) + ";")
+
+
+# ---- HAMTs in HAMTs in unions in lists
+
+FOREST = """type Forest [Tree]
+type Tree union { | Twigs "t" | Leaf "l" } representation keyed
+type Twigs {String:Branch} representation advanced HAMT
+type Branch {String:Forest} representation advanced HAMT
+type Leaf int
+"""
+
+
+def padded(key):
+    return (key.encode() + bytes(32))[:32]
+
+
+def four(front, last, other):
+    """Four keys in a node at the third level, of which the last has this value."""
+    return {f"{front}1": other, f"{front}2": other, f"{front}3": other, f"{front}4": last}
+
+
+def forest(inner, fronts):
+    """A list of a leaf and a union that holds a HAMT of HAMTs, at whose last key this forest stands."""
+    outer, within = fronts
+    return [{"Leaf": 1}, {"Twigs": {**four(outer, four(within, inner, []), {}), "b": four("bb", [], [])}}]
+
+
+VALUE = forest(forest([{"Twigs": four("pp", four("qq", [{"Leaf": 7}], []), {})}], ("mm", "nn")), ("aa", "xx"))
+TO_MIDDLE = "/1/Twigs/aa4/xx4"
+TO_INNER = TO_MIDDLE + "/1/Twigs/mm4/nn4"
+TO_LAST = TO_INNER + "/0/Twigs/pp4"
+MANY = json.dumps(four("uu", four("vv", [{"Leaf": 5}], []), {}), separators=(",", ":"))
+BRANCH = json.dumps(four("vv", [{"Leaf": 5}], []), separators=(",", ":"))
+ALIKE = "k" * 32
+
+FOREST_EDITS = [
+    f"set {TO_LAST}/qq4/0/Leaf 8",
+    f'ins {TO_LAST}/qq4/- {{"Leaf":9}}',
+    f"ins {TO_LAST}/qq5 []",
+    f"ins {TO_LAST}/qq5 []",
+    f"del {TO_LAST}/qq5",
+    f"del {TO_LAST}/qq5",
+    f"del {TO_LAST}/qq1",
+    f'set {TO_LAST}/qq1 [{{"Leaf":2}},{{"Twigs":{{}}}}]',
+    f"del {TO_LAST}/qq4/0",
+    f'set {TO_LAST}/qq4/0/Twigs {MANY}',
+    f"set {TO_LAST}/qq4/0/Twigs/uu4/vv4/0/Leaf 6",
+    f"del {TO_LAST}/qq4/0/Twigs/uu2",
+    f"ins {TO_INNER}/0 {{\"Leaf\":3}}",
+    f"del {TO_INNER}/1/Twigs/pp3",
+    f"set {TO_MIDDLE}/1/Leaf 5",
+    f"del {TO_MIDDLE}/1/Leaf",
+    f"del {TO_MIDDLE}/1/Twigs",
+    f"set {TO_MIDDLE}/1/Twigs {MANY}",
+    f"ins {TO_MIDDLE}/1/Twigs {MANY}",
+    f"ins {TO_MIDDLE}/1/Twigs/uu9/x/0/Leaf 1",
+    f"set {TO_MIDDLE}/0/Leaf null",
+    f"set {TO_MIDDLE}/0/Leaf [",
+    f"set {TO_MIDDLE}/2 {{\"Leaf\":3}}",
+    *(f"ins /1/Twigs/b/{ALIKE}{n} []" for n in range(1, 5)),
+    f"set /1/Twigs/b/{ALIKE}3 [{{\"Leaf\":1}}]",
+    f"del /1/Twigs/b/{ALIKE}4",
+    "del /1/Twigs/aa4",
+    "set /1/Twigs/aa4 {}",
+    "del /1",
+    "set . []",
+]
+
+# edits of which each put and each get is tried
+TRIED = [
+    ("a leaf is set", f"set {TO_LAST}/qq4/0/Leaf 8"),
+    ("a node becomes a bucket", f"del {TO_LAST}/qq1"),
+    ("a key comes", f"ins {TO_LAST}/qq5 []"),
+    ("an element comes", f'ins {TO_INNER}/- {{"Leaf":3}}'),
+    ("a part with nodes comes", f"set {TO_MIDDLE}/1/Twigs/mm2 {BRANCH}"),
+]
+
+
+def forest_document():
+    values.hash_of = padded
+    found = values.compiled(FOREST.encode())
+    ty = found.number("Forest")
+    return scripts.Document(found, ty, found.shown((ty, False), VALUE))
+
+
+def quoted(text):
+    return '"' + text.replace("\\", "\\\\").replace('"', '\\"') + '"'
+
+
+def edit_text(verb, path, text):
+    return f'("{verb}", {segments(path)}, {quoted((text or b"").decode())})'
+
+
+def print_rows(name, kind, rows):
+    print(f"\nconst {name}: [{kind}; {len(rows)}] = [")
+    print("\n".join("    " + row for row in rows))
+    print("];")
+
+
+def forest_rows():
+    document = forest_document()
+    begun = values.blocks_of(document.found, document.ty, document.value)
+    print("const SRC: &str =", quoted(FOREST.strip().replace("\n", " ")) + ";")
+    print("\nconst VALUE: &str =", quoted(json.dumps(VALUE, separators=(",", ":"))) + ";")
+    print("\nconst ROOT: &str =", quoted(values.cid_text(begun[0])) + ";")
+    rows = []
+    for line in FOREST_EDITS:
+        asked = scripts.command(line.encode())
+        rows.append(f'({edit_text(*asked)}, "{told(changed(document, *asked))}"),')
+    print_rows("EDITS", "Row", rows)
+    rows = []
+    for name, line in TRIED:
+        asked = scripts.command(line.encode())
+        after = changed(forest_document(), *asked)
+        rows.append(f'({edit_text(*asked)}, "{told(after)}", {len(set(after) - set(begun))}, {len(set(begun) - set(after)) - 1}),')
+    print_rows("TRIED", "Tried", rows)
+    asked = scripts.command(TRIED[3][1].encode())
+    after = changed(forest_document(), *asked)
+    print(f'\nconst INSERT: Row = ({edit_text(*asked)}, "{told(after)}");')
+    way = [f'"{values.cid_text(block)}",' for block in dict.fromkeys(begun[1:]) if block not in after]
+    print_rows("ON_THE_WAY", "&str", way)
+    print(f"// {len(set(begun))} blocks")
+
+
 if __name__ == "__main__":
-    wanted = {"overlaps": overlaps}
+    wanted = {"overlaps": overlaps, "worked": worked, "forest": forest_rows, "linked": linked, "club": club}
     if len(sys.argv) != 2 or sys.argv[1] not in wanted:
         sys.exit(__doc__)
     wanted[sys.argv[1]]()

@@ -2,6 +2,8 @@
 #![tactic(auto)]
 
 #[cfg(test)]
+mod club;
+#[cfg(test)]
 mod edges;
 #[cfg(test)]
 mod files;
