@@ -25,6 +25,8 @@ def loaded(name):
 plain = loaded("write_cases")
 SCHEMA = plain.SCHEMA.encode() + b"\n"
 WORDS = ["run", "s", "N", "-", "x"]
+# A run that takes longer is ended, and has failed.
+SECONDS = 300
 EMPTY = plain.cid_text(plain.block_of({}))
 ONE_BLOCK = plain.block_of({"a": 1})
 ONE = plain.cid_text(ONE_BLOCK)
@@ -43,7 +45,13 @@ def start(program, place, words=None, **how):
 
 def differs(run, text, status, given=None):
     """What is wrong with how a run ended."""
-    out, _ = run.communicate(given)
+    try:
+        out, _ = run.communicate(given, timeout=SECONDS)
+    except subprocess.TimeoutExpired:
+        run.kill()
+        run.communicate()
+        yield f"no end after {SECONDS} seconds"
+        return
     if run.returncode != status:
         yield f"status {run.returncode}, and {status} is wanted"
     if out != text:
