@@ -14,14 +14,14 @@ use Rattle.ild_script.specs.declared.word.Word.TheVariants as W
 use Rattle.ild_typed.specs.Stands.{Storable, bare}
 use Rattle.ild_path_edits.specs.Judged.{Tests, AreTests}
 use Rattle.ild_script_session.specs.Session.{State, Stage, Due, Meaning, idle, resting}
-use Rattle.ild_script_session.specs.Stands.{Leads, StaysAt}
+use Rattle.ild_script_session.specs.Stands.{Leads}
 use Rattle.ild_script_session.specs.Step.{Carries, Replies}
 use Rattle.ild_script_meaning.specs.Ask.{Ask, nothing, to_tell, to_edit, to_tell_root, to_begin, to_commit, to_abort, unknown, asked, asked_by}
 use Rattle.ild_script_meaning.specs.Lines.{Setting, due, edit_next, root_due, changed, unbatched, typed_lines, without_batches}
 use Rattle.ild_view_doc.specs.Docs.{table_in, type_in}
 use Rattle.ild_view_doc.specs.declared.doc.Doc.{Doc}
 use Rattle.ild_run_standing.specs.Answers.{AnswersAs}
-use Rattle.ild_run_standing.specs.Standing.{StandsAt, setting_of}
+use Rattle.ild_run_standing.specs.Standing.{IsAtState, StandsAt, setting_of}
 
 -- ---- lines without batches
 
@@ -129,26 +129,27 @@ document_leads old new m n line reply silent a M s x =
     subst (λ (u : Stage Value). Leads M (StandsAt new n M) m u line reply n) (sym x.rests)
     (subst (λ (L : Meaning Value). Leads L (StandsAt new n M) m (resting x.value) line reply n) (sym x.means) (leads_from old new m n line reply silent a M s x))
 
-pub document_stays : (old new : Doc) (m n : Moment) (a : Ask) (reply : Option Reply) (refusal : No) → AnswersAs id_of old new a m reply n → reply ≡ Some (R.No refusal)
-    → (k : Moment) (M : Meaning Value) (s : Stage Value) → StandsAt old k M s → StaysAt (StandsAt new k M) s
-document_stays old new m n a reply refusal answers is k M s x = record {
-  stage = s;
-  stands = record {
-    tests = x.tests;
-    are = tests_on old new x.tests answers.table x.are;
-    means = means_on id_of old new x.tests M answers.table answers.type x.means;
-    value = x.value;
-    held = record {
-      at = record {
-        told = x.held.at.told;
-        tree = x.held.at.tree;
-        storable = (subst (λ (n : TypeNo). Storable bare id_of (table_in new) n x.value x.held.at.tree) (sym answers.type)
-            (subst (λ (rows : List Row). Storable bare id_of rows (type_in old) x.value x.held.at.tree) (sym answers.table) x.held.at.storable));
-        block = answers.kept refusal is ∙ x.held.at.block;
-      };
-      carries = carries_on id_of old new x.tests k x.value answers.table answers.type x.held.carries;
-    };
-    rests = x.rests;
+pub document_keeps : (old new : Doc) (m n : Moment) (a : Ask) (reply : Option Reply) (refusal : No) → AnswersAs id_of old new a m reply n → reply ≡ Some (R.No refusal)
+    → (M : Meaning Value) (s : State Value) → IsAtState old M s → IsAtState new M s
+document_keeps old new m n a reply refusal answers is M s x = record {
+  tests = x.tests;
+  are = tests_on old new x.tests answers.table x.are;
+  means = means_on id_of old new x.tests M answers.table answers.type x.means;
+  value = record {
+    tree = x.value.tree;
+    storable = (subst (λ (n : TypeNo). Storable bare id_of (table_in new) n s.value x.value.tree) (sym answers.type)
+        (subst (λ (rows : List Row). Storable bare id_of rows (type_in old) s.value x.value.tree) (sym answers.table) x.value.storable));
+    block = answers.kept refusal is ∙ x.value.block;
   };
-  same = refl;
+  outside = x.outside;
 }
+
+-- where it stands, it is at the state of the stage
+pub document_is_at : (d : Doc) (m : Moment) (M : Meaning Value) (s : Stage Value) → StandsAt d m M s → IsAtState d M s.state
+document_is_at d m M s x = subst (λ (t : Stage Value). IsAtState d M t.state) (sym x.rests) (record {
+  tests = x.tests;
+  are = x.are;
+  means = x.means;
+  value = record { tree = x.held.at.tree; storable = x.held.at.storable; block = x.held.at.block };
+  outside = refl;
+})

@@ -6,7 +6,7 @@ use Rattle.ild_edges.specs.Store.{Moment}
 use Rattle.ild_schema.specs.Value.{Value}
 use Rattle.ild_typed.specs.Stands.{Storable, bare}
 use Rattle.ild_path_edits.specs.Judged.{Tests, AreTests}
-use Rattle.ild_script_session.specs.Session.{Stage, Meaning, resting}
+use Rattle.ild_script_session.specs.Session.{State, Stage, Meaning, resting}
 use Rattle.ild_script_session.specs.Step.{Carries}
 use Rattle.ild_script_meaning.specs.Lines.{Setting, typed_lines, without_batches}
 use Rattle.ild_view_doc.specs.Docs.{table_in, type_in, block_in}
@@ -36,3 +36,17 @@ pub record StandsAt (d : Doc) (m : Moment) (M : Meaning Value) (s : Stage Value)
   pub value : Value
   pub held : IsHeldAt id_of d tests m value
   pub rests : s ≡ resting value
+
+-- The block is the root block of the value, whatever a store holds.
+pub record IsOf (h : List ℕ → List ℕ) (d : Doc) (v : Value) : Type 0 where
+  pub tree : Data
+  pub storable : Storable bare h (table_in d) (type_in d) v tree
+  pub block : block_in d ≡ spell tree
+
+-- The session of a document is at the state of this value, outside any batch, whatever a store holds.
+pub record IsAtState (d : Doc) (M : Meaning Value) (s : State Value) : Type 0 where
+  pub tests : Tests
+  pub are : AreTests (table_in d) tests
+  pub means : M ≡ without_batches (setting_of id_of d tests)
+  pub value : IsOf id_of d s.value
+  pub outside : s.begun ≡ None
