@@ -41,14 +41,15 @@ use Rattle.ild_path_hops.specs.Hops.{AreHops}
 use Rattle.ild_path_hops.specs.HopLaws.{path_of_hops}
 use Rattle.ild_path_hops.specs.declared.hop.Hop.{Hop}
 use Rattle.ild_path_outward.specs.Outward.{with_end}
-use Rattle.ild_path_outward.proofs.Counting.{put_counted}
+use Rattle.ild_path_outward.proofs.Counting.{put_counted, put_met}
+use Rattle.ild_path_way.specs.Way.{nodes_met}
 use Rattle.ild_path_ends.specs.AtKey.{CutsKey, IsKeyCut, IsKeyLevel, IsKeySet, MakesAtKey, SetsKey}
 use Rattle.ild_path_ends.specs.Parts.{HasEnd, IsChange, IsPartHeld}
 use Rattle.ild_path_ends.specs.Steps.{IsKeyIn}
-use Rattle.ild_path_ends.proofs.Counting.{cut_counted}
+use Rattle.ild_path_ends.proofs.Counting.{cut_counted, cut_met}
 use Rattle.ild_path_ends.proofs.Ending.{brings, changed, held_q, own, typed_q}
 use Rattle.ild_path_ends.proofs.Inner.{IsInner}
-use Rattle.ild_path_ends.proofs.Keying.{level_end, met_at_key}
+use Rattle.ild_path_ends.proofs.Keying.{level_end, met_at_key, nodes_at_key}
 use Rattle.ild_path_ends.proofs.Moving.{ins_moves, set_moves}
 
 has_end : (e : PartEdit) (front : List (List ℕ)) (k : List ℕ) → HasEnd e (front ++ (k ∷ []))
@@ -133,6 +134,11 @@ module _ (h : List ℕ → List ℕ) (is_key : ℕ → List ℕ → Bool) (was :
           met_at_key h Rows is_key level.schema level.keys q front key.slot (map key.ps) Map k (length (way h usual k (trie_levels usual) 0 (insert bytewise k y.tree key.es))) Typed key.entered.at typed_new_map
           (put_counted h Rows was key.slot key.elem key.ps key.root key.es key.entered.hamt key.trie k w y.tree map_data_is.0 y.held.tree map_data_is.1)
 
+      met_new : nodes_met h Rows (q.0, New) (front ++ (k ∷ [])) ≡ way h usual k (trie_levels usual) 0 (insert bytewise k y.tree key.es)
+      met_new =
+          nodes_at_key h Rows is_key level.schema level.keys q front key.slot (map key.ps) Map k (way h usual k (trie_levels usual) 0 (insert bytewise k y.tree key.es)) Typed key.entered.inside key.entered.at typed_new_map
+          (put_met h Rows was key.slot key.elem key.ps key.root key.es key.entered.hamt key.trie k w y.tree map_data_is.0 y.held.tree map_data_is.1)
+
       set_made : (r : Result (List ℕ) HamtFault) → SetsKey h (table_of view) (slot_of view) view front found item m r n → MakesAtKey h Rows S v hops q less (front ++ (k ∷ [])) c m r n
       set_made r is = record {
         new = New;
@@ -140,7 +146,7 @@ module _ (h : List ℕ → List ℕ) (is_key : ℕ → List ℕ → Bool) (was :
         made = made;
         tree_is = Own.1;
         fits = Own.2;
-        ends = level_end h Rows less q.0 New Own.0 Own.1 m n (front ++ (k ∷ [])) k (insert bytewise k y.tree key.es) r few (sets_at h Rows q.0 view front found item m n r inner.table inner.slot is is_key was k told set inner.root);
+        ends = level_end h Rows less q.0 New Own.0 Own.1 m n (front ++ (k ∷ [])) k (insert bytewise k y.tree key.es) r few met_new (sets_at h Rows q.0 view front found item m n r inner.table inner.slot is is_key was k told set inner.root);
       }
 
     pub at_key_set : (x : IsChange h Rows is_key was deepest (S, v) (path_of_hops hops ++ (front ++ (k ∷ []))) (E.Set item) w c u) (r : Result (List ℕ) HamtFault)
@@ -197,6 +203,11 @@ module _ (h : List ℕ → List ℕ) (is_key : ℕ → List ℕ → Bool) (was :
           met_at_key h Rows is_key level.schema level.keys q front key.slot (map key.ps) Rest k (length (way h usual k (trie_levels usual) 0 (remove k key.es))) Typed key.entered.at typed_rest
           (cut_counted h Rows was key.slot key.elem key.ps key.root key.es key.entered.hamt key.trie k rest_data_is.0 rest_data_is.1)
 
+      met_less : nodes_met h Rows (q.0, Less) (front ++ (k ∷ [])) ≡ way h usual k (trie_levels usual) 0 (remove k key.es)
+      met_less =
+          nodes_at_key h Rows is_key level.schema level.keys q front key.slot (map key.ps) Rest k (way h usual k (trie_levels usual) 0 (remove k key.es)) Typed key.entered.inside key.entered.at typed_rest
+          (cut_met h Rows was key.slot key.elem key.ps key.root key.es key.entered.hamt key.trie k rest_data_is.0 rest_data_is.1)
+
       cut_made : (r : Result (List ℕ) HamtFault) → CutsKey h (table_of view) (slot_of view) view front found m r n → MakesAtKey h Rows S v hops q less (front ++ (k ∷ [])) c m r n
       cut_made r is = record {
         new = Less;
@@ -204,7 +215,7 @@ module _ (h : List ℕ → List ℕ) (is_key : ℕ → List ℕ → Bool) (was :
         made = made;
         tree_is = OwnLess.1;
         fits = OwnLess.2;
-        ends = level_end h Rows less q.0 Less OwnLess.0 OwnLess.1 m n (front ++ (k ∷ [])) k (remove k key.es) r few_less (cuts_at h Rows q.0 view front found m n r inner.table inner.slot is is_key was k told cut inner.root);
+        ends = level_end h Rows less q.0 Less OwnLess.0 OwnLess.1 m n (front ++ (k ∷ [])) k (remove k key.es) r few_less met_less (cuts_at h Rows q.0 view front found m n r inner.table inner.slot is is_key was k told cut inner.root);
       }
 
     pub at_key_cut : (x : IsChange h Rows is_key was deepest (S, v) (path_of_hops hops ++ (front ++ (k ∷ []))) E.Delete w c u) (r : Result (List ℕ) HamtFault)

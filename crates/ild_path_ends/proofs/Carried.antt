@@ -1,9 +1,11 @@
 -- From what became of the innermost value at a key to the whole.
-use Rattle.std.proofs.Common.{◌≡◌, ◌⊎◌, inl, inr, ⊎_elim, ℕ, ◌+◌, Bool, true, List, ◌++◌, Some, sym, ap, ◌∙◌, subst, arith}
+use Rattle.std.proofs.Common.{◌≡◌, ◌⊎◌, inl, inr, ⊎_elim, ℕ, ◌+◌, Bool, true, List, ◌∷◌, ◌++◌, Some, sym, ap, ◌∙◌, subst, arith}
 use Rattle.std.specs.Prelude.{Result, Ok, Err, option_and_then}
 use Rattle.ild_data.specs.Data.{Data}
 use Rattle.ild_data.specs.Limits.{deepest}
-use Rattle.ild_edges.specs.Store.{Moment, Keeps, block_at}
+use Rattle.ild_data.specs.Spell.{spell}
+use Rattle.ild_edges.specs.Store.{Moment, Keeps, StaysGiven, block_at}
+use Rattle.ild_edges.specs.Told.{BothTold, IfTold}
 use Rattle.ild_edges.proofs.Later.{Later-trans}
 use Rattle.ild_bulk.specs.Build.{any_long}
 use Rattle.ild_schema.specs.declared.number.Slot.{Slot}
@@ -20,6 +22,7 @@ use Rattle.ild_typed.specs.Hamt.{whole}
 use Rattle.ild_typed.specs.Represented.{represented}
 use Rattle.ild_view.specs.View.{slot_of, table_of}
 use Rattle.ild_view.specs.declared.view.View.{View}
+use Rattle.ild_hamt.specs.Given.{AreIdsGiven}
 use Rattle.ild_open_held.specs.Held.{IsHeld}
 use Rattle.ild_path_held.proofs.Holding.{held_stays}
 use Rattle.ild_path_nodes.specs.NodeLaws.{AreAmong}
@@ -33,10 +36,13 @@ use Rattle.ild_path_hops.specs.HopLaws.{path_of_hops}
 use Rattle.ild_path_hops.specs.declared.hop.Hop.{Hop}
 use Rattle.ild_path_hops.proofs.Hopping.{hops_stay}
 use Rattle.ild_path_outward.specs.Outward.{EndAnswer, IsNewEnd, with_end}
+use Rattle.ild_path_outward.proofs.Carrying.{given_more}
 use Rattle.ild_path_sizes.specs.Long.{HasLongPart}
+use Rattle.ild_path_way.specs.Way.{nodes_met}
+use Rattle.ild_path_way.proofs.Splitting.{nodes_split}
 use Rattle.ild_script_meaning.specs.Costs.{blocks_met, met_in}
 use Rattle.ild_path_ends.specs.AtKey.{MakesAtKey}
-use Rattle.ild_path_ends.specs.Ends.{AddsBlocks, Came, EditsWhole, WholeAnswer}
+use Rattle.ild_path_ends.specs.Ends.{AddsBlocks, Came, EditsWhole, GivesWhole, WholeAnswer}
 use Rattle.ild_path_ends.proofs.Ending.{among as among_whole, there as there_whole}
 use Rattle.ild_path_ends.proofs.Finishing.{all_stay, node_came}
 use Rattle.ild_path_ends.proofs.Telling.{both_at, both_here, told_at, told_next}
@@ -112,6 +118,7 @@ module _ (h : List ℕ → List ℕ) (is_key : ℕ → List ℕ → Bool) (was :
     later = y.ends.later;
     adds = both_here m.blocks n.blocks was Next.0 (AddsBlocks h Rows S c u) told Next.1 (nodes_added was Next.0 (both_at m.blocks n.blocks was Next.0 (AddsNodes h Rows q.0 y.new) told Next.1 y.ends.adds));
     puts = let a = y.ends.puts in omega (arith, a, met_all);
+    given = tt;
   }
 
   -- ---- behind them
@@ -142,8 +149,14 @@ module _ (h : List ℕ → List ℕ) (is_key : ℕ → List ℕ → Bool) (was :
     later_answer (Err F.NoKey) is = absurd is
     later_answer (Err (F.Block id why)) is = absurd is
 
-    pub key_done : EditsWhole h Rows S (with_end Rows S v hops y.new) u Path n s k → EditsWhole h Rows S c u (Path ++ path) m s k
-    key_done raw =
+    all_given : IfTold n.given (AreIdsGiven (nodes_met h Rows (q.0, y.new) path)) → BothTold n.given k.given StaysGiven → (e : Result (List ℕ) HamtFault) → GivesWhole h Rows S c u Path e k → GivesWhole h Rows S c u (Path ++ path) e k
+    all_given before stays (Err e) is = tt
+    all_given before stays (Ok b) is =
+        subst (λ bs. IfTold k.given (AreIdsGiven (spell u ∷ bs))) (sym (nodes_split h Rows (S, c) (q.0, y.new) Path path there))
+        (given_more n.given k.given (spell u ∷ nodes_met h Rows (S, c) Path) (nodes_met h Rows (q.0, y.new) path) stays before is)
+
+    pub key_done : IfTold n.given (AreIdsGiven (nodes_met h Rows (q.0, y.new) path)) → EditsWhole h Rows S (with_end Rows S v hops y.new) u Path n s k → EditsWhole h Rows S c u (Path ++ path) m s k
+    key_done before raw =
         let x : EditsWhole h Rows S c u Path n s k = subst (λ a. EditsWhole h Rows S a u Path n s k) y.made raw in
         let last = told_next n.blocks k.blocks Next.0 Next.1 x.later.keeps in
         let first = nodes_added was Next.0 (both_at m.blocks n.blocks was Next.0 (AddsNodes h Rows q.0 y.new) told Next.1 y.ends.adds) in
@@ -155,4 +168,5 @@ module _ (h : List ℕ → List ℕ) (is_key : ℕ → List ℕ → Bool) (was :
             came = λ id z is. ⊎_elim (λ before. ⊎_elim (λ old. inl old) (λ new. inr (came_later Next.0 last.0 last.2 z new)) (first.came id z before)) (λ new. inr new) (second.came id z is);
           });
           puts = let a = y.ends.puts in let b = x.puts in omega (arith, a, b, met_all);
+          given = all_given before x.later.given s x.given;
         }

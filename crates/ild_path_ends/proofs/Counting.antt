@@ -1,6 +1,6 @@
 -- The nodes on the way of a key that has gone.
 use Rattle.std.proofs.Common.{◌≡◌, ℕ, Bool, true, false, List, [], ◌∷◌, length, Option, Some, refl, sym, ap, ◌∙◌, subst}
-use Rattle.std.specs.Prelude.{cond, is_some, option_map, if◌then◌else◌}
+use Rattle.std.specs.Prelude.{cond, is_some, option_map}
 use Rattle.std.specs.Option.{option_map_or}
 use Rattle.std.proofs.lemmas.Option.{same_Some}
 use Rattle.ild_data.specs.ByteOrder.{in_byte_order, without as remove}
@@ -26,7 +26,9 @@ use Rattle.ild_path_held.specs.Hamts.{IsTrieIn}
 use Rattle.ild_path_held.proofs.Orders.{sorted_without}
 use Rattle.ild_path_held.proofs.Tries.{map_data}
 use Rattle.ild_path_entered.specs.Entered.{without_entry}
-use Rattle.ild_script_meaning.specs.Costs.{met_in, on_way}
+use Rattle.ild_path_outward.proofs.Counting.{met_length}
+use Rattle.ild_path_way.specs.Way.{nodes_for, nodes_on}
+use Rattle.ild_script_meaning.specs.Costs.{met_in}
 
 module _ (h : List ℕ → List ℕ) (rows : List Row) (elem : Slot) where
   abbrev data_of_pairs : List (List ℕ × Value) → Option (List (List ℕ × Data))
@@ -59,17 +61,23 @@ module _ (h : List ℕ → List ℕ) (rows : List Row) (elem : Slot) where
       by true y later = y.rest_is
       by false y later = joined x.0 x.1 y.own (without k xs) (without k y.rest) y.own_is later
 
--- a map with data from which an entry has gone counts at its key the nodes on the key's way in the trie of the others
-pub cut_counted : (h : List ℕ → List ℕ) (rows : List Row) (held : List (List ℕ)) (s elem : Slot) (ps : Pairs) (t : Data) (es : List (List ℕ × Data)) (is : IsHamt rows s elem) → IsTrieIn h rows held elem ps t es
+-- a map with data from which an entry has gone has for its key the nodes on the key's way in the trie of the others
+pub cut_met : (h : List ℕ → List ℕ) (rows : List Row) (held : List (List ℕ)) (s elem : Slot) (ps : Pairs) (t : Data) (es : List (List ℕ × Data)) (is : IsHamt rows s elem) → IsTrieIn h rows held elem ps t es
     → (k : List ℕ) (x : Data) → represented (whole h) rows s (without_entry k ps) ≡ Some x
-    → met_in h rows (form_of rows s) (without_entry k ps) k ≡ length (way h usual k (trie_levels usual) 0 (remove k es))
-cut_counted h rows held s elem ps t es is tried k x made =
+    → nodes_for h rows (form_of rows s) (without_entry k ps) k ≡ way h usual k (trie_levels usual) 0 (remove k es)
+cut_met h rows held s elem ps t es is tried k x made =
     let xs = pairs_list ps in
     let pairs : List (List ℕ × Data) = without k tried.pairs in
     let e : represented_pairs (whole h) rows elem (pairs_of (without k xs)) ≡ Some pairs = cut_data h rows elem k xs tried.pairs (ap (represented_pairs (whole h) rows elem) (pairs_back ps) ∙ tried.represents) in
     let y = map_from (root_map usual) (trie h usual pairs 0) x (sym (map_data h rows s elem is (pairs_of (without k xs)) pairs e) ∙ made) in
     let order : remove k es ≡ in_byte_order pairs = ap (remove k) tried.order ∙ sorted_without k tried.pairs tried.rises in
-    ap (λ (o : Option TypeDef). met_in h rows o (without_entry k ps) k) is.3
-    ∙ ap (λ o. option_map_or (on_way h k) o 0) e
-    ∙ ap (λ (o : Option Data). if is_some o then length (way h usual k (trie_levels usual) 0 (in_byte_order pairs)) else 0) y.there
-    ∙ ap (λ fs. length (way h usual k (trie_levels usual) 0 fs)) (sym order)
+    ap (λ (o : Option TypeDef). nodes_for h rows o (without_entry k ps) k) is.3
+    ∙ ap (λ o. option_map_or (nodes_on h k) o []) e
+    ∙ ap (λ (o : Option Data). cond (is_some o) (way h usual k (trie_levels usual) 0 (in_byte_order pairs)) []) y.there
+    ∙ ap (λ fs. way h usual k (trie_levels usual) 0 fs) (sym order)
+
+pub cut_counted : (h : List ℕ → List ℕ) (rows : List Row) (held : List (List ℕ)) (s elem : Slot) (ps : Pairs) (t : Data) (es : List (List ℕ × Data)) (is : IsHamt rows s elem) → IsTrieIn h rows held elem ps t es
+    → (k : List ℕ) (x : Data) → represented (whole h) rows s (without_entry k ps) ≡ Some x
+    → met_in h rows (form_of rows s) (without_entry k ps) k ≡ length (way h usual k (trie_levels usual) 0 (remove k es))
+cut_counted h rows held s elem ps t es is tried k x made =
+    met_length h rows (form_of rows s) (without_entry k ps) k ∙ ap (λ (bs : List (List ℕ)). length bs) (cut_met h rows held s elem ps t es is tried k x made)

@@ -1,12 +1,13 @@
 -- What an edit behind the hops makes of the innermost value, and of the whole.
 use Rattle.std.proofs.Common.{◌≡◌, inl, inr, ℕ, ◌≤◌, Bool, true, IsUtf8, List, [], ◌∷◌, ◌++◌, length, map, arith, Option, Some, refl, sym, ap, ◌∙◌, subst, append-nil}
-use Rattle.std.specs.Prelude.{Result, Ok, Err}
+use Rattle.std.specs.Prelude.{IfOk, Result, Ok, Err}
 use Rattle.std.specs.List.{AllByRecursion}
 use Rattle.ild_cbor.specs.declared.node.Node.{Node}
 use Rattle.ild_data.specs.Data.{Data}
 use Rattle.ild_data.specs.Limits.{deepest, longest_block}
 use Rattle.ild_data.specs.Spell.{spell}
 use Rattle.ild_edges.specs.Store.{Moment, block_at}
+use Rattle.ild_edges.specs.Told.{IfTold}
 use Rattle.ild_edges.proofs.Later.{Later-refl}
 use Rattle.ild_bulk.proofs.Puts.{told-same}
 use Rattle.ild_schema.specs.declared.number.Slot.{Slot}
@@ -24,6 +25,7 @@ use Rattle.ild_typed.specs.OfType.{OfType, TestsKeys}
 use Rattle.ild_typed.specs.Represented.{represented}
 use Rattle.ild_view.specs.View.{slot_of, table_of}
 use Rattle.ild_view.specs.declared.view.View.{View}
+use Rattle.ild_hamt.specs.Given.{AreIdsGiven}
 use Rattle.ild_open_held.specs.Held.{IsHeld}
 use Rattle.ild_path_edits.specs.Edit.{change, ins_at, new_slot, path_of, set_at}
 use Rattle.ild_path_edits.specs.EditLaws.{Brings}
@@ -36,6 +38,9 @@ use Rattle.ild_path_within.proofs.Splitting.{parts_are_set, ways_split}
 use Rattle.ild_typed_fronts.specs.Front.{edit_front, front, front_in, in_one_block, part_front}
 use Rattle.ild_typed_fronts.proofs.Pathing.{edits_of_fronts}
 use Rattle.ild_typed_fronts.proofs.Representing.{fronts_are_fronts, fronts_represent}
+use Rattle.ild_path_way.specs.Way.{nodes_met}
+use Rattle.ild_path_way.proofs.Splitting.{nodes_split, none_in_one_block}
+use Rattle.ild_path_way.proofs.Staying.{edits_stay}
 use Rattle.ild_path_nodes.specs.NodeLaws.{AreAmong}
 use Rattle.ild_path_nodes.proofs.Changing.{nodes_of_parts}
 use Rattle.ild_path_held.specs.HeldEdits.{HasNodes, room_at}
@@ -182,11 +187,13 @@ module _ (h : List ℕ → List ℕ) (is_key : ℕ → List ℕ → Bool) (was :
       abbrev Own : (d : Data) × (represented (whole h) Rows q.0 changed.new ≡ Some d) × Fits Rows less q.0 changed.new
       Own = own c changed.new u typed changed.made x.tree x.fits
 
-      pub inner_change : IsInnerChange h Rows was S v hops q less c Own.0
+      pub inner_change : IsInnerChange h Rows was S v hops q less path c Own.0
       inner_change = record {
         new = New;
         held = held_edits (block_at was) h Rows is_key level.schema level.keys less q held_q.0 Own.0 (edit_of edit w path) New texts_of brings_typed brings_nodes held_q.1 inside_of changed.is Own.2 Own.1;
         made = changed.made;
+        inside = ap (in_one_block Rows (q.0, New)) (sym (path_is edit w path))
+            ∙ edits_stay Rows is_key level.schema level.keys q (edit_of edit w path) New texts_of brings_typed typed_q inside_of changed.is;
       }
 
       -- ---- of the front
@@ -233,12 +240,12 @@ module _ (h : List ℕ → List ℕ) (is_key : ℕ → List ℕ → Bool) (was :
             (subst (λ r. represented alone Rows r (front h Rows q.0 New) ≡ Some Own.0) (sym is.slot) (fronts_represent h Rows q.0 New ∙ Own.1));
       }
 
-      pub inner_made : (r : Result (List ℕ) HamtFault) → MakesRoot (spell Own.0) r → MakesInner h Rows was S v hops q less c r
+      pub inner_made : (r : Result (List ℕ) HamtFault) → MakesRoot (spell Own.0) r → MakesInner h Rows was S v hops q less path c r
       inner_made r made = record { tree = Own.0; change = inner_change; made = made }
 
   -- ---- the whole
 
-  module _ (c : Value) (u d : Data) (x : IsInnerChange h Rows was S v hops q less c d) (tree : represented (whole h) Rows S c ≡ Some u) (fits : Fits Rows deepest S c) (path : List (List ℕ)) where
+  module _ (path : List (List ℕ)) (c : Value) (u d : Data) (x : IsInnerChange h Rows was S v hops q less path c d) (tree : represented (whole h) Rows S c ≡ Some u) (fits : Fits Rows deepest S c) where
     there_now : at Rows (S, c) Path ≡ Some (q.0, x.new)
     there_now = there c x.new u (less, x.held.fits) x.made tree fits
 
@@ -246,6 +253,13 @@ module _ (h : List ℕ → List ℕ) (is_key : ℕ → List ℕ → Bool) (was :
     met_more =
         let a = ways_split Rows (λ r k. met_in h Rows (form_of Rows r.0) r.1 k) (S, c) (q.0, x.new) Path path there_now in
         omega (arith, a)
+
+    -- the path meets no more nodes behind the hops
+    met_same : nodes_met h Rows (S, c) (Path ++ path) ≡ nodes_met h Rows (S, c) Path
+    met_same =
+        nodes_split h Rows (S, c) (q.0, x.new) Path path there_now
+        ∙ ap (λ ns. nodes_met h Rows (S, c) Path ++ ns) (none_in_one_block h Rows (q.0, x.new) path x.inside)
+        ∙ append-nil (nodes_met h Rows (S, c) Path)
 
     pub new_end : (b : List ℕ) → (b ≡ spell d) × (length b ≤ longest_block) → IsNewEnd h is_key was deepest v t root hops x.new u b
     new_end b made = record {
@@ -265,7 +279,13 @@ module _ (h : List ℕ → List ℕ) (is_key : ℕ → List ℕ → Bool) (was :
     pub whole_done : (m n : Moment) (r : Result (List ℕ) HamtFault) → EditsWhole h Rows S (with_end Rows S v hops x.new) u Path m r n → EditsWhole h Rows S c u (Path ++ path) m r n
     whole_done m n r y =
         let z : EditsWhole h Rows S c u Path m r n = subst (λ a. EditsWhole h Rows S a u Path m r n) x.made y in
-        record { answer = z.answer; later = z.later; adds = z.adds; puts = let a = z.puts in omega (arith, a, met_more) }
+        record {
+          answer = z.answer;
+          later = z.later;
+          adds = z.adds;
+          puts = let a = z.puts in omega (arith, a, met_more);
+          given = subst (λ ns. IfOk r (λ b. IfTold n.given (AreIdsGiven (spell u ∷ ns)))) (sym met_same) z.given;
+        }
 
     failed : (m : Moment) (e : HamtFault) → MakesRoot (spell d) (Err e) → WholeAnswer h Rows S c u m (Err e) m
     failed m F.Size is = inr (record { tree = d; part = record { path = Path; part = (q.0, x.new); at = there_now; tree = x.held.tree }; long = is })
@@ -282,4 +302,5 @@ module _ (h : List ℕ → List ℕ) (is_key : ℕ → List ℕ → Bool) (was :
       later = Later-refl m;
       adds = told-same m.blocks m.blocks (AddsBlocks h Rows S c u) refl (λ a. record { came = λ id b there. inl there });
       puts = omega arith;
+      given = tt;
     }

@@ -1,12 +1,12 @@
 -- The block of the whole is put behind its nodes.
-use Rattle.std.proofs.Common.{◌≡◌, inl, inr, ⊎_elim, ℕ, suc, ◌≤◌, List, [], ◌∷◌, length, Some, sym, ◌∙◌, subst, arith}
+use Rattle.std.proofs.Common.{◌≡◌, inl, inr, ⊎_elim, ℕ, suc, ◌≤◌, List, [], ◌∷◌, length, Option, Some, None, ap, sym, ◌∙◌, subst, arith}
 use Rattle.std.specs.Prelude.{Contains, Result, Ok, Err}
 use Rattle.std.specs.List.{AllByRecursion}
 use Rattle.ild_data.specs.Data.{Data}
 use Rattle.ild_data.specs.Limits.{deepest, longest_block}
 use Rattle.ild_data.specs.Spell.{id_of, spell}
-use Rattle.ild_edges.specs.Store.{Moment, Later, Keeps, block_at}
-use Rattle.ild_edges.specs.Told.{BothTold}
+use Rattle.ild_edges.specs.Store.{Moment, Later, Keeps, Gives, StaysGiven, block_at}
+use Rattle.ild_edges.specs.Told.{BothTold, IfTold}
 use Rattle.ild_edges.proofs.Later.{Later-trans}
 use Rattle.ild_bulk.specs.Putting.{AddsOnly, IsAmong, PutAnswer, PutsOne}
 use Rattle.ild_schema.specs.declared.number.Slot.{Slot}
@@ -21,8 +21,10 @@ use Rattle.ild_path_held.proofs.Holding.{block_stays, held_stays}
 use Rattle.ild_path_reroot.specs.Reroots.{AddsNodes, NodeCame}
 use Rattle.ild_path_reroot.proofs.Coming.{came_stays}
 use Rattle.ild_path_outward.specs.Outward.{EndAnswer, SetsEnd}
-use Rattle.ild_path_outward.proofs.Carrying.{caused_later}
+use Rattle.ild_path_outward.proofs.Carrying.{caused_later, given_stay}
+use Rattle.ild_path_way.specs.Way.{nodes_met}
 use Rattle.ild_hamt.specs.Edits.{CausedBy, FaultCause}
+use Rattle.ild_hamt.specs.Given.{AreIdsGiven}
 use Rattle.ild_path_ends.specs.Ends.{AddsBlocks, Came, EditsWhole, WholeAnswer}
 use Rattle.ild_path_ends.proofs.Telling.{both_at, both_here, told_at, told_here, told_next}
 
@@ -34,6 +36,13 @@ contained : (b : List ℕ) (xs : List (List ℕ)) → IsAmong b xs → Contains 
 contained b [] is = absurd is
 contained b (x ∷ xs) (inl e) = (0, omega arith, sym e)
 contained b (x ∷ xs) (inr is) = let m = contained b xs is in (suc m.0, omega (arith, m.1), m.2)
+
+-- the id of the root's block is given beside those of the nodes
+given_next : (o q : Option (List (List ℕ))) (b root : List ℕ) (bs : List (List ℕ)) → b ≡ root → BothTold o q StaysGiven → BothTold o q (Gives (id_of b)) → IfTold o (AreIdsGiven bs) → IfTold q (AreIdsGiven (root ∷ bs))
+given_next None None b root bs is stays gives all = tt
+given_next None (Some now) b root bs is stays gives all = absurd stays
+given_next (Some was) None b root bs is stays gives all = tt
+given_next (Some was) (Some now) b root bs is stays gives all = ((gives (id_of root)).1 (inr (ap id_of (sym is))), given_stay was now stays bs all)
 
 -- a node that came is a block of the whole that came
 pub node_came : (h : List ℕ → List ℕ) (rows : List Row) (s : Slot) (c : Value) (u : Data) (now : List (List ℕ)) (b : List ℕ) → NodeCame h rows s c now b → Came h rows s c u now b
@@ -62,6 +71,7 @@ module _ (h : List ℕ → List ℕ) (rows : List Row) (s : Slot) (c : Value) (u
           later = x.later;
           adds = both_here m.blocks n.blocks was next.0 (AddsBlocks h rows s c u) told next.1 (nodes_added was next.0 (both_at m.blocks n.blocks was next.0 (AddsNodes h rows s c) told next.1 x.adds));
           puts = let a = x.puts in omega (arith, a);
+          given = tt;
         }
 
     pub outward_left : (b : List ℕ) → SetsEnd h rows deepest s c u path m (Ok b) n → EditsWhole h rows s c u path m (Err F.Memory) n
@@ -72,6 +82,7 @@ module _ (h : List ℕ → List ℕ) (rows : List Row) (s : Slot) (c : Value) (u
           later = x.later;
           adds = both_here m.blocks n.blocks was next.0 (AddsBlocks h rows s c u) told next.1 (nodes_added was next.0 (both_at m.blocks n.blocks was next.0 (AddsNodes h rows s c) told next.1 x.adds));
           puts = let a = x.puts in omega (arith, a);
+          given = tt;
         }
 
     module _ (b : List ℕ) (x : SetsEnd h rows deepest s c u path m (Ok b) n) (k : Moment) where
@@ -109,7 +120,7 @@ module _ (h : List ℕ → List ℕ) (rows : List Row) (s : Slot) (c : Value) (u
       put_answer (F.Block id why) y = absurd y.answer
 
       pub put_failed : (e : HamtFault) → PutsOne n b (Err e) k → EditsWhole h rows s c u path m (Err e) k
-      put_failed e y = record { answer = put_answer e y; later = Later-trans m n k x.later y.later; adds = added (Err e) y; puts = let a = x.puts in let d = y.puts in omega (arith, a, d) }
+      put_failed e y = record { answer = put_answer e y; later = Later-trans m n k x.later y.later; adds = added (Err e) y; puts = let a = x.puts in let d = y.puts in omega (arith, a, d); given = tt }
 
       pub put_done : (r : Unit {0}) → PutsOne n b (Ok r) k → EditsWhole h rows s c u path m (Ok b) k
       put_done r y =
@@ -125,6 +136,7 @@ module _ (h : List ℕ → List ℕ) (rows : List Row) (s : Slot) (c : Value) (u
             later = Later-trans m n k x.later y.later;
             adds = added (Ok r) y;
             puts = let a = x.puts in let d = y.puts in omega (arith, a, d);
+            given = given_next n.given k.given b (spell u) (nodes_met h rows (s, c) path) x.answer.0 y.later.given y.answer.1 x.given;
           }
 
 -- ---- over every store

@@ -1,6 +1,6 @@
 -- An entry of a HAMT in a block is set, or goes.
-use Rattle.std.proofs.Common.{◌≡◌, ◌⊎◌, inl, inr, ⊎_elim, ℕ, ◌+◌, ◌≤◌, Bool, true, List, [], ◌∷◌, ◌++◌, length, Option, Some, None, refl, subst, arith}
-use Rattle.std.specs.Prelude.{Result, Ok, Err}
+use Rattle.std.proofs.Common.{◌≡◌, ◌⊎◌, inl, inr, ⊎_elim, ℕ, ◌+◌, ◌≤◌, Bool, true, List, [], ◌∷◌, ◌++◌, length, Option, Some, None, refl, ap, sym, ◌∙◌, subst, arith}
+use Rattle.std.specs.Prelude.{IfOk, Result, Ok, Err}
 use Rattle.std.specs.FinMap.{put as insert}
 use Rattle.std.specs.Option.{option_map_or}
 use Rattle.ild_data.specs.ByteOrder.{bytewise}
@@ -11,6 +11,7 @@ use Rattle.ild_data.specs.Limits.{longest_block}
 use Rattle.ild_data.specs.Spell.{spell}
 use Rattle.ild_data.specs.TrieShape.{trie_levels}
 use Rattle.ild_edges.specs.Store.{Moment}
+use Rattle.ild_edges.specs.Told.{IfTold}
 use Rattle.ild_edges.proofs.Later.{Later-refl}
 use Rattle.ild_bulk.specs.Build.{any_long, is_long}
 use Rattle.ild_bulk.proofs.Puts.{told-same}
@@ -31,16 +32,21 @@ use Rattle.ild_typed.specs.Schema.{IsSchema}
 use Rattle.ild_typed.specs.Segment.{part}
 use Rattle.ild_view.specs.View.{slot_of, table_of}
 use Rattle.ild_view.specs.declared.view.View.{View}
+use Rattle.ild_hamt.specs.Given.{AreIdsGiven}
 use Rattle.ild_hamt.specs.declared.trail.Trail.{Trail}
 use Rattle.ild_path_block.specs.Edits.{IsRootView}
 use Rattle.ild_path_within.specs.Within.{with_part}
 use Rattle.ild_path_within.proofs.Splitting.{ways_split}
-use Rattle.ild_typed_fronts.specs.Front.{front as showing}
+use Rattle.ild_typed_fronts.specs.Front.{front as showing, in_one_block}
+use Rattle.ild_path_way.specs.Way.{nodes_for, nodes_met}
+use Rattle.ild_path_way.proofs.Splitting.{nodes_split, none_in_one_block}
+use Rattle.ild_path_way.proofs.Staying.{blocks_stay}
 use Rattle.ild_path_entered.proofs.Editing.{sets_stand}
 use Rattle.ild_path_reroot.specs.Reroots.{AddsNodes}
 use Rattle.ild_path_reroot.proofs.Among.{long_any, long_one}
 use Rattle.ild_path_outward.specs.Level.{IsCutThere, IsLevel, IsSetThere, LevelAnswer, SetsLevel, with_set}
 use Rattle.ild_path_outward.specs.Outward.{EndAnswer, SetsEnd}
+use Rattle.ild_path_outward.proofs.Counting.{one_met}
 use Rattle.ild_path_sizes.specs.Long.{HasLongPart, IsDataOfPart}
 use Rattle.ild_script_meaning.specs.Costs.{blocks_met, met_in}
 use Rattle.ild_path_ends.specs.AtKey.{IsKeyCut, IsKeyLevel, IsKeySet, SetsKey}
@@ -89,6 +95,7 @@ level_none h rows room s c u k es m tree = record {
   later = Later-refl m;
   adds = told-same m.blocks m.blocks (AddsNodes h rows s c) refl (λ a. record { came = λ id b e. inl e });
   puts = omega arith;
+  given = tt;
 }
 
 -- ---- the level as the end of a path
@@ -114,8 +121,14 @@ module _ (h : List ℕ → List ℕ) (rows : List Row) (room : ℕ) (s : Slot) (
   end_answer d part (Err (F.Block id why)) is = absurd is
 
   pub level_end : (path : List (List ℕ)) (k : List ℕ) (es : List (List ℕ × Data)) (r : Result (List ℕ) HamtFault) → 1 + length (way h usual k (trie_levels usual) 0 es) ≤ blocks_met h rows (s, c) path
-      → SetsLevel h rows room s c u k es m r n → SetsEnd h rows room s c u path m r n
-  level_end path k es r few x = record { answer = end_answer x.hamt x.part r x.answer; later = x.later; adds = x.adds; puts = let a = x.puts in omega (arith, a, few) }
+      → nodes_met h rows (s, c) path ≡ way h usual k (trie_levels usual) 0 es → SetsLevel h rows room s c u k es m r n → SetsEnd h rows room s c u path m r n
+  level_end path k es r few met x = record {
+    answer = end_answer x.hamt x.part r x.answer;
+    later = x.later;
+    adds = x.adds;
+    puts = let a = x.puts in omega (arith, a, few);
+    given = subst (λ bs. IfOk r (λ b. IfTold n.given (AreIdsGiven bs))) (sym met) x.given;
+  }
 
 met_one : (rows : List Row) (count : InSlot → List ℕ → ℕ) (p : InSlot) (s : List ℕ) → met rows count p (s ∷ []) ≡ count p s
 met_one rows count p s = by (part (seen rows p) s) where
@@ -132,6 +145,18 @@ met_at_key h rows is_key schema keys p front slot old new k few typed there type
     let split = ways_split rows count (p.0, with_part rows p front new) (slot, new) front (k ∷ []) here in
     let last = met_one rows count (slot, new) k in
     omega (arith, split, last, counted)
+
+-- and which nodes these are
+pub nodes_at_key : (h : List ℕ → List ℕ) (rows : List Row) (is_key : ℕ → List ℕ → Bool) (schema : IsSchema rows) (keys : TestsKeys rows is_key) (p : InSlot) (front : List (List ℕ)) (slot : Slot) (old new : Value) (k : List ℕ) (bs : List (List ℕ))
+    → OfType rows p.0 p.1 → in_one_block rows p front ≡ true → at rows p front ≡ Some (slot, old) → OfType rows slot new → nodes_for h rows (form_of rows slot) new k ≡ bs
+    → nodes_met h rows (p.0, with_part rows p front new) (front ++ (k ∷ [])) ≡ bs
+nodes_at_key h rows is_key schema keys p front slot old new k bs typed inside there typed_new met =
+    let c = with_part rows p front new in
+    let here = (sets_stand rows is_key schema keys p (slot, old) front new typed there typed_new).0 in
+    nodes_split h rows (p.0, c) (slot, new) front (k ∷ []) here
+    ∙ ap (λ ns. ns ++ nodes_met h rows (slot, new) (k ∷ [])) (none_in_one_block h rows (p.0, c) front (blocks_stay rows is_key schema keys p (slot, old) front new typed inside there typed_new))
+    ∙ one_met h rows (slot, new) k
+    ∙ met
 
 pub set_none : (h : List ℕ → List ℕ) (rows : List Row) (s : Slot) (view : View) (front : List (List ℕ)) (found : Trail) (n : Node) (m : Moment) → SetsKey h rows s view front found n m (Err F.Memory) m
 set_none h rows s view front found n m = λ is_key was k told x root.

@@ -1,5 +1,5 @@
 -- An edit at the end of a path through HAMTs, and the blocks of the changed value.
-use Rattle.std.specs.Prelude.{◌≡◌, ◌≢◌, ◌⊎◌, ℕ, ◌≤◌, ◌+◌, Bool, true, Contains, List, [], ◌∷◌, ◌++◌, length, Some, Result, Ok, Err}
+use Rattle.std.specs.Prelude.{◌≡◌, ◌≢◌, ◌⊎◌, ℕ, ◌≤◌, ◌+◌, Bool, true, Contains, IfOk, List, [], ◌∷◌, ◌++◌, length, Some, Result, Ok, Err}
 use Rattle.std.specs.List.{AllByRecursion}
 use Rattle.ild_data.specs.Data.{Data}
 use Rattle.ild_data.specs.Limits.{deepest, longest_block}
@@ -18,6 +18,7 @@ use Rattle.ild_view.specs.View.{slot_of, table_of}
 use Rattle.ild_view.specs.declared.view.View.{View}
 use Rattle.ild_bulk.specs.Build.{any_long}
 use Rattle.ild_bulk.specs.Putting.{IsAmong}
+use Rattle.ild_hamt.specs.Given.{AreIdsGiven}
 use Rattle.ild_hamt.specs.declared.trail.Trail.{Trail}
 use Rattle.ild_open_held.specs.Held.{IsHeld, IsHeldBlock}
 use Rattle.ild_typed_fronts.specs.Front.{in_one_block}
@@ -27,6 +28,7 @@ use Rattle.ild_path_hops.specs.Hops.{AreHops}
 use Rattle.ild_path_hops.specs.HopLaws.{path_of_hops}
 use Rattle.ild_path_hops.specs.declared.hop.Hop.{Hop}
 use Rattle.ild_path_sizes.specs.Long.{HasLongPart}
+use Rattle.ild_path_way.specs.Way.{nodes_met}
 use Rattle.ild_script_meaning.specs.Costs.{blocks_met}
 use Rattle.ild_script_session.specs.Step.{IsWhole}
 use Rattle.ild_typed_places.specs.Places.{children_of}
@@ -59,11 +61,16 @@ WholeAnswer h rows s c u m (Err (F.Clash id kept new)) n =
 WholeAnswer h rows s c u m (Err F.Memory) n = Unit {0}
 WholeAnswer h rows s c u m (Err e) n = ⊥
 
+-- where the store tells its given ids, those of the root block of c and of all nodes on the way of the path in it are among them
+abbrev pub GivesWhole : (List ℕ → List ℕ) → List Row → Slot → Value → Data → List (List ℕ) → Result (List ℕ) HamtFault → Moment → Type 0
+GivesWhole h rows s c u path result n = IfOk result (λ b. IfTold n.given (AreIdsGiven (spell u ∷ nodes_met h rows (s, c) path)))
+
 pub record EditsWhole (h : List ℕ → List ℕ) (rows : List Row) (s : Slot) (c : Value) (u : Data) (path : List (List ℕ)) (m : Moment) (result : Result (List ℕ) HamtFault) (n : Moment) : Type 0 where
   pub answer : WholeAnswer h rows s c u m result n
   pub later : Later m n
   pub adds : BothTold m.blocks n.blocks (AddsBlocks h rows s c u)
   pub puts : n.puts ≤ m.puts + blocks_met h rows (s, c) path
+  pub given : GivesWhole h rows s c u path result n
 
 -- ---- over a store that tells its blocks and holds the value, where the hops lead from it to q
 

@@ -22,16 +22,17 @@ use Rattle.ild_path_outward.specs.Outward.{with_end}
 use Rattle.ild_path_reroot.specs.Reroots.{MakesRoot}
 use Rattle.ild_path_ends.specs.Parts.{HasEnd, IsChange}
 
--- the innermost value becomes this one, with the data d, so that the whole is c
-pub record IsInnerChange (h : List ℕ → List ℕ) (rows : List Row) (was : List (List ℕ)) (s : Slot) (v : Value) (hops : List Hop) (q : InSlot) (less : ℕ) (c : Value) (d : Data) : Type 0 where
+-- the innermost value becomes this one, with the data d, so that the whole is c; the path of the edit is one in its block still
+pub record IsInnerChange (h : List ℕ → List ℕ) (rows : List Row) (was : List (List ℕ)) (s : Slot) (v : Value) (hops : List Hop) (q : InSlot) (less : ℕ) (path : List (List ℕ)) (c : Value) (d : Data) : Type 0 where
   pub new : Value
   pub held : IsHeld (block_at was) h rows less q.0 d new
   pub made : with_end rows s v hops new ≡ c
+  pub inside : in_one_block rows (q.0, new) path ≡ true
 
 -- its block
-pub record MakesInner (h : List ℕ → List ℕ) (rows : List Row) (was : List (List ℕ)) (s : Slot) (v : Value) (hops : List Hop) (q : InSlot) (less : ℕ) (c : Value) (result : Result (List ℕ) HamtFault) : Type 0 where
+pub record MakesInner (h : List ℕ → List ℕ) (rows : List Row) (was : List (List ℕ)) (s : Slot) (v : Value) (hops : List Hop) (q : InSlot) (less : ℕ) (path : List (List ℕ)) (c : Value) (result : Result (List ℕ) HamtFault) : Type 0 where
   pub tree : Data
-  pub change : IsInnerChange h rows was s v hops q less c tree
+  pub change : IsInnerChange h rows was s v hops q less path c tree
   pub made : MakesRoot (spell tree) result
 
 abbrev pub ChangesBlock : View → List Hop → List (List ℕ) → PartEdit → Result (List ℕ) HamtFault → Type 0
@@ -39,4 +40,4 @@ ChangesBlock view hops path edit result =
     (h : List ℕ → List ℕ) (is_key : ℕ → List ℕ → Bool) (was : List (List ℕ)) (v w c : Value) (t u : Data) (q : InSlot) (less : ℕ) → IsLevel h is_key was deepest v t view
     → AreHops h (table_of view) was deepest (slot_of view, v) hops q less → in_one_block (table_of view) q path ≡ true → HasEnd edit path
     → IsChange h (table_of view) is_key was deepest (slot_of view, v) (path_of_hops hops ++ path) edit w c u
-    → MakesInner h (table_of view) was (slot_of view) v hops q less c result
+    → MakesInner h (table_of view) was (slot_of view) v hops q less path c result

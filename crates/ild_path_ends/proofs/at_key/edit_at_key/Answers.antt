@@ -20,5 +20,5 @@ returns-clause-edits g c = λ is_key was v w x t u q less k told level leads key
     let m = g.K.Store.moment c.args.store.now in
     let n = g.K.Store.moment c.changed_at_key.new.store in
     let now = Next h is_key was v t c.args.root.now c.args.hops.items q less level leads _ x u change.tree change.fits m n told _ y in
-    key_done h is_key was v t c.args.root.now c.args.hops.items q less level leads _ x u change.tree change.fits m n told _ y (g.K.Store.moment c.finish.new.store) c.finish.result
+    key_done h is_key was v t c.args.root.now c.args.hops.items q less level leads _ x u change.tree change.fits m n told _ y (g.K.Store.moment c.finish.new.store) c.finish.result y.ends.given
     (c.finish.ensures.finishes is_key now.0 v y.new t u now.1 (key_end h is_key was v t c.args.root.now c.args.hops.items q less level leads _ x u change.tree change.fits m n told _ y c.in_ok-block.block y.ends.answer))
