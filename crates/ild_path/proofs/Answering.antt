@@ -18,6 +18,8 @@ use Rattle.ild_node_slots.specs.declared.fault.HamtFault.{HamtFault}
 use Rattle.ild_node_slots.specs.declared.fault.HamtFault.TheVariants as H
 use Rattle.ild_open_held.specs.Held.{IsHeld, IsHeldBlock}
 use Rattle.ild_open_held.proofs.Roots.{held_stand}
+use Rattle.ild_hamt.specs.Given.{AreIdsGiven}
+use Rattle.ild_path_way.specs.Way.{nodes_met}
 use Rattle.ild_path_ends.specs.Ends.{AddsBlocks, Came, EditsWhole, WholeAnswer}
 use Rattle.ild_path_long.proofs.Parts.{parts_are_in_blocks}
 use Rattle.ild_path_sizes.specs.Long.{HasLongPart}
@@ -155,4 +157,5 @@ module _ (h : List ℕ → List ℕ) (rows : List Row) (n : TypeNo) (c : Value) 
     whole = told-map m.blocks k.blocks (AddsBlocks h rows (plainly n) c u) (λ was now. (id b : List ℕ) → block_at now id ≡ Some b → (block_at was id ≡ Some b) ⊎ IsWhole now (children_in bare h rows n c b))
         (λ was now y. λ id b there. ⊎_elim (λ old. inl old) (λ came. inr (came_whole h rows n c u tree now b came)) (y.came id b there)) x.adds;
     puts = x.puts;
+    given = ok_of (λ b. IfTold k.given (AreIdsGiven (spell u ∷ nodes_met h rows (plainly n, c) path))) a r x.given is;
   }

@@ -1,5 +1,5 @@
 -- What an edit at a place answers, and what it leaves in a store.
-use Rattle.std.specs.Prelude.{◌≡◌, ◌≢◌, ℕ, ◌+◌, ◌≤◌, ◌<◌, Bool, IfErr, List, length, Some, Result, Ok, Err, Contains}
+use Rattle.std.specs.Prelude.{◌≡◌, ◌≢◌, ℕ, ◌+◌, ◌≤◌, ◌<◌, Bool, IfErr, IfOk, List, ◌∷◌, length, Some, Result, Ok, Err, Contains}
 use Rattle.std.specs.List.{AllByRecursion}
 use Rattle.ild_cbor.specs.Nodes.{Stands as StandsFor}
 use Rattle.ild_cbor.specs.declared.node.Node.{Node}
@@ -11,6 +11,8 @@ use Rattle.ild_edges.specs.Store.{Moment, Later, block_at}
 use Rattle.ild_edges.specs.Told.{IfTold}
 use Rattle.ild_open_held.specs.Held.{IsHeld}
 use Rattle.ild_path_edits.specs.Edit.{Edit, change, del_at, ins_at, new_slot, set_at}
+use Rattle.ild_hamt.specs.Given.{AreIdsGiven}
+use Rattle.ild_path_way.specs.Way.{nodes_met}
 use Rattle.ild_path_place.specs.Places.{IsPlace}
 use Rattle.ild_path_place.specs.Rooted.{IsRootedAt}
 use Rattle.ild_path_place.specs.Tells.{table_at}
@@ -74,12 +76,13 @@ ReplaceAnswer h rows n c u m (Err (F.Clash id kept new)) k = Collides k (short (
 ReplaceAnswer h rows n c u m (Err F.Memory) k = Unit {0}
 
 -- At every exit, blocks of the changed value that are not too long came alone, each with its children held, by as many puts as there are on
--- the way at most.
+-- the way at most. After an Ok all on the way are given, the root block's id too.
 pub record Replaces (h : List ℕ → List ℕ) (rows : List Row) (n : TypeNo) (path : List (List ℕ)) (c : Value) (u : Data) (m : Moment) (result : Result (List ℕ) EditFault) (k : Moment) : Type 0 where
   pub answer : ReplaceAnswer h rows n c u m result k
   pub adds : AddsOnly m k (short (blocks_of bare h rows n c u))
   pub whole : AddsWhole m k (children_in bare h rows n c)
   pub puts : k.puts ≤ m.puts + blocks_met h rows (plainly n, c) path
+  pub given : IfOk result (λ b. IfTold k.given (AreIdsGiven (spell u ∷ nodes_met h rows (plainly n, c) path)))
 
 -- where the store tells its blocks, and holds the value in which the place is, and the nodes of the part
 abbrev pub Brings : (List ℕ → List ℕ) → Place → Node → Moment → Result (List ℕ) EditFault → Moment → Type 0
