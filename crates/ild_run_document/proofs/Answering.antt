@@ -20,6 +20,7 @@ use Rattle.ild_view_doc.specs.declared.doc.Doc.{Doc}
 use Rattle.ild_run_standing.specs.Answers.{AnswersAs}
 use Rattle.ild_run_standing.specs.Laws.{StillReplies}
 use Rattle.ild_run_standing.specs.Standing.{IsAt, IsHeldAt, setting_of}
+use Rattle.ild_run_standing.proofs.Passing.{values_pass_on}
 
 -- as a line is due that leaves the value, or for want of memory
 abbrev Stays : Due Value → Value → Moment → Option Reply → Type 0
@@ -38,6 +39,7 @@ module _ (still : StillReplies) (h : List ℕ → List ℕ) (d : Doc) (m : Momen
       next = v;
       at = x.at;
       replies = still (setting_of h d tests) m m v (due (setting_of h d tests) a (idle v)) reply (Later-refl m) refl (omega arith) (omega arith) (stays tests v x);
+      passed = values_pass_on (setting_of h d tests) m m v (Later-refl m);
     };
   }
 

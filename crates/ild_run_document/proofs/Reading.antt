@@ -37,6 +37,7 @@ use Rattle.ild_run_reads.specs.Replies.{RepliesAs, asked}
 use Rattle.ild_run_standing.specs.Answers.{AnswersAs}
 use Rattle.ild_run_standing.specs.Laws.{HeldAreStanding}
 use Rattle.ild_run_standing.specs.Standing.{IsAt, IsHeldAt, setting_of}
+use Rattle.ild_run_standing.proofs.Passing.{values_pass_on}
 
 -- what a store tells
 told_some : (o : Option (List (List ℕ))) → o ≢ None → (held : List (List ℕ)) × (o ≡ Some held)
@@ -86,5 +87,6 @@ module _ (trees : ValuesAreTrees) (roots : StandingAreHeld) (standing : HeldAreS
           next = v;
           at = record { told = λ none. x.at.told (sym r.only.blocks ∙ none); tree = x.at.tree; storable = x.at.storable; block = x.at.block };
           replies = replies h (setting_of h d tests) view path tell m n reply at.0 v (record { hash = refl; rows = sym table; slot = sym slot }) at.1 r;
+          passed = values_pass_on (setting_of h d tests) m n v r.only.later;
         };
   }

@@ -1,2 +1,3 @@
 pub mod Still
 pub mod Held
+pub mod Passing

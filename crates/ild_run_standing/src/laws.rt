@@ -1,5 +1,5 @@
 //! Laws of where a document stands.
-ghost use Rattle.ild_run_standing.specs.Laws.{HeldAreStanding, StandingAreAt, StillReplies};
+ghost use Rattle.ild_run_standing.specs.Laws.{HeldAreStanding, StandingAreAt, StillReplies, ValuesPassOn};
 
 use ild_typed_places::places_are_held;
 
@@ -19,4 +19,9 @@ pub fn held_are_standing()
 /// Where no block came, and the value stays, a line is replied to as the plain value says, or with a refusal that has its cause.
 pub fn still_replies()
     ensures { StillReplies }
+{}
+
+/// A value that stays passes on what a batch carries of it.
+pub fn values_pass_on()
+    ensures { ValuesPassOn }
 {}

@@ -4,4 +4,4 @@
 
 mod laws;
 
-pub use laws::{held_are_standing, standing_are_at, still_replies};
+pub use laws::{held_are_standing, standing_are_at, still_replies, values_pass_on};
