@@ -1,5 +1,5 @@
 -- A part is built: what that leaves in a store is due, whatever is answered.
-use Rattle.std.proofs.Common.{◌≡◌, ◌⊎◌, inl, inr, ℕ, ◌+◌, ◌≤◌, ◌<◌, List, [], ◌∷◌, ◌++◌, append-nil, length, Bool, true, false, Option, Some, None, refl, ap, sym, subst, ◌∙◌, arith}
+use Rattle.std.proofs.Common.{◌≡◌, ◌⊎◌, inl, inr, ℕ, ◌+◌, ◌≤◌, ◌<◌, List, [], ◌∷◌, ◌++◌, append-nil, length, map, Bool, true, false, Option, Some, None, refl, ap, sym, subst, ◌∙◌, arith}
 use Rattle.std.specs.Prelude.{Contains, IfOk, Result, Ok, Err, option_map, option_and_then}
 use Rattle.std.specs.List.{AllByRecursion}
 use Rattle.std.specs.Option.{ForSome, option_map_or}
@@ -8,6 +8,7 @@ use Rattle.std.proofs.lemmas.List.Elements.{Contains-append_left}
 use Rattle.ild_build_blocks.specs.Builds.{BuildAnswer, Builds, HasBlocks, IsBuilt, IsTooLong, PutsSome}
 use Rattle.ild_build_blocks.specs.declared.fault.BuildFault.{BuildFault}
 use Rattle.ild_build_blocks.specs.declared.fault.BuildFault.TheVariants as B
+use Rattle.ild_bulk.specs.Putting.{GivesAll}
 use Rattle.ild_bulk.proofs.Puts.{told-map}
 use Rattle.ild_bulk_places.specs.Leaving.{AddsPlaced, HasPlaceHeld}
 use Rattle.ild_cbor.specs.Block.{IsBlockOf}
@@ -58,6 +59,7 @@ use Rattle.ild_path_place.specs.declared.place.Place.{Place}
 use Rattle.ild_path_room.specs.Room.{Coming, by_set, by_insert}
 use Rattle.ild_run_edit.specs.Judges.{IsFreePart}
 use Rattle.ild_run_edit.specs.Moves.{line_by, due_of, edited_by, BuildsAnswer, BuildsPart, BuiltPart, Fails, IsLet, IsPartBlock, MoveAnswer, Moves, built_as, built_fault}
+use Rattle.ild_run_edit.proofs.Passing.{given_all}
 use Rattle.ild_run_edit.proofs.Joining.{line_made}
 use Rattle.ild_run_edit.proofs.Judging.{path_texts, brings_part}
 use Rattle.ild_run_edit.proofs.Listing.{among_short, held_blocks, long_one, placed_whole}
@@ -247,13 +249,15 @@ module _ (h : List ℕ → List ℕ) (place : Place) (w : Value) (json : List �
           puts = let q = steps.puts in let a = due in let b = nodes_are in omega (arith, q, a, b);
         }
 
-        built : (b : List ℕ) → length (spell x) ≤ longest_block → b ≡ spell x → IfTold k.blocks (λ held. AllByRecursion (λ b. block_at held (id_of b) ≡ Some b) own) → BuiltPart h place t v w e m b k
-        built b le spelled holds = record {
+        built : (b : List ℕ) → length (spell x) ≤ longest_block → b ≡ spell x → IfTold k.blocks (λ held. AllByRecursion (λ b. block_at held (id_of b) ≡ Some b) own)
+            → BothTold m.given k.given (GivesAll (map id_of own)) → BuiltPart h place t v w e m b k
+        built b le spelled holds gives = record {
           tree = x;
           block = is_block b x tree le spelled;
           room = free.room;
           room_is = free.room_is;
           held = held_in k.blocks holds;
+          given = given_all m.given k.given own gives;
           full = full;
           gains = gains;
           gets = let g = steps.gets in omega (arith, g);
@@ -268,7 +272,7 @@ module _ (h : List ℕ → List ℕ) (place : Place) (w : Value) (json : List �
     stays r same a = subst (λ k. Moves h rows t n v e m (Err r) k) (sym same) (still_moves h rows t n v e m r a)
 
     on_line : (r : Result (List ℕ) BuildFault) → BuildAnswer h rows slot w m r k → BuildsAnswer h place t v w e m (built_as r) k
-    on_line (Ok b) a = built a.has.tree a.has.represented a.has.sized.1 b a.has.sized.0 a.spelled a.held
+    on_line (Ok b) a = built a.has.tree a.has.represented a.has.sized.1 b a.has.sized.0 a.spelled a.held a.given
     on_line (Err B.Exhausted) a = stays N.Exhausted a.1 (inl (exhausted_answer a.0))
     on_line (Err B.Size) a = stays N.Size a.1 (inl (size_answer a.0.tree a.0.represented a.0.block a.0.among a.0.long))
     on_line (Err B.Store) a = stopped a.1.tree a.1.represented a.1.sized.1 N.Store (inr a.0)

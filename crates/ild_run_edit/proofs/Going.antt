@@ -5,6 +5,7 @@ use Rattle.std.specs.List.{AllByRecursion}
 use Rattle.std.specs.declared.alloc.AllocError.{AllocError}
 use Rattle.std.specs.Option.{option_map_or}
 use Rattle.std.proofs.lemmas.Option.{none-some}
+use Rattle.ild_data.specs.Spell.{spell}
 use Rattle.ild_edges.proofs.Later.{Later-refl}
 use Rattle.ild_edges.specs.Store.{Moment}
 use Rattle.ild_schema.specs.declared.number.TypeNo.{TypeNo}
@@ -33,10 +34,14 @@ use Rattle.ild_path_around.specs.Around.{TellsGoing}
 use Rattle.ild_path_place.specs.Tells.{hole_in, table_at, type_at}
 use Rattle.ild_path_place.specs.declared.place.Place.{Place}
 use Rattle.ild_path_place.specs.declared.verb.Verb.TheVariants as V
+use Rattle.ild_hamt.specs.Given.{AreIdsGiven}
+use Rattle.ild_path_way.specs.Way.{nodes_met}
 use Rattle.ild_path.specs.Replaces.{Erases, Spares}
 use Rattle.ild_path.specs.declared.fault.EditFault.{EditFault}
 use Rattle.ild_path.specs.declared.fault.EditFault.TheVariants as F
+use Rattle.ild_run_standing.specs.Answers.{PassesOn}
 use Rattle.ild_run_edit.specs.Moves.{edited_by, IsGoing, Fails, GoesFrom, done_as}
+use Rattle.ild_run_edit.proofs.Passing.{edit_passes_on, told_any, told_ok}
 use Rattle.ild_run_edit.proofs.Settling.{moved}
 use Rattle.ild_run_edit.proofs.Still.{still_moves, sound_of}
 
@@ -115,8 +120,12 @@ module _ (h : List ℕ → List ℕ) (place : Place) (schema : IsSchema (table_a
         let g = gone t v path m y in
         let whole_free = sym (tells h rows y.at.was (plainly n, v) path g.value t.is_key y.is y.at.tests.keys y.at.texts g.made) ∙ free in
         let d = unrefused_have_data h rows schema (plainly n) g.value g.typed (g.hole ∙ e) whole_free g.judged.exhausted in
-        moved h rows t n v (del_at path) g.value d.0 schema y.at.tests g.typed (g.hole ∙ e) whole_free g.judged.depth g.judged.exhausted d.1 g.made path refl m k r spares
-        (x y.at.was n v g.value d.0 path y.at.told (record { rooted = y.is.rooted; is = y.is.is }) (record { is_key = t.is_key; keys = y.at.tests.keys; made = g.made; tree = d.1; fits = g.judged.depth }));
+        let s = sound_of h rows n v y.at.tree y.at.storable in
+        let q = x y.at.was n v g.value d.0 path y.at.told (record { rooted = y.is.rooted; is = y.is.is }) (record { is_key = t.is_key; keys = y.at.tests.keys; made = g.made; tree = d.1; fits = g.judged.depth }) in
+        let passing = told_ok r k.given (λ now. Unit {0}) (AreIdsGiven (spell d.0 ∷ nodes_met h rows (plainly n, g.value) path)) (λ now. PassesOn (record { frame = bare; hash = h; rows = rows; tests = t; ty = n }) now v g.value)
+        (λ now none met. edit_passes_on h rows t n v g.value y.at.tree d.0 y.at.storable.tree d.1 schema y.at.tests (del_at path) y.at.texts tt (96, s.1.fits) g.made now tt met)
+        (told_any k.given (λ now. Unit {0}) (λ now. tt)) q.given in
+        moved h rows t n v (del_at path) g.value d.0 schema y.at.tests g.typed (g.hole ∙ e) whole_free g.judged.depth g.judged.exhausted d.1 g.made path refl m k r spares q passing;
   }
 
 -- what a place tells, of an answer that is there

@@ -7,6 +7,7 @@ use Rattle.ild_cbor.specs.Block.{IsBlockOf}
 use Rattle.ild_cbor.specs.Nodes.{Stands as StandsFor}
 use Rattle.ild_cbor.specs.declared.node.Node.{Node}
 use Rattle.ild_data.specs.Data.{Data}
+use Rattle.ild_data.specs.Spell.{spell}
 use Rattle.ild_edges.proofs.Later.{Later-trans}
 use Rattle.ild_edges.specs.Store.{Moment, Later, Keeps, block_at}
 use Rattle.ild_edges.specs.Told.{BothTold, IfTold}
@@ -21,6 +22,7 @@ use Rattle.ild_script_meaning.specs.Costs.{blocks_met}
 use Rattle.ild_script_session.specs.Session.{Due}
 use Rattle.ild_script_session.specs.Step.{AddsOnly, AddsWhole, Gains, IsWhole}
 use Rattle.ild_typed.specs.At.{InSlot}
+use Rattle.ild_typed.specs.Blocks.{nodes}
 use Rattle.ild_typed.specs.Schema.{IsSchema}
 use Rattle.ild_typed.specs.Stands.{bare}
 use Rattle.ild_typed.specs.Typed.{Typed}
@@ -33,13 +35,17 @@ use Rattle.ild_path_tells.specs.Facts.{verb_of}
 use Rattle.ild_path_tells.specs.Tells.{PlacesTellOn}
 use Rattle.ild_path_place.specs.Tells.{slot_in, table_at, type_at}
 use Rattle.ild_path_place.specs.declared.place.Place.{Place}
+use Rattle.ild_hamt.specs.Given.{AreIdsGiven}
+use Rattle.ild_path_way.specs.Way.{nodes_met}
 use Rattle.ild_path.specs.Replaces.{Brings, ComesBy, IsPart, Spares}
 use Rattle.ild_path.specs.declared.fault.EditFault.{EditFault}
 use Rattle.ild_path.specs.declared.fault.EditFault.TheVariants as F
 use Rattle.ild_path_room.specs.Room.{Coming, by_set, by_insert}
+use Rattle.ild_run_standing.specs.Answers.{PassesOn}
 use Rattle.ild_run_edit.specs.Moves.{line_by, due_of, Moves, MoveAnswer, Fails, IsLet, PutsPart, BuildsPart, BuiltPart, done_as}
 use Rattle.ild_run_edit.proofs.Composing.{rose_later, fails_later}
 use Rattle.ild_run_edit.proofs.Judging.{path_texts, brings_part}
+use Rattle.ild_run_edit.proofs.Passing.{coming_passes_on, given_later, told_ok}
 use Rattle.ild_run_edit.proofs.Settling.{answer, only_due, whole_due, puts_due, some_met}
 use Rattle.ild_run_edit.proofs.Still.{slot_as, sound_of}
 
@@ -150,9 +156,13 @@ module _ (h : List ℕ → List ℕ) (place : Place) (w : Value) (json : List �
       let q = x now.0 n v w c d.0 path (verb_of how) (bringing how path w) now.1 (record { rooted = here.rooted; is = here.is }) (comes_by how path w)
       (λ s is. subst (λ s. IsPart h rows now.0 s item w) (same_Some (slot_in place) s (sym slot ∙ is)) part)
       (record { is_key = t.is_key; keys = tests.keys; made = y.made; tree = d.1; fits = y.free.fits }) in
+      let brought = given_later k.given j.given (nodes h rows (slot_in place) w) spares.later.given z.given in
+      let passing = told_ok r j.given (AreIdsGiven (nodes h rows (slot_in place) w)) (AreIdsGiven (spell d.0 ∷ nodes_met h rows (plainly n, c) path))
+      (λ now. PassesOn (record { frame = bare; hash = h; rows = rows; tests = t; ty = n }) now v c)
+      (coming_passes_on h rows t n v c y.coming.at.tree d.0 y.coming.at.storable.tree d.1 schema tests how path (slot_in place) w slot typed y.coming.at.texts (96, s.1.fits) y.made) brought q.given in
       let due = puts_due h rows t n v e c d.0 schema tests c_typed y.free.hole y.free.delimiter y.free.fits full d.1 made in
       record {
-        answer = answer_from h rows t n v e m k j c r before (answer h rows t n v e c d.0 schema tests c_typed y.free.hole y.free.delimiter y.free.fits full d.1 made k j r q.answer);
+        answer = answer_from h rows t n v e m k j c r before (answer h rows t n v e c d.0 schema tests c_typed y.free.hole y.free.delimiter y.free.fits full d.1 made k j r q.answer passing);
         gains = gains_both m k j (due_of h rows t n v e) spares.later z.gains (only_due h rows t n v e c d.0 schema tests c_typed y.free.hole y.free.delimiter y.free.fits full d.1 made k j q.adds)
             (whole_due h rows t n v e c d.0 schema tests c_typed y.free.hole y.free.delimiter y.free.fits full d.1 made k j q.whole);
         still = λ none. absurd (some_met h rows t n v e c d.0 schema tests c_typed y.free.hole y.free.delimiter y.free.fits full d.1 made (due_of h rows t n v e).puts due none);

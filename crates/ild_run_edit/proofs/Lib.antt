@@ -6,6 +6,7 @@ pub mod Reading
 pub mod Composing
 pub mod Replying
 pub mod Finding
+pub mod Passing
 pub mod Settling
 pub mod Going
 pub mod Joining

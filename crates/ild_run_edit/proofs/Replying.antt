@@ -25,6 +25,8 @@ use Rattle.ild_run_edit.specs.Edits.{Edits, IsOfEdit, edit_of}
 use Rattle.ild_run_edit.specs.Moves.{Fails, IsNewRoot, due_of, edited_by}
 use Rattle.ild_run_edit.specs.Roots.{Makes, MakesRoot}
 use Rattle.ild_run_edit.specs.declared.verb.EditVerb.{EditVerb}
+use Rattle.ild_run_edit.proofs.Passing.{itself_passes, told_any, told_both}
+use Rattle.ild_run_standing.specs.Answers.{PassesOn}
 use Rattle.ild_run_standing.specs.Laws.{StandingAreAt}
 use Rattle.ild_run_standing.specs.Standing.{IsHeldAt, setting_of}
 use Rattle.ild_view_doc.specs.Docs.{table_in, type_in, block_in}
@@ -133,6 +135,7 @@ refused_edits h d verb path json m n r x = record {
       next = v;
       at = record { told = still_told m n x.later at.at.told; tree = at.at.tree; storable = at.at.storable; block = at.at.block };
       replies = refused_replies h d (edit_of verb path json) m n t v r x.later (x.makes t v tests at);
+      passed = told_both m.given n.given (λ now. PassesOn (setting_of h d t) now v v) x.later.given (told_any n.given (λ now. PassesOn (setting_of h d t) now v v) (λ now. itself_passes (setting_of h d t) now v));
     };
   };
   own = own_no m n r x.fails;
@@ -200,6 +203,7 @@ done_edits at_standing h old new verb path json m n b table type block x = recor
           next = y.answer.value;
           at = (at_new at_standing h old new (edit_of verb path json) m n t v b table type block x.later at.at.told y.answer).at;
           replies = done_replies at_standing h old new (edit_of verb path json) m n t v b table type block x.later at.at.told y.answer y;
+          passed = told_both m.given n.given (λ now. PassesOn (setting_of h old t) now v y.answer.value) x.later.given y.answer.passed;
         };
   };
   own = tt;

@@ -1,6 +1,6 @@
 -- A changed value that has none of the first causes: it is made, or one of its blocks is too long. What came of its blocks is due.
 use Rattle.std.proofs.Common.{cond, ◌≡◌, ◌⊎◌, inl, inr, ℕ, ◌+◌, ◌≤◌, ◌<◌, List, [], ◌∷◌, length, Bool, true, false, Option, Some, None, refl, ap, sym, subst, ◌∙◌, arith}
-use Rattle.std.specs.Prelude.{Contains, nat_le, Result, Ok, Err}
+use Rattle.std.specs.Prelude.{Contains, IfOk, nat_le, Result, Ok, Err}
 use Rattle.std.specs.List.{AllByRecursion}
 use Rattle.std.specs.Option.{option_map_or}
 use Rattle.std.proofs.lemmas.Option.{same_Some}
@@ -37,6 +37,7 @@ use Rattle.ild_path_judged.proofs.Order.{refused_in_order}
 use Rattle.ild_path.specs.Replaces.{ReplaceAnswer, Replaces, Spares}
 use Rattle.ild_path.specs.declared.fault.EditFault.{EditFault}
 use Rattle.ild_path.specs.declared.fault.EditFault.TheVariants as F
+use Rattle.ild_run_standing.specs.Answers.{PassesOn}
 use Rattle.ild_run_edit.specs.Moves.{Moves, MoveAnswer, due_of, edited_by, done_as}
 
 not_long : (bs : List (List ℕ)) (b : List ℕ) → AllByRecursion (λ b. length b ≤ longest_block) bs → Contains bs b → longest_block < length b → ⊥
@@ -124,19 +125,23 @@ module _ (h : List ℕ → List ℕ) (rows : List Row) (t : Tests) (n : TypeNo) 
     by None s = tt
     by (Some now) s = subst (λ d. AllByRecursion (λ y. block_at now (id_of y) ≡ Some y) (blocks_of bare h rows n c d)) (same_Some s.tree u (sym s.storable.tree ∙ tree)) s.all
 
-  pub answer : (m k : Moment) (r : Result (List ℕ) EditFault) → ReplaceAnswer h rows n c u m r k → MoveAnswer h rows t n v e m (done_as r) k
-  answer m k (Ok b) a = record { value = c; tree = u; edited = made_ok a.1; storable = record { fits = fits; tree = tree; sized = a.1 }; spelled = a.0; holds = held_all k b a.2 }
-  answer m k (Err F.Size) a = inl (too_long a.0 a.1 a.2)
-  answer m k (Err F.Store) a = inr a
-  answer m k (Err (F.Clash id kept new)) a = inr (subst (Collides k) (sym adds_are) a)
-  answer m k (Err F.Memory) a = inr tt
+  -- an Ok passes on what was carried
+  abbrev pub Passing : Result (List ℕ) EditFault → Moment → Type 0
+  Passing r k = IfOk r (λ b. IfTold k.given (λ now. PassesOn w now v c))
+
+  pub answer : (m k : Moment) (r : Result (List ℕ) EditFault) → ReplaceAnswer h rows n c u m r k → Passing r k → MoveAnswer h rows t n v e m (done_as r) k
+  answer m k (Ok b) a p = record { value = c; tree = u; edited = made_ok a.1; storable = record { fits = fits; tree = tree; sized = a.1 }; spelled = a.0; holds = held_all k b a.2; passed = p }
+  answer m k (Err F.Size) a p = inl (too_long a.0 a.1 a.2)
+  answer m k (Err F.Store) a p = inr a
+  answer m k (Err (F.Clash id kept new)) a p = inr (subst (Collides k) (sym adds_are) a)
+  answer m k (Err F.Memory) a p = inr tt
 
   pub some_met : (p : ℕ) → p ≡ blocks_met h rows (plainly n, c) (path_of e) + new_nodes w v e → p ≡ 0 → ⊥
   some_met p is none = let q = sym is ∙ none in omega arith
 
-  pub moved : (path : List (List ℕ)) → path_of e ≡ path → (m k : Moment) (r : Result (List ℕ) EditFault) → Spares m r k → Replaces h rows n path c u m r k → Moves h rows t n v e m (done_as r) k
-  moved path same m k r spares x = record {
-    answer = answer m k r x.answer;
+  pub moved : (path : List (List ℕ)) → path_of e ≡ path → (m k : Moment) (r : Result (List ℕ) EditFault) → Spares m r k → Replaces h rows n path c u m r k → Passing r k → Moves h rows t n v e m (done_as r) k
+  moved path same m k r spares x passing = record {
+    answer = answer m k r x.answer passing;
     gains = record { adds = only_due m k x.adds; whole = whole_due m k x.whole };
     still = λ none. absurd (some_met D.puts puts_due none);
     gets = let g = spares.gets in omega arith;

@@ -23,6 +23,7 @@ use Rattle.ild_script_meaning.specs.Ask.{to_edit}
 use Rattle.ild_script_meaning.specs.Lines.{due, read_json, new_nodes}
 use Rattle.ild_script_session.specs.Session.{Due, idle}
 use Rattle.ild_script_session.specs.Step.{Gains, HasCause, Holds}
+use Rattle.ild_typed.specs.Blocks.{nodes}
 use Rattle.ild_typed.specs.Fits.{Front}
 use Rattle.ild_typed.specs.Judged.{exhausts}
 use Rattle.ild_typed.specs.OfType.{TestsKeys}
@@ -36,8 +37,10 @@ use Rattle.ild_path_place.specs.Tells.{room_in, slot_in, table_at, type_at}
 use Rattle.ild_path_place.specs.declared.place.Place.{Place}
 use Rattle.ild_path_place.specs.declared.verb.Verb.TheVariants as V
 use Rattle.ild_path_room.specs.Room.{Coming, by_set, by_insert}
+use Rattle.ild_hamt.specs.Given.{AreIdsGiven}
 use Rattle.ild_path.specs.declared.fault.EditFault.{EditFault}
 use Rattle.ild_path.specs.declared.fault.EditFault.TheVariants as F
+use Rattle.ild_run_standing.specs.Answers.{PassesOn}
 use Rattle.ild_run_edit.specs.Judges.{IsFreeChange}
 
 -- the part that a json text means in a slot, whichever test of keys is asked; or why it means none
@@ -68,6 +71,7 @@ pub record IsNewRoot (h : List ℕ → List ℕ) (rows : List Row) (t : Tests) (
   pub storable : Storable bare h rows n value tree
   pub spelled : b ≡ spell tree
   pub holds : Holds k (blocks_of bare h rows n value tree)
+  pub passed : IfTold k.given (λ now. PassesOn (record { frame = bare; hash = h; rows = rows; tests = t; ty = n }) now v value)
 
 abbrev pub MoveAnswer : (List ℕ → List ℕ) → List Row → Tests → TypeNo → Value → Edit (List ℕ) → Moment → Result (List ℕ) No → Moment → Type 0
 MoveAnswer h rows t n v e m (Ok b) k = IsNewRoot h rows t n v e b k
@@ -172,6 +176,7 @@ pub record BuiltPart (h : List ℕ → List ℕ) (place : Place) (t : Tests) (v 
   pub room : ℕ
   pub room_is : room_in place ≡ Some room
   pub held : IfTold k.blocks (λ now. IsHeld (block_at now) h (table_at place) room (slot_in place) tree w)
+  pub given : IfTold k.given (AreIdsGiven (nodes h (table_at place) (slot_in place) w))
   pub full : exhausts h (table_at place) (slot_in place) w ≡ false
   pub gains : Gains m (due_of h (table_at place) t (type_at place) v e) k
   pub gets : k.gets ≤ m.gets
