@@ -4,3 +4,4 @@ pub mod Alike
 pub mod Blocks
 pub mod Slots
 pub mod Around
+pub mod Telling

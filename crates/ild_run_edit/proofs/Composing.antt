@@ -28,8 +28,8 @@ use Rattle.ild_typed.specs.Stands.{Storable, bare, blocks_of}
 use Rattle.ild_path_edits.specs.Edit.{Edit, set_at, ins_at, del_at, new_slot, new_part, with_part, changed_by, unless_kept, del_in, path_of}
 use Rattle.ild_path_edits.specs.Judged.{Tests, AreTests, judged_result}
 use Rattle.ild_path_edits.specs.Table.{delete_part, refusal_to_delete}
-use Rattle.ild_path_tells.specs.Facts.{refusal_at, unless_some}
-use Rattle.ild_path_tells.specs.Tells.{IsPlaceIn}
+use Rattle.ild_path_around.specs.Telling.{refusal_at, unless_some}
+use Rattle.ild_path_around.specs.Telling.{IsPlaceIn}
 use Rattle.ild_path_place.specs.Tells.{IsPlaceOf, table_at, type_at}
 use Rattle.ild_path_place.specs.declared.place.Place.{Place}
 use Rattle.ild_path_place.specs.declared.verb.Verb.TheVariants as V

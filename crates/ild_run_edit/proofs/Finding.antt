@@ -11,7 +11,7 @@ use Rattle.ild_path_place.specs.declared.fault.PathFault.{PathFault}
 use Rattle.ild_path_place.specs.declared.fault.PathFault.TheVariants as F
 use Rattle.ild_path_place.specs.declared.place.Place.{Place}
 use Rattle.ild_path_place.specs.declared.verb.Verb.{Verb}
-use Rattle.ild_path_tells.specs.Tells.{FaultsAreRefusals, FaultsRefuse, PlacesTell}
+use Rattle.ild_path_around.specs.Telling.{FaultsAreRefusals, FaultsRefuse, PlacesTell}
 use Rattle.ild_schema.specs.declared.row.Row.{Row}
 use Rattle.ild_schema.specs.Slots.{plainly}
 use Rattle.ild_schema.specs.Value.{Value}

@@ -28,8 +28,8 @@ use Rattle.ild_path_edits.proofs.KeepTyped.{edits_keep_typed}
 use Rattle.ild_path_judged.specs.Laws.{IsJudgedWithout, IsRefusedInOrder}
 use Rattle.ild_path_judged.proofs.Judging.{going_is_judged}
 use Rattle.ild_path_judged.proofs.Order.{refused_in_order, unrefused_have_data}
-use Rattle.ild_path_tells.specs.Facts.{refusal_at}
-use Rattle.ild_path_tells.specs.Tells.{IsPlaceIn}
+use Rattle.ild_path_around.specs.Telling.{refusal_at}
+use Rattle.ild_path_around.specs.Telling.{IsPlaceIn}
 use Rattle.ild_path_around.specs.Around.{TellsGoing}
 use Rattle.ild_path_place.specs.Tells.{hole_in, table_at, type_at}
 use Rattle.ild_path_place.specs.declared.place.Place.{Place}

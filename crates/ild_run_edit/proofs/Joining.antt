@@ -31,8 +31,8 @@ use Rattle.ild_path_edits.specs.Judged.{Tests}
 use Rattle.ild_path_edits.proofs.KeepTyped.{edits_keep_typed}
 use Rattle.ild_path_judged.specs.Place.{bringing}
 use Rattle.ild_path_judged.proofs.Order.{unrefused_have_data}
-use Rattle.ild_path_tells.specs.Facts.{verb_of}
-use Rattle.ild_path_tells.specs.Tells.{PlacesTellOn}
+use Rattle.ild_path_around.specs.Telling.{verb_of}
+use Rattle.ild_path_around.specs.Telling.{PlacesTellOn}
 use Rattle.ild_path_place.specs.Tells.{slot_in, table_at, type_at}
 use Rattle.ild_path_place.specs.declared.place.Place.{Place}
 use Rattle.ild_hamt.specs.Given.{AreIdsGiven}

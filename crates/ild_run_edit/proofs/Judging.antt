@@ -32,8 +32,8 @@ use Rattle.ild_path_judged.specs.Laws.{IsSound, IsJudgedBy, IsRefusedInOrder}
 use Rattle.ild_path_judged.specs.Place.{bringing, exhausts_at, hole_at}
 use Rattle.ild_path_judged.proofs.Judging.{coming_is_judged}
 use Rattle.ild_path_judged.proofs.Order.{refused_in_order, unrefused_have_data}
-use Rattle.ild_path_tells.specs.Facts.{key_at, verb_of}
-use Rattle.ild_path_tells.specs.Tells.{IsPlaceIn}
+use Rattle.ild_path_around.specs.Telling.{key_at, verb_of}
+use Rattle.ild_path_around.specs.Telling.{IsPlaceIn}
 use Rattle.ild_path_place.specs.Exhausting.{Exhausts}
 use Rattle.ild_path_place.specs.Parts.{end_in, verb_in}
 use Rattle.ild_path_place.specs.Tells.{fits_in, hole_in, room_in, slot_in, table_at}

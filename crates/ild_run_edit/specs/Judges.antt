@@ -18,8 +18,8 @@ use Rattle.ild_typed.specs.Stands.{bare}
 use Rattle.ild_path_edits.specs.Edit.{Edit, change}
 use Rattle.ild_path_edits.specs.Judged.{Tests, judged_result}
 use Rattle.ild_path_judged.specs.Place.{bringing}
-use Rattle.ild_path_tells.specs.Facts.{verb_of}
-use Rattle.ild_path_tells.specs.Tells.{IsPlaceIn}
+use Rattle.ild_path_around.specs.Telling.{verb_of}
+use Rattle.ild_path_around.specs.Telling.{IsPlaceIn}
 use Rattle.ild_path_place.specs.Exhausting.{Exhausts}
 use Rattle.ild_path_place.specs.Parts.{end_in, verb_in}
 use Rattle.ild_path_place.specs.Tells.{fits_in, hole_in, room_in, slot_in, table_at}

@@ -31,8 +31,8 @@ use Rattle.ild_typed.specs.Stands.{Storable, bare, blocks_of}
 use Rattle.ild_path_edits.specs.Edit.{Edit, set_at, ins_at, del_at, change, new_part}
 use Rattle.ild_path_edits.specs.Judged.{Tests, AreTests, edited}
 use Rattle.ild_path_judged.specs.Place.{bringing}
-use Rattle.ild_path_tells.specs.Facts.{verb_of}
-use Rattle.ild_path_tells.specs.Tells.{IsPlaceIn}
+use Rattle.ild_path_around.specs.Telling.{verb_of}
+use Rattle.ild_path_around.specs.Telling.{IsPlaceIn}
 use Rattle.ild_path_place.specs.Tells.{room_in, slot_in, table_at, type_at}
 use Rattle.ild_path_place.specs.declared.place.Place.{Place}
 use Rattle.ild_path_place.specs.declared.verb.Verb.TheVariants as V

@@ -17,8 +17,8 @@ use Rattle.ild_typed.specs.Stands.{Stands, bare}
 use Rattle.ild_path_edits.specs.Edit.{Edit}
 use Rattle.ild_path_edits.specs.Judged.{Tests, AreTests}
 use Rattle.ild_path_place.specs.Tells.{IsPlaceOf}
-use Rattle.ild_path_tells.specs.Facts.{refusal_at}
-use Rattle.ild_path_tells.specs.Tells.{IsPlaceIn}
+use Rattle.ild_path_around.specs.Telling.{refusal_at}
+use Rattle.ild_path_around.specs.Telling.{IsPlaceIn}
 use Rattle.ild_path_place.specs.declared.fault.PathFault.{PathFault}
 use Rattle.ild_path_place.specs.declared.fault.PathFault.TheVariants as F
 use Rattle.ild_path_place.specs.declared.place.Place.{Place}
