@@ -327,7 +327,7 @@ def forest_rows():
         after = changed(forest_document(), *asked)
         rows.append(f'({edit_text(*asked)}, "{told(after)}", {len(set(after) - set(begun))}, {len(set(begun) - set(after)) - 1}),')
     print_rows("TRIED", "Tried", rows)
-    asked = scripts.command(TRIED[3][1].encode())
+    asked = scripts.command(f'ins {TO_MIDDLE}/- {{"Leaf":3}}'.encode())
     after = changed(forest_document(), *asked)
     print(f'\nconst INSERT: Row = ({edit_text(*asked)}, "{told(after)}");')
     way = [f'"{values.cid_text(block)}",' for block in dict.fromkeys(begun[1:]) if block not in after]
