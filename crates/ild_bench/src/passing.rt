@@ -1,5 +1,5 @@
 //! A store that keeps nothing: what work takes without it.
-ghost use Rattle.std.specs.Prelude.{None};
+ghost use Rattle.std.specs.Prelude.{None, []};
 
 use ild_data::{BlockId, Octets};
 use ild_edges::{EdgeErr, Store};
@@ -23,7 +23,7 @@ impl Passing {
 }
 
 impl Store for Passing {
-    ghost moment = { λ s. record { blocks = None; given = None; gets = s.gets; puts = s.puts; lacks = s.lacks; faults = 0; beneath = None } };
+    ghost moment = { λ s. record { blocks = None; given = None; gets = s.gets; puts = s.puts; lacks = s.lacks; faults = 0; beneath = [] } };
 
     fn get(&mut self, _: &BlockId) -> Result<Option<Octets>, EdgeErr> {
         self.gets = self.gets.saturating_add(1);

@@ -1,5 +1,5 @@
 //! A store of which calls fail, and in which a block is damaged.
-ghost use Rattle.std.specs.Prelude.{◌≡◌, None, IfSome};
+ghost use Rattle.std.specs.Prelude.{◌≡◌, [], None, IfSome};
 ghost use Rattle.ild_data.specs.Spell.{id_of};
 
 use ild_data::{BlockId, Octets, block_id};
@@ -102,7 +102,7 @@ fn sound(block: Octets, id: &BlockId, turned: &Option<Bit>) -> Option<Octets>
 }
 
 impl Store for Faulty {
-    ghost moment = { λ s. record { blocks = None; given = None; gets = s.gets; puts = s.puts; lacks = s.lacks; faults = s.faults; beneath = None } };
+    ghost moment = { λ s. record { blocks = None; given = None; gets = s.gets; puts = s.puts; lacks = s.lacks; faults = s.faults; beneath = [] } };
 
     fn get(&mut self, id: &BlockId) -> Result<Option<Octets>, EdgeErr> {
         self.gets = self.gets.saturating_add(1);
