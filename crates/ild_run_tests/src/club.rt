@@ -361,8 +361,25 @@ fn ended_by(
 /// More calls than any run here has.
 const MANY: u64 = 100;
 
-/// Each call fails in turn: the first ones before the first line, so many of them, and the others such that each row comes, in order; the one behind the
-/// last call is none.
+/// How many calls, from the one with a number on, are such that the run has the replies of a row where that call fails.
+fn calls_of_row(
+    alloc: Global,
+    session: &Session,
+    call: Call,
+    first: u64,
+    others: Others,
+) -> Result<u64, AllocError> {
+    for times in 0..MANY {
+        let mut ended = ended_by(alloc, session, call, first.saturating_add(times))?;
+        if !is_row(alloc, session, others, &mut ended)? {
+            return Ok(times);
+        }
+    }
+    Ok(MANY)
+}
+
+/// Each call fails in turn: the first ones before the first line, so many of them, and the others such that each row comes, in order; the
+/// one behind the last call is none.
 fn in_turn(
     rt: &impl Abort,
     alloc: Global,
@@ -381,18 +398,11 @@ fn in_turn(
     }
     let mut number = opening.saturating_add(1);
     for others in rows {
-        let mut times: u64 = 0;
-        while number < MANY {
-            let mut ended = ended_by(alloc, session, call, number)?;
-            if !is_row(alloc, session, others, &mut ended)? {
-                break;
-            }
-            number += 1;
-            times = times.saturating_add(1);
-        }
+        let times = calls_of_row(alloc, session, call, number, others)?;
         assert!(rt; times > 0, "call {number} {others:?}");
+        number = number.saturating_add(times);
     }
-    let mut ended = ended_by(alloc, session, call, number)?;
+    let ended = ended_by(alloc, session, call, number)?;
     assert_eq!(rt; ended.status, status);
     assert_eq!(rt;
         ended.out.bytes(),
