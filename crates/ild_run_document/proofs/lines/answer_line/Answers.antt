@@ -1,6 +1,6 @@
-use Rattle.std.proofs.Common.{◌≡◌, Some, Err, sym, subst}
+use Rattle.std.proofs.Common.{◌≡◌, None, Some, Ok, Err, sym, subst}
 use Rattle.ild_data.specs.Spell.{id_of}
-use Rattle.ild_script.specs.Line.{Reading, outside, reads}
+use Rattle.ild_script.specs.Line.{Reading, blank, outside, reads}
 use Rattle.ild_script.specs.Reads.{ReadsAs}
 use Rattle.ild_script.specs.declared.error.LineErr.{LineErr}
 use Rattle.ild_script.specs.declared.reply.No.TheVariants as N
@@ -8,7 +8,7 @@ use Rattle.ild_script.specs.declared.reply.Reply.TheVariants as R
 use Rattle.ild_script_meaning.specs.Ask.{asked}
 use Rattle.ild_script_meaning.specs.Lines.{unbatched}
 use Rattle.ild_run_standing.specs.Answers.{AnswersAs}
-use Rattle.ild_run_document.proofs.Answering.{line_answers, memory_answers}
+use Rattle.ild_run_document.proofs.Answering.{blank_answers, line_answers, memory_answers}
 use Rattle.ild_run_document.proofs.lines.answer_line.Goals as goal
 
 pub returns-in-Err-Line-clause-answers : goal.returns-in-Err-Line-clause-answers
@@ -20,3 +20,9 @@ returns-in-Err-Line-clause-answers g c =
 pub returns-in-Err-Memory-clause-answers : goal.returns-in-Err-Memory-clause-answers
 returns-in-Err-Memory-clause-answers g c =
     memory_answers c.still_replies.ensures id_of c.args.doc.now (g.K.Store.moment c.args.store.now) (unbatched (asked (reads c.args.line.now)))
+
+pub returns-in-Ok-None-clause-answers : goal.returns-in-Ok-None-clause-answers
+returns-in-Ok-None-clause-answers g c =
+    let m = g.K.Store.moment c.args.store.now in
+    let empty : reads c.args.line.now ≡ blank = c.in-Ok-None.ensures in
+    subst (λ (r : Reading). AnswersAs id_of c.args.doc.now c.args.doc.now (unbatched (asked r)) m None m) (sym empty) (blank_answers c.still_replies.ensures id_of c.args.doc.now m)
