@@ -12,6 +12,8 @@ use Rattle.ild_run.specs.Work.{Work, Taking, ends, lists, answers, makes, opens,
 use Rattle.ild_run.specs.Words.{Job, checks}
 use Rattle.ild_run.specs.Ended.{Call, IsDue, AsksScript, TriesValue, ReadsRoot, Says, Ended}
 use Rattle.ild_run.specs.Complete.{IsGivenSchema, IsCalm, IsComplete}
+use Rattle.ild_run.proofs.CompletesPair.{compared_by}
+use Rattle.ild_run.proofs.Matchings.{other_sort}
 use Rattle.ild_run.specs.Listed.{Lists}
 use Rattle.ild_run.proofs.CompletesValue.{created_by}
 use Rattle.ild_run.proofs.CompletesRoot.{shown_by}
@@ -27,18 +29,18 @@ use Rattle.ild_run.specs.declared.status.Status.TheVariants as S
 abbrev Checks : Work → List Row → Type 0
 Checks w rows = (w ≡ lists (declared_names rows)) ⊎ (w ≡ ends F.Memory)
 
-checked : (c : Call) (rows : List Row) (given : IsGivenSchema c rows) (input : Role → Taken) (verdict : Option Verdict) → IsVerdict (Taken.Bytes given.schema) verdict → Checks (compiled_work (checks given.schema_name) verdict input) rows
-checked c rows given input None says = inr refl
-checked c rows given input (Some v) says =
+checked : (c : Call) (rows : List Row) (given : IsGivenSchema c rows) (t : Taking) (verdict : Option Verdict) → IsVerdict (Taken.Bytes given.schema) verdict → Checks (compiled_work (checks given.schema_name) verdict t) rows
+checked c rows given t None says = inr refl
+checked c rows given t (Some v) says =
     let one : v ≡ table rows = one_verdict_lem given.schema v (table rows) says given.compiles in
-    inl (ap (λ x. compiled_work (checks given.schema_name) (Some x) input) one)
+    inl (ap (λ x. compiled_work (checks given.schema_name) (Some x) t) one)
 
 checked_job : (c : Call) (rows : List Row) (given : IsGivenSchema c rows) (t : Taking) → IsTaking (checks given.schema_name) c.before.supply t → Checks (job_work (checks given.schema_name) t) rows
 checked_job c rows given t taken =
     let job = checks given.schema_name in
     let schema_is = subst (λ (f : Option (List (List ℕ × List ℕ))). MayBe f given.schema_name (t.input Role.Schema)) given.told (taken.input Role.Schema) ∙ given.schema_held in
-    let same : job_work job t ≡ compiled_work job t.verdict t.input = ap (λ x. schema_work job x t.verdict t.input) schema_is in
-    subst (λ (w : Work). Checks w rows) (sym same) (checked c rows given t.input t.verdict (subst (λ (x : Taken). IsVerdict x t.verdict) schema_is taken.verdict))
+    let same : job_work job t ≡ compiled_work job t.verdict t = ap (λ x. schema_work job x t.verdict t) schema_is in
+    subst (λ (w : Work). Checks w rows) (sym same) (checked c rows given t t.verdict (subst (λ (x : Taken). IsVerdict x t.verdict) schema_is taken.verdict))
 
 checked_work : (c : Call) (rows : List Row) (given : IsGivenSchema c rows) (t : Taking) → AreTaken c.job c.before.supply t → Checks (work_of c.job t) rows
 checked_work c rows given t taken =
@@ -90,11 +92,13 @@ IsListed c rows status = (status ≡ S.Memory) ⊎ ((status ≡ S.Done) × Lists
 listed_by : (c : Call) (rows : List Row) (given : IsGivenSchema c rows) (calm : IsCalm c) (t : Taking) (status : Status) → AreTaken c.job c.before.supply t → Says c t status → IsListed c rows status
 listed_by c rows given calm t S.Done taken (inl all) = absurd (no_check_answers (work_of c.job t) rows all.rows all.type all.start all.bytes (checked_work c rows given t taken) all.work)
 listed_by c rows given calm t S.Done taken (inr (inr (inl created))) = absurd (no_check_value (work_of c.job t) rows created.rows created.type created.bytes (checked_work c rows given t taken) created.work)
-listed_by c rows given calm t S.Done taken (inr (inr (inr shows))) = absurd (let has = shows.1.has in no_check_root (work_of c.job t) rows has.rows has.type has.root (checked_work c rows given t taken) has.work)
+listed_by c rows given calm t S.Done taken (inr (inr (inr (inr told)))) = absurd (other_sort _ _ _ (checked_work c rows given t taken) told.work refl refl)
+listed_by c rows given calm t S.Done taken (inr (inr (inr (inl shows)))) = absurd (let has = shows.1.has in no_check_root (work_of c.job t) rows has.rows has.type has.root (checked_work c rows given t taken) has.work)
 listed_by c rows given calm t S.Done taken (inr (inl listed)) =
     inr (refl, subst (λ (names : List (List ℕ)). Lists names c.before.output c.after.output) (same_names (work_of c.job t) listed.names rows (checked_work c rows given t taken) listed.work) listed.written)
 listed_by c rows given calm t S.Refused taken (inl all) = absurd (no_check_answers (work_of c.job t) rows all.rows all.type all.start all.bytes (checked_work c rows given t taken) all.work)
-listed_by c rows given calm t S.Refused taken (inr shows) = absurd (let has = shows.has in no_check_root (work_of c.job t) rows has.rows has.type has.root (checked_work c rows given t taken) has.work)
+listed_by c rows given calm t S.Refused taken (inr (inr told)) = absurd (other_sort _ _ _ (checked_work c rows given t taken) told.1.work refl refl)
+listed_by c rows given calm t S.Refused taken (inr (inl shows)) = absurd (let has = shows.has in no_check_root (work_of c.job t) rows has.rows has.type has.root (checked_work c rows given t taken) has.work)
 listed_by c rows given calm t S.Memory taken says = inl refl
 listed_by c rows given calm t S.SinkFault taken says = absurd (calm.sink says.0)
 listed_by c rows given calm t S.Words taken says = absurd (let e = no_check_fault c rows given calm t F.Words taken says.due in cc)
@@ -112,4 +116,5 @@ complete_from c status ended = record {
   checks = λ rows given calm. listed_by c rows given calm ended.taking status ended.taken ended.says;
   creates = λ v d given calm. created_by c v d given calm ended.taking status ended.taken ended.says;
   shows = λ v given calm. shown_by c v given calm ended.taking status ended.taken ended.says;
+  compares = λ given calm. compared_by c given calm ended.taking status ended.taken ended.says;
 }

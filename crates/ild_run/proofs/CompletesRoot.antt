@@ -14,11 +14,12 @@ use Rattle.ild_run_show.specs.Shows.{HasShown, NotOpened}
 use Rattle.ild_run_show.proofs.OneShown.{shown_stands, none_refused}
 use Rattle.ild_typed.specs.Shown.{shown}
 use Rattle.ild_run_open.specs.declared.start.Start.{Start}
-use Rattle.ild_run.specs.Work.{Work, Taking, ends, lists, answers, makes, opens, root_work, compiled_work, schema_work, job_work, work_of, IsVerdict, IsTaking, AreTaken}
+use Rattle.ild_run.specs.Work.{Work, Taking, ends, lists, matches, answers, makes, opens, root_work, compiled_work, schema_work, job_work, work_of, IsVerdict, IsTaking, AreTaken}
 use Rattle.ild_run.specs.Shown.{hash}
 use Rattle.ild_run.specs.Words.{Job, shows}
 use Rattle.ild_run.specs.Ended.{Call, IsDue, HasRoot, Says}
 use Rattle.ild_run.specs.Complete.{IsGivenRoot, LetsShow, ShownBy, ShowsPlainly}
+use Rattle.ild_run.proofs.Matchings.{other_sort}
 use Rattle.ild_run.specs.declared.fault.Fault.{Fault}
 use Rattle.ild_run.specs.declared.fault.Fault.TheVariants as F
 use Rattle.ild_run.specs.declared.fault.Role.{Role}
@@ -34,21 +35,21 @@ Opening w rows n id = (w ≡ opens rows n id) ⊎ (w ≡ ends F.Memory)
 abbrev job_in : (c : Call) (v : Typed) → IsGivenRoot c v → Job
 job_in c v given = shows given.schema_name given.type_name given.root
 
-compiled_opens : (c : Call) (v : Typed) (given : IsGivenRoot c v) (input : Role → Taken) (verdict : Option Verdict) → IsVerdict (Taken.Bytes given.schema) verdict
-    → Opening (compiled_work (job_in c v given) verdict input) given.rows given.type given.root
-compiled_opens c v given input None says = inr refl
-compiled_opens c v given input (Some w) says =
+compiled_opens : (c : Call) (v : Typed) (given : IsGivenRoot c v) (t : Taking) (verdict : Option Verdict) → IsVerdict (Taken.Bytes given.schema) verdict
+    → Opening (compiled_work (job_in c v given) verdict t) given.rows given.type given.root
+compiled_opens c v given t None says = inr refl
+compiled_opens c v given t (Some w) says =
     let one : table given.rows ≡ w = one_verdict_lem given.schema (table given.rows) w given.compiles says in
-    subst (λ (x : Verdict). Opening (compiled_work (job_in c v given) (Some x) input) given.rows given.type given.root) one
+    subst (λ (x : Verdict). Opening (compiled_work (job_in c v given) (Some x) t) given.rows given.type given.root) one
     (inl (ap (λ x. root_work given.rows x given.root) given.named))
 
 job_opens : (c : Call) (v : Typed) (given : IsGivenRoot c v) (t : Taking) → IsTaking (job_in c v given) c.before.supply t → Opening (job_work (job_in c v given) t) given.rows given.type given.root
 job_opens c v given t taken =
     let job = job_in c v given in
     let schema_is : t.input Role.Schema ≡ Taken.Bytes given.schema = subst (λ (f : Option (List (List ℕ × List ℕ))). MayBe f given.schema_name (t.input Role.Schema)) given.told (taken.input Role.Schema) ∙ given.schema_held in
-    let same : job_work job t ≡ compiled_work job t.verdict t.input = ap (λ x. schema_work job x t.verdict t.input) schema_is in
+    let same : job_work job t ≡ compiled_work job t.verdict t = ap (λ x. schema_work job x t.verdict t) schema_is in
     subst (λ (w : Work). Opening w given.rows given.type given.root) (sym same)
-    (compiled_opens c v given t.input t.verdict (subst (λ (x : Taken). IsVerdict x t.verdict) schema_is taken.verdict))
+    (compiled_opens c v given t t.verdict (subst (λ (x : Taken). IsVerdict x t.verdict) schema_is taken.verdict))
 
 work_opens : (c : Call) (v : Typed) (given : IsGivenRoot c v) (t : Taking) → AreTaken c.job c.before.supply t → Opening (work_of c.job t) given.rows given.type given.root
 work_opens c v given t taken =
@@ -77,6 +78,7 @@ abbrev OfOpened : (List Row → TypeNo → List ℕ → Type 0) → Work → Typ
 OfOpened P (opens rows n id) = P rows n id
 OfOpened P (ends f) = ⊥
 OfOpened P (lists names) = ⊥
+OfOpened P (matches rows others m n) = ⊥
 OfOpened P (answers rows n start b) = ⊥
 OfOpened P (makes rows n b) = ⊥
 
@@ -120,10 +122,12 @@ pub shown_by : (c : Call) (v : Typed) (given : IsGivenRoot c v) → LetsShow c �
 shown_by c v given calm t S.Done taken (inl all) = absurd (no_answers (work_of c.job t) given.rows given.type given.root all.rows all.type all.start all.bytes (work_opens c v given t taken) all.work)
 shown_by c v given calm t S.Done taken (inr (inl listed)) = absurd (no_list (work_of c.job t) listed.names given.rows given.type given.root (work_opens c v given t taken) listed.work)
 shown_by c v given calm t S.Done taken (inr (inr (inl made))) = absurd (no_value (work_of c.job t) made.rows made.type made.bytes given.rows given.type given.root (work_opens c v given t taken) made.work)
-shown_by c v given calm t S.Done taken (inr (inr (inr there))) =
+shown_by c v given calm t S.Done taken (inr (inr (inr (inr told)))) = absurd (other_sort _ _ _ (work_opens c v given t taken) told.work refl refl)
+shown_by c v given calm t S.Done taken (inr (inr (inr (inl there)))) =
     inr (subst (ShownBy c S.Done) (sym (same_json c v given t (Some there.0) taken there.1.has)) (refl, there.1.written))
 shown_by c v given calm t S.Refused taken (inl all) = absurd (no_answers (work_of c.job t) given.rows given.type given.root all.rows all.type all.start all.bytes (work_opens c v given t taken) all.work)
-shown_by c v given calm t S.Refused taken (inr there) = inr (subst (ShownBy c S.Refused) (sym (same_json c v given t None taken there.has)) (refl, there.written))
+shown_by c v given calm t S.Refused taken (inr (inr told)) = absurd (other_sort _ _ _ (work_opens c v given t taken) told.1.work refl refl)
+shown_by c v given calm t S.Refused taken (inr (inl there)) = inr (subst (ShownBy c S.Refused) (sym (same_json c v given t None taken there.has)) (refl, there.written))
 shown_by c v given calm t S.Memory taken says = inl refl
 shown_by c v given calm t S.SinkFault taken says = absurd (calm.sink says.0)
 shown_by c v given calm t S.Words taken says = absurd (let e = no_fault c v given calm t F.Words taken says.due in cc)

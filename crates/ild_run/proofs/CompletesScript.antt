@@ -32,10 +32,11 @@ use Rattle.ild_script_session.specs.Step.{Carries}
 use Rattle.ild_typed.proofs.TreeKept.{one_stands}
 use Rattle.ild_typed.specs.Schema.{IsSchema}
 use Rattle.ild_typed.specs.Stands.{bare, IsFrame, Stands}
-use Rattle.ild_run.specs.Work.{Work, Taking, ends, lists, answers, makes, opens, run_work, compiled_work, schema_work, job_work, work_of, IsVerdict, IsTaking, AreTaken}
+use Rattle.ild_run.specs.Work.{Work, Taking, ends, lists, matches, answers, makes, opens, run_work, compiled_work, schema_work, job_work, work_of, IsVerdict, IsTaking, AreTaken}
 use Rattle.ild_run.specs.Words.{Job, runs}
 use Rattle.ild_run.specs.Ended.{Call, IsDue, AnswersAll, Says}
 use Rattle.ild_run.specs.Complete.{IsGiven, IsUndisturbed, AnswersPlainly}
+use Rattle.ild_run.proofs.Matchings.{other_sort}
 use Rattle.ild_run.specs.Shown.{hash}
 use Rattle.ild_run.specs.declared.fault.Fault.{Fault}
 use Rattle.ild_run.specs.declared.fault.Fault.TheVariants as F
@@ -77,6 +78,7 @@ abbrev OfRun : (List Row → TypeNo → Start → List ℕ → Type 0) → Work 
 OfRun Q (answers rows n start b) = Q rows n start b
 OfRun Q (ends f) = ⊥
 OfRun Q (lists names) = ⊥
+OfRun Q (matches rows others m n) = ⊥
 OfRun Q (makes rows n b) = ⊥
 OfRun Q (opens rows n id) = ⊥
 
@@ -132,19 +134,19 @@ module _ (c : Call) (tests : Tests) (v : Typed) (script : List ℕ) (given : IsG
   abbrev IsRunning : Work → Type 0
   IsRunning w = Running w given.rows given.type given.start script
 
-  compiled_runs : (input : Role → Taken) (verdict : Option Verdict) → input Role.Script ≡ Taken.Bytes script → IsVerdict (Taken.Bytes given.schema) verdict → IsRunning (compiled_work job verdict input)
-  compiled_runs input None held says = inr refl
-  compiled_runs input (Some w) held says =
+  compiled_runs : (t : Taking) (verdict : Option Verdict) → t.input Role.Script ≡ Taken.Bytes script → IsVerdict (Taken.Bytes given.schema) verdict → IsRunning (compiled_work job verdict t)
+  compiled_runs t None held says = inr refl
+  compiled_runs t (Some w) held says =
       let one : table given.rows ≡ w = one_verdict_lem given.schema (table given.rows) w given.compiles says in
-      subst (λ (x : Verdict). IsRunning (compiled_work job (Some x) input)) one
-      (named_runs given.rows given.type given.start script (number_named given.type_name given.rows) (input Role.Script) given.named held)
+      subst (λ (x : Verdict). IsRunning (compiled_work job (Some x) t)) one
+      (named_runs given.rows given.type given.start script (number_named given.type_name given.rows) (t.input Role.Script) given.named held)
 
   job_runs : (t : Taking) → IsTaking job c.before.supply t → IsRunning (job_work job t)
   job_runs t taken =
       let schema_is : t.input Role.Schema ≡ Taken.Bytes given.schema = subst (λ (f : Option (List (List ℕ × List ℕ))). MayBe f given.schema_name (t.input Role.Schema)) given.told (taken.input Role.Schema) ∙ given.schema_held in
       let script_is : t.input Role.Script ≡ Taken.Bytes script = subst (λ (f : Option (List (List ℕ × List ℕ))). MayBe f given.script_name (t.input Role.Script)) given.told (taken.input Role.Script) ∙ given.script_held in
-      let same : job_work job t ≡ compiled_work job t.verdict t.input = ap (λ x. schema_work job x t.verdict t.input) schema_is in
-      subst IsRunning (sym same) (compiled_runs t.input t.verdict script_is (subst (λ (x : Taken). IsVerdict x t.verdict) schema_is taken.verdict))
+      let same : job_work job t ≡ compiled_work job t.verdict t = ap (λ x. schema_work job x t.verdict t) schema_is in
+      subst IsRunning (sym same) (compiled_runs t t.verdict script_is (subst (λ (x : Taken). IsVerdict x t.verdict) schema_is taken.verdict))
 
   work_runs : (t : Taking) → AreTaken c.job c.before.supply t → IsRunning (work_of c.job t)
   work_runs t taken = subst IsRunning (sym (ap (λ j. work_of j t) given.job)) (job_runs t (subst (λ (j : Option Job). AreTaken j c.before.supply t) given.job taken))
@@ -216,9 +218,11 @@ module _ (c : Call) (tests : Tests) (v : Typed) (script : List ℕ) (given : IsG
     run_by S.Done (inl all) = inr (plainly S.Done false refl all)
     run_by S.Done (inr (inl listed)) = absurd (no_list (work_of c.job t) listed.names given.rows given.type given.start script here listed.work)
     run_by S.Done (inr (inr (inl created))) = absurd (makes_not created.rows created.type created.bytes created.work)
-    run_by S.Done (inr (inr (inr shows))) = absurd (let has = shows.1.has in opens_not has.rows has.type has.root has.work)
+    run_by S.Done (inr (inr (inr (inr told)))) = absurd (other_sort _ _ _ here told.work refl refl)
+    run_by S.Done (inr (inr (inr (inl shows)))) = absurd (let has = shows.1.has in opens_not has.rows has.type has.root has.work)
     run_by S.Refused (inl all) = inr (plainly S.Refused true refl all)
-    run_by S.Refused (inr shows) = absurd (let has = shows.has in opens_not has.rows has.type has.root has.work)
+    run_by S.Refused (inr (inr told)) = absurd (other_sort _ _ _ here told.1.work refl refl)
+    run_by S.Refused (inr (inl shows)) = absurd (let has = shows.has in opens_not has.rows has.type has.root has.work)
     run_by S.Memory says = inl refl
     run_by S.SinkFault says = absurd (calm.sink says.0)
     run_by S.Words says = absurd (let e = no_fault F.Words says.due in cc)

@@ -18,11 +18,12 @@ use Rattle.ild_schema.specs.declared.number.TypeNo.{TypeNo}
 use Rattle.ild_schema.specs.declared.row.Row.{Row}
 use Rattle.ild_typed.specs.Stands.{bare, root_id, blocks_of, Stands}
 use Rattle.ild_run_open.specs.declared.start.Start.{Start}
-use Rattle.ild_run.specs.Work.{Work, Taking, ends, lists, answers, makes, opens, type_work, compiled_work, schema_work, job_work, work_of, IsVerdict, IsTaking, AreTaken}
+use Rattle.ild_run.specs.Work.{Work, Taking, ends, lists, matches, answers, makes, opens, type_work, compiled_work, schema_work, job_work, work_of, IsVerdict, IsTaking, AreTaken}
 use Rattle.ild_run.specs.Shown.{hash}
 use Rattle.ild_run.specs.Words.{Job, creates}
 use Rattle.ild_run.specs.Ended.{Call, IsDue, CreatesValue, Says}
 use Rattle.ild_run.specs.Complete.{IsGivenValue, LetsCreate, CreatesPlainly}
+use Rattle.ild_run.proofs.Matchings.{other_sort}
 use Rattle.ild_run.specs.declared.fault.Fault.{Fault}
 use Rattle.ild_run.specs.declared.fault.Fault.TheVariants as F
 use Rattle.ild_run.specs.declared.fault.Role.{Role}
@@ -43,22 +44,22 @@ named_makes rows n b found taken named held =
 abbrev job_in : (c : Call) (v : Typed) (d : Data) → IsGivenValue c v d → Job
 job_in c v d given = creates given.schema_name given.type_name given.value_name
 
-compiled_makes : (c : Call) (v : Typed) (d : Data) (given : IsGivenValue c v d) (input : Role → Taken) (verdict : Option Verdict) → input Role.Value ≡ Taken.Bytes given.bytes
-    → IsVerdict (Taken.Bytes given.schema) verdict → Creating (compiled_work (job_in c v d given) verdict input) given.rows given.type given.bytes
-compiled_makes c v d given input None held says = inr refl
-compiled_makes c v d given input (Some w) held says =
+compiled_makes : (c : Call) (v : Typed) (d : Data) (given : IsGivenValue c v d) (t : Taking) (verdict : Option Verdict) → t.input Role.Value ≡ Taken.Bytes given.bytes
+    → IsVerdict (Taken.Bytes given.schema) verdict → Creating (compiled_work (job_in c v d given) verdict t) given.rows given.type given.bytes
+compiled_makes c v d given t None held says = inr refl
+compiled_makes c v d given t (Some w) held says =
     let one : table given.rows ≡ w = one_verdict_lem given.schema (table given.rows) w given.compiles says in
-    subst (λ (x : Verdict). Creating (compiled_work (job_in c v d given) (Some x) input) given.rows given.type given.bytes) one
-    (named_makes given.rows given.type given.bytes (number_named given.type_name given.rows) (input Role.Value) given.named held)
+    subst (λ (x : Verdict). Creating (compiled_work (job_in c v d given) (Some x) t) given.rows given.type given.bytes) one
+    (named_makes given.rows given.type given.bytes (number_named given.type_name given.rows) (t.input Role.Value) given.named held)
 
 job_makes : (c : Call) (v : Typed) (d : Data) (given : IsGivenValue c v d) (t : Taking) → IsTaking (job_in c v d given) c.before.supply t → Creating (job_work (job_in c v d given) t) given.rows given.type given.bytes
 job_makes c v d given t taken =
     let job = job_in c v d given in
     let schema_is : t.input Role.Schema ≡ Taken.Bytes given.schema = subst (λ (f : Option (List (List ℕ × List ℕ))). MayBe f given.schema_name (t.input Role.Schema)) given.told (taken.input Role.Schema) ∙ given.schema_held in
     let value_is : t.input Role.Value ≡ Taken.Bytes given.bytes = subst (λ (f : Option (List (List ℕ × List ℕ))). MayBe f given.value_name (t.input Role.Value)) given.told (taken.input Role.Value) ∙ given.value_held in
-    let same : job_work job t ≡ compiled_work job t.verdict t.input = ap (λ x. schema_work job x t.verdict t.input) schema_is in
+    let same : job_work job t ≡ compiled_work job t.verdict t = ap (λ x. schema_work job x t.verdict t) schema_is in
     subst (λ (w : Work). Creating w given.rows given.type given.bytes) (sym same)
-    (compiled_makes c v d given t.input t.verdict value_is (subst (λ (x : Taken). IsVerdict x t.verdict) schema_is taken.verdict))
+    (compiled_makes c v d given t t.verdict value_is (subst (λ (x : Taken). IsVerdict x t.verdict) schema_is taken.verdict))
 
 work_makes : (c : Call) (v : Typed) (d : Data) (given : IsGivenValue c v d) (t : Taking) → AreTaken c.job c.before.supply t → Creating (work_of c.job t) given.rows given.type given.bytes
 work_makes c v d given t taken =
@@ -87,6 +88,7 @@ abbrev OfMade : (List Row → TypeNo → List ℕ → Type 0) → Work → Type 
 OfMade P (makes rows n b) = P rows n b
 OfMade P (ends f) = ⊥
 OfMade P (lists names) = ⊥
+OfMade P (matches rows others m n) = ⊥
 OfMade P (answers rows n start b) = ⊥
 OfMade P (opens rows n id) = ⊥
 
@@ -146,10 +148,12 @@ pub created_by : (c : Call) (v : Typed) (d : Data) (given : IsGivenValue c v d) 
 created_by c v d given calm t S.Done taken (inl all) = absurd (no_answers (work_of c.job t) given.rows given.type given.bytes all.rows all.type all.start all.bytes (work_makes c v d given t taken) all.work)
 created_by c v d given calm t S.Done taken (inr (inl listed)) = absurd (no_list (work_of c.job t) listed.names given.rows given.type given.bytes (work_makes c v d given t taken) listed.work)
 created_by c v d given calm t S.Done taken (inr (inr (inl made))) = inr (created_so c v d given t taken made)
-created_by c v d given calm t S.Done taken (inr (inr (inr shows))) =
+created_by c v d given calm t S.Done taken (inr (inr (inr (inr told)))) = absurd (other_sort _ _ _ (work_makes c v d given t taken) told.work refl refl)
+created_by c v d given calm t S.Done taken (inr (inr (inr (inl shows)))) =
     absurd (let has = shows.1.has in no_root (work_of c.job t) has.rows has.type has.root given.rows given.type given.bytes (work_makes c v d given t taken) has.work)
 created_by c v d given calm t S.Refused taken (inl all) = absurd (no_answers (work_of c.job t) given.rows given.type given.bytes all.rows all.type all.start all.bytes (work_makes c v d given t taken) all.work)
-created_by c v d given calm t S.Refused taken (inr shows) =
+created_by c v d given calm t S.Refused taken (inr (inr told)) = absurd (other_sort _ _ _ (work_makes c v d given t taken) told.1.work refl refl)
+created_by c v d given calm t S.Refused taken (inr (inl shows)) =
     absurd (let has = shows.has in no_root (work_of c.job t) has.rows has.type has.root given.rows given.type given.bytes (work_makes c v d given t taken) has.work)
 created_by c v d given calm t S.Memory taken says = inl refl
 created_by c v d given calm t S.SinkFault taken says = absurd (calm.sink says.0)

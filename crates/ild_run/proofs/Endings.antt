@@ -65,7 +65,7 @@ says_front c t S.Input front rose = absurd rose
 says_front c t S.StoreFault front rose = absurd rose
 says_front c t S.Value front rose = absurd rose
 
-says_by : (c : Call) (t : Taking) (f : Fault) (status : Status) → IsDue c t f → Leaves c t f
+pub says_by : (c : Call) (t : Taking) (f : Fault) (status : Status) → IsDue c t f → Leaves c t f
     → ((status ≡ status_of f) × Appends c.before.output.written c.after.output.written (fault_text f)) ⊎ (CutAs c.before.output status c.after.output × AppendsFront c.before.output.written c.after.output.written (fault_text f))
     → Says c t status
 says_by c t f status due leaves (inl told) = subst (λ (s : Status). Says c t s) (sym told.0) (says_told c t f (record { due = due; leaves = leaves; written = told.1 }))
@@ -76,7 +76,7 @@ ended_told c t f status taken due leaves told = record { taking = t; taken = tak
 
 -- a call whose words have no form
 no_taking : Taking
-no_taking = record { input = in_roles Taken.Absent Taken.Absent; verdict = None }
+no_taking = record { input = in_roles Taken.Absent Taken.Absent; verdict = None; next = None }
 
 pub ended_words : (c : Call) (status : Status) → c.job ≡ None → c.after.moment ≡ c.before.moment → ToldAs F.Words c.before.output status c.after.output → Ended c status
 ended_words c status none same told =
@@ -86,10 +86,10 @@ ended_words c status none same told =
 pub ended_unread : (c : Call) (status : Status) → c.after.moment ≡ c.before.moment → ToldAs F.Memory c.before.output status c.after.output → Ended c status
 ended_unread c status same told = let some = taking_of c.job c.before.supply in ended_told c some.0 F.Memory status some.1 tt (inl same) told
 
-are_taken : (c : Call) (job : Job) (t : Taking) → c.job ≡ Some job → IsTaking job c.before.supply t → AreTaken c.job c.before.supply t
+pub are_taken : (c : Call) (job : Job) (t : Taking) → c.job ≡ Some job → IsTaking job c.before.supply t → AreTaken c.job c.before.supply t
 are_taken c job t named taken = subst (λ (j : Option Job). AreTaken j c.before.supply t) (sym named) taken
 
-is_work : (c : Call) (job : Job) (t : Taking) (w : Work) → c.job ≡ Some job → job_work job t ≡ w → work_of c.job t ≡ w
+pub is_work : (c : Call) (job : Job) (t : Taking) (w : Work) → c.job ≡ Some job → job_work job t ≡ w → work_of c.job t ≡ w
 is_work c job t w named is = ap (λ j. work_of j t) named ∙ is
 
 reaches : (c : Call) (job : Job) (role : Role) (t : Taking) → c.job ≡ Some job → Takes role job t → Reaches role c.job t
@@ -200,8 +200,8 @@ ended_made c job t rows n b status named a work made = record {
 
 -- a front of its line
 says_shown : (c : Call) (t : Taking) (status : Status) → ShowsSome c t → CutAs c.before.output status c.after.output → Says c t status
-says_shown c t S.SinkFault some rose = (rose, inr (inr (inr (inr some))))
-says_shown c t S.Memory some rose = inr (inr (inr (inr (inr some))))
+says_shown c t S.SinkFault some rose = (rose, inr (inr (inr (inr (inl some)))))
+says_shown c t S.Memory some rose = inr (inr (inr (inr (inr (inl some)))))
 says_shown c t S.Done some rose = absurd rose
 says_shown c t S.Refused some rose = absurd rose
 says_shown c t S.Words some rose = absurd rose
@@ -212,11 +212,11 @@ says_shown c t S.StoreFault some rose = absurd rose
 says_shown c t S.Value some rose = absurd rose
 
 says_json : (c : Call) (t : Taking) (json : List ℕ) (status : Status) → HasRoot c t (Some json) → Replied (reply_on (Some json)) S.Done c.before.output status c.after.output → Says c t status
-says_json c t json status has (inl done) = subst (λ (s : Status). Says c t s) (sym done.0) (inr (inr (inr (json, record { has = has; written = done.1 }))))
+says_json c t json status has (inl done) = subst (λ (s : Status). Says c t s) (sym done.0) (inr (inr (inr (inl (json, record { has = has; written = done.1 })))))
 says_json c t json status has (inr cut) = says_shown c t status (record { json = Some json; has = has; written = cut.1 }) cut.0
 
 says_reserved : (c : Call) (t : Taking) (status : Status) → HasRoot c t None → Replied (reply_on None) S.Refused c.before.output status c.after.output → Says c t status
-says_reserved c t status has (inl done) = subst (λ (s : Status). Says c t s) (sym done.0) (inr (record { has = has; written = done.1 }))
+says_reserved c t status has (inl done) = subst (λ (s : Status). Says c t s) (sym done.0) (inr (inl (record { has = has; written = done.1 })))
 says_reserved c t status has (inr cut) = says_shown c t status (record { json = None; has = has; written = cut.1 }) cut.0
 
 says_present : (c : Call) (t : Taking) (rows : List Row) (n : TypeNo) (id : List ℕ) (result : Result (List ℕ) ShowFault) (status : Status) → work_of c.job t ≡ opens rows n id → IsTable rows

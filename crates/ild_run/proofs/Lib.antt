@@ -1,7 +1,10 @@
 pub mod Openings
+pub mod Pairings
 pub mod Endings
+pub mod Matchings
 pub mod CompletesValue
 pub mod CompletesRoot
 pub mod CompletesScript
+pub mod CompletesPair
 pub mod Completes
 pub mod Apart

@@ -15,14 +15,14 @@ use Rattle.ild_run.specs.declared.fault.Fault.TheVariants as F
 use Rattle.ild_run.specs.declared.fault.Role.{Role}
 use Rattle.ild_run.specs.declared.fault.Trouble.TheVariants as T
 use Rattle.ild_run_open.specs.declared.start.Start.{Start}
-use Rattle.ild_run.specs.Words.{Job, checks, runs, creates, shows, name_of}
+use Rattle.ild_run.specs.Words.{Job, checks, compares, runs, creates, shows, name_of}
 use Rattle.ild_run.specs.Work.{Taking, in_roles, run_work, type_work, root_work, IsVerdict, IsUnder, IsTaking, AreTaken}
 use Rattle.ild_run.specs.declared.open.Task.{Task}
 use Rattle.ild_run.specs.declared.open.Task.TheVariants as P
 use Rattle.ild_run.specs.Opening.{InputAnswer, TakesInput, CompileAnswer, OpensAnswer, IsReady, Opens, OpensBehind}
 
 -- something may be taken under each name
-some_taken : (files : Option (List (List ℕ × List ℕ))) (name : List ℕ) → (t : Taken) × MayBe files name t
+pub some_taken : (files : Option (List (List ℕ × List ℕ))) (name : List ℕ) → (t : Taken) × MayBe files name t
 some_taken None name = (Taken.Absent, tt)
 some_taken (Some files) name = (taken_of (file_at files name), refl)
 
@@ -33,6 +33,7 @@ some_under m (Some name) = some_taken m.files name
 -- the name of the input that a job takes beside its schema
 abbrev other_name : Job → Option (List ℕ)
 other_name (checks schema) = None
+other_name (compares schema next ty) = Some next
 other_name (runs schema ty start script) = Some script
 other_name (creates schema ty value) = Some value
 other_name (shows schema ty id) = None
@@ -40,28 +41,38 @@ other_name (shows schema ty id) = None
 -- it is the script's or the value's
 other_role_is : (job : Job) (m : Supply) (other : Taken) → IsUnder m other (other_name job) → IsUnder m other (name_of Role.Script job) × IsUnder m other (name_of Role.Value job)
 other_role_is (checks schema) m other is = (tt, tt)
+other_role_is (compares schema next ty) m other is = (tt, tt)
 other_role_is (runs schema ty start script) m other is = (is, tt)
 other_role_is (creates schema ty value) m other is = (tt, is)
 other_role_is (shows schema ty id) m other is = (tt, tt)
 
-all_roles : (job : Job) (m : Supply) (schema other : Taken) → IsUnder m schema (name_of Role.Schema job) → IsUnder m other (other_name job) → (role : Role) → IsUnder m (in_roles schema other role) (name_of role job)
+-- or the later schema's
+next_role_is : (job : Job) (m : Supply) (other : Taken) → IsUnder m other (other_name job) → IsUnder m other (name_of Role.Next job)
+next_role_is (checks schema) m other is = tt
+next_role_is (compares schema next ty) m other is = is
+next_role_is (runs schema ty start script) m other is = tt
+next_role_is (creates schema ty value) m other is = tt
+next_role_is (shows schema ty id) m other is = tt
+
+pub all_roles : (job : Job) (m : Supply) (schema other : Taken) → IsUnder m schema (name_of Role.Schema job) → IsUnder m other (other_name job) → (role : Role) → IsUnder m (in_roles schema other role) (name_of role job)
 all_roles job m schema other one two Role.Schema = one
+all_roles job m schema other one two Role.Next = next_role_is job m other two
 all_roles job m schema other one two Role.Script = (other_role_is job m other two).0
 all_roles job m schema other one two Role.Value = (other_role_is job m other two).1
 
-no_verdict : (t : Taken) → IsVerdict t None
+pub no_verdict : (t : Taken) → IsVerdict t None
 no_verdict Taken.Absent = tt
 no_verdict Taken.Long = tt
 no_verdict (Taken.Bytes b) = tt
 
 -- a call that ends before its second input
 opens_before : (m n : Supply) (job : Job) (schema : Taken) (verdict : Option Verdict) (result : Result Task Fault) → IsUnder m schema (name_of Role.Schema job) → IsVerdict schema verdict
-    → ((script : Taken) → OpensAnswer m job (record { input = in_roles schema script; verdict = verdict }) result n) → IfOk result IsReady → After m n → Opens m job result n
+    → ((script : Taken) → OpensAnswer m job (record { input = in_roles schema script; verdict = verdict; next = None }) result n) → IfOk result IsReady → After m n → Opens m job result n
 opens_before m n job schema verdict result is says answer ready after =
     let other = some_under m (other_name job) in
     record {
-      taking = record { input = in_roles schema other.0; verdict = verdict };
-      taken = record { input = all_roles job m schema other.0 is other.1; verdict = says };
+      taking = record { input = in_roles schema other.0; verdict = verdict; next = None };
+      taken = record { input = all_roles job m schema other.0 is other.1; verdict = says; next = no_verdict other.0 };
       answer = answer other.0;
       ready = ready;
       after = after;
@@ -72,14 +83,23 @@ job_taking : (job : Job) (m : Supply) → (t : Taking) × IsTaking job m t
 job_taking job m =
     let schema = some_under m (name_of Role.Schema job) in
     let other = some_under m (other_name job) in
-    (record { input = in_roles schema.0 other.0; verdict = None }, record { input = all_roles job m schema.0 other.0 schema.1 other.1; verdict = no_verdict schema.0 })
+    (record { input = in_roles schema.0 other.0; verdict = None; next = None }, record { input = all_roles job m schema.0 other.0 schema.1 other.1; verdict = no_verdict schema.0; next = no_verdict other.0 })
 
 pub taking_of : (job : Option Job) (m : Supply) → (t : Taking) × AreTaken job m t
-taking_of None m = (record { input = in_roles Taken.Absent Taken.Absent; verdict = None }, tt)
+taking_of None m = (record { input = in_roles Taken.Absent Taken.Absent; verdict = None; next = None }, tt)
 taking_of (Some job) m = job_taking job m
 
 other_role : Role.Script ≡ Role.Schema → ⊥
 other_role e = cc
+
+next_role : Role.Next ≡ Role.Schema → ⊥
+next_role e = cc
+
+next_script : Role.Next ≡ Role.Script → ⊥
+next_script e = cc
+
+next_value : Role.Next ≡ Role.Value → ⊥
+next_value e = cc
 
 value_role : Role.Value ≡ Role.Schema → ⊥
 value_role e = cc
@@ -96,6 +116,9 @@ opens_schema m n job name (F.Input Role.Schema T.Absent) named answer after = op
 opens_schema m n job name (F.Input Role.Schema T.Long) named answer after = opens_before m n job Taken.Long None _ (under m Taken.Long name (name_of Role.Schema job) named answer.1) tt (λ script. (refl, answer.2)) tt after
 opens_schema m n job name (F.Input Role.Schema T.Failed) named answer after =
     let some = some_under m (name_of Role.Schema job) in opens_before m n job some.0 None _ some.1 (no_verdict some.0) (λ script. (answer.1, tt)) tt after
+opens_schema m n job name (F.Input Role.Next T.Absent) named answer after = absurd (next_role answer.0)
+opens_schema m n job name (F.Input Role.Next T.Long) named answer after = absurd (next_role answer.0)
+opens_schema m n job name (F.Input Role.Next T.Failed) named answer after = absurd (next_role answer.0)
 opens_schema m n job name (F.Input Role.Script T.Absent) named answer after = absurd (other_role answer.0)
 opens_schema m n job name (F.Input Role.Script T.Long) named answer after = absurd (other_role answer.0)
 opens_schema m n job name (F.Input Role.Script T.Failed) named answer after = absurd (other_role answer.0)
@@ -130,7 +153,7 @@ opens_checked m n name b rows is compiles after = opens_before m n (checks name)
 
 -- a call that ends with its schema
 opens_with : (m n : Supply) (job : Job) (name b : List ℕ) (rows : List Row) (result : Result Task Fault) → name_of Role.Schema job ≡ Some name → MayBe m.files name (Taken.Bytes b) → Compiles b (table rows)
-    → ((t : Taken) → OpensAnswer m job (record { input = in_roles (Taken.Bytes b) t; verdict = Some (table rows) }) result n) → IfOk result IsReady → After m n → Opens m job result n
+    → ((t : Taken) → OpensAnswer m job (record { input = in_roles (Taken.Bytes b) t; verdict = Some (table rows); next = None }) result n) → IfOk result IsReady → After m n → Opens m job result n
 opens_with m n job name b rows result named is compiles answer ready after =
     opens_before m n job (Taken.Bytes b) (Some (table rows)) result (under m (Taken.Bytes b) name (name_of Role.Schema job) named is) compiles answer ready after
 
@@ -148,7 +171,7 @@ opens_root k rows ty id t named within m name b is compiles after =
     opens_with m k (shows name ty id.0) name b rows (Ok (P.Show rows t id)) refl is compiles (λ x. ap (λ found. root_work rows found id.0) named) within after
 
 abbrev value_taking : List ℕ → List Row → Taken → Taking
-value_taking b rows value = record { input = in_roles (Taken.Bytes b) value; verdict = Some (table rows) }
+value_taking b rows value = record { input = in_roles (Taken.Bytes b) value; verdict = Some (table rows); next = None }
 
 -- the task that the value's input is
 abbrev pub value_task : List Row → TypeNo → Result (List ℕ) Fault → Result Task Fault
@@ -169,6 +192,9 @@ value_answer m k n name ty value b rows t (Err (F.Input Role.Value T.Failed)) na
 value_answer m k n name ty value b rows t (Err (F.Input Role.Schema T.Absent)) named same lacks faults answer = absurd (value_role (sym answer.0))
 value_answer m k n name ty value b rows t (Err (F.Input Role.Schema T.Long)) named same lacks faults answer = absurd (value_role (sym answer.0))
 value_answer m k n name ty value b rows t (Err (F.Input Role.Schema T.Failed)) named same lacks faults answer = absurd (value_role (sym answer.0))
+value_answer m k n name ty value b rows t (Err (F.Input Role.Next T.Absent)) named same lacks faults answer = absurd (next_value answer.0)
+value_answer m k n name ty value b rows t (Err (F.Input Role.Next T.Long)) named same lacks faults answer = absurd (next_value answer.0)
+value_answer m k n name ty value b rows t (Err (F.Input Role.Next T.Failed)) named same lacks faults answer = absurd (next_value answer.0)
 value_answer m k n name ty value b rows t (Err (F.Input Role.Script T.Absent)) named same lacks faults answer = absurd (value_script (sym answer.0))
 value_answer m k n name ty value b rows t (Err (F.Input Role.Script T.Long)) named same lacks faults answer = absurd (value_script (sym answer.0))
 value_answer m k n name ty value b rows t (Err (F.Input Role.Script T.Failed)) named same lacks faults answer = absurd (value_script (sym answer.0))
@@ -190,7 +216,7 @@ opens_value k n rows ty value t result named within takes m name b is compiles a
     let x = value_answer m k n name ty value b rows t result named after.files after.lacks after.faults takes.answer in
     record {
       taking = value_taking b rows x.0;
-      taken = record { input = all_roles (creates name ty value) m (Taken.Bytes b) x.0 is x.1; verdict = compiles };
+      taken = record { input = all_roles (creates name ty value) m (Taken.Bytes b) x.0 is x.1; verdict = compiles; next = no_verdict x.0 };
       answer = x.2;
       ready = value_ready rows t result within;
       after = After-trans m k n after takes.after;
@@ -217,6 +243,9 @@ script_answer m k n name ty script b rows t start (Err (F.Input Role.Script T.Fa
 script_answer m k n name ty script b rows t start (Err (F.Input Role.Schema T.Absent)) named same lacks faults answer = absurd (other_role (sym answer.0))
 script_answer m k n name ty script b rows t start (Err (F.Input Role.Schema T.Long)) named same lacks faults answer = absurd (other_role (sym answer.0))
 script_answer m k n name ty script b rows t start (Err (F.Input Role.Schema T.Failed)) named same lacks faults answer = absurd (other_role (sym answer.0))
+script_answer m k n name ty script b rows t start (Err (F.Input Role.Next T.Absent)) named same lacks faults answer = absurd (next_script answer.0)
+script_answer m k n name ty script b rows t start (Err (F.Input Role.Next T.Long)) named same lacks faults answer = absurd (next_script answer.0)
+script_answer m k n name ty script b rows t start (Err (F.Input Role.Next T.Failed)) named same lacks faults answer = absurd (next_script answer.0)
 script_answer m k n name ty script b rows t start (Err (F.Input Role.Value T.Absent)) named same lacks faults answer = absurd (value_script answer.0)
 script_answer m k n name ty script b rows t start (Err (F.Input Role.Value T.Long)) named same lacks faults answer = absurd (value_script answer.0)
 script_answer m k n name ty script b rows t start (Err (F.Input Role.Value T.Failed)) named same lacks faults answer = absurd (value_script answer.0)
@@ -238,7 +267,7 @@ opens_script k n rows ty script t start result named within takes m name b is co
     let x = script_answer m k n name ty script b rows t start result named after.files after.lacks after.faults takes.answer in
     record {
       taking = value_taking b rows x.0;
-      taken = record { input = all_roles (runs name ty start script) m (Taken.Bytes b) x.0 is x.1; verdict = compiles };
+      taken = record { input = all_roles (runs name ty start script) m (Taken.Bytes b) x.0 is x.1; verdict = compiles; next = no_verdict x.0 };
       answer = x.2;
       ready = script_ready rows t start result within;
       after = After-trans m k n after takes.after;

@@ -30,7 +30,9 @@ use Rattle.ild_script_session.specs.Session.{State, idle}
 use Rattle.ild_script_session.specs.Run.{texts}
 use Rattle.ild_script_session.specs.Plain.{PlainRun, AreApart}
 use Rattle.ild_typed.specs.Stands.{bare, root_id, blocks_of as typed_blocks, Stands}
-use Rattle.ild_run.specs.Words.{checks, runs, creates, shows}
+use Rattle.ild_compat.specs.declared.rule.Differ.{Differ}
+use Rattle.ild_run_compare.specs.Compared.{IsTold}
+use Rattle.ild_run.specs.Words.{checks, compares, runs, creates, shows}
 use Rattle.ild_run.specs.Listed.{Lists}
 use Rattle.ild_run.specs.Shown.{hash, reserved}
 use Rattle.ild_run.specs.Ended.{Call}
@@ -156,13 +158,43 @@ ShownBy c status None = (status ≡ S.Refused) × Appends c.before.output.writte
 abbrev pub ShowsPlainly : Call → List Row → TypeNo → Typed → Status → Type 0
 ShowsPlainly c rows n v status = ShownBy c status (json_text (shown rows (plainly n) v))
 
--- a script is answered plainly, the names of an accepted schema are listed, a value that a store can hold is created, and one that stands
--- under a root is shown
+-- the words ask for a comparison; the inputs tell and hold two schemas that are accepted, with these tables; and both have the type
+pub record IsGivenPair (c : Call) : Type 0 where
+  pub schema_name : List ℕ
+  pub next_name : List ℕ
+  pub type_name : List ℕ
+  pub job : c.job ≡ Some (compares schema_name next_name type_name)
+  pub files : List (List ℕ × List ℕ)
+  pub told : c.before.supply.files ≡ Some files
+  pub schema : List ℕ
+  pub schema_held : taken_of (file_at files schema_name) ≡ Taken.Bytes schema
+  pub rows : List Row
+  pub compiles : Compiles schema (table rows)
+  pub next : List ℕ
+  pub next_held : taken_of (file_at files next_name) ≡ Taken.Bytes next
+  pub others : List Row
+  pub next_compiles : Compiles next (table others)
+  pub type : TypeNo
+  pub named : number_named type_name rows ≡ Some type.0
+  pub later : TypeNo
+  pub next_named : number_named type_name others ≡ Some later.0
+
+-- `ok true` was written of types that are compatible, or the line of a pair that is reached and fails a rule
+abbrev pub ComparedBy : Call → List Row → List Row → TypeNo → TypeNo → Status → Option Differ → Type 0
+ComparedBy c rows others m n status None = (status ≡ S.Done) × IsTold rows others m n None c.before.output c.after.output
+ComparedBy c rows others m n status (Some d) = (status ≡ S.Refused) × IsTold rows others m n (Some d) c.before.output c.after.output
+
+abbrev pub ComparesPlainly : Call → List Row → List Row → TypeNo → TypeNo → Status → Type 0
+ComparesPlainly c rows others m n status = (found : Option Differ) × ComparedBy c rows others m n status found
+
+-- a script is answered plainly, the names of an accepted schema are listed, a value that a store can hold is created, one that stands
+-- under a root is shown, and the types of two accepted schemas are compared
 pub record IsComplete (c : Call) (status : Status) : Type 0 where
   pub runs : (tests : Tests) (v : Typed) (script : List ℕ) (given : IsGiven c tests v script) → IsUndisturbed c given.rows given.type tests given.start v script → (status ≡ S.Memory) ⊎ AnswersPlainly c given.rows given.type tests v script status
   pub checks : (rows : List Row) → IsGivenSchema c rows → IsCalm c → (status ≡ S.Memory) ⊎ ((status ≡ S.Done) × Lists (declared_names rows) c.before.output c.after.output)
   pub creates : (v : Typed) (d : Data) (given : IsGivenValue c v d) → LetsCreate c given.rows given.type v d → (status ≡ S.Memory) ⊎ CreatesPlainly c given.rows given.type v d status
   pub shows : (v : Typed) (given : IsGivenRoot c v) → LetsShow c → (status ≡ S.Memory) ⊎ ShowsPlainly c given.rows given.type v status
+  pub compares : (given : IsGivenPair c) → IsCalm c → (status ≡ S.Memory) ⊎ ComparesPlainly c given.rows given.others given.type given.later status
 
 -- The premise on collisions can be met: where all that a store holds, and all that may come, are among blocks of which no two have one id.
 abbrev pub CanBeApart : Type 0

@@ -26,7 +26,9 @@ use Rattle.ild_cbor.specs.declared.why.BlockWhy.{BlockWhy}
 use Rattle.ild_open_parts.specs.Reads.{OnlyReads}
 use Rattle.ild_run_show.specs.Shows.{HasShown, NotOpened}
 use Rattle.ild_run.specs.Shown.{hash, reserved}
-use Rattle.ild_run.specs.Work.{Taking, ends, lists, answers, makes, opens, work_of, AreTaken, Reaches}
+use Rattle.ild_compat.specs.declared.rule.Differ.{Differ}
+use Rattle.ild_run_compare.specs.Compared.{IsTold, IsCutOff}
+use Rattle.ild_run.specs.Work.{Taking, ends, lists, matches, answers, makes, opens, work_of, AreTaken, Reaches}
 use Rattle.ild_run.specs.Fault.{fault_text}
 use Rattle.ild_run.specs.Listed.{Lists, ListsFront}
 use Rattle.ild_run.specs.declared.fault.Fault.{Fault}
@@ -230,14 +232,34 @@ pub record ShowsSome (c : Call) (t : Taking) : Type 0 where
   pub has : HasRoot c t json
   pub written : AppendsFront c.before.output.written c.after.output.written (reply_text (reply_on json))
 
+-- the types with the name, of the schema and of the later one, were compared, the answer was told, and the store left
+pub record MatchesTypes (c : Call) (t : Taking) (found : Option Differ) : Type 0 where
+  pub rows : List Row
+  pub others : List Row
+  pub type : TypeNo
+  pub later : TypeNo
+  pub work : work_of c.job t ≡ matches rows others type later
+  pub same : c.after.moment ≡ c.before.moment
+  pub told : IsTold rows others type later found c.before.output c.after.output
+
+-- a front of the answer's line was written
+pub record MatchesSome (c : Call) (t : Taking) : Type 0 where
+  pub rows : List Row
+  pub others : List Row
+  pub type : TypeNo
+  pub later : TypeNo
+  pub work : work_of c.job t ≡ matches rows others type later
+  pub same : c.after.moment ≡ c.before.moment
+  pub told : IsCutOff rows others type later c.before.output c.after.output
+
 -- the text that was due was cut off
 abbrev pub IsCut : Call → Taking → Type 0
-IsCut c t = TellsFront c t ⊎ (AnswersSome c t ⊎ (ListsSome c t ⊎ (CreatesSome c t ⊎ ShowsSome c t)))
+IsCut c t = TellsFront c t ⊎ (AnswersSome c t ⊎ (ListsSome c t ⊎ (CreatesSome c t ⊎ (ShowsSome c t ⊎ MatchesSome c t))))
 
 -- what a status says
 abbrev pub Says : Call → Taking → Status → Type 0
-Says c t S.Done = AnswersAll c t false ⊎ (ListsNames c t ⊎ (CreatesValue c t ⊎ ((json : List ℕ) × ShowsRoot c t (Some json))))
-Says c t S.Refused = AnswersAll c t true ⊎ ShowsRoot c t None
+Says c t S.Done = AnswersAll c t false ⊎ (ListsNames c t ⊎ (CreatesValue c t ⊎ (((json : List ℕ) × ShowsRoot c t (Some json)) ⊎ MatchesTypes c t None)))
+Says c t S.Refused = AnswersAll c t true ⊎ (ShowsRoot c t None ⊎ ((d : Differ) × MatchesTypes c t (Some d)))
 Says c t S.Words = Tells c t F.Words
 Says c t S.Schema = (f : SchemaFault) × Tells c t (F.Schema f)
 Says c t S.Root = (id : BlockId) × (why : BlockWhy) × Tells c t (F.Root id why)

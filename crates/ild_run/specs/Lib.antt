@@ -7,5 +7,6 @@ pub mod Opening
 pub mod Shown
 pub mod Made
 pub mod Answered
+pub mod Matched
 pub mod Ended
 pub mod Complete

@@ -1,11 +1,11 @@
 -- What each step before the lines answers.
-use Rattle.std.specs.Prelude.{◌≡◌, ◌<◌, ℕ, List, length, Option, None, option_map, Result, Ok, Err, IfOk}
+use Rattle.std.specs.Prelude.{◌≡◌, ◌<◌, ℕ, List, length, Option, option_map, Result, Ok, Err, IfOk}
 use Rattle.ild_compile.specs.Compile.{table, faulty, Compiles}
 use Rattle.ild_data.specs.declared.id.BlockId.{BlockId}
 use Rattle.ild_edges.specs.Count.{Rose}
 use Rattle.ild_edges.specs.Inputs.{Supply, After, MayBe}
 use Rattle.ild_edges.specs.declared.inputs.Taken.{Taken}
-use Rattle.ild_schema.specs.Names.{declared_names}
+use Rattle.ild_schema.specs.Names.{declared_names, number_named}
 use Rattle.ild_schema.specs.declared.row.Row.{Row}
 use Rattle.ild_run.specs.declared.fault.Fault.{Fault}
 use Rattle.ild_run.specs.declared.fault.Fault.TheVariants as F
@@ -16,13 +16,14 @@ use Rattle.ild_run.specs.declared.open.Job.TheVariants as J
 use Rattle.ild_run.specs.declared.open.Task.{Task}
 use Rattle.ild_run.specs.declared.open.Task.TheVariants as P
 use Rattle.ild_run_open.specs.declared.start.Start.{Start}
-use Rattle.ild_run.specs.Words.{Job, checks, runs, creates, shows, start_of_text}
+use Rattle.ild_run.specs.Words.{Job, checks, compares, runs, creates, shows, start_of_text}
 use Rattle.ild_data_root.specs.Root.{root_of_text}
-use Rattle.ild_run.specs.Work.{Work, Taking, ends, lists, answers, makes, opens, job_work, IsTaking, Takes}
+use Rattle.ild_run.specs.Work.{Work, Taking, ends, lists, matches, answers, makes, opens, types_work, job_work, IsTaking, Takes}
 
 -- the job that the program holds
 abbrev pub job_seen : Held → Job
 job_seen (J.Check schema) = checks schema.now
+job_seen (J.Compat schema next ty) = compares schema.now next.now ty.now
 job_seen (J.Run schema ty start script) = runs schema.now ty.now start script.now
 job_seen (J.New schema ty value) = creates schema.now ty.now value.now
 job_seen (J.Show schema ty root) = shows schema.now ty.now root.0
@@ -72,6 +73,7 @@ InputsFault m job t f n = ⊥
 -- the work that a task is
 abbrev pub work_seen : Task → Work
 work_seen (P.List rows) = lists (declared_names rows)
+work_seen (P.Compare rows m others n) = matches rows others m n
 work_seen (P.Answer rows n start b) = answers rows n start b
 work_seen (P.Create rows n b) = makes rows n b
 work_seen (P.Show rows n id) = opens rows n id.0
@@ -79,6 +81,7 @@ work_seen (P.Show rows n id) = opens rows n id.0
 -- a value has a type of its table
 abbrev pub IsReady : Task → Type 0
 IsReady (P.List rows) = Unit {0}
+IsReady (P.Compare rows m others n) = (m.0 < length rows) × (n.0 < length others)
 IsReady (P.Answer rows n start b) = n.0 < length rows
 IsReady (P.Create rows n b) = n.0 < length rows
 IsReady (P.Show rows n id) = n.0 < length rows
@@ -99,3 +102,9 @@ pub record Opens (m : Supply) (job : Job) (result : Result Task Fault) (n : Supp
 abbrev pub OpensBehind : Supply → List Row → (List ℕ → Job) → Result Task Fault → Supply → Type 0
 OpensBehind k rows job result n =
     (m : Supply) (name bytes : List ℕ) → MayBe m.files name (Taken.Bytes bytes) → Compiles bytes (table rows) → After m k → Opens m (job name) result n
+
+-- whether two tables have a type with one name
+abbrev pub TypesAnswer : List Row → List Row → List ℕ → Result Task Fault → Type 0
+TypesAnswer rows others ty (Ok task) = (types_work rows others (number_named ty rows) (number_named ty others) ≡ work_seen task) × IsReady task
+TypesAnswer rows others ty (Err F.Words) = types_work rows others (number_named ty rows) (number_named ty others) ≡ ends F.Words
+TypesAnswer rows others ty (Err f) = ⊥

@@ -8,9 +8,11 @@ use Rattle.ild_data_root.specs.Root.{root_of_text}
 use Rattle.ild_run.specs.declared.fault.Role.{Role}
 
 -- What words ask for, with the names of its inputs: a schema is checked; on a value of a schema's type with this name, its second, which
--- starts so, a script is run; a value of such a type is created; or the one that stands under a block id, its third, is shown.
+-- starts so, a script is run; a value of such a type is created; or the one that stands under a block id, its third, is shown. Or the types
+-- with one name, the third, of two schemas are compared.
 pub data Job : Type 0 where
   checks : List ℕ → Job
+  compares : List ℕ → List ℕ → List ℕ → Job
   runs : List ℕ → List ℕ → Start → List ℕ → Job
   creates : List ℕ → List ℕ → List ℕ → Job
   shows : List ℕ → List ℕ → List ℕ → Job
@@ -21,6 +23,10 @@ typed_job verb schema ty last =
     if same_text verb (codes "new") then Some (creates schema ty last)
     else if same_text verb (codes "show") then option_map (shows schema ty) (root_of_text last)
     else None
+
+-- `compat OLD NEW TYPE`, and these
+abbrev pub pair_job : List ℕ → List ℕ → List ℕ → List ℕ → Option Job
+pair_job verb first second last = if same_text verb (codes "compat") then Some (compares first second last) else typed_job verb first second last
 
 -- where a script starts: `-`, from the empty value, or ROOT
 abbrev pub start_of_text : List ℕ → Option Start
@@ -33,7 +39,7 @@ run_job verb schema ty start script = if same_text verb (codes "run") then optio
 -- `check SCHEMA`, and these
 abbrev pub job_in : List (List ℕ) → Option Job
 job_in (verb ∷ schema ∷ []) = if same_text verb (codes "check") then Some (checks schema) else None
-job_in (verb ∷ schema ∷ ty ∷ last ∷ []) = typed_job verb schema ty last
+job_in (verb ∷ first ∷ second ∷ last ∷ []) = pair_job verb first second last
 job_in (verb ∷ schema ∷ ty ∷ start ∷ script ∷ []) = run_job verb schema ty start script
 job_in words = None
 
@@ -43,14 +49,22 @@ job_of words = job_in (map string_bytes words)
 -- the name of the input that a job takes in a role, where it takes one
 abbrev pub name_of : Role → Job → Option (List ℕ)
 name_of Role.Schema (checks schema) = Some schema
+name_of Role.Schema (compares schema next ty) = Some schema
 name_of Role.Schema (runs schema ty start script) = Some schema
 name_of Role.Schema (creates schema ty value) = Some schema
 name_of Role.Schema (shows schema ty id) = Some schema
+name_of Role.Next (checks schema) = None
+name_of Role.Next (compares schema next ty) = Some next
+name_of Role.Next (runs schema ty start script) = None
+name_of Role.Next (creates schema ty value) = None
+name_of Role.Next (shows schema ty id) = None
 name_of Role.Script (checks schema) = None
+name_of Role.Script (compares schema next ty) = None
 name_of Role.Script (runs schema ty start script) = Some script
 name_of Role.Script (creates schema ty value) = None
 name_of Role.Script (shows schema ty id) = None
 name_of Role.Value (checks schema) = None
+name_of Role.Value (compares schema next ty) = None
 name_of Role.Value (runs schema ty start script) = None
 name_of Role.Value (creates schema ty value) = Some value
 name_of Role.Value (shows schema ty id) = None

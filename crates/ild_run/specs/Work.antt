@@ -11,25 +11,29 @@ use Rattle.ild_run.specs.declared.fault.Fault.TheVariants as F
 use Rattle.ild_run.specs.declared.fault.Role.{Role}
 use Rattle.ild_run.specs.declared.fault.Trouble.TheVariants as T
 use Rattle.ild_run_open.specs.declared.start.Start.{Start}
-use Rattle.ild_run.specs.Words.{Job, checks, runs, creates, shows, name_of}
+use Rattle.ild_run.specs.Words.{Job, checks, compares, runs, creates, shows, name_of}
 
 -- the call ends with a fault, lists names, answers the lines of a script on a value of a type of a table, which starts so, creates a value
--- of such a type from bytes, or opens the one that stands under a block id
+-- of such a type from bytes, or opens the one that stands under a block id; or it tells how a type of a table and one of a later table compare
 pub data Work : Type 0 where
   ends : Fault → Work
   lists : List (List ℕ) → Work
+  matches : List Row → List Row → TypeNo → TypeNo → Work
   answers : List Row → TypeNo → Start → List ℕ → Work
   makes : List Row → TypeNo → List ℕ → Work
   opens : List Row → TypeNo → List ℕ → Work
 
--- what is taken of the inputs in each role, or would be, and what the schema is compiled to, or none where memory is wanting for it
+-- what is taken of the inputs in each role, or would be, and what the schema and a later one are compiled to, or none where memory is wanting
+-- for it
 pub record Taking : Type 0 where
   pub input : Role → Taken
   pub verdict : Option Verdict
+  pub next : Option Verdict
 
--- what is taken as the schema, and what as the script or the value
+-- what is taken as the schema, and what as the later schema, the script or the value
 abbrev pub in_roles : Taken → Taken → Role → Taken
 in_roles schema other Role.Schema = schema
+in_roles schema other Role.Next = other
 in_roles schema other Role.Script = other
 in_roles schema other Role.Value = other
 
@@ -58,28 +62,45 @@ abbrev pub root_work : List Row → Option ℕ → List ℕ → Work
 root_work rows None id = ends F.Words
 root_work rows (Some n) id = opens rows (record { 0 = n }) id
 
+-- a later schema is taken and compiled once the first is; then the type's name has to be one of both tables
+abbrev pub types_work : List Row → List Row → Option ℕ → Option ℕ → Work
+types_work rows others None found = ends F.Words
+types_work rows others (Some m) None = ends F.Words
+types_work rows others (Some m) (Some n) = matches rows others (record { 0 = m }) (record { 0 = n })
+
+abbrev pub next_compiled : List Row → List ℕ → Option Verdict → Work
+next_compiled rows ty None = ends F.Memory
+next_compiled rows ty (Some (faulty f)) = ends (F.Schema f)
+next_compiled rows ty (Some (table others)) = types_work rows others (number_named ty rows) (number_named ty others)
+
+abbrev pub next_work : List Row → List ℕ → Taken → Option Verdict → Work
+next_work rows ty Taken.Absent verdict = ends (F.Input Role.Next T.Absent)
+next_work rows ty Taken.Long verdict = ends (F.Input Role.Next T.Long)
+next_work rows ty (Taken.Bytes b) verdict = next_compiled rows ty verdict
+
 -- what a job does with a table
-abbrev pub table_work : Job → List Row → (Role → Taken) → Work
-table_work (checks schema) rows input = lists (declared_names rows)
-table_work (runs schema ty start script) rows input = run_work rows (number_named ty rows) start (input Role.Script)
-table_work (creates schema ty value) rows input = type_work rows (number_named ty rows) (input Role.Value)
-table_work (shows schema ty id) rows input = root_work rows (number_named ty rows) id
+abbrev pub table_work : Job → List Row → Taking → Work
+table_work (checks schema) rows t = lists (declared_names rows)
+table_work (compares schema next ty) rows t = next_work rows ty (t.input Role.Next) t.next
+table_work (runs schema ty start script) rows t = run_work rows (number_named ty rows) start (t.input Role.Script)
+table_work (creates schema ty value) rows t = type_work rows (number_named ty rows) (t.input Role.Value)
+table_work (shows schema ty id) rows t = root_work rows (number_named ty rows) id
 
 -- after the schema's input comes its compilation
-abbrev pub compiled_work : Job → Option Verdict → (Role → Taken) → Work
-compiled_work job None input = ends F.Memory
-compiled_work job (Some (faulty f)) input = ends (F.Schema f)
-compiled_work job (Some (table rows)) input = table_work job rows input
+abbrev pub compiled_work : Job → Option Verdict → Taking → Work
+compiled_work job None t = ends F.Memory
+compiled_work job (Some (faulty f)) t = ends (F.Schema f)
+compiled_work job (Some (table rows)) t = table_work job rows t
 
-abbrev pub schema_work : Job → Taken → Option Verdict → (Role → Taken) → Work
-schema_work job Taken.Absent verdict input = ends (F.Input Role.Schema T.Absent)
-schema_work job Taken.Long verdict input = ends (F.Input Role.Schema T.Long)
-schema_work job (Taken.Bytes b) verdict input = compiled_work job verdict input
+abbrev pub schema_work : Job → Taken → Option Verdict → Taking → Work
+schema_work job Taken.Absent verdict t = ends (F.Input Role.Schema T.Absent)
+schema_work job Taken.Long verdict t = ends (F.Input Role.Schema T.Long)
+schema_work job (Taken.Bytes b) verdict t = compiled_work job verdict t
 
 abbrev pub job_work : Job → Taking → Work
-job_work job t = schema_work job (t.input Role.Schema) t.verdict t.input
+job_work job t = schema_work job (t.input Role.Schema) t.verdict t
 
--- the first of the words, the schema and the script decides
+-- the first of the words, the schema and what comes behind it decides
 abbrev pub work_of : Option Job → Taking → Work
 work_of None t = ends F.Words
 work_of (Some job) t = job_work job t
@@ -98,6 +119,7 @@ IsUnder supply taken (Some name) = MayBe supply.files name taken
 pub record IsTaking (job : Job) (supply : Supply) (t : Taking) : Type 0 where
   pub input : (role : Role) → IsUnder supply (t.input role) (name_of role job)
   pub verdict : IsVerdict (t.input Role.Schema) t.verdict
+  pub next : IsVerdict (t.input Role.Next) t.next
 
 abbrev pub AreTaken : Option Job → Supply → Taking → Type 0
 AreTaken None supply t = Unit {0}
@@ -112,15 +134,29 @@ pub record IsTypeOpen (ty : List ℕ) (t : Taking) : Type 0 where
   pub number : ℕ
   pub named : number_named ty rows ≡ Some number
 
--- a job leads up to taking an input: each to its schema, and where the type of its value is there, a run to the script, and that of a
+-- the schema is accepted
+pub record IsTableOpen (t : Taking) : Type 0 where
+  pub bytes : List ℕ
+  pub rows : List Row
+  pub schema : t.input Role.Schema ≡ Taken.Bytes bytes
+  pub verdict : t.verdict ≡ Some (table rows)
+
+-- a job leads up to taking an input: each to its schema, and where that is accepted, a comparison to the later schema; where the type of its value is there, a run to the script, and that of a
 -- new value to the value
 abbrev pub Takes : Role → Job → Taking → Type 0
 Takes Role.Schema job t = Unit {0}
+Takes Role.Next (checks schema) t = ⊥
+Takes Role.Next (compares schema next ty) t = IsTableOpen t
+Takes Role.Next (runs schema ty start script) t = ⊥
+Takes Role.Next (creates schema ty value) t = ⊥
+Takes Role.Next (shows schema ty id) t = ⊥
 Takes Role.Script (checks schema) t = ⊥
+Takes Role.Script (compares schema next ty) t = ⊥
 Takes Role.Script (runs schema ty start script) t = IsTypeOpen ty t
 Takes Role.Script (creates schema ty value) t = ⊥
 Takes Role.Script (shows schema ty id) t = ⊥
 Takes Role.Value (checks schema) t = ⊥
+Takes Role.Value (compares schema next ty) t = ⊥
 Takes Role.Value (runs schema ty start script) t = ⊥
 Takes Role.Value (creates schema ty value) t = IsTypeOpen ty t
 Takes Role.Value (shows schema ty id) t = ⊥

@@ -20,6 +20,7 @@ use std::alloc::{AllocError, Global};
 #[derive(Clone, Copy)]
 pub enum Role {
     Schema,
+    Next,
     Script,
     Value,
 }
@@ -52,6 +53,9 @@ fn input_text(role: Role, trouble: Trouble) -> &'static [u8]
         (Role::Schema, Trouble::Failed) => b"fault 5 input schema failed\n",
         (Role::Schema, Trouble::Absent) => b"fault 5 input schema absent\n",
         (Role::Schema, Trouble::Long) => b"fault 5 input schema long\n",
+        (Role::Next, Trouble::Failed) => b"fault 5 input next failed\n",
+        (Role::Next, Trouble::Absent) => b"fault 5 input next absent\n",
+        (Role::Next, Trouble::Long) => b"fault 5 input next long\n",
         (Role::Script, Trouble::Failed) => b"fault 5 input script failed\n",
         (Role::Script, Trouble::Absent) => b"fault 5 input script absent\n",
         (Role::Script, Trouble::Long) => b"fault 5 input script long\n",

@@ -1,4 +1,5 @@
-//! The top call: a schema is checked, a value of any of its types is created or shown, or a script is run on one.
+//! The top call: a schema is checked or compared with a later one, a value of any of its types is created or shown, or a script is run
+//! on one.
 #![tactic(auto)]
 
 mod fault;

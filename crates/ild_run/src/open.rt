@@ -1,8 +1,8 @@
 //! What comes before the work: the words, the inputs, and the schema.
 ghost use Rattle.std.specs.Prelude.{◌≡◌, ◌<◌, IfSome, Some, length, option_map};
 ghost use Rattle.ild_schema.specs.Names.{number_named};
-ghost use Rattle.ild_run.specs.Words.{job_of, name_of, typed_job, run_job, creates, runs, shows};
-ghost use Rattle.ild_run.specs.Opening.{job_seen, AsksFor, AsksRoot, AsksStart, CompileAnswer, TakesInput, Opens, OpensBehind};
+ghost use Rattle.ild_run.specs.Words.{job_of, name_of, pair_job, typed_job, run_job, compares, creates, runs, shows};
+ghost use Rattle.ild_run.specs.Opening.{job_seen, AsksFor, AsksRoot, AsksStart, CompileAnswer, TakesInput, Opens, OpensBehind, TypesAnswer};
 
 use crate::fault::{Fault, Role, Trouble};
 use ild_compile::{CompileErr, compile};
@@ -14,10 +14,11 @@ use ild_schema::{Accepted, TypeNo};
 use std::alloc::Global;
 
 /// What the words ask for, with the names of its inputs: the schema's; for a run its type, where it starts and its script; for a new
-/// value its type and its input, and to show one its type and its root.
+/// value its type and its input, and to show one its type and its root. To compare types: the two schemas', and the name of the type.
 #[derive(Clone, Copy)]
 pub enum Job<'w> {
     Check(&'w str),
+    Compat(&'w str, &'w str, &'w str),
     Run(&'w str, &'w str, Start, &'w str),
     New(&'w str, &'w str, &'w str),
     Show(&'w str, &'w str, BlockId),
@@ -30,6 +31,7 @@ impl Job<'_> {
     {
         match self {
             Job::Check(schema) => schema,
+            Job::Compat(schema, _, _) => schema,
             Job::Run(schema, _, _, _) => schema,
             Job::New(schema, _, _) => schema,
             Job::Show(schema, _, _) => schema,
@@ -105,18 +107,34 @@ fn typed_job<'w>(
     }
 }
 
+/// What four words ask for: that types of two schemas are compared, or what a new value or one that is shown does.
+fn pair_job<'w>(
+    alloc: Global,
+    verb: &str,
+    first: &'w str,
+    second: &'w str,
+    last: &'w str,
+) -> Result<Option<Job<'w>>, Fault>
+    ensures { AsksFor (pair_job verb.now first.now second.now last.now) result }
+{
+    if verb == "compat" {
+        return Ok(Some(Job::Compat(first, second, last)));
+    }
+    typed_job(alloc, verb, first, second, last)
+}
+
 /// What the words ask for, or `None` where they have no form.
 pub fn job_of(alloc: Global, words: &[String]) -> Result<Option<Job<'_>>, Fault>
     ensures { AsksFor (job_of words.now) result }
 {
     match words {
         [verb, schema] if verb.as_str() == "check" => Ok(Some(Job::Check(schema.as_str()))),
-        [verb, schema, ty, last] => {
-            typed_job(
+        [verb, first, second, last] => {
+            pair_job(
                 alloc,
                 verb.as_str(),
-                schema.as_str(),
-                ty.as_str(),
+                first.as_str(),
+                second.as_str(),
                 last.as_str(),
             )
         }
@@ -159,10 +177,11 @@ fn table_of(alloc: Global, bytes: &[u8]) -> Result<Accepted, Fault>
 }
 
 /// What is to be done, once the inputs are taken: the names that a schema declares are listed, a script is answered on a value of a type,
-/// or such a value is created or shown.
+/// or such a value is created or shown; or two types of two schemas are compared.
 #[derive(Drop)]
 pub enum Task {
     List(Accepted),
+    Compare(Accepted, TypeNo, Accepted, TypeNo),
     Answer(Accepted, TypeNo, Start, Octets),
     Create(Accepted, TypeNo, Octets),
     Show(Accepted, TypeNo, BlockId),
@@ -174,6 +193,34 @@ fn type_named(schema: &Accepted, name: &str) -> Option<TypeNo>
     ensures within { IfSome result (λ ty. ty.0 < length schema.now) }
 {
     schema.type_named(name)
+}
+
+/// That the types with a name are to be compared, if both are there.
+fn plan_types(schema: Accepted, next: Accepted, ty: &str) -> Result<Task, Fault>
+    ensures { TypesAnswer schema next ty.now result }
+{
+    let Some(number) = type_named(&schema, ty) else {
+        return Err(Fault::Words);
+    };
+    match type_named(&next, ty) {
+        Some(later) => Ok(Task::Compare(schema, number, next, later)),
+        None => Err(Fault::Words),
+    }
+}
+
+/// Takes and compiles the later schema, whose type is to be compared.
+fn plan_pair<I: Inputs>(
+    alloc: Global,
+    inputs: &mut I,
+    schema: Accepted,
+    next: &str,
+    ty: &str,
+) -> Result<Task, Fault>
+    ensures { OpensBehind (I.supply inputs.old) schema (λ name. compares name next.now ty.now) result (I.supply inputs.new) }
+{
+    let bytes = take_input(inputs, Role::Next, next)?;
+    let later = table_of(alloc, bytes.as_slice())?;
+    plan_types(schema, later, ty)
 }
 
 /// Takes the input of a value, if its type is there.
@@ -236,6 +283,7 @@ pub fn plan<I: Inputs>(alloc: Global, inputs: &mut I, job: &Job<'_>) -> Result<T
     let schema = table_of(alloc, bytes.as_slice())?;
     match job {
         Job::Check(_) => Ok(Task::List(schema)),
+        Job::Compat(_, next, ty) => plan_pair(alloc, inputs, schema, next, ty),
         Job::Run(_, ty, start, script) => plan_script(inputs, schema, ty, *start, script),
         Job::New(_, ty, value) => plan_value(inputs, schema, ty, value),
         Job::Show(_, ty, root) => plan_root(inputs, schema, ty, *root),

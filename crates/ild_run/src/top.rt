@@ -7,6 +7,7 @@ ghost use Rattle.ild_run.specs.Opening.{job_seen};
 ghost use Rattle.ild_run.specs.Fault.{cut_status};
 ghost use Rattle.ild_run.specs.Cut.{ToldAs};
 ghost use Rattle.ild_run.specs.Listed.{ListedAs};
+ghost use Rattle.ild_run.specs.Matched.{MatchedAs};
 ghost use Rattle.ild_run.specs.Made.{MadeAs, made_fault};
 ghost use Rattle.ild_run.specs.Answered.{AnsweredAs, start_fault};
 ghost use Rattle.ild_run.specs.Shown.{Replied, ShownAs};
@@ -19,6 +20,7 @@ use crate::open::{Job, Task, job_of, plan};
 use crate::status::Status;
 use ild_data::{BlockId, Sha256Keys, Txt};
 use ild_edges::{Inputs, Sink, Store};
+use ild_run_compare::{CompareFault, compare};
 use ild_run_create::{CreateFault, Refusal, create};
 use ild_run_open::{Start, StartFault};
 use ild_run_script::{ScriptFault, run_script};
@@ -58,6 +60,27 @@ fn list<W: Sink>(alloc: Global, names: &[Txt], out: &mut W) -> Status
     match write_reply(alloc, &Reply::Ok(json), out) {
         Ok(()) => Status::Done,
         Err(cut) => cut_status(cut),
+    }
+}
+
+/// Compares a type of a schema with one of a later schema, writes the line of the answer, and answers how it ended.
+fn match_types<W: Sink>(
+    alloc: Global,
+    schema: &Accepted,
+    ty: TypeNo,
+    next: &Accepted,
+    later: TypeNo,
+    out: &mut W,
+) -> Status
+    requires within { ty.0 < length schema.now }
+    requires later { later.0 < length next.now }
+    ensures { MatchedAs schema.now next.now ty later (W.output out.old) result (W.output out.new) }
+{
+    match compare(alloc, schema, ty, next, later, out) {
+        Ok(true) => Status::Done,
+        Ok(false) => Status::Refused,
+        Err(CompareFault::Memory) => tell(alloc, Fault::Memory, out),
+        Err(CompareFault::Cut(cut)) => cut_status(cut),
     }
 }
 
@@ -185,6 +208,9 @@ fn carry_job<I: Inputs, K: Store, W: Sink>(
     };
     match &task {
         Task::List(schema) => list(alloc, schema.names(), out),
+        Task::Compare(schema, ty, next, later) => {
+            match_types(alloc, schema, *ty, next, *later, out)
+        }
         Task::Answer(schema, ty, start, script) => {
             answer(alloc, schema, *ty, *start, script.as_slice(), store, out)
         }
@@ -222,7 +248,9 @@ fn carry_out<I: Inputs, K: Store, W: Sink>(
 /// or from the empty map or list, whose block is put first. A root that is printed is the id of the block built from scratch from the
 /// value at that line. A line that is refused changes nothing, and its cause is there. Under `new` the value of a type that an input means as DAG-JSON is built and put, and its root is printed;
 /// or the first cause is told for which no store holds such a value. Under `show` the value of a type that stands under a root is read
-/// and written as DAG-JSON; or a block is told that isn't held, or isn't what has to stand there, where no such value does.
+/// and written as DAG-JSON; or a block is told that isn't held, or isn't what has to stand there, where no such value does. Under `compat`
+/// the types with one name of two schemas are compared: `ok true` tells that all that stands as a value of the first stands as one of the
+/// other, in the same blocks and with the same shown form; or a pair of their types is told, and a rule that fails for it.
 pub fn run<I: Inputs, K: Store, W: Sink>(
     alloc: Global,
     words: &[String],

@@ -29,6 +29,13 @@ returns-in-Check g c =
     let compiled = rw c.as_slice.ensures.same at c.in_ok-schema.ensures in
     rw c.in-Check.is (opens_checked m (g.I.Inputs.supply c.take_input.new.inputs) c.in-Check.field-0.now c.in_ok-bytes.bytes c.in_ok-schema.schema taken compiled c.in_ok-bytes.ensures.after)
 
+pub returns-in-Compat : goal.returns-in-Compat
+returns-in-Compat g c =
+    let m = g.I.Inputs.supply c.args.inputs.now in
+    let taken = by_name m c.in-Compat.field-0.now c.schema.result.now c.in_ok-bytes.bytes (rw c.in-Compat.is at c.schema.ensures) c.in_ok-bytes.ensures.answer in
+    let compiled = rw c.as_slice.ensures.same at c.in_ok-schema.ensures in
+    rw c.in-Compat.is (c.plan_pair.ensures m c.in-Compat.field-0.now c.in_ok-bytes.bytes taken compiled c.in_ok-bytes.ensures.after)
+
 pub returns-in-Run : goal.returns-in-Run
 returns-in-Run g c =
     let m = g.I.Inputs.supply c.args.inputs.now in

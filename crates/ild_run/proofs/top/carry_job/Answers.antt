@@ -2,6 +2,7 @@ use Rattle.std.proofs.Common.{Some, refl}
 use Rattle.ild_run.specs.Opening.{job_seen}
 use Rattle.ild_run.specs.Ended.{Call, call_of}
 use Rattle.ild_run.proofs.Endings.{ended_inputs, ended_listed, ended_made, ended_shown, ended_answered}
+use Rattle.ild_run.proofs.Matchings.{ended_matched}
 use Rattle.ild_run.proofs.top.carry_job.Goals as goal
 
 pub returns-in-Err-clause-ended : goal.returns-in-Err-clause-ended
@@ -25,6 +26,13 @@ returns-in-List-clause-ended g c =
     let work = rw c.in-List.is at opens.answer in
     let listed = rw c.names.ensures at c.list.ensures in
     ended_listed call (job_seen c.args.job.now) opens.taking _ c.list.result refl opens.taken work refl listed
+
+pub returns-in-Compare-clause-ended : goal.returns-in-Compare-clause-ended
+returns-in-Compare-clause-ended g c =
+    let call : Call = call_of (Some (job_seen c.args.job.now)) (g.I.Inputs.supply c.args.inputs.now) (g.K.Store.moment c.args.store.now) (g.W.Sink.output c.args.out.now) (g.I.Inputs.supply c.plan.new.inputs) (g.K.Store.moment c.args.store.now) (g.W.Sink.output c.match_types.new.out) in
+    let opens = c.in-Ok.ensures in
+    let work = rw c.in-Compare.is at opens.answer in
+    ended_matched call (job_seen c.args.job.now) opens.taking _ _ _ _ c.match_types.result refl opens.taken work refl c.match_types.ensures
 
 pub returns-in-Create-clause-ended : goal.returns-in-Create-clause-ended
 returns-in-Create-clause-ended g c =
