@@ -1,4 +1,4 @@
-use Rattle.std.proofs.Common.{◌≡◌, rules}
+use Rattle.std.proofs.Common.{rules}
 use Rattle.ild_data.specs.Spell.{id_of}
 use Rattle.ild_run_document.proofs.Answering.{line_answers}
 use Rattle.ild_run_document.proofs.lines.obey.Goals as goal
