@@ -241,7 +241,7 @@ const NONE: Fails<'static> = Fails {
     writes: &[],
 };
 
-/// How a run run_ended.
+/// How a run ended.
 #[derive(Drop)]
 struct Ended {
     status: u8,
@@ -260,7 +260,7 @@ fn text_of(alloc: Global, lines: &[&str]) -> Result<String, AllocError> {
 }
 
 /// A run of the script over a store that holds the club.
-fn run_ended(alloc: Global, session: &Session, fails: Fails<'_>) -> Result<Ended, AllocError> {
+fn end_of(alloc: Global, session: &Session, fails: Fails<'_>) -> Result<Ended, AllocError> {
     let words = owned(alloc, &["run", "s", "Club", session.root, "x"])?;
     let mut inputs = MemInputs::new(alloc, fails.takes)?;
     inputs.add("s", CLUB.as_bytes())?;
@@ -305,18 +305,18 @@ fn is_shown(alloc: Global, root: &str, store: &mut MemStore) -> Result<bool, All
 /// Whether a run wrote these replies and has this status, and the value under each root among them is held.
 fn is_so(
     alloc: Global,
-    run_ended: &mut Ended,
+    ended: &mut Ended,
     replies: &[&str],
     status: u8,
 ) -> Result<bool, AllocError> {
     let mut held = true;
     for reply in replies {
         if let Some(root) = reply.strip_prefix("root ") {
-            held &= is_shown(alloc, root, &mut run_ended.store)?;
+            held &= is_shown(alloc, root, &mut ended.store)?;
         }
     }
     let text = text_of(alloc, replies)?;
-    Ok(held && run_ended.out.bytes() == text.as_bytes() && run_ended.status == status)
+    Ok(held && ended.out.bytes() == text.as_bytes() && ended.status == status)
 }
 
 /// Whether a run has the replies of a row.
@@ -324,10 +324,10 @@ fn is_row(
     alloc: Global,
     session: &Session,
     others: Others,
-    run_ended: &mut Ended,
+    ended: &mut Ended,
 ) -> Result<bool, AllocError> {
     let replies = replies(alloc, session, others, session.replies.len())?;
-    is_so(alloc, run_ended, &replies, 1)
+    is_so(alloc, ended, &replies, 1)
 }
 
 /// The calls of which one fails.
@@ -355,7 +355,7 @@ fn ended_by(
             ..NONE
         },
     };
-    run_ended(alloc, session, fails)
+    end_of(alloc, session, fails)
 }
 
 /// More calls than any run here has.
@@ -370,8 +370,8 @@ fn calls_of_row(
     others: Others,
 ) -> Result<u64, AllocError> {
     for times in 0..MANY {
-        let mut run_ended = ended_by(alloc, session, call, first.saturating_add(times))?;
-        if !is_row(alloc, session, others, &mut run_ended)? {
+        let mut ended = ended_by(alloc, session, call, first.saturating_add(times))?;
+        if !is_row(alloc, session, others, &mut ended)? {
             return Ok(times);
         }
     }
@@ -390,9 +390,9 @@ fn in_turn(
     status: u8,
 ) -> Result<(), Fail> {
     for before in 0..opening {
-        let mut run_ended = ended_by(alloc, session, call, before.saturating_add(1))?;
+        let mut ended = ended_by(alloc, session, call, before.saturating_add(1))?;
         assert!(rt;
-            is_so(alloc, &mut run_ended, &["fault 6 store"], 6)?,
+            is_so(alloc, &mut ended, &["fault 6 store"], 6)?,
             "{before}"
         );
     }
@@ -402,10 +402,10 @@ fn in_turn(
         assert!(rt; times > 0, "call {number} {others:?}");
         number = number.saturating_add(times);
     }
-    let run_ended = ended_by(alloc, session, call, number)?;
-    assert_eq!(rt; run_ended.status, status);
+    let ended = ended_by(alloc, session, call, number)?;
+    assert_eq!(rt; ended.status, status);
     assert_eq!(rt;
-        run_ended.out.bytes(),
+        ended.out.bytes(),
         text_of(alloc, session.replies)?.as_bytes()
     );
     Ok(())
@@ -422,8 +422,8 @@ fn each_take_fails(rt: HostRuntime) -> Result<(), Fail> {
             takes: &takes,
             ..NONE
         };
-        let mut run_ended = run_ended(rt.alloc(), &KITE, fails)?;
-        assert!(rt; is_so(rt.alloc(), &mut run_ended, &[text], 5)?, "{text}");
+        let mut ended = end_of(rt.alloc(), &KITE, fails)?;
+        assert!(rt; is_so(rt.alloc(), &mut ended, &[text], 5)?, "{text}");
     }
     Ok(())
 }
@@ -446,9 +446,9 @@ fn each_write_fails(rt: HostRuntime) -> Result<(), Fail> {
             writes: &writes,
             ..NONE
         };
-        let mut run_ended = run_ended(rt.alloc(), &KITE, fails)?;
+        let mut ended = end_of(rt.alloc(), &KITE, fails)?;
         let front = replies(rt.alloc(), &KITE, &[], before)?;
-        assert!(rt; is_so(rt.alloc(), &mut run_ended, &front, 7)?, "{before}");
+        assert!(rt; is_so(rt.alloc(), &mut ended, &front, 7)?, "{before}");
     }
     Ok(())
 }
