@@ -1,9 +1,8 @@
 """Rows for the tests of edits at paths, by the plain program of the conformance cases, which builds each value from scratch.
 
     python3 tests/paths/rows.py overlaps      the rows of crates/ild_path_edit_tests/src/overlaps.rt
-    python3 tests/paths/rows.py worked        those of crates/ild_path_tests/src/worked.rt
-    python3 tests/paths/rows.py forest        those of crates/ild_path_tests/src/forest.rt
-    python3 tests/paths/rows.py linked        the blocks of crates/ild_path_tests/src/linked.rt
+    python3 tests/paths/rows.py worked        rows of edits at places; with forest, through HAMTs in one another; with linked,
+                                              the blocks of such values: for tests that are still to come
     python3 tests/paths/rows.py club          what crates/ild_run_tests/src/club.rt tells of each failing call
 """
 import json
