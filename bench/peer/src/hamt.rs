@@ -89,67 +89,22 @@ fn spell(node: &Node<'_>) -> Vec<u8> {
 }
 
 /// A node in the node above: its id, or the entries that a bucket takes; or the root.
-pub enum Lifted {
+enum Lifted {
     Root(Vec<u8>),
     Child(Id),
     Few(Vec<(Vec<u8>, Vec<u8>)>),
 }
 
-pub struct Hamt {
-    pub blocks: HashMap<Id, Vec<u8>>,
+struct Hamt {
+    blocks: HashMap<Id, Vec<u8>>,
 }
 
-pub fn hash(key: &[u8]) -> Id {
+fn hash(key: &[u8]) -> Id {
     Sha256::digest(key).into()
 }
 
-/// The slot of an index in the block of a node, without those before it.
-fn slot_at(block: &[u8], index: u8) -> Option<Slot<'_>> {
-    let map = &block[3..35];
-    let index = index as usize;
-    if map[index / 8] >> (index % 8) & 1 == 0 {
-        return None;
-    }
-    let before: u32 = map[..index / 8].iter().map(|byte| byte.count_ones()).sum::<u32>() + (map[index / 8] & ((1 << (index % 8)) - 1)).count_ones();
-    let mut p = 35;
-    head(block, &mut p).ok()?;
-    for _ in 0..before {
-        skip(block, &mut p);
-    }
-    parse_slot(block, &mut p)
-}
-
 impl Hamt {
-    /// The spelled value at a key. The nodes beneath the root are checked, as they come from where blocks are kept.
-    pub fn found(&self, block: &[u8], key: &[u8], hashed: &Id, depth: usize) -> Option<Vec<u8>> {
-        match slot_at(block, hashed[depth])? {
-            Slot::Bucket(entries) => entries.iter().find(|(k, _)| *k == key).map(|(_, value)| value.to_vec()),
-            Slot::Child(id) => {
-                let below = &self.blocks[&id];
-                check(below).ok()?;
-                self.found(below, key, hashed, depth + 1)
-            }
-        }
-    }
-
-    /// How many entries are beneath a node, each of which stands where its hash says.
-    pub fn walked(&self, block: &[u8], depth: usize) -> Option<usize> {
-        let mut count = 0;
-        for (index, slot) in parse(block)? {
-            match slot {
-                Slot::Bucket(entries) => {
-                    if entries.iter().any(|(key, _)| hash(key)[depth] != index) {
-                        return None;
-                    }
-                    count += entries.len();
-                }
-                Slot::Child(id) => count += self.walked(self.blocks.get(&id)?, depth + 1)?,
-            }
-        }
-        Some(count)
-    }
-
-    pub fn put(&mut self, block: Vec<u8>) -> Id {
+    fn put(&mut self, block: Vec<u8>) -> Id {
         let id = hash(&block);
         self.blocks.entry(id).or_insert(block);
         id
@@ -190,7 +145,7 @@ impl Hamt {
     }
 
     /// The node of a block with the key set or removed, or `None` where a key to remove isn't there.
-    pub fn edited(&mut self, block: &[u8], key: &[u8], hashed: &Id, value: Option<&[u8]>, depth: usize) -> Option<Lifted> {
+    fn edited(&mut self, block: &[u8], key: &[u8], hashed: &Id, value: Option<&[u8]>, depth: usize) -> Option<Lifted> {
         let mut node = parse(block).expect("a node");
         let index = hashed[depth];
         let few;

@@ -7,16 +7,10 @@ mod hamt;
 mod json;
 mod map;
 mod schema;
-mod session;
 mod typed;
 
 use sha2::{Digest, Sha256};
 use std::hint::black_box;
-
-/// A sum that depends on each byte and its place.
-fn sum_of(bytes: &[u8]) -> u64 {
-    bytes.iter().fold(0, |sum, byte| sum.wrapping_mul(31).wrapping_add(*byte as u64))
-}
 
 fn main() {
     let words: Vec<String> = std::env::args().skip(1).collect();
@@ -113,18 +107,7 @@ fn main() {
         }
         "script" => {
             for _ in 0..times {
-                sum = sum.wrapping_add(sum_of(map::answer(black_box(&bytes)).as_bytes()));
-            }
-        }
-        "script-sets" => {
-            for _ in 0..times {
-                sum = sum.wrapping_add(sum_of(map::answer_passing(black_box(&bytes)).as_bytes()));
-            }
-        }
-        "script-hamt" => {
-            let (mut session, script) = session::begun(&bytes);
-            for _ in 0..times {
-                sum = sum.wrapping_add(sum_of(session.answer(black_box(script)).as_bytes()));
+                sum += map::answer(black_box(&bytes)).len() as u64;
             }
         }
         "new" => {

@@ -5,9 +5,8 @@ use sha2::{Digest, Sha256};
 use std::collections::HashMap;
 use std::path::PathBuf;
 
-/// Where blocks are kept: nowhere, in memory, or a file each in a folder.
+/// Where blocks are kept: in memory, or a file each in a folder.
 enum Store {
-    Nothing,
     Memory(HashMap<[u8; 32], Vec<u8>>),
     Folder(PathBuf),
 }
@@ -15,7 +14,6 @@ enum Store {
 impl Store {
     fn put(&mut self, id: [u8; 32], block: Vec<u8>) {
         match self {
-            Store::Nothing => {}
             Store::Memory(blocks) => {
                 blocks.insert(id, block);
             }
@@ -103,11 +101,6 @@ fn answer_over(store: Store, script: &[u8]) -> String {
 /// The replies to a script over a store in memory.
 pub fn answer(script: &[u8]) -> String {
     answer_over(Store::Memory(HashMap::new()), script)
-}
-
-/// The replies to a script, with blocks that are hashed and not kept.
-pub fn answer_passing(script: &[u8]) -> String {
-    answer_over(Store::Nothing, script)
 }
 
 /// The replies to a script over the folder `blocks`.

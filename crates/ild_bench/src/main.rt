@@ -3,12 +3,9 @@
 
 mod blocks;
 mod bulk;
-mod edits;
 mod given;
 mod hamt;
 mod layers;
-mod passing;
-mod scripts;
 mod trees;
 mod values;
 mod walks;
@@ -50,11 +47,7 @@ fn main(rt: HostRuntime) -> io::Result<ExitCode> {
         "hamt" => hamt::edit_all(alloc, &bytes, times),
         "bulk" => bulk::plan_all(alloc, &bytes, times),
         "bulk-hashes" => bulk::hash_all(alloc, &bytes, times),
-        "edit" => edits::edit_all(alloc, &bytes, times),
-        "edit-copies" => edits::copy_all(alloc, &bytes, times),
-        "script" => scripts::answer_map(alloc, &bytes, times),
-        "script-sets" => scripts::answer_map_passing(alloc, &bytes, times),
-        "script-hamt" => scripts::answer_hamt(alloc, &bytes, times),
+        "script" => whole::answer_all_of(alloc, &bytes, times),
         _ => None,
     };
     match sum {
