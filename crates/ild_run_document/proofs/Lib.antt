@@ -1,3 +1,4 @@
-pub mod Reading
-pub mod Answering
-pub mod Sessions
+mod Settings
+mod Turning
+mod Batched
+mod Sessions

@@ -2,7 +2,9 @@
 //! the plain value (IPLD Schemas, "typed nodes"; IPLD HashMap).
 #![tactic(auto)]
 
+mod begun;
 mod document;
+mod inside;
 mod lines;
 mod session;
 

@@ -12,7 +12,7 @@ impl<'s> Session for Document<'s> {
     ghost use Rattle.ild_schema.specs.declared.number.TypeNo.{TypeNo};
     ghost use Rattle.ild_schema.specs.declared.row.Row.{Row};
     ghost use Rattle.ild_view_doc.specs.Docs.{table_in, type_in};
-    ghost use Rattle.ild_run_document.specs.Document.{doc_in};
+    ghost use Rattle.ild_run_document.specs.Document.{begun_in, doc_in, own_in};
     ghost use Rattle.ild_run_standing.specs.Standing.{IsAtState, StandsAt};
 
     ghost Value = { TypedValue };
@@ -21,11 +21,18 @@ impl<'s> Session for Document<'s> {
 
     ghost subject = { λ d. (table_in (doc_in d), type_in (doc_in d)) };
 
-    ghost stands = { λ d m M s. StandsAt (doc_in d) m M s };
+    ghost stands = { λ d m M s. StandsAt (doc_in d) (begun_in d) (own_in d) m M s };
 
-    ghost is_at = { λ d M s. IsAtState (doc_in d) M s };
+    ghost is_at = { λ d M s. IsAtState (doc_in d) (begun_in d) M s };
 
     fn answer<K: Store>(&mut self, alloc: Global, line: &[u8], store: &mut K) -> Option<Reply> {
-        answer_line(alloc, &mut self.doc, line, store)
+        answer_line(
+            alloc,
+            &mut self.doc,
+            &mut self.begun,
+            &mut self.own,
+            line,
+            store,
+        )
     }
 }

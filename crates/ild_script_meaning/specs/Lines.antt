@@ -231,20 +231,3 @@ line_due w s line = due w (asked (reads line)) s
 -- the meaning of every line
 abbrev pub typed_lines : Setting → Meaning Value
 typed_lines w = record { due = λ held s line. line_due w s line; blocks = value_blocks w; places = places_in w }
-
--- ---- lines where there are no batches
-
--- the words of batches are outside the grammar
-abbrev pub unbatched : Ask → Ask
-unbatched nothing = nothing
-unbatched (to_tell t path) = to_tell t path
-unbatched (to_edit e) = to_edit e
-unbatched to_tell_root = to_tell_root
-unbatched to_begin = unknown
-unbatched to_commit = unknown
-unbatched to_abort = unknown
-unbatched unknown = unknown
-
--- every line means the same but those words
-abbrev pub without_batches : Setting → Meaning Value
-without_batches w = record { due = λ held s line. due w (unbatched (asked (reads line))) s; blocks = value_blocks w; places = places_in w }

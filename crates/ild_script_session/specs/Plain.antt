@@ -26,3 +26,13 @@ MayPut due s (l ∷ ls) b = Contains (due s l).adds b ⊎ (MayPut due (due s l).
 -- no block of these collides with one that is held
 abbrev pub AreApart : Moment → (List ℕ → Type 0) → Type 0
 AreApart n New = (kept new : List ℕ) → New new → Holds n (kept ∷ []) → Collide kept new → ⊥
+
+-- lines of which one may begin a batch, where each line before it is answered or memory is wanting for it
+abbrev pub MayBegin : {V : Type 0} → (State V → List ℕ → Due V) → State V → List (List ℕ) → Type 0
+MayBegin due s [] = ⊥
+MayBegin due s (l ∷ ls) = IsSome (due s l).next.begun ⊎ (MayBegin due (due s l).next ls ⊎ MayBegin due s ls)
+
+-- No block of these collides with one that is held; and where batches may be begun, which hold blocks that the store does not, no two of these collide.
+pub record AreAllApart (n : Moment) (Begins : Type 0) (New : List ℕ → Type 0) : Type 0 where
+  pub held : AreApart n New
+  pub inside : Begins → (a b : List ℕ) → New a → New b → Collide a b → ⊥
