@@ -112,14 +112,16 @@ backed_then : {V : Type 0} (Begins : Type 0) (New : List ℕ → Type 0) (m : Mo
 backed_then Begins New m s due k u later begun may backed None is stays = backed_out Begins New k u is
 backed_then Begins New m s due k u later begun may backed (Some v) is stays =
     λ b held. by_coming b (came_before b due.adds (together m s).blocks (together k u).blocks stays.gained.adds held) where
-  begins : Begins
-  begins = begun (ap is_some is)
-  by_backing : (b : List ℕ) → Holds m (b ∷ []) ⊎ (Begins × New b) → Holds k (b ∷ []) ⊎ (Begins × New b)
-  by_backing b (inl there) = inl (holds_all_later m k (b ∷ []) later there)
-  by_backing b (inr new) = inr new
-  by_coming : (b : List ℕ) → Holds (together m s) (b ∷ []) ⊎ Contains due.adds b → Holds k (b ∷ []) ⊎ (Begins × New b)
-  by_coming b (inl there) = by_backing b (backed b there)
-  by_coming b (inr new) = inr (begins, may b new)
+      begins : Begins
+      begins = begun (ap is_some is)
+
+      by_backing : (b : List ℕ) → Holds m (b ∷ []) ⊎ (Begins × New b) → Holds k (b ∷ []) ⊎ (Begins × New b)
+      by_backing b (inl there) = inl (holds_all_later m k (b ∷ []) later there)
+      by_backing b (inr new) = inr new
+
+      by_coming : (b : List ℕ) → Holds (together m s) (b ∷ []) ⊎ Contains due.adds b → Holds k (b ∷ []) ⊎ (Begins × New b)
+      by_coming b (inl there) = by_backing b (backed b there)
+      by_coming b (inr new) = inr (begins, may b new)
 
 -- a batch is begun by a line, or was before
 begun_then : {V : Type 0} (s u next : State V) (Begins P Q : Type 0) → (IsSome next.begun → Begins) → (IsSome s.begun → Begins) → (P × (u ≡ next)) ⊎ (Q × (u ≡ s)) → IsSome u.begun → Begins
@@ -182,11 +184,11 @@ module _ {V : Type 0} (M : Meaning V) where
         let apart_both : Collides (together k u) (due s.state l).adds → ⊥ = no_clash Begins New k u n rest apart (due s.state l).adds (λ b among. may b (inl among)) backed_rest in
         by_answer m s.state l ls run.0 u.state k (together k u) run.3 rs n t.state run.5 told calm_here (beside_faults u.state.begun u.own k) apart_here apart_both speaks answered
         (λ (is : u.state ≡ (due s.state l).next).
-            plain_run k u ls run.3 n t Begins New apart (λ b. begins (inr (inl (subst (λ (x : State V). MayBegin due x ls) is b)))) (λ b p. may b (inr (inl (subst (λ (x : State V). MayPut due x ls b) is p)))) begun_rest backed_rest
-            run.6 (step.carries at) told_rest calm_rest)
+        plain_run k u ls run.3 n t Begins New apart (λ b. begins (inr (inl (subst (λ (x : State V). MayBegin due x ls) is b)))) (λ b p. may b (inr (inl (subst (λ (x : State V). MayPut due x ls b) is p)))) begun_rest backed_rest
+        run.6 (step.carries at) told_rest calm_rest)
         (λ (is : u.state ≡ s.state).
-            plain_run k u ls run.3 n t Begins New apart (λ b. begins (inr (inr (subst (λ (x : State V). MayBegin due x ls) is b)))) (λ b p. may b (inr (inr (subst (λ (x : State V). MayPut due x ls b) is p)))) begun_rest backed_rest
-            run.6 (step.carries at) told_rest calm_rest)
+        plain_run k u ls run.3 n t Begins New apart (λ b. begins (inr (inr (subst (λ (x : State V). MayBegin due x ls) is b)))) (λ b p. may b (inr (inr (subst (λ (x : State V). MayPut due x ls b) is p)))) begun_rest backed_rest
+        run.6 (step.carries at) told_rest calm_rest)
       where
         by_answer : (m : Moment) (s : State V) (l : List ℕ) (ls : List (List ℕ)) (r : Option Reply) (u : State V) (k both : Moment) (more rs : List Reply) (n : Moment) (t : State V) → rs ≡ cons_option r more
             → m.blocks ≢ None → (Rose m.faults k.faults → ⊥) → both.faults ≡ k.faults → (Collides k (due s l).adds → ⊥) → (Collides both (due s l).adds → ⊥) → ((due s l).reply ≡ None → r ≡ None)
