@@ -16,7 +16,7 @@ use Rattle.ild_run_open.specs.declared.start.Start.TheVariants as B
 use Rattle.ild_run_open.specs.declared.start.StartFault.TheVariants as P
 use Rattle.ild_run_script.proofs.Plainness.{plain_lines}
 use Rattle.ild_run_script.proofs.Scripting.{asks_later}
-use Rattle.ild_run_script.specs.Plainly.{MayCome, StartsAt}
+use Rattle.ild_run_script.specs.Plainly.{MayBatch, MayCome, StartsAt}
 use Rattle.ild_run_script.specs.Scripts.{lines_on, AnswersAll as ScriptAll}
 use Rattle.ild_schema.specs.Names.{number_named}
 use Rattle.ild_schema.specs.Table.{IsTable}
@@ -25,7 +25,7 @@ use Rattle.ild_schema.specs.declared.number.TypeNo.{TypeNo}
 use Rattle.ild_schema.specs.declared.row.Row.{Row}
 use Rattle.ild_script.specs.Line.{lines_of}
 use Rattle.ild_script_session.proofs.Steps.{told_later}
-use Rattle.ild_script_session.specs.Plain.{AreApart}
+use Rattle.ild_script_session.specs.Plain.{AreApart, AreAllApart}
 use Rattle.ild_script_session.specs.Run.{Run}
 use Rattle.ild_script_session.specs.Session.{resting}
 use Rattle.ild_script_session.specs.Step.{Carries}
@@ -175,7 +175,7 @@ module _ (c : Call) (tests : Tests) (v : Typed) (script : List ℕ) (given : IsG
     no_fault F.Store due = absurd (calm.store due.0)
     no_fault (F.Clash id) (inl due) =
         let it = said (λ rows n start b. Stops hash rows n start c.before.moment (P.Clash id) c.after.moment) (work_of c.job t) given.rows due.rows given.type due.type given.start due.start script due.bytes here due.work due.stops in
-        absurd (start_apart given.rows given.type tests given.start v script id c.before.moment c.after.moment it calm.apart)
+        absurd (start_apart given.rows given.type tests given.start v script id c.before.moment c.after.moment it calm.apart.held)
     no_fault (F.Clash id) (inr clash) = absurd (makes_not clash.rows clash.type clash.bytes clash.work)
     no_fault (F.Value r) (inl due) =
         let x = due.1 in
@@ -203,7 +203,8 @@ module _ (c : Call) (tests : Tests) (v : Typed) (script : List ℕ) (given : IsG
         record {
           replies = all.replies;
           last = from.last.state;
-          run = plain_lines given.rows given.type tests opened v (lines_of script) all.replies c.after.moment from.last run carried told calm_run (λ kept new may. calm.apart kept new (inr may));
+          run = plain_lines given.rows given.type tests opened v (lines_of script) all.replies c.after.moment from.last run carried told calm_run
+              (record { held = λ kept new may. calm.apart.held kept new (inr may); inside = λ begins a b may_a may_b. calm.apart.inside begins a b (inr may_a) (inr may_b) });
           written = all.written;
           status_is = is ∙ ap (λ b. cond b S.Refused S.Done) all.refused_is;
         }

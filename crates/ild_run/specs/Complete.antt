@@ -14,7 +14,7 @@ use Rattle.ild_edges.specs.Told.{IfTold}
 use Rattle.ild_edges.specs.declared.inputs.Taken.TheVariants as Taken
 use Rattle.ild_path_edits.specs.Judged.{Tests, AreTests}
 use Rattle.ild_run_open.specs.declared.start.Start.{Start}
-use Rattle.ild_run_script.specs.Plainly.{MayCome, StartsAt, plain_due}
+use Rattle.ild_run_script.specs.Plainly.{MayBatch, MayCome, StartsAt, plain_due}
 use Rattle.ild_json.specs.Printing.{json_text}
 use Rattle.ild_schema.specs.Slots.{plainly}
 use Rattle.ild_typed.specs.Shown.{shown}
@@ -28,7 +28,7 @@ use Rattle.ild_script.specs.Line.{lines_of}
 use Rattle.ild_script.specs.Reply.{is_no, reply_text}
 use Rattle.ild_script_session.specs.Session.{State, idle}
 use Rattle.ild_script_session.specs.Run.{texts}
-use Rattle.ild_script_session.specs.Plain.{PlainRun, AreApart}
+use Rattle.ild_script_session.specs.Plain.{PlainRun, AreApart, AreAllApart}
 use Rattle.ild_typed.specs.Stands.{bare, root_id, blocks_of as typed_blocks, Stands}
 use Rattle.ild_compat.specs.declared.rule.Differ.{Differ}
 use Rattle.ild_run_compare.specs.Compared.{IsTold}
@@ -61,12 +61,12 @@ pub record IsGiven (c : Call) (tests : Tests) (v : Typed) (script : List ℕ) : 
   pub store : c.before.moment.blocks ≡ Some held
   pub starts : StartsAt rows type start held v
 
--- no count of faults rose, and no block that may come collides with one that the store holds
+-- no count of faults rose, and no block that may come collides with one that the store holds, or, where a batch may be begun, with another of them
 pub record IsUndisturbed (c : Call) (rows : List Row) (n : TypeNo) (tests : Tests) (start : Start) (v : Typed) (script : List ℕ) : Type 0 where
   pub inputs : Rose c.before.supply.faults c.after.supply.faults → ⊥
   pub store : Rose c.before.moment.faults c.after.moment.faults → ⊥
   pub sink : Rose c.before.output.faults c.after.output.faults → ⊥
-  pub apart : AreApart c.after.moment (MayCome rows n tests start v script)
+  pub apart : AreAllApart c.after.moment (MayBatch rows n tests v script) (MayCome rows n tests start v script)
 
 -- every line of the script was answered as on the plain value, or `no 14 memory`, and all replies were written
 pub record AnswersPlainly (c : Call) (rows : List Row) (n : TypeNo) (tests : Tests) (v : Typed) (script : List ℕ) (status : Status) : Type 0 where
@@ -201,4 +201,4 @@ abbrev pub CanBeApart : Type 0
 CanBeApart = (rows : List Row) (ty : TypeNo) (tests : Tests) (start : Start) (v : Typed) (script : List ℕ) (own : List (List ℕ)) (n : Moment) (held : List (List ℕ)) → n.blocks ≡ Some held
     → ((id b : List ℕ) → block_at held id ≡ Some b → Contains own b) → ((b : List ℕ) → MayCome rows ty tests start v script b → Contains own b)
     → ((a b : List ℕ) → Contains own a → Contains own b → id_of a ≡ id_of b → a ≡ b)
-    → AreApart n (MayCome rows ty tests start v script)
+    → AreAllApart n (MayBatch rows ty tests v script) (MayCome rows ty tests start v script)

@@ -18,13 +18,14 @@ pub struct Document<'s> {
 }
 
 impl<'s> Document<'s> {
-    ghost use Rattle.std.specs.Prelude.{◌≡◌, None};
-    ghost use Rattle.ild_run_document.specs.Document.{begun_in, doc_in};
+    ghost use Rattle.std.specs.Prelude.{◌≡◌, [], None};
+    ghost use Rattle.ild_run_document.specs.Document.{begun_in, doc_in, own_in};
 
     /// A session over a document, outside any batch.
     pub fn of(alloc: Global, doc: Doc<'s>) -> Document<'s>
         ensures doc { doc_in result ≡ doc.entry }
         ensures begun { begun_in result ≡ None }
+        ensures own { own_in result ≡ [] }
     {
         Document {
             doc,

@@ -13,7 +13,7 @@ use crate::inside::ask_inside;
 use ild_dirty::{FlushFault, OwnBlocks};
 use ild_edges::Store;
 use ild_run_answers::ask;
-use ild_run_commit::commit;
+use ild_run_beneath::commit;
 use ild_script::{Line, LineErr, No, Reply, Word, line_of};
 use ild_script_batch::{batches_begin, batches_end, stages_stay};
 use ild_view_doc::Doc;

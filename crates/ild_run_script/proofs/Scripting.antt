@@ -1,5 +1,5 @@
 -- Scripts that are answered from an opened document.
-use Rattle.std.proofs.Common.{◌≡◌, ℕ, ◌+◌, ◌≤◌, List, Bool, Option, None, Some, Result, Ok, Err, refl, sym, ap, ◌∙◌, subst, arith}
+use Rattle.std.proofs.Common.{◌≡◌, ℕ, ◌+◌, ◌≤◌, List, [], Bool, Option, None, Some, Result, Ok, Err, refl, sym, ap, ◌∙◌, subst, arith}
 use Rattle.std.specs.Prelude.{length, IsErrOf, IfOk, OnErr}
 use Rattle.ild_data.specs.Spell.{id_of}
 use Rattle.ild_edges.proofs.Later.{Later-trans}
@@ -13,12 +13,12 @@ use Rattle.ild_schema.specs.declared.number.TypeNo.{TypeNo}
 use Rattle.ild_schema.specs.declared.row.Row.{Row}
 use Rattle.ild_script.specs.Line.{lines_of}
 use Rattle.ild_script.specs.declared.reply.Reply.{Reply}
-use Rattle.ild_script_meaning.specs.Lines.{Setting, without_batches, typed_lines}
+use Rattle.ild_script_meaning.specs.Lines.{Setting, typed_lines, value_blocks}
 use Rattle.ild_script_session.proofs.Steps.{run_gets, run_puts}
 use Rattle.ild_script_session.specs.Lines.{LinesDone, LinesCut}
 use Rattle.ild_script_session.specs.Session.{Meaning, Stage, resting, left}
 use Rattle.ild_script_session.specs.Stands.{AreAnswered, Ran}
-use Rattle.ild_script_session.specs.Step.{Carries}
+use Rattle.ild_script_session.specs.Step.{Carries, Holds}
 use Rattle.ild_script_session.specs.declared.cut.Cut.{Cut}
 use Rattle.ild_script_session.specs.declared.cut.Cut.TheVariants as C
 use Rattle.ild_typed.specs.Stands.{Stands, bare, blocks_of}
@@ -29,7 +29,8 @@ use Rattle.ild_run_open.specs.declared.start.Start.{Start}
 use Rattle.ild_run_open.specs.declared.start.Start.TheVariants as S
 use Rattle.ild_run_open.specs.declared.start.StartFault.{StartFault}
 use Rattle.ild_run_standing.specs.Laws.{StandingAreAt, HeldAreStanding}
-use Rattle.ild_run_standing.specs.Standing.{IsHeldAt, StandsAt, setting_of}
+use Rattle.ild_run_standing.specs.Standing.{IsHeldAt, IsInBatch, StandsAt, StandsSo, setting_of}
+use Rattle.ild_run_standing.proofs.Held.{kept_are_standing}
 use Rattle.ild_run_script.specs.Lines.{DocDone, DocCut}
 use Rattle.ild_run_script.specs.Scripts.{setting, lines_on, StandsThere, start_gets, start_puts, AnswersFrom, Answers, AnswersSome, ScriptAnswer, Scripts}
 use Rattle.ild_run_script.specs.declared.fault.ScriptFault.TheVariants as F
@@ -72,42 +73,57 @@ module _ (law : StandingAreAt) (back : HeldAreStanding) (rows : List Row) (ty : 
   held_at : IsHeldAt id_of d tests k first.value
   held_at = law id_of d tests k held first.value told there stands
 
-  stands_at : StandsAt d k (lines_on rows ty tests) (resting first.value)
+  stands_at : StandsAt d None [] k (lines_on rows ty tests) (resting first.value)
   stands_at = record {
     tests = tests;
     are = subst (λ (r : List Row). AreTests r tests) (sym started.table) are;
-    means = ap without_batches same_setting;
-    value = first.value;
-    held = held_at;
-    rests = refl;
+    means = ap typed_lines same_setting;
+    stands = record { value = first.value; held = held_at; rests = refl };
   }
 
   carried : Carries (lines_on rows ty tests) k (resting first.value)
-  carried =
-      let c = subst (λ (w : Setting). Carries (typed_lines w) k (resting first.value)) (sym same_setting) held_at.carries in
-      record { kept = c.kept; value = c.value; places = c.places }
+  carried = subst (λ (w : Setting). Carries (typed_lines w) k (resting first.value)) (sym same_setting) held_at.carries
+
+  -- a value of a document of the same type that stands in a store
+  module _ (e : Doc) (table : table_in e ≡ table_in d) (type : type_in e ≡ type_in d) (n : Moment) (now : List (List ℕ)) (is : n.blocks ≡ Some now) where
+    of_type : (v : Value) → Stands bare (block_at now) id_of (table_in e) (type_in e) (id_of (block_in e)) v → StandsThere rows ty now v
+    of_type v st = record {
+      root = id_of (block_in e);
+      is = subst (λ (r : List Row). Stands bare (block_at now) id_of r ty (id_of (block_in e)) v) (table ∙ started.table)
+          (subst (λ (t : TypeNo). Stands bare (block_at now) id_of (table_in e) t (id_of (block_in e)) v) (type ∙ started.type) st);
+    }
+
+  -- inside a batch the store holds the value at its begin
+  begun_there : (e b : Doc) → table_in e ≡ table_in d → type_in e ≡ type_in d → (own : List (List ℕ)) (tests : Tests) (n : Moment) (s : Stage Value) (now : List (List ℕ)) → n.blocks ≡ Some now → IsInBatch id_of e b own tests n s → StandsThere rows ty now (left s.state)
+  begun_there e b table type own tests n s now is x =
+      let to_b : setting_of id_of e tests ≡ setting_of id_of b tests = ap (λ r. setting r (type_in e) tests) (sym x.begin.same.0) ∙ ap (λ t. setting (table_in b) t tests) (sym x.begin.same.1) in
+      let kept : Holds n (value_blocks (setting_of id_of b tests) x.kept) = subst (λ (w : Setting). Holds n (value_blocks w x.kept)) to_b x.carries.kept in
+      subst (λ (z : Stage Value). StandsThere rows ty now (left z.state)) (sym x.is)
+      (of_type b (x.begin.same.0 ∙ table) (x.begin.same.1 ∙ type) n now is x.kept (kept_are_standing id_of b tests n now x.kept is x.begin.of kept))
+
+  stands_there : (e : Doc) (begun : Option Doc) (own : List (List ℕ)) → table_in e ≡ table_in d → type_in e ≡ type_in d → (tests : Tests) (n : Moment) (s : Stage Value) (now : List (List ℕ)) → n.blocks ≡ Some now → StandsSo id_of e begun own tests n s
+      → StandsThere rows ty now (left s.state)
+  stands_there e None own table type tests n s now is x =
+      subst (λ (z : Stage Value). StandsThere rows ty now (left z.state)) (sym x.rests) (of_type e table type n now is x.value (back id_of e tests n now x.value is x.held))
+  stands_there e (Some b) own table type tests n s now is x = begun_there e b table type own tests n s now is x
 
   -- where a document of the same type stands
-  left_there : (e : Doc) → table_in e ≡ table_in d → type_in e ≡ type_in d → (n : Moment) (s : Stage Value) → StandsAt e n (lines_on rows ty tests) s → (o : Option (List (List ℕ))) → n.blocks ≡ o → IfTold o (λ now. StandsThere rows ty now (left s.state))
-  left_there e table type n s at None is = tt
-  left_there e table type n s at (Some now) is =
-      let st : Stands bare (block_at now) id_of (table_in e) (type_in e) (id_of (block_in e)) at.value = back id_of e at.tests n now at.value is at.held in
-      let there : Stands bare (block_at now) id_of rows ty (id_of (block_in e)) at.value =
-      subst (λ (r : List Row). Stands bare (block_at now) id_of r ty (id_of (block_in e)) at.value) (table ∙ started.table)
-      (subst (λ (t : TypeNo). Stands bare (block_at now) id_of (table_in e) t (id_of (block_in e)) at.value) (type ∙ started.type) st) in
-      record { root = id_of (block_in e); is = subst (λ (x : Stage Value). Stands bare (block_at now) id_of rows ty (id_of (block_in e)) (left x.state)) (sym at.rests) there }
+  left_there : (e : Doc) (begun : Option Doc) (own : List (List ℕ)) → table_in e ≡ table_in d → type_in e ≡ type_in d → (n : Moment) (s : Stage Value) → StandsAt e begun own n (lines_on rows ty tests) s → (o : Option (List (List ℕ))) → n.blocks ≡ o
+      → IfTold o (λ now. StandsThere rows ty now (left s.state))
+  left_there e begun own table type n s at None is = tt
+  left_there e begun own table type n s at (Some now) is = stands_there e begun own table type at.tests n s now is at.stands
 
   -- lines that were run from there
-  answers_from : (e : Doc) → table_in e ≡ table_in d → type_in e ≡ type_in d → (m n : Moment) (lines : List (List ℕ)) (replies : List Reply) → Asks id_of rows ty start m k → Ran (lines_on rows ty tests) (StandsAt e n (lines_on rows ty tests)) k (resting first.value) lines replies n
-      → AnswersFrom rows ty start tests (block_in d) held m k lines replies n
-  answers_from e table type m n lines replies asks ran =
+  answers_from : (e : Doc) (begun : Option Doc) (own : List (List ℕ)) → table_in e ≡ table_in d → type_in e ≡ type_in d → (m n : Moment) (lines : List (List ℕ)) (replies : List Reply) → Asks id_of rows ty start m k
+      → Ran (lines_on rows ty tests) (StandsAt e begun own n (lines_on rows ty tests)) k (resting first.value) lines replies n → AnswersFrom rows ty start tests (block_in d) held m k lines replies n
+  answers_from e begun own table type m n lines replies asks ran =
       let M = lines_on rows ty tests in
       record {
         first = first;
         carried = carried;
         last = ran.stage;
         run = ran.run;
-        stands = left_there e table type n ran.stage ran.stands n.blocks refl;
+        stands = left_there e begun own table type n ran.stage ran.stands n.blocks refl;
         gets = let a = asks_gets rows ty start m k (block_in d) held asks told first in let b = run_gets M k (resting first.value) lines replies n ran.stage ran.run carried in omega (arith, a, b);
         puts = let a = asks_puts rows ty start m k asks in let b = run_puts M k (resting first.value) lines replies n ran.stage ran.run carried in omega (arith, a, b);
       }
@@ -115,15 +131,15 @@ module _ (law : StandingAreAt) (back : HeldAreStanding) (rows : List Row) (ty : 
 -- ---- the script
 
 module _ (law : StandingAreAt) (back : HeldAreStanding) (rows : List Row) (ty : TypeNo) (start : Start) (script : List ℕ) (d : Doc) (m k n : Moment) (was now : Output) (starts : Starts id_of rows ty start m (Ok d) k) where
-  answers : (lines : List (List ℕ)) (replies : List Reply) (e : Doc) → table_in e ≡ table_in d → type_in e ≡ type_in d → AreAnswered k lines replies n → Later k n
-      → ((M : Meaning Value) (s : Stage Value) → StandsAt d k M s → Ran M (StandsAt e n M) k s lines replies n) → Answers rows ty start m lines replies n
-  answers lines replies e table type answered later ran = record {
+  answers : (lines : List (List ℕ)) (replies : List Reply) (e : Doc) (begun : Option Doc) (own : List (List ℕ)) → table_in e ≡ table_in d → type_in e ≡ type_in d → AreAnswered k lines replies n → Later k n
+      → ((M : Meaning Value) (s : Stage Value) → StandsAt d None [] k M s → Ran M (StandsAt e begun own n M) k s lines replies n) → Answers rows ty start m lines replies n
+  answers lines replies e begun own table type answered later ran = record {
     opened = k;
     asks = starts.asks;
     block = block_in d;
     answered = answered;
     later = later;
-    from = λ held tests told are. answers_from law back rows ty start d k starts.answer tests are held told e table type m n lines replies starts.asks
+    from = λ held tests told are. answers_from law back rows ty start d k starts.answer tests are held told e begun own table type m n lines replies starts.asks
         (ran (lines_on rows ty tests) (resting (starts.answer.first held told).value) (stands_at law back rows ty start d k starts.answer tests are held told));
   }
 
@@ -133,7 +149,7 @@ module _ (law : StandingAreAt) (back : HeldAreStanding) (rows : List Row) (ty : 
       record {
         answer = record {
           replies = lines.replies;
-          answered = answers (lines_of script) lines.replies done.after done.table done.type lines.answered lines.later lines.ran;
+          answered = answers (lines_of script) lines.replies done.after done.begun done.own done.table done.type lines.answered lines.later lines.ran;
           written = lines.written;
           refused_is = lines.refused_is;
         };
@@ -149,7 +165,7 @@ module _ (law : StandingAreAt) (back : HeldAreStanding) (rows : List Row) (ty : 
         rest = lines.rest;
         lines = lines.split;
         replies = lines.replies;
-        answered = answers lines.first lines.replies cut.after cut.table cut.type lines.answered lines.later lines.ran;
+        answered = answers lines.first lines.replies cut.after cut.begun cut.own cut.table cut.type lines.answered lines.later lines.ran;
         written = lines.written;
       }
 
@@ -174,11 +190,22 @@ scripts_stopped rows ty start script f m n was starts = record {
 
 -- ---- the lines of a session
 
-module _ (c d e : Doc) (same : c ≡ d) (kept : ◌≡◌ {A = List Row × TypeNo} (table_in e, type_in e) (table_in c, type_in c)) (m : Moment) (lines : List (List ℕ)) (n : Moment) (was now : Option (List ℕ)) where
-  pub lines_done : (r : Result Bool Cut) → IfOk r (λ refused. LinesDone (StandsAt c m) (StandsAt e n) m lines n was now refused) → IfOk r (λ refused. DocDone d m lines n was now refused)
-  lines_done (Ok refused) done = record { after = e; table = ap (λ p. p.0) kept ∙ ap table_in same; type = ap (λ p. p.1) kept ∙ ap type_in same; done = subst (λ x. LinesDone (StandsAt x m) (StandsAt e n) m lines n was now refused) same done }
+module _ (c d e : Doc) (b begun : Option Doc) (o own : List (List ℕ)) (same : c ≡ d) (out : b ≡ None) (none : o ≡ []) (kept : ◌≡◌ {A = List Row × TypeNo} (table_in e, type_in e) (table_in c, type_in c))
+    (m : Moment) (lines : List (List ℕ)) (n : Moment) (was now : Option (List ℕ)) where
+  table : table_in e ≡ table_in d
+  table = ap (λ p. p.0) kept ∙ ap table_in same
+
+  type : type_in e ≡ type_in d
+  type = ap (λ p. p.1) kept ∙ ap type_in same
+
+  -- from the document itself, outside any batch
+  from : (P : (Meaning Value → Stage Value → Type 0) → Type 0) → P (StandsAt c b o m) → P (StandsAt d None [] m)
+  from P x = subst (λ z. P (StandsAt d None z m)) none (subst (λ z. P (StandsAt d z o m)) out (subst (λ z. P (StandsAt z b o m)) same x))
+
+  pub lines_done : (r : Result Bool Cut) → IfOk r (λ refused. LinesDone (StandsAt c b o m) (StandsAt e begun own n) m lines n was now refused) → IfOk r (λ refused. DocDone d m lines n was now refused)
+  lines_done (Ok refused) done = record { after = e; begun = begun; own = own; table = table; type = type; done = from (λ S. LinesDone S (StandsAt e begun own n) m lines n was now refused) done }
   lines_done (Err cut) done = tt
 
-  pub lines_cut : (r : Result Bool Cut) → OnErr r (LinesCut (StandsAt c m) (StandsAt e n) m lines n was now) → OnErr r (DocCut d m lines n was now)
+  pub lines_cut : (r : Result Bool Cut) → OnErr r (LinesCut (StandsAt c b o m) (StandsAt e begun own n) m lines n was now) → OnErr r (DocCut d m lines n was now)
   lines_cut (Ok refused) part = tt
-  lines_cut (Err cut) part = record { after = e; table = ap (λ p. p.0) kept ∙ ap table_in same; type = ap (λ p. p.1) kept ∙ ap type_in same; done = subst (λ x. LinesCut (StandsAt x m) (StandsAt e n) m lines n was now) same part }
+  lines_cut (Err cut) part = record { after = e; begun = begun; own = own; table = table; type = type; done = from (λ S. LinesCut S (StandsAt e begun own n) m lines n was now) part }

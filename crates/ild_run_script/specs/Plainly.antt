@@ -7,7 +7,7 @@ use Rattle.ild_schema.specs.Value.{Value}
 use Rattle.ild_schema.specs.declared.number.TypeNo.{TypeNo}
 use Rattle.ild_schema.specs.declared.row.Row.{Row}
 use Rattle.ild_script.specs.Line.{lines_of}
-use Rattle.ild_script_session.specs.Plain.{MayPut}
+use Rattle.ild_script_session.specs.Plain.{MayBegin, MayPut}
 use Rattle.ild_script_session.specs.Session.{Due, State, idle}
 use Rattle.ild_typed.specs.Stands.{bare, Stands}
 use Rattle.ild_run_open.specs.Empty.{IsEmpty, empty_blocks}
@@ -32,3 +32,7 @@ MayStart rows ty S.Empty b = Contains (empty_blocks id_of rows ty) b
 -- a block that a run of the script may put: the empty value's, or one of its lines
 abbrev pub MayCome : List Row → TypeNo → Tests → Start → Value → List ℕ → List ℕ → Type 0
 MayCome rows ty tests start v script b = MayStart rows ty start b ⊎ MayPut (plain_due rows ty tests) (idle v) (lines_of script) b
+
+-- a batch may be begun by a line of the script
+abbrev pub MayBatch : List Row → TypeNo → Tests → Value → List ℕ → Type 0
+MayBatch rows ty tests v script = MayBegin (plain_due rows ty tests) (idle v) (lines_of script)

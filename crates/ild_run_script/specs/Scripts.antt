@@ -13,7 +13,7 @@ use Rattle.ild_schema.specs.declared.row.Row.{Row}
 use Rattle.ild_script.specs.Line.{lines_of}
 use Rattle.ild_script.specs.Reply.{is_no}
 use Rattle.ild_script.specs.declared.reply.Reply.{Reply}
-use Rattle.ild_script_meaning.specs.Lines.{Setting, without_batches}
+use Rattle.ild_script_meaning.specs.Lines.{Setting, typed_lines}
 use Rattle.ild_script_session.specs.Run.{Run, texts, most_gets, most_puts}
 use Rattle.ild_script_session.specs.Session.{Meaning, Stage, resting, left}
 use Rattle.ild_script_session.specs.Stands.{AreAnswered}
@@ -33,7 +33,7 @@ abbrev pub setting : List Row → TypeNo → Tests → Setting
 setting rows ty tests = record { frame = bare; hash = id_of; rows = rows; tests = tests; ty = ty }
 
 abbrev pub lines_on : List Row → TypeNo → Tests → Meaning Value
-lines_on rows ty tests = without_batches (setting rows ty tests)
+lines_on rows ty tests = typed_lines (setting rows ty tests)
 
 -- ---- what opening costs at most, where the value has so many blocks
 

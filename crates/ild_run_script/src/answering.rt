@@ -30,7 +30,7 @@ fn answer_from<K: Store, W: Sink>(
     ensures faults { (W.output out.old).faults ≤ (W.output out.new).faults }
     ensures sink { IsErrOf result cut.Sink → Rose (W.output out.old).faults (W.output out.new).faults }
 {
-    let mut session = Document::of(doc);
+    let mut session = Document::of(alloc, doc);
     answer_all(alloc, &mut session, script, store, out)
 }
 

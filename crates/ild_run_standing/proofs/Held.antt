@@ -11,7 +11,7 @@ use Rattle.ild_schema.specs.Slots.{plainly}
 use Rattle.ild_schema.specs.Value.{Value}
 use Rattle.ild_typed.specs.Hamt.{whole}
 use Rattle.ild_typed.specs.Represented.{represented}
-use Rattle.ild_typed.specs.Stands.{bare, blocks_of}
+use Rattle.ild_typed.specs.Stands.{Stands, bare, blocks_of}
 use Rattle.ild_typed_places.specs.Carried.{AreHeld}
 use Rattle.ild_typed_places.specs.Laws.{PlacesAreHeld}
 use Rattle.ild_typed_places.specs.Places.{Place, down_from, each_place, value_places}
@@ -21,7 +21,7 @@ use Rattle.ild_script_meaning.specs.Lines.{places_in, value_blocks}
 use Rattle.ild_view_doc.specs.Docs.{table_in, type_in, block_in}
 use Rattle.ild_view_doc.specs.declared.doc.Doc.{Doc}
 use Rattle.ild_run_standing.specs.Laws.{StandingAreAt, HeldAreStanding}
-use Rattle.ild_run_standing.specs.Standing.{setting_of}
+use Rattle.ild_run_standing.specs.Standing.{IsOf, setting_of}
 
 some_told : (o : Option (List (List ℕ))) (held : List (List ℕ)) → o ≡ Some held → o ≢ None
 some_told o held e none = let x : None ≡ Some held = sym none ∙ e in absurd cc
@@ -65,10 +65,15 @@ standing_are_at places = λ h d tests m held v told here s.
       };
     }
 
-pub held_are_standing : HeldAreStanding
-held_are_standing = λ h d tests m held v told x. record {
-  tree = x.at.tree;
-  storable = x.at.storable;
-  root = ap id_of x.at.block;
-  all = told_holds m held told (blocks_of bare h (table_in d) (type_in d) v x.at.tree) (subst (Holds m) (blocks_are h d tests v x.at.tree x.at.storable.tree) x.carries.kept);
+-- where the block of a document is of a value, all of whose blocks a store holds, the value stands under its id
+pub kept_are_standing : (h : List ℕ → List ℕ) (d : Doc) (tests : Tests) (m : Moment) (held : List (List ℕ)) (v : Value) → m.blocks ≡ Some held → IsOf h d v → Holds m (value_blocks (setting_of h d tests) v)
+    → Stands bare (block_at held) h (table_in d) (type_in d) (id_of (block_in d)) v
+kept_are_standing h d tests m held v told of all = record {
+  tree = of.tree;
+  storable = of.storable;
+  root = ap id_of of.block;
+  all = told_holds m held told (blocks_of bare h (table_in d) (type_in d) v of.tree) (subst (Holds m) (blocks_are h d tests v of.tree of.storable.tree) all);
 }
+
+pub held_are_standing : HeldAreStanding
+held_are_standing = λ h d tests m held v told x. kept_are_standing h d tests m held v told (record { tree = x.at.tree; storable = x.at.storable; block = x.at.block }) x.carries.kept

@@ -1,14 +1,18 @@
 use Rattle.ild_script.specs.Line.{lines_of}
-use Rattle.ild_run_document.specs.Document.{doc_in}
+use Rattle.ild_run_document.specs.Document.{begun_in, doc_in, own_in}
 use Rattle.ild_run_script.proofs.Scripting.{lines_done, lines_cut}
 use Rattle.ild_run_script.proofs.answering.answer_from.Goals as goal
 
 pub returns-clause-done : goal.returns-clause-done
 returns-clause-done g c =
-    lines_done (doc_in c.of-session.result) c.args.doc (doc_in c.answer_all.new.session) c.of-session.ensures c.answer_all.ensures.same (g.K.Store.moment c.args.store.now) (lines_of c.args.script.now) (g.K.Store.moment c.answer_all.new.store)
-    (g.W.Sink.output c.args.out.now).written (g.W.Sink.output c.answer_all.new.out).written c.answer_all.result c.answer_all.ensures.done
+    let was = c.of-session.result in
+    let now = c.answer_all.new.session in
+    lines_done (doc_in was) c.args.doc (doc_in now) (begun_in was) (begun_in now) (own_in was) (own_in now) c.of-session.ensures.doc c.of-session.ensures.begun c.of-session.ensures.own c.answer_all.ensures.same
+    (g.K.Store.moment c.args.store.now) (lines_of c.args.script.now) (g.K.Store.moment c.answer_all.new.store) (g.W.Sink.output c.args.out.now).written (g.W.Sink.output c.answer_all.new.out).written c.answer_all.result c.answer_all.ensures.done
 
 pub returns-clause-part : goal.returns-clause-part
 returns-clause-part g c =
-    lines_cut (doc_in c.of-session.result) c.args.doc (doc_in c.answer_all.new.session) c.of-session.ensures c.answer_all.ensures.same (g.K.Store.moment c.args.store.now) (lines_of c.args.script.now) (g.K.Store.moment c.answer_all.new.store)
-    (g.W.Sink.output c.args.out.now).written (g.W.Sink.output c.answer_all.new.out).written c.answer_all.result c.answer_all.ensures.part
+    let was = c.of-session.result in
+    let now = c.answer_all.new.session in
+    lines_cut (doc_in was) c.args.doc (doc_in now) (begun_in was) (begun_in now) (own_in was) (own_in now) c.of-session.ensures.doc c.of-session.ensures.begun c.of-session.ensures.own c.answer_all.ensures.same
+    (g.K.Store.moment c.args.store.now) (lines_of c.args.script.now) (g.K.Store.moment c.answer_all.new.store) (g.W.Sink.output c.args.out.now).written (g.W.Sink.output c.answer_all.new.out).written c.answer_all.result c.answer_all.ensures.part
