@@ -2,6 +2,7 @@ pub mod Deciding
 pub mod Judging
 pub mod Around
 pub mod Still
+pub mod Naming
 pub mod Reading
 pub mod Composing
 pub mod Replying

@@ -2,7 +2,6 @@
 use Rattle.std.proofs.Common.{cond, ◌≡◌, inl, inr, ℕ, List, [], ◌∷◌, Bool, true, false, Option, Some, None, refl, ap, sym, subst, ◌∙◌, arith}
 use Rattle.std.specs.Prelude.{◌||◌, is_none, Result, Ok, Err}
 use Rattle.std.proofs.lemmas.Option.{none-some, same_Some}
-use Rattle.ild_build.specs.declared.judgement.Judged.{Judged}
 use Rattle.ild_data.specs.Data.{Data}
 use Rattle.ild_edges.proofs.Later.{Later-refl}
 use Rattle.ild_edges.specs.Store.{Moment}
@@ -30,7 +29,7 @@ use Rattle.ild_path_judged.specs.Place.{bringing}
 use Rattle.ild_path_place.specs.Tells.{fits_in, hole_in, room_in, slot_in, table_at, type_at}
 use Rattle.ild_path_place.specs.declared.place.Place.{Place}
 use Rattle.ild_path_room.specs.Room.{Coming, by_set, by_insert}
-use Rattle.ild_run_edit.specs.Judges.{IsPartRefusal, ChangeJudged, first_told, has_hole_by, breaks_by, is_deep_by}
+use Rattle.ild_run_edit.specs.Judges.{IsPartRefusal, ChangeJudged, has_hole_by, breaks_by, is_deep_by}
 use Rattle.ild_run_edit.specs.Moves.{PartAnswer, line_by, due_of, edited_by, Moves, MoveAnswer, IsComing, Fails, ComesTo, PutsPart}
 use Rattle.ild_run_edit.proofs.Judging.{change_judged}
 
@@ -113,36 +112,33 @@ pub memory_wanting : (h : List ℕ → List ℕ) (place : Place) (json : List �
 memory_wanting = no_memory
 
 -- what is told of a part is none of the causes that a store has
-told_fails : (m k : Moment) (key a x f : Bool) (j : Option Judged) (room : Option ℕ) (r : No) → first_told key a j x room f ≡ Some r → Fails m (Err r) k
-told_fails m k key a x f j room r e = by (first_told key a j x room f) refl e where
-  IsPlainRefusal : Option No → Type 0
-  IsPlainRefusal o = (r : No) → o ≡ Some r → Fails m (Err r) k
+module _ (P : No → Type 0) (mismatch : P N.Mismatch) (hole : P N.Hole) (delimiter : P N.Delimiter) (depth : P N.Depth) (exhausted : P N.Exhausted) where
+  plain : (s r : No) → P s → ◌≡◌ {A = Option No} (Some s) (Some r) → P r
+  plain s r g e = subst P (same_Some s r e) g
 
-  plain : (s r : No) → Fails m (Err s) k → ◌≡◌ {A = Option No} (Some s) (Some r) → Fails m (Err r) k
-  plain s r g e = subst (λ r. Fails m (Err r) k) (same_Some s r e) g
-
-  last : (f : Bool) (r : No) → cond f (Some N.Exhausted) None ≡ Some r → Fails m (Err r) k
-  last true r e = plain N.Exhausted r tt e
+  last : (f : Bool) (r : No) → cond f (Some N.Exhausted) None ≡ Some r → P r
+  last true r e = plain N.Exhausted r exhausted e
   last false r e = absurd (none-some r e)
 
-  third : (d f : Bool) (r : No) → cond d (Some N.Depth) (cond f (Some N.Exhausted) None) ≡ Some r → Fails m (Err r) k
-  third true f r e = plain N.Depth r tt e
+  third : (d f : Bool) (r : No) → cond d (Some N.Depth) (cond f (Some N.Exhausted) None) ≡ Some r → P r
+  third true f r e = plain N.Depth r depth e
   third false f r e = last f r e
 
-  second : (b d f : Bool) (r : No) → cond b (Some N.Delimiter) (cond d (Some N.Depth) (cond f (Some N.Exhausted) None)) ≡ Some r → Fails m (Err r) k
-  second true d f r e = plain N.Delimiter r tt e
+  second : (b d f : Bool) (r : No) → cond b (Some N.Delimiter) (cond d (Some N.Depth) (cond f (Some N.Exhausted) None)) ≡ Some r → P r
+  second true d f r e = plain N.Delimiter r delimiter e
   second false d f r e = third d f r e
 
-  first : (g b d f : Bool) (r : No) → cond g (Some N.Hole) (cond b (Some N.Delimiter) (cond d (Some N.Depth) (cond f (Some N.Exhausted) None))) ≡ Some r → Fails m (Err r) k
-  first true b d f r e = plain N.Hole r tt e
+  first : (g b d f : Bool) (r : No) → cond g (Some N.Hole) (cond b (Some N.Delimiter) (cond d (Some N.Depth) (cond f (Some N.Exhausted) None))) ≡ Some r → P r
+  first true b d f r e = plain N.Hole r hole e
   first false b d f r e = second b d f r e
 
-  all : (key g b d f : Bool) (r : No) → cond key (cond g (Some N.Hole) (cond b (Some N.Delimiter) (cond d (Some N.Depth) (cond f (Some N.Exhausted) None)))) (Some N.Mismatch) ≡ Some r → Fails m (Err r) k
+  all : (key g b d f : Bool) (r : No) → cond key (cond g (Some N.Hole) (cond b (Some N.Delimiter) (cond d (Some N.Depth) (cond f (Some N.Exhausted) None)))) (Some N.Mismatch) ≡ Some r → P r
   all true g b d f r e = first g b d f r e
-  all false g b d f r e = plain N.Mismatch r tt e
+  all false g b d f r e = plain N.Mismatch r mismatch e
 
-  by : (o : Option No) → first_told key a j x room f ≡ o → o ≡ Some r → Fails m (Err r) k
-  by o same e = all key (a || has_hole_by j) (breaks_by j || x) (is_none room || is_deep_by j) f r (same ∙ e)
+  pub told_plain : (place : Place) (w : Value) (o : Option No) → IsPartRefusal place w o → (r : No) → o ≡ Some r → P r
+  told_plain place w o x r e =
+      all (fits_in place) (hole_in place || has_hole_by x.judged) (breaks_by x.judged || x.around) (is_none (room_in place) || is_deep_by x.judged) x.full r (sym x.is ∙ e)
 
 -- the value can be held
 pub sound_of : (h : List ℕ → List ℕ) (rows : List Row) (n : TypeNo) (v : Value) (d : Data) → Storable bare h rows n v d → Typed rows (plainly n) v × IsSound h rows 96 (plainly n, v)
@@ -158,7 +154,7 @@ module _ (h : List ℕ → List ℕ) (place : Place) (json : List ℕ) (w : Valu
   pub refused_comes : (m : Moment) (r : No) → o ≡ Some r → ComesTo h place json m (Err r) m
   refused_comes m r e = record {
     later = Later-refl m;
-    fails = told_fails m m (fits_in place) (hole_in place) refusal.around refusal.full refusal.judged (room_in place) r (sym refusal.is ∙ e);
+    fails = told_plain (λ r. Fails m (Err r) m) tt tt tt tt tt place w o refusal r e;
     moves = λ t v how path x.
         still_moves h (table_at place) t (type_at place) v (line_by how path json) m r
         (inl (edited_part h (table_at place) t (type_at place) v path json how (slot_in place) w (x.is.slot_is how w refl) (read t.is_key x.at.tests.keys)

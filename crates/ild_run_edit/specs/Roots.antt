@@ -60,12 +60,13 @@ abbrev pub IsInDoc : Doc → Result Place No → Type 0
 IsInDoc d (Ok place) = IsPlaceOf (table_in d) (type_in d) place
 IsInDoc d (Err refusal) = Unit {0}
 
--- a fault of the store, over every store; a line is not refused so, and nothing is printed
+-- a fault of the store, over every store; a line is not refused so, nothing is printed, and nothing put
 abbrev pub FindFails : Moment → Result Place No → Moment → Type 0
 FindFails m (Err N.Store) n = Rose m.faults n.faults
 FindFails m (Err N.Line) n = ⊥
 FindFails m (Err N.Reserved) n = ⊥
 FindFails m (Err N.Batch) n = ⊥
+FindFails m (Err N.Clash) n = ⊥
 FindFails m result n = Unit {0}
 
 pub record Finds (h : List ℕ → List ℕ) (d : Doc) (verb : Verb) (path : List (List ℕ)) (m : Moment) (result : Result Place No) (n : Moment) : Type 0 where

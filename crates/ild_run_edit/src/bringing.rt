@@ -1,14 +1,16 @@
 //! A part comes to its place.
-ghost use Rattle.std.specs.Prelude.{◌≡◌, ◌<◌, IfOk, length};
+ghost use Rattle.std.specs.Prelude.{◌≡◌, ◌<◌, Err, IfOk, length};
 ghost use Rattle.ild_path_place.specs.Tells.{table_at};
 ghost use Rattle.ild_run_edit.specs.Moves.{ComesTo, PartAnswer};
+ghost use Rattle.ild_run_edit.specs.Naming.{NamesClash};
 ghost use Rattle.ild_run_edit.specs.Swaps.{SwapsTo};
 ghost use Rattle.ild_schema.specs.ValueSeen.{value_of};
+ghost use Rattle.ild_script.specs.declared.reply.No.TheVariants as refusal;
 ghost use Rattle.ild_typed.specs.Typed.{Typed};
 
 use crate::part::part_refusal;
 use crate::putting::put_part;
-use ild_data::{KeyHash, Octets};
+use ild_data::{BlockId, KeyHash, Octets};
 use ild_edges::Store;
 use ild_json::{JsonErr, read};
 use ild_path_place::Place;
@@ -36,7 +38,7 @@ fn part_of(alloc: Global, acc: &Accepted, slot: Slot, json: &[u8]) -> Result<Val
 }
 
 /// The new root block, where the part that a json text means comes to a place; or the first of json, mismatch, hole, delimiter, depth,
-/// exhausted and size. Before exhausted nothing is put.
+/// exhausted and size. Before exhausted nothing is put. The id of a clash is noted.
 pub(crate) fn bring<K: Store, H: KeyHash>(
     alloc: Global,
     place: Place<'_>,
@@ -44,10 +46,12 @@ pub(crate) fn bring<K: Store, H: KeyHash>(
     json: &[u8],
     keys: &H,
     store: &mut K,
+    clash: &mut Option<BlockId>,
 ) -> Result<Octets, No>
     requires { acc.now ≡ table_at place }
     ensures swaps { SwapsTo place.entry result }
     ensures comes { ComesTo H.hash_of place.entry json.now (K.moment store.old) result (K.moment store.new) }
+    ensures named { result ≡ Err refusal.Clash → NamesClash clash.new (K.moment store.new) }
 {
     // It does no work: its clauses say what acceptance says of the types.
     acc.types();
@@ -56,7 +60,7 @@ pub(crate) fn bring<K: Store, H: KeyHash>(
         Err(refusal) => return Err(refusal),
     };
     match part_refusal(alloc, &place, acc, &part) {
-        Ok(None) => put_part(alloc, place, acc, &part, json, keys, store),
+        Ok(None) => put_part(alloc, place, acc, &part, json, keys, store, clash),
         Ok(Some(refusal)) => Err(refusal),
         Err(_) => Err(No::Memory),
     }

@@ -1,11 +1,13 @@
 //! A part goes from its place.
-ghost use Rattle.std.specs.Prelude.{◌≡◌, IfOk};
+ghost use Rattle.std.specs.Prelude.{◌≡◌, Err};
 ghost use Rattle.ild_path_place.specs.Tells.{table_at};
 ghost use Rattle.ild_run_edit.specs.Moves.{GoesFrom};
+ghost use Rattle.ild_run_edit.specs.Naming.{NamesClash};
 ghost use Rattle.ild_run_edit.specs.Swaps.{SwapsTo};
+ghost use Rattle.ild_script.specs.declared.reply.No.TheVariants as refusal;
 
-use crate::putting::done_fault;
-use ild_data::{KeyHash, Octets};
+use crate::faults::done_fault;
+use ild_data::{BlockId, KeyHash, Octets};
 use ild_edges::Store;
 use ild_path::erase;
 use ild_path_around::breaks_around;
@@ -14,17 +16,19 @@ use ild_schema::Accepted;
 use ild_script::No;
 use std::alloc::Global;
 
-/// The new root block, where the part at a place goes; or the first of hole, delimiter and size.
+/// The new root block, where the part at a place goes; or the first of hole, delimiter and size. The id of a clash is noted.
 pub(crate) fn erase_part<K: Store, H: KeyHash>(
     alloc: Global,
     place: Place<'_>,
     acc: &Accepted,
     keys: &H,
     store: &mut K,
+    clash: &mut Option<BlockId>,
 ) -> Result<Octets, No>
     requires { acc.now ≡ table_at place }
     ensures swaps { SwapsTo place.entry result }
     ensures goes { GoesFrom H.hash_of place.entry (K.moment store.old) result (K.moment store.new) }
+    ensures named { result ≡ Err refusal.Clash → NamesClash clash.new (K.moment store.new) }
 {
     // It does no work: its clauses say what acceptance says of the types.
     acc.types();
@@ -38,6 +42,6 @@ pub(crate) fn erase_part<K: Store, H: KeyHash>(
     }
     match erase(alloc, place, keys, store) {
         Ok(block) => Ok(block),
-        Err(fault) => Err(done_fault(&fault)),
+        Err(fault) => Err(done_fault(&fault, clash)),
     }
 }

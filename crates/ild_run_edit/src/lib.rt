@@ -4,10 +4,11 @@
 mod bringing;
 mod editing;
 mod erasing;
+mod faults;
 mod part;
 mod putting;
 mod rooting;
 mod verb;
 
-pub use editing::edit;
+pub use editing::{edit, edit_naming};
 pub use verb::EditVerb;

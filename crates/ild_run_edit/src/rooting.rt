@@ -1,15 +1,17 @@
 //! The new root block of an edit.
-ghost use Rattle.std.specs.Prelude.{◌≡◌, IfOk, IsUtf8};
+ghost use Rattle.std.specs.Prelude.{◌≡◌, Err, IfOk, IsUtf8};
 ghost use Rattle.std.specs.List.{AllByRecursion};
 ghost use Rattle.ild_run_edit.specs.Edits.{edit_of};
+ghost use Rattle.ild_run_edit.specs.Naming.{NamesClash};
 ghost use Rattle.ild_run_edit.specs.Roots.{Finds, MakesRoot, no_place, verb_as};
+ghost use Rattle.ild_script.specs.declared.reply.No.TheVariants as refusal;
 ghost use Rattle.ild_view_doc.specs.Block.{HasRoot};
 ghost use Rattle.ild_view_doc.specs.Docs.{table_in, type_in};
 
 use crate::bringing::bring;
 use crate::erasing::erase_part;
 use crate::verb::EditVerb;
-use ild_data::{KeyHash, Octets, Path};
+use ild_data::{BlockId, KeyHash, Octets, Path};
 use ild_edges::Store;
 use ild_path_around::{faults_are_refusals, places_tell};
 use ild_path_place::{PathFault, Place, Verb, locate};
@@ -72,7 +74,7 @@ fn located<'b, K: Store, H: KeyHash>(
     }
 }
 
-/// The new root block of a document of which a part is set, inserted or deleted; it is put last.
+/// The new root block of a document of which a part is set, inserted or deleted; it is put last. The id of a clash is noted.
 pub(crate) fn new_root<K: Store, H: KeyHash>(
     alloc: Global,
     doc: &Doc<'_>,
@@ -81,9 +83,11 @@ pub(crate) fn new_root<K: Store, H: KeyHash>(
     json: &[u8],
     keys: &H,
     store: &mut K,
+    clash: &mut Option<BlockId>,
 ) -> Result<Octets, No>
     ensures swaps { IfOk result (λ b. ∥ HasRoot (table_in doc.now) (type_in doc.now) b ∥₁) }
     ensures makes { MakesRoot H.hash_of doc.now (edit_of verb path.now json.now) (K.moment store.old) result (K.moment store.new) }
+    ensures named { result ≡ Err refusal.Clash → NamesClash clash.new (K.moment store.new) }
 {
     // These two do no work: their clauses say where the document stands, and that segments are texts.
     held_are_standing();
@@ -93,8 +97,8 @@ pub(crate) fn new_root<K: Store, H: KeyHash>(
         Err(refusal) => return Err(refusal),
     };
     match verb {
-        EditVerb::Set => bring(alloc, place, doc.schema(), json, keys, store),
-        EditVerb::Ins => bring(alloc, place, doc.schema(), json, keys, store),
-        EditVerb::Del => erase_part(alloc, place, doc.schema(), keys, store),
+        EditVerb::Set => bring(alloc, place, doc.schema(), json, keys, store, clash),
+        EditVerb::Ins => bring(alloc, place, doc.schema(), json, keys, store, clash),
+        EditVerb::Del => erase_part(alloc, place, doc.schema(), keys, store, clash),
     }
 }

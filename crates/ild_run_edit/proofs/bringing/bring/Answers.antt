@@ -1,6 +1,7 @@
 use Rattle.std.specs.Prelude.{Ok, Err}
 use Rattle.ild_run_edit.proofs.Still.{no_part, refused_comes, let_comes}
 use Rattle.ild_run_edit.proofs.Judging.{free_part}
+use Rattle.ild_run_edit.proofs.Naming.{part_unclashed, refused_unclashed}
 use Rattle.ild_run_edit.proofs.Reading.{part_as, typed_as, schema_as}
 use Rattle.ild_run_edit.proofs.bringing.bring.Goals as goal
 
@@ -19,3 +20,9 @@ pub returns-in-Ok-Some-clause-comes : goal.returns-in-Ok-Some-clause-comes
 returns-in-Ok-Some-clause-comes g c =
     refused_comes _ _ _ _ c.in-Ok-Some.field-0 (schema_as _ _ c.requires c.types.ensures.table c.types.ensures.accepted) (typed_as _ _ _ _ _ c.requires c.slot.ensures.same c.in-Ok.ensures.typed) c.in-Ok-Some.ensures
     (part_as _ _ _ _ c.args.json.now (Ok c.in-Ok.part) c.requires c.slot.ensures.same c.in-Ok.ensures.answer) _ _ c.in-Ok-Some.field-0-is
+
+pub returns-in-Err-clause-named : goal.returns-in-Err-clause-named
+returns-in-Err-clause-named g c = λ e. absurd (part_unclashed c.args.acc.now c.slot.result c.args.json.now c.in-Err.refusal c.in-Err.ensures.answer e)
+
+pub returns-in-Ok-Some-clause-named : goal.returns-in-Ok-Some-clause-named
+returns-in-Ok-Some-clause-named g c = λ e. absurd (refused_unclashed _ _ c.in-Ok-Some.field-0 _ c.in-Ok-Some.ensures c.in-Ok-Some.field-0-is e)

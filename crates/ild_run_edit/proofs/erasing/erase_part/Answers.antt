@@ -2,6 +2,7 @@ use Rattle.std.proofs.Common.{sym, ◌∙◌, subst}
 use Rattle.std.specs.Prelude.{Ok, Err}
 use Rattle.ild_run_edit.specs.Moves.{GoesFrom}
 use Rattle.ild_run_edit.proofs.Going.{hole_goes, delimiter_goes, erased_goes, memory_goes, tells_going}
+use Rattle.ild_run_edit.proofs.Naming.{done_named}
 use Rattle.ild_run_edit.proofs.Reading.{schema_as}
 use Rattle.ild_run_edit.proofs.erasing.erase_part.Goals as goal
 
@@ -20,9 +21,13 @@ returns-in-Ok-clause-goes g c =
 
 pub returns-in-Err-erase-clause-goes : goal.returns-in-Err-erase-clause-goes
 returns-in-Err-erase-clause-goes g c =
-    subst (λ r. GoesFrom g.H.KeyHash.hash_of c.args.place (g.K.Store.moment c.args.store.now) (Err r) (g.K.Store.moment c.erase.new.store)) (sym c.done_fault.ensures)
+    subst (λ r. GoesFrom g.H.KeyHash.hash_of c.args.place (g.K.Store.moment c.args.store.now) (Err r) (g.K.Store.moment c.erase.new.store)) (sym c.done_fault.ensures.same)
     (erased_goes _ _ (schema_as _ _ c.requires c.types.ensures.table c.types.ensures.accepted) _ _ c.in-Ok-false.field-0 (Err c.in-Err-erase.fault) (sym c.hole.ensures ∙ c.if-hole.false)
     (tells_going _ c.breaks_around.result c.in-Ok-false.field-0 c.breaks_around.ensures.going c.in-Ok-false.is) c.in-Ok-false.field-0-test c.in-Err-erase.ensures.spares c.in-Err-erase.ensures.erases)
 
 pub returns-in-Err-clause-goes : goal.returns-in-Err-clause-goes
 returns-in-Err-clause-goes g c = memory_goes _ _ (schema_as _ _ c.requires c.types.ensures.table c.types.ensures.accepted) _
+
+pub returns-in-Err-erase-clause-named : goal.returns-in-Err-erase-clause-named
+returns-in-Err-erase-clause-named g c =
+    done_named (g.K.Store.moment c.args.store.now) (g.K.Store.moment c.erase.new.store) c.in-Err-erase.fault c.done_fault.new.clash c.done_fault.result c.in-Err-erase.ensures.spares.cause c.done_fault.ensures.notes c.done_fault.ensures.same

@@ -4,6 +4,7 @@ use Rattle.ild_cbor.specs.Block.{IsBlockOf}
 use Rattle.ild_schema.specs.ValueSeen.{value_of}
 use Rattle.ild_run_edit.specs.Moves.{PutsPart}
 use Rattle.ild_run_edit.proofs.Joining.{put_done}
+use Rattle.ild_run_edit.proofs.Naming.{done_named}
 use Rattle.ild_run_edit.proofs.Reading.{schema_as, typed_as_place}
 use Rattle.ild_run_edit.proofs.putting.put_part.Goals as goal
 
@@ -15,7 +16,11 @@ returns-in-Ok-replace-clause-puts g c =
 
 pub returns-clause-puts : goal.returns-clause-puts
 returns-clause-puts g c =
-    subst (λ r. PutsPart g.H.KeyHash.hash_of c.args.place (value_of c.args.part.now) c.args.json.now (g.K.Store.moment c.args.store.now) (Err r) (g.K.Store.moment c.replace.new.store)) (sym c.done_fault.ensures)
+    subst (λ r. PutsPart g.H.KeyHash.hash_of c.args.place (value_of c.args.part.now) c.args.json.now (g.K.Store.moment c.args.store.now) (Err r) (g.K.Store.moment c.replace.new.store)) (sym c.done_fault.ensures.same)
     (put_done _ c.args.place (value_of c.args.part.now) c.args.json.now (schema_as _ _ c.requires.table c.types.ensures.table c.types.ensures.accepted) c.places_tell_on.ensures (typed_as_place _ _ _ _ c.requires.table c.requires.typed) _ _ _ c.in-Ok.block c.in-Ok-check.item (Err c.in-Err-replace.fault)
     c.in-Ok.ensures.builds c.in-Err-replace.ensures.spares c.in-Err-replace.ensures.brings
     (λ d is. (c.in-Ok-check.ensures.only d (subst (λ x. IsBlockOf x d) (sym c.as_slice.ensures.same) is)).1.stands))
+
+pub returns-clause-named : goal.returns-clause-named
+returns-clause-named g c =
+    done_named (g.K.Store.moment c.args.store.now) (g.K.Store.moment c.replace.new.store) c.in-Err-replace.fault c.done_fault.new.clash c.done_fault.result c.in-Err-replace.ensures.spares.cause c.done_fault.ensures.notes c.done_fault.ensures.same

@@ -1,0 +1,82 @@
+-- The id of a clash is that of a block beside which other bytes are held.
+use Rattle.std.proofs.Common.{◌≡◌, ℕ, List, Option, Some, None, refl, sym, subst, ◌∙◌}
+use Rattle.std.specs.Prelude.{Result, Err}
+use Rattle.ild_build_blocks.specs.Builds.{BuildAnswer, Builds}
+use Rattle.ild_build_blocks.specs.declared.fault.BuildFault.{BuildFault}
+use Rattle.ild_build_blocks.specs.declared.fault.BuildFault.TheVariants as B
+use Rattle.ild_data.specs.Spell.{id_of}
+use Rattle.ild_data.specs.declared.id.BlockId.{BlockId}
+use Rattle.ild_edges.specs.Collide.{Collide}
+use Rattle.ild_edges.specs.Store.{Moment, block_at}
+use Rattle.ild_edges.specs.Told.{IfTold}
+use Rattle.ild_path.specs.Replaces.{EditCause}
+use Rattle.ild_path.specs.declared.fault.EditFault.{EditFault}
+use Rattle.ild_path.specs.declared.fault.EditFault.TheVariants as F
+use Rattle.ild_path_place.specs.declared.place.Place.{Place}
+use Rattle.ild_schema.specs.Value.{Value}
+use Rattle.ild_schema.specs.declared.number.Slot.{Slot}
+use Rattle.ild_schema.specs.declared.row.Row.{Row}
+use Rattle.ild_script.specs.declared.reply.No.{No}
+use Rattle.ild_script.specs.declared.reply.No.TheVariants as N
+use Rattle.ild_run_edit.specs.Judges.{IsPartRefusal}
+use Rattle.ild_run_edit.specs.Moves.{PartAnswer, built_fault, done_fault}
+use Rattle.ild_run_edit.specs.Naming.{IsTaken, NamesClash, NotesBuilt, NotesDone}
+use Rattle.ild_run_edit.specs.Roots.{FindFails}
+use Rattle.ild_run_edit.proofs.Still.{told_plain}
+
+pub same_refusal : {A : Type 0} (r s : No) → ◌≡◌ {A = Result A No} (Err r) (Err s) → r ≡ s
+same_refusal r s e = cc
+
+-- ---- other bytes are held
+
+taken : (o : Option (List (List ℕ))) (id kept new : List ℕ) → IfTold o (λ held. block_at held id ≡ Some kept) → Collide kept new → IfTold o (λ held. IsTaken held id)
+taken None id kept new there c = tt
+taken (Some held) id kept new there c = record { kept = kept; new = new; there = there; collide = c }
+
+named : (clash : Option BlockId) (id : BlockId) (m : Moment) → clash ≡ Some id → IfTold m.blocks (λ held. IsTaken held id.0) → NamesClash clash m
+named clash id m e x = subst (λ c. NamesClash c m) (sym e) x
+
+done_of : (m k : Moment) (f : EditFault) (clash : Option BlockId) → EditCause m f k → NotesDone f clash → done_fault f ≡ N.Clash → NamesClash clash k
+done_of m k F.Size clash cause notes e = absurd cc
+done_of m k F.Store clash cause notes e = absurd cc
+done_of m k F.Memory clash cause notes e = absurd cc
+done_of m k (F.Clash id kept new) clash cause notes e =
+    named clash id k notes.0 (taken k.blocks id.0 kept new cause.3 (record { kept_bytes = notes.1; new_bytes = notes.2; differ = cause.2; one_id = cause.0 ∙ sym cause.1 }))
+
+-- where a block comes to its place
+pub done_named : (m k : Moment) (f : EditFault) (clash : Option BlockId) (r : No) → EditCause m f k → NotesDone f clash → r ≡ done_fault f → ◌≡◌ {A = Result (List ℕ) No} (Err r) (Err N.Clash) → NamesClash clash k
+done_named m k f clash r cause notes is e = done_of m k f clash cause notes (sym is ∙ same_refusal r N.Clash e)
+
+there_as : (o : Option (List (List ℕ))) (id kept : List ℕ) → id_of kept ≡ id → IfTold o (λ held. (block_at held (id_of kept) ≡ Some kept) × Unit {0}) → IfTold o (λ held. block_at held id ≡ Some kept)
+there_as None id kept e h = tt
+there_as (Some held) id kept e h = subst (λ i. block_at held i ≡ Some kept) e h.0
+
+built_of : (h : List ℕ → List ℕ) (rows : List Row) (slot : Slot) (w : Value) (m k : Moment) (f : BuildFault) (clash : Option BlockId) → BuildAnswer h rows slot w m (Err f) k → NotesBuilt f clash → built_fault f ≡ N.Clash → NamesClash clash k
+built_of h rows slot w m k B.Exhausted clash a notes e = absurd cc
+built_of h rows slot w m k B.Size clash a notes e = absurd cc
+built_of h rows slot w m k B.Store clash a notes e = absurd cc
+built_of h rows slot w m k B.Memory clash a notes e = absurd cc
+built_of h rows slot w m k (B.Clash id kept new) clash a notes e =
+    let x = a.0 in named clash id k notes (taken k.blocks id.0 kept new (there_as k.blocks id.0 kept (x.collide.one_id ∙ x.named) x.held) x.collide)
+
+-- where a part is built
+pub built_named : (h : List ℕ → List ℕ) (rows : List Row) (slot : Slot) (w : Value) (m k : Moment) (f : BuildFault) (clash : Option BlockId) (r : No) → Builds h rows slot w m (Err f) k → NotesBuilt f clash → r ≡ built_fault f
+    → ◌≡◌ {A = Result (List ℕ) No} (Err r) (Err N.Clash) → NamesClash clash k
+built_named h rows slot w m k f clash r x notes is e = built_of h rows slot w m k f clash x.answer notes (sym is ∙ same_refusal r N.Clash e)
+
+-- ---- no clash
+
+unclashed : (P : No → Type 0) (r : No) → P r → (P N.Clash → ⊥) → ◌≡◌ {A = Result (List ℕ) No} (Err r) (Err N.Clash) → ⊥
+unclashed P r is none e = none (subst P (same_refusal r N.Clash e) is)
+
+-- where a json text means no part
+pub part_unclashed : (rows : List Row) (slot : Slot) (json : List ℕ) (r : No) → PartAnswer rows slot json (Err r) → ◌≡◌ {A = Result (List ℕ) No} (Err r) (Err N.Clash) → ⊥
+part_unclashed rows slot json r a = unclashed (λ r. PartAnswer rows slot json (Err r)) r a (λ x. x)
+
+-- where there is no place
+pub nowhere_unclashed : (m n : Moment) (r : No) → FindFails m (Err r) n → ◌≡◌ {A = Result (List ℕ) No} (Err r) (Err N.Clash) → ⊥
+nowhere_unclashed m n r f = unclashed (λ r. FindFails m (Err r) n) r f (λ x. x)
+
+-- where a part may not come to its place
+pub refused_unclashed : (place : Place) (w : Value) (o : Option No) (r : No) → IsPartRefusal place w o → o ≡ Some r → ◌≡◌ {A = Result (List ℕ) No} (Err r) (Err N.Clash) → ⊥
+refused_unclashed place w o r x is = unclashed (λ r. r ≡ N.Clash → ⊥) r (told_plain (λ r. r ≡ N.Clash → ⊥) (λ e. absurd cc) (λ e. absurd cc) (λ e. absurd cc) (λ e. absurd cc) (λ e. absurd cc) place w o x r is) (λ x. x refl)
