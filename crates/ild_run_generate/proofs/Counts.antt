@@ -1,0 +1,59 @@
+-- The entries of a document's map, by what stands under its root.
+use Rattle.std.proofs.Common.{◌≡◌, ◌≢◌, ℕ, List, Option, Some, None, Result, Ok, Err, refl, sym, ap, ◌∙◌, subst}
+use Rattle.ild_cbor.specs.declared.why.BlockWhy.{BlockWhy}
+use Rattle.ild_data.specs.Spell.{id_of}
+use Rattle.ild_data.specs.declared.id.BlockId.{BlockId}
+use Rattle.ild_edges.specs.Store.{Moment, block_at}
+use Rattle.ild_open.specs.Opened.{HasValue, Opens}
+use Rattle.ild_open_parts.specs.declared.fault.OpenFault.{OpenFault}
+use Rattle.ild_open_parts.specs.declared.fault.OpenFault.TheVariants as O
+use Rattle.ild_path_edits.specs.Judged.{Tests}
+use Rattle.ild_run_generate.specs.Counting.{CountsEntries, count_in}
+use Rattle.ild_run_generate.specs.declared.fault.GenerateFault.TheVariants as F
+use Rattle.ild_run_standing.specs.Laws.{HeldAreStanding}
+use Rattle.ild_run_standing.specs.Standing.{IsHeldAt}
+use Rattle.ild_schema.specs.Accept.{IsAccepted}
+use Rattle.ild_schema.specs.Table.{IsTable}
+use Rattle.ild_schema.specs.Value.{Value}
+use Rattle.ild_schema.specs.ValueSeen.{value_of}
+use Rattle.ild_schema.specs.declared.number.TypeNo.{TypeNo}
+use Rattle.ild_schema.specs.declared.row.Row.{Row}
+use Rattle.ild_schema.specs.declared.val.Val.{Val}
+use Rattle.ild_typed.specs.Schema.{IsSchema}
+use Rattle.ild_typed.specs.StandLaws.{OneStands}
+use Rattle.ild_typed.specs.Stands.{IsFrame, Stands, bare}
+use Rattle.ild_view_doc.specs.Docs.{table_in, type_in, block_in}
+use Rattle.ild_view_doc.specs.declared.doc.Doc.{Doc}
+
+told_some : (o : Option (List (List ℕ))) → o ≢ None → (held : List (List ℕ)) × (o ≡ Some held)
+told_some None told = absurd (told refl)
+told_some (Some held) told = (held, refl)
+
+module _ (back : HeldAreStanding) (d : Doc) (rows : List Row) (table : rows ≡ table_in d) (ty : TypeNo) (type : ty ≡ type_in d) (id : List ℕ) (root : id ≡ id_of (block_in d)) (m n : Moment) where
+  -- the value at which the document stands, as the call sees it
+  stood : (tests : Tests) (v : Value) (x : IsHeldAt id_of d tests m v) (held : List (List ℕ)) → m.blocks ≡ Some held → Stands bare (block_at held) id_of rows ty id v
+  stood tests v x held told =
+      subst (λ (r : List Row). Stands bare (block_at held) id_of r ty id v) (sym table)
+      (subst (λ (t : TypeNo). Stands bare (block_at held) id_of (table_in d) t id v) (sym type)
+      (subst (λ (j : List ℕ). Stands bare (block_at held) id_of (table_in d) (type_in d) j v) (sym root) (back id_of d tests m held v told x)))
+
+  pub none_lacks : (f : OpenFault) → Opens (HasValue id_of rows ty id m) id_of rows ty id m (Err f) n → (at : BlockId) (why : BlockWhy) → f ≡ O.Block at why → CountsEntries d m (Err (F.Block at why)) n
+  none_lacks f opens at why is =
+      let o = subst (λ (g : OpenFault). Opens (HasValue id_of rows ty id m) id_of rows ty id m (Err g) n) is opens in record {
+        reads = o.only;
+        failed = λ e. absurd cc;
+        told = λ tests v x. let t = told_some m.blocks x.at.told in (o.answer.0) t.0 v t.1 (stood tests v x t.0 t.1);
+      }
+
+pub counts : HeldAreStanding → OneStands → IsFrame bare → (d : Doc) (first : List Row) → first ≡ table_in d → IsTable first → IsAccepted first → (rows : List Row) → rows ≡ table_in d → (ty : TypeNo) → ty ≡ type_in d
+    → (id : List ℕ) → id ≡ id_of (block_in d) → (m n : Moment) (opened : Doc × Val) → Opens (HasValue id_of rows ty id m) id_of rows ty id m (Ok opened) n → (count : ℕ) → count ≡ count_in (value_of opened.1) → CountsEntries d m (Ok count) n
+counts back one frame d first first_is is_table accepted rows table ty type id root m n opened opens count is =
+    let schema : IsSchema rows = subst (λ (r : List Row). IsSchema r) (first_is ∙ sym table) (record { table = is_table; accepted = accepted }) in record {
+      reads = opens.only;
+      failed = λ e. absurd cc;
+      told = λ tests v x.
+          let t = told_some m.blocks x.at.told in
+          let same : value_of opened.1 ≡ v =
+          one bare frame (block_at t.0) id_of rows schema ty id (value_of opened.1) v ((opens.answer.value t.0 t.1).stands) (stood back d rows table ty type id root m n tests v x t.0 t.1) in
+          is ∙ ap count_in same;
+    }

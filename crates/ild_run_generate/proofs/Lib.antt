@@ -1,0 +1,10 @@
+pub mod Added
+pub mod Leading
+pub mod Taking
+pub mod Told
+pub mod Taken
+pub mod Through
+pub mod Ending
+pub mod Counts
+pub mod Begun
+pub mod Lines

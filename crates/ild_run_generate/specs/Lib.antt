@@ -1,0 +1,7 @@
+pub mod Counting
+pub mod Steps
+pub mod Runs
+pub mod Starting
+pub mod Generates
+pub mod Words
+pub mod Text
