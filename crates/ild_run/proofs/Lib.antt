@@ -7,4 +7,5 @@ pub mod CompletesRoot
 pub mod CompletesScript
 pub mod CompletesPair
 pub mod Completes
+pub mod Generating
 pub mod Apart

@@ -10,3 +10,4 @@ pub mod Answered
 pub mod Matched
 pub mod Ended
 pub mod Complete
+pub mod Generator

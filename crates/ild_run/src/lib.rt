@@ -1,8 +1,9 @@
-//! The top call: a schema is checked or compared with a later one, a value of any of its types is created or shown, or a script is run
-//! on one.
+//! The top call: a schema is checked or compared with a later one, a value of any of its types is created or shown, a script is run on
+//! one, or a map is generated.
 #![tactic(auto)]
 
 mod fault;
+mod generator;
 mod laws;
 mod listed;
 mod open;

@@ -13,8 +13,11 @@ ghost use Rattle.ild_run.specs.Answered.{AnsweredAs, start_fault};
 ghost use Rattle.ild_run.specs.Shown.{Replied, ShownAs};
 ghost use Rattle.ild_run.specs.Ended.{Ended, call_of};
 ghost use Rattle.ild_run.specs.Complete.{IsComplete};
+ghost use Rattle.ild_run.specs.Generator.{EndedBy, IsCompleteBy};
+ghost use Rattle.ild_run_generate.specs.Words.{generation_of};
 
 use crate::fault::{Fault, write_fault};
+use crate::generator::run_generator;
 use crate::listed::names_json;
 use crate::open::{Job, Task, job_of, plan};
 use crate::status::Status;
@@ -22,6 +25,7 @@ use ild_data::{BlockId, Sha256Keys, Txt};
 use ild_edges::{Inputs, Sink, Store};
 use ild_run_compare::{CompareFault, compare};
 use ild_run_create::{CreateFault, Refusal, create};
+use ild_run_generate::generation_of;
 use ild_run_open::{Start, StartFault};
 use ild_run_script::{ScriptFault, run_script};
 use ild_run_show::{ShowFault, show};
@@ -31,7 +35,7 @@ use ild_script_session::{Cut, write_reply};
 use std::alloc::Global;
 
 /// The status of a call whose text was cut off.
-fn cut_status(cut: Cut) -> Status
+pub(crate) fn cut_status(cut: Cut) -> Status
     ensures { result ≡ cut_status cut }
 {
     match cut {
@@ -41,7 +45,7 @@ fn cut_status(cut: Cut) -> Status
 }
 
 /// Writes the line of a fault, and answers its status.
-fn tell<W: Sink>(alloc: Global, fault: Fault, out: &mut W) -> Status
+pub(crate) fn tell<W: Sink>(alloc: Global, fault: Fault, out: &mut W) -> Status
     ensures { ToldAs fault (W.output out.old) result (W.output out.new) }
 {
     match write_fault(alloc, fault, out) {
@@ -250,7 +254,8 @@ fn carry_out<I: Inputs, K: Store, W: Sink>(
 /// or the first cause is told for which no store holds such a value. Under `show` the value of a type that stands under a root is read
 /// and written as DAG-JSON; or a block is told that isn't held, or isn't what has to stand there, where no such value does. Under `compat`
 /// the types with one name of two schemas are compared: `ok true` tells that all that stands as a value of the first stands as one of the
-/// other, in the same blocks and with the same shown form; or a pair of their types is told, and a rule that fails for it.
+/// other, in the same blocks and with the same shown form; or a pair of their types is told, and a rule that fails for it. Under `gen`
+/// a map is generated, and its counts, the number of its entries and its root are written, which are those of a plain map.
 pub fn run<I: Inputs, K: Store, W: Sink>(
     alloc: Global,
     words: &[String],
@@ -259,15 +264,21 @@ pub fn run<I: Inputs, K: Store, W: Sink>(
     out: &mut W,
 ) -> Status
     // The status, the text that was written, the cause of both, and what came of the store.
-    ensures ended { Ended (call_of (job_of words.now) (I.supply inputs.old) (K.moment store.old) (W.output out.old) (I.supply inputs.new) (K.moment store.new) (W.output out.new)) result }
+    ensures ended { EndedBy (generation_of words.now) (call_of (job_of words.now) (I.supply inputs.old) (K.moment store.old) (W.output out.old) (I.supply inputs.new) (K.moment store.new) (W.output out.new)) result }
 
     // Where no call of the outside failed and no blocks collide, all that the words ask for is done.
     ensures complete { IsComplete (call_of (job_of words.now) (I.supply inputs.old) (K.moment store.old) (W.output out.old) (I.supply inputs.new) (K.moment store.new) (W.output out.new)) result }
+
+    // The same of the generator.
+    ensures generated { IsCompleteBy (generation_of words.now) (call_of (job_of words.now) (I.supply inputs.old) (K.moment store.old) (W.output out.old) (I.supply inputs.new) (K.moment store.new) (W.output out.new)) result }
 
     // What was held is held, what was given is given, and no count falls.
     ensures inputs { After (I.supply inputs.old) (I.supply inputs.new) }
     ensures later { Later (K.moment store.old) (K.moment store.new) }
     ensures sink { (W.output out.old).faults ≤ (W.output out.new).faults }
 {
-    carry_out(alloc, words, inputs, store, out)
+    match generation_of(words) {
+        Some((count, seed)) => run_generator(alloc, count, seed, store, out),
+        None => carry_out(alloc, words, inputs, store, out),
+    }
 }
