@@ -3,31 +3,26 @@ ghost use Rattle.std.specs.Prelude.{◌≡◌, ◌≢◌, [], None, IfOk, IfSome
 ghost use Rattle.ild_data.specs.Spell.{id_of};
 
 use crate::cause::cause;
+use crate::found::is_plain;
 use crate::load::load;
 use crate::name::block_path;
-use crate::part::{Folder, place};
+use crate::own::{OwnBlocks, front, may_stand, note};
+use crate::part::place;
 use ild_data::{BlockId, LONGEST_BLOCK as LONGEST, Octets, block_id};
 use ild_edges::{EdgeErr, Store};
-use std::alloc::AllocError;
-use std::collections::BTreeSet;
+use std::fs;
 use std::io::ErrorKind;
 use std::rt::Files;
 
-/// The fronts of the ids of all blocks that may stand in a folder, where that is known: the store made it, and put them.
-type OwnBlocks = Option<BTreeSet<u64>>;
-
-/// The front of an id: its first eight bytes as a number. Where two blocks have one front, a put of the second looks for a file,
-/// and finds none.
-fn front(id: &BlockId) -> u64 {
-    let [a, b, c, d, e, f, g, h, ..] = id.0;
-    u64::from_be_bytes([a, b, c, d, e, f, g, h])
-}
-
 /// A folder with one file a block, named by the text of the block's CID. It tells nothing of what there is.
 ///
-/// A file that doesn't hash to its name, or that is longer than a block may be, counts as not there. A block is written
-/// beside its name and then moved to it, so that no file under a block's name is ever a part of the block. In a folder that
+/// A file that doesn't hash to its name, or that is longer than a block may be, counts as not there, and so does what is no plain
+/// file: a folder, a named pipe, a device. Such a thing is never opened, for opening a pipe waits for a writer; only where another program
+/// puts one there between the look at the name and the opening, the call waits. A block is written
+/// beside its name and then moved to it, so that no file under a block's name is ever a part of the block; a folder under the name
+/// stays as it is, and the put fails. In a folder that
 /// this store made itself, a put looks for a file only where it put that block before, or one whose id has the same front.
+/// Behind the move nothing of a put can fail: a block that was stored is never answered by want of memory.
 #[derive(Drop)]
 pub struct FolderStore<'r, R: Files + AllocGlobal> {
     rt: &'r R,
@@ -60,10 +55,13 @@ impl<'r, R: Files + AllocGlobal> FolderStore<'r, R> {
     }
 }
 
-/// The block in a file, where the file holds the block of this id.
+/// The block in a file, where a plain file holds the block of this id.
 fn held<R: Files + AllocGlobal>(rt: &R, path: &str, id: &BlockId) -> Result<Option<Octets>, EdgeErr>
     ensures { IfOk result (λ block. IfSome block (λ b. id_of b ≡ id.now.0)) }
 {
+    if !is_plain(fs::metadata(rt, path))? {
+        return Ok(None);
+    }
     match load(rt, path, LONGEST as u64, 0) {
         Ok(bytes) => {
             if bytes.len() <= LONGEST && block_id(&bytes) == *id {
@@ -94,16 +92,7 @@ fn other(block: Octets, bytes: &[u8]) -> Option<Octets>
     }
 }
 
-/// Whether a file may stand under the name of a block. In a folder that the store made only those do that it put, and from here on
-/// this block is one of them.
-fn may_hold(own: &mut OwnBlocks, id: &BlockId) -> Result<bool, AllocError> {
-    match own {
-        Some(ids) => Ok(!ids.insert(front(id))?),
-        None => Ok(true),
-    }
-}
-
-/// Writes a block into its file. Where the folder had to be made, what is in it is known from here on.
+/// Writes a block into its file. Nothing fails behind its move to its name.
 fn write<R: Files + AllocGlobal>(
     rt: &R,
     folder: &str,
@@ -113,11 +102,8 @@ fn write<R: Files + AllocGlobal>(
     bytes: &[u8],
 ) -> Result<(), EdgeErr> {
     match place(rt, folder, path, bytes) {
-        Ok(Folder::Found) => Ok(()),
-        Ok(Folder::Made) => {
-            let mut ids = BTreeSet::new(rt.alloc());
-            ids.insert(front(id))?;
-            *own = Some(ids);
+        Ok(whose) => {
+            note(own, rt.alloc(), whose, front(id));
             Ok(())
         }
         Err(error) => Err(cause(error)),
@@ -135,7 +121,7 @@ fn keep<R: Files + AllocGlobal>(
     ensures { IfOk result (λ kept. IfSome kept (λ b. (id_of b ≡ id.now.0) × (b ≢ bytes.now))) }
 {
     let path = block_path(rt.alloc(), folder, id)?;
-    if may_hold(own, id)? {
+    if may_stand(own, front(id)) {
         if let Some(block) = held(rt, path.as_str(), id)? {
             return Ok(other(block, bytes));
         }

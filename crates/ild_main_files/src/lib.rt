@@ -4,9 +4,11 @@
 mod cause;
 mod files;
 mod folder;
+mod found;
 mod load;
 mod name;
 mod output;
+mod own;
 mod part;
 
 pub use files::FileInputs;
