@@ -3,6 +3,7 @@
 Each test is a function named for what it shows. It gets the program and a fresh folder, and yields what is wrong. What
 a run must write is worked out by `write_cases`, on plain Python values.
 """
+import ctypes
 import importlib.machinery
 import importlib.util
 import os
@@ -27,6 +28,8 @@ SCHEMA = plain.SCHEMA.encode() + b"\n"
 WORDS = ["run", "s", "N", "-", "x"]
 # A run that takes longer is ended, and has failed.
 SECONDS = 300
+# What waits for nobody has ended after so many, also where much other work is done beside.
+AT_ONCE = 60
 EMPTY = plain.cid_text(plain.block_of({}))
 ONE_BLOCK = plain.block_of({"a": 1})
 ONE = plain.cid_text(ONE_BLOCK)
@@ -43,14 +46,14 @@ def start(program, place, words=None, **how):
     return subprocess.Popen([program, *(WORDS if words is None else words)], cwd=place, **how)
 
 
-def differs(run, text, status, given=None):
+def differs(run, text, status, given=None, seconds=SECONDS):
     """What is wrong with how a run ended."""
     try:
-        out, _ = run.communicate(given, timeout=SECONDS)
+        out, _ = run.communicate(given, timeout=seconds)
     except subprocess.TimeoutExpired:
         run.kill()
         run.communicate()
-        yield f"no end after {SECONDS} seconds"
+        yield f"no end after {seconds} seconds"
         return
     if run.returncode != status:
         yield f"status {run.returncode}, and {status} is wanted"
@@ -125,17 +128,72 @@ def what_stands_under_the_name_of_a_block(program, place):
         ("other", lambda file: file.write_bytes(b"other"), None, 0),
         ("long", lambda file: zeros(file, 4_194_305), None, 0),
         ("link to nothing", lambda file: file.symlink_to("nothing"), None, 0),
+        ("link to a device", lambda file: file.symlink_to("/dev/zero"), None, 0),
+        ("pipe", os.mkfifo, None, 0),
         ("folder", lambda file: file.mkdir(), fault, 1),
     ):
         room = place / name
         give(room)
         (room / "blocks").mkdir()
         make(room / "blocks" / ONE)
-        for wrong in differs(start(program, room), text or f"root {ONE}\n".encode(), status):
+        for wrong in differs(start(program, room), text or f"root {ONE}\n".encode(), status, seconds=AT_ONCE):
             yield f"{name}: {wrong}"
         held = files_in(room)
         if held != {EMPTY: b"\xa0", ONE: None if text else ONE_BLOCK}:
             yield f"{name}: left {held}"
+
+
+def what_a_folder_under_the_name_of_a_block_holds_stays(program, place):
+    give(place)
+    (place / "blocks" / ONE).mkdir(parents=True)
+    (place / "blocks" / ONE / "mine").write_bytes(b"mine")
+    yield from differs(start(program, place), b"no 12 store\n", 1)
+    if files_in(place) != {EMPTY: b"\xa0", ONE: None} or (place / "blocks" / ONE / "mine").read_bytes() != b"mine":
+        yield f"left {files_in(place)}"
+
+
+LIBC = ctypes.CDLL(None)
+NO_SUCH_RIGHT = 77
+
+
+def by_the_modes():
+    """From the program's start on modes of files count for root too: of its rights it loses the one to pass over them (CAP_DAC_OVERRIDE)."""
+    if os.geteuid() == 0 and LIBC.prctl(24, 1, 0, 0, 0) != 0:
+        os._exit(NO_SUCH_RIGHT)
+
+
+def a_folder_that_may_not_be_written(program, place):
+    """What is held is read, nothing is put, and the fault is told; neither a block nor a part comes."""
+    for name, held, script, text, status in (
+        ("nothing held", {}, b"root\n", b"fault 6 store\n", 6),
+        ("the empty value held", {EMPTY: b"\xa0"}, b"set /a 1\nroot\n", f"no 12 store\nroot {EMPTY}\n".encode(), 1),
+        ("all held", {EMPTY: b"\xa0", ONE: ONE_BLOCK}, b"set /a 1\nget /a\n", f"root {ONE}\nok 1\n".encode(), 0),
+    ):
+        room = place / name
+        give(room, script=script)
+        (room / "blocks").mkdir()
+        for cid, block in held.items():
+            (room / "blocks" / cid).write_bytes(block)
+        (room / "blocks").chmod(0o555)
+        yield from (f"{name}: {wrong}" for wrong in differs(start(program, room, preexec_fn=by_the_modes), text, status))
+        (room / "blocks").chmod(0o755)
+        if files_in(room) != held:
+            yield f"{name}: left {files_in(room)}"
+
+
+def old_parts_are_removed_as_the_document_says(program, place):
+    """The command that docs/formats.md shows takes parts that are older than an hour, and nothing else."""
+    commands = re.findall(r"^    (find blocks .*)$", (HERE.parents[1] / "docs/formats.md").read_text(), re.M)
+    give(place)
+    (place / "blocks").mkdir()
+    for name, minutes in ((f"{ONE}.part", 61), (f"{ONE}.part7", 100_000), (f"{EMPTY}.part", 59), (f"{EMPTY}.part1", 0), (EMPTY, 100_000), ("mine.part", 100_000)):
+        (place / "blocks" / name).write_bytes(b"\xa0")
+        os.utime(place / "blocks" / name, (time.time() - 60 * minutes,) * 2)
+    for command in commands:
+        subprocess.run(["sh", "-c", command], cwd=place, check=True)
+    if len(commands) != 1 or sorted(files_in(place)) != sorted([f"{EMPTY}.part", f"{EMPTY}.part1", EMPTY, "mine.part"]):
+        yield f"{commands} left {sorted(files_in(place))}"
+    yield from differs(start(program, place), f"root {ONE}\n".encode(), 0)
 
 
 def a_file_in_place_of_the_folder(program, place):
@@ -307,6 +365,9 @@ TESTS = (
     a_link_in_the_way_is_not_followed,
     what_a_crash_left_does_no_harm,
     what_stands_under_the_name_of_a_block,
+    what_a_folder_under_the_name_of_a_block_holds_stays,
+    a_folder_that_may_not_be_written,
+    old_parts_are_removed_as_the_document_says,
     a_file_in_place_of_the_folder,
     a_write_that_is_cut_off_leaves_nothing,
     inputs,

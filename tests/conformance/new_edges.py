@@ -134,6 +134,27 @@ def a_file_that_is_not_its_block(program, place):
         yield "the file was written"
 
 
+def what_is_no_file_is_no_block(program, place):
+    """It counts as missing, is never opened, so that no run waits for it, and stays as it is."""
+    _, _, (block,) = values.answer(b"type A int\n", "A", b"1")
+    root = values.cid_text(block)
+    for name, make in (
+        ("pipe", os.mkfifo),
+        ("link to a pipe", lambda file: (os.mkfifo(f"{file}.pipe"), file.symlink_to(f"{root}.pipe"))),
+        ("folder", lambda file: file.mkdir()),
+        ("device", lambda file: file.symlink_to("/dev/zero")),
+    ):
+        room = place / name
+        give(room, "type A int\n", "")
+        (room / "blocks").mkdir()
+        make(room / "blocks" / root)
+        before = sorted((file, os.lstat(room / "blocks" / file).st_mode) for file in os.listdir(room / "blocks"))
+        run = edges.start(program, room, ["show", "s", "A", root])
+        yield from (f"{name}: {wrong}" for wrong in edges.differs(run, f"fault 4 root missing {root}\n".encode(), 4, seconds=edges.AT_ONCE))
+        if sorted((file, os.lstat(room / "blocks" / file).st_mode) for file in os.listdir(room / "blocks")) != before:
+            yield f"{name}: it was changed"
+
+
 def roots_without_a_folder(program, place):
     _, _, (block,) = values.answer(b"type A int\n", "A", b"1")
     root = values.cid_text(block)
@@ -235,6 +256,7 @@ TESTS = (
     each_front_of_a_block,
     a_hamt_with_a_node_above_a_block,
     a_file_that_is_not_its_block,
+    what_is_no_file_is_no_block,
     roots_without_a_folder,
     what_is_created_is_shown,
     big_values_are_shown,

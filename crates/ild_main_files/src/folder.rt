@@ -1,5 +1,7 @@
 //! A folder of blocks as a store.
-ghost use Rattle.std.specs.Prelude.{◌≡◌, ◌≢◌, [], None, IfOk, IfSome};
+ghost use Rattle.std.specs.Fs.{file_type, IsFile};
+ghost use Rattle.std.specs.IoError.{error_kind};
+ghost use Rattle.std.specs.Prelude.{◌≡◌, ◌≢◌, ◌⊎◌, [], None, Ok, IfOk, IfSome, IsOkAnd, IsErrAnd};
 ghost use Rattle.ild_data.specs.Spell.{id_of};
 
 use crate::cause::cause;
@@ -10,19 +12,21 @@ use crate::own::{OwnBlocks, front, may_stand, note};
 use crate::part::place;
 use ild_data::{BlockId, LONGEST_BLOCK as LONGEST, Octets, block_id};
 use ild_edges::{EdgeErr, Store};
-use std::fs;
+use std::fs::Metadata;
 use std::io::ErrorKind;
 use std::rt::Files;
+use std::{fs, io};
 
 /// A folder with one file a block, named by the text of the block's CID. It tells nothing of what there is.
 ///
-/// A file that doesn't hash to its name, or that is longer than a block may be, counts as not there, and so does what is no plain
-/// file: a folder, a named pipe, a device. Such a thing is never opened, for opening a pipe waits for a writer; only where another program
-/// puts one there between the look at the name and the opening, the call waits. A block is written
-/// beside its name and then moved to it, so that no file under a block's name is ever a part of the block; a folder under the name
-/// stays as it is, and the put fails. In a folder that
-/// this store made itself, a put looks for a file only where it put that block before, or one whose id has the same front.
-/// Behind the move nothing of a put can fail: a block that was stored is never answered by want of memory.
+/// A file that doesn't hash to its name, or that is longer than a block may be, counts as not there, and so does what is no plain file:
+/// a folder, a named pipe, a device. Such a thing isn't opened, for opening a pipe waits for a writer. Only where another program puts one
+/// there between the look at the name and the opening, the call waits.
+///
+/// A block is written beside its name and then moved to it, so that no file under a block's name is ever a part of the block. A folder
+/// under the name stays as it is, and the put fails. Behind the move nothing of a put can fail: a put that stored its block never answers
+/// want of memory. In a folder that this store made itself, a put looks for a file only where it put that block before, or one whose id
+/// has the same front.
 #[derive(Drop)]
 pub struct FolderStore<'r, R: Files + AllocGlobal> {
     rt: &'r R,
@@ -55,11 +59,17 @@ impl<'r, R: Files + AllocGlobal> FolderStore<'r, R> {
     }
 }
 
-/// The block in a file, where a plain file holds the block of this id.
-fn held<R: Files + AllocGlobal>(rt: &R, path: &str, id: &BlockId) -> Result<Option<Octets>, EdgeErr>
-    ensures { IfOk result (λ block. IfSome block (λ b. id_of b ≡ id.now.0)) }
+/// The block in a file, by what the system told of its path: a plain file that holds the block of this id. What is no plain file holds none.
+fn held_there<R: Files + AllocGlobal>(
+    rt: &R,
+    path: &str,
+    id: &BlockId,
+    told: io::Result<Metadata>,
+) -> Result<Option<Octets>, EdgeErr>
+    ensures block { IfOk result (λ block. IfSome block (λ b. id_of b ≡ id.now.0)) }
+    ensures other { (IsOkAnd told (λ m. IsFile (file_type m) → ⊥) ⊎ IsErrAnd told (λ e. error_kind e ≡ ErrorKind.NotFound)) → result ≡ Ok None }
 {
-    if !is_plain(fs::metadata(rt, path))? {
+    if !is_plain(told)? {
         return Ok(None);
     }
     match load(rt, path, LONGEST as u64, 0) {
@@ -78,6 +88,13 @@ fn held<R: Files + AllocGlobal>(rt: &R, path: &str, id: &BlockId) -> Result<Opti
             }
         }
     }
+}
+
+/// The block under a path, where a plain file holds the block of this id.
+fn held<R: Files + AllocGlobal>(rt: &R, path: &str, id: &BlockId) -> Result<Option<Octets>, EdgeErr>
+    ensures { IfOk result (λ block. IfSome block (λ b. id_of b ≡ id.now.0)) }
+{
+    held_there(rt, path, id, fs::metadata(rt, path))
 }
 
 /// What a put hands back where a file holds a block of the id already: the block, where its bytes are others.
