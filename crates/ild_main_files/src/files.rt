@@ -39,7 +39,7 @@ impl<'r, R: Files + AllocGlobal> Inputs for FileInputs<'r, R> {
     ghost supply = { λ f. record { files = None; lacks = f.lacks; faults = f.faults } };
 
     fn take(&mut self, name: &str) -> Result<Taken, EdgeErr> {
-        match load(self.rt, name, LONGEST as u64, ROOM) {
+        match load(self.rt, name, ROOM as u64, ROOM) {
             Ok(bytes) => {
                 if bytes.len() <= LONGEST {
                     Ok(Taken::Bytes(Octets::from_vec(bytes)))

@@ -1,11 +1,11 @@
 //! A folder of blocks as a store.
-ghost use Rattle.std.specs.Fs.{file_type, IsFile};
+ghost use Rattle.std.specs.Fs.{file_type, metadata_len, IsFile};
 ghost use Rattle.std.specs.IoError.{error_kind};
-ghost use Rattle.std.specs.Prelude.{◌≡◌, ◌≢◌, ◌⊎◌, [], None, Ok, IfOk, IfSome, IsOkAnd, IsErrAnd};
+ghost use Rattle.std.specs.Prelude.{◌≡◌, ◌≢◌, ◌<◌, ◌⊎◌, [], None, Ok, IfOk, IfSome, IsOkAnd, IsErrAnd};
 ghost use Rattle.ild_data.specs.Spell.{id_of};
 
 use crate::cause::cause;
-use crate::found::is_plain;
+use crate::found::plain_len;
 use crate::load::load;
 use crate::name::block_path;
 use crate::own::{OwnBlocks, front, may_stand, note};
@@ -59,7 +59,9 @@ impl<'r, R: Files + AllocGlobal> FolderStore<'r, R> {
     }
 }
 
-/// The block in a file, by what the system told of its path: a plain file that holds the block of this id. What is no plain file holds none.
+/// The block in a file, by what the system told of its path: a plain file that holds the block of this id. What is no plain file, or is too long,
+/// holds none. No more than the length that was told is read, so that the end needn't be looked for; where it is told as 0, as by file
+/// systems that don't know it, as much as a block may have and a byte.
 fn held_there<R: Files + AllocGlobal>(
     rt: &R,
     path: &str,
@@ -68,11 +70,16 @@ fn held_there<R: Files + AllocGlobal>(
 ) -> Result<Option<Octets>, EdgeErr>
     ensures block { IfOk result (λ block. IfSome block (λ b. id_of b ≡ id.now.0)) }
     ensures other { (IsOkAnd told (λ m. IsFile (file_type m) → ⊥) ⊎ IsErrAnd told (λ e. error_kind e ≡ ErrorKind.NotFound)) → result ≡ Ok None }
+    ensures long { IsOkAnd told (λ m. 4194304 < metadata_len m) → result ≡ Ok None }
 {
-    if !is_plain(told)? {
+    let Some(len) = plain_len(told)? else {
+        return Ok(None);
+    };
+    if len > LONGEST as u64 {
         return Ok(None);
     }
-    match load(rt, path, LONGEST as u64, 0) {
+    let most = if len == 0 { LONGEST as u64 + 1 } else { len };
+    match load(rt, path, most, len as usize) {
         Ok(bytes) => {
             if bytes.len() <= LONGEST && block_id(&bytes) == *id {
                 Ok(Some(Octets::from_vec(bytes)))
