@@ -3,7 +3,8 @@ docs/values.md: each line on the value as a whole, of which each root is built f
 
 Nothing of the program is used, and nothing is spliced: values are those of `values.py`, and an edit makes another value. `answer(source,
 type, value, script)` gives the text, the status, and the blocks of the value at the end, the root first; `value` is the DAG-JSON of the
-value at the beginning, or None for the empty map or list.
+value at the beginning, or None for the empty map or list. A batch is the value that stood at its `begin`, to which `abort` and the end of
+the script go back; `Document.stored` are the blocks that a script stores, those of a batch at its `commit` alone.
 """
 import re
 
@@ -14,6 +15,7 @@ from values import ABSENT, Refused
 
 WORDS_WITH_PATH = ("get", "rep", "has", "len", "walk", "del")
 WORDS_WITH_JSON = ("set", "ins")
+WORDS_ALONE = ("root", "begin", "commit", "abort")
 
 
 # ---- lines
@@ -26,8 +28,8 @@ def command(line):
     except UnicodeDecodeError:
         return None
     word, space, rest = text.partition(" ")
-    if text == "root":
-        return "root", [], None
+    if text in WORDS_ALONE:
+        return text, [], None
     if word in WORDS_WITH_PATH and space:
         path = path_of(rest)
         return None if path is None else (word, path, None)
@@ -55,6 +57,8 @@ class Document:
     def __init__(self, found, ty, value):
         self.found, self.ty, self.value = found, ty, value
         self.any = found.number("Any")
+        self.begun = None  # inside a batch, the value at its begin
+        self.stored = {}  # the blocks that lines have stored, by their CIDs
 
     def of_any(self, data):
         return None if data is None else ("any", data)
@@ -270,16 +274,59 @@ class Document:
             return f"no {refused}"
 
     def obey(self, word, path, json):
+        if word in WORDS_ALONE:
+            return getattr(self, word)()
         if word in ("set", "ins", "del"):
             changed = self.edited(word, path, json)
-            values.blocks_of(self.found, self.ty, changed)
+            blocks = values.blocks_of(self.found, self.ty, changed)
             self.value = changed
-        if word in ("set", "ins", "del", "root"):
-            return "root " + values.cid_text(values.blocks_of(self.found, self.ty, self.value)[0])
+            return self.stores(blocks) if self.begun is None else "ok null"
         if word == "has":
             return f"ok {str(self.leads(path)).lower()}"
         written = values.json_text(getattr(self, word)(*self.at(path)))
         return "no 10 reserved" if written is None else f"ok {written}"
+
+    def blocks(self):
+        return values.blocks_of(self.found, self.ty, self.value)
+
+    def stores(self, blocks):
+        """The reply to a line that stores the blocks of the value."""
+        self.stored.update((values.cid_text(block), block) for block in blocks)
+        return "root " + values.cid_text(blocks[0])
+
+    # ---- batches
+
+    def outside(self):
+        if self.begun is not None:
+            raise Refused("15 batch")
+
+    def inside(self):
+        if self.begun is None:
+            raise Refused("15 batch")
+
+    def root(self):
+        self.outside()
+        return "root " + values.cid_text(self.blocks()[0])
+
+    def begin(self):
+        self.outside()
+        self.begun = self.value
+        return "ok null"
+
+    def commit(self):
+        self.inside()
+        self.begun = None
+        return self.stores(self.blocks())
+
+    def abort(self):
+        self.inside()
+        self.end()
+        return "ok null"
+
+    def end(self):
+        """A batch that is open is abandoned."""
+        if self.begun is not None:
+            self.value, self.begun = self.begun, None
 
     def leads(self, path):
         try:
@@ -337,5 +384,5 @@ def answer(source, name, text, script):
 def answers(document, script):
     replies = [document.reply(line) for line in script.split(b"\n") if line]
     refused = any(reply.startswith("no ") for reply in replies)
-    blocks = values.blocks_of(document.found, document.ty, document.value)
-    return "".join(reply + "\n" for reply in replies), int(refused), blocks
+    document.end()
+    return "".join(reply + "\n" for reply in replies), int(refused), document.blocks()

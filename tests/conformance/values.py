@@ -73,9 +73,7 @@ def integer(text):
 
 
 def no_number(text):
-    if text in ("NaN", "Infinity", "-Infinity"):
-        raise ValueError(text)
-    if float(text) in (float("inf"), float("-inf")):
+    if text == "NaN" or abs(float(text)) == float("inf"):
         raise ValueError(text)
     return NoNumber()
 
@@ -335,13 +333,14 @@ class Schema:
         """The data of the HAMT node of these entries; the blocks of the nodes beneath it are kept, those below first."""
         if level == LEVELS:
             raise Refused("8 exhausted")
-        bits, elements = 0, []
-        for index in range(256):
-            here = sorted((pair for pair in pairs if hash_of(pair[0])[level] == index), key=lambda pair: pair[0].encode())
-            if here:
-                bits |= 1 << index
-                elements.append([[key.encode(), part] for key, part in here] if len(here) <= BUCKET_SIZE else self.child(here, level + 1))
-        return [bits.to_bytes(32, "little"), elements]
+        slots = {}
+        for pair in sorted(pairs, key=lambda pair: pair[0].encode()):
+            slots.setdefault(hash_of(pair[0])[level], []).append(pair)
+        bits = sum(1 << index for index in slots)
+        return [bits.to_bytes(32, "little"), [self.element(slots[index], level) for index in sorted(slots)]]
+
+    def element(self, pairs, level):
+        return [[key.encode(), part] for key, part in pairs] if len(pairs) <= BUCKET_SIZE else self.child(pairs, level + 1)
 
     def child(self, pairs, level):
         block = spelled(self.node(pairs, level))
