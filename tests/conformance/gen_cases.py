@@ -11,14 +11,15 @@ import shutil
 import sys
 
 sys.dont_write_bytecode = True
+import new_cases
 import values
-from new_cases import bytes_of
 
 HERE = pathlib.Path(__file__).resolve().parent
 SOURCE = b"type G {String:Int} representation advanced HAMT"
 MULTIPLIER, INCREMENT = 6364136223846793005, 1442695040888963407
 
 RUNS = ((0, 0), (0, 2**64 - 1), (1, 0), (2, 0), (5, 7), (20, 3), (300, 18446744073709551615), (2000, 7))
+EACH_STEP = 300  # up to so many steps the blocks of each are listed
 OTHER_WORDS = {
     "alone": ["gen"],
     "no-seed": ["gen", "0"],
@@ -36,53 +37,59 @@ OTHER_WORDS = {
     "seed-behind-a-zero": ["gen", "0", "07"],
     "seed-with-a-plus": ["gen", "0", "+7"],
     "seed-a-word": ["gen", "0", "seven"],
+    "seed-below-zero": ["gen", "0", "-1"],
+    "seed-empty": ["gen", "0", ""],
+    "count-minus-zero": ["gen", "-0", "0"],
+    "count-in-other-digits": ["gen", "\u0661", "0"],
+    "count-too-large-for-a-number": ["gen", "18446744073709551617", "0"],
 }
 
 
-def generated(count, seed):
-    """The entries, and how many keys were set, deleted, and not there to be deleted."""
-    entries, sets, dels, absent, x = {}, 0, 0, 0, seed
+def steps(count, seed):
+    """The entries at first and behind each step, and how many keys were set, deleted, and not there to be deleted."""
+    entries, counts, x = {}, {"sets": 0, "dels": 0, "absent": 0}, seed
+    yield entries, counts
     for i in range(count):
         x = (x * MULTIPLIER + INCREMENT) % 2**64
         key = f"k{x // 2**40 % 65536}"
         if x // 2**32 % 4:
             entries[key] = i
-            sets += 1
+            counts["sets"] += 1
         elif key in entries:
             del entries[key]
-            dels += 1
+            counts["dels"] += 1
         else:
-            absent += 1
-    return entries, sets, dels, absent
+            counts["absent"] += 1
+        yield entries, counts
+
+
+def blocks_of(entries):
+    found = values.compiled(SOURCE)
+    ty = found.number("G")
+    return values.blocks_of(found, ty, found.shown((ty, False), values.data_of(json.dumps(entries).encode())))
 
 
 def summary(count, seed):
-    """The five lines, and the CIDs of the blocks of the map."""
-    entries, sets, dels, absent = generated(count, seed)
-    found = values.compiled(SOURCE)
-    ty = found.number("G")
-    value = found.shown((ty, False), values.data_of(json.dumps(entries).encode()))
-    cids = [values.cid_text(block) for block in values.blocks_of(found, ty, value)]
-    return f"sets {sets}\ndels {dels}\nabsent {absent}\nlen {len(entries)}\nroot {cids[0]}\n", cids
+    """The five lines, and the blocks of the map at the end."""
+    *_, (entries, counts) = steps(count, seed)
+    blocks = blocks_of(entries)
+    lines = [*counts.items(), ("len", len(entries)), ("root", values.cid_text(blocks[0]))]
+    return "".join(f"{name} {told}\n" for name, told in lines), blocks
 
 
-def write(name, words, text, status, must=()):
-    case = HERE / "gen" / name
-    case.mkdir(parents=True)
-    (case / "words").write_bytes(b"".join(bytes_of(word) + b"\n" for word in words))
-    (case / "stdout").write_text(text)
-    (case / "status").write_text(f"{status}\n")
-    if must:
-        (case / "must").write_text("".join(cid + "\n" for cid in must))
+def stored(count, seed):
+    """The blocks of the map at first and behind each step, each of which is stored."""
+    return {block for entries, _ in steps(count, seed) for block in blocks_of(entries)}
 
 
 def main():
     shutil.rmtree(HERE / "gen", ignore_errors=True)
     for count, seed in RUNS:
-        text, must = summary(count, seed)
-        write(f"{count}-steps-from-{seed}", ["gen", str(count), str(seed)], text, 0, must)
+        text, blocks = summary(count, seed)
+        only = stored(count, seed) if count <= EACH_STEP else None
+        new_cases.write(f"{count}-steps-from-{seed}", ["gen", str(count), str(seed)], {}, text, 0, only or blocks, folder="gen", only=only)
     for name, words in OTHER_WORDS.items():
-        write(f"words-{name}", words, "fault 2 words\n", 2)
+        new_cases.write(f"words-{name}", words, {}, "fault 2 words\n", 2, folder="gen", only=())
 
 
 if __name__ == "__main__":

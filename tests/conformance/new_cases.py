@@ -513,12 +513,18 @@ def bytes_of(text):
     return text if isinstance(text, bytes) else text.encode()
 
 
-def write(name, words, inputs, text, status, blocks=(), held=(), folder="new"):
+def cid_lines(blocks):
+    return "".join(sorted({values.cid_text(block) + "\n" for block in blocks}))
+
+
+def write(name, words, inputs, text, status, blocks=(), held=(), folder="new", only=None):
     case = HERE / folder / name
     case.mkdir(parents=True)
     given = {"words": "".join(word + "\n" for word in words), "stdout": text, "status": f"{status}\n", **inputs}
     if blocks:
-        given["must"] = "".join(sorted({values.cid_text(block) + "\n" for block in blocks}))
+        given["must"] = cid_lines(blocks)
+    if only is not None:
+        given["only"] = cid_lines(only)
     for name, content in given.items():
         (case / name).write_bytes(bytes_of(content))
     for name, content in held:
