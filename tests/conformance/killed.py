@@ -9,9 +9,11 @@ import subprocess
 import time
 
 import edges
+import values
 
 ROUNDS = 30
 EDITS = 400
+IN_A_BATCH = 20
 SCHEMAS = {
     "map": b"type N {String:Int}\n",
     "HAMT": b"type N {String:Int} representation advanced HAMT\n",
@@ -33,6 +35,14 @@ def edits(dice):
     return "".join(lines).encode(), shown
 
 
+def batches(dice):
+    """The same in batches that are committed, and the values behind these."""
+    script, shown = edits(dice)
+    lines = script.splitlines(keepends=True)
+    parts = [b"".join(lines[at : at + IN_A_BATCH]) for at in range(0, EDITS, IN_A_BATCH)]
+    return b"".join(b"begin\n" + part + b"commit\n" for part in parts), shown[IN_A_BATCH - 1 :: IN_A_BATCH]
+
+
 def roots_of(text):
     """The roots in whole lines of an output."""
     return re.findall(r"root (\S+)\n", text)
@@ -47,42 +57,61 @@ def killed_after(seconds, run):
         return run.communicate()[0].decode()
 
 
-def round_of(program, place, dice, seconds):
+def round_of(program, place, made, dice, seconds):
     """One run that is killed, and what is wrong with the roots that it printed."""
-    script, shown = edits(dice)
+    script, shown = made(dice)
     (place / "x").write_bytes(script)
     roots = roots_of(killed_after(dice.uniform(0, seconds), edges.start(program, place)))
-    for at in sorted({len(roots) - 1, *(dice.randrange(EDITS) for _ in range(4))}):
+    for at in sorted({len(roots) - 1, *(dice.randrange(len(shown)) for _ in range(4))}):
         if 0 <= at < len(roots):
             run = edges.start(program, place, ["show", "s", "N", roots[at]])
-            yield from (f"line {at + 1} of {len(roots)}: {it}" for it in edges.differs(run, f"ok {shown[at]}\n".encode(), 0))
+            yield from (f"root {at + 1} of {len(roots)}: {it}" for it in edges.differs(run, f"ok {shown[at]}\n".encode(), 0))
+
+
+def childless(place):
+    """Whole blocks in a folder a link of which leads to nothing, where each link is to a block beneath."""
+    held = edges.files_in(place)
+    for name, content in held.items():
+        whole = content is not None and edges.plain.cid_text(content) == name
+        if not whole and not re.fullmatch(r"bafyrei[a-z2-7]{52}\.part[0-9]*", name):
+            yield f"blocks/{name} is neither a block nor a part"
+        links = re.findall(b"\xd8\x2a\x58\x25\x00(\x01\x71\x12\x20.{32})", content, re.S) if whole else []
+        yield from (f"blocks/{name} is there, and not {cid}" for cid in map(values.cid_text_of, links) if cid not in held)
+
+
+def rounds(program, room, schema, made, dice):
+    """Runs that are killed in one folder, and then one that isn't; each script is made with these dice, and has a value for each root."""
+    script, shown = made(dice)
+    edges.give(room, schema, script)
+    begun = time.monotonic()
+    run = edges.start(program, room)
+    roots = roots_of(run.communicate(timeout=edges.SECONDS)[0].decode())
+    seconds = time.monotonic() - begun
+    if len(roots) != len(shown):
+        yield f"{len(roots)} roots in place of {len(shown)}"
+        return
+    for number in range(ROUNDS):
+        yield from (f"round {number}: {it}" for it in round_of(program, room, made, dice, seconds))
+    yield from childless(room)
+    (room / "x").write_bytes(script)
+    again = edges.start(program, room).communicate(timeout=edges.SECONDS)[0].decode()
+    if roots_of(again) != roots:
+        yield "the first script has other roots now"
+    yield from edges.differs(edges.start(program, room, ["show", "s", "N", roots[-1]]), f"ok {shown[-1]}\n".encode(), 0)
 
 
 def killed_runs_lose_no_root(program, place):
     """No file under a block's name is ever less than the block; parts may be left; and a run behind all that does its work."""
     dice = random.Random(20)
     for form, schema in SCHEMAS.items():
-        room = place / form
-        script, shown = edits(dice)
-        edges.give(room, schema, script)
-        begun = time.monotonic()
-        run = edges.start(program, room)
-        roots = roots_of(run.communicate(timeout=edges.SECONDS)[0].decode())
-        seconds = time.monotonic() - begun
-        if len(roots) != EDITS:
-            yield f"{form}: {len(roots)} roots in place of {EDITS}"
-            continue
-        for number in range(ROUNDS):
-            yield from (f"{form}, round {number}: {it}" for it in round_of(program, room, dice, seconds))
-        for name, content in edges.files_in(room).items():
-            whole = content is not None and edges.plain.cid_text(content) == name
-            if not whole and not re.fullmatch(r"bafyrei[a-z2-7]{52}\.part[0-9]*", name):
-                yield f"{form}: blocks/{name} is neither a block nor a part"
-        (room / "x").write_bytes(script)
-        again = edges.start(program, room).communicate(timeout=edges.SECONDS)[0].decode()
-        if roots_of(again) != roots:
-            yield f"{form}: the first script has other roots now"
-        yield from edges.differs(edges.start(program, room, ["show", "s", "N", roots[-1]]), f"ok {shown[-1]}\n".encode(), 0)
+        yield from (f"{form}: {it}" for it in rounds(program, place / form, schema, edits, dice))
 
 
-TESTS = (killed_runs_lose_no_root,)
+def killed_commits_lose_no_root(program, place):
+    """The same where the edits stand in batches."""
+    dice = random.Random(21)
+    for form, schema in SCHEMAS.items():
+        yield from (f"{form}: {it}" for it in rounds(program, place / form, schema, batches, dice))
+
+
+TESTS = (killed_runs_lose_no_root, killed_commits_lose_no_root)
