@@ -4,6 +4,7 @@
     python3 tests/paths/rows.py worked        rows of edits at places; with forest, through HAMTs in one another; with linked,
                                               the blocks of such values: for tests that are still to come
     python3 tests/paths/rows.py club          what crates/ild_run_tests/src/club.rt tells of each failing call
+    python3 tests/paths/rows.py batch         what crates/ild_run_tests/src/batch.rt tells of each failing call
 """
 import json
 import pathlib
@@ -166,33 +167,58 @@ def user(name):
     return {"mail": f"{name}@x", "role": "Guest", "age": None, "contact": {"Phone": "1"}}
 
 
-def club_case(name, value, script, lines):
-    """A club with a script: its blocks, the replies, and those where an edit, or one of the first lines, meets a call that fails."""
-    found = values.compiled(CLUB.encode())
-    ty = found.number("Club")
+def session(name, schema, ty, value, script, lines):
+    """A value with a script: its blocks, the replies, and those where a line that stores, or one of these lines, meets a call that fails."""
+    found = values.compiled(schema.encode())
+    number = found.number(ty)
     text = json.dumps(value, separators=(",", ":")).encode()
 
     def document():
-        return scripts.Document(found, ty, found.shown((ty, False), values.data_of(text)))
+        return scripts.Document(found, number, found.shown((number, False), values.data_of(text)))
 
-    blocks = values.blocks_of(found, ty, document().value)
-    clean = replies(document(), script)
+    blocks, clean, last = document().blocks(), replies(document(), script), document()
     print(f"\nconst {name}: Session = Session {{")
+    print(f"    schema: {quoted(schema)},")
+    print(f"    ty: {quoted(ty)},")
     print(f"    root: {quoted(values.cid_text(blocks[0]))},")
     print(f"    blocks: &[{', '.join(map(literal, blocks))}],")
     print("    script: &[" + ", ".join(quoted(line.decode()) for line in script) + "],")
     print("    replies: &[" + ", ".join(map(quoted, clean)) + "],\n};")
     edits = [n for n, reply in enumerate(clean) if reply.startswith("root ") and script[n] != b"root"]
     print_rows(f"{name}_EDITS", "Others", [others_row(clean, replies(document(), script, n)) for n in edits])
-    print_rows(f"{name}_LINES", "Others", [others_row(clean, replies(document(), script, n)) for n in range(lines)])
+    print_rows(f"{name}_LINES", "Others", [others_row(clean, replies(document(), script, n)) for n in lines])
+    replies(last, script)
+    print(f"// {len(set(last.stored.values()) - set(blocks))} blocks come")
 
 
 def club():
-    print("const CLUB: &str =", quoted(re.sub("\\s+", " ", CLUB.split("\n", 1)[1]).strip()) + ";")
+    schema = re.sub("\\s+", " ", CLUB.split("\n", 1)[1]).strip()
     script = (pathlib.Path(__file__).resolve().parents[2] / "examples/club/script").read_bytes().splitlines()
-    club_case("KITE", {"name": "Kite", "users": {}}, script, 0)
-    crowd = {name: user(name) for name in ("k113", "k120", "k132", "k146")}
-    club_case("CROWD", {"name": "Kite", "users": crowd}, CROWD.encode().splitlines(), 6)
+    session("KITE", schema, "Club", {"name": "Kite", "users": {}}, script, [])
+    crowd = {name: user(name) for name in ALIKE_KEYS}
+    session("CROWD", schema, "Club", {"name": "Kite", "users": crowd}, CROWD.encode().splitlines(), range(6))
+
+
+# HAMTs in a HAMT, with a node beneath each: those of a batch's lines that ask the store are some reads, and each edit that makes new blocks
+ALIKE_KEYS = ("k113", "k120", "k132", "k146")
+NEST = "type Nest {String:Leaves} representation advanced HAMT type Leaves {String:Int} representation advanced HAMT"
+NEST_SCRIPT = """begin
+get /k113/k120
+set /k113/k152 5
+len /k113
+set /k331 {"k113":1,"k120":1,"k132":1,"k146":1}
+del /k113/k132
+del /k120/k120
+commit
+commit
+get /k331
+root
+"""
+
+
+def batch():
+    value = {"k113": {key: 0 for key in ALIKE_KEYS}, **{key: {} for key in ALIKE_KEYS[1:]}}
+    session("NEST", NEST, "Nest", value, NEST_SCRIPT.encode().splitlines(), [1, 2, 4, 5, 9])
 
 
 def hamt_document(pairs="{}"):
@@ -335,7 +361,7 @@ def forest_rows():
 
 
 if __name__ == "__main__":
-    wanted = {"overlaps": overlaps, "worked": worked, "forest": forest_rows, "linked": linked, "club": club}
+    wanted = {"overlaps": overlaps, "worked": worked, "forest": forest_rows, "linked": linked, "club": club, "batch": batch}
     if len(sys.argv) != 2 or sys.argv[1] not in wanted:
         sys.exit(__doc__)
     wanted[sys.argv[1]]()

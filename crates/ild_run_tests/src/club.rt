@@ -7,22 +7,26 @@ use std::alloc::{AllocError, Global};
 use std::process::Abort;
 use std::test::Fail;
 
-/// The root of a club and the blocks beneath it, the lines of a script, and the replies where no call fails.
+/// A schema and a type of it, the root of a value and the blocks beneath it, the lines of a script, and the replies where no call fails.
 #[derive(Clone, Copy)]
-struct Session {
-    root: &'static str,
-    blocks: &'static [&'static [u8]],
-    script: &'static [&'static str],
-    replies: &'static [&'static str],
+pub(crate) struct Session {
+    pub(crate) schema: &'static str,
+    pub(crate) ty: &'static str,
+    pub(crate) root: &'static str,
+    pub(crate) blocks: &'static [&'static [u8]],
+    pub(crate) script: &'static [&'static str],
+    pub(crate) replies: &'static [&'static str],
 }
 
 /// Replies that are others than those, by their numbers.
-type Others = &'static [(usize, &'static str)];
+pub(crate) type Others = &'static [(usize, &'static str)];
 
 const CLUB: &str =
     "type Club struct { name String users Users motto optional String } type Users {String:User} representation advanced HAMT type User struct { mail String role Role age nullable Int nick optional String avatar optional Bytes contact Contact } type Role enum { | Admin (\"a\") | Guest (\"g\") } type Contact union { | Phone \"phone\" | Room \"room\" } representation keyed type Phone string type Room struct { floor Int door Int } representation tuple";
 
 const KITE: Session = Session {
+    schema: CLUB,
+    ty: "Club",
     root: "bafyreiesgggcrklipbihjnvb5gjagpj2ajmzgdgfqcgm4ts43mcxhfeziq",
     blocks: &[
         b"\xa2dnamedKiteeusers\xa3dhamt\x82X \x00\x00\x00\x00\x00\x00\x00\x00\x00\x00\x00\x00\x00\x00\x00\x00\x00\x00\x00\x00\x00\x00\x00\x00\x00\x00\x00\x00\x00\x00\x00\x00\x80ghashAlg\x12jbucketSize\x03",
@@ -136,6 +140,8 @@ const KITE_EDITS: [Others; 5] = [
 ];
 
 const CROWD: Session = Session {
+    schema: CLUB,
+    ty: "Club",
     root: "bafyreia4ytmx7uztpktysysfmu257yjc7fdxtlpfd2gkcvbfpzek4lllme",
     blocks: &[
         b"\xa2dnamedKiteeusers\xa3dhamt\x82X \x00\x00\x00\x00\x00\x00\x00\x00\x00\x00\x00\x00\x00\x00\x00\x00\x00\x00\x00\x00\x00\x00\x00\x00\x00\x00\x00\x10\x00\x00\x00\x00\x81\xd8*X%\x00\x01q\x12 \x84\xf2\xba|\x04c\x99\x99!\x9b\xce\xec\xddk\xa7\xedSJ\xb5A\xdb\xf6rD\xba\xdfj+6}\x9f\x91ghashAlg\x12jbucketSize\x03",
@@ -259,11 +265,11 @@ fn text_of(alloc: Global, lines: &[&str]) -> Result<String, AllocError> {
     Ok(text)
 }
 
-/// A run of the script over a store that holds the club.
+/// A run of the script over a store that holds the value.
 fn end_of(alloc: Global, session: &Session, fails: Fails<'_>) -> Result<Ended, AllocError> {
-    let words = owned(alloc, &["run", "s", "Club", session.root, "x"])?;
+    let words = owned(alloc, &["run", "s", session.ty, session.root, "x"])?;
     let mut inputs = MemInputs::new(alloc, fails.takes)?;
-    inputs.add("s", CLUB.as_bytes())?;
+    inputs.add("s", session.schema.as_bytes())?;
     inputs.add("x", text_of(alloc, session.script)?.as_bytes())?;
     let mut store = MemStore::new(alloc, fails.gets, fails.puts)?;
     for block in session.blocks {
@@ -294,10 +300,15 @@ fn replies(
 }
 
 /// Whether the value under a root is shown.
-fn is_shown(alloc: Global, root: &str, store: &mut MemStore) -> Result<bool, AllocError> {
-    let words = owned(alloc, &["show", "s", "Club", root])?;
+fn is_shown(
+    alloc: Global,
+    session: &Session,
+    root: &str,
+    store: &mut MemStore,
+) -> Result<bool, AllocError> {
+    let words = owned(alloc, &["show", "s", session.ty, root])?;
     let mut inputs = MemInputs::new(alloc, &[])?;
-    inputs.add("s", CLUB.as_bytes())?;
+    inputs.add("s", session.schema.as_bytes())?;
     let mut out = MemSink::new(alloc, &[])?;
     Ok(run(alloc, &words, &mut inputs, store, &mut out).code() == 0)
 }
@@ -305,6 +316,7 @@ fn is_shown(alloc: Global, root: &str, store: &mut MemStore) -> Result<bool, All
 /// Whether a run wrote these replies and has this status, and the value under each root among them is held.
 fn is_so(
     alloc: Global,
+    session: &Session,
     ended: &mut Ended,
     replies: &[&str],
     status: u8,
@@ -312,7 +324,7 @@ fn is_so(
     let mut held = true;
     for reply in replies {
         if let Some(root) = reply.strip_prefix("root ") {
-            held &= is_shown(alloc, root, &mut ended.store)?;
+            held &= is_shown(alloc, session, root, &mut ended.store)?;
         }
     }
     let text = text_of(alloc, replies)?;
@@ -327,12 +339,12 @@ fn is_row(
     ended: &mut Ended,
 ) -> Result<bool, AllocError> {
     let replies = replies(alloc, session, others, session.replies.len())?;
-    is_so(alloc, ended, &replies, 1)
+    is_so(alloc, session, ended, &replies, 1)
 }
 
 /// The calls of which one fails.
 #[derive(Clone, Copy)]
-enum Call {
+pub(crate) enum Call {
     Get,
     Put,
 }
@@ -362,7 +374,7 @@ fn ended_by(
 const MANY: u64 = 100;
 
 /// How many calls, from the one with a number on, are such that the run has the replies of a row where that call fails.
-fn calls_of_row(
+pub(crate) fn calls_of_row(
     alloc: Global,
     session: &Session,
     call: Call,
@@ -380,7 +392,7 @@ fn calls_of_row(
 
 /// Each call fails in turn: the first ones before the first line, so many of them, and the others such that each row comes, in order; the
 /// one behind the last call is none.
-fn in_turn(
+pub(crate) fn in_turn(
     rt: &impl Abort,
     alloc: Global,
     session: &Session,
@@ -392,7 +404,7 @@ fn in_turn(
     for before in 0..opening {
         let mut ended = ended_by(alloc, session, call, before.saturating_add(1))?;
         assert!(rt;
-            is_so(alloc, &mut ended, &["fault 6 store"], 6)?,
+            is_so(alloc, session, &mut ended, &["fault 6 store"], 6)?,
             "{before}"
         );
     }
@@ -423,7 +435,7 @@ fn each_take_fails(rt: HostRuntime) -> Result<(), Fail> {
             ..NONE
         };
         let mut ended = end_of(rt.alloc(), &KITE, fails)?;
-        assert!(rt; is_so(rt.alloc(), &mut ended, &[text], 5)?, "{text}");
+        assert!(rt; is_so(rt.alloc(), &KITE, &mut ended, &[text], 5)?, "{text}");
     }
     Ok(())
 }
@@ -448,7 +460,7 @@ fn each_write_fails(rt: HostRuntime) -> Result<(), Fail> {
         };
         let mut ended = end_of(rt.alloc(), &KITE, fails)?;
         let front = replies(rt.alloc(), &KITE, &[], before)?;
-        assert!(rt; is_so(rt.alloc(), &mut ended, &front, 7)?, "{before}");
+        assert!(rt; is_so(rt.alloc(), &KITE, &mut ended, &front, 7)?, "{before}");
     }
     Ok(())
 }

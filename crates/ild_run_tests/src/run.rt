@@ -11,15 +11,15 @@ const EMPTY: &str = "root bafyreigbtj4x7ip5legnfznufuopl4sg4knzc2cof6duas4b3q2fy
 
 /// A run of `words` over these files, with takes, puts and writes that fail by number, and what must come of it.
 #[derive(Clone, Copy)]
-struct Case<'c> {
-    words: &'c [&'c str],
-    schema: &'c str,
-    script: &'c str,
-    fail_takes: &'c [u64],
-    fail_puts: &'c [u64],
-    fail_writes: &'c [u64],
-    text: &'c str,
-    status: u8,
+pub(crate) struct Case<'c> {
+    pub(crate) words: &'c [&'c str],
+    pub(crate) schema: &'c str,
+    pub(crate) script: &'c str,
+    pub(crate) fail_takes: &'c [u64],
+    pub(crate) fail_puts: &'c [u64],
+    pub(crate) fail_writes: &'c [u64],
+    pub(crate) text: &'c str,
+    pub(crate) status: u8,
 }
 
 const WORDS: [&str; 5] = ["run", "s", "N", "-", "x"];
@@ -27,7 +27,7 @@ const WORDS: [&str; 5] = ["run", "s", "N", "-", "x"];
 const SCHEMA: &str = "type N {String:Int}";
 
 /// A case over the one schema in which nothing fails.
-fn script<'c>(script: &'c str, text: &'c str, status: u8) -> Case<'c> {
+pub(crate) fn script<'c>(script: &'c str, text: &'c str, status: u8) -> Case<'c> {
     Case {
         words: &WORDS,
         schema: SCHEMA,
@@ -48,7 +48,7 @@ pub(crate) fn owned(alloc: Global, words: &[&str]) -> Result<Vec<String>, AllocE
     Ok(all)
 }
 
-fn try_case(rt: &impl Abort, alloc: Global, case: &Case<'_>) -> Result<(), AllocError> {
+pub(crate) fn try_case(rt: &impl Abort, alloc: Global, case: &Case<'_>) -> Result<(), AllocError> {
     let words = owned(alloc, case.words)?;
     let mut inputs = MemInputs::new(alloc, case.fail_takes)?;
     inputs.add("s", case.schema.as_bytes())?;
@@ -162,7 +162,7 @@ fn values_that_are_no_integer(rt: HostRuntime) -> Result<(), Fail> {
 /// Lines that aren't of the grammar.
 const NO_LINES: [&str; 12] = [
     "get", "put /a 1", "get a", "get /~9", "get  /a", "get /a ", "set /a", "root ", "root\r",
-    "ins /a", "begin", "get /~",
+    "ins /a", "begin ", "get /~",
 ];
 
 #[test]
