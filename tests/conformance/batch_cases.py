@@ -84,7 +84,7 @@ def committed(first, edits, refused):
 
 def aborted(first, edits, refused):
     yield from (("begin", "ok null"), *rows_of_edits(edits, True), *rows_of_refusals(refused))
-    yield from (("abort", "ok null"), ("get .", f"ok {first}"), ("root", f"root {first}"))
+    yield from (("begin", "no 15 batch"), ("abort", "ok null"), ("get .", f"ok {first}"), ("root", f"root {first}"))
     yield from (("begin", "ok null"), *rows_of_edits(edits[:1], True), ("commit", f"root {edits[0][1]}"), *rows_of_edits(edits[1:], False))
 
 
