@@ -460,7 +460,10 @@ fn each_write_fails(rt: HostRuntime) -> Result<(), Fail> {
         };
         let mut ended = end_of(rt.alloc(), &KITE, fails)?;
         let front = replies(rt.alloc(), &KITE, &[], before)?;
-        assert!(rt; is_so(rt.alloc(), &KITE, &mut ended, &front, 7)?, "{before}");
+        assert!(rt;
+            is_so(rt.alloc(), &KITE, &mut ended, &front, 7)?,
+            "{before}"
+        );
     }
     Ok(())
 }
