@@ -1,6 +1,4 @@
 //! Reading a file up to a limit.
-ghost use Rattle.std.specs.Prelude.{◌≤◌, IfOk, vec_len};
-
 use std::io::Read;
 use std::rt::Files;
 use std::{fs, io};
