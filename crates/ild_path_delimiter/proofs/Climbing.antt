@@ -1,8 +1,8 @@
 -- From the last holder of a path outwards: whether what each becomes breaks a delimiter.
-use Rattle.std.proofs.Common.{◌≡◌, ◌<◌, ◌≤◌, ◌+◌, ℕ, zero, suc, List, [], ◌∷◌, length, take, drop, Bool, true, false, nat_eq, eqb-true, Option, Some, None, refl, sym, ◌∙◌, ap, subst, arith}
+use Rattle.std.proofs.Common.{◌≡◌, ◌<◌, ◌+◌, ℕ, zero, suc, List, [], ◌∷◌, length, take, drop, Bool, true, false, nat_eq, eqb-true, Some, None, refl, sym, ◌∙◌, ap, subst, arith}
 use Rattle.std.specs.List.{AllByRecursion}
 use Rattle.std.specs.Option.{option_map_or}
-use Rattle.std.specs.Prelude.{IsSomeAnd, IsUtf8, Ok, option_and_then, slice_get}
+use Rattle.std.specs.Prelude.{IsSomeAnd, IsUtf8, option_and_then, slice_get}
 use Rattle.std.proofs.lemmas.Option.{same_Some}
 use Rattle.ild_data.specs.Data.{Data, text}
 use Rattle.ild_data.specs.Spell.{spell}
@@ -17,9 +17,10 @@ use Rattle.ild_path_changes.proofs.Lifting.{chained}
 use Rattle.ild_path_changes.specs.LiftLaws.{of_fronts}
 use Rattle.ild_path_delimiter.proofs.Breaking.{set_breaks, text_breaks}
 use Rattle.ild_path_delimiter.proofs.Freeing.{edit_free, set_free}
+use Rattle.ild_path_delimiter.proofs.Having.{data_passes}
 use Rattle.ild_path_delimiter.proofs.Quiet.{quiet, texts_break_nothing}
 use Rattle.ild_path_delimiter.proofs.Texts.{texts_of_texts}
-use Rattle.ild_path_delimiter.specs.Levels.{HasTree, LevelIs}
+use Rattle.ild_path_delimiter.specs.Levels.{HasTree, LevelIs, StandsFree}
 use Rattle.ild_path_delimiter.specs.Texts.{BringsText, CanText}
 use Rattle.ild_path_delimiter.specs.declared.level.Level.{Level}
 use Rattle.ild_path_delimiter.specs.declared.level.Level.TheVariants as V
@@ -38,7 +39,7 @@ use Rattle.ild_schema.proofs.Legibly.{legible}
 use Rattle.ild_schema.specs.Value.{Value}
 use Rattle.ild_schema.specs.declared.number.Slot.{Slot}
 use Rattle.ild_schema.specs.declared.row.Row.{Row}
-use Rattle.ild_typed.specs.At.{InSlot, at, changed_in, last_holder, seen}
+use Rattle.ild_typed.specs.At.{InSlot, at, changed_in, seen}
 use Rattle.ild_typed.specs.Hamt.{alone}
 use Rattle.ild_typed.specs.Holder.{Holder, value_of}
 use Rattle.ild_typed.specs.Judged.{breaks}
@@ -66,6 +67,7 @@ pub record Changed (rows : List Row) (is_key : ℕ → List ℕ → Bool) (edit 
 abbrev pub Claim : (rows : List Row) (is_key : ℕ → List ℕ → Bool) (edit : PartEdit) (w : Value) (p : InSlot) (path : List (List ℕ)) (n : ℕ) (v : Value) → Changed rows is_key edit w p path n v → Level → Type 0
 Claim rows is_key edit w p path n v m V.Free = IsFree (breaks rows) rows m.holder.0 v × (text_in m.old ≡ None)
 Claim rows is_key edit w p path n v m V.Broken = IsFree (breaks rows) rows m.holder.0 v → ⊥
+Claim rows is_key edit w p path n v m V.Long = IsFree (breaks rows) rows m.holder.0 v
 Claim rows is_key edit w p path n v m (V.Text b) = (j : List ℕ) × (represented alone rows m.holder.0 v ≡ Some (text j)) × (b ≡ spell (text j))
 
 brings_part : (rows : List Row) (p : InSlot) (path : List (List ℕ)) (edit : PartEdit) (w : Value) → BringsText rows p path edit w → BringsPart rows p path edit w
@@ -148,6 +150,10 @@ module _ (rows : List Row) (is_key : ℕ → List ℕ → Bool) (schema : IsSche
         none,
       )
   claim_last n v m x V.Broken h = λ free. text_breaks rows is_key schema keys w edit m.holder x.segment h.0 m.typed h.1 x.holds h.2 x.can h.3 (subst (IsFree (breaks rows) rows m.holder.0) x.is free)
+  claim_last n v m x V.Long h =
+      let k = (in_last edit w).made (seen rows m.holder) x.segment in
+      subst (IsFree (breaks rows) rows m.holder.0) (sym x.is)
+      (edit_free (breaks rows) rows is_key schema keys edit m.holder x.segment w m.typed m.free x.can (λ slot y e. texts_break_nothing rows slot w y e) (data_passes rows m.holder.0 k h.0 h.1))
   claim_last n v m x (V.Text b) h = (h.0, ap (represented alone rows m.holder.0) x.is ∙ h.1, h.2)
 
   -- ---- those before it
@@ -236,6 +242,10 @@ module _ (rows : List Row) (is_key : ℕ → List ℕ → Bool) (schema : IsSche
   claim_above n v m x j V.Free shown h = let none = h m.old m.was in (up n v m x none (texts_break_nothing rows x.next.0 x.value j shown), none)
   claim_above n v m x j V.Broken shown h =
       λ free. set_breaks rows is_key schema keys x.value m.holder x.segment h.0 x.next.0 j m.typed h.1 x.holds h.2 x.place x.stands x.fits shown h.3 (subst (IsFree (breaks rows) rows m.holder.0) x.is free)
+  claim_above n v m x j V.Long shown h =
+      let k = set_part (seen rows m.holder) x.segment x.value in
+      subst (IsFree (breaks rows) rows m.holder.0) (sym x.is)
+      (set_free (breaks rows) rows is_key schema keys m.holder x.segment x.next.0 x.value m.typed m.free x.place x.stands x.fits (texts_break_nothing rows x.next.0 x.value j shown) (data_passes rows m.holder.0 k h.0 h.1))
   claim_above n v m x j (V.Text b) shown h = (h.0, ap (represented alone rows m.holder.0) x.is ∙ h.1, h.2)
 
   -- ---- outwards
@@ -276,6 +286,13 @@ module _ (rows : List Row) (is_key : ℕ → List ℕ → Bool) (schema : IsSche
         claim_above n v m x k.0 l shown
         (clause rows m.holder x.next.0 x.segment k.0 x.value (views n m.holder m.before m.leads) x.there x.holds x.place x.fits shown tree k.2 (changed_tree n v m (set_part (seen rows m.holder) x.segment x.value) x.is))
 
+    -- below one that stands as no text, no block has to hold the text
+    pub long_done : (n : ℕ) (v : Value) (m : Is n v) → suc n < length path → ((u : Value) (d : Is (suc n) u) → Knows (suc n) u d V.Long) → ((q : InSlot) → IsSomeAnd (slice_get all n) (IsPartView rows q) → StandsFree rows q) → Knows n v m V.Free
+    long_done n v m less known free =
+        let x = step n v m less in
+        let none = free m.holder (views n m.holder m.before m.leads) m.old m.was in
+        (up n v m x none (subst (λ (q : InSlot). IsFree (breaks rows) rows q.0 x.value) x.holder_is (known x.value x.changed)), none)
+
   pub free_root : (n : ℕ) (v : Value) (c : Is 0 v) → n < length path → ((u : Value) (d : Is n u) → Knows n u d V.Free) → IsFree (breaks rows) rows c.holder.0 v
   free_root n v c less all =
       let same : n ≡ 0 + n = omega arith in
@@ -285,6 +302,9 @@ module _ (rows : List Row) (is_key : ℕ → List ℕ → Bool) (schema : IsSche
   broken_root n v c less all =
       let same : n ≡ 0 + n = omega arith in
       broken_out 0 n v c (omega (arith, less)) (subst (λ (k : ℕ). (u : Value) (d : Is k u) → Knows k u d V.Broken) same all)
+
+  pub long_root : (n : ℕ) (v : Value) (c : Is 0 v) → n ≡ 0 → ((u : Value) (d : Is n u) → Knows n u d V.Long) → IsFree (breaks rows) rows c.holder.0 v
+  long_root n v c zero_is all = subst (λ (k : ℕ). (u : Value) (d : Is k u) → Knows k u d V.Long) zero_is all v c
 
   pub text_root : (n : ℕ) (v : Value) (c : Is 0 v) (b : List ℕ) → n ≡ 0 → ((u : Value) (d : Is n u) → Knows n u d (V.Text b)) → IsFree (breaks rows) rows c.holder.0 v
   text_root n v c b zero_is all =

@@ -1,7 +1,7 @@
 -- What is made of one holder.
-use Rattle.std.proofs.Common.{◌≡◌, ℕ, zero, suc, List, [], ◌∷◌, Bool, true, false, get_or, Option, Some, None, refl, sym, ◌∙◌, ap, subst}
+use Rattle.std.proofs.Common.{◌≡◌, ℕ, zero, suc, List, [], ◌∷◌, true, false, get_or, Option, Some, None, refl, sym, ◌∙◌, ap, subst}
 use Rattle.std.specs.Borrow.{Bor}
-use Rattle.std.specs.Prelude.{Err, IfOk, IsSomeAnd, Ok, Result, is_none, is_some, option_map, slice_get}
+use Rattle.std.specs.Prelude.{Err, IfOk, IsSomeAnd, Ok, Result, is_some, option_map, slice_get}
 use Rattle.std.proofs.lemmas.Option.{none-some, same_Some}
 use Rattle.ild_cbor.specs.Scalar.{text_of as item_text}
 use Rattle.ild_cbor.specs.declared.piece.Piece.{Piece}
@@ -9,11 +9,11 @@ use Rattle.ild_data.specs.Data as T
 use Rattle.ild_data.specs.Data.{Data, items_of}
 use Rattle.ild_data.specs.Spell.{spell}
 use Rattle.ild_layer_piece.specs.Pieces.{StandsFor}
-use Rattle.ild_path_block.specs.Changes.{Allows, in_last}
+use Rattle.ild_path_block.specs.Changes.{Allows}
 use Rattle.ild_path_block.specs.Items.{AnswersItem, ItemOf, becoming, is_pairs_map, is_refusing, is_text_struct}
 use Rattle.ild_path_block.specs.declared.edit.PartEdit.{PartEdit}
 use Rattle.ild_path_changes.proofs.Lifting.{opened}
-use Rattle.ild_path_delimiter.proofs.Held.{IsHeld, is_held}
+use Rattle.ild_path_delimiter.proofs.Held.{is_held}
 use Rattle.ild_path_delimiter.specs.Levels.{IsTextItem, LevelIs}
 use Rattle.ild_path_delimiter.specs.declared.level.Level.{Level}
 use Rattle.ild_path_delimiter.specs.declared.level.Level.TheVariants as V
@@ -23,7 +23,6 @@ use Rattle.ild_path_last.specs.Change.{becomes}
 use Rattle.ild_path_steps.proofs.Holding.{Held, of_any, of_elements, of_entries, of_fields, of_member, of_nothing}
 use Rattle.ild_schema.specs.Slots.{form_of}
 use Rattle.ild_schema.specs.Value.{Value}
-use Rattle.ild_schema.specs.declared.def.Field.{Field}
 use Rattle.ild_schema.specs.declared.def.MapForm.{MapForm}
 use Rattle.ild_schema.specs.declared.def.MapForm.TheVariants as MF
 use Rattle.ild_schema.specs.declared.def.StructDef.{StructDef}
@@ -33,6 +32,7 @@ use Rattle.ild_schema.specs.declared.def.TypeDef.{TypeDef}
 use Rattle.ild_schema.specs.declared.def.TypeDef.TheVariants as D
 use Rattle.ild_schema.specs.declared.row.Row.{Row}
 use Rattle.ild_splice.specs.declared.error.SpliceErr.{SpliceErr}
+use Rattle.ild_splice.specs.declared.error.SpliceErr.TheVariants.{Size}
 use Rattle.ild_typed.specs.At.{InSlot, seen}
 use Rattle.ild_typed.specs.Composed.{map_form, struct_form}
 use Rattle.ild_typed.specs.Fields.{field_entries, tuple_items}
@@ -91,6 +91,12 @@ item_made rows edit w q s b item refusing = by (becoming rows edit w q s) refl w
   by (Some u) e = (u, e, (item.made u e).0)
   by None e = absurd (item.refused refusing e)
 
+pub item_long : (rows : List Row) (edit : PartEdit) (w : Value) (q : InSlot) (s : List ℕ) → ItemOf rows edit w q s (Err Size) → is_refusing (form_of rows q.0) ≡ true → (u : Data) × (becoming rows edit w q s ≡ Some u)
+item_long rows edit w q s item refusing = by (becoming rows edit w q s) refl where
+  by : (o : Option Data) → becoming rows edit w q s ≡ o → (u : Data) × (becoming rows edit w q s ≡ Some u)
+  by (Some u) e = (u, e)
+  by None e = absurd (item.refused refusing e)
+
 pub item_none : (rows : List Row) (edit : PartEdit) (w : Value) (q : InSlot) (s : List ℕ) → ItemOf rows edit w q s (Ok None) → becoming rows edit w q s ≡ None
 item_none rows edit w q s item = by (becoming rows edit w q s) refl where
   by : (o : Option Data) → becoming rows edit w q s ≡ o → becoming rows edit w q s ≡ None
@@ -143,6 +149,7 @@ if_ok P Q (Err e) f h = h
 pub text_level : (rows : List Row) (q : InSlot) (k : Holder) (u : Data) → becomes rows q.0 k ≡ Some u → (l : Level) → IsTextItem u l → LevelIs rows q k l
 text_level rows q k u e V.Free h = absurd h
 text_level rows q k u e V.Broken h = absurd h
+text_level rows q k u e V.Long h = absurd h
 text_level rows q k u e (V.Text b) h = (h.0, e ∙ ap Some h.1, h.2 ∙ ap spell h.1)
 
 pub got_one : {A : Type 0} (P : A → Type 0) (xs : List A) (k : ℕ) (x : A) → IsSomeAnd (slice_get xs k) P → x ≡ get_or xs k x → P x

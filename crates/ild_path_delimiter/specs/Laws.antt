@@ -1,5 +1,5 @@
 -- Which holders can break a delimiter rule.
-use Rattle.std.specs.Prelude.{◌≡◌, ℕ, Bool, true, false, List, Some, None}
+use Rattle.std.specs.Prelude.{◌≡◌, ℕ, true, false, List, Some, None}
 use Rattle.ild_data.specs.Data.{Data, text}
 use Rattle.ild_path_edits.specs.Along.{Passes}
 use Rattle.ild_path_holder.specs.Along.{is_holder}

@@ -6,6 +6,7 @@ use Rattle.ild_path_block.specs.declared.edit.PartEdit.{PartEdit}
 use Rattle.ild_path_delimiter.specs.TextEdits.{TextIs, edit_of}
 use Rattle.ild_path_delimiter.specs.Texts.{BringsText}
 use Rattle.ild_path_delimiter.specs.declared.delimiter.TextEdit.{TextEdit}
+use Rattle.ild_path_edit.specs.Holders.{AreHolders}
 use Rattle.ild_path_edits.specs.Along.{IsFree}
 use Rattle.ild_path_edits.specs.Edit.{change}
 use Rattle.ild_schema.specs.Value.{Value}
@@ -13,6 +14,10 @@ use Rattle.ild_typed.specs.Judged.{breaks, breaks_delimiter}
 use Rattle.ild_typed.specs.OfType.{TestsKeys}
 use Rattle.ild_view.specs.View.{IsView, slot_of, table_of}
 use Rattle.ild_view.specs.declared.view.View.{View}
+
+-- the views of the holders on a path
+abbrev pub AreHoldersOf : View → List (List ℕ) → List View → Type 0
+AreHoldersOf root path views = (f : Value) → IsView root f → AreHolders (table_of root) (slot_of root, f) path views
 
 -- of a part that is told by its node
 abbrev pub TellsOfEdit : View → List (List ℕ) → PartEdit → Result Bool AllocError → Type 0

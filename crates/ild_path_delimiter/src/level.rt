@@ -4,7 +4,7 @@ ghost use Rattle.ild_data.specs.Data.{Data};
 ghost use Rattle.ild_data.specs.Spell.{spell};
 ghost use Rattle.ild_data.specs.Tree.{IsTree};
 ghost use Rattle.ild_path_block.specs.Changes.{Allows, in_last};
-ghost use Rattle.ild_path_delimiter.specs.Levels.{HasTree, IsTextItem, LevelAboveIs, LevelIs};
+ghost use Rattle.ild_path_delimiter.specs.Levels.{HasTree, IsTextItem, LevelAboveIs, LevelIs, StandsFree};
 ghost use Rattle.ild_path_holder.specs.Along.{is_holder};
 ghost use Rattle.ild_schema.specs.Value.{Value};
 ghost use Rattle.ild_schema.specs.declared.row.Row.{Row};
@@ -16,6 +16,7 @@ use ild_data::{Octets, Txt};
 use ild_layer_piece::text;
 use ild_path_block::PartEdit;
 use ild_path_edit::new_item;
+use ild_splice::SpliceErr;
 use ild_view::View;
 use std::alloc::{AllocError, Global};
 
@@ -26,6 +27,8 @@ pub(crate) enum Level {
     Free,
     /// Its own delimiter rule is broken.
     Broken,
+    /// It breaks no rule of its own, but no block can hold its text.
+    Long,
     /// It stands as a text again, of which this is the item.
     Text(Octets),
 }
@@ -42,6 +45,16 @@ fn as_text(item: Octets) -> Result<Level, AllocError>
         Ok(Level::Text(item))
     } else {
         Err(AllocError)
+    }
+}
+
+/// Whether a view is known to stand as no text.
+pub(crate) fn stands_free(view: &View<'_>) -> bool
+    ensures { result ≡ true → (rows : List Row) (q : InSlot) → IsPartView rows q view.now → StandsFree rows q }
+{
+    match view.piece() {
+        Some(piece) => text(&piece).is_none(),
+        None => false,
     }
 }
 
@@ -66,7 +79,8 @@ fn made(
             Some(_) => Err(AllocError),
             None => Ok(Level::Broken),
         },
-        Err(_) => Err(AllocError),
+        Err(SpliceErr::Size) => Ok(Level::Long),
+        Err(SpliceErr::Memory) => Err(AllocError),
     }
 }
 

@@ -1,8 +1,6 @@
-use Rattle.std.proofs.Common.{◌≡◌, ◌∙◌, subst, sym}
-use Rattle.std.specs.Prelude.{Ok}
-use Rattle.ild_path_delimiter.proofs.Telling.{insert_told, set_told}
-use Rattle.ild_path_delimiter.specs.TextEdits.{TextIs, edit_of}
-use Rattle.ild_path_edits.specs.Edit.{change}
+use Rattle.std.proofs.Common.{subst, sym}
+use Rattle.ild_path_delimiter.proofs.Standing.{free_told}
+use Rattle.ild_path_edit.specs.Holders.{AreHolders}
 use Rattle.ild_schema.specs.Accept.{IsAccepted}
 use Rattle.ild_schema.specs.Table.{IsTable}
 use Rattle.ild_typed.specs.At.{InSlot}
@@ -10,29 +8,18 @@ use Rattle.ild_typed.specs.Schema.{IsSchema}
 use Rattle.ild_view.specs.View.{slot_of, table_of}
 use Rattle.ild_path_delimiter.proofs.delimiter.breaks_delimiter.Goals as goal
 
-pub returns-in-Ok : goal.returns-in-Ok
-returns-in-Ok c = λ is_key f x w keys view free text makes.
+pub returns-then-ends_free : goal.returns-then-ends_free
+returns-then-ends_free c =
     let rows = table_of c.args.root.now in
     let path = c.args.path.now in
-    let p : InSlot = (slot_of c.args.root.now, f) in
     let schema : IsSchema rows = record { table = subst IsTable c.schema.ensures c.types-types.ensures.table; accepted = subst IsAccepted c.schema.ensures c.types-types.ensures.accepted } in
-    let found = c.in-Ok.ensures.found in
-    let brings = set_told rows schema p path w c.in-Set.text.now c.as_slice.result.now c.in-Ok.node found.0 found.1 found.2 (c.as_slice.ensures.same ∙ c.in_ok-item-in-Set.ensures) (subst (λ e. TextIs rows p path e w) c.in-Set.is text) in
-    c.breaks.ensures is_key f x w keys view free brings (subst (λ e. change rows is_key p (edit_of e w path) ≡ Ok x) c.in-Set.is makes)
-
-pub returns-in-Ok-check : goal.returns-in-Ok-check
-returns-in-Ok-check c = λ is_key f x w keys view free text makes.
-    let rows = table_of c.args.root.now in
-    let path = c.args.path.now in
+    free_told c.args.root.now path c.args.edit schema c.are_texts.ensures
+    (λ f view.
     let p : InSlot = (slot_of c.args.root.now, f) in
-    let schema : IsSchema rows = record { table = subst IsTable c.schema.ensures c.types-types.ensures.table; accepted = subst IsAccepted c.schema.ensures c.types-types.ensures.accepted } in
-    let found = c.in-Ok-check.ensures.found in
-    let brings = insert_told rows schema p path w c.in-Insert.text.now c.as_slice-in-Insert.result.now c.in-Ok-check.node found.0 found.1 found.2 (c.as_slice-in-Insert.ensures.same ∙ c.in_ok-item-in-Insert.ensures) (subst (λ e. TextIs rows p path e w) c.in-Insert.is text) in
-    c.breaks-in-Ok-check.ensures is_key f x w keys view free brings (subst (λ e. change rows is_key p (edit_of e w path) ≡ Ok x) c.in-Insert.is makes)
+    c.ends_free.ensures c.if-ends_free.true rows p (subst (λ vs. AreHolders rows p path vs) (sym c.deref.ensures.value) (c.in_ok-views.ensures f view)))
 
 pub returns : goal.returns
-returns c = λ is_key f x w keys view free text makes.
+returns c =
     let rows = table_of c.args.root.now in
     let path = c.args.path.now in
-    let p : InSlot = (slot_of c.args.root.now, f) in
-    c.breaks-in-Delete.ensures is_key f x w keys view free tt (subst (λ e. change rows is_key p (edit_of e w path) ≡ Ok x) c.in-Delete.is makes)
+    c.breaks_by.ensures (λ f view. subst (λ vs. AreHolders rows (slot_of c.args.root.now, f) path vs) (sym c.deref-2.ensures.value) (c.in_ok-views.ensures f view))

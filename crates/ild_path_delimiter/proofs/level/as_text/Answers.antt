@@ -1,4 +1,4 @@
-use Rattle.std.proofs.Common.{◌≡◌, ◌∙◌, sym, refl, true, false}
+use Rattle.std.proofs.Common.{◌≡◌, ◌∙◌, sym, true, false}
 use Rattle.ild_path_edit.proofs.Making.{item_stands}
 use Rattle.ild_path_delimiter.proofs.Making.{text_found}
 use Rattle.ild_path_delimiter.proofs.level.as_text.Goals as goal

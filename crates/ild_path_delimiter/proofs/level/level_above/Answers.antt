@@ -1,4 +1,4 @@
-use Rattle.std.proofs.Common.{◌≡◌, ◌∙◌}
+use Rattle.std.proofs.Common.{◌∙◌}
 use Rattle.ild_data.specs.Data.{text}
 use Rattle.ild_path_edit.proofs.Making.{item_stands}
 use Rattle.ild_path_delimiter.proofs.level.level_above.Goals as goal

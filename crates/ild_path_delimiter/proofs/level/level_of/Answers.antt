@@ -1,4 +1,4 @@
-use Rattle.std.proofs.Common.{◌≡◌, ◌∙◌, sym, ap, subst, get_or}
+use Rattle.std.proofs.Common.{◌≡◌, sym, subst}
 use Rattle.std.specs.Prelude.{IfOk}
 use Rattle.ild_path_block.specs.Changes.{Allows, in_last}
 use Rattle.ild_path_delimiter.proofs.Making.{got_one}

@@ -1,7 +1,7 @@
-use Rattle.std.proofs.Common.{◌≡◌, ◌∙◌, ap, sym}
+use Rattle.std.proofs.Common.{◌∙◌, ap, sym}
 use Rattle.std.specs.Prelude.{Ok, Some, not}
 use Rattle.ild_path_block.specs.Changes.{in_last}
-use Rattle.ild_path_delimiter.proofs.Making.{answered, if_ok, item_made, item_none, no_member, refusing, text_known, text_level}
+use Rattle.ild_path_delimiter.proofs.Making.{answered, if_ok, item_long, item_made, item_none, no_member, refusing, text_known, text_level}
 use Rattle.ild_path_delimiter.specs.Levels.{IsTextItem, LevelIs}
 use Rattle.ild_typed.specs.At.{seen}
 use Rattle.ild_path_delimiter.proofs.level.made.Goals as goal
@@ -25,3 +25,12 @@ returns-in-None c = λ rows q w view holds can tree.
     let j = text_known rows q v c.in-Some.piece c.text.result view (sym c.in-Some.is ∙ c.piece.ensures) c.text.ensures (c.is_none.ensures ∙ ap not c.if-is_none.false) in
     let item = answered rows q v s edit w _ view (rw c.in-Ok-None.field-0-is at c.in-Ok-None.ensures) holds can in
     (j.0, j.1, no_member rows q v view c.in-None.ensures, item_none rows edit w q s item)
+
+pub returns-in-Err-Size : goal.returns-in-Err-Size
+returns-in-Err-Size c = λ rows q w view holds can tree.
+    let v = c.args.view.now in
+    let s = c.args.segment.now in
+    let edit = c.args.edit.now in
+    let j = text_known rows q v c.in-Some.piece c.text.result view (sym c.in-Some.is ∙ c.piece.ensures) c.text.ensures (c.is_none.ensures ∙ ap not c.if-is_none.false) in
+    let item = answered rows q v s edit w _ view (rw c.in-Err-Size.field-0-is at c.in-Err-Size.ensures) holds can in
+    item_long rows edit w q s item (refusing rows q j.0 j.1 holds)
