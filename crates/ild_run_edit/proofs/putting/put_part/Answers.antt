@@ -23,4 +23,4 @@ returns-clause-puts g c =
 
 pub returns-clause-named : goal.returns-clause-named
 returns-clause-named g c =
-    done_named (g.K.Store.moment c.args.store.now) (g.K.Store.moment c.replace.new.store) c.in-Err-replace.fault c.done_fault.new.clash c.done_fault.result c.in-Err-replace.ensures.spares.cause c.done_fault.ensures.notes c.done_fault.ensures.same
+    done_named (g.K.Store.moment c.built_part.new.store) (g.K.Store.moment c.replace.new.store) c.in-Err-replace.fault c.done_fault.new.clash c.done_fault.result c.in-Err-replace.ensures.spares.cause c.done_fault.ensures.notes c.done_fault.ensures.same
