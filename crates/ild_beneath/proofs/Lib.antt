@@ -1,0 +1,6 @@
+pub mod Flats
+pub mod Parted
+pub mod Nodes
+pub mod Heights
+pub mod Keys
+pub mod Reading
