@@ -83,7 +83,7 @@ module _ (rows : List Row) (room : ℕ) (below : ℕ → Slot → Value → Type
   value_high s V.null h = omega arith
   value_high s v h = some_high s v h
 
-past_high : (rows : List Row) (room over : ℕ) (s : Slot) (v : Value) → FitsPast rows room over s v → height v + over ≤ room
+pub past_high : (rows : List Row) (room over : ℕ) (s : Slot) (v : Value) → FitsPast rows room over s v → height v + over ≤ room
 unfolding FitsPast
 past_high rows zero zero s v f = let x = value_high rows zero (λ over t w. ⊥) (λ over t w b. absurd b) s v f in omega (arith, x)
 past_high rows zero (suc over) s v f = absurd f

@@ -13,7 +13,9 @@ use Rattle.ild_schema.specs.declared.row.Row.{Row}
 use Rattle.ild_hamt_trie.proofs.Node.{slots-node, no_node}
 use Rattle.ild_hamt_trie.proofs.Slots.{all_some-cons}
 use Rattle.ild_typed.proofs.Basics.{map_from}
-use Rattle.ild_typed.proofs.TreeNodes.{part_in}
+use Rattle.ild_data.specs.Tree.{IsTree}
+use Rattle.ild_typed.proofs.Treed.{EntryIn}
+use Rattle.ild_typed.proofs.TreeNodes.{node_of_in, part_in}
 use Rattle.ild_typed_places.specs.Places.{Places, nowhere, place, joined, places_over, node_place, bucket_or_node, places_beneath}
 use Rattle.ild_beneath.specs.Children.{AreOf, Child, children_in, element_children, entry_children, node_children}
 
@@ -56,7 +58,7 @@ module _ (rows : List Row) (ty : TypeNo) where
       stand es = bucket_or_node (nat_le (length es) most) inner below beneath es
 
       abbrev Deep : List (List ℕ × Data) → Type 0
-      Deep es = (n : Data) → below es ≡ Some n → Of (children_in rows ty kind n) (beneath es)
+      Deep es = (n : Data) → below es ≡ Some n → IsTree n × Of (children_in rows ty kind n) (beneath es)
 
       in_bucket : (es : List (List ℕ × Data)) → Inside f es → Of (told (bucket es)) (places_over (λ e. inner e.0) es)
       in_bucket es inside =
@@ -74,7 +76,7 @@ module _ (rows : List Row) (ty : TypeNo) where
         by false made =
             let n = map_from link_to (below (e ∷ es)) z made in
             subst (λ y. Of (told y) (node_place (below (e ∷ es)) (beneath (e ∷ es)))) (same_Some (link_to n.item) z n.made)
-            (subst (λ o. Of (told (link_to n.item)) (node_place o (beneath (e ∷ es)))) (sym n.there) (refl, (n.item, refl, deep n.item n.there), tt))
+            (subst (λ o. Of (told (link_to n.item)) (node_place o (beneath (e ∷ es)))) (sym n.there) (refl, (n.item, (deep n.item n.there).0, refl, (deep n.item n.there).1), tt))
 
       each_slot : (at : List ℕ → ℕ) (es : List (List ℕ × Data)) → Inside f es → ((i : ℕ) → Deep (part at es i)) → (js : List ℕ) (slots : List TrieSlot)
           → all_some (map (λ i. slot_of most below (part at es i)) js) ≡ Some slots
@@ -88,19 +90,21 @@ module _ (rows : List Row) (ty : TypeNo) where
           subst (λ ys. Of (flat_map (element_children f kind) (flat_map elements_of ys)) (places_over (λ i. stand (part at es i)) (j ∷ js))) (sym x.4)
           (subst (λ cs. Of cs (places_over (λ i. stand (part at es i)) (j ∷ js))) (sym (flat_append (element_children f kind) (elements_of x.0) (flat_map elements_of x.1))) all)
 
-    module _ (deeper : Data → List Child) (told_is : (n : Data) → children_in rows ty kind n ≡ node_children deeper kind n) (h : List ℕ → List ℕ) (p : TrieShape) where
-      pub node_tells : (f : Data → List Child) (left depth : ℕ) (es : List (List ℕ × Data)) (n : Data) → node_of h p left depth es ≡ Some n → Inside f es → Inside deeper es
+    module _ (deeper : Data → List Child) (told_is : (n : Data) → children_in rows ty kind n ≡ node_children deeper kind n) (h : List ℕ → List ℕ) (p : TrieShape) (room : ℕ) where
+      pub node_tells : (f : Data → List Child) (left depth : ℕ) (es : List (List ℕ × Data)) (n : Data) → node_of h p left depth es ≡ Some n → Inside f es → Inside deeper es → AllByRecursion (EntryIn room) es
           → Of (node_children f kind n) (places_beneath inner h p left depth es)
       unfolding places_beneath
-      node_tells f zero depth es n is inside more = absurd (let e : None ≡ Some n = sym (no_node h p depth es) ∙ is in cc)
-      node_tells f (suc left) depth es n is inside more =
+      node_tells f zero depth es n is inside more trees = absurd (let e : None ≡ Some n = sym (no_node h p depth es) ∙ is in cc)
+      node_tells f (suc left) depth es n is inside more trees =
           let x = slots-node h p left depth es n is in
           let at = at_depth h p depth in
           let below = node_of h p left (depth + 1) in
           let beneath = places_beneath inner h p left (depth + 1) in
           let deep : (i : ℕ) → Deep f p.bucket below beneath (part at es i) = λ i m there.
           let mine : Inside deeper (part at es i) = part_in (λ e. Of (deeper e.1) (inner e.0)) (λ e. at e.0 == i) es more in
-          subst (λ cs. Of cs (beneath (part at es i))) (sym (told_is m)) (node_tells deeper left (depth + 1) (part at es i) m there mine mine) in
+          let standing : AllByRecursion (EntryIn room) (part at es i) = part_in (EntryIn room) (λ e. at e.0 == i) es trees in
+          let tree = node_of_in room h p left (depth + 1) (part at es i) m standing there in
+          (tree.tree, subst (λ cs. Of cs (beneath (part at es i))) (sym (told_is m)) (node_tells deeper left (depth + 1) (part at es i) m there mine mine standing)) in
           let all = each_slot f p.bucket below beneath at es inside deep (range_with_len 0 (2 ^ p.width)) x.0 x.1 in
           let whole : Places = places_over (λ i. bucket_or_node (nat_le (length (part at es i)) p.bucket) inner below beneath (part at es i)) (range_with_len 0 (2 ^ p.width)) in
           subst (λ m. Of (node_children f kind m) whole) (sym x.2)

@@ -10,6 +10,7 @@ use Rattle.ild_data.specs.Data.{Data}
 use Rattle.ild_data.specs.Key.{value_at}
 use Rattle.ild_data.specs.Limits.{deepest}
 use Rattle.ild_data.specs.Spell.{spell, id_of}
+use Rattle.ild_data.specs.Tree.{IsTree}
 use Rattle.ild_schema.specs.Kinds.{meant}
 use Rattle.ild_schema.specs.Slots.{form_of, plainly}
 use Rattle.ild_schema.specs.declared.def.MapForm.TheVariants as MF
@@ -101,4 +102,4 @@ AreOf rows ty [] nowhere = Unit {0}
 AreOf rows ty [] (place b beneath ps) = ⊥
 AreOf rows ty (c ∷ cs) nowhere = ⊥
 AreOf rows ty (c ∷ cs) (place b beneath ps) =
-    (id_of b ≡ c.0) × ((d : Data) × (b ≡ spell d) × AreOf rows ty (children_in rows ty c.1 d) beneath) × AreOf rows ty cs ps
+    (id_of b ≡ c.0) × ((d : Data) × IsTree d × (b ≡ spell d) × AreOf rows ty (children_in rows ty c.1 d) beneath) × AreOf rows ty cs ps

@@ -8,4 +8,4 @@ use Rattle.ild_beneath.proofs.children_are_places.Goals as goal
 pub returns : goal.returns
 returns c = λ h rows schema ty v t storable.
     let high = fits_high rows deepest (plainly ty) v storable.fits in
-    reads h rows (legible rows schema.accepted).clear ty (plainly ty) v t deepest storable.tree high high
+    reads h rows (legible rows schema.accepted).clear schema.table.texts.spelled ty (plainly ty) v t deepest storable.tree high storable.fits
