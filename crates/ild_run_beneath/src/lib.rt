@@ -1,0 +1,4 @@
+//! The commit of a batch over a document: what stands beneath the blocks of its value is told by the blocks (IPLD HashMap, "Element").
+#![tactic(auto)]
+
+mod trees;
