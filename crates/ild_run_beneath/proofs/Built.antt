@@ -4,7 +4,7 @@ use Rattle.std.specs.List.{AllByRecursion}
 use Rattle.std.specs.Option.{option_map_or}
 use Rattle.ild_cbor.specs.Block.{IsBlockOf}
 use Rattle.ild_data.specs.Data.{Data}
-use Rattle.ild_data.specs.Spell.{spell}
+use Rattle.ild_data.specs.Spell.{spell, id_of}
 use Rattle.ild_data.specs.Tree.{IsTree}
 use Rattle.ild_dirty.specs.Beneath as B
 use Rattle.ild_dirty.specs.Beneath.{AreTrees}
@@ -13,6 +13,7 @@ use Rattle.ild_beneath.specs.Laws.{ChildrenArePlaces, DataAreRead}
 use Rattle.ild_data.proofs.Apart.{one_meaning}
 use Rattle.ild_data.specs.Limits.{IsWithin, deepest}
 use Rattle.ild_run_beneath.specs.Trees.{TreesStand}
+use Rattle.ild_run_commit.specs.Places.{HaveTrees}
 use Rattle.ild_schema.specs.Slots.{plainly}
 use Rattle.ild_schema.specs.declared.number.TypeNo.{TypeNo}
 use Rattle.ild_schema.specs.declared.row.Row.{Row}
@@ -27,6 +28,10 @@ use Rattle.ild_typed_places.specs.Places.{Places, nowhere, place, joined, blocks
 use Rattle.ild_typed_places.proofs.Joining.{All, all_both}
 use Rattle.ild_typed_places.proofs.Telling.{to_places}
 use Rattle.ild_beneath.proofs.Nodes.{joined_none}
+use Rattle.ild_schema.specs.Accept.{IsAccepted}
+use Rattle.ild_schema.specs.Table.{IsTable}
+use Rattle.ild_typed.specs.Schema.{IsSchema}
+use Rattle.ild_view_doc.specs.declared.doc.Doc.{Doc}
 use Rattle.ild_view_doc.specs.Docs.{table_in, type_in}
 
 module _ (read : DataAreRead) (rows : List Row) (ty : TypeNo) where
@@ -71,3 +76,10 @@ trees_stand read places blocks frame h d schema v t storable =
       stands = record { top = refl; same_kind = refl; tree = subst (λ cs. AreTrees (children_of rows ty) cs x.trees) (sym root) x.are };
       places = λ i. place (spell t) ((x.same ∙ sym (joined_none (places_in h rows (plainly ty) v))) i) nowhere;
     }
+
+-- what follows from the trees of a document follows where its table was accepted
+pub committed : TreesStand → (d : Doc) (rows acc : List Row) (ty : TypeNo) (C : Type 0) → IsTable rows → IsAccepted rows → rows ≡ table_in d → acc ≡ table_in d → ty ≡ type_in d
+    → (HaveTrees id_of d 0 (children_of acc ty) → C) → C
+committed trees d rows acc ty C table accepted is one two commits =
+    let schema : IsSchema (table_in d) = subst IsSchema is (record { table = table; accepted = accepted }) in
+    commits (subst (λ r. HaveTrees id_of d 0 (children_of r ty)) (sym one) (subst (λ n. HaveTrees id_of d 0 (children_of (table_in d) n)) (sym two) (trees id_of d schema)))

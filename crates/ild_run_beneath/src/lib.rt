@@ -1,4 +1,12 @@
 //! The commit of a batch over a document: what stands beneath the blocks of its value is told by the blocks (IPLD HashMap, "Element").
 #![tactic(auto)]
 
+mod committing;
+mod telling;
 mod trees;
+mod types;
+
+pub use committing::commit;
+pub use telling::told_children;
+pub use trees::trees_stand;
+pub use types::ByTypes;
