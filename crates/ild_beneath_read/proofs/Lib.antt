@@ -1,0 +1,7 @@
+pub mod Appending
+pub mod Blocks
+pub mod Choosing
+pub mod Looking
+pub mod Opening
+pub mod Paired
+pub mod Splitting
