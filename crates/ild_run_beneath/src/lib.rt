@@ -2,11 +2,9 @@
 #![tactic(auto)]
 
 mod committing;
-mod telling;
 mod trees;
 mod types;
 
 pub use committing::commit;
-pub use telling::told_children;
 pub use trees::trees_stand;
 pub use types::ByTypes;

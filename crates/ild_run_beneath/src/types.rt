@@ -2,7 +2,7 @@
 ghost use Rattle.std.specs.Prelude.{◌≡◌, ◌<◌, length};
 ghost use Rattle.ild_beneath.specs.Children.{children_of};
 
-use crate::telling::told_children;
+use ild_beneath_read::told_children;
 use ild_dirty::{Beneath, Child};
 use ild_schema::{Accepted, TypeNo};
 use std::alloc::{AllocError, Global};
