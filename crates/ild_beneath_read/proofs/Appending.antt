@@ -12,7 +12,7 @@ use Rattle.ild_cbor.specs.Scalar.{link_of as link_found}
 use Rattle.ild_cbor.specs.declared.piece.Piece.{Piece}
 use Rattle.ild_dirty.specs.Beneath.{child_seen}
 use Rattle.ild_dirty.specs.declared.beneath.Child.{Child as Kept}
-use Rattle.ild_layer_fields.proofs.Pairing.{item_end, item_step}
+use Rattle.ild_layer_fields.proofs.Pairing.{item_step}
 use Rattle.ild_layer_fields.specs.declared.fields.Fields.{Fields}
 use Rattle.ild_layer_piece.specs.Entries.{HasLeft}
 use Rattle.ild_layer_piece.specs.Pieces.{StandsFor}
@@ -49,9 +49,6 @@ module _ (rows : List Row) (steps : ℕ) where
     pub are : IsLeft left rest
     pub pushed : map child_seen now ++ flat_map (told rows steps) rest ≡ map child_seen old ++ flat_map (told rows steps) ps
 
-  pub going_first : (old : List Kept) (ps : List Part) (left : Parts) → IsLeft left ps → Going old ps left old
-  going_first old ps left are = record { rest = ps; are = are; pushed = refl }
-
   module _ (old : List Kept) (ps : List Part) (left behind : Parts) (now : List Kept) (h : Going old ps left now) where
     pub going_past : SplitsOff h.rest None behind → Going old ps behind now
     going_past x = record { rest = x.others; are = x.left; pushed = ap (λ qs. map child_seen now ++ flat_map (told rows steps) qs) (sym x.first) ∙ h.pushed }
@@ -66,9 +63,6 @@ module _ (rows : List Row) (steps : ℕ) where
               ∙ ap (λ qs. map child_seen now ++ flat_map (told rows steps) qs) (sym x.first.2) ∙ h.pushed;
         }
 
-    pub going_over : h.rest ≡ [] → map child_seen now ≡ map child_seen old ++ flat_map (told rows steps) ps
-    going_over none = sym (append-nil (map child_seen now)) ∙ ap (λ qs. map child_seen now ++ flat_map (told rows steps) qs) (sym none) ∙ h.pushed
-
 -- ---- elements of a node
 
 module _ (f : Data → List Child) (kind : ℕ) where
@@ -80,9 +74,6 @@ module _ (f : Data → List Child) (kind : ℕ) where
     pub are : HasItems left rest
     pub pushed : map child_seen now ++ all_told rest ≡ map child_seen old ++ whole
 
-  pub walking_first : (old : List Kept) (d : Data) (left : Items) → IsElements d (Some left) → Walking old (node_children f kind d) left old
-  walking_first old d left is = record { rest = is.0; are = is.1; pushed = ap (λ cs. map child_seen old ++ cs) (sym (is.2 f kind)) }
-
   module _ (old : List Kept) (whole : List Child) (left behind : Items) (now : List Kept) (h : Walking old whole left now) where
     pub walking_on : (n : Node) (new : List Kept) → ItemsGive left (Some n) behind → ((d : Data) → Stands n d → map child_seen new ≡ map child_seen now ++ element_children f kind d) → Walking old whole behind new
     walking_on n new gives pushes =
@@ -93,9 +84,6 @@ module _ (f : Data → List Child) (kind : ℕ) where
           pushed = ap (λ cs. cs ++ all_told x.rest) (pushes x.one x.stands) ∙ append_assoc (map child_seen now) (element_children f kind x.one) (all_told x.rest)
               ∙ ap (λ ds. map child_seen now ++ all_told ds) (sym x.is) ∙ h.pushed;
         }
-
-    pub walking_over : ItemsGive left None behind → map child_seen now ≡ map child_seen old ++ whole
-    walking_over gives = sym (append-nil (map child_seen now)) ∙ ap (λ ds. map child_seen now ++ all_told ds) (sym (item_end left h.rest behind gives h.are)) ∙ h.pushed
 
 -- ---- the elements that there are
 
@@ -165,13 +153,6 @@ module _ (rows : List Row) (steps : ℕ) (u : Slot) where
       by : (d : Data) → FindsItems n (items_of d) (Some x) → (ps : List Part) × OfItems (value_parts u) x ps × (element_children inner kind d ≡ flat_map (told rows steps) ps)
       by (T.list ds) h = (value_parts u (T.items_list ds), record { items = ds; left = h.left; is = refl }, in_bucket (T.items_list ds))
       by d h = absurd h
-
-    pub nothing_told : None ≡ link_found d → FindsItems n (items_of d) None → element_children inner kind d ≡ []
-    nothing_told no_link no_list = by d no_link no_list where
-      by : (d : Data) → None ≡ link_found d → FindsItems n (items_of d) None → element_children inner kind d ≡ []
-      by (T.link s) e h = absurd (none-some s e)
-      by (T.list ds) e h = absurd h
-      by d e h = refl
 
 -- ---- a piece in a slot
 

@@ -17,7 +17,7 @@ use Rattle.ild_data.specs.Data as T
 use Rattle.ild_data.specs.Data.{Data}
 use Rattle.ild_data.specs.Key.{same_text, value_at, without}
 use Rattle.ild_layer_fields.proofs.Placing.{text_turn}
-use Rattle.ild_layer_piece.proofs.Walking.{first_left, none_left, walked}
+use Rattle.ild_layer_piece.proofs.Walking.{first_left, walked}
 use Rattle.ild_layer_piece.specs.Entries.{EntriesGive, Found, Maps}
 use Rattle.ild_layer_piece.specs.Pieces.{IsNumbered, IsWithout, StandsFor, passed_key}
 use Rattle.ild_layer_piece.specs.declared.walk.MapEntries.{MapEntries}
@@ -36,7 +36,6 @@ use Rattle.ild_typed.specs.Named.{where_some}
 use Rattle.ild_typed.specs.Slots.{slot_of}
 use Rattle.ild_typed.specs.Strings.{map_data, members_in}
 use Rattle.ild_beneath_read.specs.Opened.{AreMapStructs, IsReady, IsWhole, MembersIn, Parted, PassesInStruct, opened_member, slot_found}
-use Rattle.ild_beneath_read.specs.declared.opened.Opened.TheVariants as O
 
 -- ---- by a text
 
@@ -137,15 +136,6 @@ of_kind K.Link = (T.link [], refl)
 
 -- ---- by the first key
 
-pub no_first_key : (ms : List Member) (t : Data) → Maps (members_in t) None → union_parts UF.Keyed ms t ≡ []
-no_first_key ms (T.map es) h = absurd h
-no_first_key ms t h = refl
-
-no_keys : (ms : List Member) (t : Data) → members_in t ≡ Some [] → union_parts UF.Keyed ms t ≡ []
-no_keys ms (T.map T.no_members) e = refl
-no_keys ms (T.map (T.member k d es)) e = absurd (let f : (k, d) ∷ T.members_list es ≡ [] = same_Some ((k, d) ∷ T.members_list es) [] e in cc)
-no_keys ms t e = absurd (none-some [] e)
-
 first_key : (ms : List Member) (t : Data) (k : List ℕ) (d : Data) (es : List (List ℕ × Data)) → members_in t ≡ Some ((k, d) ∷ es) → union_parts UF.Keyed ms t ≡ member_part (has_text k) ms d
 first_key ms (T.map T.no_members) k d es e = absurd (let f : [] ≡ (k, d) ∷ es = same_Some [] ((k, d) ∷ es) e in cc)
 first_key ms (T.map (T.member l c es')) k d es e =
@@ -158,11 +148,6 @@ first_key ms (T.map (T.member l c es')) k d es e =
 first_key ms t k d es e = absurd (none-some ((k, d) ∷ es) e)
 
 module _ (rows : List Row) (ms : List Member) (t : Data) (s after : MapEntries) (maps : Maps (members_in t) (Some s)) where
-  pub keyed_none : EntriesGive s None after → union_parts UF.Keyed ms t ≡ []
-  keyed_none gives =
-      let w = walked t s maps in
-      no_keys ms t (w.is ∙ ap Some (none_left s after w.entries gives w.left))
-
   pub keyed_parted : (x : Bor (List ℕ) × Node) → EntriesGive s (Some x) after → Parted rows (union_parts UF.Keyed ms t) (opened_member (slot_found (has_text x.0.now) ms) (Q.Node x.1))
   keyed_parted x gives =
       let w = walked t s maps in
@@ -187,46 +172,13 @@ at_key (T.map ms) k n found = by (value_at k (T.members_list ms)) refl found whe
   by (Some d) is h = record { members = ms; is = refl; value = d; there = is; stands = h }
 at_key t k n found = absurd found
 
-no_key : (es : T.Members) (k : List ℕ) → Found (value_at k (T.members_list es)) None → value_at k (T.members_list es) ≡ None
-no_key es k found = by (value_at k (T.members_list es)) found where
-  by : (o : Option Data) → Found o None → o ≡ None
-  by None h = refl
-  by (Some d) h = absurd h
-
-marked_other : (ms : List Member) (d : Data) (o : Option Data) → None ≡ text_found d → marked_part ms (Some d) o ≡ []
-marked_other ms (T.text k) o e = absurd (none-some k e)
-marked_other ms d o e = refl
-
 text_is : (d : Data) (k : List ℕ) → Some k ≡ text_found d → d ≡ T.text k
 text_is (T.text s) k e = ap T.text (sym (same_Some k s e))
 text_is d k e = absurd (none-some k (sym e))
 
 module _ (rows : List Row) (ms : List Member) (key : List ℕ) (t : Data) where
   module _ (content : List ℕ) where
-    pub no_mark : Found (option_and_then (value_at key) (members_in t)) None → union_parts (UF.Envelope key content) ms t ≡ []
-    no_mark found = by t found where
-      by : (t : Data) → Found (option_and_then (value_at key) (members_in t)) None → union_parts (UF.Envelope key content) ms t ≡ []
-      by (T.map es) h = ap (λ o. marked_part ms o (value_at content (T.members_list es))) (no_key es key h)
-      by t h = refl
-
-    marked_none : (o : Option Data) → marked_part ms o None ≡ []
-    marked_none None = refl
-    marked_none (Some (T.text k)) = refl
-    marked_none (Some d) = refl
-
-    pub no_content : Found (option_and_then (value_at content) (members_in t)) None → union_parts (UF.Envelope key content) ms t ≡ []
-    no_content found = by t found where
-      by : (t : Data) → Found (option_and_then (value_at content) (members_in t)) None → union_parts (UF.Envelope key content) ms t ≡ []
-      by (T.map es) h = ap (λ o. marked_part ms (value_at key (T.members_list es)) o) (no_key es content h) ∙ marked_none (value_at key (T.members_list es))
-      by t h = refl
-
     module _ (mark : Node) (found : Found (option_and_then (value_at key) (members_in t)) (Some mark)) where
-      pub mark_no_text : ((d : Data) → Stands mark d → None ≡ text_found d) → union_parts (UF.Envelope key content) ms t ≡ []
-      mark_no_text none =
-          let x = at_key t key mark found in
-          ap (union_parts (UF.Envelope key content) ms) x.is ∙ ap (λ o. marked_part ms o (value_at content (T.members_list x.members))) x.there
-          ∙ marked_other ms x.value (value_at content (T.members_list x.members)) (none x.value x.stands)
-
       pub envelope_parted : (name : List ℕ) (n : Node) → ((d : Data) → Stands mark d → Some name ≡ text_found d) → Found (option_and_then (value_at content) (members_in t)) (Some n)
           → Parted rows (union_parts (UF.Envelope key content) ms t) (opened_member (slot_found (has_text name) ms) (Q.Node n))
       envelope_parted name n text held =
@@ -241,19 +193,7 @@ module _ (rows : List Row) (ms : List Member) (key : List ℕ) (t : Data) where
 
   -- ---- among the own entries
 
-  pub no_inline_mark : Found (option_and_then (value_at key) (members_in t)) None → union_parts (UF.Inline key) ms t ≡ []
-  no_inline_mark found = by t found where
-    by : (t : Data) → Found (option_and_then (value_at key) (members_in t)) None → union_parts (UF.Inline key) ms t ≡ []
-    by (T.map es) h = ap (λ o. marked_part ms o (Some (map_data (without key (T.members_list es))))) (no_key es key h)
-    by t h = refl
-
   module _ (mark : Node) (found : Found (option_and_then (value_at key) (members_in t)) (Some mark)) where
-    pub inline_no_text : ((d : Data) → Stands mark d → None ≡ text_found d) → union_parts (UF.Inline key) ms t ≡ []
-    inline_no_text none =
-        let x = at_key t key mark found in
-        let left : Option Data = Some (map_data (without key (T.members_list x.members))) in
-        ap (union_parts (UF.Inline key) ms) x.is ∙ ap (λ o. marked_part ms o left) x.there ∙ marked_other ms x.value left (none x.value x.stands)
-
     pub inline_parted : (name : List ℕ) (n : Node) (own : ℕ) → passed_key rows own ≡ Some key → Stands n t → ((d : Data) → Stands mark d → Some name ≡ text_found d)
         → Parted rows (union_parts (UF.Inline key) ms t) (opened_member (slot_found (has_text name) ms) (Q.Inline n own))
     inline_parted name n own passed stands text =
@@ -264,7 +204,3 @@ module _ (rows : List Row) (ms : List Member) (key : List ℕ) (t : Data) where
         let whole : union_parts (UF.Inline key) ms t ≡ member_part (has_text name) ms left
         = ap (union_parts (UF.Inline key) ms) x.is ∙ ap (λ o. marked_part ms o (Some left)) (x.there ∙ ap Some (text_is x.value name (text x.value x.stands))) in
         subst (λ ps. Parted rows ps (opened_member (slot_found (has_text name) ms) (Q.Inline n own))) (sym whole) (member_parted rows (has_text name) ms left (Q.Inline n own) without_it)
-
--- texts and bytes have none
-pub no_map_inline : (ms : List Member) (key : List ℕ) (t : Data) (s : List ℕ) → t ≡ T.text s → union_parts (UF.Inline key) ms t ≡ []
-no_map_inline ms key t s is = ap (union_parts (UF.Inline key) ms) is

@@ -3,5 +3,4 @@ pub mod Blocks
 pub mod Choosing
 pub mod Looking
 pub mod Opening
-pub mod Paired
 pub mod Splitting

@@ -9,8 +9,6 @@ use Rattle.ild_cbor.specs.Scalar.{kind_of}
 use Rattle.ild_cbor.specs.Steps.{HasItems}
 use Rattle.ild_cbor.specs.declared.items.Items.{Items}
 use Rattle.ild_cbor.specs.declared.node.Node.{Node}
-use Rattle.ild_cbor.specs.declared.piece.Piece.{Piece}
-use Rattle.ild_cbor.specs.declared.piece.Piece.TheVariants as Q
 use Rattle.ild_data.proofs.Lists.{items_of-items_list}
 use Rattle.ild_data.specs.Data as T
 use Rattle.ild_data.specs.Data.{Data}
@@ -21,7 +19,6 @@ use Rattle.ild_open_held.specs.Splits.{element_parts, entry_parts}
 use Rattle.ild_schema.specs.Clear.{AreNamesApart, ClearStruct, ClearType}
 use Rattle.ild_schema.specs.Copies.{base}
 use Rattle.ild_schema.specs.Rows.{def_at}
-use Rattle.ild_schema.specs.Rules.{is_map_struct}
 use Rattle.ild_schema.specs.Slots.{form_of}
 use Rattle.ild_schema.specs.Table.{IsWithin}
 use Rattle.ild_schema.specs.declared.def.Field.{Field}
@@ -40,7 +37,7 @@ use Rattle.ild_schema.specs.declared.row.Row.{Row}
 use Rattle.ild_typed.specs.Named.{items_in, pair_entries}
 use Rattle.ild_typed.specs.Strings.{members_in}
 use Rattle.ild_beneath_read.specs.Left.{FieldsIn, OfEntries, OfItems}
-use Rattle.ild_beneath_read.specs.Opened.{IsWhole, MembersIn, Opens, OpensRoot, Parted, PassesInStruct, is_leaf}
+use Rattle.ild_beneath_read.specs.Opened.{MembersIn, Opens, OpensRoot, Parted, is_leaf}
 use Rattle.ild_beneath_read.specs.Pushes.{told}
 use Rattle.ild_beneath_read.specs.declared.opened.Opened.{Opened}
 use Rattle.ild_beneath_read.specs.declared.opened.Opened.TheVariants as O
@@ -98,12 +95,6 @@ module _ (form : MapForm) (u : Slot) (t : Data) where
       let x = list_of t s h in
       record { items = x.items; left = x.left; is = ap (λ f. map_parts f u t) is ∙ ap (map_parts MF.ListPairs u) x.is }
 
-  pub no_pairs : form ≡ MF.ListPairs → Lists (items_in t) None → map_parts form u t ≡ []
-  no_pairs is h = ap (λ f. map_parts f u t) is ∙ by t h where
-    by : (t : Data) → Lists (items_in t) None → map_parts MF.ListPairs u t ≡ []
-    by (T.list ds) h = absurd h
-    by t h = refl
-
 -- ---- the root node of a HAMT
 
 pub no_root : (u : Slot) (t : Data) → Found (option_and_then (value_at (codes "hamt")) (members_in t)) None → OpensRoot u t O.Nothing
@@ -126,31 +117,13 @@ module _ (form : StructForm) (fs : List Field) (t : Data) where
   pub named_parted : (s : MapEntries) → form ≡ S.Map → Maps (members_in t) (Some s) → (es : List (List ℕ × Data)) × HasLeft s es × (struct_parts form fs t ≡ named_parts fs es)
   named_parted s is h = let x = map_of t s h in (T.members_list x.members, x.left, ap (λ f. struct_parts f fs t) is ∙ ap (struct_parts S.Map fs) x.is)
 
-  pub no_named : form ≡ S.Map → Maps (members_in t) None → struct_parts form fs t ≡ []
-  no_named is h = ap (λ f. struct_parts f fs t) is ∙ by t h where
-    by : (t : Data) → Maps (members_in t) None → struct_parts S.Map fs t ≡ []
-    by (T.map ms) h = absurd h
-    by t h = refl
-
   pub listed_parted : (s : Items) → form ≡ S.ListPairs → Lists (items_in t) (Some s) → (ds : T.Items) × HasItems s ds × (struct_parts form fs t ≡ named_parts fs (pair_entries (T.items_list ds)))
   listed_parted s is h = let x = list_of t s h in (x.items, x.left, ap (λ f. struct_parts f fs t) is ∙ ap (struct_parts S.ListPairs fs) x.is)
-
-  pub no_listed : form ≡ S.ListPairs → Lists (items_in t) None → struct_parts form fs t ≡ []
-  no_listed is h = ap (λ f. struct_parts f fs t) is ∙ by t h where
-    by : (t : Data) → Lists (items_in t) None → struct_parts S.ListPairs fs t ≡ []
-    by (T.list ds) h = absurd h
-    by t h = refl
 
   pub tuple_parted : (s : Items) → form ≡ S.Tuple → Lists (items_in t) (Some s) → (gs : List Field) → gs ≡ fs → OfItems (ordered_parts gs) s (struct_parts form fs t)
   tuple_parted s is h gs same =
       let x = list_of t s h in
       record { items = x.items; left = x.left; is = ap (λ f. struct_parts f fs t) is ∙ ap (struct_parts S.Tuple fs) x.is ∙ ap (λ hs. ordered_parts hs (T.items_list x.items)) (sym same) }
-
-  pub no_tuple : form ≡ S.Tuple → Lists (items_in t) None → struct_parts form fs t ≡ []
-  no_tuple is h = ap (λ f. struct_parts f fs t) is ∙ by t h where
-    by : (t : Data) → Lists (items_in t) None → struct_parts S.Tuple fs t ≡ []
-    by (T.list ds) h = absurd h
-    by t h = refl
 
 pub clear_named : (s : StructDef) → s.form ≡ S.Map → ClearType (D.Struct s) → AreNamesApart s.fields
 clear_named s is clear = (subst (λ f. ClearStruct f s.fields) is clear).apart
@@ -170,21 +143,8 @@ fields_in rows s within = each_number (λ (f : Field). f.slot.ty.0) (length rows
 pub members_are_in : (rows : List Row) (u : UnionDef) → IsWithin (length rows) (D.Union u) → MembersIn rows u.members
 members_are_in rows u within = each_number (λ (m : Member). m.ty.0) (length rows) u.members within.1
 
-pub element_in : (rows : List Row) (elem : Slot) (at : ℕ) → IsWithin (length rows) (D.List elem at) → elem.ty.0 < length rows
-element_in rows elem at within = within.1 0 0 (omega arith)
-
-pub value_in : (rows : List Row) (key : TypeNo) (key_at : ℕ) (value : Slot) (at : ℕ) (form : MapForm) → IsWithin (length rows) (D.Map key key_at value at form) → value.ty.0 < length rows
-value_in rows key key_at value at form within = within.1 1 0 (omega arith)
-
 pub form_is : (rows : List Row) (s : Slot) (n : ℕ) (there d : TypeDef) → n ≡ base rows s.ty.0 → def_at rows n ≡ Some there → there ≡ d → form_of rows s ≡ Some d
 form_is rows s n there d at is same = ap (def_at rows) (sym at) ∙ is ∙ ap Some same
-
--- a union's piece passes over nothing
-pub union_whole : (rows : List Row) (s : Slot) (u : UnionDef) (p : Piece) → form_of rows s ≡ Some (D.Union u) → PassesInStruct rows s p → IsWhole p
-union_whole rows s u (Q.Node n) form passes = tt
-union_whole rows s u (Q.Text x) form passes = tt
-union_whole rows s u (Q.Bytes x) form passes = tt
-union_whole rows s u (Q.Inline n k) form passes = let bad : false ≡ true = sym (ap is_map_struct form) ∙ passes in absurd cc
 
 -- ---- what data in a slot tell
 

@@ -1,5 +1,5 @@
 -- The first of the parts that are left.
-use Rattle.std.proofs.Common.{◌≡◌, ℕ, List, [], ◌∷◌, ◌++◌, length, Option, Some, None, option_map, refl, ap, ◌∙◌, subst, arith}
+use Rattle.std.proofs.Common.{◌≡◌, ℕ, List, [], ◌∷◌, ◌++◌, Option, Some, None, option_map, refl, ap, ◌∙◌}
 use Rattle.std.specs.Borrow.{Bor}
 use Rattle.ild_cbor.specs.Nodes.{Stands}
 use Rattle.ild_cbor.specs.Steps.{HasItems, ItemsGive}
@@ -11,14 +11,11 @@ use Rattle.ild_layer_fields.proofs.Pairing.{item_end, item_step}
 use Rattle.ild_layer_piece.proofs.Walking.{first_left, none_left}
 use Rattle.ild_layer_piece.specs.Entries.{EntriesGive, Found}
 use Rattle.ild_layer_piece.specs.declared.walk.MapEntries.{MapEntries}
-use Rattle.ild_open_held.specs.Splits.{Part, element_parts, entry_parts, field_parts}
-use Rattle.ild_schema.specs.declared.def.Field.{Field}
+use Rattle.ild_open_held.specs.Splits.{Part, element_parts, entry_parts}
 use Rattle.ild_schema.specs.declared.number.Slot.{Slot}
 use Rattle.ild_typed.specs.Named.{entry_of, items_or, pair_entries}
 use Rattle.ild_typed.specs.NodeReading.{pair_in}
-use Rattle.ild_beneath.specs.Parts.{ordered_parts}
-use Rattle.ild_beneath_read.specs.Fields.{AllFound}
-use Rattle.ild_beneath_read.specs.Left.{OfEntries, OfFields, OfItems, SplitsOff, in_slot, value_parts}
+use Rattle.ild_beneath_read.specs.Left.{OfEntries, OfItems, SplitsOff, in_slot, value_parts}
 use Rattle.ild_beneath_read.specs.Pairs.{IsNamed}
 use Rattle.ild_beneath_read.specs.declared.parts.Parts.TheVariants as P
 
@@ -103,81 +100,3 @@ module _ (u : Slot) (s t : MapEntries) (ps : List Part) (h : OfEntries u s ps) w
 
   pub entries_over : EntriesGive s None t → ps ≡ []
   entries_over gives = h.is ∙ ap (entry_parts u) (none_left s t h.entries gives h.left)
-
--- ---- items beside fields
-
-pub split_ordered : (fs : Bor (List Field)) (f : Field) (behind : Bor (List Field)) (s t : Items) (n : Node) (ps : List Part) → fs.now ≡ f ∷ behind.now → ItemsGive s (Some n) t → OfItems (ordered_parts fs.now) s ps
-    → SplitsOff ps (Some (f.slot, n)) (P.Ordered behind t)
-split_ordered fs f behind s t n ps is gives h =
-    let x = one_more (ordered_parts fs.now) s t ps h n gives in
-    record {
-      others = ordered_parts behind.now (T.items_list x.rest);
-      first = (x.one, x.stands, x.is ∙ ap (λ gs. ordered_parts gs (x.one ∷ T.items_list x.rest)) is);
-      left = record { items = x.rest; left = x.left; is = refl };
-    }
-
-no_items_left : (fs : List Field) → ordered_parts fs [] ≡ []
-no_items_left [] = refl
-no_items_left (f ∷ fs) = refl
-
-pub ordered_over : (fs : List Field) (s t : Items) (ps : List Part) → ItemsGive s None t → OfItems (ordered_parts fs) s ps → ps ≡ []
-ordered_over fs s t ps gives h = items_over (ordered_parts fs) s t ps h (no_items_left fs) gives
-
-no_fields : (fs : List Field) → length fs ≡ 0 → fs ≡ []
-no_fields [] none = refl
-no_fields (f ∷ fs) none = absurd (omega (arith, none))
-
-pub no_fields_ordered : (fs : List Field) (s : Items) (ps : List Part) → length fs ≡ 0 → OfItems (ordered_parts fs) s ps → ps ≡ []
-no_fields_ordered fs s ps none h = h.is ∙ ap (λ gs. ordered_parts gs (T.items_list h.items)) (no_fields fs none)
-
--- ---- what was found for fields
-
-module _ (f : Field) (fs : List Field) (ns : List (Option Node)) (ps : List Part) where
-  record Rest (o : Option Node) : Type 0 where
-    pub sought : Option Data
-    pub others : List (Option Data)
-    pub here : Found sought o
-    pub found : AllFound others ns
-    pub is : ps ≡ field_parts (f ∷ fs) (sought ∷ others)
-
-  rest_of : (o : Option Node) → OfFields (f ∷ fs) (o ∷ ns) ps → Rest o
-  rest_of o h = by h.sought h.found h.is where
-    by : (os : List (Option Data)) → AllFound os (o ∷ ns) → ps ≡ field_parts (f ∷ fs) os → Rest o
-    by [] found is = absurd found
-    by (q ∷ os) found is = record { sought = q; others = os; here = found.0; found = found.1; is = is }
-
-  -- and a part, or none
-  part_first : (n : Node) (q : Option Data) (os : List (Option Data)) → Found q (Some n) → (d : Data) × Stands n d × (field_parts (f ∷ fs) (q ∷ os) ≡ (f.slot, d) ∷ field_parts fs os)
-  part_first n None os h = absurd h
-  part_first n (Some d) os h = (d, h, refl)
-
-  part_none : (q : Option Data) (os : List (Option Data)) → Found q None → field_parts (f ∷ fs) (q ∷ os) ≡ field_parts fs os
-  part_none None os h = refl
-  part_none (Some d) os h = absurd h
-
-module _ (fs : Bor (List Field)) (f : Field) (behind : Bor (List Field)) (ns : Bor (List (Option Node))) (others : Bor (List (Option Node))) (ps : List Part) (is : fs.now ≡ f ∷ behind.now) where
-  abbrev two : (o : Option Node) → ns.now ≡ o ∷ others.now → OfFields fs.now ns.now ps → OfFields (f ∷ behind.now) (o ∷ others.now) ps
-  two o at h = subst (λ ms. OfFields (f ∷ behind.now) ms ps) at (subst (λ gs. OfFields gs ns.now ps) is h)
-
-  pub split_found : (o : Option Node) (n : Node) → ns.now ≡ o ∷ others.now → o ≡ Some n → OfFields fs.now ns.now ps → SplitsOff ps (Some (f.slot, n)) (P.Found behind others)
-  split_found o n at there h =
-      let x = rest_of f behind.now others.now ps (Some n) (two (Some n) (at ∙ ap (λ q. q ∷ others.now) there) h) in
-      let y = part_first f behind.now others.now ps n x.sought x.others x.here in
-      record { others = field_parts behind.now x.others; first = (y.0, y.1, x.is ∙ y.2); left = record { sought = x.others; found = x.found; is = refl } }
-
-  pub pass_found : (o : Option Node) → ns.now ≡ o ∷ others.now → o ≡ None → OfFields fs.now ns.now ps → SplitsOff ps None (P.Found behind others)
-  pass_found o at none h =
-      let x = rest_of f behind.now others.now ps None (two None (at ∙ ap (λ q. q ∷ others.now) none) h) in
-      let y = part_none f behind.now others.now ps x.sought x.others x.here in
-      record { others = field_parts behind.now x.others; first = x.is ∙ y; left = record { sought = x.others; found = x.found; is = refl } }
-
-pub no_fields_found : (fs : List Field) (ns : List (Option Node)) (ps : List Part) → length fs ≡ 0 → OfFields fs ns ps → ps ≡ []
-no_fields_found fs ns ps none h = h.is ∙ ap (λ gs. field_parts gs h.sought) (no_fields fs none)
-
-pub none_found : (fs : List Field) (ns : List (Option Node)) (ps : List Part) → length ns ≡ 0 → OfFields fs ns ps → ps ≡ []
-none_found fs ns ps none h = by fs ns h.sought h.found h.is none where
-  by : (fs : List Field) (ns : List (Option Node)) (os : List (Option Data)) → AllFound os ns → ps ≡ field_parts fs os → length ns ≡ 0 → ps ≡ []
-  by [] ns os found is none = is
-  by (f ∷ fs) ns [] found is none = is
-  by (f ∷ fs) [] (o ∷ os) found is none = absurd found
-  by (f ∷ fs) (n ∷ ns) (o ∷ os) found is none = absurd (omega (arith, none))
