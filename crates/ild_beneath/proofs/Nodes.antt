@@ -12,7 +12,11 @@ use Rattle.ild_schema.specs.declared.number.TypeNo.{TypeNo}
 use Rattle.ild_schema.specs.declared.row.Row.{Row}
 use Rattle.ild_hamt_trie.proofs.Node.{slots-node, no_node}
 use Rattle.ild_hamt_trie.proofs.Slots.{all_some-cons}
+use Rattle.sha2.proofs.Facts256.{length-sha256}
+use Rattle.std.specs.Option.{option_map_or}
+use Rattle.ild_typed.proofs.NodeElements.{id-read}
 use Rattle.ild_typed.proofs.Basics.{map_from}
+use Rattle.ild_data.specs.Spell.{spell, id_of}
 use Rattle.ild_data.specs.Tree.{IsTree}
 use Rattle.ild_typed.proofs.Treed.{EntryIn}
 use Rattle.ild_typed.proofs.TreeNodes.{node_of_in, part_in}
@@ -60,6 +64,9 @@ module _ (rows : List Row) (ty : TypeNo) where
       abbrev Deep : List (List ℕ × Data) → Type 0
       Deep es = (n : Data) → below es ≡ Some n → IsTree n × Of (children_in rows ty kind n) (beneath es)
 
+      link_told : (m : Data) → told (link_to m) ≡ (id_of (spell m), kind) ∷ []
+      link_told m = ap (λ o. option_map_or (λ id. (id, kind) ∷ []) o [] ++ []) (id-read (id_of (spell m)) (length-sha256 (spell m)))
+
       in_bucket : (es : List (List ℕ × Data)) → Inside f es → Of (told (bucket es)) (places_over (λ e. inner e.0) es)
       in_bucket es inside =
           let same : told (bucket es) ≡ flat_map (λ e. f e.1) es
@@ -76,7 +83,8 @@ module _ (rows : List Row) (ty : TypeNo) where
         by false made =
             let n = map_from link_to (below (e ∷ es)) z made in
             subst (λ y. Of (told y) (node_place (below (e ∷ es)) (beneath (e ∷ es)))) (same_Some (link_to n.item) z n.made)
-            (subst (λ o. Of (told (link_to n.item)) (node_place o (beneath (e ∷ es)))) (sym n.there) (refl, (n.item, (deep n.item n.there).0, refl, (deep n.item n.there).1), tt))
+            (subst (λ o. Of (told (link_to n.item)) (node_place o (beneath (e ∷ es)))) (sym n.there)
+            (subst (λ cs. Of cs (node_place (Some n.item) (beneath (e ∷ es)))) (sym (link_told n.item)) (refl, (n.item, (deep n.item n.there).0, refl, (deep n.item n.there).1), tt)))
 
       each_slot : (at : List ℕ → ℕ) (es : List (List ℕ × Data)) → Inside f es → ((i : ℕ) → Deep (part at es i)) → (js : List ℕ) (slots : List TrieSlot)
           → all_some (map (λ i. slot_of most below (part at es i)) js) ≡ Some slots

@@ -19,6 +19,7 @@ use Rattle.ild_schema.specs.declared.def.TypeDef.TheVariants as D
 use Rattle.ild_schema.specs.declared.number.Slot.{Slot}
 use Rattle.ild_schema.specs.declared.number.TypeNo.{TypeNo}
 use Rattle.ild_schema.specs.declared.row.Row.{Row}
+use Rattle.ild_typed.specs.NodeReading.{id_in}
 use Rattle.ild_typed.specs.Slots.{element_of}
 use Rattle.ild_typed_places.specs.Places.{Places, nowhere, place}
 use Rattle.ild_beneath.specs.Parts.{is_flat, parts_of}
@@ -29,18 +30,14 @@ Child = List ℕ × ℕ
 
 -- ---- of a node
 
--- the id in a CID: what stands behind the four bytes that tell version, codec, hash and length
-abbrev pub id_in : List ℕ → List ℕ
-id_in (a ∷ b ∷ c ∷ d ∷ id) = id
-id_in cid = []
-
 -- inner gives those in the value of an entry
 abbrev pub entry_children : (Data → List Child) → Data → List Child
 entry_children inner (T.list (T.item k (T.item d T.no_items))) = inner d
 entry_children inner e = []
 
+-- a link to what is no block of DAG-CBOR under a sha2-256 leads to no child
 abbrev pub element_children : (Data → List Child) → ℕ → Data → List Child
-element_children inner kind (T.link cid) = (id_in cid, kind) ∷ []
+element_children inner kind (T.link cid) = option_map_or (λ id. (id, kind) ∷ []) (id_in cid) []
 element_children inner kind (T.list es) = flat_map (entry_children inner) (T.items_list es)
 element_children inner kind d = []
 

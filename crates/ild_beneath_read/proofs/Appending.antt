@@ -1,6 +1,9 @@
 -- Children that are appended, part by part.
-use Rattle.std.proofs.Common.{◌≡◌, ℕ, suc, ◌+◌, List, [], ◌∷◌, ◌++◌, append_assoc, append-nil, map, flat_map, Option, Some, None, option_map, Result, refl, sym, ap, ◌∙◌, subst, arith}
+use Rattle.std.proofs.Common.{◌≡◌, ℕ, suc, ◌+◌, List, [], ◌∷◌, ◌++◌, append_assoc, append-nil, map, flat_map, Option, Some, None, option_map, Result, refl, sym, ap, ◌∙◌, subst, arith, length, drop, false, true, cond}
 use Rattle.std.proofs.lemmas.Option.{none-some, same_Some}
+use Rattle.std.proofs.lemmas.Bool.{false≢true, false_from_ne_true}
+use Rattle.std.proofs.lemmas.List.{map-append}
+use Rattle.std.specs.Option.{option_map_or}
 use Rattle.ild_beneath.specs.Children.{Child, element_children, entry_children, found, kind_in, node_children}
 use Rattle.ild_cbor.specs.Nodes.{Stands}
 use Rattle.ild_cbor.specs.Steps.{FindsItems, HasItems, ItemsGive, items_of}
@@ -10,6 +13,7 @@ use Rattle.ild_data.specs.Data as T
 use Rattle.ild_data.specs.Data.{Data}
 use Rattle.ild_cbor.specs.Scalar.{link_of as link_found}
 use Rattle.ild_cbor.specs.declared.piece.Piece.{Piece}
+use Rattle.ild_data.specs.Spell.{cid_of}
 use Rattle.ild_dirty.specs.Beneath.{child_seen}
 use Rattle.ild_dirty.specs.declared.beneath.Child.{Child as Kept}
 use Rattle.ild_layer_fields.proofs.Pairing.{item_step}
@@ -22,7 +26,8 @@ use Rattle.ild_schema.specs.declared.def.Field.{Field}
 use Rattle.ild_schema.specs.declared.number.Slot.{Slot}
 use Rattle.ild_schema.specs.declared.row.Row.{Row}
 use Rattle.ild_typed.specs.Named.{pair_entries}
-use Rattle.ild_typed.specs.NodeReading.{pair_in}
+use Rattle.ild_typed.proofs.NodeElements.{block-link, id-read}
+use Rattle.ild_typed.specs.NodeReading.{id_in, links_block, pair_in}
 use Rattle.ild_beneath.specs.Parts.{named_parts}
 use Rattle.ild_beneath.proofs.Nodes.{flat_append}
 use Rattle.ild_beneath_read.specs.Left.{IsLeft, OfFields, OfItems, SplitsOff, in_slot, value_parts}
@@ -153,6 +158,22 @@ module _ (rows : List Row) (steps : ℕ) (u : Slot) where
       by : (d : Data) → FindsItems n (items_of d) (Some x) → (ps : List Part) × OfItems (value_parts u) x ps × (element_children inner kind d ≡ flat_map (told rows steps) ps)
       by (T.list ds) h = (value_parts u (T.items_list ds), record { items = ds; left = h.left; is = refl }, in_bucket (T.items_list ds))
       by d h = absurd h
+
+-- ---- a link
+
+-- where there is no block, there is no child
+pub no_block : (f : Data → List Child) (kind : ℕ) (s : List ℕ) (old : List Kept) → ((id : List ℕ) → length id ≡ 32 → s ≡ cid_of id → false ≡ true)
+    → map child_seen old ≡ map child_seen old ++ element_children f kind (T.link s)
+no_block f kind s old only =
+    let none : id_in s ≡ None = ap (λ b. cond b (Some (drop 4 s)) None) (false_from_ne_true (links_block s) (λ e. let parts = block-link s e in false≢true (only (drop 4 s) parts.1 parts.0))) in
+    none_more old (element_children f kind (T.link s)) (ap (λ o. option_map_or (λ (id : List ℕ). (id, kind) ∷ []) o []) none)
+
+pub block_told : (f : Data → List Child) (kind : ℕ) (s : List ℕ) (c : Kept) (old new : List Kept) → new ≡ old ++ c ∷ [] → c.kind ≡ kind → s ≡ cid_of c.id.0 → length c.id.0 ≡ 32
+    → map child_seen new ≡ map child_seen old ++ element_children f kind (T.link s)
+block_told f kind s c old new is same whole long =
+    let there : id_in s ≡ Some c.id.0 = ap id_in whole ∙ id-read c.id.0 long in
+    let one : element_children f kind (T.link s) ≡ child_seen c ∷ [] = ap (λ o. option_map_or (λ (id : List ℕ). (id, kind) ∷ []) o []) there ∙ ap (λ k. (c.id.0, k) ∷ []) (sym same) in
+    ap (map child_seen) is ∙ map-append child_seen old (c ∷ []) ∙ ap (λ cs. map child_seen old ++ cs) (sym one)
 
 -- ---- a piece in a slot
 
