@@ -306,7 +306,8 @@ fn is_shown(
     root: &str,
     store: &mut MemStore,
 ) -> Result<bool, AllocError> {
-    let words = owned(alloc, &["show", "s", session.ty, root])?;
+    let mut words = owned(alloc, &["show", "s", session.ty])?;
+    words.push(String::from_str(alloc, root)?)?;
     let mut inputs = MemInputs::new(alloc, &[])?;
     inputs.add("s", session.schema.as_bytes())?;
     let mut out = MemSink::new(alloc, &[])?;
