@@ -93,7 +93,7 @@ def ended_inside(first, edits, refused):
 
 
 def check_rows():
-    """The blocks of the worked rows, spelled by hand."""
+    """The blocks of the examples, spelled by hand."""
     abc = b"\xa3\x64hamt\x82\x58\x20" + bytes(23) + b"\x04" + bytes(8) + b"\x81\x81\x82\x43abc\x02\x67hashAlg\x12\x6abucketSize\x03"
     none = b"\xa3\x64hamt\x82\x58\x20" + bytes(32) + b"\x80\x67hashAlg\x12\x6abucketSize\x03"
     for json, block in (('{"abc":2}', abc), ("{}", none)):
