@@ -224,7 +224,7 @@ def back_again(keys):
 
 
 SCRIPTS = {
-    "worked-row": (MAP, "N", None, [BEGIN, ("set /a 1", "ok null"), ("get /a", "ok 1"), ("root", BATCH), ("commit", 'root {"a":1}'), ("commit", BATCH)]),
+    "map-root-inside-and-commit-twice": (MAP, "N", None, [BEGIN, ("set /a 1", "ok null"), ("get /a", "ok 1"), ("root", BATCH), ("commit", 'root {"a":1}'), ("commit", BATCH)]),
     "row-of-two-sets": (HAMT, "H", None, [BEGIN, ("set /abc 1", "ok null"), ("set /abc 2", "ok null"), ("commit", 'root {"abc":2}')]),
     "row-of-an-abort": (HAMT, "H", None, [BEGIN, ("set /abc 1", "ok null"), ABORT, ("root", "root {}")]),
     "begin-in-a-batch": (MAP, "N", None, [BEGIN, ("begin", BATCH), ("set /a 1", "ok null"), ("begin", BATCH), ABORT, ("has /a", "ok false"), ("root", "root {}")]),
