@@ -5,14 +5,14 @@ use crate::folder::{cid_text, write};
 use crate::json::{read, Tree};
 use std::path::Path;
 
-fn row((key, tree): (String, Tree)) -> Row {
+pub fn row((key, tree): (String, Tree)) -> Row {
     let Tree::Int(n) = tree else { panic!("an integer") };
     let mut value = Vec::with_capacity(9);
     add_int(&mut value, n);
     Row { key, value }
 }
 
-fn root_block(node: &[u8]) -> Block {
+pub fn root_block(node: &[u8]) -> Block {
     let mut out = Vec::with_capacity(node.len() + 40);
     add_head(&mut out, 5, 3);
     for (key, value) in [("hamt", node), ("hashAlg", &[18]), ("bucketSize", &[BUCKET_SIZE as u8])] {

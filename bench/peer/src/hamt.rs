@@ -2,6 +2,7 @@
 //! them anew.
 use crate::cbor::{add_head, check, head, skip, string};
 use sha2::{Digest, Sha256};
+use std::collections::hash_map::Entry;
 use std::collections::HashMap;
 
 type Id = [u8; 32];
@@ -89,24 +90,79 @@ fn spell(node: &Node<'_>) -> Vec<u8> {
 }
 
 /// A node in the node above: its id, or the entries that a bucket takes; or the root.
-enum Lifted {
+pub enum Lifted {
     Root(Vec<u8>),
     Child(Id),
     Few(Vec<(Vec<u8>, Vec<u8>)>),
 }
 
-struct Hamt {
-    blocks: HashMap<Id, Vec<u8>>,
+pub struct Hamt {
+    pub blocks: HashMap<Id, Vec<u8>>,
+    /// The blocks that came, in order.
+    pub came: Vec<Id>,
 }
 
-fn hash(key: &[u8]) -> Id {
+pub fn hash(key: &[u8]) -> Id {
     Sha256::digest(key).into()
 }
 
+/// The slot of an index in the block of a node, without those before it.
+fn slot_at(block: &[u8], index: u8) -> Option<Slot<'_>> {
+    let map = &block[3..35];
+    let index = index as usize;
+    if map[index / 8] >> (index % 8) & 1 == 0 {
+        return None;
+    }
+    let before: u32 = map[..index / 8].iter().map(|byte| byte.count_ones()).sum::<u32>() + (map[index / 8] & ((1 << (index % 8)) - 1)).count_ones();
+    let mut p = 35;
+    head(block, &mut p).ok()?;
+    for _ in 0..before {
+        skip(block, &mut p);
+    }
+    parse_slot(block, &mut p)
+}
+
+/// The node without entries.
+pub fn empty() -> Vec<u8> {
+    spell(&Vec::new())
+}
+
 impl Hamt {
-    fn put(&mut self, block: Vec<u8>) -> Id {
+    /// The spelled value at a key. The nodes beneath the root are checked, as they come from where blocks are kept.
+    pub fn found(&self, block: &[u8], key: &[u8], hashed: &Id, depth: usize) -> Option<Vec<u8>> {
+        match slot_at(block, hashed[depth])? {
+            Slot::Bucket(entries) => entries.iter().find(|(k, _)| *k == key).map(|(_, value)| value.to_vec()),
+            Slot::Child(id) => {
+                let below = &self.blocks[&id];
+                check(below).ok()?;
+                self.found(below, key, hashed, depth + 1)
+            }
+        }
+    }
+
+    /// How many entries are beneath a node, each of which stands where its hash says.
+    pub fn walked(&self, block: &[u8], depth: usize) -> Option<usize> {
+        let mut count = 0;
+        for (index, slot) in parse(block)? {
+            match slot {
+                Slot::Bucket(entries) => {
+                    if entries.iter().any(|(key, _)| hash(key)[depth] != index) {
+                        return None;
+                    }
+                    count += entries.len();
+                }
+                Slot::Child(id) => count += self.walked(self.blocks.get(&id)?, depth + 1)?,
+            }
+        }
+        Some(count)
+    }
+
+    pub fn put(&mut self, block: Vec<u8>) -> Id {
         let id = hash(&block);
-        self.blocks.entry(id).or_insert(block);
+        if let Entry::Vacant(free) = self.blocks.entry(id) {
+            free.insert(block);
+            self.came.push(id);
+        }
         id
     }
 
@@ -145,7 +201,7 @@ impl Hamt {
     }
 
     /// The node of a block with the key set or removed, or `None` where a key to remove isn't there.
-    fn edited(&mut self, block: &[u8], key: &[u8], hashed: &Id, value: Option<&[u8]>, depth: usize) -> Option<Lifted> {
+    pub fn edited(&mut self, block: &[u8], key: &[u8], hashed: &Id, value: Option<&[u8]>, depth: usize) -> Option<Lifted> {
         let mut node = parse(block).expect("a node");
         let index = hashed[depth];
         let few;
@@ -193,8 +249,8 @@ fn key(high: u8, low: u8) -> [u8; 8] {
 
 /// A sum over the root after all edits of an empty HAMT, of four bytes each: what is done, two of the key, and one that says nothing.
 pub fn edit_all(bytes: &[u8]) -> u64 {
-    let mut hamt = Hamt { blocks: HashMap::new() };
-    let mut root = spell(&Vec::new());
+    let mut hamt = Hamt { blocks: HashMap::new(), came: Vec::new() };
+    let mut root = empty();
     for edit in bytes.chunks_exact(4) {
         let key = key(edit[1], edit[2]);
         let value = [edit[0] % 24];

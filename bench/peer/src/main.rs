@@ -7,6 +7,7 @@ mod hamt;
 mod json;
 mod map;
 mod schema;
+mod session;
 mod typed;
 
 use sha2::{Digest, Sha256};
@@ -18,6 +19,10 @@ fn main() {
         println!("words: WORK FILE TIMES");
         std::process::exit(2);
     };
+    if work == "write-blocks" {
+        folder::rewrite(std::path::Path::new(file), times.parse().expect("a number"));
+        return;
+    }
     let bytes = std::fs::read(file).expect("the file is there");
     let times: u32 = times.parse().expect("a number");
     let mut sum = 0u64;
@@ -109,6 +114,19 @@ fn main() {
             for _ in 0..times {
                 sum += map::answer(black_box(&bytes)).len() as u64;
             }
+        }
+        "script-hamt" => {
+            let (mut session, script) = session::begun(&bytes);
+            println!("ok null");
+            for _ in 0..times {
+                print!("{}", session.answer(black_box(script)));
+            }
+            return;
+        }
+        "gen" => {
+            let (count, seed) = session::words_of(&bytes);
+            print!("{}", session::generate(if times == 0 { 0 } else { count }, if times == 0 { 0 } else { seed }));
+            return;
         }
         "new" => {
             for _ in 0..times {
