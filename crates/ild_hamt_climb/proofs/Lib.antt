@@ -8,3 +8,5 @@ pub mod Chain
 pub mod Upward
 pub mod Stopping
 pub mod Planning
+pub mod Standing
+pub mod Replaced

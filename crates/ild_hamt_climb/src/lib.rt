@@ -2,6 +2,8 @@
 //! bucket takes becomes that bucket, and the nodes are put, each behind the one beneath it.
 #![tactic(auto)]
 
+mod element;
+mod exchanging;
 mod gathering;
 mod lifting;
 mod putting;

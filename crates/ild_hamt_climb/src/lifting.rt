@@ -15,12 +15,13 @@ ghost use Rattle.ild_hamt_climb.specs.Rewriting.{ClimbState, DiffersAt, HasRoot,
 ghost use Rattle.ild_bulk_walker.specs.Gives.{IsNodeOf};
 ghost use Rattle.ild_hamt_climb.specs.Way.{IsRootOf};
 
+use crate::exchanging::exchanged;
 use crate::gathering::{put_next, rows_of};
 use crate::reading::view_in;
 use crate::weighing::{SLOTS, is_few};
 use ild_bulk::PlannedBlock;
 use ild_data::Octets;
-use ild_node::{BUCKET_SIZE, NewHold, NodeView, Rows, index, write_changed};
+use ild_node::{BUCKET_SIZE, NewHold, NodeView, Rows, index};
 use std::alloc::{AllocError, Global};
 
 /// The slot of rows that a bucket takes: a bucket, or none where there are no rows.
@@ -76,7 +77,7 @@ fn lift(
     if is_few(view, i, &slot) {
         return gathered(alloc, view, i, slot);
     }
-    let block = PlannedBlock::of(write_changed(alloc, view, i, &slot)?);
+    let block = PlannedBlock::of(exchanged(alloc, view, i, &slot)?);
     let id = block.id();
     plan.push(block)?;
     Ok(Some(NewHold::Child(id)))
@@ -142,5 +143,5 @@ pub fn climb(
         slot = lift_block(alloc, &block, hash, depth, slot, plan)?;
         depth = depth.saturating_sub(1);
     }
-    write_changed(alloc, root, index_at(hash, 0), &slot)
+    exchanged(alloc, root, index_at(hash, 0), &slot)
 }

@@ -33,7 +33,7 @@ loop-block-preserved c = (
 pub returns-clause-climbs : goal.returns-clause-climbs
 returns-clause-climbs c = λ h k slots es fs has is d hashed start.
     let none : c.loop-block.blocks.items ≡ [] = search rules in
-    ok-done c.write_changed.result (spell (node_data (set slots c.index_at.result (slot_seen c.loop-block.slot)))) (λ b. HasRoot h usual fs b × (c.loop-block.plan.items ≡ way_up h usual k fs)) (ok-spelled c.write_changed.result _ (c.write_changed.ensures slots has))
+    ok-done c.exchanged.result (spell (node_data (set slots c.index_at.result (slot_seen c.loop-block.slot)))) (λ b. HasRoot h usual fs b × (c.loop-block.plan.items ≡ way_up h usual k fs)) (ok-spelled c.exchanged.result _ (c.exchanged.ensures slots has))
     (λ b writes. state-done h usual k c.args.hash.now slots es fs c.loop-block.blocks.items c.loop-block.depth c.index_at.result (slot_seen c.loop-block.slot) c.loop-block.plan.items b is d hashed
     (c.loop-block.invariant.2 h k es fs d hashed start) none (c.index_at.ensures (omega arith)) writes)
 
@@ -43,10 +43,10 @@ returns-in_err-slot-clause-climbs c = λ h k slots es fs has is d hashed start.
     rw p.1 tt
 
 pub returns-clause-over : goal.returns-clause-over
-returns-clause-over c = ok-all c.write_changed.result _ (climbed-last _ _ _ c.loop-block.blocks.items (slot_seen c.loop-block.slot) c.loop-block.plan.items c.loop-block.invariant.3)
+returns-clause-over c = ok-all c.exchanged.result _ (climbed-last _ _ _ c.loop-block.blocks.items (slot_seen c.loop-block.slot) c.loop-block.plan.items c.loop-block.invariant.3)
 
 pub returns-clause-written : goal.returns-clause-written
-returns-clause-written c = λ slots has. ok-written c.write_changed.result _ (c.write_changed.ensures slots has)
+returns-clause-written c = λ slots has. ok-written c.exchanged.result _ (c.exchanged.ensures slots has)
 
 pub returns-in_err-slot-clause-over : goal.returns-in_err-slot-clause-over
 returns-in_err-slot-clause-over c =

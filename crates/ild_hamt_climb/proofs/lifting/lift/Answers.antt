@@ -14,11 +14,11 @@ returns-then-is_few-clause-lifts c = λ h left depth ss gs has order is.
 pub returns-clause-lifts : goal.returns-clause-lifts
 returns-clause-lifts c = λ h left depth ss gs has order is.
     lifts-link h usual left depth (set ss c.args.i (slot_seen c.args.slot)) gs c.of-block.result _ c.args.plan.now.items c.push.new.self.items (sym (c.is_few.ensures h left depth ss gs has is) ∙ c.if-is_few.false)
-    is (c.of-block.ensures ∙ (c.in_ok-write_changed.ensures ss has).spelled) c.id-id.ensures c.in_ok-push.ensures.items
+    is (c.of-block.ensures ∙ (c.in_ok-exchanged.ensures ss has).spelled) c.id-id.ensures c.in_ok-push.ensures.items
 
 pub returns-then-is_few-clause-over : goal.returns-then-is_few-clause-over
 returns-then-is_few-clause-over c = λ ss has. ok-bare c.gathered.result ss (slot_seen c.args.slot) c.args.plan.now.items c.gathered.ensures.bare
 
 pub returns-clause-over : goal.returns-clause-over
 returns-clause-over c = λ ss has.
-    lifts-block ss c.args.i (slot_seen c.args.slot) c.of-block.result _ c.args.plan.now.items c.push.new.self.items (c.of-block.ensures ∙ (c.in_ok-write_changed.ensures ss has).spelled) c.id-id.ensures c.in_ok-push.ensures.items
+    lifts-block ss c.args.i (slot_seen c.args.slot) c.of-block.result _ c.args.plan.now.items c.push.new.self.items (c.of-block.ensures ∙ (c.in_ok-exchanged.ensures ss has).spelled) c.id-id.ensures c.in_ok-push.ensures.items
