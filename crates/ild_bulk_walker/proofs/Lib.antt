@@ -4,10 +4,12 @@ pub mod Adding
 pub mod Stepping
 pub mod OneNode
 pub mod Spending
+pub mod Resuming
 pub mod Placed
 pub mod Keeping
 pub mod Walking
 pub mod Nexting
+pub mod Calling
 pub mod Passing
 pub mod Listing
 pub mod Ending

@@ -1,6 +1,6 @@
 -- One call of a walker's next, put together.
 use Rattle.std.proofs.Common.{◌≡◌, inl, inr, ⊎_elim, ◌↔◌, ℕ, ◌+◌, ◌-◌, ◌<◌, ◌≤◌, Bool, true, false, List, [], ◌∷◌, length, Option, Some, None, refl, sym, ap, ◌∙◌, subst, arith}
-use Rattle.std.specs.Prelude.{Result, Ok, Err}
+use Rattle.std.specs.Prelude.{Result, Ok, Err, IfErr}
 use Rattle.std.proofs.lemmas.Bool.{false≢true}
 use Rattle.ild_cbor.specs.declared.why.BlockWhy.{BlockWhy}
 use Rattle.ild_cbor.specs.declared.why.BlockWhy.TheVariants.{Missing, Cbor, Shape as NoNode}
@@ -17,12 +17,14 @@ use Rattle.ild_node_slots.specs.declared.fault.HamtFault.TheVariants as F
 use Rattle.std.proofs.lemmas.List.{length-map}
 use Rattle.ild_bulk_walker.specs.Fetching.{IsRefused, OnlyGets}
 use Rattle.ild_bulk_walker.specs.Todo.{Todo, give, enter, leave, node_todo, fits, StillGives}
-use Rattle.ild_bulk_walker.specs.Ahead.{Ahead, StillAhead, walker_todo, walker_path, walker_here, IsFaultAt, IsTrieFault, SameTold, NothingTold, KeepsAhead, Leaves, Enters, EnterAnswer, IsCause, IsUnchanged, Takes, Gives, GiveAnswer, GivesNext, IsNew, IsReady, NextAnswer, Nexts, Counts, AnyRow, ComesNext}
+use Rattle.ild_bulk_walker.specs.Ahead.{Ahead, StillAhead, walker_todo, walker_path, walker_here, IsFaultAt, IsTrieFault, SameTold, NothingTold, KeepsAhead, KeepsWhere, SameWhere, Leaves, Enters, EnterAnswer, IsPast, IsCause, IsUnchanged, Takes, Gives, GiveAnswer, GivesNext, IsNew, IsReady, NextAnswer, Nexts, Counts, AnyRow, ComesNext}
 use Rattle.ild_bulk_walker.proofs.Opening.{root-on, root-off}
-use Rattle.ild_bulk_walker.proofs.Walking.{unchanged-same}
+use Rattle.ild_bulk_walker.proofs.Walking.{unchanged-same, unchanged-still}
 use Rattle.ild_bulk_walker.specs.Standing.{KeepsOn, RowStands}
 use Rattle.ild_bulk_walker.proofs.Keeping.{StaysOn, FaultOn, keeps-more, few-keeps, stray-keeps, taken-keeps, taken-row, memory-keeps}
-use Rattle.ild_bulk_walker.proofs.Spending.{Passes, passes-itself, spends-none, spends-more, taken-passes}
+use Rattle.ild_bulk_walker.proofs.Spending.{Passes, passes-itself, spends-none, spends-more, taken-passes, taken-nodes, unchanged-nodes}
+use Rattle.ild_bulk_walker.proofs.Resuming.{read-nothing, read-both, where-both, where-itself}
+use Rattle.ild_bulk_walker.specs.Reads.{HasRead, fails_of}
 use Rattle.ild_bulk_walker.specs.declared.row.Row.{Row}
 use Rattle.ild_bulk_walker.specs.declared.step.Child.{Child}
 use Rattle.ild_bulk_walker.specs.declared.walker.Walker.{Walker}
@@ -58,6 +60,9 @@ only-more a b c m n o x y le = record { later = Later-trans m n o x.later y.late
 only-most : (a c : ℕ) (m n : Moment) → OnlyGets a m n → a ≤ c → OnlyGets c m n
 only-most a c m n x le = record { later = x.later; blocks = x.blocks; given = x.given; puts = x.puts; gets = let p = x.gets in omega arith }
 
+no-fail : (n : ℕ) → 0 + n ≡ n
+no-fail n = omega arith
+
 pub enters-more : (a b c : ℕ) (m n o : Moment) (u v w : Walker) (r : Result (Unit {0}) HamtFault) → a ≤ 32 → a + b ≤ c → Enters a m u (Ok tt) v n → Enters b n v r w o → Enters c m u r w o
 enters-more a b c m n o u v w r small le x y = record {
   answer = by r y.answer;
@@ -67,6 +72,7 @@ enters-more a b c m n o u v w r small le x y = record {
   only = only-more a b c m n o x.only y.only le;
   on = λ h. keeps-more h m.blocks m.lacks n.lacks o.lacks u v w r x.only.later.lacks (λ root at on. (x.on h root at on).0) (subst (λ told. KeepsOn h told n.lacks o.lacks v r w) x.only.blocks (y.on h));
   reads = λ held told. spends-more held m.gets n.gets o.gets u v w r (x.reads held told) (y.reads held (x.only.blocks ∙ told));
+  read = read-both (λ blocks. SameWhere blocks u v) (λ blocks. SameWhere blocks v w) (λ blocks. SameWhere blocks u w) (fails_of r) m n o u v w x.only.blocks (where-both u v w) 0 (fails_of r) (no-fail (fails_of r)) x.read y.read;
 }
   where
     failed : (e : HamtFault) → IsCause n e o × NothingTold n v → IsCause m e o × NothingTold m u
@@ -82,8 +88,21 @@ enters-more a b c m n o u v w r small le x y = record {
     by (Err F.Size) p = failed F.Size p
     by (Err F.NoKey) p = failed F.NoKey p
 
+-- before the first child
+pub enters-none : (m : Moment) (v : Walker) → IsPast v.given (walker_todo v) → length (walker_path v) < trie_levels usual → Enters (length (walker_path v)) m v (Ok tt) v m
+enters-none m v past short = record {
+  answer = past;
+  same = λ h held es told. (λ a. a, λ a. a);
+  given = refl;
+  short = short;
+  only = only-most 0 (length (walker_path v)) m m (record { later = Later-refl m; blocks = refl; given = refl; puts = refl; gets = omega arith }) (omega arith);
+  on = λ h root at on. (on, tt);
+  reads = λ held told. passes-itself held m.gets v;
+  read = read-nothing (λ blocks. SameWhere blocks v v) 0 m m v v (omega arith) (λ held n l. l) (where-itself v);
+}
+
 pub enters-most : (a c : ℕ) (m n : Moment) (u w : Walker) (r : Result (Unit {0}) HamtFault) → a ≤ c → Enters a m u r w n → Enters c m u r w n
-enters-most a c m n u w r le x = record { answer = x.answer; same = x.same; given = x.given; short = x.short; only = only-most a c m n x.only le; on = x.on; reads = x.reads }
+enters-most a c m n u w r le x = record { answer = x.answer; same = x.same; given = x.given; short = x.short; only = only-most a c m n x.only le; on = x.on; reads = x.reads; read = x.read }
 
 -- ---- giving
 
@@ -107,6 +126,7 @@ taken h v w g (Ok (Some row)) fit t = record {
   on = λ told lacks. taken-keeps h told lacks v w row t;
   row = λ told. taken-row told v w row t;
   reads = λ held gets. taken-passes held gets v w row t;
+  nodes = taken-nodes v w row t;
 }
   where
     heads : give g.key g.value g.index ∷ g.rest ≡ give row.key t.value t.index ∷ t.rest
@@ -123,7 +143,7 @@ taken h v w g (Ok (Some row)) fit t = record {
     back held rest s = subst (λ ts. StillGives h usual held ts (walker_path v) (v.given + 1) rest) t.todo
         (subst (λ q. StillGives h usual held (walker_todo w) q (v.given + 1) rest) t.path (subst (λ n. StillGives h usual held (walker_todo w) (walker_path w) n rest) t.given s))
 taken h v w g (Ok None) fit t = absurd t
-taken h v w g (Err F.Memory) fit t = record { answer = t; counts = tt; path = t.path; on = λ told lacks. memory-keeps h told lacks lacks v w t; row = λ told. tt; reads = λ held gets. spends-none held gets v }
+taken h v w g (Err F.Memory) fit t = record { answer = t; counts = t.given; path = t.path; on = λ told lacks. memory-keeps h told lacks lacks v w t; row = λ told. tt; reads = λ held gets. spends-none held gets v; nodes = unchanged-nodes v w t }
 taken h v w g (Err F.Exhausted) fit t = absurd t
 taken h v w g (Err (F.Block id why)) fit t = absurd t
 taken h v w g (Err F.Store) fit t = absurd t
@@ -145,11 +165,12 @@ gives-end h v none = record {
   on = λ told lacks root at on. (on, tt);
   row = λ told. tt;
   reads = λ held gets. passes-itself held gets v;
+  nodes = λ held n l. l;
 }
 
 pub gives-misfit : (h : List ℕ → List ℕ) (v : Walker) (k : List ℕ) (d : Data) (i : ℕ) (rest : List Todo) (e : HamtFault) → walker_todo v ≡ give k d i ∷ rest → fits h usual (walker_path v) i k ≡ false → IsTrieFault e → IsFaultAt (walker_here v) e → Gives h v (Err e) v
 gives-misfit h v k d i rest e is misfit fault here =
-    record { answer = by e fault; counts = tt; path = refl; on = λ told lacks. stray-keeps h told lacks v k d i rest e is misfit fault here; row = λ told. tt; reads = λ held gets. spends-none held gets v }
+    record { answer = by e fault; counts = refl; path = refl; on = λ told lacks. stray-keeps h told lacks v k d i rest e is misfit fault here; row = λ told. tt; reads = λ held gets. spends-none held gets v; nodes = λ held n l. l }
   where
     none : (held : List (List ℕ)) (es : List (List ℕ × Data)) → StillAhead h held v es → ⊥
     none held es a = let s = subst (λ ts. StillGives h usual held ts (walker_path v) v.given es) is a.gives in false≢true (sym misfit ∙ s.2)
@@ -166,7 +187,7 @@ gives-misfit h v k d i rest e is misfit fault here =
 -- a node of which nothing was given
 pub gives-leave : (h : List ℕ → List ℕ) (v : Walker) (before : ℕ) (rest : List Todo) (e : HamtFault) → walker_todo v ≡ leave before ∷ rest → IsReady v.given (walker_todo v) → IsTrieFault e → IsFaultAt (walker_here v) e → Gives h v (Err e) v
 gives-leave h v before rest e is ready fault here =
-    record { answer = by e fault; counts = tt; path = refl; on = λ told lacks. few-keeps h told lacks v before rest e is few fault here; row = λ told. tt; reads = λ held gets. spends-none held gets v }
+    record { answer = by e fault; counts = refl; path = refl; on = λ told lacks. few-keeps h told lacks v before rest e is few fault here; row = λ told. tt; reads = λ held gets. spends-none held gets v; nodes = λ held n l. l }
   where
     none : (held : List (List ℕ)) (es : List (List ℕ × Data)) → StillAhead h held v es → ⊥
     none held es a =
@@ -225,34 +246,52 @@ faulty h m n v w F.Memory cause none same = absurd cause
 no-gets : (m : Moment) → OnlyGets (trie_levels usual) m m
 no-gets m = record { later = Later-refl m; blocks = refl; given = refl; puts = refl; gets = omega arith }
 
+ahead-of : (h : List ℕ → List ℕ) (held : List (List ℕ)) (es : List (List ℕ × Data)) (u v : Walker) → length (walker_path u) < trie_levels usual → length (walker_path v) < trie_levels usual → StillAhead h held u es ↔ StillAhead h held v es → Ahead h held u es ↔ Ahead h held v es
+ahead-of h held es u v su sv same = (λ a. record { short = sv; still = same.0 a.still }, λ b. record { short = su; still = same.1 b.still })
+
+both-ways : {A B C : Type 0} → A ↔ B → B ↔ C → A ↔ C
+both-ways p q = (λ a. q.0 (p.0 a), λ c. p.1 (q.1 c))
+
 -- a walker whose path is too long, which no call makes
 pub next-deep : (h : List ℕ → List ℕ) (m : Moment) (v : Walker) (e : HamtFault) → trie_levels usual ≤ length (walker_path v) → IsTrieFault e → Nexts h m v (Err e) v m
 next-deep h m v e deep fault = record {
   answer = faulty h m m v v e (cause-trie m m e fault) (λ held es told a. let short = a.short in omega arith) (λ held es told. (λ a. a, λ a. a));
-  counts = tt;
+  counts = refl;
   only = no-gets m;
   on = λ root at on. absurd (let short = on.short in let seen = length-map v.path.items (λ (d : Child). d.index) in omega arith);
   row = tt;
   reads = λ held told. spends-none held m.gets v;
+  read = read-nothing (λ blocks. KeepsWhere h blocks v v) 1 m m v v (omega arith) (λ held n l. l) (λ held es all. (λ a. a, λ a. a));
 }
 
 pub next-left : (h : List ℕ → List ℕ) (m : Moment) (u v : Walker) (e : HamtFault) → length (walker_path u) < trie_levels usual → Leaves u (Err e) v → Nexts h m u (Err e) v m
 next-left h m u v e short l = record {
   answer = faulty h m m u v e (cause-trie m m e l.answer.0) (λ held es told a. l.answer.1 h held es a.still)
       (still-both h m u v short (let p = l.path in omega arith) (λ held es told. l.same h held es));
-  counts = tt;
+  counts = l.given;
   only = no-gets m;
   on = λ root at on. l.on h m.blocks m.lacks root at on;
   row = tt;
   reads = λ held told. spends-none held m.gets u;
+  read = read-nothing (λ blocks. KeepsWhere h blocks u v) 1 m m u v (omega arith) l.nodes (λ held es all. ahead-of h held es u v short (let p = l.path in omega arith) (l.same h held es));
 }
 
 told-of : (u v : Walker) (m : Moment) → Leaves u (Ok tt) v → SameTold m u v
 told-of u v m l = λ h held es told. l.same h held es
 
 pub next-entered : (h : List ℕ → List ℕ) (m n : Moment) (u v w : Walker) (e : HamtFault) → length (walker_path u) < trie_levels usual → Leaves u (Ok tt) v → Enters (trie_levels usual) m v (Err e) w n → Nexts h m u (Err e) w n
-next-entered h m n u v w e short l x = record { answer = by e x.answer; counts = tt; only = x.only; on = keeps; row = tt; reads = λ held told many nodes. let p = l.reads held m.gets many nodes in let q = x.reads held told p.left p.nodes in let one = p.gets in omega arith }
+next-entered h m n u v w e short l x = record { answer = by e x.answer; counts = x.given ∙ l.given; only = x.only; on = keeps; row = tt; read = read; reads = λ held told many nodes. let p = l.reads held m.gets many nodes in let q = x.reads held told p.left p.nodes in let one = p.gets in omega arith }
   where
+    read : HasRead (λ blocks. KeepsWhere h blocks u w) 1 m u w n
+    read = record {
+      blocks = x.read.blocks;
+      nodes = x.read.nodes;
+      held = x.read.held;
+      gets = x.read.gets;
+      left = λ held k all n. x.read.left held k all (l.nodes held k n);
+      says = λ held es all. ahead-of h held es u w short x.short (both-ways (l.same h held es) (x.read.says h held es all));
+    }
+
     keeps : FaultOn h m.blocks m.lacks n.lacks u e w
     keeps = λ root at on. let p = x.on h root at (l.on h m.blocks m.lacks root at on).0 in (p.0, p.1)
 
@@ -272,7 +311,7 @@ next-entered h m n u v w e short l x = record { answer = by e x.answer; counts =
     by F.NoKey p = failed F.NoKey p
 
 pub next-given : (h : List ℕ → List ℕ) (m n : Moment) (u v w x : Walker) (r : Result (Option Row) HamtFault) → length (walker_path u) < trie_levels usual → Leaves u (Ok tt) v → Enters (trie_levels usual) m v (Ok tt) w n → Gives h w r x → Nexts h m u r x n
-next-given h m n u v w x r short l e g = record { answer = by r g.answer; counts = counted r g.counts; only = e.only; on = keeps-more h m.blocks m.lacks n.lacks n.lacks u w x r e.only.later.lacks begins (g.on m.blocks n.lacks); row = stands r (g.row m.blocks); reads = λ held told. spends-more held m.gets n.gets n.gets u w x r (λ many nodes. both held told many nodes) (g.reads held n.gets) }
+next-given h m n u v w x r short l e g = record { answer = by r g.answer; counts = counted r g.counts; only = e.only; on = keeps-more h m.blocks m.lacks n.lacks n.lacks u w x r e.only.later.lacks begins (g.on m.blocks n.lacks); row = stands r (g.row m.blocks); reads = λ held told. spends-more held m.gets n.gets n.gets u w x r (λ many nodes. both held told many nodes) (g.reads held n.gets); read = read }
   where
     begins : StaysOn m.blocks u w
     begins = λ root at on. (e.on h root at (l.on h m.blocks m.lacks root at on).0).0
@@ -288,13 +327,39 @@ next-given h m n u v w x r short l e g = record { answer = by r g.answer; counts
     counted : (r : Result (Option Row) HamtFault) → Counts w r x → Counts u r x
     counted (Ok (Some row)) c = (c.0 ∙ ap (λ n. n + 1) (e.given ∙ l.given), c.1)
     counted (Ok None) c = c ∙ (e.given ∙ l.given)
-    counted (Err f) c = tt
+    counted (Err f) c = c ∙ (e.given ∙ l.given)
 
     same : (held : List (List ℕ)) (es : List (List ℕ × Data)) → m.blocks ≡ Some held → StillAhead h held u es ↔ StillAhead h held w es
     same = same-of h m u w (same-told m m u v w refl (told-of u v m l) e.same)
 
     short-x : length (walker_path x) < trie_levels usual
     short-x = subst (λ (q : List ℕ). length q < trie_levels usual) (sym g.path) e.short
+
+    where-kept : IsUnchanged w x → KeepsWhere h e.read.blocks u x
+    where-kept c = λ held es all. ahead-of h held es u x short short-x (both-ways (both-ways (l.same h held es) (e.read.says h held es all)) (unchanged-still w x c h held es))
+
+    says : (r : Result (Option Row) HamtFault) → GiveAnswer h w r x → IfErr r (λ f. KeepsWhere h e.read.blocks u x)
+    says (Ok row) p = tt
+    says (Err F.Memory) p = where-kept p
+    says (Err F.Store) p = absurd p.0
+    says (Err F.Exhausted) p = where-kept p.2
+    says (Err (F.Block id why)) p = where-kept p.2
+    says (Err (F.Clash id kept new)) p = where-kept p.2
+    says (Err F.Size) p = where-kept p.2
+    says (Err F.NoKey) p = where-kept p.2
+
+    besides : (a b c d : ℕ) → a ≤ b + (c + 0) → a ≤ b + (c + d)
+    besides a b c d le = omega arith
+
+    read : HasRead (λ blocks. IfErr r (λ f. KeepsWhere h blocks u x)) (fails_of r) m u x n
+    read = record {
+      blocks = e.read.blocks;
+      nodes = e.read.nodes;
+      held = e.read.held;
+      gets = besides n.gets m.gets (length e.read.blocks) (fails_of r) e.read.gets;
+      left = λ held k all many. let p = e.read.left held k all (l.nodes held k many) in (p.0, p.1, g.nodes held p.0 p.2);
+      says = says r g.answer;
+    }
 
     kept : IsUnchanged w x → KeepsAhead h m u x
     kept c = still-both h m u x short short-x (same-of h m u x (same-told m m u w x refl (same-told m m u v w refl (told-of u v m l) e.same) (unchanged-same m w x c)))

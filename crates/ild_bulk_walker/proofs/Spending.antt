@@ -10,7 +10,7 @@ use Rattle.ild_edges.specs.Told.{IfTold}
 use Rattle.ild_edges.specs.Store.{Moment, block_at}
 use Rattle.ild_typed.specs.Composed.{usual}
 use Rattle.ild_node_slots.specs.declared.fault.HamtFault.{HamtFault}
-use Rattle.ild_bulk_walker.specs.Ahead.{NextIs, walker_todo, IsEntered, IsTaken}
+use Rattle.ild_bulk_walker.specs.Ahead.{NextIs, walker_todo, IsEntered, IsTaken, IsUnchanged, SameNodes}
 use Rattle.ild_bulk_walker.specs.Fetching.{GotSteps}
 use Rattle.ild_bulk_walker.specs.Gives.{IsNodeOf}
 use Rattle.ild_bulk_walker.specs.Reads.{SlotNodes, SlotsNodes, NodesIn, NoNodes, TreeNodes, NodesBeneath, TodoNodes, LeftNodes, Spent, Spends}
@@ -66,16 +66,24 @@ pub spends-more : {B : Type 0} (held : List (List ℕ)) (a b c : ℕ) (u v w : W
 spends-more held a b c u v w (Ok x) first then = λ n l. let p = first n l in let q = then p.left p.nodes in record { left = q.left; nodes = q.nodes; gets = let one = p.gets in let two = q.gets in omega arith }
 spends-more held a b c u v w (Err e) first then = λ n l. let p = first n l in let q = then p.left p.nodes in let one = p.gets in omega arith
 
-pub left-passes : (held : List (List ℕ)) (a : ℕ) (v w : Walker) (before : ℕ) (c : Child) → walker_todo v ≡ leave before ∷ walker_todo w → v.path.items ≡ w.path.items ++ c ∷ [] → Passes held a a v w
-left-passes held a v w before c todo path = λ n l.
+pub left-nodes : (v w : Walker) (before : ℕ) (c : Child) → walker_todo v ≡ leave before ∷ walker_todo w → v.path.items ≡ w.path.items ++ c ∷ [] → SameNodes v w
+left-nodes v w before c todo path = λ held n l.
     let long = ap (λ (xs : List Child). length xs) path in
     let more = length-append w.path.items (c ∷ []) in
     let level : length w.path.items ≡ length v.path.items - 1 = omega arith in
-    record { left = n; nodes = left-of held w (length v.path.items - 1) (walker_todo w) n level refl (nodes-at held v (leave before ∷ walker_todo w) n todo l); gets = omega arith }
+    left-of held w (length v.path.items - 1) (walker_todo w) n level refl (nodes-at held v (leave before ∷ walker_todo w) n todo l)
+
+pub left-passes : (held : List (List ℕ)) (a : ℕ) (v w : Walker) (before : ℕ) (c : Child) → walker_todo v ≡ leave before ∷ walker_todo w → v.path.items ≡ w.path.items ++ c ∷ [] → Passes held a a v w
+left-passes held a v w before c todo path = λ n l. record { left = n; nodes = left-nodes v w before c todo path held n l; gets = omega arith }
+
+pub taken-nodes : (v w : Walker) (row : Row) → IsTaken v row w → SameNodes v w
+taken-nodes v w row t = λ held n l. left-of held w (length v.path.items) t.rest n (ap (λ (xs : List Child). length xs) t.children) t.todo (nodes-at held v (give row.key t.value t.index ∷ t.rest) n t.was l)
 
 pub taken-passes : (held : List (List ℕ)) (a : ℕ) (v w : Walker) (row : Row) → IsTaken v row w → Passes held a a v w
-taken-passes held a v w row t = λ n l.
-    record { left = n; nodes = left-of held w (length v.path.items) t.rest n (ap (λ (xs : List Child). length xs) t.children) t.todo (nodes-at held v (give row.key t.value t.index ∷ t.rest) n t.was l); gets = omega arith }
+taken-passes held a v w row t = λ n l. record { left = n; nodes = taken-nodes v w row t held n l; gets = omega arith }
+
+pub unchanged-nodes : (v w : Walker) → IsUnchanged v w → SameNodes v w
+unchanged-nodes v w u = λ held n l. left-of held w (length v.path.items) (walker_todo v) n (ap (λ (xs : List Child). length xs) u.children) u.todo l.many
 
 one-left : (n : ℕ) → suc n < trie_levels usual → trie_levels usual - suc n ≡ suc (trie_levels usual - suc (suc n))
 one-left n short = omega arith
@@ -109,11 +117,12 @@ enter-spends held a b v c next short one = λ n l.
 told-block : (m : Moment) (held : List (List ℕ)) (id block : List ℕ) → IfTold m.blocks (λ bs. block_at bs id ≡ Some block) → m.blocks ≡ Some held → block_at held id ≡ Some block
 told-block m held id block told is = subst (λ o. IfTold o (λ bs. block_at bs id ≡ Some block)) is told
 
-pub entered-passes : (m : Moment) (held : List (List ℕ)) (a b : ℕ) (v w : Walker) (c : Child) (steps : List Step) → m.blocks ≡ Some held → suc (length v.path.items) < trie_levels usual → b ≤ a + 1 → GotSteps m c.id.0 steps → IsEntered v c steps w → Passes held a b v w
-entered-passes m held a b v w c steps told short one got e = λ n l.
+-- where its block is held, one node fewer is to be read
+pub entered-nodes : (m : Moment) (held : List (List ℕ)) (v w : Walker) (c : Child) (steps : List Step) → suc (length v.path.items) < trie_levels usual → (got : GotSteps m c.id.0 steps) → block_at held c.id.0 ≡ Some got.block → IsEntered v c steps w
+    → (n : ℕ) → LeftNodes held v n → (left : ℕ) × (n ≡ 1 + left) × LeftNodes held w left
+entered-nodes m held v w c steps short got here e = λ n l.
     let level : ℕ = length v.path.items in
     let f = first-of held level c.id.0 c.index e.rest n short (nodes-at held v (enter c.id.0 c.index ∷ e.rest) n e.was l) in
-    let here = told-block m held c.id.0 got.block got.at.held told in
     let many : SlotsNodes (TreeNodes held (trie_levels usual - suc (suc level))) got.has.slots f.beneath = ⊎_elim
     (λ d.
     let same : d.node.block ≡ got.block = same_Some d.node.block got.block (sym d.node.at.held ∙ here) in
@@ -122,13 +131,18 @@ entered-passes m held a b v w c steps told short one got e = λ n l.
     (λ none. absurd (none.none got.has.slots (record { block = got.block; at = record { named = got.at.named; held = here }; node = got.has.node }))) f.within in
     let todo : walker_todo w ≡ node_todo 0 got.has.slots ++ leave v.given ∷ e.rest = e.todo ∙ ap (λ ts. ts ++ leave v.given ∷ e.rest) got.has.todo in
     let long : length w.path.items ≡ suc level = ap (λ (xs : List Child). length xs) e.children ∙ length-append v.path.items (c ∷ []) ∙ next-level level in
-    let is = f.is in
-    record {
-      left = f.beneath + f.more;
-      nodes = left-of held w (suc level) (node_todo 0 got.has.slots ++ leave v.given ∷ e.rest) (f.beneath + f.more) long todo
-          (node-nodes held (suc level) 0 got.has.slots (leave v.given ∷ e.rest) f.beneath f.more many (subst (λ k. TodoNodes held k e.rest f.more) (back-level level) f.others));
-      gets = omega arith;
-    }
+    let is = f.is in (
+      f.beneath + f.more,
+      omega arith,
+      left-of held w (suc level) (node_todo 0 got.has.slots ++ leave v.given ∷ e.rest) (f.beneath + f.more) long todo
+          (node-nodes held (suc level) 0 got.has.slots (leave v.given ∷ e.rest) f.beneath f.more many (subst (λ k. TodoNodes held k e.rest f.more) (back-level level) f.others)),
+    )
+
+pub entered-passes : (m : Moment) (held : List (List ℕ)) (a b : ℕ) (v w : Walker) (c : Child) (steps : List Step) → m.blocks ≡ Some held → suc (length v.path.items) < trie_levels usual → b ≤ a + 1 → GotSteps m c.id.0 steps → IsEntered v c steps w → Passes held a b v w
+entered-passes m held a b v w c steps told short one got e = λ n l.
+    let p = entered-nodes m held v w c steps short got (told-block m held c.id.0 got.block got.at.held told) e n l in
+    let is = p.1 in
+    record { left = p.0; nodes = p.2; gets = omega arith }
 
 -- a new walker has all to read
 pub new-left : (held : List (List ℕ)) (slots : List TrieSlot) (w : Walker) (n : ℕ) → walker_todo w ≡ node_todo 0 slots → w.path.items ≡ [] → NodesBeneath held slots n → LeftNodes held w n

@@ -1,5 +1,5 @@
 -- What the calls of a walker do to what is ahead.
-use Rattle.std.proofs.Common.{◌≡◌, inl, inr, ℕ, zero, suc, ◌==◌, false, ◌+◌, ◌-◌, ◌<◌, ◌≤◌, List, [], ◌∷◌, ◌++◌, length, map, set, Option, Some, None, refl, sym, ap, ◌∙◌, subst, arith, append_assoc}
+use Rattle.std.proofs.Common.{◌≡◌, ◌↔◌, inl, inr, ℕ, zero, suc, ◌==◌, false, ◌+◌, ◌-◌, ◌<◌, ◌≤◌, List, [], ◌∷◌, ◌++◌, length, map, set, Option, Some, None, refl, sym, ap, ◌∙◌, subst, arith, append_assoc}
 use Rattle.std.specs.Prelude.{IsSome, option_to_list, slice_get, reverse, Result, Ok, Err, OnOk}
 use Rattle.std.specs.Global.{Vec}
 use Rattle.std.proofs.lemmas.List.{map-append, reverse-append, length-append, length-map}
@@ -20,7 +20,7 @@ use Rattle.ild_node_slots.specs.declared.fault.HamtFault.TheVariants as F
 use Rattle.ild_bulk_walker.specs.Gives.{IsNodeOf, TreeGives, SlotsGive}
 use Rattle.ild_bulk_walker.specs.Todo.{Todo, enter, leave, slot_todo, node_todo, StillGives}
 use Rattle.ild_bulk_walker.specs.Steps.{step_todo, steps_todo, path_of}
-use Rattle.ild_bulk_walker.specs.Ahead.{NextIs, walker_todo, walker_path, walker_here, IsTrieFault, IsFaultAt, NothingAhead, Leaves, IsPast, IsEntered, IsUnchanged, SameTold, NothingTold, Opens, EnterAnswer, Enters}
+use Rattle.ild_bulk_walker.specs.Ahead.{NextIs, StillAhead, walker_todo, walker_path, walker_here, IsTrieFault, IsFaultAt, NothingAhead, Leaves, IsPast, IsEntered, IsUnchanged, SameTold, SameWhere, NothingTold, Opens, EnterAnswer, Enters}
 use Rattle.ild_bulk_walker.specs.Fetching.{GotSteps, IsRefused, FetchAnswer, Fetches}
 use Rattle.ild_bulk_walker.specs.declared.step.Child.{Child}
 use Rattle.ild_bulk_walker.specs.declared.step.Step.{Step}
@@ -29,7 +29,8 @@ use Rattle.ild_bulk_walker.specs.declared.walker.Walker.{Walker}
 use Rattle.ild_edges.proofs.Later.{Later-refl}
 use Rattle.ild_bulk_walker.proofs.Keeping.{left-keeps, few-keeps, none-keeps, deep-keeps, fetch-keeps, entered-keeps, memory-keeps, keeps-more, FaultOn}
 use Rattle.ild_bulk_walker.proofs.OneNode.{same-slots}
-use Rattle.ild_bulk_walker.proofs.Spending.{left-passes, passes-itself, spends-none, spends-more, enter-spends, entered-passes}
+use Rattle.ild_bulk_walker.proofs.Spending.{left-passes, left-nodes, passes-itself, spends-none, spends-more, enter-spends, entered-passes, entered-nodes, unchanged-nodes}
+use Rattle.ild_bulk_walker.proofs.Resuming.{told-one, holds-one, read-nothing, where-itself}
 use Rattle.ild_bulk_walker.proofs.Opening.{slots-on, slots-off, beneath}
 
 -- ---- steps and paths
@@ -88,6 +89,7 @@ left-one v w before s c next steps path many given here =
       path = let long = ap (λ (q : List ℕ). length q) way in let more = length-append (walker_path w) (c.index ∷ []) in omega arith;
       on = λ h told lacks root at on. (left-keeps told v w before c is path given here root at on, tt);
       reads = λ held gets. left-passes held gets v w before c is path;
+      nodes = left-nodes v w before c is path;
     }
 
 pub left-few : (v : Walker) (before : ℕ) → NextIs (leave before) v → v.given - before ≤ usual.bucket → NothingAhead v
@@ -120,7 +122,7 @@ not-empty zero is = absurd (false≢true (sym is))
 not-empty (suc n) is = omega arith
 
 fault-is : (v : Walker) (e : HamtFault) → IsTrieFault e → NothingAhead v → ((h : List ℕ → List ℕ) (told : Option (List (List ℕ))) (lacks : ℕ) → FaultOn h told lacks lacks v e v) → Leaves v (Err e) v
-fault-is v e trie nothing keeps = record { answer = (trie, nothing); same = λ h held es. (λ a. a, λ a. a); given = refl; path = omega arith; on = keeps; reads = λ held gets. spends-none held gets v }
+fault-is v e trie nothing keeps = record { answer = (trie, nothing); same = λ h held es. (λ a. a, λ a. a); given = refl; path = omega arith; on = keeps; reads = λ held gets. spends-none held gets v; nodes = λ held n l. l }
 
 -- a node is left too early
 pub left-early : (v : Walker) (before : ℕ) (e : HamtFault) → NextIs (leave before) v → v.given - before ≤ usual.bucket → IsTrieFault e → IsFaultAt (walker_here v) e → Leaves v (Err e) v
@@ -131,7 +133,7 @@ pub left-root : (v : Walker) (before : ℕ) (e : HamtFault) → NextIs (leave be
 left-root v before e next none trie = fault-is v e trie (left-none v before next none) (λ h told lacks. none-keeps h told lacks v before next.rest e next.is none)
 
 pub same-itself : (v : Walker) → Leaves v (Ok tt) v
-same-itself v = record { answer = tt; same = λ h held es. (λ a. a, λ a. a); given = refl; path = omega arith; on = λ h told lacks root at on. (on, tt); reads = λ held gets. passes-itself held gets v }
+same-itself v = record { answer = tt; same = λ h held es. (λ a. a, λ a. a); given = refl; path = omega arith; on = λ h told lacks root at on. (on, tt); reads = λ held gets. passes-itself held gets v; nodes = λ held n l. l }
 
 pub left-more : (u v w : Walker) (r : Result (Unit {0}) HamtFault) → Leaves u (Ok tt) v → Leaves v r w → Leaves u r w
 left-more u v w (Ok x) a b = record {
@@ -141,6 +143,7 @@ left-more u v w (Ok x) a b = record {
   path = let p = a.path in let q = b.path in omega arith;
   on = λ h told lacks. keeps-more h told lacks lacks lacks u v w (Ok x) (omega arith) (λ root at on. (a.on h told lacks root at on).0) (b.on h told lacks);
   reads = λ held gets. spends-more held gets gets gets u v w (Ok x) (a.reads held gets) (b.reads held gets);
+  nodes = λ held n l. b.nodes held n (a.nodes held n l);
 }
 left-more u v w (Err e) a b = record {
   answer = (b.answer.0, λ h held es s. b.answer.1 h held es ((a.same h held es).0 s));
@@ -149,6 +152,7 @@ left-more u v w (Err e) a b = record {
   path = let p = a.path in let q = b.path in omega arith;
   on = λ h told lacks root at on. let p = b.on h told lacks root at (a.on h told lacks root at on).0 in (p.0, p.1);
   reads = λ held gets n l. let p = a.reads held gets n l in let q = b.reads held gets p.left p.nodes in let one = p.gets in omega arith;
+  nodes = λ held n l. b.nodes held n (a.nodes held n l);
 }
 
 -- ---- entering
@@ -235,9 +239,9 @@ entered-off h held path i given id block slots rest es short here node g =
 told-held : (m : Moment) (held : List (List ℕ)) (id block : List ℕ) → IfTold m.blocks (λ bs. block_at bs id ≡ Some block) → m.blocks ≡ Some held → block_at held id ≡ Some block
 told-held m held id block told is = subst (λ o. IfTold o (λ bs. block_at bs id ≡ Some block)) is told
 
-pub entered-same : (m : Moment) (v w : Walker) (c : Child) (steps : List Step) → suc (length (walker_path v)) < trie_levels usual → GotSteps m c.id.0 steps → IsEntered v c steps w → SameTold m v w
-entered-same m v w c steps short got e = λ h held es told.
-    let here = told-held m held c.id.0 got.block got.at.held told in
+entered-still : (m : Moment) (v w : Walker) (c : Child) (steps : List Step) → suc (length (walker_path v)) < trie_levels usual → (got : GotSteps m c.id.0 steps) → IsEntered v c steps w
+    → (h : List ℕ → List ℕ) (held : List (List ℕ)) (es : List (List ℕ × Data)) → block_at held c.id.0 ≡ Some got.block → StillAhead h held v es ↔ StillAhead h held w es
+entered-still m v w c steps short got e = λ h held es here.
     let todo : walker_todo w ≡ node_todo 0 got.has.slots ++ leave v.given ∷ e.rest = e.todo ∙ ap (λ ts. ts ++ leave v.given ∷ e.rest) got.has.todo in (
       λ a. record {
         gives = subst (λ ts. StillGives h usual held ts (walker_path w) w.given es) (sym todo)
@@ -255,8 +259,15 @@ entered-same m v w c steps short got e = λ h held es told.
       },
     )
 
-pub unchanged-same : (m : Moment) (v w : Walker) → IsUnchanged v w → SameTold m v w
-unchanged-same m v w u = λ h held es told. (
+pub entered-same : (m : Moment) (v w : Walker) (c : Child) (steps : List Step) → suc (length (walker_path v)) < trie_levels usual → GotSteps m c.id.0 steps → IsEntered v c steps w → SameTold m v w
+entered-same m v w c steps short got e = λ h held es told. entered-still m v w c steps short got e h held es (told-held m held c.id.0 got.block got.at.held told)
+
+-- over every store: wherever the block is held that was got
+entered-where : (m : Moment) (v w : Walker) (c : Child) (steps : List Step) → suc (length (walker_path v)) < trie_levels usual → (got : GotSteps m c.id.0 steps) → IsEntered v c steps w → SameWhere (got.block ∷ []) v w
+entered-where m v w c steps short got e = λ h held es all. entered-still m v w c steps short got e h held es (holds-one held c.id.0 got.block got.at.named all)
+
+pub unchanged-still : (v w : Walker) → IsUnchanged v w → (h : List ℕ → List ℕ) (held : List (List ℕ)) (es : List (List ℕ × Data)) → StillAhead h held v es ↔ StillAhead h held w es
+unchanged-still v w u = λ h held es. (
   λ a. record {
     gives = subst (λ ts. StillGives h usual held ts (walker_path w) w.given es) (sym u.todo)
         (subst (λ q. StillGives h usual held (walker_todo v) q w.given es) (sym u.path) (subst (λ n. StillGives h usual held (walker_todo v) (walker_path v) n es) (sym u.given) a.gives));
@@ -266,6 +277,9 @@ unchanged-same m v w u = λ h held es told. (
         (subst (λ q. StillGives h usual held (walker_todo v) q w.given es) u.path (subst (λ ts. StillGives h usual held ts (walker_path w) w.given es) u.todo b.gives));
   },
 )
+
+pub unchanged-same : (m : Moment) (v w : Walker) → IsUnchanged v w → SameTold m v w
+unchanged-same m v w u = λ h held es told. unchanged-still v w u h held es
 
 -- a child for which no level is left
 pub entered-deep : (m : Moment) (v : Walker) (c : Child) → NextIs (enter c.id.0 c.index) v → trie_levels usual ≤ suc (length (walker_path v)) → NothingTold m v
@@ -335,7 +349,7 @@ opened v w c steps at next is place path given same-at =
 -- ---- how entering ends
 
 pub enter-stopped : (m n : Moment) (v : Walker) (c : Child) (e : HamtFault) → NextIs (enter c.id.0 c.index) v → suc (length (walker_path v)) < trie_levels usual → Fetches m c.id.0 (Err e) n → Enters 1 m v (Err e) v n
-enter-stopped m n v c e next short f = record { answer = by e f.answer; same = λ h held es told. (λ a. a, λ a. a); given = refl; short = omega arith; only = f.only; on = λ h. keeps h e f.answer; reads = λ held told. enter-spends held m.gets n.gets v c next (let seen = length-map v.path.items (λ (d : Child). d.index) in omega arith) f.only.gets }
+enter-stopped m n v c e next short f = record { answer = by e f.answer; same = λ h held es told. (λ a. a, λ a. a); given = refl; short = omega arith; only = f.only; on = λ h. keeps h e f.answer; reads = λ held told. enter-spends held m.gets n.gets v c next (let seen = length-map v.path.items (λ (d : Child). d.index) in omega arith) f.only.gets; read = read-nothing (λ blocks. SameWhere blocks v v) 1 m n v v f.only.gets (λ held n l. l) (where-itself v) }
   where
     keeps : (h : List ℕ → List ℕ) (e : HamtFault) → FetchAnswer m c.id.0 (Err e) n → FaultOn h m.blocks m.lacks n.lacks v e v
     keeps h (F.Block i why) r = fetch-keeps h m n v c i why next r.0 r.1
@@ -367,6 +381,14 @@ enter-done m n v w c steps (Ok u) next short f o = record {
   only = f.only;
   on = λ h root at on. (entered-keeps m v w c steps.items (let seen = length-map v.path.items (λ (d : Child). d.index) in omega arith) f.answer o root at on, tt);
   reads = λ held told. entered-passes m held m.gets n.gets v w c steps.items told (let seen = length-map v.path.items (λ (d : Child). d.index) in omega arith) f.only.gets f.answer o;
+  read = record {
+    blocks = f.answer.block ∷ [];
+    nodes = ((f.answer.has.slots, f.answer.has.node), tt);
+    held = told-one m.blocks c.id.0 f.answer.block f.answer.at.named f.answer.at.held;
+    gets = let one = f.only.gets in omega arith;
+    left = λ held k all l. entered-nodes m held v w c steps.items (let seen = length-map v.path.items (λ (d : Child). d.index) in omega arith) f.answer (holds-one held c.id.0 f.answer.block f.answer.at.named all) o k l;
+    says = entered-where m v w c steps.items short f.answer o;
+  };
 }
 enter-done m n v w c steps (Err F.Memory) next short f o = record {
   answer = tt;
@@ -376,6 +398,7 @@ enter-done m n v w c steps (Err F.Memory) next short f o = record {
   only = f.only;
   on = λ h. memory-keeps h m.blocks m.lacks n.lacks v w o;
   reads = λ held told. enter-spends held m.gets n.gets v c next (let seen = length-map v.path.items (λ (d : Child). d.index) in omega arith) f.only.gets;
+  read = read-nothing (λ blocks. SameWhere blocks v w) 1 m n v w f.only.gets (unchanged-nodes v w o) (λ h held es all. unchanged-still v w o h held es);
 }
 enter-done m n v w c steps (Err F.Exhausted) next short f o = absurd o
 enter-done m n v w c steps (Err (F.Block i why)) next short f o = absurd o
@@ -394,6 +417,7 @@ enter-deep m v c e next short deep trie here = record {
   only = record { later = Later-refl m; blocks = refl; given = refl; puts = refl; gets = omega arith };
   on = λ h. deep-keeps h m.blocks m.lacks v c e next deep trie here;
   reads = λ held told. spends-none held m.gets v;
+  read = read-nothing (λ blocks. SameWhere blocks v v) 1 m m v v (omega arith) (λ held n l. l) (where-itself v);
 }
   where
     nothing : NothingTold m v

@@ -1,5 +1,5 @@
 -- What a walker has still to give (IPLD HashMap), and what its calls do to it.
-use Rattle.std.specs.Prelude.{Bool, true, false, ◌≡◌, ◌↔◌, ◌⊎◌, ℕ, ◌+◌, ◌-◌, ◌^◌, ◌<◌, ◌≤◌, List, [], ◌∷◌, ◌++◌, length, Option, Some, None, Result, Ok, Err}
+use Rattle.std.specs.Prelude.{Bool, true, false, ◌≡◌, ◌↔◌, ◌⊎◌, ℕ, ◌+◌, ◌-◌, ◌^◌, ◌<◌, ◌≤◌, List, [], ◌∷◌, ◌++◌, length, Option, Some, None, Result, Ok, Err, IfErr}
 use Rattle.ild_data.specs.Data.{Data}
 use Rattle.ild_data.specs.Spell.{spell}
 use Rattle.ild_data.specs.Trie.{TrieSlot}
@@ -15,7 +15,7 @@ use Rattle.ild_bulk_walker.specs.Fetching.{IsRefused, OnlyGets}
 use Rattle.ild_bulk_walker.specs.Gives.{RootGives}
 use Rattle.ild_bulk_walker.specs.Standing.{IsOn, KeepsOn, RowStands, way_of, last_of}
 use Rattle.ild_bulk_walker.specs.Steps.{steps_todo, path_of}
-use Rattle.ild_bulk_walker.specs.Reads.{NodesBeneath, LeftNodes, Spends}
+use Rattle.ild_bulk_walker.specs.Reads.{NodesBeneath, LeftNodes, Spends, HoldsAll, HasRead, fails_of}
 use Rattle.ild_bulk_walker.specs.Todo.{Todo, give, enter, leave, StillGives, fits}
 use Rattle.ild_bulk_walker.specs.declared.step.Child.{Child}
 use Rattle.ild_bulk_walker.specs.declared.step.Step.{Step}
@@ -84,6 +84,14 @@ IsPast given (leave before ∷ todo) = given ≤ before
 abbrev pub SameAhead : Walker → Walker → Type 0
 SameAhead v w = (h : List ℕ → List ℕ) (held : List (List ℕ)) (es : List (List ℕ × Data)) → StillAhead h held v es ↔ StillAhead h held w es
 
+-- so many nodes are to be read as before, whatever is held
+abbrev pub SameNodes : Walker → Walker → Type 0
+SameNodes v w = (held : List (List ℕ)) (n : ℕ) → LeftNodes held v n → LeftNodes held w n
+
+-- the same entries are ahead, wherever these blocks are held
+abbrev pub SameWhere : List (List ℕ) → Walker → Walker → Type 0
+SameWhere blocks v w = (h : List ℕ → List ℕ) (held : List (List ℕ)) (es : List (List ℕ × Data)) → HoldsAll held blocks → StillAhead h held v es ↔ StillAhead h held w es
+
 abbrev pub NothingAhead : Walker → Type 0
 NothingAhead w = (h : List ℕ → List ℕ) (held : List (List ℕ)) (es : List (List ℕ × Data)) → StillAhead h held w es → ⊥
 
@@ -112,6 +120,7 @@ pub record Leaves (v : Walker) (result : Result (Unit {0}) HamtFault) (w : Walke
   pub path : length (walker_path w) ≤ length (walker_path v)
   pub on : (h : List ℕ → List ℕ) (told : Option (List (List ℕ))) (lacks : ℕ) → KeepsOn h told lacks lacks v result w
   pub reads : (held : List (List ℕ)) (gets : ℕ) → Spends held gets gets v result w
+  pub nodes : SameNodes v w
 
 -- a child is entered: its steps stand before the leaving of its node, and the others behind
 pub record IsEntered (v : Walker) (c : Child) (steps : List Step) (w : Walker) : Type 0 where
@@ -162,6 +171,7 @@ pub record Enters (most : ℕ) (m : Moment) (v : Walker) (result : Result (Unit 
   pub only : OnlyGets most m n
   pub on : (h : List ℕ → List ℕ) → KeepsOn h m.blocks m.lacks n.lacks v result w
   pub reads : (held : List (List ℕ)) → m.blocks ≡ Some held → Spends held m.gets n.gets v result w
+  pub read : HasRead (λ blocks. SameWhere blocks v w) (fails_of result) m v w n
 
 -- an entry is to be given, or nothing, or a node is to be left of which nothing is given
 abbrev pub IsReady : ℕ → List Todo → Type 0
@@ -234,11 +244,11 @@ GiveAnswer h v (Ok None) w = (held : List (List ℕ)) (es : List (List ℕ × Da
 GiveAnswer h v (Err Memory) w = IsUnchanged v w
 GiveAnswer h v (Err e) w = IsTrieFault e × ((held : List (List ℕ)) (es : List (List ℕ × Data)) → StillAhead h held v es → ⊥) × IsUnchanged v w
 
--- one more is given, and the count doesn't wrap
+-- one more is given, and the count doesn't wrap; or no more
 abbrev pub Counts : Walker → Result (Option Row) HamtFault → Walker → Type 0
 Counts v (Ok (Some row)) w = (w.given ≡ v.given + 1) × (w.given < 2 ^ 64)
 Counts v (Ok None) w = w.given ≡ v.given
-Counts v (Err e) w = Unit {0}
+Counts v (Err e) w = w.given ≡ v.given
 
 pub record Gives (h : List ℕ → List ℕ) (v : Walker) (result : Result (Option Row) HamtFault) (w : Walker) : Type 0 where
   pub answer : GiveAnswer h v result w
@@ -247,6 +257,7 @@ pub record Gives (h : List ℕ → List ℕ) (v : Walker) (result : Result (Opti
   pub on : (told : Option (List (List ℕ))) (lacks : ℕ) → KeepsOn h told lacks lacks v result w
   pub row : (told : Option (List (List ℕ))) → RowStands told v result
   pub reads : (held : List (List ℕ)) (gets : ℕ) → Spends held gets gets v result w
+  pub nodes : SameNodes v w
 
 -- what a call that gives rows says, of one that only tells whether there was one
 abbrev pub AnyRow : (Result (Option Row) HamtFault → Type 0) → Result Bool HamtFault → Type 0
@@ -270,6 +281,10 @@ Judges h v (Err e) = Gives h v (Err e) v
 -- the same entries are ahead, where the store tells what it holds
 abbrev pub KeepsAhead : (List ℕ → List ℕ) → Moment → Walker → Walker → Type 0
 KeepsAhead h m v w = (held : List (List ℕ)) (es : List (List ℕ × Data)) → m.blocks ≡ Some held → Ahead h held v es ↔ Ahead h held w es
+
+-- the same, wherever these blocks are held
+abbrev pub KeepsWhere : (List ℕ → List ℕ) → List (List ℕ) → Walker → Walker → Type 0
+KeepsWhere h blocks v w = (held : List (List ℕ)) (es : List (List ℕ × Data)) → HoldsAll held blocks → Ahead h held v es ↔ Ahead h held w es
 
 -- the entries begin with this pair, and the others are ahead
 pub record BeginsWith (h : List ℕ → List ℕ) (held : List (List ℕ)) (key : List ℕ) (value : Data) (w : Walker) (es : List (List ℕ × Data)) : Type 0 where
@@ -298,6 +313,7 @@ pub record Nexts (h : List ℕ → List ℕ) (m : Moment) (v : Walker) (result :
   pub on : KeepsOn h m.blocks m.lacks n.lacks v result w
   pub row : RowStands m.blocks v result
   pub reads : (held : List (List ℕ)) → m.blocks ≡ Some held → Spends held m.gets n.gets v result w
+  pub read : HasRead (λ blocks. IfErr result (λ e. KeepsWhere h blocks v w)) (fails_of result) m v w n
 
 -- nodes are left and children entered, and an entry is to be given, or nothing
 pub record ComesNext (m : Moment) (v w : Walker) (n : Moment) : Type 0 where

@@ -9,4 +9,5 @@ pub mod Told
 pub mod Fetching
 pub mod Ahead
 pub mod Checked
+pub mod Calls
 pub mod Trees

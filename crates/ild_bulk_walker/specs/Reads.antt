@@ -1,9 +1,14 @@
 -- How many blocks of nodes hang beneath a root, and how many of them a walk has still to read.
 use Rattle.std.specs.Prelude.{◌≡◌, ◌⊎◌, ℕ, zero, suc, ◌+◌, ◌-◌, ◌≤◌, List, [], ◌∷◌, length, Some, Result, Ok, Err}
+use Rattle.std.specs.List.{AllByRecursion}
+use Rattle.ild_data.specs.Spell.{id_of}
 use Rattle.ild_data.specs.Trie.{TrieSlot, empty, bucket, child}
 use Rattle.ild_data.specs.TrieShape.{trie_levels}
+use Rattle.ild_edges.specs.Store.{Moment, block_at}
+use Rattle.ild_edges.specs.Told.{IfTold}
 use Rattle.ild_typed.specs.Composed.{usual}
 use Rattle.ild_node_slots.specs.declared.fault.HamtFault.{HamtFault}
+use Rattle.ild_bulk_walker.specs.Gives.{IsNodeOf}
 use Rattle.ild_bulk_walker.specs.OnTree.{IsNodeAt}
 use Rattle.ild_bulk_walker.specs.Steps.{steps_todo}
 use Rattle.ild_bulk_walker.specs.Todo.{Todo, give, enter, leave}
@@ -56,3 +61,31 @@ pub record Spent (held : List (List ℕ)) (before now n : ℕ) (w : Walker) : Ty
 abbrev pub Spends : {A : Type 0} → List (List ℕ) → ℕ → ℕ → Walker → Result A HamtFault → Walker → Type 0
 Spends held before now v (Ok x) w = (n : ℕ) → LeftNodes held v n → Spent held before now n w
 Spends held before now v (Err e) w = (n : ℕ) → LeftNodes held v n → now ≤ before + n
+
+-- ---- over every store
+
+-- these blocks are held, each under its id
+abbrev pub HoldsAll : List (List ℕ) → List (List ℕ) → Type 0
+HoldsAll held blocks = AllByRecursion (λ b. block_at held (id_of b) ≡ Some b) blocks
+
+-- each is the block of a node
+abbrev pub AreNodes : List (List ℕ) → Type 0
+AreNodes blocks = AllByRecursion (λ b. (slots : List TrieSlot) × IsNodeOf usual b slots) blocks
+
+-- where these blocks are held, as many nodes fewer are to be read
+abbrev pub ReadThem : List (List ℕ) → Walker → Walker → Type 0
+ReadThem blocks v w = (held : List (List ℕ)) (n : ℕ) → HoldsAll held blocks → LeftNodes held v n → (left : ℕ) × (n ≡ length blocks + left) × LeftNodes held w left
+
+-- a call that fails may get one block that it doesn't enter
+abbrev pub fails_of : {A : Type 0} → Result A HamtFault → ℕ
+fails_of (Ok x) = 0
+fails_of (Err e) = 1
+
+-- nodes were entered, and these are their blocks, with a get for each, and so many gets besides; and what is said of them
+pub record HasRead (Says : List (List ℕ) → Type 0) (besides : ℕ) (m : Moment) (v w : Walker) (n : Moment) : Type 0 where
+  pub blocks : List (List ℕ)
+  pub nodes : AreNodes blocks
+  pub held : IfTold m.blocks (λ held. HoldsAll held blocks)
+  pub gets : n.gets ≤ m.gets + (length blocks + besides)
+  pub left : ReadThem blocks v w
+  pub says : Says blocks

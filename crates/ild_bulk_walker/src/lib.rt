@@ -13,7 +13,7 @@ mod step;
 mod walker;
 
 pub use check::check_tree;
-pub use laws::{given_is_trie, nodes_are_the_tries};
+pub use laws::{given_is_trie, nodes_are_got_once, nodes_are_the_tries};
 pub use list::walk;
 pub use row::Row;
 pub use walker::Walker;
