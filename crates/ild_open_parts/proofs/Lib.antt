@@ -7,5 +7,6 @@ pub mod Lacking
 pub mod Leaving
 pub mod Making
 pub mod Membering
+pub mod Refusing
 pub mod Turning
 pub mod Wrongly

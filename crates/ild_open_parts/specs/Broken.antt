@@ -1,26 +1,23 @@
 -- What is wrong in data of a typed value that stand in a block: with a node of one of its HAMTs, or with an entry in such a node.
-use Rattle.std.specs.Prelude.{◌≡◌, ◌⊎◌, ℕ, zero, suc, List, Option}
+use Rattle.std.specs.Prelude.{◌≡◌, ◌⊎◌, ℕ, zero, suc, List, [], Option}
 use Rattle.ild_cbor.specs.declared.why.BlockWhy.{BlockWhy}
 use Rattle.ild_cbor.specs.declared.why.BlockWhy.TheVariants as B
 use Rattle.ild_cbor.specs.declared.why.Why.{Why}
-use Rattle.ild_cbor.specs.declared.why.Why.TheVariants.{Member}
-use Rattle.ild_data.specs.Data.{Data, text}
-use Rattle.ild_schema.specs.Slots.{plainly}
+use Rattle.ild_data.specs.Data.{Data}
 use Rattle.ild_schema.specs.declared.number.Slot.{Slot}
 use Rattle.ild_schema.specs.declared.number.TypeNo.{TypeNo}
 use Rattle.ild_schema.specs.declared.row.Row.{Row}
-use Rattle.ild_typed.specs.Fits.{Fits}
-use Rattle.ild_typed.specs.Layers.{Shows}
-use Rattle.ild_view_walk.specs.Checks.{IsRefusal}
+use Rattle.ild_typed.specs.Spots.{key_spot}
+use Rattle.ild_view_walk.specs.Checks.{IsPartRefusal, IsRefusal}
 use Rattle.ild_bulk_walker.specs.Standing.{IsWrongOnTree}
 use Rattle.ild_open_parts.specs.Sites.{Site, HasSite, HasEntry}
 
 -- ---- entries of a HAMT
 
--- a key that is no text of its type in the room, or a value that the walk of it refuses
+-- the walk of the key refuses it, as a key, or that of the value does
 abbrev pub IsWrongPart : List Row → ℕ → TypeNo → Slot → List ℕ → Data → Why → Type 0
 IsWrongPart rows room key slot k value why =
-    ((why ≡ Member) × (Shows (Fits rows room) rows (plainly key) (text k) → ⊥))
+    ((ty : TypeNo) × IsPartRefusal rows room (key_spot key k []) ty why)
     ⊎ ((ty : TypeNo) × IsRefusal rows room slot value ty why)
 
 pub record IsWrongEntry (rows : List Row) (told : Option (List (List ℕ))) (z : Site) (id : List ℕ) (why : BlockWhy) : Type 0 where

@@ -13,6 +13,7 @@ use Rattle.ild_data.specs.Data.{Data}
 use Rattle.ild_data.specs.Limits.{deepest}
 use Rattle.ild_data.specs.Tree.{IsTree}
 use Rattle.ild_data.specs.Trie.{TrieSlot}
+use Rattle.ild_data.specs.declared.id.BlockId.{BlockId}
 use Rattle.ild_edges.specs.Store.{Moment, block_at}
 use Rattle.ild_node_slots.specs.Form.{AreTexts}
 use Rattle.ild_node_slots.specs.declared.fault.HamtFault.{HamtFault}
@@ -34,6 +35,8 @@ use Rattle.ild_typed.specs.Node.{IsRoot}
 use Rattle.ild_bulk_walker.specs.Checked.{row_pair, spelled_pair}
 use Rattle.ild_bulk_walker.specs.Standing.{IsWrongOnTree, StandsThere}
 use Rattle.ild_bulk_walker.specs.declared.row.Row.{Row as Listed}
+use Rattle.ild_view_walk.specs.declared.fault.ViewErr.{ViewErr}
+use Rattle.ild_view_walk.specs.declared.fault.ViewErr.TheVariants as E
 use Rattle.ild_open_held.specs.Entries.{IsRootOf, KeyFits, beneath}
 use Rattle.ild_open_held.specs.Laws.{IsFronted}
 use Rattle.ild_open_held.specs.Splits.{AreHeld, HasFront, entry_parts, entry_values, nodes_in}
@@ -77,6 +80,11 @@ abbrev pub ListsRoot : (List ℕ → List ℕ) → List ℕ → Piece → Moment
 ListsRoot h at piece m r n = (rows : List Row) (t : Data) → StandsFor rows piece t → ListsRows h at t m r n
 
 -- ---- one row
+
+-- the refusal of a key or of a value that stands in a block
+abbrev pub part_fault : BlockId → ViewErr → OpenFault
+part_fault id (E.Shape ty why at) = F.Block id (B.Shape why)
+part_fault id E.Memory = F.Memory
 
 module _ (rows : List Row) (room : ℕ) (key : TypeNo) (value : Slot) (row : Listed) where
   -- the node is the value that the row spells; it has a front, and the key fits

@@ -1,15 +1,15 @@
 //! The rows of a HAMT, and what stands in each.
 ghost use Rattle.std.specs.Prelude.{◌≡◌, ◌<◌, length};
-ghost use Rattle.ild_open_parts.specs.Hamts.{ListsRoot, RowAnswer, told_fault};
+ghost use Rattle.ild_open_parts.specs.Hamts.{ListsRoot, RowAnswer, part_fault, told_fault};
 
 use crate::fault::OpenFault;
 use ild_bulk_walker::{Row, walk};
-use ild_cbor::{BlockWhy, Node, Piece, Why, check};
+use ild_cbor::{BlockWhy, Node, Piece, check};
 use ild_data::{BlockId, KeyHash};
 use ild_edges::Store;
 use ild_node_slots::{HamtFault, root_of};
 use ild_schema::{Accepted, Slot, TypeNo};
-use ild_view_walk::{ViewErr, check_item, fits_text};
+use ild_view_walk::{ViewErr, check_item, check_key};
 use std::alloc::Global;
 
 // The fault of a walk, as that of a reader.
@@ -50,6 +50,19 @@ pub fn hamt_rows<'b, K: Store, H: KeyHash>(
     }
 }
 
+// The refusal of a key or of a value that stands in a block.
+fn part_fault(id: BlockId, fault: ViewErr) -> OpenFault
+    ensures { result ≡ part_fault id fault }
+{
+    match fault {
+        ViewErr::Shape { why, .. } => OpenFault::Block {
+            id,
+            why: BlockWhy::Shape(why),
+        },
+        ViewErr::Memory => OpenFault::Memory,
+    }
+}
+
 /// The value that a row spells, where it and the key fit in a room.
 pub fn row_item<'r>(
     alloc: Global,
@@ -67,18 +80,11 @@ pub fn row_item<'r>(
         Ok(item) => item,
         Err(_) => return Err(OpenFault::Memory),
     };
-    if !fits_text(alloc, acc, key, row.key.as_str(), room)? {
-        return Err(OpenFault::Block {
-            id: row.block,
-            why: BlockWhy::Shape(Why::Member),
-        });
+    if let Err(fault) = check_key(alloc, acc, key, row.key.as_str(), room) {
+        return Err(part_fault(row.block, fault));
     }
     match check_item(alloc, acc, value, item, room) {
         Ok(()) => Ok(item),
-        Err(ViewErr::Shape { why, .. }) => Err(OpenFault::Block {
-            id: row.block,
-            why: BlockWhy::Shape(why),
-        }),
-        Err(ViewErr::Memory) => Err(OpenFault::Memory),
+        Err(fault) => Err(part_fault(row.block, fault)),
     }
 }

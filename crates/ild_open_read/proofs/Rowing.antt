@@ -24,6 +24,7 @@ use Rattle.ild_typed.specs.Fits.{Fits}
 use Rattle.ild_typed.specs.Layers.{Shows}
 use Rattle.ild_typed.specs.Schema.{IsSchema}
 use Rattle.ild_typed.proofs.Fronting.{values_fronts}
+use Rattle.ild_typed.proofs.OneValue.{plain_safe}
 use Rattle.ild_typed.proofs.TreeNodes.{all_split}
 use Rattle.ild_typed.proofs.WalkSound.{refused_sound}
 use Rattle.ild_bulk_walker.specs.Checked.{row_pair, spelled_pair}
@@ -211,7 +212,7 @@ module _ (h : List ℕ → List ℕ) (rows : List Row) (room : ℕ) (keep : Bool
 
   module _ (schema : IsSchema rows) (legible : IsLegible rows) (safe : IsSafe rows u) where
     never_wrong : (held : List (List ℕ)) (row : Listed) (x : HasOwn held row) (why : Why) → IsWrongPart rows room key u row.key x.tree why → ⊥
-    never_wrong held row x why (inl w) = w.1 x.keyed
+    never_wrong held row x why (inl w) = refused_sound rows legible.clear legible.delims room 0 (plainly key) (plain_safe rows (plainly key) refl) (text row.key) w.1.refusal w.1.refused x.keyed
     never_wrong held row x why (inr w) =
         let y = values_fronts h rows schema room u x.value x.tree x.own.fits x.own.tree in
         refused_sound rows legible.clear legible.delims room 0 u safe x.tree w.1.refusal w.1.refused (y.0, y.1.fits, y.1.tree)

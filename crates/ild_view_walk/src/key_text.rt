@@ -4,8 +4,10 @@ ghost use Rattle.ild_data.specs.Data as T;
 ghost use Rattle.ild_schema.specs.Slots.{plainly};
 ghost use Rattle.ild_typed.specs.Fits.{Fits, IsTextOf};
 ghost use Rattle.ild_typed.specs.Layers.{Shows};
+ghost use Rattle.ild_view_walk.specs.Checks.{KeyChecks};
 
 use crate::fault::ViewErr;
+use crate::refusal::key_refusal;
 use crate::stack::all_open;
 use crate::walk::check_piece;
 use ild_cbor::Piece;
@@ -30,18 +32,38 @@ pub fn fits_text(
 {
     // It does no work: its clauses say what acceptance says of the table.
     let _types = acc.types();
+    match check_key(alloc, acc, ty, text, room) {
+        Ok(()) => Ok(true),
+        Err(ViewErr::Shape { .. }) => Ok(false),
+        Err(ViewErr::Memory) => Err(AllocError),
+    }
+}
+
+/// Whether a text fits as the key of an entry, or what is told of the key: `Depth` where the walk of it wants room, and else
+/// `Member`.
+pub fn check_key(
+    alloc: Global,
+    acc: &Accepted,
+    ty: TypeNo,
+    text: &str,
+    room: u32,
+) -> Result<(), ViewErr>
+    requires { ty.0 < length acc.now }
+    ensures { KeyChecks acc.now room ty text.now result }
+{
+    // It does no work: its clauses say what acceptance says of the table.
+    let _types = acc.types();
     let slot = Slot {
         ty,
         nullable: false,
     };
     let piece = Piece::Text(text);
     if is_leaf(acc, slot, &piece) {
-        return Ok(true);
+        return Ok(());
     }
     match check_piece(alloc, acc, slot, &piece, room) {
-        Ok(()) => Ok(true),
-        Err(ViewErr::Shape { .. }) => Ok(false),
-        Err(ViewErr::Memory) => Err(AllocError),
+        Ok(()) => Ok(()),
+        Err(fault) => Err(key_refusal(ty, fault)),
     }
 }
 

@@ -19,4 +19,4 @@ mod walk;
 
 pub use check::check_item;
 pub use fault::ViewErr;
-pub use key_text::{fits_text, is_text};
+pub use key_text::{check_key, fits_text, is_text};

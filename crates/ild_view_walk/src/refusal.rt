@@ -1,10 +1,12 @@
 //! What is told of a piece that is refused.
-ghost use Rattle.std.specs.Prelude.{◌≡◌, ℕ, List};
+ghost use Rattle.std.specs.Prelude.{◌≡◌, ℕ, List, []};
+ghost use Rattle.ild_data.specs.Data as T;
 ghost use Rattle.ild_data.specs.Data.{Data};
+ghost use Rattle.ild_schema.specs.Slots.{plainly};
 ghost use Rattle.ild_schema.specs.declared.row.Row.{Row};
 ghost use Rattle.ild_cbor.specs.declared.piece.Piece.{Piece};
 ghost use Rattle.ild_typed.specs.Schema.{IsSchema};
-ghost use Rattle.ild_typed.specs.Spots.{Spot};
+ghost use Rattle.ild_typed.specs.Spots.{Spot, key_spot};
 ghost use Rattle.ild_view_walk.specs.Told.{IsPlacedBy, TellsPlaceIn};
 ghost use Rattle.ild_view_walk.specs.Checks.{Faults, PartFaults, is_depth};
 ghost use Rattle.ild_view_walk.specs.Opens.{IsStopped};
@@ -14,7 +16,7 @@ use crate::fault::ViewErr;
 use crate::opening::Stop;
 use ild_cbor::Why;
 use ild_layer_parts::Part;
-use ild_schema::Slot;
+use ild_schema::{Slot, TypeNo};
 
 fn is_depth(why: Why) -> bool
     ensures { result ≡ is_depth why }
@@ -37,6 +39,29 @@ pub(crate) fn own_refusal(slot: Slot, stop: Stop) -> ViewErr
             at: 0,
         },
         Stop::Memory => ViewErr::Memory,
+    }
+}
+
+/// The refusal of a key that stands alone, as that of its entry.
+pub(crate) fn key_refusal(ty: TypeNo, fault: ViewErr) -> ViewErr
+    ensures { (rows : List Row) (room : ℕ) (k : List ℕ) → Faults rows room (plainly ty) (T.text k) fault → PartFaults rows room (key_spot ty k []) result }
+{
+    match fault {
+        ViewErr::Shape { ty: inside, why, at } => {
+            if is_depth(why) {
+                return ViewErr::Shape {
+                    ty: inside,
+                    why,
+                    at,
+                };
+            }
+            ViewErr::Shape {
+                ty,
+                why: Why::Member,
+                at,
+            }
+        }
+        ViewErr::Memory => ViewErr::Memory,
     }
 }
 

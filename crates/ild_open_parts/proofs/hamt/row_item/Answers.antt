@@ -1,22 +1,12 @@
-use Rattle.std.proofs.Common.{inl, refl, sym, ◌∙◌, subst}
-use Rattle.std.proofs.lemmas.Bool.{false≢true}
+use Rattle.std.proofs.Common.{[], subst}
 use Rattle.ild_cbor.specs.Block.{IsBlockOf}
-use Rattle.ild_cbor.specs.declared.why.Why.TheVariants as W
-use Rattle.ild_data.specs.Data as T
-use Rattle.ild_schema.specs.Slots.{plainly}
-use Rattle.ild_typed.specs.Fits.{Fits}
-use Rattle.ild_typed.specs.Layers.{Shows}
+use Rattle.ild_typed.specs.Spots.{key_spot}
+use Rattle.ild_view_walk.specs.Checks.{PartFaults}
+use Rattle.ild_open_parts.proofs.Refusing.{key_refused}
 use Rattle.ild_open_parts.proofs.hamt.row_item.Goals as goal
 
-pub returns-then-not-branch : goal.returns-then-not-branch
-returns-then-not-branch c =
-    let x = c.in-Ok.ensures.found in (
-      refl,
-      record {
-        tree = x.0;
-        spelled = subst (λ b. IsBlockOf b x.0) c.as_slice.ensures.same x.1;
-        cause = W.Member;
-        told_is = refl;
-        wrong = inl (refl, λ s. false≢true (sym c.if-not-branch.true ∙ c.in_ok-fits_text.ensures.1 (subst (λ k. Shows (Fits c.args.acc.now c.args.room) c.args.acc.now (plainly c.args.key) (T.text k)) (sym c.as_str.ensures.same) s)));
-      },
-    )
+pub returns-in-Err-check_key : goal.returns-in-Err-check_key
+returns-in-Err-check_key c =
+    let x = c.in-Ok.ensures.found in
+    rw c.part_fault.ensures (key_refused c.args.acc.now c.args.room c.args.key c.args.value c.args.row.now x.0 (subst (λ b. IsBlockOf b x.0) c.as_slice.ensures.same x.1) c.in-Err-check_key.fault
+    (subst (λ k. PartFaults c.args.acc.now c.args.room (key_spot c.args.key k []) c.in-Err-check_key.fault) c.as_str.ensures.same c.in-Err-check_key.ensures))
