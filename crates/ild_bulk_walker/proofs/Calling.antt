@@ -20,7 +20,7 @@ gets-what-it-enters h (r ∷ rs) m n v w c =
     let k = c.1 in
     let first = c.2 in
     read-both (λ blocks. IfErr r (λ e. KeepsWhere h blocks v u)) (λ blocks. Unit {0}) (λ blocks. Unit {0}) (fails_of r + fails_in rs) m k n v u w first.only.blocks (λ xs ys p q. tt) (fails_of r) (fails_in rs) refl first.read
-        (gets-what-it-enters h rs k n u w c.3)
+    (gets-what-it-enters h rs k n u w c.3)
 
 told-are : (told : Option (List (List ℕ))) (held blocks : List (List ℕ)) → told ≡ Some held → IfTold told (λ held. HoldsAll held blocks) → HoldsAll held blocks
 told-are told held blocks is p = subst (λ o. IfTold o (λ held. HoldsAll held blocks)) is p

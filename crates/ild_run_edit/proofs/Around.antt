@@ -10,15 +10,9 @@ use Rattle.ild_schema.specs.Clear.{IsSafe}
 use Rattle.ild_schema.specs.declared.number.Slot.{Slot}
 use Rattle.ild_schema.specs.declared.row.Row.{Row}
 use Rattle.ild_schema.specs.Value.{Value}
-use Rattle.ild_typed.specs.At.{InSlot}
-use Rattle.ild_typed.specs.Judged.{breaks_delimiter}
-use Rattle.ild_typed.specs.OfType.{OfType, TestsKeys}
-use Rattle.ild_path_edits.specs.Edit.{change}
-use Rattle.ild_path_judged.specs.Place.{bringing}
 use Rattle.ild_path_around.specs.Around.{TellsComing}
 use Rattle.ild_path_place.specs.Tells.{slot_in, table_at}
 use Rattle.ild_path_place.specs.declared.place.Place.{Place}
-use Rattle.ild_path_room.specs.Room.{Coming}
 use Rattle.ild_run_edit.specs.Judges.{TellsAround}
 
 pub tells_around : (place : Place) (w : Value) (o : Option (Bor (List ℕ))) (r : Result Bool AllocError) → IsSafe (table_at place) (slot_in place) → option_map (λ t. t.now) o ≡ text_rep (table_at place) (slot_in place) w → TellsComing place o r

@@ -1,11 +1,10 @@
 -- A part is built: what that leaves in a store is due, whatever is answered.
-use Rattle.std.proofs.Common.{◌≡◌, ◌⊎◌, inl, inr, ℕ, ◌+◌, ◌≤◌, ◌<◌, List, [], ◌∷◌, ◌++◌, append-nil, length, map, Bool, true, false, Option, Some, None, refl, ap, sym, subst, ◌∙◌, arith}
+use Rattle.std.proofs.Common.{◌≡◌, ◌⊎◌, inl, inr, ℕ, ◌+◌, ◌≤◌, ◌<◌, List, [], ◌∷◌, ◌++◌, append-nil, length, map, true, false, Option, Some, None, refl, ap, sym, subst, ◌∙◌, arith}
 use Rattle.std.specs.Prelude.{Contains, IfOk, Result, Ok, Err, option_map, option_and_then}
 use Rattle.std.specs.List.{AllByRecursion}
-use Rattle.std.specs.Option.{ForSome, option_map_or}
-use Rattle.std.proofs.lemmas.Option.{none-some, same_Some}
+use Rattle.std.specs.Option.{ForSome}
 use Rattle.std.proofs.lemmas.List.Elements.{Contains-append_left}
-use Rattle.ild_build_blocks.specs.Builds.{BuildAnswer, Builds, HasBlocks, IsBuilt, IsTooLong, PutsSome}
+use Rattle.ild_build_blocks.specs.Builds.{BuildAnswer, Builds, PutsSome}
 use Rattle.ild_build_blocks.specs.declared.fault.BuildFault.{BuildFault}
 use Rattle.ild_build_blocks.specs.declared.fault.BuildFault.TheVariants as B
 use Rattle.ild_bulk.specs.Putting.{GivesAll}
@@ -15,9 +14,9 @@ use Rattle.ild_cbor.specs.Block.{IsBlockOf}
 use Rattle.ild_data.specs.Data.{Data}
 use Rattle.ild_data.specs.Limits.{longest_block}
 use Rattle.ild_data.specs.Spell.{id_of, spell}
-use Rattle.ild_edges.specs.Store.{Moment, Later, block_at}
+use Rattle.ild_edges.specs.Store.{Moment, block_at}
 use Rattle.ild_edges.specs.Told.{BothTold, IfTold}
-use Rattle.ild_open_held.specs.Held.{IsHeld, IsHeldBlock}
+use Rattle.ild_open_held.specs.Held.{IsHeld}
 use Rattle.ild_schema.specs.declared.number.Slot.{Slot}
 use Rattle.ild_schema.specs.declared.number.TypeNo.{TypeNo}
 use Rattle.ild_schema.specs.declared.row.Row.{Row}
@@ -28,7 +27,7 @@ use Rattle.ild_script.specs.declared.reply.No.TheVariants as N
 use Rattle.ild_script_meaning.specs.Costs.{blocks_met, meant_in, nodes_in, brought as part_brought}
 use Rattle.ild_script_meaning.specs.Lines.{Setting, read_json, new_nodes, short}
 use Rattle.ild_script_session.specs.Session.{Due}
-use Rattle.ild_script_session.specs.Step.{AddsOnly, AddsWhole, Gains, IsWhole}
+use Rattle.ild_script_session.specs.Step.{Gains, IsWhole}
 use Rattle.ild_typed.proofs.Fronting.{values_fronts}
 use Rattle.ild_typed.proofs.Judging.{tree_sound}
 use Rattle.ild_typed.proofs.Rooms.{all_more, fits_more}
@@ -54,11 +53,11 @@ use Rattle.ild_path_edits.proofs.KeepTyped.{edits_keep_typed}
 use Rattle.ild_path_judged.specs.Laws.{IsSound}
 use Rattle.ild_path_judged.specs.Place.{bringing}
 use Rattle.ild_path_judged.proofs.Order.{refused_in_order, unrefused_have_data}
-use Rattle.ild_path_place.specs.Tells.{room_in, slot_in, table_at, type_at}
+use Rattle.ild_path_place.specs.Tells.{slot_in, table_at, type_at}
 use Rattle.ild_path_place.specs.declared.place.Place.{Place}
 use Rattle.ild_path_room.specs.Room.{Coming, by_set, by_insert}
 use Rattle.ild_run_edit.specs.Judges.{IsFreePart}
-use Rattle.ild_run_edit.specs.Moves.{line_by, due_of, edited_by, BuildsAnswer, BuildsPart, BuiltPart, Fails, IsLet, IsPartBlock, MoveAnswer, Moves, built_as, built_fault}
+use Rattle.ild_run_edit.specs.Moves.{line_by, due_of, edited_by, BuildsAnswer, BuildsPart, BuiltPart, Fails, IsLet, IsPartBlock, MoveAnswer, Moves, built_as}
 use Rattle.ild_run_edit.proofs.Passing.{given_all}
 use Rattle.ild_run_edit.proofs.Joining.{line_made}
 use Rattle.ild_run_edit.proofs.Judging.{path_texts, brings_part}

@@ -3,15 +3,15 @@ use Rattle.std.proofs.Common.{◌≡◌, ℕ, [], List, length, Option, Some, No
 use Rattle.ild_data.specs.Spell.{id_of}
 use Rattle.ild_data.specs.declared.id.BlockId.{BlockId}
 use Rattle.ild_edges.proofs.Later.{Later-trans}
-use Rattle.ild_edges.specs.Store.{Moment, Later, Keeps, block_at}
+use Rattle.ild_edges.specs.Store.{Moment, Keeps, block_at}
 use Rattle.ild_edges.specs.Told.{BothTold, IfTold}
 use Rattle.ild_generator.specs.Generated.{Generated, generated, root_in, blocks_in, blocks_through}
 use Rattle.ild_generator.specs.Schema.{generator_rows, generator_type}
-use Rattle.ild_path_edits.specs.Judged.{Tests, AreTests}
-use Rattle.ild_run_edit.specs.Naming.{IsTaken, NamesClash}
-use Rattle.ild_run_generate.specs.Counting.{CountIs, CountsEntries, count_in}
+use Rattle.ild_path_edits.specs.Judged.{Tests}
+use Rattle.ild_run_edit.specs.Naming.{IsTaken}
+use Rattle.ild_run_generate.specs.Counting.{CountIs, CountsEntries}
 use Rattle.ild_run_generate.specs.Generates.{Generates, GeneratesTold}
-use Rattle.ild_run_generate.specs.Runs.{IsStopped, IsSummed, IsThrough, RunAnswer, RunsFrom, TakesSteps, summary_of}
+use Rattle.ild_run_generate.specs.Runs.{RunAnswer, RunsFrom, TakesSteps}
 use Rattle.ild_run_generate.specs.Starting.{start_fault}
 use Rattle.ild_run_generate.specs.Steps.{Causes, IsOfGenerator, counts_of}
 use Rattle.ild_run_generate.specs.declared.fault.GenerateFault.{GenerateFault}
@@ -22,7 +22,7 @@ use Rattle.ild_run_generate.proofs.Added.{AreAmong, adds_wider, adds_trans, adds
 use Rattle.ild_run_generate.proofs.Ending.{counted, root_is, stands_then}
 use Rattle.ild_run_generate.proofs.Through.{among_through}
 use Rattle.ild_run_open.specs.Empty.{IsEmpty, empty_of, empty_blocks}
-use Rattle.ild_run_open.specs.Starts.{ClashesEmpty, HasStarted, Starts, Stops}
+use Rattle.ild_run_open.specs.Starts.{ClashesEmpty, Starts}
 use Rattle.ild_run_open.specs.declared.start.Start.TheVariants as S
 use Rattle.ild_run_open.specs.declared.start.StartFault.{StartFault}
 use Rattle.ild_run_open.specs.declared.start.StartFault.TheVariants as P
@@ -32,9 +32,9 @@ use Rattle.ild_schema.specs.Value.{Value}
 use Rattle.ild_schema.specs.declared.number.TypeNo.{TypeNo}
 use Rattle.ild_schema.specs.declared.row.Row.{Row}
 use Rattle.ild_script_meaning.specs.PlainMap.{as_value}
-use Rattle.ild_script_session.specs.Step.{AddsOnly, Collides}
+use Rattle.ild_script_session.specs.Step.{AddsOnly}
 use Rattle.ild_typed.specs.Stands.{Stands, bare}
-use Rattle.ild_view_doc.specs.Docs.{table_in, type_in, block_in}
+use Rattle.ild_view_doc.specs.Docs.{type_in, block_in}
 use Rattle.ild_view_doc.specs.declared.doc.Doc.{Doc}
 
 -- ---- to the end

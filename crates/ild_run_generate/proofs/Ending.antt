@@ -1,18 +1,15 @@
 -- The run of the generator, from its start and to its end.
-use Rattle.std.proofs.Common.{◌≡◌, ◌≢◌, ◌≤◌, ◌<◌, ◌^◌, ℕ, suc, [], ◌∷◌, List, length, map, Option, Some, None, Result, Ok, Err, refl, sym, ap, ◌∙◌, subst, arith}
+use Rattle.std.proofs.Common.{◌≡◌, ℕ, suc, [], ◌∷◌, List, length, map, Option, Some, None, refl, sym, ap, ◌∙◌, subst}
 use Rattle.std.specs.Option.{option_map_or}
-use Rattle.std.proofs.lemmas.Option.{same_Some}
-use Rattle.ild_data.specs.Data.{Data}
-use Rattle.ild_data.specs.Spell.{spell, id_of}
+use Rattle.ild_data.specs.Spell.{id_of}
 use Rattle.ild_edges.specs.Store.{Moment, block_at}
 use Rattle.ild_edges.specs.Told.{IfTold}
-use Rattle.ild_generator.specs.Generated.{generated, tree_of, root_in}
+use Rattle.ild_generator.specs.Generated.{root_in}
 use Rattle.ild_generator.specs.Schema.{generator_rows, generator_type}
 use Rattle.ild_path_edits.specs.Judged.{Tests}
 use Rattle.ild_run_generate.specs.Steps.{IsOfGenerator}
 use Rattle.ild_run_standing.specs.Laws.{HeldAreStanding}
-use Rattle.ild_run_standing.specs.Standing.{IsAt, IsHeldAt}
-use Rattle.ild_schema.specs.Value.{Value, pairs_of, pairs_list}
+use Rattle.ild_run_standing.specs.Standing.{IsHeldAt}
 use Rattle.ild_schema.specs.declared.number.TypeNo.{TypeNo}
 use Rattle.ild_schema.specs.declared.row.Row.{Row}
 use Rattle.ild_script_meaning.specs.PlainMap.{as_value, int_entry}
@@ -20,7 +17,7 @@ use Rattle.ild_script_meaning.specs.PlainValue.{Value as Entries}
 use Rattle.ild_typed.proofs.Lists.{pairs_list-pairs_of}
 use Rattle.ild_typed.specs.Stands.{Stands, Storable, bare, root_id}
 use Rattle.ild_run_generate.specs.Counting.{count_in}
-use Rattle.ild_view_doc.specs.Docs.{table_in, type_in, block_in}
+use Rattle.ild_view_doc.specs.Docs.{table_in, block_in}
 use Rattle.ild_view_doc.specs.declared.doc.Doc.{Doc}
 
 -- ---- the number of entries

@@ -1,9 +1,9 @@
 -- Where an edit leads: what its answer says of a value, of which it makes r.
-use Rattle.std.proofs.Common.{◌≡◌, ◌⊎◌, ℕ, List, Option, Some, None, Result, Ok, Err, inl, inr, refl, sym, ap, ◌∙◌, subst}
+use Rattle.std.proofs.Common.{◌≡◌, ◌⊎◌, ℕ, List, Some, None, Result, Ok, Err, inl, inr, refl, sym, ap, ◌∙◌, subst}
 use Rattle.ild_data.specs.Spell.{id_of}
 use Rattle.ild_edges.specs.Store.{Moment}
 use Rattle.ild_generator.specs.Laws.{setting_with}
-use Rattle.ild_generator.specs.Schema.{generator_rows, generator_type}
+use Rattle.ild_generator.specs.Schema.{generator_rows}
 use Rattle.ild_path_edits.specs.Edit.{Edit}
 use Rattle.ild_path_edits.specs.Judged.{Tests}
 use Rattle.ild_run_edit.specs.Edits.{reply_of}
@@ -14,14 +14,12 @@ use Rattle.ild_schema.specs.Value.{Value}
 use Rattle.ild_schema.specs.declared.number.TypeNo.{TypeNo}
 use Rattle.ild_schema.specs.declared.row.Row.{Row}
 use Rattle.ild_script.specs.declared.reply.No.{No}
-use Rattle.ild_script.specs.declared.reply.Reply.{Reply}
-use Rattle.ild_script.specs.declared.reply.Reply.TheVariants as R
 use Rattle.ild_script_meaning.specs.Ask.{to_edit}
 use Rattle.ild_script_meaning.specs.Lines.{Setting, changed, due, edit_blocks, edit_due, edit_reply, edit_next, typed_lines}
 use Rattle.ild_script_session.specs.Session.{State, idle, resting}
 use Rattle.ild_script_session.specs.Step.{AddsOnly, Carries, HasCause, IsExcused, Replies}
 use Rattle.ild_typed.specs.Stands.{bare}
-use Rattle.ild_view_doc.specs.Docs.{table_in, type_in}
+use Rattle.ild_view_doc.specs.Docs.{type_in}
 use Rattle.ild_view_doc.specs.declared.doc.Doc.{Doc}
 
 -- the setting of a document of the generator's type

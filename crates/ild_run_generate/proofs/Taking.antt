@@ -1,43 +1,30 @@
 -- What a step comes to, by the answer to its edit.
-use Rattle.std.proofs.Common.{◌≡◌, ◌⊎◌, ℕ, ◌+◌, ◌<◌, ◌^◌, pos, List, [], ◌∷◌, Bool, true, false, Option, Some, None, Result, Ok, Err, inl, inr, refl, sym, ap, ◌∙◌, subst}
-use Rattle.std.specs.Prelude.{is_some, not, Contains, if◌then◌else◌}
-use Rattle.ild_data.specs.Data.{integer}
+use Rattle.std.proofs.Common.{◌≡◌, ◌⊎◌, ℕ, ◌+◌, pos, List, [], ◌∷◌, Bool, true, false, Option, Some, None, Result, Ok, Err, inl, inr, refl, sym, ap, ◌∙◌, subst}
+use Rattle.std.specs.Prelude.{is_some, not, if◌then◌else◌}
 use Rattle.ild_data.specs.Key.{put, value_at, without}
 use Rattle.ild_data.specs.Spell.{id_of}
 use Rattle.ild_edges.specs.Store.{Moment}
-use Rattle.ild_edges.specs.Told.{IfTold}
-use Rattle.ild_generator.specs.Generated.{Generated, obeyed, deleted, set_to, with_set, with_deletion, refusal, asked_map, blocks_in}
-use Rattle.ild_generator.specs.Laws.{setting_with, step_edit, step_makes, judged_map, StepsAreEdits, StepsAddBlocks}
+use Rattle.ild_generator.specs.Generated.{Generated, deleted, set_to, with_set, with_deletion, refusal}
+use Rattle.ild_generator.specs.Laws.{step_edit, judged_map}
 use Rattle.ild_generator.specs.Numbers.{is_deletion, key_of}
 use Rattle.ild_generator.specs.Schema.{generator_rows, generator_type}
-use Rattle.ild_path_edits.specs.Edit.{Edit, set_at, del_at}
-use Rattle.ild_path_edits.specs.Judged.{Tests, AreTests, are_sized, unless_judged}
-use Rattle.ild_run_edit.specs.Edits.{edit_of, reply_of}
+use Rattle.ild_path_edits.specs.Edit.{set_at, del_at}
+use Rattle.ild_path_edits.specs.Judged.{Tests, are_sized, unless_judged}
+use Rattle.ild_run_edit.specs.Edits.{edit_of}
 use Rattle.ild_run_edit.specs.declared.verb.EditVerb.{EditVerb}
 use Rattle.ild_run_edit.specs.declared.verb.EditVerb.TheVariants as V
-use Rattle.ild_run_generate.specs.Steps.{IsAsked, IsOfGenerator, counts_of, one_more, one_absent, outcome_of}
+use Rattle.ild_run_generate.specs.Steps.{IsAsked, counts_of, one_more, one_absent}
 use Rattle.ild_run_generate.specs.declared.asking.Asked.{Asked}
-use Rattle.ild_run_generate.specs.declared.stepping.Outcome.{Outcome}
-use Rattle.ild_run_generate.specs.declared.stepping.Outcome.TheVariants as O
 use Rattle.ild_run_generate.specs.declared.summary.Counts.{Counts}
-use Rattle.ild_run_generate.proofs.Added.{collides_wider, adds_wider}
-use Rattle.ild_run_generate.proofs.Leading.{LedBy, led, same_setting}
-use Rattle.ild_run_standing.specs.Answers.{AnswersAs, LeadsOn}
-use Rattle.ild_run_standing.specs.Standing.{IsHeldAt, setting_of}
+use Rattle.ild_run_standing.specs.Standing.{IsHeldAt}
 use Rattle.ild_schema.specs.Slots.{plainly}
 use Rattle.ild_schema.specs.Value.{Value}
-use Rattle.ild_schema.specs.declared.row.Row.{Row}
 use Rattle.ild_script.specs.declared.reply.No.{No}
 use Rattle.ild_script.specs.declared.reply.No.TheVariants as N
-use Rattle.ild_script_meaning.specs.Ask.{to_edit}
-use Rattle.ild_script_meaning.specs.Lines.{Setting, read_json, edit_blocks, typed_lines}
-use Rattle.ild_script_meaning.specs.PlainMap.{as_value, IsPlain}
+use Rattle.ild_script_meaning.specs.PlainMap.{as_value}
 use Rattle.ild_script_meaning.specs.PlainValue.{Value as Entries}
-use Rattle.ild_script_session.specs.Session.{resting}
-use Rattle.ild_script_session.specs.Step.{AddsOnly, Carries, Collides, HasCause}
 use Rattle.ild_typed.specs.Judged.{exhausts}
 use Rattle.ild_typed.specs.Stands.{bare}
-use Rattle.ild_view_doc.specs.Docs.{table_in}
 use Rattle.ild_view_doc.specs.declared.doc.Doc.{Doc}
 
 -- ---- the edit that was asked

@@ -1,10 +1,10 @@
 -- The steps, one after another.
-use Rattle.std.proofs.Common.{◌≡◌, ◌⊎◌, ◌≤◌, ◌<◌, ℕ, zero, suc, ◌+◌, pos, List, [], ◌++◌, Bool, true, false, Option, Some, None, Result, Ok, Err, inl, inr, refl, sym, ap, ◌∙◌, subst, arith}
+use Rattle.std.proofs.Common.{◌≡◌, ◌⊎◌, ◌≤◌, ◌<◌, ℕ, zero, suc, ◌+◌, pos, List, ◌++◌, Bool, true, false, Option, Some, None, Ok, Err, inl, inr, refl, ap, subst, arith}
 use Rattle.std.specs.Prelude.{Contains, is_some, if◌then◌else◌}
 use Rattle.std.proofs.lemmas.List.Elements.{Contains-append_left, Contains-append_right}
 use Rattle.ild_data.specs.Key.{put, value_at, without}
 use Rattle.ild_edges.specs.Store.{Moment}
-use Rattle.ild_generator.specs.Generated.{Generated, generated, advanced, obeyed, deleted, set_to, with_set, with_deletion, refusal, asked_map, blocks_in, blocks_through}
+use Rattle.ild_generator.specs.Generated.{Generated, generated, advanced, deleted, set_to, with_set, with_deletion, refusal, asked_map, blocks_in, blocks_through}
 use Rattle.ild_generator.specs.Numbers.{next, is_deletion, key_of}
 use Rattle.ild_path_edits.specs.Judged.{Tests}
 use Rattle.ild_run_generate.specs.Runs.{IsThrough, IsStopped}

@@ -1,5 +1,5 @@
 -- A step, from where the document stands.
-use Rattle.std.proofs.Common.{◌≡◌, ◌≢◌, ◌⊎◌, ℕ, ◌<◌, ◌^◌, pos, List, [], ◌∷◌, Bool, true, false, Option, Some, None, Result, Ok, Err, inl, inr, refl, sym, ap, ◌∙◌, subst}
+use Rattle.std.proofs.Common.{◌≡◌, ◌≢◌, ◌⊎◌, ℕ, ◌<◌, ◌^◌, pos, List, false, Some, Result, Ok, Err, inl, inr, refl, sym, ap, ◌∙◌, subst}
 use Rattle.std.specs.Prelude.{Contains}
 use Rattle.ild_data.specs.Data.{integer}
 use Rattle.ild_data.specs.Spell.{id_of}
@@ -14,13 +14,11 @@ use Rattle.ild_run_edit.specs.Edits.{edit_of, reply_of}
 use Rattle.ild_run_generate.specs.Steps.{IsAsked, IsOfGenerator, counts_of, one_more, one_absent, outcome_of}
 use Rattle.ild_run_generate.specs.declared.asking.Asked.{Asked}
 use Rattle.ild_run_generate.specs.declared.stepping.Outcome.TheVariants as O
-use Rattle.ild_run_generate.specs.declared.summary.Counts.{Counts}
 use Rattle.ild_run_generate.proofs.Added.{adds_wider, collides_wider}
 use Rattle.ild_run_generate.proofs.Leading.{LedBy, led, same_setting}
 use Rattle.ild_run_generate.proofs.Taking.{ComesTo, asked_is, done, absent, left, why}
 use Rattle.ild_run_standing.specs.Answers.{AnswersAs, LeadsOn}
-use Rattle.ild_run_standing.specs.Standing.{IsHeldAt, setting_of}
-use Rattle.ild_schema.specs.Value.{Value}
+use Rattle.ild_run_standing.specs.Standing.{IsHeldAt}
 use Rattle.ild_schema.specs.declared.row.Row.{Row}
 use Rattle.ild_script.specs.declared.reply.No.{No}
 use Rattle.ild_script.specs.declared.reply.No.TheVariants as N
@@ -29,7 +27,6 @@ use Rattle.ild_script_meaning.specs.Lines.{Setting, read_json, edit_blocks, type
 use Rattle.ild_script_meaning.specs.PlainMap.{as_value, IsPlain}
 use Rattle.ild_script_session.specs.Session.{resting}
 use Rattle.ild_script_session.specs.Step.{AddsOnly, Carries, Collides, HasCause}
-use Rattle.ild_view_doc.specs.Docs.{table_in}
 use Rattle.ild_view_doc.specs.declared.doc.Doc.{Doc}
 
 module _ (edits : StepsAreEdits) (blocks : StepsAddBlocks) (old new : Doc) (x i : ℕ) (low : i < 2 ^ 64) (a : Asked) (asked : IsAsked x i a) (m n : Moment) (answer : Result (Unit {0}) No)

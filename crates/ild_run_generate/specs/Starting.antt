@@ -1,5 +1,4 @@
 -- Why the empty map can't be put.
-use Rattle.std.specs.Prelude.{ℕ}
 use Rattle.ild_run_generate.specs.declared.fault.GenerateFault.{GenerateFault}
 use Rattle.ild_run_generate.specs.declared.fault.GenerateFault.TheVariants as F
 use Rattle.ild_run_open.specs.declared.start.StartFault.{StartFault}

@@ -47,7 +47,11 @@ pub(crate) fn key_refusal(ty: TypeNo, fault: ViewErr) -> ViewErr
     ensures { (rows : List Row) (room : ℕ) (k : List ℕ) → Faults rows room (plainly ty) (T.text k) fault → PartFaults rows room (key_spot ty k []) result }
 {
     match fault {
-        ViewErr::Shape { ty: inside, why, at } => {
+        ViewErr::Shape {
+            ty: inside,
+            why,
+            at,
+        } => {
             if is_depth(why) {
                 return ViewErr::Shape {
                     ty: inside,

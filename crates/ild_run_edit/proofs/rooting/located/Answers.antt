@@ -1,5 +1,5 @@
 use Rattle.std.proofs.Common.{subst, sym}
-use Rattle.std.specs.Prelude.{Ok, Err}
+use Rattle.std.specs.Prelude.{Err}
 use Rattle.ild_run_edit.specs.Roots.{Finds}
 use Rattle.ild_run_edit.proofs.Finding.{finds_none, finds_place}
 use Rattle.ild_run_edit.proofs.rooting.located.Goals as goal

@@ -1,4 +1,3 @@
-use Rattle.std.proofs.Common.{Ok, Err}
 use Rattle.ild_run_generate.proofs.Counts.{counts, none_lacks}
 use Rattle.ild_run_generate.proofs.counting.count_entries.Goals as goal
 

@@ -1,4 +1,3 @@
-use Rattle.std.proofs.Common.{Ok, Err, refl}
 use Rattle.ild_edges.proofs.Later.{Later-refl}
 use Rattle.ild_run_generate.proofs.Added.{adds_same}
 use Rattle.ild_run_generate.proofs.Begun.{ran, stopped}

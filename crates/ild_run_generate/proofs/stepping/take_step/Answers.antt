@@ -1,4 +1,4 @@
-use Rattle.std.proofs.Common.{◌≡◌, ◌∙◌, Ok, sym, subst, arith}
+use Rattle.std.proofs.Common.{◌∙◌, Ok, sym, subst, arith}
 use Rattle.ild_edges.specs.Store.{Moment}
 use Rattle.ild_run_generate.specs.Steps.{TakesStep}
 use Rattle.ild_run_generate.specs.declared.summary.Counts.{Counts}
