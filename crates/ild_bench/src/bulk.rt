@@ -1,9 +1,9 @@
 //! The nodes of a HAMT from its entries, and the hashing alone that this takes. The entries are those of a map, of scalars, whose
 //! keys rise bytewise.
 
-use ild_bulk::{PlannedBlock, plan_rows};
+use ild_bulk::plan_rows;
 use ild_cbor::{Node, check};
-use ild_data::{KeyHash, Octets, Sha256Keys, block_id};
+use ild_data::{KeyHash, NamedBlock, Octets, Sha256Keys, block_id};
 use ild_hamt_samples::{is_above, is_scalar};
 use ild_node::Rows;
 use std::alloc::Global;
@@ -27,7 +27,7 @@ fn rows_of(alloc: Global, bytes: &[u8]) -> Option<Rows> {
 }
 
 /// The root of a HAMT, and the blocks beneath it.
-fn planned(alloc: Global, rows: &Rows) -> Option<(Octets, Vec<PlannedBlock>)> {
+fn planned(alloc: Global, rows: &Rows) -> Option<(Octets, Vec<NamedBlock>)> {
     let mut blocks = Vec::new(alloc);
     match plan_rows(alloc, rows, &Sha256Keys, &mut blocks) {
         Ok(root) => Some((root, blocks)),
@@ -58,7 +58,7 @@ fn key_sum(rows: &Rows) -> u64 {
 }
 
 /// Hashes each block once.
-fn block_sum(blocks: &[PlannedBlock]) -> u64 {
+fn block_sum(blocks: &[NamedBlock]) -> u64 {
     let mut sum: u64 = 0;
     for block in blocks {
         sum = sum.wrapping_add(block_id(block.block().as_slice()).0[0] as u64);

@@ -1,11 +1,10 @@
 //! The blocks of a value, before any is put.
 
-use ild_bulk::PlannedBlock;
-use ild_data::Octets;
+use ild_data::{NamedBlock, Octets};
 
 /// The block of a representation, and those of the nodes of its HAMTs, each behind its children.
 #[derive(Drop)]
 pub(crate) struct Planned {
     pub(crate) block: Octets,
-    pub(crate) nodes: Vec<PlannedBlock>,
+    pub(crate) nodes: Vec<NamedBlock>,
 }

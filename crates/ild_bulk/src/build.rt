@@ -12,9 +12,8 @@ ghost use Rattle.ild_bulk.specs.Planned.{PlansNode};
 
 use crate::entries::entries_of;
 use crate::plan::plan_marked;
-use crate::planned::PlannedBlock;
 use crate::put::put_all;
-use ild_data::{KeyHash, LONGEST_BLOCK, Octets};
+use ild_data::{KeyHash, LONGEST_BLOCK, NamedBlock, Octets};
 use ild_edges::Store;
 use ild_node::{HamtFault, Rows};
 use std::alloc::Global;
@@ -27,7 +26,7 @@ pub fn is_long(block: &Octets) -> bool
 }
 
 /// Whether one of the blocks is.
-pub fn any_long(blocks: &[PlannedBlock]) -> bool
+pub fn any_long(blocks: &[NamedBlock]) -> bool
     ensures { result ≡ any_long blocks.now }
 {
     let mut long = false;
@@ -42,7 +41,7 @@ pub fn plan_rows<H: KeyHash>(
     alloc: Global,
     entries: &Rows,
     keys: &H,
-    blocks: &mut Vec<PlannedBlock>,
+    blocks: &mut Vec<NamedBlock>,
 ) -> Result<Octets, HamtFault>
     ensures rows { AreRows entries.now }
     ensures plans { PlansNode H.hash_of usual (trie_levels usual - 0) 0 entries.now result blocks.old.items blocks.new.items }

@@ -6,7 +6,6 @@ mod entries;
 mod laws;
 mod marked;
 mod plan;
-mod planned;
 mod put;
 
 pub use build::{any_long, from_entries, is_long, plan_rows};
@@ -14,5 +13,4 @@ pub use entries::{KeyedMark, Mark, begin_entry, mark_of};
 pub use laws::{children_first, plan_is_of_nodes};
 pub use marked::Marked;
 pub use plan::{plan_keyed, plan_marked};
-pub use planned::PlannedBlock;
-pub use put::put_all;
+pub use put::{put_all, put_one};

@@ -15,8 +15,7 @@ ghost use Rattle.ild_bulk.specs.Planned.{PlansInto, PlansNode, PlansSlot};
 
 use crate::entries::{BorrowedMark, entries_with, pieces};
 use crate::marked::Marked;
-use crate::planned::PlannedBlock;
-use ild_data::Octets;
+use ild_data::{NamedBlock, Octets};
 use ild_node::{
     BUCKET_SIZE, Draft, HamtFault, HashedEntry, Keyed, LEVELS, NewHold, Rows, SLOTS, index_of,
 };
@@ -193,7 +192,7 @@ pub fn plan_marked<M: Marked>(
     alloc: Global,
     bytes: &[u8],
     marks: &[M],
-    blocks: &mut Vec<PlannedBlock>,
+    blocks: &mut Vec<NamedBlock>,
 ) -> Result<Octets, HamtFault>
     ensures { (h : List ℕ → List ℕ) (es : List (List ℕ × Data)) → AreMarked h bytes.now es (map M.mark_seen marks.now) → AreRows es
         → PlansNode h usual (trie_levels usual - 0) 0 es result blocks.old.items blocks.new.items }
@@ -214,7 +213,7 @@ fn plan_marks<'r>(
     parts: &[Vec<BorrowedMark<'_>>],
     depth: u32,
     spare: &mut Vec<Parts<'r>>,
-    blocks: &mut Vec<PlannedBlock>,
+    blocks: &mut Vec<NamedBlock>,
 ) -> Result<Octets, HamtFault>
     requires depth { depth < trie_levels usual }
     requires many { length parts.now ≡ 2 ^ usual.width }
@@ -249,7 +248,7 @@ pub(crate) fn plan_node<'r>(
     entries: &[HashedEntry<'r>],
     depth: u32,
     spare: &mut Vec<Parts<'r>>,
-    blocks: &mut Vec<PlannedBlock>,
+    blocks: &mut Vec<NamedBlock>,
 ) -> Result<Octets, HamtFault>
     ensures { (h : List ℕ → List ℕ) (es : List (List ℕ × Data)) → AreHashed h es entries.now → AreRows es
         → PlansNode h usual (trie_levels usual - depth) depth es result blocks.old.items blocks.new.items }
@@ -270,7 +269,7 @@ fn plan_many<'r>(
     entries: &[HashedEntry<'r>],
     depth: u32,
     spare: &mut Vec<Parts<'r>>,
-    blocks: &mut Vec<PlannedBlock>,
+    blocks: &mut Vec<NamedBlock>,
 ) -> Result<Octets, HamtFault>
     requires { depth < trie_levels usual }
     ensures { (h : List ℕ → List ℕ) (es : List (List ℕ × Data)) → AreHashed h es entries.now → AreRows es
@@ -290,7 +289,7 @@ pub(crate) fn plan_parts<'r>(
     depth: u32,
     room: usize,
     spare: &mut Vec<Parts<'r>>,
-    blocks: &mut Vec<PlannedBlock>,
+    blocks: &mut Vec<NamedBlock>,
 ) -> Result<Octets, HamtFault>
     requires depth { depth < trie_levels usual }
     requires many { length parts.now ≡ 2 ^ usual.width }
@@ -319,7 +318,7 @@ fn plan_few<'r>(
     entries: &[HashedEntry<'r>],
     depth: u32,
     spare: &mut Vec<Parts<'r>>,
-    blocks: &mut Vec<PlannedBlock>,
+    blocks: &mut Vec<NamedBlock>,
 ) -> Result<Octets, HamtFault>
     requires { depth < trie_levels usual }
     ensures { (h : List ℕ → List ℕ) (es : List (List ℕ × Data)) → AreHashed h es entries.now → AreRows es
@@ -345,7 +344,7 @@ fn plan_part<'r>(
     i: u8,
     spare: &mut Vec<Parts<'r>>,
     draft: &mut Draft,
-    blocks: &mut Vec<PlannedBlock>,
+    blocks: &mut Vec<NamedBlock>,
 ) -> Result<(), HamtFault>
     ensures { (h : List ℕ → List ℕ) (es : List (List ℕ × Data)) → AreHashed h es entries.now → AreRows es → (slots : List TrieSlot) → HasWritten draft.old slots → length slots ≡ i
         → PlansInto h usual (trie_levels usual - depth) depth es result slots draft.new blocks.old.items blocks.new.items }
@@ -369,13 +368,13 @@ fn plan_child<'r>(
     i: u8,
     spare: &mut Vec<Parts<'r>>,
     draft: &mut Draft,
-    blocks: &mut Vec<PlannedBlock>,
+    blocks: &mut Vec<NamedBlock>,
 ) -> Result<(), HamtFault>
     requires { usual.bucket < length entries.now }
     ensures { (h : List ℕ → List ℕ) (es : List (List ℕ × Data)) → AreHashed h es entries.now → AreRows es → (slots : List TrieSlot) → HasWritten draft.old slots → length slots ≡ i
         → PlansInto h usual (trie_levels usual - depth) depth es result slots draft.new blocks.old.items blocks.new.items }
 {
-    let child = PlannedBlock::of(plan_node(alloc, entries, depth, spare, blocks)?);
+    let child = NamedBlock::of(plan_node(alloc, entries, depth, spare, blocks)?);
     draft.child(i, &child.id())?;
     blocks.push(child)?;
     Ok(())
@@ -386,7 +385,7 @@ fn plan_rows(
     alloc: Global,
     rows: &[Keyed<'_>],
     depth: u32,
-    blocks: &mut Vec<PlannedBlock>,
+    blocks: &mut Vec<NamedBlock>,
 ) -> Result<Octets, HamtFault>
     requires { AreRows (keyed_rows rows.now) }
     ensures { (h : List ℕ → List ℕ) → AreKeyed h rows.now → PlansNode h usual (trie_levels usual - depth) depth (keyed_rows rows.now) result blocks.old.items blocks.new.items }
@@ -404,7 +403,7 @@ pub fn plan_keyed(
     alloc: Global,
     rows: &[Keyed<'_>],
     depth: u32,
-    blocks: &mut Vec<PlannedBlock>,
+    blocks: &mut Vec<NamedBlock>,
 ) -> Result<Option<NewHold>, HamtFault>
     requires { AreRows (keyed_rows rows.now) }
     ensures plans { (h : List ℕ → List ℕ) → AreKeyed h rows.now → PlansSlot h usual (trie_levels usual - depth) depth (keyed_rows rows.now) result blocks.old.items blocks.new.items }
@@ -416,7 +415,7 @@ pub fn plan_keyed(
     if rows.len() <= BUCKET_SIZE {
         return Ok(Some(NewHold::Bucket(bucket_of(alloc, rows)?)));
     }
-    let block = PlannedBlock::of(plan_rows(alloc, rows, depth, blocks)?);
+    let block = NamedBlock::of(plan_rows(alloc, rows, depth, blocks)?);
     let id = block.id();
     blocks.push(block)?;
     Ok(Some(NewHold::Child(id)))

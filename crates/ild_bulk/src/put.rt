@@ -2,12 +2,12 @@
 ghost use Rattle.std.specs.Prelude.{◌≡◌};
 ghost use Rattle.ild_bulk.specs.Putting.{PutsOne, PutsAll};
 
-use crate::planned::PlannedBlock;
+use ild_data::NamedBlock;
 use ild_edges::{EdgeErr, Store};
 use ild_node::HamtFault;
 
-// Puts a block under its id.
-fn put<K: Store>(planned: &PlannedBlock, store: &mut K) -> Result<(), HamtFault>
+/// Puts a block under its id.
+pub fn put_one<K: Store>(planned: &NamedBlock, store: &mut K) -> Result<(), HamtFault>
     ensures { PutsOne (K.moment store.old) planned.now result (K.moment store.new) }
 {
     let id = planned.id();
@@ -24,11 +24,11 @@ fn put<K: Store>(planned: &PlannedBlock, store: &mut K) -> Result<(), HamtFault>
 }
 
 /// Puts blocks one after another, and stops at the first that isn't put.
-pub fn put_all<K: Store>(blocks: &[PlannedBlock], store: &mut K) -> Result<(), HamtFault>
+pub fn put_all<K: Store>(blocks: &[NamedBlock], store: &mut K) -> Result<(), HamtFault>
     ensures { PutsAll (K.moment store.old) blocks.now result (K.moment store.new) }
 {
     for block in blocks {
-        put(block, store)?;
+        put_one(block, store)?;
     }
     Ok(())
 }

@@ -93,13 +93,13 @@ Later-refl m = record { keeps = keeps_refl m.blocks; given = given_refl m.given;
 
 pub Later-trans : (m n o : Moment) → Later m n → Later n o → Later m o
 Later-trans m n o p q = record {
-    keeps = keeps_trans m.blocks n.blocks o.blocks p.keeps q.keeps;
-    given = given_trans m.given n.given o.given p.given q.given;
-    gets = omega arith;
-    puts = omega arith;
-    lacks = omega arith;
-    faults = omega arith;
-    beneath = λ i. below_trans (asked_over m i) (asked_over n i) (asked_over o i) (slice_get m.beneath i) (slice_get n.beneath i) (slice_get o.beneath i) ((asked_up m n p i).0, (asked_up m n p i).1, (asked_up n o q i).0, (asked_up n o q i).1) (p.beneath i) (q.beneath i);
-  }
+  keeps = keeps_trans m.blocks n.blocks o.blocks p.keeps q.keeps;
+  given = given_trans m.given n.given o.given p.given q.given;
+  gets = omega arith;
+  puts = omega arith;
+  lacks = omega arith;
+  faults = omega arith;
+  beneath = λ i. below_trans (asked_over m i) (asked_over n i) (asked_over o i) (slice_get m.beneath i) (slice_get n.beneath i) (slice_get o.beneath i) ((asked_up m n p i).0, (asked_up m n p i).1, (asked_up n o q i).0, (asked_up n o q i).1) (p.beneath i) (q.beneath i);
+}
 
 pub ruleset laters = (Later-refl, Later-trans)

@@ -21,8 +21,8 @@ use crate::ending::slot_at;
 use crate::hashing::keyed;
 use crate::reading::view_again;
 use crate::trail::Trail;
-use ild_bulk::{PlannedBlock, plan_keyed};
-use ild_data::Octets;
+use ild_bulk::plan_keyed;
+use ild_data::{NamedBlock, Octets};
 use ild_edges::Store;
 use ild_hamt_climb::{climb, few_slot, put_way, view_in};
 use ild_node::{BUCKET_SIZE, HamtFault, LEVELS, NewHold, NodeSlot, NodeView, Rows};
@@ -69,7 +69,7 @@ pub(crate) fn slot_of(
     rows: Rows,
     trail: &Trail,
     depth: u32,
-    plan: &mut Vec<PlannedBlock>,
+    plan: &mut Vec<NamedBlock>,
 ) -> Result<Option<NewHold>, HamtFault>
     ensures filled { IfOk result (IsFilledSlot usual) }
     ensures fault { IfErr result IsPlanFault }
@@ -101,7 +101,7 @@ pub(crate) fn rewrite<K: Store>(
     root: NodeView<'_>,
     trail: Trail,
     slot: Option<NewHold>,
-    plan: Vec<PlannedBlock>,
+    plan: Vec<NamedBlock>,
     store: &mut K,
 ) -> Result<Octets, HamtFault>
     requires { IsFilledSlot usual slot }

@@ -19,8 +19,7 @@ use crate::exchanging::exchanged;
 use crate::gathering::{put_next, rows_of};
 use crate::reading::view_in;
 use crate::weighing::{SLOTS, is_few};
-use ild_bulk::PlannedBlock;
-use ild_data::Octets;
+use ild_data::{NamedBlock, Octets};
 use ild_node::{BUCKET_SIZE, NewHold, NodeView, Rows, index};
 use std::alloc::{AllocError, Global};
 
@@ -65,7 +64,7 @@ fn lift(
     view: NodeView<'_>,
     i: u8,
     slot: Option<NewHold>,
-    plan: &mut Vec<PlannedBlock>,
+    plan: &mut Vec<NamedBlock>,
 ) -> Result<Option<NewHold>, AllocError>
     requires known { ∥ SomeNode view ∥₁ }
     requires filled { IsFilledSlot usual slot }
@@ -77,7 +76,7 @@ fn lift(
     if is_few(view, i, &slot) {
         return gathered(alloc, view, i, slot);
     }
-    let block = PlannedBlock::of(exchanged(alloc, view, i, &slot)?);
+    let block = NamedBlock::of(exchanged(alloc, view, i, &slot)?);
     let id = block.id();
     plan.push(block)?;
     Ok(Some(NewHold::Child(id)))
@@ -100,7 +99,7 @@ fn lift_block(
     hash: &[u8; 32],
     depth: u32,
     slot: Option<NewHold>,
-    plan: &mut Vec<PlannedBlock>,
+    plan: &mut Vec<NamedBlock>,
 ) -> Result<Option<NewHold>, AllocError>
     requires known { IsNodeBytes block.now }
     requires filled { IsFilledSlot usual slot }
@@ -126,7 +125,7 @@ pub fn climb(
     hash: &[u8; 32],
     depth: u32,
     slot: Option<NewHold>,
-    plan: &mut Vec<PlannedBlock>,
+    plan: &mut Vec<NamedBlock>,
 ) -> Result<Octets, AllocError>
     requires known { All IsNodeBytes blocks.items }
     requires filled { IsFilledSlot usual slot }

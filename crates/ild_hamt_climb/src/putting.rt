@@ -2,8 +2,8 @@
 ghost use Rattle.std.specs.Prelude.{◌≡◌};
 ghost use Rattle.ild_hamt_climb.specs.Planning.{PutsWay};
 
-use ild_bulk::{PlannedBlock, any_long, is_long, put_all};
-use ild_data::Octets;
+use ild_bulk::{any_long, is_long, put_all};
+use ild_data::{NamedBlock, Octets};
 use ild_edges::Store;
 use ild_node::HamtFault;
 
@@ -11,7 +11,7 @@ use ild_node::HamtFault;
 /// Nothing is put where one of them or the root is too long.
 pub fn put_way<K: Store>(
     root: Octets,
-    plan: &[PlannedBlock],
+    plan: &[NamedBlock],
     store: &mut K,
 ) -> Result<Octets, HamtFault>
     ensures gets { (K.moment store.new).gets ≡ (K.moment store.old).gets }

@@ -2,11 +2,11 @@
 ghost use Rattle.ild_path.specs.Pieces.{AnswersAs};
 
 use crate::fault::EditFault;
-use ild_data::Octets;
+use ild_data::NamedBlock;
 use ild_node::HamtFault;
 
 /// The answer of an edit through HAMTs. What never comes there is told as want of memory.
-pub(crate) fn answer_of(answer: Result<Octets, HamtFault>) -> Result<Octets, EditFault>
+pub(crate) fn answer_of(answer: Result<NamedBlock, HamtFault>) -> Result<NamedBlock, EditFault>
     ensures { AnswersAs answer result }
 {
     match answer {

@@ -14,7 +14,7 @@ use crate::answer::answer_of;
 use crate::fault::EditFault;
 use crate::parts::edit_parts;
 use ild_cbor::Node;
-use ild_data::{KeyHash, Octets};
+use ild_data::{KeyHash, NamedBlock};
 use ild_edges::Store;
 use ild_path_block::PartEdit;
 use ild_path_place::{Parts, Place, Verb};
@@ -27,7 +27,7 @@ fn edited<K: Store, H: KeyHash>(
     edit: &PartEdit<'_>,
     keys: &H,
     store: &mut K,
-) -> Result<Octets, EditFault>
+) -> Result<NamedBlock, EditFault>
     ensures spares { Spares (K.moment store.old) result (K.moment store.new) }
     ensures root { IfOk result (λ b. ∥ HasBlock (table_of parts.entry.root) (slot_of parts.entry.root) b ∥₁) }
     ensures edits { ReplacesParts H.hash_of parts.entry edit.now (K.moment store.old) result (K.moment store.new) }
@@ -42,7 +42,7 @@ pub fn replace<K: Store, H: KeyHash>(
     part: &Node<'_>,
     keys: &H,
     store: &mut K,
-) -> Result<Octets, EditFault>
+) -> Result<NamedBlock, EditFault>
     ensures spares { Spares (K.moment store.old) result (K.moment store.new) }
     ensures swaps { (n : TypeNo) → slot_at place.entry ≡ plainly n → IfOk result (λ b. ∥ HasRoot (table_at place.entry) n b ∥₁) }
     ensures brings { Brings H.hash_of place.entry part.now (K.moment store.old) result (K.moment store.new) }
@@ -61,7 +61,7 @@ pub fn erase<K: Store, H: KeyHash>(
     place: Place<'_>,
     keys: &H,
     store: &mut K,
-) -> Result<Octets, EditFault>
+) -> Result<NamedBlock, EditFault>
     ensures spares { Spares (K.moment store.old) result (K.moment store.new) }
     ensures swaps { (n : TypeNo) → slot_at place.entry ≡ plainly n → IfOk result (λ b. ∥ HasRoot (table_at place.entry) n b ∥₁) }
     ensures erases { Erases H.hash_of place.entry (K.moment store.old) result (K.moment store.new) }

@@ -6,7 +6,7 @@ ghost use Rattle.ild_path.specs.Pieces.{EditsParts};
 ghost use Rattle.ild_path_ends.specs.Roots.{HasBlock};
 ghost use Rattle.ild_view.specs.View.{slot_of, table_of};
 
-use ild_data::{KeyHash, Octets, Path};
+use ild_data::{KeyHash, NamedBlock, Path};
 use ild_edges::Store;
 use ild_node::HamtFault;
 use ild_path_block::PartEdit;
@@ -21,7 +21,7 @@ pub(crate) fn edit_parts<K: Store, H: KeyHash>(
     edit: &PartEdit<'_>,
     keys: &H,
     store: &mut K,
-) -> Result<Octets, HamtFault>
+) -> Result<NamedBlock, HamtFault>
     ensures gets { (K.moment store.new).gets ≡ (K.moment store.old).gets }
     ensures caused { CausedBy (K.moment store.old) result (K.moment store.new) }
     ensures root { IfOk result (λ b. ∥ HasBlock (table_of parts.entry.root) (slot_of parts.entry.root) b ∥₁) }

@@ -6,9 +6,9 @@ ghost use Rattle.ild_view.specs.View.{slot_of, table_of};
 ghost use Rattle.ild_hamt.specs.Edits.{CausedBy};
 ghost use Rattle.ild_path_ends.specs.Finish.{FinishesWhole};
 
-use crate::put::put_block;
 use crate::root::is_block_of;
-use ild_data::{KeyHash, Octets};
+use ild_bulk::put_one;
+use ild_data::{KeyHash, NamedBlock, Octets};
 use ild_edges::Store;
 use ild_node::HamtFault;
 use ild_path_hops::Hop;
@@ -25,7 +25,7 @@ pub(crate) fn finish<K: Store, H: KeyHash>(
     new: Octets,
     keys: &H,
     store: &mut K,
-) -> Result<Octets, HamtFault>
+) -> Result<NamedBlock, HamtFault>
     ensures gets { (K.moment store.new).gets ≡ (K.moment store.old).gets }
     ensures caused { CausedBy (K.moment store.old) result (K.moment store.new) }
     ensures root { IfOk result (λ b. ∥ HasBlock (table_of root.now) (slot_of root.now) b ∥₁) }
@@ -36,6 +36,7 @@ pub(crate) fn finish<K: Store, H: KeyHash>(
     if !is_block_of(alloc, root, &block) {
         return Err(HamtFault::Memory);
     }
-    put_block(&block, store)?;
-    Ok(block)
+    let named = NamedBlock::of(block);
+    put_one(&named, store)?;
+    Ok(named)
 }

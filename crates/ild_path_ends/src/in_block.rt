@@ -11,7 +11,7 @@ ghost use Rattle.ild_path_reroot.specs.Reroots.{IsWritingFault};
 
 use crate::finish::finish;
 use crate::innermost::innermost;
-use ild_data::{KeyHash, Octets, Path};
+use ild_data::{KeyHash, NamedBlock, Octets, Path};
 use ild_edges::Store;
 use ild_node::HamtFault;
 use ild_path_block::PartEdit;
@@ -62,7 +62,7 @@ pub fn edit_in_block<K: Store, H: KeyHash>(
     edit: &PartEdit<'_>,
     keys: &H,
     store: &mut K,
-) -> Result<Octets, HamtFault>
+) -> Result<NamedBlock, HamtFault>
     ensures gets { (K.moment store.new).gets ≡ (K.moment store.old).gets }
     ensures caused { CausedBy (K.moment store.old) result (K.moment store.new) }
     ensures root { IfOk result (λ b. ∥ HasBlock (table_of root.now) (slot_of root.now) b ∥₁) }

@@ -7,7 +7,6 @@ mod entry;
 mod finish;
 mod in_block;
 mod innermost;
-mod put;
 mod root;
 
 pub use at_key::edit_at_key;

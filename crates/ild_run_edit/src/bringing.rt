@@ -10,7 +10,7 @@ ghost use Rattle.ild_typed.specs.Typed.{Typed};
 
 use crate::part::part_refusal;
 use crate::putting::put_part;
-use ild_data::{BlockId, KeyHash, Octets};
+use ild_data::{BlockId, KeyHash, NamedBlock};
 use ild_edges::Store;
 use ild_json::{JsonErr, read};
 use ild_path_place::Place;
@@ -47,7 +47,7 @@ pub(crate) fn bring<K: Store, H: KeyHash>(
     keys: &H,
     store: &mut K,
     clash: &mut Option<BlockId>,
-) -> Result<Octets, No>
+) -> Result<NamedBlock, No>
     requires { acc.now ≡ table_at place }
     ensures swaps { SwapsTo place.entry result }
     ensures comes { ComesTo H.hash_of place.entry json.now (K.moment store.old) result (K.moment store.new) }

@@ -7,7 +7,7 @@ ghost use Rattle.ild_run_edit.specs.Swaps.{SwapsTo};
 ghost use Rattle.ild_script.specs.declared.reply.No.TheVariants as refusal;
 
 use crate::faults::done_fault;
-use ild_data::{BlockId, KeyHash, Octets};
+use ild_data::{BlockId, KeyHash, NamedBlock};
 use ild_edges::Store;
 use ild_path::erase;
 use ild_path_around::breaks_around;
@@ -24,7 +24,7 @@ pub(crate) fn erase_part<K: Store, H: KeyHash>(
     keys: &H,
     store: &mut K,
     clash: &mut Option<BlockId>,
-) -> Result<Octets, No>
+) -> Result<NamedBlock, No>
     requires { acc.now ≡ table_at place }
     ensures swaps { SwapsTo place.entry result }
     ensures goes { GoesFrom H.hash_of place.entry (K.moment store.old) result (K.moment store.new) }

@@ -12,7 +12,7 @@ ghost use Rattle.ild_typed.specs.Typed.{Typed};
 use crate::faults::{built_fault, done_fault};
 use ild_build_blocks::build;
 use ild_cbor::check;
-use ild_data::{BlockId, KeyHash, Octets};
+use ild_data::{BlockId, KeyHash, NamedBlock, Octets};
 use ild_edges::Store;
 use ild_path::replace;
 use ild_path_around::places_tell_on;
@@ -59,7 +59,7 @@ pub(crate) fn put_part<K: Store, H: KeyHash>(
     keys: &H,
     store: &mut K,
     clash: &mut Option<BlockId>,
-) -> Result<Octets, No>
+) -> Result<NamedBlock, No>
     requires table { acc.now ≡ table_at place }
     requires typed { Typed acc.now (slot_in place) (value_of part.now) }
     requires free { IsFreePart place (value_of part.now) }

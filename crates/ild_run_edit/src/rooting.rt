@@ -11,7 +11,7 @@ ghost use Rattle.ild_view_doc.specs.Docs.{table_in, type_in};
 use crate::bringing::bring;
 use crate::erasing::erase_part;
 use crate::verb::EditVerb;
-use ild_data::{BlockId, KeyHash, Octets, Path};
+use ild_data::{BlockId, KeyHash, NamedBlock, Path};
 use ild_edges::Store;
 use ild_path_around::{faults_are_refusals, places_tell};
 use ild_path_place::{PathFault, Place, Verb, locate};
@@ -84,7 +84,7 @@ pub(crate) fn new_root<K: Store, H: KeyHash>(
     keys: &H,
     store: &mut K,
     clash: &mut Option<BlockId>,
-) -> Result<Octets, No>
+) -> Result<NamedBlock, No>
     ensures swaps { IfOk result (λ b. ∥ HasRoot (table_in doc.now) (type_in doc.now) b ∥₁) }
     ensures makes { MakesRoot H.hash_of doc.now (edit_of verb path.now json.now) (K.moment store.old) result (K.moment store.new) }
     ensures named { result ≡ Err refusal.Clash → NamesClash clash.new (K.moment store.new) }

@@ -12,7 +12,7 @@ ghost use Rattle.ild_view.specs.Whole.{IsWholeView};
 use crate::doc::Doc;
 use crate::fault::DocErr;
 use ild_cbor::{check, known_root};
-use ild_data::{BlockId, Octets, block_id};
+use ild_data::{BlockId, NamedBlock, Octets};
 use ild_schema::{Accepted, Slot, TypeNo};
 use ild_view::{View, ViewErr};
 use std::alloc::{AllocError, Global};
@@ -60,15 +60,11 @@ impl<'s> Doc<'s> {
         ensures { Docs acc.now ty block result }
     {
         match Self::check(alloc, acc, ty, block.as_slice()) {
-            Ok(()) => {
-                let root = block_id(block.as_slice());
-                Ok(Doc {
-                    acc,
-                    ty,
-                    block,
-                    root,
-                })
-            }
+            Ok(()) => Ok(Doc {
+                acc,
+                ty,
+                block: NamedBlock::of(block),
+            }),
             Err(fault) => Err(fault),
         }
     }
@@ -81,7 +77,6 @@ impl<'s> Doc<'s> {
             acc: self.acc,
             ty: self.ty,
             block: self.block.copy()?,
-            root: self.root,
         })
     }
 
@@ -103,14 +98,14 @@ impl<'s> Doc<'s> {
     pub fn block(&self) -> &[u8]
         ensures { result.now ≡ block_in self.now }
     {
-        self.block.as_slice()
+        self.block.block().as_slice()
     }
 
     /// The id of the block.
     pub fn root(&self) -> BlockId
         ensures { result.0 ≡ id_of (block_in self.now) }
     {
-        self.root
+        self.block.id()
     }
 
     /// The view of the whole block, without work: what `of` accepted isn't read again.
@@ -120,23 +115,21 @@ impl<'s> Doc<'s> {
         ensures front { (f : Value) → IsRootBlock (table_in self.now) (type_in self.now) (block_in self.now) f → IsView result f }
         ensures whole { (t : Data) → IsBlockOf (block_in self.now) t → IsWholeView result t }
     {
-        let node = known_root(self.block.as_slice());
+        let node = known_root(self.block());
         View::of(self.acc, slot_of_type(self.ty), node)
     }
 
     /// Another root block of the same type takes the place of this one.
-    pub fn swap(&mut self, block: Octets)
+    pub fn swap(&mut self, block: NamedBlock)
         requires { ∥ HasRoot (table_in self.old) (type_in self.old) block ∥₁ }
         ensures table { table_in self.new ≡ table_in self.old }
         ensures ty { type_in self.new ≡ type_in self.old }
         ensures block { block_in self.new ≡ block }
     {
-        let root = block_id(block.as_slice());
         *self = Doc {
             acc: self.acc,
             ty: self.ty,
             block,
-            root,
         };
     }
 }

@@ -7,11 +7,11 @@ use Rattle.ild_view_doc.proofs.Known.{rooted_faultless}
 use Rattle.ild_view_doc.proofs.doc.Doc.view.Goals as goal
 
 pub known_root-node-requires : goal.known_root-node-requires
-known_root-node-requires c = rooted_faultless _ _ _ _ c.as_slice.ensures.same c.args.self.now.stands
+known_root-node-requires c = rooted_faultless _ _ _ _ c.block.ensures c.args.self.now.stands
 
 pub of-requires-clause-front : goal.of-requires-clause-front
 of-requires-clause-front c = ∥∥₁_map c.args.self.now.stands (λ h.
-    let block = subst (λ (b : List ℕ). IsBlockOf b h.root.tree) (sym c.as_slice.ensures.same) h.root.block in
+    let block = subst (λ (b : List ℕ). IsBlockOf b h.root.tree) (sym c.block.ensures) h.root.block in
     record {
       value = h.value;
       room = 96;
@@ -22,5 +22,5 @@ of-requires-clause-front c = ∥∥₁_map c.args.self.now.stands (λ h.
 
 pub returns-clause-whole : goal.returns-clause-whole
 returns-clause-whole c = λ t block.
-    let at : IsBlockOf c.as_slice.result.now t = subst (λ (b : List ℕ). IsBlockOf b t) (sym c.as_slice.ensures.same) block in
-    record { node = c.known_root-node.result; piece = c.of.ensures.piece; block = c.as_slice.result.now; spelled = at; root = c.known_root-node.ensures t at }
+    let at : IsBlockOf c.block.result.now t = subst (λ (b : List ℕ). IsBlockOf b t) (sym c.block.ensures) block in
+    record { node = c.known_root-node.result; piece = c.of.ensures.piece; block = c.block.result.now; spelled = at; root = c.known_root-node.ensures t at }

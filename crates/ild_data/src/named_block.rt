@@ -1,18 +1,20 @@
-//! Blocks that are to be put.
+//! Blocks with their ids.
 ghost use Rattle.std.specs.Prelude.{◌≡◌};
 ghost use Rattle.ild_data.specs.Spell.{id_of};
 
-use ild_data::{BlockId, Octets, block_id};
+use crate::id::{BlockId, block_id};
+use crate::text::Octets;
+use std::alloc::AllocError;
 use std::marker::Model;
 
-/// A block that is to be put, with its id, so that it is hashed once.
+/// A block with its id (IPLD, "Blocks"), so that it is hashed once.
 #[derive(Drop)]
-pub struct PlannedBlock {
+pub struct NamedBlock {
     id: BlockId,
     block: Octets,
 }
 
-impl Model for PlannedBlock {
+impl Model for NamedBlock {
     ghost use Rattle.std.specs.Prelude.{◌≡◌, List, ℕ};
     ghost use Rattle.ild_data.specs.Spell.{id_of};
 
@@ -23,13 +25,25 @@ impl Model for PlannedBlock {
     ghost invariant = { λ a. a.id.0 ≡ id_of a.block };
 }
 
-impl PlannedBlock {
+impl NamedBlock {
+    ghost use Rattle.std.specs.Prelude.{IfOk};
+
     /// A block, which is hashed here.
-    pub fn of(block: Octets) -> PlannedBlock
+    pub fn of(block: Octets) -> NamedBlock
         ensures { result ≡ block }
     {
         let id = block_id(block.as_slice());
-        PlannedBlock { id, block }
+        NamedBlock { id, block }
+    }
+
+    /// The same block once more.
+    pub fn copy(&self) -> Result<NamedBlock, AllocError>
+        ensures { IfOk result (λ b. b ≡ self.now) }
+    {
+        Ok(NamedBlock {
+            id: self.id,
+            block: self.block.copy()?,
+        })
     }
 
     /// The id of the block.
