@@ -312,14 +312,14 @@ next-entered h m n u v w e short l x = record { answer = by e x.answer; counts =
 
 pub next-given : (h : List ℕ → List ℕ) (m n : Moment) (u v w x : Walker) (r : Result (Option Row) HamtFault) → length (walker_path u) < trie_levels usual → Leaves u (Ok tt) v → Enters (trie_levels usual) m v (Ok tt) w n → Gives h w r x → Nexts h m u r x n
 next-given h m n u v w x r short l e g = record {
-    answer = by r g.answer;
-    counts = counted r g.counts;
-    only = e.only;
-    on = keeps-more h m.blocks m.lacks n.lacks n.lacks u w x r e.only.later.lacks begins (g.on m.blocks n.lacks);
-    row = stands r (g.row m.blocks);
-    reads = λ held told. spends-more held m.gets n.gets n.gets u w x r (λ many nodes. both held told many nodes) (g.reads held n.gets);
-    read = read;
-  }
+  answer = by r g.answer;
+  counts = counted r g.counts;
+  only = e.only;
+  on = keeps-more h m.blocks m.lacks n.lacks n.lacks u w x r e.only.later.lacks begins (g.on m.blocks n.lacks);
+  row = stands r (g.row m.blocks);
+  reads = λ held told. spends-more held m.gets n.gets n.gets u w x r (λ many nodes. both held told many nodes) (g.reads held n.gets);
+  read = read;
+}
   where
     begins : StaysOn m.blocks u w
     begins = λ root at on. (e.on h root at (l.on h m.blocks m.lacks root at on).0).0

@@ -350,15 +350,15 @@ opened v w c steps at next is place path given same-at =
 
 pub enter-stopped : (m n : Moment) (v : Walker) (c : Child) (e : HamtFault) → NextIs (enter c.id.0 c.index) v → suc (length (walker_path v)) < trie_levels usual → Fetches m c.id.0 (Err e) n → Enters 1 m v (Err e) v n
 enter-stopped m n v c e next short f = record {
-    answer = by e f.answer;
-    same = λ h held es told. (λ a. a, λ a. a);
-    given = refl;
-    short = omega arith;
-    only = f.only;
-    on = λ h. keeps h e f.answer;
-    reads = λ held told. enter-spends held m.gets n.gets v c next (let seen = length-map v.path.items (λ (d : Child). d.index) in omega arith) f.only.gets;
-    read = read-nothing (λ blocks. SameWhere blocks v v) 1 m n v v f.only.gets (λ held n l. l) (where-itself v);
-  }
+  answer = by e f.answer;
+  same = λ h held es told. (λ a. a, λ a. a);
+  given = refl;
+  short = omega arith;
+  only = f.only;
+  on = λ h. keeps h e f.answer;
+  reads = λ held told. enter-spends held m.gets n.gets v c next (let seen = length-map v.path.items (λ (d : Child). d.index) in omega arith) f.only.gets;
+  read = read-nothing (λ blocks. SameWhere blocks v v) 1 m n v v f.only.gets (λ held n l. l) (where-itself v);
+}
   where
     keeps : (h : List ℕ → List ℕ) (e : HamtFault) → FetchAnswer m c.id.0 (Err e) n → FaultOn h m.blocks m.lacks n.lacks v e v
     keeps h (F.Block i why) r = fetch-keeps h m n v c i why next r.0 r.1
