@@ -1,4 +1,6 @@
+use Rattle.std.proofs.Common.{ℕ, List, Ok, Err, subst}
 use Rattle.std.proofs.lemmas.Result.{err_from_is_err_and}
+use Rattle.ild_bulk.specs.Putting.{PutsOne}
 use Rattle.ild_view.specs.View.{slot_of, table_of}
 use Rattle.ild_path_hops.specs.HopLaws.{path_of_hops}
 use Rattle.ild_path_outward.specs.Outward.{with_end}
@@ -20,19 +22,22 @@ returns-in_err-put_one-clause-finishes g c = λ is_key was v w t u told new.
     let s = slot_of c.args.root.now in
     let p = err_from_is_err_and c.from_residual-in_err-put_one.result c.from_residual-in_err-put_one.ensures.1 in
     rw (p.1, p.2) (put_failed g.H.KeyHash.hash_of rows s (with_end rows s v c.args.hops.items w) u (path_of_hops c.args.hops.items) (g.K.Store.moment c.args.store.now) was told (g.K.Store.moment c.outward.new.store) c.in_ok-block.block
-    (c.in_ok-block.ensures.carries is_key was _ v w t u told new) (g.K.Store.moment c.put_one.new.store) c.in_err-put_one.field-0.0 c.in_err-put_one.ensures)
+    (c.in_ok-block.ensures.carries is_key was _ v w t u told new) (g.K.Store.moment c.put_one.new.store) c.in_err-put_one.field-0.0
+    (subst (λ (b : List ℕ). PutsOne (g.K.Store.moment c.outward.new.store) b (Err c.in_err-put_one.field-0.0) (g.K.Store.moment c.put_one.new.store)) c.of-named.ensures c.in_err-put_one.ensures))
 
 pub returns-clause-finishes : goal.returns-clause-finishes
 returns-clause-finishes g c = λ is_key was v w t u told new.
     let rows = table_of c.args.root.now in
     let s = slot_of c.args.root.now in
-    put_done g.H.KeyHash.hash_of rows s (with_end rows s v c.args.hops.items w) u (path_of_hops c.args.hops.items) (g.K.Store.moment c.args.store.now) was told (g.K.Store.moment c.outward.new.store) c.in_ok-block.block
-    (c.in_ok-block.ensures.carries is_key was _ v w t u told new) (g.K.Store.moment c.put_one.new.store) c.in_ok-put_one.field-0 c.in_ok-put_one.ensures
+    rw c.of-named.ensures (put_done g.H.KeyHash.hash_of rows s (with_end rows s v c.args.hops.items w) u (path_of_hops c.args.hops.items) (g.K.Store.moment c.args.store.now) was told (g.K.Store.moment c.outward.new.store) c.in_ok-block.block
+    (c.in_ok-block.ensures.carries is_key was _ v w t u told new) (g.K.Store.moment c.put_one.new.store) c.in_ok-put_one.field-0
+    (subst (λ (b : List ℕ). PutsOne (g.K.Store.moment c.outward.new.store) b (Ok c.in_ok-put_one.field-0) (g.K.Store.moment c.put_one.new.store)) c.of-named.ensures c.in_ok-put_one.ensures))
 
 pub returns-in_err-put_one-clause-caused : goal.returns-in_err-put_one-clause-caused
 returns-in_err-put_one-clause-caused g c =
     let p = err_from_is_err_and c.from_residual-in_err-put_one.result c.from_residual-in_err-put_one.ensures.1 in
-    rw (p.1, p.2) (caused_put (g.K.Store.moment c.args.store.now) (g.K.Store.moment c.outward.new.store) (g.K.Store.moment c.put_one.new.store) c.in_ok-block.block c.in_err-put_one.field-0.0 c.in_ok-block.ensures.caused.later c.in_err-put_one.ensures)
+    rw (p.1, p.2) (caused_put (g.K.Store.moment c.args.store.now) (g.K.Store.moment c.outward.new.store) (g.K.Store.moment c.put_one.new.store) c.in_ok-block.block c.in_err-put_one.field-0.0 c.in_ok-block.ensures.caused.later
+    (subst (λ (b : List ℕ). PutsOne (g.K.Store.moment c.outward.new.store) b (Err c.in_err-put_one.field-0.0) (g.K.Store.moment c.put_one.new.store)) c.of-named.ensures c.in_err-put_one.ensures))
 
 pub returns-clause-caused : goal.returns-clause-caused
 returns-clause-caused g c = record { cause = tt; later = Later-trans _ _ _ c.in_ok-block.ensures.caused.later c.in_ok-put_one.ensures.later }
