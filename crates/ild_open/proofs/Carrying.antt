@@ -1,122 +1,143 @@
 -- The value of data, as that of a piece and of a view.
-use Rattle.std.proofs.Common.{◌≡◌, ℕ, ◌≤◌, List, length, Bool, true, false, Some, None, refl, sym, ◌∙◌, ap, subst, arith, inl, inr}
-use Rattle.std.specs.Prelude.{not, ◌&&◌}
-use Rattle.std.specs.Prelude.{Result, Ok, Err}
+use Rattle.std.proofs.Common.{◌≡◌, ℕ, ◌+◌, ◌≤◌, List, length, Bool, true, false, Some, None, Option, refl, sym, ◌∙◌, ap, subst, arith}
+use Rattle.std.specs.Prelude.{◌||◌, not, slice_get, Result, Ok, Err}
+use Rattle.std.specs.Option.{option_map_or}
 use Rattle.std.proofs.Math.Bool.{Bool-set}
-use Rattle.std.proofs.Math.Logic.{∥∥₁_elim}
+use Rattle.std.proofs.Math.Logic.{∥∥₁_elim, ∥∥₁_map}
+use Rattle.std.proofs.Props.{props}
 use Rattle.std.proofs.lemmas.Bool.{false≢true}
 use Rattle.std.proofs.lemmas.Option.{same_Some, none-some}
+use Rattle.ild_cbor.proofs.Blocks.{one_tree_lem}
 use Rattle.ild_cbor.specs.declared.node.Node.{Node}
-use Rattle.ild_cbor.specs.Block.{IsBlockOf}
 use Rattle.ild_cbor.specs.Nodes.{Stands, block_of}
 use Rattle.ild_cbor.specs.declared.piece.Piece.{Piece}
 use Rattle.ild_cbor.specs.declared.piece.Piece.TheVariants as P
 use Rattle.ild_cbor.specs.declared.why.BlockWhy.{BlockWhy}
-use Rattle.ild_cbor.specs.declared.why.BlockWhy.TheVariants as B
-use Rattle.ild_cbor.specs.declared.why.Why.{Why}
 use Rattle.ild_data.specs.Data.{Data}
-use Rattle.ild_data.specs.Spell.{id_of, spell}
+use Rattle.ild_data.specs.Spell.{id_of}
 use Rattle.ild_data.specs.declared.id.BlockId.{BlockId}
-use Rattle.ild_edges.specs.Store.{Moment, block_at}
+use Rattle.ild_edges.proofs.Later.{below_of}
+use Rattle.ild_edges.specs.Store.{Keeps, Moment, StaysGiven, asked_over, block_at}
+use Rattle.ild_edges.specs.Told.{BothTold}
+use Rattle.ild_layer_parts.specs.Ready as R
+use Rattle.ild_layer_parts.specs.Ready.{IsInlined}
 use Rattle.ild_layer_piece.specs.Pieces.{IsNumbered, StandsFor}
-use Rattle.ild_schema.specs.Clear.{IsSafe}
-use Rattle.ild_schema.specs.DataKinds.{slot_has}
-use Rattle.ild_schema.specs.Legible.{IsLegible}
+use Rattle.ild_schema.specs.Slots.{form_of}
 use Rattle.ild_schema.specs.Value.{Value}
-use Rattle.ild_schema.specs.declared.def.KindWord.TheVariants as K
+use Rattle.ild_schema.specs.ValueSeen.{value_of}
+use Rattle.ild_schema.specs.declared.def.Scalar.{Scalar}
+use Rattle.ild_schema.specs.declared.def.Scalar.TheVariants as C
+use Rattle.ild_schema.specs.declared.def.TypeDef.{TypeDef}
+use Rattle.ild_schema.specs.declared.def.TypeDef.TheVariants as D
 use Rattle.ild_schema.specs.declared.number.Slot.{Slot}
-use Rattle.ild_schema.specs.declared.number.TypeNo.{TypeNo}
 use Rattle.ild_schema.specs.declared.row.Row.{Row}
 use Rattle.ild_schema.specs.declared.val.Val.{Val}
-use Rattle.ild_typed.proofs.Fronting.{values_fronts}
-use Rattle.ild_typed.proofs.WalkSound.{refused_sound}
-use Rattle.ild_typed.proofs.Wholes.{one_within}
-use Rattle.ild_typed.proofs.Structs.{scalar_same}
+use Rattle.ild_typed.proofs.CleanFields.{scalar_self}
+use Rattle.ild_typed.proofs.Flat.{IsFlat}
+use Rattle.ild_typed.proofs.Structs.{scalar_data, scalar_same}
 use Rattle.ild_typed.specs.Fields.{is_scalar}
 use Rattle.ild_typed.specs.Hamt.{alone}
 use Rattle.ild_typed.specs.Represented.{represented}
-use Rattle.ild_typed.specs.Schema.{IsSchema}
-use Rattle.ild_view.specs.Body.{BodyStands, body_types}
-use Rattle.ild_view.specs.Front.{HasFront}
-use Rattle.ild_view.specs.Safe.{is_safe}
+use Rattle.ild_union.specs.Forms.{passes_over}
+use Rattle.ild_view.specs.Body.{BodyStands, body_types, is_placed, is_struct}
+use Rattle.ild_view.specs.Front as V
 use Rattle.ild_view.specs.View.{IsView, body_of, piece_in, piece_of, slot_of, table_of}
 use Rattle.ild_view.specs.declared.body.Body.{Body}
 use Rattle.ild_view.specs.declared.body.Body.TheVariants as VB
 use Rattle.ild_view.specs.declared.view.View.{View}
-use Rattle.ild_view_walk.specs.Checks.{IsRefusal}
 use Rattle.ild_open_held.specs.Held.{IsHeld}
-use Rattle.ild_open_parts.specs.Reads.{NoValue, Reads}
+use Rattle.ild_open_held.specs.Splits.{HasFront}
+use Rattle.ild_open_parts.specs.Reads.{BrokenPart, OnlyReads, Reads}
 use Rattle.ild_open_parts.specs.declared.fault.OpenFault.{OpenFault}
 use Rattle.ild_open_parts.specs.declared.fault.OpenFault.TheVariants as F
-use Rattle.ild_open.specs.Item.{DataAnswer, IsStopped, LoadsAlone, LoadsBytes, LoadsData, LoadsIn, LoadsPiece, StoppedIn}
-use Rattle.ild_open.specs.Loaded.{IsInBlock, IsRefusedAt, LoadAnswer, Loads}
-use Rattle.ild_open_parts.proofs.Turning.{only_refl}
+use Rattle.ild_open_read.specs.Parts.{ReadsSlot}
+use Rattle.ild_open.specs.Item.{DataAnswer, HasTree, LoadsAlone, LoadsData, LoadsFlat, LoadsPiece, LoadsShown, StoppedIn}
+use Rattle.ild_open.specs.Loaded.{IsInBlock, IsRefusedAt, IsShallow, IsShown, LoadAnswer, Loads}
+use Rattle.ild_open.proofs.Flatly.{no_broken}
 
--- null stands for null alone
-pub is_safe_slot : (rows : List Row) (s : Slot) → is_safe rows s ≡ true → IsSafe rows s
-is_safe_slot rows s e = by s.nullable (slot_has rows s K.Null) e where
-  by : (a b : Bool) → not (a && b) ≡ true → a ≡ true → b ≡ false
-  by true true e is = absurd (false≢true e)
-  by true false e is = refl
-  by false b e is = absurd (false≢true is)
+-- ---- gets alone, of which it is known that they were
 
--- ---- data
+kept_same : (a b : Option (List (List ℕ))) → b ≡ a → BothTold a b Keeps
+kept_same None b is = subst (λ (x : Option (List (List ℕ))). BothTold None x Keeps) (sym is) tt
+kept_same (Some held) b is = subst (λ (x : Option (List (List ℕ))). BothTold (Some held) x Keeps) (sym is) (λ id c here. here)
 
-module _ (h : List ℕ → List ℕ) (rows : List Row) (s : Slot) where
-  module _ (at : List ℕ) (t : Data) (m n : Moment) where
-    read_answer : (r : Result Val OpenFault) → Reads h at rows 96 (s, t) true m r n → DataAnswer h rows s (IsStopped h rows s at t m n) t m r n
-    read_answer (Ok val) x = λ held told. let a = x.answer held told in subst (λ v. IsHeld (block_at held) h rows 96 s t v) (sym (a.kept refl)) a.is
-    read_answer (Err (F.Block id why)) x = (x.answer.0, inr x.answer.1)
-    read_answer (Err F.Store) x = x.answer
-    read_answer (Err F.Memory) x = tt
+given_same : (a b : Option (List (List ℕ))) → b ≡ a → BothTold a b StaysGiven
+given_same None b is = subst (λ (x : Option (List (List ℕ))). BothTold None x StaysGiven) (sym is) tt
+given_same (Some held) b is = subst (λ (x : Option (List (List ℕ))). BothTold (Some held) x StaysGiven) (sym is) (λ id here. here)
 
-    pub loads_read : (r : Result Val OpenFault) → Reads h at rows 96 (s, t) true m r n → LoadsIn h rows s at t m r n
-    loads_read r x = record { answer = read_answer r x; only = x.only; gets = x.gets }
-
-  -- they need more room than there is
-  module _ (schema : IsSchema rows) (legible : IsLegible rows) (safe : is_safe rows s ≡ true) (at : BlockId) (t : Data) (m : Moment) (ty : TypeNo) (why : Why) (x : IsRefusal rows 96 s t ty why) where
-    none_held : NoValue h rows 96 (s, t) m
-    none_held = λ held v told has.
-        let y = values_fronts h rows schema 96 s v t has.fits has.tree in
-        refused_sound rows legible.clear legible.delims 96 0 s (is_safe_slot rows s safe) t x.refusal x.refused (y.0, y.1.fits, y.1.tree)
-
-    pub loads_deep : LoadsIn h rows s at.0 t m (Err (F.Block at (B.Shape why))) m
-    loads_deep = record {
-      answer = (none_held, inl (record { type = ty; cause = why; told_is = refl; here = refl; refusal = x }));
-      only = only_refl m;
-      gets = λ held v told has. omega arith;
+pub only_of : (m n : Moment) → ∥ OnlyReads m n ∥₁ → OnlyReads m n
+only_of m n some =
+    let blocks : n.blocks ≡ m.blocks = ∥∥₁_elim some (hlevel props) (λ o. o.blocks) in
+    let given : n.given ≡ m.given = ∥∥₁_elim some (hlevel props) (λ o. o.given) in
+    record {
+      blocks = blocks;
+      given = given;
+      puts = ∥∥₁_elim some (hlevel props) (λ o. o.puts);
+      later = record {
+        keeps = kept_same m.blocks n.blocks blocks;
+        given = given_same m.given n.given given;
+        gets = ∥∥₁_elim some (hlevel props) (λ o. o.later.gets);
+        puts = ∥∥₁_elim some (hlevel props) (λ o. o.later.puts);
+        lacks = ∥∥₁_elim some (hlevel props) (λ o. o.later.lacks);
+        faults = ∥∥₁_elim some (hlevel props) (λ o. o.later.faults);
+        beneath = λ i. below_of (asked_over m i) (asked_over n i) (slice_get m.beneath i) (slice_get n.beneath i) (∥∥₁_map some (λ o. o.later.beneath i));
+      };
     }
 
--- ---- bytes, and a piece
+-- ---- the data of a piece
 
-module _ (h : List ℕ → List ℕ) (rows : List Row) (s : Slot) where
-  -- of bytes that spell one tree
-  pub loads_spelled : (at b : List ℕ) (d : Data) (m n : Moment) (r : Result Val OpenFault) → IsBlockOf b d → LoadsIn h rows s at d m r n → LoadsBytes h rows s at b m r n
-  loads_spelled at b d m n r block x = record {
-    only = x.only;
-    each = λ t tree is. subst (λ u. LoadsIn h rows s at u m r n) (one_within d t block.within tree (sym block.spelled ∙ is)) x;
+module _ (h : List ℕ → List ℕ) (rows : List Row) (s : Slot) (piece : Piece) (at : List ℕ) (m n : Moment) where
+  read_answer : (Stopped : List ℕ → BlockWhy → Type 0) (t : Data) (r : Result Val OpenFault) → ((id : List ℕ) (why : BlockWhy) → BrokenPart h at rows 96 (s, t) m n id why → Stopped id why)
+      → Reads h at rows 96 (s, t) true m r n → DataAnswer h rows s Stopped t m r n
+  read_answer Stopped t (Ok val) more x = λ held told. let a = x.answer held told in subst (λ v. IsHeld (block_at held) h rows 96 s t v) (sym (a.kept refl)) a.is
+  read_answer Stopped t (Err (F.Block id why)) more x = (x.answer.0, more id.0 why x.answer.1)
+  read_answer Stopped t (Err F.Store) more x = x.answer
+  read_answer Stopped t (Err F.Memory) more x = tt
+
+  abbrev Read : Result Val OpenFault → Type 0
+  Read r = ReadsSlot h at rows 96 true s piece m r n
+
+  pub read_shown : ∥ HasTree rows s piece ∥₁ → (Stopped : Data → List ℕ → BlockWhy → Type 0)
+      → ((t : Data) → StandsFor rows piece t → (id : List ℕ) (why : BlockWhy) → BrokenPart h at rows 96 (s, t) m n id why → Stopped t id why)
+      → (r : Result Val OpenFault) → Read r → LoadsShown h rows s piece Stopped m r n
+  read_shown some Stopped more r x = record {
+    only = only_of m n (∥∥₁_map some (λ y. (x y.tree y.stands y.front).only));
+    each = λ t stands front.
+        let y = x t stands front in
+        record { answer = read_answer (Stopped t) t r (more t stands) y; only = y.only; gets = y.gets };
   }
 
-  pub loads_node : (q : Node) (b : List ℕ) (m n : Moment) (r : Result Val OpenFault) → ((t : Data) → Stands q t → b ≡ spell t) → LoadsBytes h rows s (id_of (block_of q)) b m r n → LoadsPiece h rows s (P.Node q) m r n
-  loads_node q b m n r spelled x = record { only = x.only; each = λ t stands. x.each t stands.within.tree (spelled t stands) }
+  -- data that are no list and no map
+  pub flat_shown : ∥ HasTree rows s piece ∥₁ → ((t : Data) → StandsFor rows piece t → IsFlat t) → (r : Result Val OpenFault) → Read r → LoadsFlat h rows s piece m r n
+  flat_shown some flat r x = read_shown some (λ t id why. ⊥) (λ t stands id why b. no_broken h rows m.blocks m.lacks n.lacks at 96 s t id why (flat t stands) b) r x
 
-  -- of a tree that is the data of the piece
-  pub loads_copy : (p : Piece) (d : Data) (m n : Moment) (r : Result Val OpenFault) → ((t : Data) → StandsFor rows p t → d ≡ t) → LoadsData h rows s (StoppedIn h rows s p d m n) d m r n → LoadsPiece h rows s p m r n
-  loads_copy p d m n r same x = record { only = x.only; each = λ t stands. subst (λ u. LoadsData h rows s (StoppedIn h rows s p u m n) u m r n) (same t stands) x }
+  -- of which no block is refused
+  pub never_refused : ∥ HasTree rows s piece ∥₁ → ((t : Data) → StandsFor rows piece t → IsFlat t) → (id : BlockId) (why : BlockWhy) → Read (Err (F.Block id why)) → ⊥
+  never_refused some flat id why x =
+      ∥∥₁_elim some (hlevel props) (λ y. no_broken h rows m.blocks m.lacks n.lacks at 96 s y.tree id.0 why (flat y.tree y.stands) (x y.tree y.stands y.front).answer.1)
 
-  -- where no block is at fault, a piece of any form asks no more
-  stopped_none : (p : Piece) (t : Data) (m n : Moment) (r : Result Val OpenFault) → LoadsAlone h rows s t m r n → LoadsData h rows s (StoppedIn h rows s p t m n) t m r n
-  stopped_none p t m n (Ok val) x = record { answer = x.answer; only = x.only; gets = x.gets }
-  stopped_none p t m n (Err (F.Block id why)) x = absurd x.answer.1
-  stopped_none p t m n (Err F.Store) x = record { answer = x.answer; only = x.only; gets = x.gets }
-  stopped_none p t m n (Err F.Memory) x = record { answer = tt; only = x.only; gets = x.gets }
+module _ (h : List ℕ → List ℕ) (rows : List Row) (s : Slot) where
+  pub loads_node : (q : Node) (m n : Moment) (r : Result Val OpenFault) → ∥ HasTree rows s (P.Node q) ∥₁ → ReadsSlot h (id_of (block_of q)) rows 96 true s (P.Node q) m r n → LoadsPiece h rows s (P.Node q) m r n
+  loads_node q m n r some x = read_shown h rows s (P.Node q) (id_of (block_of q)) m n some (StoppedIn h rows s (P.Node q) m n) (λ t stands id why b. b) r x
 
-  pub loads_text : (p : Piece) (d : Data) (m n : Moment) (r : Result Val OpenFault) → ((t : Data) → StandsFor rows p t → d ≡ t) → LoadsAlone h rows s d m r n → LoadsPiece h rows s p m r n
-  loads_text p d m n r same x = loads_copy p d m n r same (stopped_none p d m n r x)
+  pub loads_inline : (q : Node) (u : ℕ) (m n : Moment) (r : Result Val OpenFault) → ∥ HasTree rows s (P.Inline q u) ∥₁ → ReadsSlot h (id_of (block_of q)) rows 96 true s (P.Inline q u) m r n
+      → LoadsPiece h rows s (P.Inline q u) m r n
+  loads_inline q u m n r some x = read_shown h rows s (P.Inline q u) (id_of (block_of q)) m n some (StoppedIn h rows s (P.Inline q u) m n) (λ t stands id why b. b) r x
+
+  -- of an item that spells the data
+  pub loads_spelled : (q : Node) (d : Data) (m n : Moment) (r : Result Val OpenFault) → Stands q d → LoadsFlat h rows s (P.Node q) m r n → LoadsAlone h rows s d m r n
+  loads_spelled q d m n r stands x = record { only = x.only; loads = λ front. x.each d stands front }
+
+-- the item of bytes that spell the data
+pub spelled_tree : (rows : List Row) (s : Slot) (q : Node) (d : Data) → Stands q d → ∥ HasFront rows 96 (s, d) ∥₁ → ∥ HasTree rows s (P.Node q) ∥₁
+spelled_tree rows s q d stands some = ∥∥₁_map some (λ front. record { tree = d; stands = stands; front = front })
+
+pub spelled_flat : (q : Node) (d : Data) → Stands q d → IsFlat d → (t : Data) → Stands q t → IsFlat t
+spelled_flat q d stands flat t other = subst IsFlat (one_tree_lem _ _ _ _ d t stands other) flat
 
 -- ---- a view
 
-held_piece : (b : Body) (p : Piece) → piece_in b ≡ Some p → b ≡ VB.Held p
+pub held_piece : (b : Body) (p : Piece) → piece_in b ≡ Some p → b ≡ VB.Held p
 held_piece (VB.Held q) p e = ap VB.Held (same_Some q p e)
 held_piece (VB.Implicit x) p e = absurd (none-some p e)
 
@@ -129,18 +150,36 @@ is_numbered rows b p e le = by p (subst (λ c. body_types c ≤ length rows) (he
   by (P.Inline n u) le = omega (arith, le)
 
 -- the tree of an implicit value is the data for which it stands
-implied : (view : View) (d : Data) (b : Body) → body_of view ≡ b → piece_in b ≡ None → ∥ HasFront (table_of view) (slot_of view) (body_of view) ∥₁
+implied : (view : View) (d : Data) (b : Body) → body_of view ≡ b → piece_in b ≡ None → ∥ V.HasFront (table_of view) (slot_of view) (body_of view) ∥₁
     → ((f : Value) → IsView view f → represented alone (table_of view) (slot_of view) f ≡ Some d) → (t : Data) → BodyStands (table_of view) b t → d ≡ t
 implied view d (VB.Held p) is none some tells t stands = absurd (none-some p (sym none))
 implied view d (VB.Implicit k) is none some tells t stands = scalar_same k.now d (∥∥₁_elim some (Bool-set (is_scalar k.now d) true) own) ∙ sym (scalar_same k.now t stands) where
-  own : HasFront (table_of view) (slot_of view) (body_of view) → is_scalar k.now d ≡ true
+  own : V.HasFront (table_of view) (slot_of view) (body_of view) → is_scalar k.now d ≡ true
   own y =
       let same = same_Some y.tree d (sym y.front.tree ∙ tells y.value (record { room = y.room; tree = y.tree; stands = y.stands; front = y.front })) in
       subst (λ u. is_scalar k.now u ≡ true) same (subst (λ b. BodyStands (table_of view) b y.tree) is y.stands)
 
-pub scalar_is : (view : View) (d : Data) → piece_of view ≡ None → ∥ HasFront (table_of view) (slot_of view) (body_of view) ∥₁
+pub scalar_is : (view : View) (d : Data) → piece_of view ≡ None → ∥ V.HasFront (table_of view) (slot_of view) (body_of view) ∥₁
     → ((f : Value) → IsView view f → represented alone (table_of view) (slot_of view) f ≡ Some d) → (t : Data) → BodyStands (table_of view) (body_of view) t → d ≡ t
 scalar_is view d none some tells t stands = implied view d (body_of view) refl none some tells t stands
+
+module _ (rows : List Row) (s : Slot) where
+  same_struct : (d : TypeDef) → is_struct d ≡ true → R.is_struct d ≡ true
+  same_struct (D.Struct def) e = refl
+  same_struct d e = absurd (false≢true e)
+
+  pub is_inlined : (b : Body) (p : Piece) → piece_in b ≡ Some p → is_placed rows s b ≡ true → IsInlined rows s p
+  is_inlined b p is placed over =
+      by (passes_over p) (form_of rows s) (subst (λ c. is_placed rows s c ≡ true) (held_piece b p is) placed) over where
+        by : (b : Bool) (o : Option TypeDef) → (not b || option_map_or is_struct o false) ≡ true → b ≡ true → option_map_or R.is_struct o false ≡ true
+        by true None e over = e
+        by true (Some d) e over = same_struct d e
+        by false o e over = absurd (false≢true over)
+
+-- the piece of a view has a tree where the view shows data
+pub shown_tree : (view : View) (p : Piece) → piece_of view ≡ Some p → ∥ IsShallow view ∥₁ → ∥ HasTree (table_of view) (slot_of view) p ∥₁
+shown_tree view p is some =
+    ∥∥₁_map some (λ y. record { tree = y.tree; stands = subst (λ b. BodyStands (table_of view) b y.tree) (held_piece (body_of view) p is) y.shown.stands; front = y.shown.front })
 
 module _ (h : List ℕ → List ℕ) (view : View) (m n : Moment) where
   abbrev rows : List Row
@@ -149,10 +188,10 @@ module _ (h : List ℕ → List ℕ) (view : View) (m n : Moment) where
   abbrev s : Slot
   s = slot_of view
 
-  in_block : (at : List ℕ) (t : Data) (id : List ℕ) (why : BlockWhy) → IsInBlock (piece_of view) at → IsStopped h rows s at t m n id why → IsRefusedAt h view m t id why n
+  in_block : (at : List ℕ) (t : Data) (id : List ℕ) (why : BlockWhy) → IsInBlock (piece_of view) at → BrokenPart h at rows 96 (s, t) m n id why → IsRefusedAt h view m t id why n
   in_block at t id why here x = (at, here, x)
 
-  stopped : (p : Piece) → piece_of view ≡ Some p → (t : Data) (id : List ℕ) (why : BlockWhy) → StoppedIn h rows s p t m n id why → IsRefusedAt h view m t id why n
+  stopped : (p : Piece) → piece_of view ≡ Some p → (t : Data) (id : List ℕ) (why : BlockWhy) → StoppedIn h rows s p m n t id why → IsRefusedAt h view m t id why n
   stopped (P.Node q) is t id why x = in_block (id_of (block_of q)) t id why (subst (λ o. IsInBlock o (id_of (block_of q))) (sym is) refl) x
   stopped (P.Inline q u) is t id why x = in_block (id_of (block_of q)) t id why (subst (λ o. IsInBlock o (id_of (block_of q))) (sym is) refl) x
   stopped (P.Text b) is t id why x = absurd x
@@ -167,20 +206,38 @@ module _ (h : List ℕ → List ℕ) (view : View) (m n : Moment) where
 
   pub loads_view : (p : Piece) → piece_of view ≡ Some p → (r : Result Val OpenFault) → LoadsPiece h rows s p m r n → Loads h view m r n
   loads_view p is r x =
-      let own : (t : Data) → BodyStands rows (body_of view) t → LoadsData h rows s (StoppedIn h rows s p t m n) t m r n =
-      λ t stands. x.each t (subst (λ b. BodyStands rows b t) (held_piece (body_of view) p is) stands) in
+      let own : (t : Data) → IsShown view t → LoadsData h rows s (StoppedIn h rows s p m n t) t m r n =
+      λ t shown. x.each t (subst (λ b. BodyStands rows b t) (held_piece (body_of view) p is) shown.stands) shown.front in
       record {
-        answer = λ t stands. answered (StoppedIn h rows s p t m n) t (λ id why y. stopped p is t id why y) r (own t stands).answer;
+        answer = λ t shown. answered (StoppedIn h rows s p m n t) t (λ id why y. stopped p is t id why y) r (own t shown).answer;
         only = x.only;
-        gets = λ t held v stands. (own t stands).gets held v;
+        gets = λ t held v shown. (own t shown).gets held v;
       }
 
   -- of a value that the block leaves out
   pub loads_scalar : (d : Data) → ((t : Data) → BodyStands rows (body_of view) t → d ≡ t) → (r : Result Val OpenFault) → LoadsAlone h rows s d m r n → Loads h view m r n
   loads_scalar d same r x =
-      let own : (t : Data) → BodyStands rows (body_of view) t → LoadsAlone h rows s t m r n = λ t stands. subst (λ u. LoadsAlone h rows s u m r n) (same t stands) x in
+      let own : (t : Data) → IsShown view t → LoadsData h rows s (λ id why. ⊥) t m r n =
+      λ t shown. let is = same t shown.stands in subst (λ u. LoadsData h rows s (λ id why. ⊥) u m r n) is (x.loads (subst (λ u. HasFront rows 96 (s, u)) (sym is) shown.front)) in
       record {
-        answer = λ t stands. answered (λ id why. ⊥) t (λ id why y. absurd y) r (own t stands).answer;
+        answer = λ t shown. answered (λ id why. ⊥) t (λ id why y. absurd y) r (own t shown).answer;
         only = x.only;
-        gets = λ t held v stands. (own t stands).gets held v;
+        gets = λ t held v shown. (own t shown).gets held v;
       }
+
+-- what the tree of an implicit value is asked to be
+pub scalar_front : (view : View) (d : Data) → ((t : Data) → BodyStands (table_of view) (body_of view) t → d ≡ t) → ∥ IsShallow view ∥₁ → ∥ HasFront (table_of view) 96 (slot_of view, d) ∥₁
+scalar_front view d same some = ∥∥₁_map some (λ y. subst (λ u. HasFront (table_of view) 96 (slot_of view, u)) (sym (same y.tree y.shown.stands)) y.shown.front)
+
+scalar_is_flat : (k : Scalar) → IsFlat (scalar_data k)
+scalar_is_flat (C.Bool b) = tt
+scalar_is_flat (C.Int n) = tt
+scalar_is_flat (C.Text t) = tt
+
+pub scalar_flat : (view : View) (d : Data) → piece_of view ≡ None → ((t : Data) → BodyStands (table_of view) (body_of view) t → d ≡ t) → IsFlat d
+scalar_flat view d none same = by (body_of view) refl where
+  by : (b : Body) → body_of view ≡ b → IsFlat d
+  by (VB.Held p) is = absurd (none-some p (sym (ap piece_in (sym is) ∙ none)))
+  by (VB.Implicit k) is =
+      let e = same (scalar_data k.now) (subst (λ b. BodyStands (table_of view) b (scalar_data k.now)) (sym is) (scalar_self k.now)) in
+      subst IsFlat (sym e) (scalar_is_flat k.now)

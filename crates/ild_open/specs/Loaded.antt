@@ -16,10 +16,20 @@ use Rattle.ild_view.specs.Body.{BodyStands}
 use Rattle.ild_view.specs.View.{body_of, piece_of, slot_of, table_of}
 use Rattle.ild_view.specs.declared.view.View.{View}
 use Rattle.ild_open_held.specs.Held.{IsHeld}
-use Rattle.ild_open_parts.specs.Reads.{OnlyReads}
+use Rattle.ild_open_held.specs.Splits.{HasFront}
+use Rattle.ild_open_parts.specs.Reads.{BrokenPart, OnlyReads}
 use Rattle.ild_open_parts.specs.declared.fault.OpenFault.{OpenFault}
 use Rattle.ild_open_parts.specs.declared.fault.OpenFault.TheVariants as F
-use Rattle.ild_open.specs.Item.{IsStopped}
+
+-- the view shows these data, whose front nests at most 96 levels
+pub record IsShown (view : View) (t : Data) : Type 0 where
+  pub stands : BodyStands (table_of view) (body_of view) t
+  pub front : HasFront (table_of view) 96 (slot_of view, t)
+
+-- there are such data
+pub record IsShallow (view : View) : Type 0 where
+  pub tree : Data
+  pub shown : IsShown view tree
 
 -- the value at the view that these data represent, where a store holds these blocks
 abbrev pub IsValueAt : (List ℕ → List ℕ) → List (List ℕ) → View → Data → Value → Type 0
@@ -31,10 +41,10 @@ IsInBlock (Some (P.Node n)) at = at ≡ id_of (block_of n)
 IsInBlock (Some (P.Inline n u)) at = at ≡ id_of (block_of n)
 IsInBlock p at = ⊥
 
--- why a block is refused: the value nests too deep at the view, or something is wrong with a HAMT in it
+-- why a block is refused: something is wrong with a HAMT in the value
 abbrev pub IsRefusedAt : (List ℕ → List ℕ) → View → Moment → Data → List ℕ → BlockWhy → Moment → Type 0
 IsRefusedAt h view m t id why n =
-    (at : List ℕ) × IsInBlock (piece_of view) at × IsStopped h (table_of view) (slot_of view) at t m n id why
+    (at : List ℕ) × IsInBlock (piece_of view) at × BrokenPart h at (table_of view) 96 (slot_of view, t) m n id why
 
 abbrev pub LoadAnswer : (List ℕ → List ℕ) → View → Moment → Data → Result Val OpenFault → Moment → Type 0
 LoadAnswer h view m t (Ok val) n = (held : List (List ℕ)) → m.blocks ≡ Some held → IsValueAt h held view t (value_of val)
@@ -45,7 +55,7 @@ LoadAnswer h view m t (Err F.Memory) n = Unit {0}
 
 -- the value at a view is loaded: by gets alone, no more of them than it has nodes of HAMTs
 pub record Loads (h : List ℕ → List ℕ) (view : View) (m : Moment) (result : Result Val OpenFault) (n : Moment) : Type 0 where
-  pub answer : (t : Data) → BodyStands (table_of view) (body_of view) t → LoadAnswer h view m t result n
+  pub answer : (t : Data) → IsShown view t → LoadAnswer h view m t result n
   pub only : OnlyReads m n
-  pub gets : (t : Data) (held : List (List ℕ)) (v : Value) → BodyStands (table_of view) (body_of view) t → m.blocks ≡ Some held → IsValueAt h held view t v
+  pub gets : (t : Data) (held : List (List ℕ)) (v : Value) → IsShown view t → m.blocks ≡ Some held → IsValueAt h held view t v
       → n.gets ≤ m.gets + length (nodes h (table_of view) (slot_of view) v)

@@ -14,10 +14,11 @@ use Rattle.ild_open_held_parts.proofs.Holding.{one_is_held}
 use Rattle.ild_open_parts.specs.declared.fault.OpenFault.{OpenFault}
 use Rattle.ild_open_parts.specs.declared.fault.OpenFault.TheVariants as O
 use Rattle.ild_open.specs.Loaded as L
-use Rattle.ild_open.specs.Loaded.{Loads}
+use Rattle.ild_open.specs.Loaded.{IsShallow, IsShown, Loads}
 use Rattle.ild_schema.specs.Value.{Value}
 use Rattle.ild_schema.specs.ValueSeen.{value_of}
 use Rattle.ild_schema.specs.declared.val.Val.{Val}
+use Rattle.ild_typed.proofs.Fronting.{values_fronts}
 use Rattle.ild_typed.specs.At.{met}
 use Rattle.ild_typed.specs.Blocks.{nodes}
 use Rattle.ild_typed.specs.Hamt.{alone}
@@ -41,6 +42,9 @@ loaded_as (Ok v) = Ok v
 loaded_as (Err e) = Err (open_fault e)
 
 module _ (h : List ℕ → List ℕ) (view : View) (schema : IsSchema (table_of view)) (m n : Moment) where
+  is_shown : (t : Data) (v : Value) → IsAt h view m t v → IsShown view t
+  is_shown t v x = let f = values_fronts h (table_of view) schema 96 (slot_of view) v t x.value.fits x.value.tree in record { stands = x.stands; front = (f.0, f.1.fits, f.1.tree) }
+
   load_answer : (t : Data) (v : Value) (x : IsAt h view m t v) (r : Result Val OpenFault) → L.LoadAnswer h view m t r n → LoadAnswer v m (loaded_as r) n
   load_answer t v x (Ok val) a =
       one_is_held (block_at x.held) h (table_of view) schema 96 (omega arith) (slot_of view) t (value_of val) v (safe_is (table_of view) (slot_of view) view.safe) (a x.held x.told) x.value
@@ -48,18 +52,18 @@ module _ (h : List ℕ → List ℕ) (view : View) (schema : IsSchema (table_of 
   load_answer t v x (Err O.Store) a = a
   load_answer t v x (Err O.Memory) a = tt
 
-  load_failed : (r : Result Val OpenFault) → Loads h view m r n → FailsOnly m (loaded_as r) n
-  load_failed (Ok val) l = tt
-  load_failed (Err (O.Block id why)) l = tt
-  load_failed (Err O.Store) l = ∥∥₁_elim view.stands (hlevel props) (λ s. l.answer s.tree s.stands)
-  load_failed (Err O.Memory) l = tt
+  load_failed : ∥ IsShallow view ∥₁ → (r : Result Val OpenFault) → Loads h view m r n → FailsOnly m (loaded_as r) n
+  load_failed some (Ok val) l = tt
+  load_failed some (Err (O.Block id why)) l = tt
+  load_failed some (Err O.Store) l = ∥∥₁_elim some (hlevel props) (λ y. l.answer y.tree y.shown)
+  load_failed some (Err O.Memory) l = tt
 
-  pub loads : (r : Result Val OpenFault) → Loads h view m r n → LoadsPart h view m (loaded_as r) n
-  loads r l = record {
-    answer = λ t v x. load_answer t v x r (l.answer t x.stands);
-    gets = λ t v x. l.gets t x.held v x.stands x.told x.value;
+  pub loads : ∥ IsShallow view ∥₁ → (r : Result Val OpenFault) → Loads h view m r n → LoadsPart h view m (loaded_as r) n
+  loads some r l = record {
+    answer = λ t v x. load_answer t v x r (l.answer t (is_shown t v x));
+    gets = λ t v x. l.gets t x.held v (is_shown t v x) x.told x.value;
     only = l.only;
-    failed = load_failed r l;
+    failed = load_failed some r l;
   }
 
 module _ (h : List ℕ → List ℕ) (view : View) (tell : Tell) (m n : Moment) where

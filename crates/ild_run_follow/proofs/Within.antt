@@ -56,7 +56,8 @@ use Rattle.ild_run_follow.specs.declared.fault.ReadFault.{ReadFault}
 use Rattle.ild_run_follow.specs.declared.fault.ReadFault.TheVariants as F
 use Rattle.ild_run_follow.specs.declared.kind.Tell.{Tell}
 use Rattle.ild_run_follow.proofs.Leading.{none_answer, nothing_fails, only_none, only_then}
-use Rattle.ild_run_follow.proofs.Standing.{only_of, viewed}
+use Rattle.ild_open.proofs.Carrying.{only_of}
+use Rattle.ild_run_follow.proofs.Standing.{viewed}
 
 drop_at : (xs : List (List ℕ)) (k : ℕ) (x : List ℕ) → Some x ≡ slice_get xs k → drop k xs ≡ x ∷ drop (suc k) xs
 drop_at [] k x e = absurd (none-some x (sym e))

@@ -54,7 +54,7 @@ IsValueSlot rows d None = Unit {0}
 
 -- data of an entry are viewed where they have a front
 abbrev pub ChecksEntry : List Row → Option TypeDef → Node → Data → Result View ReadFault → Type 0
-ChecksEntry rows d node t (Ok view) = (slot : Slot) × (element_of d ≡ Some slot) × IsViewAt rows slot (P.Node node) view
+ChecksEntry rows d node t (Ok view) = (slot : Slot) × (element_of d ≡ Some slot) × IsViewAt rows slot (P.Node node) view × Shows (Fits rows 96) rows slot t
 ChecksEntry rows d node t (Err F.Path) = ⊥
 ChecksEntry rows d node t (Err (F.Block id why)) = (slot : Slot) → element_of d ≡ Some slot → Shows (Fits rows 96) rows slot t → ⊥
 ChecksEntry rows d node t (Err F.Store) = ⊥

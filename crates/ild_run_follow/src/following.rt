@@ -1,5 +1,6 @@
 //! A path followed from block to block.
 ghost use Rattle.std.specs.Prelude.{◌≤◌, drop};
+ghost use Rattle.ild_open.specs.Loaded.{IsShallow};
 ghost use Rattle.ild_run_follow.specs.Tells.{TellsFrom, TellsIn};
 
 use crate::absent::absent;
@@ -23,6 +24,7 @@ fn tell_from<'b, K: Store, H: KeyHash>(
     keys: &H,
     store: &mut K,
 ) -> Result<Tree, ReadFault>
+    requires shallow { ∥ IsShallow view.entry ∥₁ }
     ensures { TellsFrom H.hash_of view.entry (drop from path.now) tell (K.moment store.old) result (K.moment store.new) }
 {
     // It does no work: its clauses say what acceptance says of the table.
@@ -77,6 +79,7 @@ pub fn tell<K: Store, H: KeyHash>(
     keys: &H,
     store: &mut K,
 ) -> Result<Tree, ReadFault>
+    requires shallow { ∥ IsShallow view.now ∥₁ }
     ensures { TellsFrom H.hash_of view.now path.now tell (K.moment store.old) result (K.moment store.new) }
 {
     tell_from(alloc, *view, path, 0, tell, keys, store)

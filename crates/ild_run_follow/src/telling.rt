@@ -1,6 +1,7 @@
 //! What is told of the part at a view.
 ghost use Rattle.std.specs.Prelude.{◌≡◌, ◌<◌, IfOk, length, true};
 ghost use Rattle.ild_data.specs.Seen.{data_of};
+ghost use Rattle.ild_open.specs.Loaded.{IsShallow};
 ghost use Rattle.ild_run_follow.specs.Tells.{LoadsPart, TellsHere, ToldBy};
 ghost use Rattle.ild_run_follow.specs.Told.{is_loaded};
 
@@ -22,6 +23,7 @@ fn loaded<K: Store, H: KeyHash>(
     keys: &H,
     store: &mut K,
 ) -> Result<Val, ReadFault>
+    requires shallow { ∥ IsShallow view.now ∥₁ }
     ensures { LoadsPart H.hash_of view.now (K.moment store.old) result (K.moment store.new) }
 {
     // It does no work: its clauses say what acceptance says of the table.
@@ -64,6 +66,7 @@ fn tell_loaded<K: Store, H: KeyHash>(
     store: &mut K,
 ) -> Result<Tree, ReadFault>
     requires loads { is_loaded tell ≡ true }
+    requires shallow { ∥ IsShallow view.now ∥₁ }
     ensures { TellsHere H.hash_of view.now tell (K.moment store.old) result (K.moment store.new) }
 {
     let val = loaded(alloc, view, keys, store)?;
@@ -81,6 +84,7 @@ pub(crate) fn tell_here<K: Store, H: KeyHash>(
     keys: &H,
     store: &mut K,
 ) -> Result<Tree, ReadFault>
+    requires shallow { ∥ IsShallow view.now ∥₁ }
     ensures { TellsHere H.hash_of view.now tell (K.moment store.old) result (K.moment store.new) }
 {
     // It does no work, as above.

@@ -2,6 +2,7 @@
 ghost use Rattle.std.specs.Prelude.{◌≡◌, ◌⊎◌};
 ghost use Rattle.ild_data.specs.Seen.{data_of};
 ghost use Rattle.ild_script_meaning.specs.Lines.{printed};
+ghost use Rattle.ild_open.specs.Loaded.{IsShallow};
 ghost use Rattle.ild_run_reads.specs.Replies.{RepliesAs, refusal_of};
 
 use ild_data::{KeyHash, Path, Tree};
@@ -44,6 +45,7 @@ pub fn read<K: Store, H: KeyHash>(
     keys: &H,
     store: &mut K,
 ) -> Reply
+    requires shallow { ∥ IsShallow view.now ∥₁ }
     ensures { RepliesAs H.hash_of view.now path.now what (K.moment store.old) result (K.moment store.new) }
 {
     match tell(alloc, view, path, what, keys, store) {

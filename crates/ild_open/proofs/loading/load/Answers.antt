@@ -2,8 +2,9 @@ use Rattle.std.proofs.Common.{List, sym, subst}
 use Rattle.ild_data.specs.Seen.{data_of}
 use Rattle.ild_schema.specs.declared.number.Slot.{Slot}
 use Rattle.ild_schema.specs.declared.row.Row.{Row}
-use Rattle.ild_open.specs.Item.{LoadsAlone, LoadsPiece}
-use Rattle.ild_open.proofs.Carrying.{loads_scalar, loads_view, scalar_is}
+use Rattle.ild_open_held.specs.Splits.{HasFront}
+use Rattle.ild_open.specs.Item.{HasTree, LoadsAlone, LoadsPiece}
+use Rattle.ild_open.proofs.Carrying.{loads_scalar, loads_view, scalar_flat, scalar_front, scalar_is, shown_tree}
 use Rattle.ild_open.proofs.loading.load.Goals as goal
 
 pub returns-in-Some : goal.returns-in-Some
@@ -24,3 +25,20 @@ returns-in_ok-tree-in-None g c =
     loads_scalar h c.args.view.now m n d (scalar_is c.args.view.now d (sym c.in-None.ensures) c.args.view.now.stands c.in_ok-tree-in-None.ensures) c.load_alone.result
     (subst (λ (s : Slot). LoadsAlone h c.args.view.now.acc.now s d m c.load_alone.result n) c.slot-in-None.ensures
     (subst (λ (rows : List Row). LoadsAlone h rows c.slot-in-None.result d m c.load_alone.result n) c.schema-in-None.ensures c.load_alone.ensures))
+
+pub load_piece-requires-clause-tree : goal.load_piece-requires-clause-tree
+load_piece-requires-clause-tree g c =
+    subst (λ (rows : List Row). ∥ HasTree rows c.slot.result c.in-Some.piece ∥₁) (sym c.schema.ensures)
+    (subst (λ (s : Slot). ∥ HasTree c.args.view.now.acc.now s c.in-Some.piece ∥₁) (sym c.slot.ensures) (shown_tree c.args.view.now c.in-Some.piece (sym c.in-Some.ensures) c.requires.shallow))
+
+pub load_alone-requires-clause-front : goal.load_alone-requires-clause-front
+load_alone-requires-clause-front g c =
+    let d = data_of c.in_ok-tree-in-None.tree in
+    let same = scalar_is c.args.view.now d (sym c.in-None.ensures) c.args.view.now.stands c.in_ok-tree-in-None.ensures in
+    subst (λ (rows : List Row). ∥ HasFront rows 96 (c.slot-in-None.result, d) ∥₁) (sym c.schema-in-None.ensures)
+    (subst (λ (s : Slot). ∥ HasFront c.args.view.now.acc.now 96 (s, d) ∥₁) (sym c.slot-in-None.ensures) (scalar_front c.args.view.now d same c.requires.shallow))
+
+pub load_alone-requires-clause-flat : goal.load_alone-requires-clause-flat
+load_alone-requires-clause-flat g c =
+    let d = data_of c.in_ok-tree-in-None.tree in
+    scalar_flat c.args.view.now d (sym c.in-None.ensures) (scalar_is c.args.view.now d (sym c.in-None.ensures) c.args.view.now.stands c.in_ok-tree-in-None.ensures)

@@ -1,7 +1,11 @@
 use Rattle.std.proofs.Common.{Some, Ok, Err, drop, length, refl, ap, ◌∙◌, subst, arith}
+use Rattle.std.proofs.Math.Logic.{∥∥₁_map}
 use Rattle.std.proofs.lemmas.Result.{err_from_is_err_and}
+use Rattle.ild_schema.specs.Slots.{form_of}
 use Rattle.ild_typed.specs.Schema.{IsSchema}
 use Rattle.ild_run_follow.proofs.Leading.{below_length, enters_lower, key_behind, on_lower, stepped, tells_here, tells_in, tells_none}
+use Rattle.ild_view.specs.View.{slot_of, table_of}
+use Rattle.ild_run_follow.proofs.Shallow.{shallow_entry, shallow_here}
 use Rattle.ild_run_follow.proofs.Within.{tells_absent, tells_on, tells_refused, tells_stopped}
 use Rattle.ild_run_follow.proofs.following.+follow.Goals as goal
 
@@ -60,7 +64,15 @@ pub tell_in-tell_from-requires : goal.tell_in-tell_from-requires
 tell_in-tell_from-requires g t c = λ κs le.
     let here = ap Some c.as_str.ensures.same ∙ c.in-Some-get.ensures in
     let lower = on_lower (length c.args.path.now) c.args.k (below_length c.args.path.now c.args.k c.as_str.result.now here) in
-    (omega (arith, lower), le)
+    let node = c.in-Some-found.node in
+    let shallow = shallow_entry (table_of c.args.hamt) (form_of (table_of c.args.hamt) (slot_of c.args.hamt)) node c.in-Ok.part (∥∥₁_map node.stands (λ s. (s.of, s.spells))) c.in-Ok.ensures in
+    (omega (arith, lower), (le.0, (le.1, shallow)))
+
+pub tell_from-tell_here-requires : goal.tell_from-tell_here-requires
+tell_from-tell_here-requires g t c =
+    let schema = subst IsSchema c.schema.ensures (record { table = c.types-types.ensures.table; accepted = c.types-types.ensures.accepted }) in
+    shallow_here c.args.view schema c.args.from (drop c.args.from c.args.path.now) c.in-Ok-Here.part
+    (stepped c.args.view c.args.from (drop c.args.from c.args.path.now) c.in-Ok-Here.field-0 _ c.in-Ok-Here.field-0-is c.in-Ok-Here.ensures) c.requires
 
 pub tell_in-returns-in-Ok : goal.tell_in-returns-in-Ok
 tell_in-returns-in-Ok g t c =
