@@ -1,0 +1,6 @@
+pub mod Placing
+pub mod Alike
+pub mod Settling
+pub mod Growing
+pub mod Walking
+pub mod Parted
