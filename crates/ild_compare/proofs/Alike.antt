@@ -1,26 +1,20 @@
 -- Two values with one root block whose trees lead to blocks that two stores hold alike are one.
-use Rattle.std.proofs.Common.{◌≡◌, ℕ, List, [], ◌∷◌, Option, Some, None, refl, sym, ap, ◌∙◌, subst}
+use Rattle.std.proofs.Common.{◌≡◌, ℕ, List, [], ◌∷◌, Some, refl, sym, ap, ◌∙◌, subst}
 use Rattle.std.specs.Prelude.{Contains}
 use Rattle.std.specs.List.{AllByRecursion}
 use Rattle.std.proofs.lemmas.Option.{same_Some}
 use Rattle.ild_beneath.specs.Children.{AreOf, Child, children_in, children_of}
-use Rattle.ild_data.specs.Data.{Data}
-use Rattle.ild_data.specs.Spell.{id_of, spell}
+use Rattle.ild_data.specs.Spell.{id_of}
 use Rattle.ild_edges.specs.Store.{block_at}
-use Rattle.ild_schema.specs.Value.{Value}
 use Rattle.ild_schema.specs.declared.number.TypeNo.{TypeNo}
 use Rattle.ild_schema.specs.declared.row.Row.{Row}
-use Rattle.ild_typed.proofs.TreeKept.{one_stands}
 use Rattle.ild_typed.proofs.TreeNodes.{all_split}
 use Rattle.ild_typed.specs.Nested.{IsBlock}
-use Rattle.ild_typed.specs.Schema.{IsSchema}
-use Rattle.ild_typed.specs.Stands.{Stands, bare, blocks_of}
 use Rattle.ild_typed_places.proofs.Joining.{All}
 use Rattle.ild_typed_places.proofs.Listing.{all_contained}
-use Rattle.ild_typed_places.proofs.Telling.{from_places, to_places}
-use Rattle.ild_typed_places.specs.Places.{Places, nowhere, place, blocks_in, joined, value_places}
+use Rattle.ild_typed_places.specs.Places.{Places, nowhere, place, blocks_in}
 use Rattle.ild_compare.specs.Reached.{AreAlike, IsAlike}
-use Rattle.ild_compare.proofs.Placing.{bare_frame, told}
+use Rattle.ild_compare.proofs.Placing.{told}
 
 module _ (rows : List Row) (ty : TypeNo) (root : List ℕ) (left right : List (List ℕ)) (alike : AreAlike rows ty root (Some left) (Some right)) where
   -- a block that is held

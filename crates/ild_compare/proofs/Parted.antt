@@ -1,5 +1,5 @@
 -- Two values with one root are one, or a block of the one and a block of the other collide.
-use Rattle.std.proofs.Common.{◌≡◌, ◌≢◌, ◌⊎◌, inl, inr, ℕ, List, [], ◌∷◌, Bool, true, false, Option, Some, refl, sym, ap, ◌∙◌, subst, arith}
+use Rattle.std.proofs.Common.{◌≡◌, ◌≢◌, ◌⊎◌, inl, inr, ℕ, List, [], ◌∷◌, Bool, true, false, Option, Some, refl, sym, ap, ◌∙◌, subst}
 use Rattle.std.specs.Prelude.{Contains}
 use Rattle.std.specs.List.{AllByRecursion}
 use Rattle.std.specs.Cmp.Lexicographic.{same_text as texts_same, other_text}
@@ -9,7 +9,6 @@ use Rattle.ild_data.specs.Key.{same_text}
 use Rattle.ild_data.specs.Limits.{deepest}
 use Rattle.ild_data.specs.Spell.{id_of, spell}
 use Rattle.ild_data.specs.Tree.{IsTree}
-use Rattle.ild_edges.specs.Collide.{Collide}
 use Rattle.ild_schema.specs.Slots.{plainly}
 use Rattle.ild_schema.specs.Value.{Value}
 use Rattle.ild_schema.specs.declared.number.TypeNo.{TypeNo}
@@ -26,7 +25,7 @@ use Rattle.ild_typed_places.proofs.Listing.{all_one}
 use Rattle.ild_typed_places.proofs.Telling.{from_places, to_places}
 use Rattle.ild_typed_places.specs.Places.{Places, nowhere, place, blocks_in, joined, value_places}
 use Rattle.ild_compare.specs.Laws.{AnswersBytes, HaveCollision, PartedValuesCollide}
-use Rattle.ild_compare.proofs.Placing.{all_pairs, are_blocks, bare_frame, home, home_all, root_tells, told}
+use Rattle.ild_compare.proofs.Placing.{are_blocks, bare_frame, home, home_all, root_tells, told}
 
 decided : (d e : List ℕ) → (d ≡ e) ⊎ (d ≢ e)
 decided d e = by (same_text d e) refl where

@@ -1,9 +1,9 @@
 -- Where the blocks to which a root block leads stand among those of a value.
-use Rattle.std.proofs.Common.{◌≡◌, ◌⊎◌, inl, inr, ℕ, zero, suc, List, [], ◌∷◌, length, Option, Some, None, refl, sym, ap, ◌∙◌, subst, arith}
+use Rattle.std.proofs.Common.{◌≡◌, ℕ, zero, suc, List, [], ◌∷◌, length, Some, sym, ap, ◌∙◌, subst, arith}
 use Rattle.std.specs.Prelude.{Contains}
 use Rattle.std.specs.List.{AllByRecursion}
 use Rattle.std.specs.Option.{option_map_or}
-use Rattle.std.proofs.lemmas.Option.{same_Some, none-some}
+use Rattle.std.proofs.lemmas.Option.{same_Some}
 use Rattle.ild_beneath.proofs.Again.{data_again}
 use Rattle.ild_beneath.proofs.Heights.{fits_high}
 use Rattle.ild_beneath.proofs.Reading.{reads}
@@ -24,12 +24,12 @@ use Rattle.ild_typed.proofs.TreeBlocks.{blocks_within}
 use Rattle.ild_typed.proofs.TreeNodes.{all_split}
 use Rattle.ild_typed.specs.Nested.{IsBlock}
 use Rattle.ild_typed.specs.Schema.{IsSchema}
-use Rattle.ild_typed.specs.Stands.{IsFrame, Storable, Stands, bare, blocks_of}
+use Rattle.ild_typed.specs.Stands.{IsFrame, Storable, bare, blocks_of}
 use Rattle.ild_typed_places.proofs.Joining.{All, all_both}
 use Rattle.ild_typed_places.proofs.Listing.{all_contained, all_one}
 use Rattle.ild_typed_places.proofs.Telling.{to_places}
 use Rattle.ild_typed_places.specs.Places.{Places, nowhere, place, blocks_in, joined, places_in}
-use Rattle.ild_compare.specs.Reached.{IsUnder, LeadsTo}
+use Rattle.ild_compare.specs.Reached.{LeadsTo}
 
 pub bare_frame : IsFrame bare
 bare_frame = record { less = omega arith; apart = λ c d same. same; fits = λ d tree. tree; blocks = tt }

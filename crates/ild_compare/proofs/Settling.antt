@@ -1,15 +1,12 @@
 -- What a walk in step tells of the values that stand at two documents.
-use Rattle.std.proofs.Common.{◌≡◌, ◌≢◌, ◌⊎◌, inl, inr, ⊎_elim, ℕ, List, [], ◌∷◌, length, Option, Some, None, refl, sym, ap, ◌∙◌, subst, arith}
+use Rattle.std.proofs.Common.{◌≡◌, ◌≢◌, ◌⊎◌, inl, inr, ℕ, List, Option, Some, None, refl, sym, ap, ◌∙◌, subst, arith}
 use Rattle.std.specs.Prelude.{Contains, Result, Ok, Err}
-use Rattle.std.specs.List.{AllByRecursion}
 use Rattle.std.proofs.lemmas.Option.{none-some}
 use Rattle.ild_beneath.specs.Children.{AreOf, children_of}
-use Rattle.ild_cbor.specs.declared.why.BlockWhy.{BlockWhy}
 use Rattle.ild_data.specs.Bytes.{AreBytes}
 use Rattle.ild_data.specs.Limits.{deepest}
-use Rattle.ild_data.specs.Spell.{id_of, spell}
+use Rattle.ild_data.specs.Spell.{id_of}
 use Rattle.ild_data.specs.Tree.{IsTree}
-use Rattle.ild_edges.specs.Collide.{Collide}
 use Rattle.ild_edges.specs.Store.{Moment, block_at}
 use Rattle.ild_edges.specs.Told.{IfTold}
 use Rattle.ild_open.specs.Opened.{StandsInBlock}
@@ -33,10 +30,10 @@ use Rattle.ild_view_doc.specs.declared.doc.Doc.{Doc}
 use Rattle.ild_compare.specs.Compared.{CompareAnswer, Compares, IsBlockOf, NotBoth, StandsFor, root_in}
 use Rattle.ild_compare.specs.Copied.{compared_as}
 use Rattle.ild_compare.specs.Reached.{AreAlike, IsBeneath, IsLacking, IsUnder}
-use Rattle.ild_compare.specs.Walked.{Parts, WalkAnswer, Walks}
+use Rattle.ild_compare.specs.Walked.{WalkAnswer, Walks}
 use Rattle.ild_compare.specs.declared.compared.Compared.{Compared}
 use Rattle.ild_compare.specs.declared.compared.Compared.TheVariants as C
-use Rattle.ild_compare.proofs.Alike.{Held, one_home}
+use Rattle.ild_compare.proofs.Alike.{one_home}
 use Rattle.ild_compare.proofs.Placing.{all_pairs, are_blocks, bare_frame, home, home_all, led, placed_block, root_tells}
 
 module _ (h : List ℕ → List ℕ) (rows : List Row) (schema : IsSchema rows) (ty : TypeNo) where

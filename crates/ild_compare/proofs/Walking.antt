@@ -1,10 +1,9 @@
 -- A walk of two trees in step, so far.
-use Rattle.std.proofs.Common.{◌≡◌, ◌⊎◌, inl, inr, ℕ, zero, suc, ◌+◌, ◌≤◌, ◌<◌, List, [], ◌∷◌, ◌++◌, length, take, get_or, Option, Some, None, refl, sym, ap, ◌∙◌, subst, arith}
-use Rattle.std.specs.Prelude.{Contains, Result, Ok, Err}
+use Rattle.std.proofs.Common.{◌≡◌, ◌⊎◌, inl, inr, ℕ, zero, suc, ◌+◌, ◌≤◌, ◌<◌, List, [], ◌∷◌, ◌++◌, length, take, get_or, Option, Some, None, sym, ap, ◌∙◌, subst, arith}
+use Rattle.std.specs.Prelude.{Contains, Ok, Err}
 use Rattle.std.specs.List.{AllByRecursion}
 use Rattle.std.proofs.lemmas.List.{take_all, take_more, take-append-le}
 use Rattle.ild_beneath.specs.Children.{Child, children_of}
-use Rattle.ild_cbor.specs.declared.why.BlockWhy.{BlockWhy}
 use Rattle.ild_data.specs.Spell.{id_of}
 use Rattle.ild_edges.specs.Count.{Rose}
 use Rattle.ild_edges.specs.Store.{Moment, block_at}
@@ -20,10 +19,10 @@ use Rattle.ild_typed.proofs.Rooms.{all_more}
 use Rattle.ild_typed.proofs.Treed.{all_append}
 use Rattle.ild_typed_places.proofs.Listing.{all_contained}
 use Rattle.ild_compare.specs.Fetching.{Lacks}
-use Rattle.ild_compare.specs.Reached.{AreAlike, IsAlike, IsBeneath, IsLacking, IsMet, IsUnder, LeadsTo}
+use Rattle.ild_compare.specs.Reached.{IsAlike, IsBeneath, IsLacking, IsMet, IsUnder, LeadsTo}
 use Rattle.ild_compare.specs.Spots.{Grows}
-use Rattle.ild_compare.specs.Steps.{HasOne, HasTwo, StepAnswer, Steps}
-use Rattle.ild_compare.specs.Walked.{Parts, WalkAnswer, Walks}
+use Rattle.ild_compare.specs.Steps.{StepAnswer, Steps}
+use Rattle.ild_compare.specs.Walked.{WalkAnswer, Walks}
 use Rattle.ild_compare.proofs.Growing.{still_all}
 
 module _ (rows : List Row) (ty : TypeNo) (root : List ℕ) (left right : Moment) where

@@ -1,5 +1,5 @@
 -- The blocks to which a root block leads, by what blocks tell of their children, where a store holds the blocks on the way.
-use Rattle.std.specs.Prelude.{◌≡◌, ◌⊎◌, ℕ, zero, suc, List, Option, Some, None, Contains}
+use Rattle.std.specs.Prelude.{◌≡◌, ℕ, zero, suc, List, Option, Some, None, Contains}
 use Rattle.std.specs.List.{AllByRecursion}
 use Rattle.ild_beneath.specs.Children.{Child, children_of}
 use Rattle.ild_data.specs.Spell.{id_of}

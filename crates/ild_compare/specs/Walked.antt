@@ -1,8 +1,6 @@
 -- What a walk of two trees in step tells.
-use Rattle.std.specs.Prelude.{◌≡◌, ◌≢◌, ◌⊎◌, ℕ, List, Option, Some, None, Result, Ok, Err}
-use Rattle.ild_cbor.specs.declared.why.BlockWhy.{BlockWhy}
+use Rattle.std.specs.Prelude.{◌≡◌, ◌⊎◌, ℕ, List, Option, Some, None, Result, Ok, Err}
 use Rattle.ild_cbor.specs.declared.why.BlockWhy.TheVariants.{Missing}
-use Rattle.ild_data.specs.Bytes.{AreBytes}
 use Rattle.ild_data.specs.Spell.{id_of}
 use Rattle.ild_edges.specs.Collide.{Collide}
 use Rattle.ild_edges.specs.Count.{Rose}

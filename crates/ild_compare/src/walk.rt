@@ -1,5 +1,5 @@
 //! Two trees of blocks, walked in step.
-ghost use Rattle.std.specs.Prelude.{◌≡◌, ◌<◌, OnOk, length, map, true, false};
+ghost use Rattle.std.specs.Prelude.{◌<◌, OnOk, length, map};
 ghost use Rattle.ild_beneath.specs.Children.{children_of};
 ghost use Rattle.ild_compare.specs.Fetching.{FetchesBoth};
 ghost use Rattle.ild_compare.specs.Spots.{Grows};

@@ -1,5 +1,5 @@
 -- The value of data, as that of a piece and of a view.
-use Rattle.std.proofs.Common.{◌≡◌, ℕ, ◌+◌, ◌≤◌, List, length, Bool, true, false, Some, None, Option, refl, sym, ◌∙◌, ap, subst, arith}
+use Rattle.std.proofs.Common.{◌≡◌, ℕ, ◌≤◌, List, length, Bool, true, false, Some, None, Option, refl, sym, ◌∙◌, ap, subst, arith}
 use Rattle.std.specs.Prelude.{◌||◌, not, slice_get, Result, Ok, Err}
 use Rattle.std.specs.Option.{option_map_or}
 use Rattle.std.proofs.Math.Bool.{Bool-set}
@@ -24,7 +24,6 @@ use Rattle.ild_layer_parts.specs.Ready.{IsInlined}
 use Rattle.ild_layer_piece.specs.Pieces.{IsNumbered, StandsFor}
 use Rattle.ild_schema.specs.Slots.{form_of}
 use Rattle.ild_schema.specs.Value.{Value}
-use Rattle.ild_schema.specs.ValueSeen.{value_of}
 use Rattle.ild_schema.specs.declared.def.Scalar.{Scalar}
 use Rattle.ild_schema.specs.declared.def.Scalar.TheVariants as C
 use Rattle.ild_schema.specs.declared.def.TypeDef.{TypeDef}

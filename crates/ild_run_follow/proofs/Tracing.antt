@@ -60,7 +60,7 @@ module _ (h : List ℕ → List ℕ) (k : List ℕ) (slots : List TrieSlot) (m n
 
 module _ (rows : List Row) (schema : IsSchema rows) (never : RefusedHaveNoFront) (d : Option TypeDef) (node : Node) (slot : Slot) (is : IsValueSlot rows d (Some slot)) (t : Data) where
   pub checks_view : (view : View) → Views rows 96 slot node t (Ok view) → ChecksEntry rows d node t (Ok view)
-  checks_view view v = (slot, is.0, v.0, v.1.0, v.1.1.fits, v.1.1.tree)
+  checks_view view v = (slot, is.0, v.0, (v.1.0, v.1.1.fits, v.1.1.tree))
 
   pub checks_refused : (id : BlockId) (w : BlockWhy) (ty : TypeNo) (why : Why) → IsRefusal rows 96 slot t ty why → ChecksEntry rows d node t (Err (F.Block id w))
   checks_refused id w ty why v = λ s e shows.

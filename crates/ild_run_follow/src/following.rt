@@ -24,7 +24,7 @@ fn tell_from<'b, K: Store, H: KeyHash>(
     keys: &H,
     store: &mut K,
 ) -> Result<Tree, ReadFault>
-    requires shallow { ∥ IsShallow view.entry ∥₁ }
+    requires shallow { ∥ IsShallow view ∥₁ }
     ensures { TellsFrom H.hash_of view.entry (drop from path.now) tell (K.moment store.old) result (K.moment store.new) }
 {
     // It does no work: its clauses say what acceptance says of the table.

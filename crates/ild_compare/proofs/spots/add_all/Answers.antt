@@ -4,7 +4,7 @@ use Rattle.ild_beneath.specs.Children.{Child as Told}
 use Rattle.ild_dirty.specs.Beneath.{child_seen}
 use Rattle.ild_dirty.specs.declared.beneath.Child.{Child}
 use Rattle.ild_compare.specs.Spots.{Grows}
-use Rattle.ild_compare.proofs.Growing.{grows_none, grows_then}
+use Rattle.ild_compare.proofs.Growing.{grows_then}
 use Rattle.ild_compare.proofs.spots.add_all.Goals as goal
 
 pub loop-child-preserved : goal.loop-child-preserved

@@ -1,6 +1,5 @@
 use Rattle.std.proofs.Common.{sym, ◌∙◌, subst}
 use Rattle.ild_cbor.specs.Nodes.{Stands}
-use Rattle.ild_data.specs.Data.{Data}
 use Rattle.ild_data.specs.Seen.{data_of}
 use Rattle.ild_typed.proofs.Wholes.{one_within}
 use Rattle.ild_open.proofs.Carrying.{loads_spelled, spelled_flat, spelled_tree}
