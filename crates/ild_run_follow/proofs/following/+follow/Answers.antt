@@ -71,8 +71,10 @@ tell_in-tell_from-requires g t c = λ κs le.
 pub tell_from-tell_here-requires : goal.tell_from-tell_here-requires
 tell_from-tell_here-requires g t c =
     let schema = subst IsSchema c.schema.ensures (record { table = c.types-types.ensures.table; accepted = c.types-types.ensures.accepted }) in
-    shallow_here c.args.view schema c.args.from (drop c.args.from c.args.path.now) c.in-Ok-Here.part
-    (stepped c.args.view c.args.from (drop c.args.from c.args.path.now) c.in-Ok-Here.field-0 _ c.in-Ok-Here.field-0-is c.in-Ok-Here.ensures) c.requires.shallow
+    record {
+      shallow = shallow_here c.args.view schema c.args.from (drop c.args.from c.args.path.now) c.in-Ok-Here.part
+          (stepped c.args.view c.args.from (drop c.args.from c.args.path.now) c.in-Ok-Here.field-0 _ c.in-Ok-Here.field-0-is c.in-Ok-Here.ensures) c.requires.shallow;
+    }
 
 pub tell_in-returns-in-Ok : goal.tell_in-returns-in-Ok
 tell_in-returns-in-Ok g t c =
