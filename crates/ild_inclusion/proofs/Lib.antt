@@ -1,0 +1,8 @@
+mod Mapping
+mod Meeting
+mod Single
+mod Ways
+mod Stepping
+mod Onward
+mod Slots
+mod Rooted

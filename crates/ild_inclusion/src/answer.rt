@@ -1,0 +1,11 @@
+//! What a proof says.
+use ild_data::Octets;
+
+/// What a proof says of a path.
+#[derive(Drop)]
+pub enum Answer {
+    /// It leads to a part whose representation is spelled so; of a HAMT its root map alone.
+    Here(Octets),
+    /// It leads nowhere from the segment with this number on.
+    Absent(usize),
+}

@@ -1,0 +1,134 @@
+//! Proofs with every bit of a block turned over, and with the longest way.
+use crate::blocks::{FOUR, FOUR_CHILD};
+use crate::told::{is_answered, proof_of, schema};
+use ild_data::{BlockId, Octets, PadKeys, block_id};
+use ild_inclusion::Proof;
+use ild_schema::Accepted;
+use std::alloc::Global;
+use std::test::Fail;
+
+/// A block with one bit turned over.
+fn turned(alloc: Global, block: &[u8], at: usize, bit: u8) -> Option<Vec<u8>> {
+    let mut other = block.to_vec(alloc).ok()?;
+    match other.get_mut(at) {
+        Some(byte) => {
+            *byte ^= bit;
+        }
+        None => return None,
+    }
+    Some(other)
+}
+
+/// Whether a proof of two blocks, of which one has a bit turned over, is answered so.
+fn is_refused(
+    alloc: Global,
+    acc: &Accepted,
+    first: bool,
+    at: usize,
+    bit: u8,
+    want: (&str, usize, &[u8]),
+) -> Option<bool> {
+    let proof = if first {
+        proof_of(
+            alloc,
+            &[turned(alloc, FOUR, at, bit)?.as_slice(), FOUR_CHILD],
+        )?
+    } else {
+        proof_of(
+            alloc,
+            &[FOUR, turned(alloc, FOUR_CHILD, at, bit)?.as_slice()],
+        )?
+    };
+    is_answered(alloc, acc, "H", FOUR, &["\0\x02"], &proof, &PadKeys, want)
+}
+
+#[test]
+fn a_bit_of_the_root(rt: HostRuntime) -> Result<(), Fail> {
+    let acc = schema(rt.alloc())?;
+    for at in 0..FOUR.len() {
+        for bit in [1, 2, 4, 8, 16, 32, 64, 128] {
+            let so = is_refused(rt.alloc(), &acc, true, at, bit, ("root", 0, b""));
+            assert_eq!(rt; so, Some(true));
+        }
+    }
+    Ok(())
+}
+
+#[test]
+fn a_bit_of_the_child(rt: HostRuntime) -> Result<(), Fail> {
+    let acc = schema(rt.alloc())?;
+    for at in 0..FOUR_CHILD.len() {
+        for bit in [1, 2, 4, 8, 16, 32, 64, 128] {
+            let so = is_refused(rt.alloc(), &acc, false, at, bit, ("missing", 1, b""));
+            assert_eq!(rt; so, Some(true));
+        }
+    }
+    Ok(())
+}
+
+/// The node whose first slot is the link to a block.
+fn over(alloc: Global, child: &BlockId) -> Option<Vec<u8>> {
+    let mut block = Vec::new(alloc);
+    block.extend_from_slice(b"\x82\x58\x20\x01").ok()?;
+    block.extend_from_slice(&[0; 31]).ok()?;
+    block
+        .extend_from_slice(b"\x81\xd8\x2a\x58\x25\x00\x01\x71\x12\x20")
+        .ok()?;
+    block.extend_from_slice(&child.0).ok()?;
+    Some(block)
+}
+
+/// So many nodes, each over the next one at its first slot, from the top down; the last is over `FOUR_CHILD`. The first is in a root map.
+fn chain(alloc: Global, count: usize) -> Option<Vec<Octets>> {
+    let mut up = Vec::new(alloc);
+    let mut id = block_id(FOUR_CHILD);
+    for i in 0..count {
+        let node = over(alloc, &id)?;
+        let block = if i + 1 == count {
+            let mut root = Vec::new(alloc);
+            root.extend_from_slice(b"\xa3\x64hamt").ok()?;
+            root.extend_from_slice(&node).ok()?;
+            root.extend_from_slice(b"\x67hashAlg\x12\x6abucketSize\x03")
+                .ok()?;
+            root
+        } else {
+            node
+        };
+        id = block_id(&block);
+        up.push(Octets::from_vec(block)).ok()?;
+    }
+    up.reverse();
+    Some(up)
+}
+
+/// Whether the proof of a key of 32 bytes 0 that goes through so many nodes is answered so.
+fn is_so(alloc: Global, acc: &Accepted, count: usize, want: (&str, usize, &[u8])) -> Option<bool> {
+    let key = "\0\0\0\0\0\0\0\0\0\0\0\0\0\0\0\0\0\0\0\0\0\0\0\0\0\0\0\0\0\0\0\0";
+    let blocks = chain(alloc, count)?;
+    let mut proof = Proof::new(alloc);
+    for block in &blocks {
+        proof.push(block.copy().ok()?).ok()?;
+    }
+    proof.push(Octets::of(alloc, FOUR_CHILD).ok()?).ok()?;
+    let root = blocks.first()?;
+    is_answered(
+        alloc,
+        acc,
+        "H",
+        root.as_slice(),
+        &[key],
+        &proof,
+        &PadKeys,
+        want,
+    )
+}
+
+#[test]
+fn a_link_at_the_last_level(rt: HostRuntime) -> Result<(), Fail> {
+    let acc = schema(rt.alloc())?;
+    let last = is_so(rt.alloc(), &acc, 31, ("absent", 0, b""));
+    assert_eq!(rt; last, Some(true));
+    let beyond = is_so(rt.alloc(), &acc, 32, ("shape", 31, b""));
+    assert_eq!(rt; beyond, Some(true));
+    Ok(())
+}

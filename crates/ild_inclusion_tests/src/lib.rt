@@ -1,0 +1,11 @@
+//! Tests of proofs: what they say, and what is wrong with them first.
+#![tactic(auto)]
+
+#[cfg(test)]
+mod blocks;
+#[cfg(test)]
+mod damaged;
+#[cfg(test)]
+mod said;
+#[cfg(test)]
+mod told;
