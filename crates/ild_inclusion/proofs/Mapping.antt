@@ -1,5 +1,5 @@
 -- What holds behind a walk may be exchanged for what follows from it.
-use Rattle.std.proofs.Common.{◌≡◌, ℕ, ◌+◌, List, [], ◌∷◌, Option, Some, None, Ok, Err}
+use Rattle.std.proofs.Common.{ℕ, ◌+◌, List, [], ◌∷◌, Option, Some, None, Ok, Err}
 use Rattle.std.specs.Prelude.{get_or, MatchOption}
 use Rattle.ild_cbor.specs.Block.{IsBlockOf}
 use Rattle.ild_data.specs.Data.{Data}
@@ -10,14 +10,13 @@ use Rattle.ild_path_edits.specs.Along.{room_below}
 use Rattle.ild_schema.specs.declared.number.Slot.{Slot}
 use Rattle.ild_schema.specs.declared.number.TypeNo.{TypeNo}
 use Rattle.ild_schema.specs.declared.row.Row.{Row}
-use Rattle.ild_schema.specs.Value.{Value}
 use Rattle.ild_typed.specs.At.{InSlot, seen}
 use Rattle.ild_typed.specs.Composed.{usual}
 use Rattle.ild_typed.specs.Segment.{part}
 use Rattle.ild_view.specs.Roots.{root_in}
 use Rattle.ild_inclusion.specs.Branches.{Whether, so, not_so, Finds, found, not_found}
-use Rattle.ild_inclusion.specs.Way.{AtSlot, LevelLeft, NextNode, NodeAt, NodeIn, OnWay, Spelling}
-use Rattle.ild_inclusion.specs.Says.{AtKey, Ends, EndsHere, Enters, EntersRoot, Follows, Goes, GoesToSlot, Outcome, Walks}
+use Rattle.ild_inclusion.specs.Way.{AtSlot, NextNode, NodeIn, OnWay}
+use Rattle.ild_inclusion.specs.Says.{AtKey, Ends, Enters, Follows, Goes, GoesToSlot, Outcome, Walks}
 use Rattle.ild_inclusion.specs.declared.answer.Answer.{Answer}
 use Rattle.ild_inclusion.specs.declared.answer.Answer.TheVariants as A
 use Rattle.ild_inclusion.specs.declared.fault.Reject.{Reject}

@@ -1,12 +1,12 @@
 -- A walk has one outcome: what holds behind two walks of the same blocks meets at one place.
-use Rattle.std.proofs.Common.{◌≡◌, ℕ, ◌+◌, List, [], ◌∷◌, Option, Some, None, Ok, Err, refl, sym, ap, ◌∙◌, subst, arith}
+use Rattle.std.proofs.Common.{◌≡◌, ℕ, ◌+◌, List, [], ◌∷◌, Option, Some, None, Ok, Err, sym, ◌∙◌, subst, arith}
 use Rattle.std.specs.Prelude.{get_or, MatchOption}
 use Rattle.std.proofs.lemmas.Option.{same_Some}
 use Rattle.ild_cbor.specs.Block.{IsBlockOf}
 use Rattle.ild_data.proofs.Apart.{one_meaning}
 use Rattle.ild_data.specs.Data.{Data}
 use Rattle.ild_data.specs.Limits.{deepest}
-use Rattle.ild_data.specs.Spell.{id_of, spell}
+use Rattle.ild_data.specs.Spell.{spell}
 use Rattle.ild_data.specs.Trie.{TrieSlot, empty, bucket, child, node_data}
 use Rattle.ild_data.specs.TrieShape.{index}
 use Rattle.ild_hamt_trie.proofs.Bits.{same_node}
@@ -27,8 +27,8 @@ use Rattle.ild_typed.specs.Segment.{part}
 use Rattle.ild_typed.specs.Slots.{element_of}
 use Rattle.ild_view.specs.Roots.{root_in}
 use Rattle.ild_inclusion.specs.Branches.{Whether, so, not_so, Finds, found, not_found}
-use Rattle.ild_inclusion.specs.Way.{AtSlot, IsNodeOf, LevelLeft, NodeAt, NodeIn, OnWay, Spelling}
-use Rattle.ild_inclusion.specs.Says.{AtKey, Ends, EndsHere, Enters, EntersRoot, Follows, Fronted, Goes, GoesToSlot, Outcome, Walks}
+use Rattle.ild_inclusion.specs.Way.{AtSlot, IsNodeOf, NodeIn, OnWay}
+use Rattle.ild_inclusion.specs.Says.{AtKey, Ends, EndsHere, Enters, Follows, Fronted, Goes, GoesToSlot, Outcome, Walks}
 use Rattle.ild_inclusion.specs.declared.answer.Answer.{Answer}
 use Rattle.ild_inclusion.specs.declared.answer.Answer.TheVariants as A
 use Rattle.ild_inclusion.specs.declared.fault.Reject.{Reject}

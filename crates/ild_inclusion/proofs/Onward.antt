@@ -1,10 +1,7 @@
 -- A path from segment to segment.
-use Rattle.std.proofs.Common.{◌≡◌, ◌<◌, ◌-◌, ℕ, suc, zero, ◌+◌, List, [], ◌∷◌, length, drop, Option, Some, None, Result, Ok, Err, refl, sym, ap, ◌∙◌, subst, add-one, arith}
-use Rattle.std.specs.Borrow.{Bor}
+use Rattle.std.proofs.Common.{◌≡◌, ◌<◌, ◌-◌, ℕ, suc, zero, ◌+◌, List, [], ◌∷◌, length, drop, Some, Result, Ok, Err, refl, sym, ap, ◌∙◌, subst, add-one, arith}
 use Rattle.std.specs.Prelude.{slice_get, get_or}
 use Rattle.std.proofs.lemmas.Option.{none-some, same_Some}
-use Rattle.ild_data.specs.Data.{Data}
-use Rattle.ild_data.specs.Spell.{spell}
 use Rattle.ild_path_edits.specs.Along.{room_below}
 use Rattle.ild_schema.specs.Value.{Value}
 use Rattle.ild_schema.specs.declared.number.Slot.{Slot}
@@ -14,8 +11,7 @@ use Rattle.ild_typed.specs.Hamt.{alone}
 use Rattle.ild_typed.specs.Represented.{represented}
 use Rattle.ild_view.specs.Parts.{IsPartView}
 use Rattle.ild_view.specs.View.{IsView, slot_of, table_of}
-use Rattle.ild_view.specs.declared.view.View.{View}
-use Rattle.ild_inclusion.specs.Given.{Gives, HasMemory, IsStand, OffGiven, OnGiven, RefusedGiven}
+use Rattle.ild_inclusion.specs.Given.{Gives, HasMemory, OffGiven, OnGiven, RefusedGiven}
 use Rattle.ild_inclusion.specs.Says.{Ends, EndsHere, Follows, Goes}
 use Rattle.ild_inclusion.specs.Shown.{IsShown}
 use Rattle.ild_inclusion.specs.declared.answer.Answer.{Answer}
@@ -28,7 +24,7 @@ use Rattle.ild_inclusion.specs.declared.end.End.{End}
 use Rattle.ild_inclusion.specs.declared.segment.Step.{Step}
 use Rattle.ild_inclusion.specs.declared.segment.Step.TheVariants as S
 use Rattle.ild_inclusion.specs.declared.stand.Stand.{Stand}
-use Rattle.ild_inclusion.proofs.Mapping.{ends_map, goes_map}
+use Rattle.ild_inclusion.proofs.Mapping.{goes_map}
 
 -- The walk stands at a view, before the segment with this number: what is given of the rest, whatever front the view stands for, is given of the whole.
 pub record IsOnPath (h : List ℕ → List ℕ) (rows : List Row) (room i : ℕ) (p : InSlot) (path bs : List (List ℕ)) (k : ℕ) (x : Stand) : Type 0 where

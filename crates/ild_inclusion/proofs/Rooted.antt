@@ -1,5 +1,5 @@
 -- The first block of a proof.
-use Rattle.std.proofs.Common.{◌≡◌, ℕ, List, [], ◌∷◌, Ok, Err, Result, refl, sym, ap, ◌∙◌, subst}
+use Rattle.std.proofs.Common.{◌≡◌, ℕ, List, ◌∷◌, Ok, Err, Result, sym, ap, subst}
 use Rattle.ild_cbor.specs.Block.{IsBlockOf}
 use Rattle.ild_cbor.specs.Nodes.{Stands}
 use Rattle.ild_cbor.specs.declared.node.Node.{Node}
@@ -16,11 +16,10 @@ use Rattle.ild_view.specs.Parts.{IsPartView}
 use Rattle.ild_view.specs.View.{IsView, slot_of, table_of}
 use Rattle.ild_view.specs.declared.view.View.{View}
 use Rattle.ild_inclusion.specs.Branches.{so}
-use Rattle.ild_inclusion.specs.Given.{FrontGiven, Gives, HasMemory, RefusedGiven, SpellingGiven, WrongGiven}
+use Rattle.ild_inclusion.specs.Given.{FrontGiven, Gives, RefusedGiven, SpellingGiven, WrongGiven}
 use Rattle.ild_inclusion.specs.Says.{Follows, Fronted, Walks}
 use Rattle.ild_inclusion.specs.Way.{Spelling}
 use Rattle.ild_inclusion.specs.declared.answer.Answer.{Answer}
-use Rattle.ild_inclusion.specs.declared.fault.Reject.{Reject}
 use Rattle.ild_inclusion.specs.declared.fault.Reject.TheVariants as R
 use Rattle.ild_inclusion.specs.declared.fault.VerifyErr.{VerifyErr}
 use Rattle.ild_inclusion.specs.declared.fault.VerifyErr.TheVariants as V

@@ -12,7 +12,6 @@ use Rattle.ild_typed.proofs.OneValue.{element_safe, plain_safe, safe_parts}
 use Rattle.ild_typed.specs.Fits.{Front}
 use Rattle.ild_typed.specs.Schema.{IsSchema}
 use Rattle.ild_typed.specs.Slots.{element_of}
-use Rattle.ild_inclusion.specs.Laws.{ProofsSayOneThing}
 use Rattle.ild_inclusion.specs.Says.{Outcome, Walks}
 use Rattle.ild_inclusion.proofs.Meeting.{walks_meet}
 use Rattle.ild_schema.proofs.Legibly.{legible}

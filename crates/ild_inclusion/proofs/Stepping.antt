@@ -1,7 +1,6 @@
 -- One segment from a value.
-use Rattle.std.proofs.Common.{◌≡◌, ◌-◌, ℕ, ◌+◌, List, [], ◌∷◌, Option, Some, None, Result, Ok, Err, refl, sym, ap, ◌∙◌, subst}
-use Rattle.std.specs.Borrow.{Bor}
-use Rattle.std.specs.Prelude.{MatchOption, option_map}
+use Rattle.std.proofs.Common.{◌≡◌, ◌-◌, ℕ, List, Option, Some, None, Result, Ok, Err, refl, sym, ap, ◌∙◌, subst}
+use Rattle.std.specs.Prelude.{MatchOption}
 use Rattle.std.proofs.lemmas.Option.{none-some, same_Some}
 use Rattle.ild_cbor.specs.Nodes.{Stands}
 use Rattle.ild_cbor.specs.declared.node.Node.{Node}
@@ -24,7 +23,6 @@ use Rattle.ild_typed.specs.Composed.{composed, usual}
 use Rattle.ild_typed.specs.Fits.{Front}
 use Rattle.ild_typed.specs.Hamt.{alone}
 use Rattle.ild_typed.specs.Layer as L
-use Rattle.ild_typed.specs.Layer.{Layer}
 use Rattle.ild_typed.specs.Represented.{represented}
 use Rattle.ild_typed.specs.Segment.{part}
 use Rattle.ild_typed.specs.Slots.{element_of}
@@ -35,13 +33,12 @@ use Rattle.ild_view.specs.View.{IsView, IsViewAt, body_of, piece_in, slot_of, ta
 use Rattle.ild_view.specs.declared.body.Body.{Body}
 use Rattle.ild_view.specs.declared.body.Body.TheVariants as B
 use Rattle.ild_view.specs.declared.view.View.{View}
-use Rattle.ild_inclusion.specs.Given.{EndGiven, FrontGiven, HasMemory, IsEnd, IsMapOf, IsStand, OffGiven, OnGiven, RefusedGiven, ValueGiven, WrongGiven}
+use Rattle.ild_inclusion.specs.Given.{EndGiven, FrontGiven, IsEnd, IsMapOf, OffGiven, OnGiven, RefusedGiven, ValueGiven, WrongGiven}
 use Rattle.ild_inclusion.specs.Says.{AtKey, Enters, EntersRoot, Fronted, Goes, GoesToSlot}
 use Rattle.ild_inclusion.specs.Way.{OnWay}
 use Rattle.ild_inclusion.specs.declared.end.End.{End}
 use Rattle.ild_inclusion.specs.declared.segment.Step.{Step}
 use Rattle.ild_inclusion.specs.declared.segment.Step.TheVariants as S
-use Rattle.ild_inclusion.specs.declared.stand.Stand.{Stand}
 use Rattle.ild_inclusion.specs.declared.fault.Reject.TheVariants as R
 use Rattle.ild_inclusion.proofs.Mapping.{finds_map, way_map}
 use Rattle.ild_node_slots.specs.declared.view.NodeView.{NodeView}

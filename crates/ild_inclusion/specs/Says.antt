@@ -1,6 +1,5 @@
 -- What blocks say of a path into the value of a type under a root (IPLD HashMap; IPLD Schemas): the part to which it leads, or from where on it leads nowhere; or else what is wrong first on the way.
 use Rattle.std.specs.Prelude.{◌≡◌, ℕ, ◌+◌, List, [], ◌∷◌, Option, Some, None, MatchOption, Result, Ok, Err}
-use Rattle.ild_cbor.specs.Block.{IsBlockOf}
 use Rattle.ild_data.specs.Data.{Data}
 use Rattle.ild_data.specs.Limits.{deepest}
 use Rattle.ild_data.specs.Spell.{id_of, spell}

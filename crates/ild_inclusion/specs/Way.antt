@@ -1,5 +1,5 @@
 -- The nodes on a key's way, one block behind another (IPLD HashMap, "Algorithm in detail"): where the way ends and with what value, or what is wrong first.
-use Rattle.std.specs.Prelude.{◌≡◌, ◌<◌, ℕ, ◌+◌, List, [], ◌∷◌, get_or, Option, Some, None}
+use Rattle.std.specs.Prelude.{◌≡◌, ◌<◌, ℕ, ◌+◌, List, [], ◌∷◌, get_or, Option, None}
 use Rattle.std.specs.FinMap.{find}
 use Rattle.ild_cbor.specs.Block.{IsBlockOf}
 use Rattle.ild_data.specs.ByteOrder.{bytewise}

@@ -1,5 +1,5 @@
 -- The way of a key through blocks, in the trie of which a store holds the nodes.
-use Rattle.std.proofs.Common.{◌≡◌, ◌<◌, ℕ, zero, suc, ◌+◌, List, [], ◌∷◌, length, Option, Some, None, inl, inr, refl, sym, ap, ◌∙◌, subst, arith}
+use Rattle.std.proofs.Common.{◌≡◌, ℕ, zero, suc, ◌+◌, List, [], ◌∷◌, false, Option, Some, inl, inr, refl, sym, ap, ◌∙◌, subst, arith}
 use Rattle.std.specs.Prelude.{◌⊎◌, Contains, get_or}
 use Rattle.std.specs.FinMap.{find}
 use Rattle.std.proofs.lemmas.Option.{none-some}
@@ -10,7 +10,7 @@ use Rattle.ild_data.specs.ByteOrder.{IsInOrder, bytewise}
 use Rattle.ild_data.specs.Data.{Data}
 use Rattle.ild_data.specs.Limits.{IsWithin}
 use Rattle.ild_data.specs.Spell.{id_of, spell}
-use Rattle.ild_data.specs.Trie.{TrieSlot, at_depth, bucket, bucket_entries, child, empty, is_child, node_data, node_of, part, slots_at}
+use Rattle.ild_data.specs.Trie.{TrieSlot, at_depth, bucket, bucket_entries, child, empty, is_child, node_of, part, slots_at}
 use Rattle.ild_hamt_trie.proofs.Bits.{same_node}
 use Rattle.ild_hamt_trie.proofs.Node.{no_node, slot-child, slot-held}
 use Rattle.ild_hamt_trie.proofs.Parts.{in_order-part}
@@ -18,7 +18,7 @@ use Rattle.ild_hamt_trie.proofs.Way.{find-along}
 use Rattle.ild_node_slots.proofs.Fits.{whole_map}
 use Rattle.ild_typed.proofs.TrieTells.{NodeSlots, node_slots}
 use Rattle.ild_typed.specs.Composed.{usual}
-use Rattle.ild_inclusion.specs.Branches.{Finds, Whether, found, not_found, not_so, so}
+use Rattle.ild_inclusion.specs.Branches.{found, not_found, not_so, so}
 use Rattle.ild_inclusion.specs.Way.{AtSlot, IsNodeOf, LevelLeft, NodeAt, NodeIn, OnWay, Spelling}
 use Rattle.ild_inclusion.specs.declared.fault.Reject.{Reject}
 use Rattle.ild_inclusion.specs.declared.fault.Reject.TheVariants as R

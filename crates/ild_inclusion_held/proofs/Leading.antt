@@ -1,16 +1,15 @@
 -- What blocks say of a path, a value answers that stands under the root.
-use Rattle.std.proofs.Common.{◌≡◌, ◌≤◌, ℕ, suc, ◌+◌, List, [], ◌∷◌, Bool, true, false, Option, Some, None, Ok, Err, inl, inr, refl, sym, ap, ◌∙◌, subst, arith}
+use Rattle.std.proofs.Common.{◌≡◌, ℕ, ◌+◌, List, [], ◌∷◌, Bool, true, false, Option, Some, None, Ok, Err, inl, inr, refl, sym, ap, ◌∙◌, subst, arith}
 use Rattle.std.specs.Prelude.{◌⊎◌, Contains, MatchOption, option_map}
 use Rattle.std.specs.FinMap.{find}
 use Rattle.std.specs.Option.{option_map_or}
 use Rattle.std.proofs.lemmas.Option.{none-some, same_Some}
 use Rattle.ild_bulk_walker.specs.Trees.{HoldsBelow}
-use Rattle.ild_cbor.specs.Block.{IsBlockOf}
 use Rattle.ild_data.specs.ByteOrder.{bytewise, in_byte_order}
 use Rattle.ild_data.specs.Data.{Data}
 use Rattle.ild_data.specs.Key.{value_at}
 use Rattle.ild_data.specs.Limits.{IsWithin, deepest}
-use Rattle.ild_data.specs.Spell.{id_of, spell}
+use Rattle.ild_data.specs.Spell.{spell}
 use Rattle.ild_data.specs.Trie.{TrieSlot}
 use Rattle.ild_edges.specs.Store.{block_at}
 use Rattle.ild_open_held.specs.Held.{IsHeld}
@@ -33,7 +32,6 @@ use Rattle.ild_typed.proofs.OneValue.{element_safe, plain_safe, safe_parts}
 use Rattle.ild_typed.proofs.TreeValues.{whole_tree}
 use Rattle.ild_typed.specs.At.{InSlot, seen}
 use Rattle.ild_typed.specs.Composed.{usual}
-use Rattle.ild_typed.specs.Fits.{Front}
 use Rattle.ild_typed.specs.Hamt.{alone, whole}
 use Rattle.ild_typed.specs.Holder.{holder_of, map_holder}
 use Rattle.ild_typed.specs.Represented.{represented}
@@ -43,10 +41,10 @@ use Rattle.ild_typed.specs.Slots.{element_of}
 use Rattle.ild_typed.specs.Stands.{Stands, bare}
 use Rattle.ild_typed_fronts.proofs.Representing.{fronts_are_one, fronts_represent}
 use Rattle.ild_typed_fronts.proofs.Seeing.{parts_of_fronts}
-use Rattle.ild_typed_fronts.specs.Front.{front, front_in, fronts_of_pairs, is_hamt, is_root, root_or_map}
+use Rattle.ild_typed_fronts.specs.Front.{front, front_in, fronts_of_pairs, is_root, root_or_map}
 use Rattle.ild_view.specs.Roots.{root_in}
-use Rattle.ild_inclusion.specs.Branches.{Finds, Whether, found, not_found, not_so, so}
-use Rattle.ild_inclusion.specs.Says.{AtKey, Ends, EndsHere, Enters, EntersRoot, Follows, Fronted, Goes, GoesToSlot, Outcome, Says, Walks}
+use Rattle.ild_inclusion.specs.Branches.{found, not_found, not_so, so}
+use Rattle.ild_inclusion.specs.Says.{AtKey, Ends, EndsHere, Enters, EntersRoot, Follows, Fronted, Goes, GoesToSlot, Outcome, Walks}
 use Rattle.ild_inclusion.specs.Way.{Spelling}
 use Rattle.ild_inclusion.specs.declared.answer.Answer.{Answer}
 use Rattle.ild_inclusion.specs.declared.answer.Answer.TheVariants as A

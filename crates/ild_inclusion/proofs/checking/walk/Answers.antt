@@ -1,4 +1,3 @@
-use Rattle.std.proofs.Common.{refl}
 use Rattle.ild_inclusion.proofs.Rooted.{walks_from, walks_refused}
 use Rattle.ild_inclusion.proofs.Stepping.{memory_again}
 use Rattle.ild_inclusion.proofs.checking.walk.Goals as goal

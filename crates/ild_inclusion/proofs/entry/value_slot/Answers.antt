@@ -1,4 +1,4 @@
-use Rattle.std.proofs.Common.{◌≡◌, ◌<◌, List, length, true, Some, sym, ap, ◌∙◌, subst}
+use Rattle.std.proofs.Common.{◌≡◌, List, true, Some, sym, ap, ◌∙◌, subst}
 use Rattle.ild_schema.specs.Slots.{form_of}
 use Rattle.ild_schema.specs.declared.row.Row.{Row}
 use Rattle.ild_view.specs.Safe.{is_safe}

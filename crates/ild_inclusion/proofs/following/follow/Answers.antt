@@ -1,4 +1,4 @@
-use Rattle.std.proofs.Common.{◌≡◌, ◌<◌, length, sym, ap, ◌∙◌, arith}
+use Rattle.std.proofs.Common.{◌≡◌, ◌<◌, length, ap, arith}
 use Rattle.ild_view.specs.View.{slot_of, table_of}
 use Rattle.ild_inclusion.proofs.Onward.{arrives, begins, goes_on, leaves, segment_at, stops}
 use Rattle.ild_inclusion.proofs.following.follow.Goals as goal

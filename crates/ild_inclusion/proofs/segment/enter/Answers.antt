@@ -1,4 +1,4 @@
-use Rattle.std.proofs.Common.{ℕ, List, Ok, Err, refl, sym, ap, ◌∙◌, subst}
+use Rattle.std.proofs.Common.{ℕ, List, Ok, Err, refl, ap, ◌∙◌, subst}
 use Rattle.ild_view.specs.View.{slot_of, table_of}
 use Rattle.ild_inclusion.specs.Given.{EndGiven, WrongGiven}
 use Rattle.ild_inclusion.specs.Way.{OnWay}

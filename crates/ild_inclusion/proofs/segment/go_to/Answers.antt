@@ -1,4 +1,3 @@
-use Rattle.std.proofs.Common.{sym}
 use Rattle.ild_view.specs.View.{slot_of, table_of}
 use Rattle.ild_inclusion.proofs.Stepping.{map_element, memory_again, value_goes, value_refused}
 use Rattle.ild_inclusion.proofs.segment.go_to.Goals as goal

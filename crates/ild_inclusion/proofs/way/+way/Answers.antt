@@ -1,4 +1,4 @@
-use Rattle.std.proofs.Common.{◌<◌, ◌+◌, ℕ, List, None, Err, refl, subst, arith}
+use Rattle.std.proofs.Common.{◌+◌, ℕ, List, None, Err, refl, subst, arith}
 use Rattle.ild_inclusion.specs.Given.{EndGiven, WrongGiven}
 use Rattle.ild_inclusion.specs.Way.{OnWay}
 use Rattle.ild_inclusion.specs.declared.end.End.{End}

@@ -1,5 +1,4 @@
-use Rattle.std.proofs.Common.{refl, arith}
-use Rattle.ild_inclusion.proofs.Ways.{beneath_given, beneath_wrong, next_none}
+use Rattle.ild_inclusion.proofs.Ways.{beneath_given, beneath_wrong}
 use Rattle.ild_inclusion.proofs.way.next_node.Goals as goal
 
 pub returns-in-Ok : goal.returns-in-Ok
