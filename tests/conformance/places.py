@@ -87,6 +87,7 @@ FAULTS = {
         (20, "type Int = Nope type"),
         (32, "advanced Other type F float type"),
         (15, "type A = A type"),
+        (40, "type A " + "[" * 34 + "Int" + "]" * 34),
     ],
     "resolve 1 twice": [
         (17, "type A bool type A int"),

@@ -133,6 +133,7 @@ def hamt_roots():
         "that-is-a-node": good,
         "with-a-short-map": root_map([good[0][1:], good[1]]),
         "with-a-bit-without-element": root_map([node({index: [], (index + 1) % 256: []})[0], good[1]]),
+        "with-the-last-bit-beside-its-own": root_map([node({index_of("abc"): [], 255: []})[0], node_of(["abc"], 0)[1]]),
         "with-an-element-without-bit": root_map([bytes(32), good[1]]),
         "with-an-empty-bucket": root_map(node({index: []})),
         "with-a-bucket-of-four": root_map(node({index: [pair(key) for key in sorted(FOUR, key=str.encode)]})),
