@@ -3,6 +3,7 @@
 Each test is a function named for what it shows. It gets the program and a fresh folder, and yields what is wrong. What a run must write
 is worked out by `scripts.py`, but for the lines that the store refuses.
 """
+import os
 import resource
 
 import batch_tables
@@ -73,6 +74,7 @@ def a_commit_goes_on_behind_a_refusal(program, place):
 
 
 def what_stands_under_the_name_of_a_block(program, place):
+    """A commit puts the block in place of all but a folder, for which it is refused."""
     for name, make in (
         ("nothing", lambda file: None),
         ("block", lambda file: file.write_bytes(edges.ONE_BLOCK)),
@@ -80,13 +82,18 @@ def what_stands_under_the_name_of_a_block(program, place):
         ("other", lambda file: file.write_bytes(b"other")),
         ("long", lambda file: edges.zeros(file, 4_194_305)),
         ("link to nothing", lambda file: file.symlink_to("nothing")),
+        ("link to a device", lambda file: file.symlink_to("/dev/zero")),
+        ("pipe", os.mkfifo),
+        ("folder", os.mkdir),
     ):
-        room = place / name
+        room, is_put = place / name, name != "folder"
         edges.give(room, script=b"begin\nset /a 1\ncommit\n")
         (room / "blocks").mkdir()
         make(room / "blocks" / edges.ONE)
-        yield from (f"{name}: {it}" for it in edges.differs(edges.start(program, room), f"ok null\nok null\nroot {edges.ONE}\n".encode(), 0))
-        if edges.files_in(room) != {edges.EMPTY: b"\xa0", edges.ONE: edges.ONE_BLOCK}:
+        told = f"root {edges.ONE}" if is_put else "no 12 store"
+        run = edges.start(program, room)
+        yield from (f"{name}: {it}" for it in edges.differs(run, f"ok null\nok null\n{told}\n".encode(), int(not is_put), seconds=edges.AT_ONCE))
+        if edges.files_in(room) != {edges.EMPTY: b"\xa0", edges.ONE: edges.ONE_BLOCK if is_put else None}:
             yield f"{name}: left {sorted(edges.files_in(room))}"
 
 

@@ -1,14 +1,17 @@
-"""Runs that are killed at random moments, in one folder: every root that was printed is opened afterwards, and shows its value.
+"""Runs that are killed at random moments, in one folder: every root that was printed is opened afterwards, and shows its value; and each block
+that `new` and `gen` left has all beneath it.
 
 Each test gets the program and a fresh folder, and yields what is wrong, as those of `edges.py` do.
 """
 import json
 import random
 import re
+import shutil
 import subprocess
 import time
 
 import edges
+import gen_cases
 import values
 
 ROUNDS = 30
@@ -114,4 +117,43 @@ def killed_commits_lose_no_root(program, place):
         yield from (f"{form}: {it}" for it in rounds(program, place / form, schema, batches, dice))
 
 
-TESTS = (killed_runs_lose_no_root, killed_commits_lose_no_root)
+def made_again(program, room, words, text):
+    """Runs of these words that are killed in one folder, and then one that isn't, which writes this text."""
+    begun = time.monotonic()
+    yield from edges.differs(edges.start(program, room, words), text.encode(), 0)
+    seconds, dice = time.monotonic() - begun, random.Random(22)
+    for number in range(ROUNDS):
+        if number % 3 == 0:
+            shutil.rmtree(room / "blocks", ignore_errors=True)
+        told = killed_after(dice.uniform(0, seconds), edges.start(program, room, words))
+        if not text.startswith(told):
+            yield f"round {number}: wrote {told!r}"
+        yield from (f"round {number}: {it}" for it in childless(room))
+    yield from edges.differs(edges.start(program, room, words), text.encode(), 0)
+
+
+def a_value_is_made_after_those_that_were_killed(program, place):
+    """Of what a killed `new` leaves each block has all beneath it, and the same words make the value."""
+    value = {f"k{number}": number for number in range(3_000)}
+    text = json.dumps(dict(sorted(value.items())), separators=(",", ":"))
+    edges.give(place, SCHEMAS["HAMT"])
+    (place / "v").write_text(text)
+    told, _, blocks = values.answer(SCHEMAS["HAMT"], "N", text.encode())
+    yield from made_again(program, place, ["new", "s", "N", "v"], told)
+    yield from edges.differs(edges.start(program, place, ["show", "s", "N", values.cid_text(blocks[0])]), f"ok {text}\n".encode(), 0)
+
+
+def a_map_is_generated_after_those_that_were_killed(program, place):
+    """The same of `gen`."""
+    told, blocks = gen_cases.summary(2_000, 7)
+    edges.give(place, gen_cases.SOURCE)
+    yield from made_again(program, place, ["gen", "2000", "7"], told)
+    yield from (f"{cid} isn't held" for cid in map(values.cid_text, blocks) if not (place / "blocks" / cid).is_file())
+
+
+TESTS = (
+    killed_runs_lose_no_root,
+    killed_commits_lose_no_root,
+    a_value_is_made_after_those_that_were_killed,
+    a_map_is_generated_after_those_that_were_killed,
+)

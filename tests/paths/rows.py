@@ -1,8 +1,7 @@
 """Rows for the tests of edits at paths, by the plain program of the conformance cases, which builds each value from scratch.
 
     python3 tests/paths/rows.py overlaps      the rows of crates/ild_path_edit_tests/src/overlaps.rt
-    python3 tests/paths/rows.py worked        rows of edits at places; with forest, through HAMTs in one another; with linked,
-                                              the blocks of such values: for tests that are still to come
+    python3 tests/paths/rows.py paths         the rows of crates/ild_path_tests: edits at places, through HAMTs in one another, and of damaged blocks
     python3 tests/paths/rows.py club          what crates/ild_run_tests/src/club.rt tells of each failing call
     python3 tests/paths/rows.py batch         what crates/ild_run_tests/src/batch.rt tells of each failing call
 """
@@ -15,6 +14,9 @@ sys.dont_write_bytecode = True
 sys.path.insert(0, str(pathlib.Path(__file__).resolve().parent.parent / "conformance"))
 import scripts
 import values
+
+# how many letters of a literal stand in a line
+WIDEST = 190
 
 # Three texts joined in one another, the innermost part beside the outermost joint, before it or behind.
 JOINS = """type I struct { a String b String } representation stringjoin { join "ab" }
@@ -54,6 +56,18 @@ def literal(block):
     return 'b"' + "".join(map(shown, block)) + '"'
 
 
+def texts(text, indent="        "):
+    """A text as a literal, of several lines where it is long."""
+    parts, shown = [], quoted(text)[1:-1]
+    while len(shown) > WIDEST:
+        cut = WIDEST
+        while shown[cut] == " " or shown[cut - 1] == "\\" or shown[cut - 2] == "\\":
+            cut -= 1
+        parts.append(shown[:cut])
+        shown = shown[cut:]
+    return '"' + ("\\\n" + indent).join([*parts, shown]) + '"'
+
+
 def segments(path):
     return "&[" + ", ".join(f'"{segment}"' for segment in path) + "]"
 
@@ -89,56 +103,52 @@ def overlaps():
 # ---- edits at places
 
 CLUB = (pathlib.Path(__file__).resolve().parents[2] / "examples/club/schema.ipldsch").read_text()
-WORDS = {"2 path": "path", "3 json": "json", "4 mismatch": "mismatch", "5 delimiter": "delimiter", "6 hole": "hole", "8 exhausted": "exhausted"}
 
 
 def changed(document, verb, path, text):
-    """The blocks of a document with an edit, the root first, which it then holds; or a word for why there are none."""
+    """The blocks of a document with an edit, the root first, which it then holds; or the number and the word of a refusal."""
     try:
         value = document.edited(verb, path, text)
         blocks = values.blocks_of(document.found, document.ty, value)
     except values.Refused as refused:
-        return WORDS[str(refused)]
+        return str(refused)
     document.value = value
     return blocks
 
 
-def told(blocks):
-    return blocks if isinstance(blocks, str) else values.cid_text(blocks[0])
-
-
-def item_of(document, verb, path, text):
-    """The item that represents the part which an edit brings, or None where the part is refused."""
+def placed(document, verb, path, text):
+    """The item that represents the part which an edit brings, in hexadecimals, or None where the part is refused."""
     if verb == "del":
-        return b""
+        return ""
     probe = scripts.Document(document.found, document.ty, document.value)
     if isinstance(changed(probe, verb, path, text), str):
         return None
     slot, value = probe.at(path)
-    return values.spelled(probe.rep(slot, value))
+    return " " + values.spelled(probe.rep(slot, value)).hex()
+
+
+def reply(blocks):
+    return f"no {blocks}\n" if isinstance(blocks, str) else f"root {values.cid_text(blocks[0])}\n"
 
 
 def worked():
+    """The edits of the club, each part as its item, and a key that comes to a HAMT and goes."""
     found = values.compiled(CLUB.encode())
     ty = found.number("Club")
     document = scripts.Document(found, ty, found.shown((ty, False), values.data_of(b'{"name":"Kite","users":{}}')))
-    print("const CLUB: &str =", quoted(re.sub("\\s+", " ", CLUB.split("\n", 1)[1]).strip()) + ";")
-    print("\nconst NO_USERS: &[u8] =", literal(values.blocks_of(found, ty, document.value)[0]) + ";")
-    lines = (pathlib.Path(__file__).resolve().parents[2] / "examples/club/script").read_bytes().splitlines()
-    places, edits = [], []
-    for line in lines:
+    print("\nconst CLUB: &str =\n    " + texts(re.sub("\\s+", " ", CLUB.split("\n", 1)[1]).strip()) + ";")
+    print("\nconst NO_USERS: &str =\n    " + texts(values.blocks_of(found, ty, document.value)[0].hex()) + ";")
+    rows = []
+    for line in (pathlib.Path(__file__).resolve().parents[2] / "examples/club/script").read_bytes().splitlines():
         verb, path, text = scripts.command(line)
-        if verb in ("set", "ins", "del"):
-            item = item_of(document, verb, path, text)
-            answer = told(changed(document, verb, path, text))
-            if item is not None:
-                places.append(f'("{verb}", {segments(path)}, {literal(item)}, "{answer}"),')
-            edits.append(f'({edit_text(verb, path, text)}, "{answer}"),')
-    print_rows("CLUB_PLACES", "Placed", places)
-    print_rows("CLUB_EDITS", "Row", edits)
+        item = placed(document, verb, path, text) if verb in ("set", "ins", "del") else None
+        if item is not None:
+            rows.append(" ".join(line.decode().split(" ")[:2]) + item + " => " + reply(changed(document, verb, path, text)))
+    print_texts("CLUB_EDITS", rows)
     abc = hamt_document()
-    print("\nconst NO_KEYS: &[u8] =", literal(values.blocks_of(abc.found, abc.ty, abc.value)[0]) + ";")
-    print("\nconst ABC: &[u8] =", literal(changed(abc, "set", ["abc"], b"1")[0]) + ";")
+    print("\nconst NO_KEYS: &str =\n    " + texts(values.blocks_of(abc.found, abc.ty, abc.value)[0].hex()) + ";")
+    edits = [("set", ["abc"], b"1"), ("set", ["abc"], b"1"), ("del", ["abc"], None)]
+    print_texts("ABC_EDITS", [f"{verb} /abc{placed(abc, verb, path, text)} => {reply(changed(abc, verb, path, text))}" for verb, path, text in edits])
 
 
 def replies(document, script, failing=None):
@@ -229,13 +239,21 @@ def hamt_document(pairs="{}"):
 
 def linked():
     """The root block of a HAMT with one child, before and behind the CID of the child, and the child."""
-    values.hash_of = padded
     document = hamt_document('{"a1":1,"a2":2,"a3":3,"a4":4}')
     root, child = values.blocks_of(document.found, document.ty, document.value)
     front, back = root.split(values.binary_cid(child))
     for name, block in (("FRONT", front), ("BACK", back), ("CHILD", child)):
-        print(f"const {name}: &[u8] =", literal(block) + ";\n")
-    print("const SET: &str =", quoted(told(changed(document, "set", ["a4"], b"5"))) + ";")
+        print(f"\nconst {name}: &str =\n    " + texts(block.hex()) + ";")
+    print_texts("SET_LAST", [f"set /a4 5 => {reply(changed(document, 'set', ['a4'], b'5'))}"])
+
+
+def stopped():
+    """Keys of two bytes each, before and behind the one that needs a child."""
+    three, four = ({f"\0{chr(n)}": n for n in range(1, last)} for last in (4, 5))
+    (root,), (last, child) = (values.blocks_of(it.found, it.ty, it.value) for it in map(hamt_document, map(json.dumps, (three, four))))
+    for name, block in (("THREE", root), ("FOURTH", child), ("FOUR", last)):
+        print(f"\nconst {name}: &str =\n    " + texts(block.hex()) + ";")
+    print_texts("SET_FOURTH", [f"set /\0\x04 4 => root {values.cid_text(last)}\n"])
 
 
 # ---- HAMTs in HAMTs in unions in lists
@@ -322,11 +340,12 @@ def forest_document():
 
 
 def quoted(text):
-    return '"' + text.replace("\\", "\\\\").replace('"', '\\"') + '"'
+    plain = text.replace("\\", "\\\\").replace('"', '\\"').replace("\n", "\\n").replace("\0", "\\0")
+    return '"' + "".join(c if ord(c) >= 32 else f"\\x{ord(c):02x}" for c in plain) + '"'
 
 
-def edit_text(verb, path, text):
-    return f'("{verb}", {segments(path)}, {quoted((text or b"").decode())})'
+def print_texts(name, rows):
+    print_rows(name, "&str", [texts(row) + "," for row in rows])
 
 
 def print_rows(name, kind, rows):
@@ -337,31 +356,37 @@ def print_rows(name, kind, rows):
 
 def forest_rows():
     document = forest_document()
-    begun = values.blocks_of(document.found, document.ty, document.value)
-    print("const SRC: &str =", quoted(FOREST.strip().replace("\n", " ")) + ";")
-    print("\nconst VALUE: &str =", quoted(json.dumps(VALUE, separators=(",", ":"))) + ";")
-    print("\nconst ROOT: &str =", quoted(values.cid_text(begun[0])) + ";")
-    rows = []
+    begun = list(dict.fromkeys(values.blocks_of(document.found, document.ty, document.value)))
+    shown = json.dumps(VALUE, separators=(",", ":"))
+    print("\npub(crate) const SRC: &str =\n    " + texts(FOREST.strip().replace("\n", " ")) + ";")
+    print("\npub(crate) const ROOT: &str =\n    " + texts(begun[0].hex()) + ";")
+    print_texts("NODES", [block.hex() for block in begun[1:]])
+    rows = [f"set . {shown} => root {values.cid_text(begun[0])}\n"]
     for line in FOREST_EDITS:
-        asked = scripts.command(line.encode())
-        rows.append(f'({edit_text(*asked)}, "{told(changed(document, *asked))}"),')
-    print_rows("EDITS", "Row", rows)
+        rows.append(f"{line} => {reply(changed(document, *scripts.command(line.encode())))}")
+    print_texts("EDITS", rows)
     rows = []
     for name, line in TRIED:
-        asked = scripts.command(line.encode())
-        after = changed(forest_document(), *asked)
-        rows.append(f'({edit_text(*asked)}, "{told(after)}", {len(set(after) - set(begun))}, {len(set(begun) - set(after)) - 1}),')
-    print_rows("TRIED", "Tried", rows)
-    asked = scripts.command(f'ins {TO_MIDDLE}/- {{"Leaf":3}}'.encode())
-    after = changed(forest_document(), *asked)
-    print(f'\nconst INSERT: Row = ({edit_text(*asked)}, "{told(after)}");')
-    way = [f'"{values.cid_text(block)}",' for block in dict.fromkeys(begun[1:]) if block not in after]
-    print_rows("ON_THE_WAY", "&str", way)
-    print(f"// {len(set(begun))} blocks")
+        after = changed(forest_document(), *scripts.command(line.encode()))
+        rows.append((f"{line} => {reply(after)}", len(set(after) - set(begun)), len(set(begun) - set(after)) - 1))
+    print_rows("TRIED", "Tried", [f"({texts(text)}, {puts}, {gets})," for text, puts, gets in rows])
+    line = f'ins {TO_MIDDLE}/- {{"Leaf":3}}'
+    after = changed(forest_document(), *scripts.command(line.encode()))
+    print("\nconst INSERT: &str =\n    " + texts(f"{line} => {reply(after)}") + ";")
+    way = [n for n, block in enumerate(begun[1:]) if block not in after]
+    print(f"\nconst ON_THE_WAY: [usize; {len(way)}] = {way};")
+
+
+def paths():
+    worked()
+    values.hash_of = padded
+    forest_rows()
+    linked()
+    stopped()
 
 
 if __name__ == "__main__":
-    wanted = {"overlaps": overlaps, "worked": worked, "forest": forest_rows, "linked": linked, "club": club, "batch": batch}
+    wanted = {"overlaps": overlaps, "paths": paths, "club": club, "batch": batch}
     if len(sys.argv) != 2 or sys.argv[1] not in wanted:
         sys.exit(__doc__)
     wanted[sys.argv[1]]()
