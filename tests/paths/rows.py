@@ -49,13 +49,6 @@ OVERLAPS = {
 }
 
 
-def literal(block):
-    def shown(byte):
-        return chr(byte) if 32 <= byte < 127 and chr(byte) not in '"\\' else "\\x%02x" % byte
-
-    return 'b"' + "".join(map(shown, block)) + '"'
-
-
 def texts(text, indent="        "):
     """A text as a literal, of several lines where it is long."""
     parts, shown = [], quoted(text)[1:-1]
@@ -68,36 +61,21 @@ def texts(text, indent="        "):
     return '"' + ("\\\n" + indent).join([*parts, shown]) + '"'
 
 
-def segments(path):
-    return "&[" + ", ".join(f'"{segment}"' for segment in path) + "]"
-
-
 def overlap_row(found, ty, json, edit):
     path, _, text = edit.partition(" ")
     number = found.number(ty)
-    value = found.shown((number, False), values.data_of(json.encode()))
-    (before,) = values.blocks_of(found, number, value)
-    document = scripts.Document(found, number, value)
-    segment_list = scripts.path_of(path)
-    slot, _ = document.at(segment_list)
-    try:
-        changed = document.edited("set", segment_list, values.json_text(text).encode())
-        told = ("block", values.blocks_of(found, number, changed)[0])
-    except values.Refused as refused:
-        assert str(refused) == "5 delimiter", (edit, refused)
-        told = ("delimiter", b"")
+    document = scripts.Document(found, number, found.shown((number, False), values.data_of(json.encode())))
+    (before,) = values.blocks_of(found, number, document.value)
+    after = changed(document, "set", scripts.path_of(path), values.json_text(text).encode())
+    assert after == "5 delimiter" or len(after) == 1, (edit, after)
     # A part is set as the item that represents it.
-    return f'("{ty}", {literal(before)}, {segments(segment_list)}, ("set", {literal(values.spelled(text))}), ("{told[0]}", {literal(told[1])})),'
+    return f"{ty} {before.hex()} set {path} {values.spelled(text).hex()} => {after[2:] if isinstance(after, str) else after[0].hex()}"
 
 
 def overlaps():
     found = values.compiled(JOINS.encode())
-    print("const SRC: &str =", '"' + JOINS.strip().replace("\n", " ").replace('"', '\\"') + '";')
-    for name, cases in OVERLAPS.items():
-        rows = [overlap_row(found, ty, json, edit) for ty, json, edits in cases for edit in edits]
-        print(f"\nconst {name}: [Row; {len(rows)}] = [")
-        print("\n".join("    " + row for row in rows))
-        print("];")
+    print("\nconst SRC: &str =\n    " + texts(JOINS.strip().replace("\n", " ")) + ";")
+    print_texts("OVERLAPS", [overlap_row(found, ty, json, edit) for cases in OVERLAPS.values() for ty, json, edits in cases for edit in edits])
 
 
 # ---- edits at places
@@ -244,7 +222,7 @@ def linked():
     front, back = root.split(values.binary_cid(child))
     for name, block in (("FRONT", front), ("BACK", back), ("CHILD", child)):
         print(f"\nconst {name}: &str =\n    " + texts(block.hex()) + ";")
-    print_texts("SET_LAST", [f"set /a4 5 => {reply(changed(document, 'set', ['a4'], b'5'))}"])
+    print("\nconst SET_LAST: &str =\n    " + texts(f"set /a4 5 => {reply(changed(document, 'set', ['a4'], b'5'))}") + ";")
 
 
 def stopped():
@@ -253,7 +231,7 @@ def stopped():
     (root,), (last, child) = (values.blocks_of(it.found, it.ty, it.value) for it in map(hamt_document, map(json.dumps, (three, four))))
     for name, block in (("THREE", root), ("FOURTH", child), ("FOUR", last)):
         print(f"\nconst {name}: &str =\n    " + texts(block.hex()) + ";")
-    print_texts("SET_FOURTH", [f"set /\0\x04 4 => root {values.cid_text(last)}\n"])
+    print("\nconst SET_FOURTH: &str =\n    " + texts(f"set /\0\x04 4 => root {values.cid_text(last)}\n") + ";")
 
 
 # ---- HAMTs in HAMTs in unions in lists

@@ -8,11 +8,6 @@ sys.path.insert(0, str(pathlib.Path(__file__).resolve().parent.parent / "conform
 from values import Link, head, spelled as spell
 
 
-def literal(b):
-    plain = lambda c: 32 <= c < 127 and chr(c) not in '"\\'
-    return 'b"' + "".join(chr(c) if plain(c) else "\\x%02x" % c for c in b) + '"'
-
-
 CID = Link(b"\x01\x71\x12\x20" + bytes(32))
 ROOT = {"hamt": [bytes(32), []], "hashAlg": 18, "bucketSize": 3}
 # a root is no map in the order of its keys
@@ -25,92 +20,88 @@ FULL = {"i": 7, "s": "", "t": False, "y": b"", "l": CID, "n": 3, "o": "yes", "d"
 
 ROWS = {
     "SCALARS": [
-        ("S", spell(S), [], "Parts(7)"),
-        ("S", spell(S), ["i"], "Int(-5)"),
-        ("S", spell(S), ["s"], 'Text("hi")'),
-        ("S", spell(S), ["t"], "Bool(true)"),
-        ("S", spell(S), ["y"], 'Bytes(b"\\x01\\x02")'),
-        ("S", spell(S), ["l"], "Link(" + literal(bytes(CID)) + ")"),
-        ("S", spell(S), ["n"], "Null"),
-        ("S", spell(S), ["o"], "Nowhere(0)"),
-        ("S", spell(S), ["d"], "Int(4)"),
-        ("S", spell(S), ["x"], "Nowhere(0)"),
-        ("S", spell(S), ["i", "i"], "Nowhere(1)"),
+        ("S", spell(S), [], "parts 7"),
+        ("S", spell(S), ["i"], "int -5"),
+        ("S", spell(S), ["s"], "text hi"),
+        ("S", spell(S), ["t"], "bool true"),
+        ("S", spell(S), ["y"], "bytes 0102"),
+        ("S", spell(S), ["l"], "link " + bytes(CID).hex()),
+        ("S", spell(S), ["n"], "null"),
+        ("S", spell(S), ["o"], "nowhere 0"),
+        ("S", spell(S), ["d"], "int 4"),
+        ("S", spell(S), ["x"], "nowhere 0"),
+        ("S", spell(S), ["i", "i"], "nowhere 1"),
     ],
     "FULL": [
-        ("S", spell(FULL), [], "Parts(8)"),
-        ("S", spell(FULL), ["o"], 'Text("yes")'),
-        ("S", spell(FULL), ["d"], "Int(9)"),
-        ("T", spell([1]), [], "Parts(1)"),
-        ("T", spell([1]), ["b"], "Nowhere(0)"),
-        ("T", spell([1, 2, [3, None]]), [], "Parts(3)"),
-        ("T", spell([1, 2, [3, None]]), ["c"], "Parts(2)"),
-        ("T", spell([1, 2, [3, None]]), ["c", "0"], "Int(3)"),
-        ("T", spell([1, 2, [3, None]]), ["c", "1"], "Null"),
-        ("T", spell([1, 2, [3, None]]), ["c", "2"], "Nowhere(1)"),
-        ("T", spell([1, 2, [3, None]]), ["c", "00"], "Nowhere(1)"),
+        ("S", spell(FULL), [], "parts 8"),
+        ("S", spell(FULL), ["o"], "text yes"),
+        ("S", spell(FULL), ["d"], "int 9"),
+        ("T", spell([1]), [], "parts 1"),
+        ("T", spell([1]), ["b"], "nowhere 0"),
+        ("T", spell([1, 2, [3, None]]), [], "parts 3"),
+        ("T", spell([1, 2, [3, None]]), ["c"], "parts 2"),
+        ("T", spell([1, 2, [3, None]]), ["c", "0"], "int 3"),
+        ("T", spell([1, 2, [3, None]]), ["c", "1"], "null"),
+        ("T", spell([1, 2, [3, None]]), ["c", "2"], "nowhere 1"),
+        ("T", spell([1, 2, [3, None]]), ["c", "00"], "nowhere 1"),
     ],
     "MAPS": [
-        ("M", spell({}), [], "Parts(0)"),
-        ("M", spell({"aa": [1], "b": []}), [], "Parts(2)"),
-        ("M", spell({"aa": [1], "b": []}), ["b"], "Parts(0)"),
-        ("M", spell({"aa": [1], "b": []}), ["aa", "0"], "Int(1)"),
-        ("M", spell({"aa": [1], "b": []}), ["a"], "Nowhere(0)"),
-        ("P", spell([["b", 1], ["a", 2]]), [], "Parts(2)"),
-        ("P", spell([["b", 1], ["a", 2]]), ["a"], "Int(2)"),
-        ("Q", spell("b=1&a="), [], "Parts(2)"),
-        ("Q", spell("b=1&a="), ["a"], 'Text("")'),
-        ("Q", spell(""), [], "Parts(0)"),
-        ("H", HAMT, [], "Hamt"),
-        ("H", HAMT, ["a"], "Enter(0)"),
+        ("M", spell({}), [], "parts 0"),
+        ("M", spell({"aa": [1], "b": []}), [], "parts 2"),
+        ("M", spell({"aa": [1], "b": []}), ["b"], "parts 0"),
+        ("M", spell({"aa": [1], "b": []}), ["aa", "0"], "int 1"),
+        ("M", spell({"aa": [1], "b": []}), ["a"], "nowhere 0"),
+        ("P", spell([["b", 1], ["a", 2]]), [], "parts 2"),
+        ("P", spell([["b", 1], ["a", 2]]), ["a"], "int 2"),
+        ("Q", spell("b=1&a="), [], "parts 2"),
+        ("Q", spell("b=1&a="), ["a"], "text "),
+        ("Q", spell(""), [], "parts 0"),
+        ("H", HAMT, [], "hamt"),
+        ("H", HAMT, ["a"], "enter 0"),
     ],
     "TEXTS": [
-        ("J", spell("why:z"), [], "Parts(2)"),
-        ("J", spell("why:z"), ["a"], 'Enum("y")'),
-        ("J", spell("why:z"), ["b"], 'Text("z")'),
-        ("K", spell("a=1"), [], "Parts(2)"),
-        ("K", spell("a=1"), ["d"], 'Text("x")'),
-        ("K", spell("a=1&b=2&d=3"), [], "Parts(3)"),
-        ("K", spell("a=1&b=2&d=3"), ["d"], 'Text("3")'),
-        ("R", spell([["a", 1]]), [], "Parts(2)"),
-        ("R", spell([["a", 1]]), ["b"], "Int(1)"),
-        ("R", spell([["a", 1], ["b", 2]]), ["b"], "Int(2)"),
+        ("J", spell("why:z"), [], "parts 2"),
+        ("J", spell("why:z"), ["a"], "enum y"),
+        ("J", spell("why:z"), ["b"], "text z"),
+        ("K", spell("a=1"), [], "parts 2"),
+        ("K", spell("a=1"), ["d"], "text x"),
+        ("K", spell("a=1&b=2&d=3"), [], "parts 3"),
+        ("K", spell("a=1&b=2&d=3"), ["d"], "text 3"),
+        ("R", spell([["a", 1]]), [], "parts 2"),
+        ("R", spell([["a", 1]]), ["b"], "int 1"),
+        ("R", spell([["a", 1], ["b", 2]]), ["b"], "int 2"),
     ],
     "UNIONS": [
-        ("N", spell({"int": 5}), [], 'Union("Int")'),
-        ("N", spell({"int": 5}), ["Int"], "Int(5)"),
-        ("N", spell({"int": 5}), ["I"], "Nowhere(0)"),
-        ("V", spell({"k": "i", "n": 2}), [], 'Union("I")'),
-        ("V", spell({"k": "i", "n": 2}), ["I"], "Parts(1)"),
-        ("V", spell({"k": "i", "n": 2}), ["I", "n"], "Int(2)"),
-        ("V", spell({"k": "i", "n": 2}), ["I", "k"], "Nowhere(1)"),
-        ("E", spell("why"), [], 'Enum("y")'),
-        ("U", spell(None), [], "Unit"),
-        ("U", spell(None), ["a"], "Nowhere(0)"),
+        ("N", spell({"int": 5}), [], "union Int"),
+        ("N", spell({"int": 5}), ["Int"], "int 5"),
+        ("N", spell({"int": 5}), ["I"], "nowhere 0"),
+        ("V", spell({"k": "i", "n": 2}), [], "union I"),
+        ("V", spell({"k": "i", "n": 2}), ["I"], "parts 1"),
+        ("V", spell({"k": "i", "n": 2}), ["I", "n"], "int 2"),
+        ("V", spell({"k": "i", "n": 2}), ["I", "k"], "nowhere 1"),
+        ("E", spell("why"), [], "enum y"),
+        ("U", spell(None), [], "unit"),
+        ("U", spell(None), ["a"], "nowhere 0"),
     ],
     "ANYS": [
-        ("A", spell(3), [], "Int(3)"),
-        ("A", spell([None, {"a": CID}]), [], "Parts(2)"),
-        ("A", spell([None, {"a": CID}]), ["0"], "Null"),
-        ("A", spell([None, {"a": CID}]), ["1"], "Parts(1)"),
-        ("A", spell([None, {"a": CID}]), ["1", "a"], "Link(" + literal(bytes(CID)) + ")"),
-        ("A", spell([None, {"a": CID}]), ["1", "a", "b"], "Nowhere(2)"),
-        ("A", spell({"0": b"x"}), ["0"], 'Bytes(b"x")'),
-        ("W", head(5, 2) + spell("e") + spell("x") + spell("h") + HAMT, ["h", "k", "z"], "Enter(1)"),
-        ("W", head(5, 2) + spell("e") + spell("x") + spell("h") + HAMT, ["e"], 'Enum("x")'),
+        ("A", spell(3), [], "int 3"),
+        ("A", spell([None, {"a": CID}]), [], "parts 2"),
+        ("A", spell([None, {"a": CID}]), ["0"], "null"),
+        ("A", spell([None, {"a": CID}]), ["1"], "parts 1"),
+        ("A", spell([None, {"a": CID}]), ["1", "a"], "link " + bytes(CID).hex()),
+        ("A", spell([None, {"a": CID}]), ["1", "a", "b"], "nowhere 2"),
+        ("A", spell({"0": b"x"}), ["0"], "bytes 78"),
+        ("W", head(5, 2) + spell("e") + spell("x") + spell("h") + HAMT, ["h", "k", "z"], "enter 1"),
+        ("W", head(5, 2) + spell("e") + spell("x") + spell("h") + HAMT, ["e"], "enum x"),
     ],
 }
 
-for name, rows in ROWS.items():
-    blocks = []
-    for ty, block, path, want in rows:
-        if not blocks or blocks[-1][:2] != (ty, block):
-            blocks.append((ty, block, []))
-        blocks[-1][2].append((path, want))
-    print("const %s: [Row; %d] = [" % (name, len(blocks)))
-    for ty, block, parts in blocks:
-        print('    (\n        "%s",\n        %s,\n        Asked::Paths(&[' % (ty, literal(block)))
-        for path, want in parts:
-            print("            (&[%s], Seen::%s)," % (", ".join('"%s"' % p for p in path), want))
-        print("        ]),\n    ),")
-    print("];\n")
+blocks = []
+for ty, block, path, want in (row for rows in ROWS.values() for row in rows):
+    if not blocks or blocks[-1][:2] != (ty, block):
+        blocks.append((ty, block, []))
+    blocks[-1][2].append(("/" + "/".join(path) if path else ".") + " " + want)
+print("const PARTS: [&str; %d] = [" % len(blocks))
+for ty, block, parts in blocks:
+    print('    "' + "\\n\\\n     ".join([f"{ty} {block.hex()} paths", *parts]) + '",')
+print("];")

@@ -1,104 +1,96 @@
-//! What is asked of the view of a block, in rows of tables.
-use crate::seen::{Seen, is_shown, leads, path_of, shows, view_of};
+//! What is asked of the view of a block, in rows of tables. The first line of a row has a type, a block in hexadecimals, and a word for what is asked:
+//! behind `paths` each line has a path and what stands there; behind `items` what each element shows, behind `entries` and `fields` a name and what its
+//! part shows; behind `json` a path and the DAG-JSON of the data there.
+use crate::seen::{is_shown, leads, path_of, shows, view_of};
+use hex::decode;
 use ild_compile::compile;
 use ild_json::print;
 use ild_schema::Accepted;
 use ild_view::{Step, View};
 use std::alloc::Global;
-use std::process::Abort;
-use std::test::Fail;
 
-/// What is asked of a view.
-#[derive(Clone, Copy)]
-pub enum Asked {
-    /// Where each path leads.
-    Paths(&'static [(&'static [&'static str], Seen<'static>)]),
-    /// The elements in order, and each by its index.
-    Items(&'static [Seen<'static>]),
-    /// The keys with their values in order, and each value by its key.
-    Entries(&'static [(&'static str, Seen<'static>)]),
-    /// The fields by their names.
-    Fields(&'static [(&'static str, Seen<'static>)]),
-    /// The DAG-JSON of the data at a path.
-    Json(&'static [&'static str], &'static str),
-}
-
-/// A type, a block, and what is asked of its view.
-pub type Row = (&'static str, &'static [u8], Asked);
-
-fn are_led_to(
-    alloc: Global,
-    view: &View<'_>,
-    rows: &[(&[&str], Seen<'_>)],
-) -> Result<bool, &'static str> {
-    let mut same = true;
-    for (segments, want) in rows {
-        let path = path_of(alloc, segments)?;
-        same &= leads(view, &path, *want);
+fn are_led_to(alloc: Global, view: &View<'_>, rows: &str) -> Option<bool> {
+    for row in rows.lines() {
+        let (path, want) = row.split_once(' ')?;
+        if !leads(alloc, view, &path_of(alloc, path)?, want)? {
+            return None;
+        }
     }
-    Ok(same)
+    Some(true)
 }
 
-fn are_items(view: &View<'_>, wants: &[Seen<'_>]) -> Result<bool, &'static str> {
-    let mut left = view.items().ok_or("a list")?;
-    let mut same = true;
+/// The elements in order, and each by its index.
+fn are_items(alloc: Global, view: &View<'_>, wants: &str) -> Option<bool> {
+    let mut left = view.items()?;
     let mut place = 0u64;
-    for want in wants {
-        same &= is_shown(left.next(), *want) && is_shown(view.item(place), *want);
+    for want in wants.lines() {
+        if !is_shown(alloc, left.next(), want)? || !is_shown(alloc, view.item(place), want)? {
+            return None;
+        }
         place = place.saturating_add(1);
     }
-    Ok(same && left.next().is_none() && view.item(place).is_none())
+    Some(left.next().is_none() && view.item(place).is_none())
 }
 
-fn are_entries(view: &View<'_>, wants: &[(&str, Seen<'_>)]) -> Result<bool, &'static str> {
-    let mut left = view.entries().ok_or("a map")?;
-    let mut same = true;
-    for (name, want) in wants {
-        let (key, part) = left.next().ok_or("an entry")?;
-        same &= key == *name && shows(&part, *want) && is_shown(view.entry(name), *want);
+/// The keys with their values in order, and each value by its key.
+fn are_entries(alloc: Global, view: &View<'_>, wants: &str) -> Option<bool> {
+    let mut left = view.entries()?;
+    for row in wants.lines() {
+        let (name, want) = row.split_once(' ')?;
+        let (key, part) = left.next()?;
+        if key != name || !shows(alloc, &part, want)? || !is_shown(alloc, view.entry(name), want)? {
+            return None;
+        }
     }
-    Ok(same && left.next().is_none())
+    Some(left.next().is_none())
 }
 
-fn are_fields(view: &View<'_>, wants: &[(&str, Seen<'_>)]) -> bool {
-    let mut same = true;
-    for (name, want) in wants {
-        same &= is_shown(view.field(name), *want);
+fn are_fields(alloc: Global, view: &View<'_>, wants: &str) -> Option<bool> {
+    for row in wants.lines() {
+        let (name, want) = row.split_once(' ')?;
+        if !is_shown(alloc, view.field(name), want)? {
+            return None;
+        }
     }
-    same
+    Some(true)
 }
 
-fn is_json(
-    alloc: Global,
-    view: &View<'_>,
-    segments: &[&str],
-    want: &str,
-) -> Result<bool, &'static str> {
-    let path = path_of(alloc, segments)?;
-    let Ok(Step::Here(part)) = view.at(&path, 0) else {
-        return Err("a part");
+fn is_json(alloc: Global, view: &View<'_>, row: &str) -> Option<bool> {
+    let (path, want) = row.split_once(' ')?;
+    let Ok(Step::Here(part)) = view.at(&path_of(alloc, path)?, 0) else {
+        return None;
     };
-    let tree = part.rep(alloc).ok().ok_or("memory")?;
-    let json = print(alloc, &tree).ok().ok_or("a text")?;
-    Ok(json.as_str() == want)
+    let tree = part.rep(alloc).ok()?;
+    Some(print(alloc, &tree).ok()?.as_str() == want)
 }
 
-fn is_so(alloc: Global, acc: &Accepted, row: &Row) -> Result<bool, &'static str> {
-    let view = view_of(alloc, acc, row.0, row.1)?;
-    match row.2 {
-        Asked::Paths(rows) => are_led_to(alloc, &view, rows),
-        Asked::Items(wants) => are_items(&view, wants),
-        Asked::Entries(wants) => are_entries(&view, wants),
-        Asked::Fields(wants) => Ok(are_fields(&view, wants)),
-        Asked::Json(path, want) => is_json(alloc, &view, path, want),
+/// Whether what is asked of a view is so.
+fn is_told(alloc: Global, view: &View<'_>, word: &str, rows: &str) -> Option<bool> {
+    match word {
+        "paths" => are_led_to(alloc, view, rows),
+        "items" => are_items(alloc, view, rows),
+        "entries" => are_entries(alloc, view, rows),
+        "fields" => are_fields(alloc, view, rows),
+        _ => is_json(alloc, view, rows),
     }
 }
 
-/// Each row of a table is so, under a schema.
-pub(crate) fn all_so(rt: &impl Abort, alloc: Global, src: &str, table: &[Row]) -> Result<(), Fail> {
+fn is_so(alloc: Global, acc: &Accepted, row: &str) -> Option<bool> {
+    let (front, rows) = row.split_once('\n').unwrap_or((row, ""));
+    let (name, rest) = front.split_once(' ')?;
+    let (block, word) = rest.split_once(' ')?;
+    let block = decode(alloc, block).ok()?;
+    let view = view_of(alloc, acc, name, &block)?;
+    is_told(alloc, &view, word, rows)
+}
+
+/// The first row of a table that isn't so under a schema is an error.
+pub(crate) fn all_so(alloc: Global, src: &str, rows: &[&'static str]) -> Result<(), &'static str> {
     let acc = compile(alloc, src.as_bytes()).ok().ok_or("a schema")?;
-    for row in table {
-        assert!(rt; is_so(alloc, &acc, row)?, "{} {:?}", row.0, row.1);
+    for row in rows {
+        if is_so(alloc, &acc, row) != Some(true) {
+            return Err(*row);
+        }
     }
     Ok(())
 }

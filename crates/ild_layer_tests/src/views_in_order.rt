@@ -1,9 +1,9 @@
 //! The parts of views one after another, the data of a view, and root blocks with their types. What is wanted was worked out by hand.
-use crate::asked::{Asked, Row, all_so};
-use crate::said::number;
-use crate::seen::{Seen, shows, view_of};
+use crate::asked::all_so;
+use crate::said::{number, word};
+use crate::seen::{shows, view_of};
 use crate::views_at::SRC;
-use ild_cbor::Why;
+use hex::decode;
 use ild_compile::compile;
 use ild_data::Octets;
 use ild_schema::Accepted;
@@ -11,163 +11,125 @@ use ild_view_doc::{Doc, DocErr};
 use std::alloc::Global;
 use std::test::Fail;
 
-const LISTS: [Row; 3] = [
-    (
-        "L",
-        b"\x83\x01\xf6\x18\x20",
-        Asked::Items(&[Seen::Int(1), Seen::Null, Seen::Int(32)]),
-    ),
-    ("L", b"\x80", Asked::Items(&[])),
-    (
-        "A",
-        b"\x82\xf6\x81ax",
-        Asked::Items(&[Seen::Null, Seen::Parts(1)]),
-    ),
+const IN_ORDER: [&str; 12] = [
+    "L 8301f61820 items\n\
+     int 1\n\
+     null\n\
+     int 32",
+    "L 80 items",
+    "A 82f6816178 items\n\
+     null\n\
+     parts 1",
+    "M a26162806261618101 entries\n\
+     b parts 0\n\
+     aa parts 1",
+    "M a0 entries",
+    "P 828261620182616102 entries\n\
+     b int 1\n\
+     a int 2",
+    "Q 66623d3126613d entries\n\
+     b text 1\n\
+     a text ",
+    "Q 60 entries",
+    "A a16178f6 entries\n\
+     x null",
+    "R 8182616101 fields\n\
+     a int 1\n\
+     b int 1",
+    "T 83010280 fields\n\
+     b int 2\n\
+     c parts 0",
+    "J 657768793a7a fields\n\
+     b text z\n\
+     a enum y",
 ];
 
-const MAPS: [Row; 6] = [
-    (
-        "M",
-        b"\xa2ab\x80baa\x81\x01",
-        Asked::Entries(&[("b", Seen::Parts(0)), ("aa", Seen::Parts(1))]),
-    ),
-    ("M", b"\xa0", Asked::Entries(&[])),
-    (
-        "P",
-        b"\x82\x82ab\x01\x82aa\x02",
-        Asked::Entries(&[("b", Seen::Int(1)), ("a", Seen::Int(2))]),
-    ),
-    (
-        "Q",
-        b"fb=1&a=",
-        Asked::Entries(&[("b", Seen::Text("1")), ("a", Seen::Text(""))]),
-    ),
-    ("Q", b"\x60", Asked::Entries(&[])),
-    ("A", b"\xa1ax\xf6", Asked::Entries(&[("x", Seen::Null)])),
-];
-
-const DATA: [Row; 9] = [
-    ("L", b"\x82\x01\xf6", Asked::Json(&[], "[1,null]")),
-    (
-        "M",
-        b"\xa2ab\x80baa\x81\x01",
-        Asked::Json(&[], "{\"aa\":[1],\"b\":[]}"),
-    ),
-    ("P", b"\x82\x82ab\x01\x82aa\x02", Asked::Json(&["a"], "2")),
-    ("Q", b"fb=1&a=", Asked::Json(&["b"], "\"1\"")),
-    ("K", b"ca=1", Asked::Json(&["d"], "\"x\"")),
-    ("V", b"\xa2akaian\x02", Asked::Json(&["I"], "{\"n\":2}")),
-    ("J", b"ewhy:z", Asked::Json(&["a"], "\"why\"")),
-    (
-        "A",
-        b"\x83\xf5CabcaA",
-        Asked::Json(&[], "[true,{\"/\":{\"bytes\":\"YWJj\"}},\"A\"]"),
-    ),
-    (
-        "H",
-        b"\xa3dhamt\x82X \0\0\0\0\0\0\0\0\0\0\0\0\0\0\0\0\0\0\0\0\0\0\0\0\0\0\0\0\0\0\0\0\x80ghashAlg\x12jbucketSize\x03",
-        Asked::Json(
-            &[],
-            "{\"bucketSize\":3,\"hamt\":[{\"/\":{\"bytes\":\"AAAAAAAAAAAAAAAAAAAAAAAAAAAAAAAAAAAAAAAAAAA\"}},[]],\"hashAlg\":18}",
-        ),
-    ),
-];
-
-const FIELDS: [Row; 3] = [
-    (
-        "R",
-        b"\x81\x82aa\x01",
-        Asked::Fields(&[("a", Seen::Int(1)), ("b", Seen::Int(1))]),
-    ),
-    (
-        "T",
-        b"\x83\x01\x02\x80",
-        Asked::Fields(&[("b", Seen::Int(2)), ("c", Seen::Parts(0))]),
-    ),
-    (
-        "J",
-        b"ewhy:z",
-        Asked::Fields(&[("b", Seen::Text("z")), ("a", Seen::Enum("y"))]),
-    ),
+const DATA: [&str; 9] = [
+    "L 8201f6 json\n\
+     . [1,null]",
+    "M a26162806261618101 json\n\
+     . {\"aa\":[1],\"b\":[]}",
+    "P 828261620182616102 json\n\
+     /a 2",
+    "Q 66623d3126613d json\n\
+     /b \"1\"",
+    "K 63613d31 json\n\
+     /d \"x\"",
+    "V a2616b6169616e02 json\n\
+     /I {\"n\":2}",
+    "J 657768793a7a json\n\
+     /a \"why\"",
+    "A 83f5436162636141 json\n\
+     . [true,{\"/\":{\"bytes\":\"YWJj\"}},\"A\"]",
+    "H a36468616d748258200000000000000000000000000000000000000000000000000000000000000000806768617368416c67126a6275636b657453697a6503 json\n\
+     . {\"bucketSize\":3,\"hamt\":[{\"/\":{\"bytes\":\"AAAAAAAAAAAAAAAAAAAAAAAAAAAAAAAAAAAAAAAAAAA\"}},[]],\"hashAlg\":18}",
 ];
 
 #[test]
-fn elements(rt: HostRuntime) -> Result<(), Fail> {
-    all_so(&rt, rt.alloc(), SRC, &LISTS)
-}
-
-#[test]
-fn entries(rt: HostRuntime) -> Result<(), Fail> {
-    all_so(&rt, rt.alloc(), SRC, &MAPS)
-}
-
-#[test]
-fn fields(rt: HostRuntime) -> Result<(), Fail> {
-    all_so(&rt, rt.alloc(), SRC, &FIELDS)
+fn parts_in_order(rt: HostRuntime) -> Result<(), Fail> {
+    all_so(rt.alloc(), SRC, &IN_ORDER)?;
+    Ok(())
 }
 
 #[test]
 fn data(rt: HostRuntime) -> Result<(), Fail> {
-    all_so(&rt, rt.alloc(), SRC, &DATA)
-}
-
-/// Whether an element of a list has the slot of elements, the schema of the list, and a piece of the block.
-fn is_an_element(alloc: Global, acc: &Accepted) -> Result<bool, &'static str> {
-    let view = view_of(alloc, acc, "L", b"\x82\x01\xf6")?;
-    let part = view.item(1).ok_or("an element")?;
-    let slot = part.slot();
-    Ok(
-        slot.nullable
-            && slot.ty == number(acc, "Int")?
-            && part.schema().types() == acc.types()
-            && part.piece().is_some(),
-    )
-}
-
-#[test]
-fn slots(rt: HostRuntime) -> Result<(), Fail> {
-    let acc = compile(rt.alloc(), SRC.as_bytes()).ok().ok_or("a schema")?;
-    assert!(rt; is_an_element(rt.alloc(), &acc)?);
+    all_so(rt.alloc(), SRC, &DATA)?;
     Ok(())
 }
 
-/// Bytes, and the text of the id of the list that they are, or what is wrong with them: no block, or the cause why they are no list.
-type Root = (&'static [u8], Result<&'static str, Option<Why>>);
+/// Whether an element of a list has the slot of elements, the schema of the list, and a piece of the block.
+fn is_an_element(alloc: Global, acc: &Accepted) -> Option<bool> {
+    let view = view_of(alloc, acc, "L", b"\x82\x01\xf6")?;
+    let part = view.item(1)?;
+    let slot = part.slot();
+    let same = slot.nullable && slot.ty == number(acc, "Int")?;
+    Some(same && part.schema().types() == acc.types() && part.piece().is_some())
+}
 
-const ROOTS: [Root; 3] = [
-    (
-        b"\x82\x01\xf6",
-        Ok("bafyreidkordfmpj7aoqd4chjc63crb3tl5qx7c4bpddyrmvdwciubxphem"),
-    ),
-    (b"\x82\x01", Err(None)),
-    (b"\x01", Err(Some(Why::Kind))),
+/// Bytes in hexadecimals, and the text of the id of the list that they are; or what is wrong with them: they are no block, or the cause why they
+/// are no list.
+const ROOTS: [&str; 3] = [
+    "8201f6 => bafyreidkordfmpj7aoqd4chjc63crb3tl5qx7c4bpddyrmvdwciubxphem",
+    "8201 => none",
+    "01 => Kind",
 ];
 
 /// Whether a root block has this id, is these bytes, and shows two elements.
-fn is_list(alloc: Global, doc: &Doc<'_>, bytes: &[u8], id: &str) -> Result<bool, &'static str> {
-    let text = doc.root().text(alloc).ok().ok_or("memory")?;
-    Ok(text.as_str() == id && doc.block() == bytes && shows(&doc.view(), Seen::Parts(2)))
+fn is_list(alloc: Global, doc: &Doc<'_>, bytes: &[u8], id: &str) -> Option<bool> {
+    let text = doc.root().text(alloc).ok()?;
+    Some(text.as_str() == id && doc.block() == bytes && shows(alloc, &doc.view(), "parts 2")?)
 }
 
-fn is_root(alloc: Global, acc: &Accepted, row: &Root) -> Result<bool, &'static str> {
+fn is_root(alloc: Global, acc: &Accepted, row: &str) -> Option<bool> {
+    let (block, want) = row.split_once(" => ")?;
     let ty = number(acc, "L")?;
     if ty.0 >= acc.types() {
-        return Err("a type of the table");
+        return None;
     }
-    let block = Octets::of(alloc, row.0).ok().ok_or("memory")?;
-    match (Doc::of(alloc, acc, ty, block), row.1) {
-        (Ok(doc), Ok(id)) => is_list(alloc, &doc, row.0, id),
-        (Err(DocErr::Cbor(_)), Err(None)) => Ok(true),
-        (Err(DocErr::Shape(why)), Err(Some(wanted))) => Ok(why == wanted),
-        _ => Ok(false),
+    let bytes = decode(alloc, block).ok()?;
+    match Doc::of(alloc, acc, ty, Octets::of(alloc, &bytes).ok()?) {
+        Ok(doc) => is_list(alloc, &doc, &bytes, want),
+        Err(DocErr::Cbor(_)) => Some(want == "none"),
+        Err(DocErr::Shape(why)) => Some(word(why) == want),
+        Err(DocErr::Memory) => None,
     }
+}
+
+fn all_roots(alloc: Global) -> Result<(), &'static str> {
+    let acc = compile(alloc, SRC.as_bytes()).ok().ok_or("a schema")?;
+    for row in ROOTS {
+        if is_root(alloc, &acc, row) != Some(true) {
+            return Err(row);
+        }
+    }
+    if is_an_element(alloc, &acc) != Some(true) {
+        return Err("an element");
+    }
+    Ok(())
 }
 
 #[test]
-fn roots(rt: HostRuntime) -> Result<(), Fail> {
-    let acc = compile(rt.alloc(), SRC.as_bytes()).ok().ok_or("a schema")?;
-    for row in &ROOTS {
-        assert!(rt; is_root(rt.alloc(), &acc, row)?, "{:?}", row.0);
-    }
+fn roots_and_slots(rt: HostRuntime) -> Result<(), Fail> {
+    all_roots(rt.alloc())?;
     Ok(())
 }

@@ -1,6 +1,5 @@
 //! What views show of values whose blocks were worked out by hand, and where each path to a scalar leads.
-use crate::asked::{Asked, Row, all_so};
-use crate::seen::Seen;
+use crate::asked::all_so;
 use std::test::Fail;
 
 const SRC: &str =
@@ -15,144 +14,67 @@ const SRC: &str =
      Raw \"01\" } representation bytesprefix type E enum { | No (\"0\") | Yes (\"1\") } \
      representation int type M unit representation emptymap";
 
-const STRINGS: [Row; 4] = [
-    (
-        "J",
-        b"cx:y",
-        Asked::Paths(&[
-            (&[], Seen::Parts(2)),
-            (&["a"], Seen::Text("x")),
-            (&["b"], Seen::Text("y")),
-        ]),
-    ),
-    (
-        "J",
-        b"b:y",
-        Asked::Paths(&[(&["a"], Seen::Text("")), (&["b"], Seen::Text("y"))]),
-    ),
-    (
-        "Q",
-        b"fa=1&b=",
-        Asked::Paths(&[
-            (&[], Seen::Parts(2)),
-            (&["a"], Seen::Text("1")),
-            (&["b"], Seen::Text("")),
-            (&["c"], Seen::Nowhere(0)),
-        ]),
-    ),
-    ("Q", b"`", Asked::Paths(&[(&[], Seen::Parts(0))])),
-];
-
-const LISTED: [Row; 6] = [
-    (
-        "P",
-        b"\x82\x82aa\x02\x82ab\x01",
-        Asked::Paths(&[
-            (&[], Seen::Parts(2)),
-            (&["a"], Seen::Int(2)),
-            (&["b"], Seen::Int(1)),
-        ]),
-    ),
-    (
-        "R",
-        b"\x82\x82aa\x01\x82abax",
-        Asked::Paths(&[(&["a"], Seen::Int(1)), (&["b"], Seen::Text("x"))]),
-    ),
-    (
-        "T",
-        b"\x81\x01",
-        Asked::Paths(&[
-            (&[], Seen::Parts(1)),
-            (&["a"], Seen::Int(1)),
-            (&["b"], Seen::Nowhere(0)),
-        ]),
-    ),
-    (
-        "T",
-        b"\x82\x01\x02",
-        Asked::Paths(&[(&["b"], Seen::Int(2))]),
-    ),
-    (
-        "T",
-        b"\x83\x01\x02\x03",
-        Asked::Paths(&[
-            (&["a"], Seen::Int(1)),
-            (&["b"], Seen::Int(2)),
-            (&["c"], Seen::Int(3)),
-        ]),
-    ),
-    (
-        "I",
-        b"\xa0",
-        Asked::Paths(&[(&[], Seen::Parts(1)), (&["n"], Seen::Int(0))]),
-    ),
-];
-
-const UNIONS: [Row; 4] = [
-    (
-        "K",
-        b"\xa1cbox\xa2ah\x03aw\x02",
-        Asked::Paths(&[
-            (&[], Seen::Union("Box")),
-            (&["Box", "w"], Seen::Int(2)),
-            (&["Box", "h"], Seen::Int(3)),
-            (&["Dot"], Seen::Nowhere(0)),
-        ]),
-    ),
-    (
-        "V",
-        b"\xa2ac\xa2ah\x03aw\x02akcbox",
-        Asked::Paths(&[
-            (&[], Seen::Union("Box")),
-            (&["Box", "w"], Seen::Int(2)),
-            (&["Box", "h"], Seen::Int(3)),
-        ]),
-    ),
-    (
-        "N",
-        b"\xa3ah\x03akcboxaw\x02",
-        Asked::Paths(&[
-            (&[], Seen::Union("Box")),
-            (&["Box", "w"], Seen::Int(2)),
-            (&["Box", "h"], Seen::Int(3)),
-            (&["Box", "k"], Seen::Nowhere(1)),
-        ]),
-    ),
-    (
-        "X",
-        b"C\x01\xaa\xbb",
-        Asked::Paths(&[
-            (&[], Seen::Union("Raw")),
-            (&["Raw"], Seen::Bytes(b"\xaa\xbb")),
-        ]),
-    ),
-];
-
-const OTHERS: [Row; 2] = [
-    ("E", b"\x01", Asked::Paths(&[(&[], Seen::Enum("Yes"))])),
-    (
-        "M",
-        b"\xa0",
-        Asked::Paths(&[(&[], Seen::Unit), (&["a"], Seen::Nowhere(0))]),
-    ),
+const PARTS: [&str; 16] = [
+    "J 63783a79 paths\n\
+     . parts 2\n\
+     /a text x\n\
+     /b text y",
+    "J 623a79 paths\n\
+     /a text \n\
+     /b text y",
+    "Q 66613d3126623d paths\n\
+     . parts 2\n\
+     /a text 1\n\
+     /b text \n\
+     /c nowhere 0",
+    "Q 60 paths\n\
+     . parts 0",
+    "P 828261610282616201 paths\n\
+     . parts 2\n\
+     /a int 2\n\
+     /b int 1",
+    "R 82826161018261626178 paths\n\
+     /a int 1\n\
+     /b text x",
+    "T 8101 paths\n\
+     . parts 1\n\
+     /a int 1\n\
+     /b nowhere 0",
+    "T 820102 paths\n\
+     /b int 2",
+    "T 83010203 paths\n\
+     /a int 1\n\
+     /b int 2\n\
+     /c int 3",
+    "I a0 paths\n\
+     . parts 1\n\
+     /n int 0",
+    "K a163626f78a2616803617702 paths\n\
+     . union Box\n\
+     /Box/w int 2\n\
+     /Box/h int 3\n\
+     /Dot nowhere 0",
+    "V a26163a2616803617702616b63626f78 paths\n\
+     . union Box\n\
+     /Box/w int 2\n\
+     /Box/h int 3",
+    "N a3616803616b63626f78617702 paths\n\
+     . union Box\n\
+     /Box/w int 2\n\
+     /Box/h int 3\n\
+     /Box/k nowhere 1",
+    "X 4301aabb paths\n\
+     . union Raw\n\
+     /Raw bytes aabb",
+    "E 01 paths\n\
+     . enum Yes",
+    "M a0 paths\n\
+     . unit\n\
+     /a nowhere 0",
 ];
 
 #[test]
-fn of_strings(rt: HostRuntime) -> Result<(), Fail> {
-    all_so(&rt, rt.alloc(), SRC, &STRINGS)
-}
-
-#[test]
-fn of_listed(rt: HostRuntime) -> Result<(), Fail> {
-    all_so(&rt, rt.alloc(), SRC, &LISTED)
-}
-
-#[test]
-fn of_unions(rt: HostRuntime) -> Result<(), Fail> {
-    all_so(&rt, rt.alloc(), SRC, &UNIONS)
-}
-
-#[test]
-fn of_others(rt: HostRuntime) -> Result<(), Fail> {
-    all_so(&rt, rt.alloc(), SRC, &OTHERS)
+fn of_worked_values(rt: HostRuntime) -> Result<(), Fail> {
+    all_so(rt.alloc(), SRC, &PARTS)?;
+    Ok(())
 }

@@ -1,12 +1,14 @@
 //! What the table of edits allows at a view, which keys fit, how much room an edit leaves, and where it leaves a hole: told by hand.
-use crate::told::{path_of, view_of};
+use crate::told::view_of;
+use hex::decode;
 use ild_cbor::check;
 use ild_compile::compile;
 use ild_path_room::{PartEdit, leaves_hole, room_left};
 use ild_path_rules::{key_fits, refusal_to_delete, slot_to_insert, slot_to_set};
 use ild_schema::Accepted;
+use ild_script::line_of;
+use ild_view::View;
 use std::alloc::Global;
-use std::process::Abort;
 use std::test::Fail;
 
 const SRC: &str =
@@ -14,109 +16,101 @@ const SRC: &str =
      enum { | Ann | Bob } type L [Int] type U union { | Int \"i\" | L \"l\" } representation keyed type P \
      {String:L} representation listpairs";
 
-/// A type, a block of it and a segment; then whether a part may be set there, inserted and deleted, and whether the segment may be a key.
-type Allowed = (
-    &'static str,
-    &'static [u8],
-    &'static str,
-    (bool, bool, bool, bool),
-);
-
-const ALLOWED: [Allowed; 14] = [
-    ("T", b"\x81\x01", "a", (true, false, false, true)),
-    ("T", b"\x81\x01", "b", (true, true, false, true)),
-    ("T", b"\x82\x01\x02", "b", (true, false, true, true)),
-    ("T", b"\x81\x01", "z", (false, false, false, true)),
-    ("M", b"\xa1cAnn\x01", "Ann", (true, false, true, true)),
-    ("M", b"\xa1cAnn\x01", "Bob", (true, true, false, true)),
-    ("M", b"\xa1cAnn\x01", "Cleo", (true, true, false, false)),
-    ("L", b"\x81\x05", "0", (true, true, true, true)),
-    ("L", b"\x81\x05", "1", (false, true, false, true)),
-    ("L", b"\x81\x05", "-", (false, true, false, true)),
-    ("L", b"\x81\x05", "01", (false, false, false, true)),
-    ("U", b"\xa1ai\x01", "Int", (true, false, false, true)),
-    ("U", b"\xa1ai\x01", "L", (true, false, false, true)),
-    ("U", b"\xa1ai\x01", "l", (false, false, false, true)),
+/// A type, a block of it and a segment; then whether a part may be set there (`s`), inserted (`i`) and deleted (`d`), and whether the segment may
+/// be a key (`k`).
+const ALLOWED: [&str; 14] = [
+    "T 8101 a => s--k",
+    "T 8101 b => si-k",
+    "T 820102 b => s-dk",
+    "T 8101 z => ---k",
+    "M a163416e6e01 Ann => s-dk",
+    "M a163416e6e01 Bob => si-k",
+    "M a163416e6e01 Cleo => si--",
+    "L 8105 0 => sidk",
+    "L 8105 1 => -i-k",
+    "L 8105 - => -i-k",
+    "L 8105 01 => ---k",
+    "U a1616901 Int => s--k",
+    "U a1616901 L => s--k",
+    "U a1616901 l => ---k",
 ];
 
-fn is_allowed(alloc: Global, acc: &Accepted, row: &Allowed) -> Option<bool> {
-    let (name, block, segment, (set, insert, delete, key)) = *row;
-    let view = view_of(alloc, acc, name, check(block).ok()?)?;
-    let fits = key_fits(alloc, &view, segment).ok()?;
-    let sets = slot_to_set(&view, segment).is_some() == set;
-    let inserts = slot_to_insert(&view, segment).is_some() == insert;
-    let deletes = refusal_to_delete(&view, segment).is_none() == delete;
-    Some(sets && inserts && deletes && fits == key)
+/// A type, a block of it and a path; then how many of 96 levels are left to a part there.
+const ROOMS: [&str; 4] = [
+    "L 8105 get /0 => 95",
+    "U a1616c8105 get /L/0 => 94",
+    "P 8182617880 get /x/- => 93",
+    "T 8101 get . => 96",
+];
+
+/// A type, a block of it and a segment; then whether a hole is left where a part comes there (`c`), and where it goes (`g`).
+const HOLES: [&str; 3] = ["T 8101 c => c-", "T 8101 b => --", "T 83010203 b => -g"];
+
+/// A letter, or a dash.
+fn flag(letter: u8, on: bool) -> u8 {
+    if on { letter } else { b'-' }
 }
 
-fn all_allowed(rt: &impl Abort, alloc: Global) -> Result<(), Fail> {
+fn is_allowed(alloc: Global, view: &View<'_>, segment: &str, want: &str) -> Option<bool> {
+    let fits = key_fits(alloc, view, segment).ok()?;
+    let told = [
+        flag(b's', slot_to_set(view, segment).is_some()),
+        flag(b'i', slot_to_insert(view, segment).is_some()),
+        flag(b'd', refusal_to_delete(view, segment).is_none()),
+        flag(b'k', fits),
+    ];
+    Some(want.as_bytes() == told.as_slice())
+}
+
+fn leaves_holes(view: &View<'_>, segment: &str, want: &str) -> bool {
+    let told = [
+        flag(b'c', leaves_hole(view, segment, PartEdit::Comes)),
+        flag(b'g', leaves_hole(view, segment, PartEdit::Goes)),
+    ];
+    want.as_bytes() == told.as_slice()
+}
+
+fn has_room(alloc: Global, view: &View<'_>, asked: &str, want: &str) -> Option<bool> {
+    let line = line_of(alloc, asked.as_bytes()).ok()??;
+    let room = room_left(alloc, view, &line.path, 96).ok()??;
+    Some(want.parse::<u32>().ok()? == room)
+}
+
+/// Whether a row is so: by its length it tells of an edit, of a hole or of room.
+fn is_so(alloc: Global, acc: &Accepted, row: &str) -> Option<bool> {
+    let (given, want) = row.split_once(" => ")?;
+    let (name, rest) = given.split_once(' ')?;
+    let (block, asked) = rest.split_once(' ')?;
+    let block = decode(alloc, block).ok()?;
+    let view = view_of(alloc, acc, name, check(&block).ok()?)?;
+    if asked.starts_with("get ") {
+        return has_room(alloc, &view, asked, want);
+    }
+    if want.len() == 2 {
+        return Some(leaves_holes(&view, asked, want));
+    }
+    is_allowed(alloc, &view, asked, want)
+}
+
+fn all_so(alloc: Global, rows: &[&'static str]) -> Result<(), &'static str> {
     let acc = compile(alloc, SRC.as_bytes()).ok().ok_or("a schema")?;
-    for row in &ALLOWED {
-        assert!(rt;
-            is_allowed(alloc, &acc, row).ok_or("a view")?,
-            "{} {}",
-            row.0,
-            row.2
-        );
+    for row in rows {
+        if is_so(alloc, &acc, row) != Some(true) {
+            return Err(*row);
+        }
     }
     Ok(())
 }
 
 #[test]
 fn of_the_table(rt: HostRuntime) -> Result<(), Fail> {
-    all_allowed(&rt, rt.alloc())
-}
-
-/// A type, a block of it and a path; then how many of 96 levels are left to a part there.
-type Room = (&'static str, &'static [u8], &'static [&'static str], u32);
-
-const ROOMS: [Room; 4] = [
-    ("L", b"\x81\x05", &["0"], 95),
-    ("U", b"\xa1al\x81\x05", &["L", "0"], 94),
-    ("P", b"\x81\x82ax\x80", &["x", "-"], 93),
-    ("T", b"\x81\x01", &[], 96),
-];
-
-fn has_room(alloc: Global, acc: &Accepted, row: &Room) -> Option<bool> {
-    let (name, block, segments, room) = *row;
-    let view = view_of(alloc, acc, name, check(block).ok()?)?;
-    let path = path_of(alloc, segments)?;
-    Some(room_left(alloc, &view, &path, 96).ok()?? == room)
-}
-
-/// A type, a block of it and a segment; then whether a hole is left where a part comes there, and where it goes.
-type Hole = (&'static str, &'static [u8], &'static str, (bool, bool));
-
-const HOLES: [Hole; 3] = [
-    ("T", b"\x81\x01", "c", (true, false)),
-    ("T", b"\x81\x01", "b", (false, false)),
-    ("T", b"\x83\x01\x02\x03", "b", (false, true)),
-];
-
-fn has_hole(alloc: Global, acc: &Accepted, row: &Hole) -> Option<bool> {
-    let (name, block, segment, (comes, goes)) = *row;
-    let view = view_of(alloc, acc, name, check(block).ok()?)?;
-    let set = leaves_hole(&view, segment, PartEdit::Comes) == comes;
-    Some(set && leaves_hole(&view, segment, PartEdit::Goes) == goes)
-}
-
-fn all_left(rt: &impl Abort, alloc: Global) -> Result<(), Fail> {
-    let acc = compile(alloc, SRC.as_bytes()).ok().ok_or("a schema")?;
-    for row in &ROOMS {
-        assert!(rt; has_room(alloc, &acc, row).ok_or("a view")?, "{}", row.0);
-    }
-    for row in &HOLES {
-        assert!(rt;
-            has_hole(alloc, &acc, row).ok_or("a view")?,
-            "{} {}",
-            row.0,
-            row.2
-        );
-    }
+    all_so(rt.alloc(), &ALLOWED)?;
     Ok(())
 }
 
 #[test]
 fn of_rooms_and_holes(rt: HostRuntime) -> Result<(), Fail> {
-    all_left(&rt, rt.alloc())
+    all_so(rt.alloc(), &ROOMS)?;
+    all_so(rt.alloc(), &HOLES)?;
+    Ok(())
 }

@@ -1,25 +1,14 @@
 //! What is told of an edit at a path of a block.
+use hex::decode;
 use ild_cbor::{Node, check};
 use ild_compile::compile;
-use ild_data::{Path, Txt};
 use ild_path_block::PartEdit;
 use ild_path_delimiter::{TextEdit, breaks_delimiter};
 use ild_path_edit::block_of_edit;
 use ild_schema::{Accepted, Slot};
+use ild_script::{Line, Word, line_of};
 use ild_view::View;
 use std::alloc::Global;
-use std::process::Abort;
-use std::test::Fail;
-
-/// A declared type, a block of it, a path, what is done (`set`, `ins` or `del`), and with which item; then what is told: `block` with the
-/// new block, or `delimiter`.
-pub type Row = (
-    &'static str,
-    &'static [u8],
-    &'static [&'static str],
-    (&'static str, &'static [u8]),
-    (&'static str, &'static [u8]),
-);
 
 pub(crate) fn view_of<'b>(
     alloc: Global,
@@ -38,60 +27,59 @@ pub(crate) fn view_of<'b>(
     View::check(alloc, acc, slot, root, 96).ok()
 }
 
-pub(crate) fn path_of(alloc: Global, segments: &[&str]) -> Option<Path> {
-    let mut path = Path::new(alloc);
-    for segment in segments {
-        path.push(Txt::of(alloc, segment).ok()?).ok()?;
-    }
-    Some(path)
-}
-
-fn edit_of<'n>(verb: &str, new: &'n [u8]) -> Option<PartEdit<'n>> {
+fn edit_of<'n>(verb: Word, item: &'n [u8]) -> Option<PartEdit<'n>> {
     match verb {
-        "set" => Some(PartEdit::Set(check(new).ok()?)),
-        "ins" => Some(PartEdit::Insert(check(new).ok()?)),
+        Word::Set => Some(PartEdit::Set(check(item).ok()?)),
+        Word::Ins => Some(PartEdit::Insert(check(item).ok()?)),
         _ => Some(PartEdit::Delete),
     }
 }
 
-// Whether a delimiter rule breaks; of a part that is no text none does.
-fn is_broken(alloc: Global, view: &View<'_>, path: &Path, edit: &PartEdit<'_>) -> Option<bool> {
-    let edit = match edit {
-        PartEdit::Set(new) => match new.text() {
-            Some(text) => TextEdit::Set(text),
-            None => return Some(false),
-        },
-        PartEdit::Insert(new) => match new.text() {
-            Some(text) => TextEdit::Insert(text),
-            None => return Some(false),
-        },
-        PartEdit::Delete => TextEdit::Delete,
-    };
-    breaks_delimiter(alloc, view, path, edit).ok()
-}
-
-fn is_so(alloc: Global, acc: &Accepted, row: &Row) -> Option<bool> {
-    let (name, block, segments, (verb, new), (told, want)) = *row;
-    let view = view_of(alloc, acc, name, check(block).ok()?)?;
-    let path = path_of(alloc, segments)?;
-    let edit = edit_of(verb, new)?;
-    if is_broken(alloc, &view, &path, &edit)? {
-        return Some(told == "delimiter");
+fn text_edit<'n>(edit: &PartEdit<'n>) -> Option<TextEdit<'n>> {
+    match edit {
+        PartEdit::Set(new) => Some(TextEdit::Set(new.text()?)),
+        PartEdit::Insert(new) => Some(TextEdit::Insert(new.text()?)),
+        PartEdit::Delete => Some(TextEdit::Delete),
     }
-    let changed = block_of_edit(alloc, &view, &path, &edit).ok()?;
-    Some(told == "block" && changed.as_slice() == want)
 }
 
-/// Each row of a table is so, under a schema.
-pub(crate) fn all_so(rt: &impl Abort, alloc: Global, src: &str, table: &[Row]) -> Result<(), Fail> {
+/// Whether an edit breaks a delimiter rule; one of a part that is no text breaks none.
+fn is_broken(alloc: Global, view: &View<'_>, line: &Line, edit: &PartEdit<'_>) -> Option<bool> {
+    match text_edit(edit) {
+        Some(edit) => breaks_delimiter(alloc, view, &line.path, edit).ok(),
+        None => Some(false),
+    }
+}
+
+/// Whether an edit of a view is told so: the new block, in hexadecimals, or `delimiter`.
+fn is_told(alloc: Global, view: &View<'_>, asked: &str, want: &str) -> Option<bool> {
+    let line = line_of(alloc, asked.as_bytes()).ok()??;
+    let item = decode(alloc, asked.as_bytes().get(line.json_at..)?).ok()?;
+    let edit = edit_of(line.verb, &item)?;
+    if is_broken(alloc, view, &line, &edit)? {
+        return Some(want == "delimiter");
+    }
+    let changed = block_of_edit(alloc, view, &line.path, &edit).ok()?;
+    Some(changed.as_slice() == decode(alloc, want).ok()?.as_slice())
+}
+
+/// Whether a row is so: a declared type, a block of it in hexadecimals, a line whose JSON is an item in hexadecimals, and behind ` => ` what is told.
+fn is_so(alloc: Global, acc: &Accepted, row: &str) -> Option<bool> {
+    let (given, want) = row.split_once(" => ")?;
+    let (name, rest) = given.split_once(' ')?;
+    let (block, asked) = rest.split_once(' ')?;
+    let block = decode(alloc, block).ok()?;
+    let view = view_of(alloc, acc, name, check(&block).ok()?)?;
+    is_told(alloc, &view, asked, want)
+}
+
+/// The first row of a table that isn't so under a schema is an error.
+pub(crate) fn all_so(alloc: Global, src: &str, rows: &[&'static str]) -> Result<(), &'static str> {
     let acc = compile(alloc, src.as_bytes()).ok().ok_or("a schema")?;
-    for row in table {
-        assert!(rt;
-            is_so(alloc, &acc, row).ok_or("an edit")?,
-            "{} {:?}",
-            row.0,
-            row.1
-        );
+    for row in rows {
+        if is_so(alloc, &acc, row) != Some(true) {
+            return Err(*row);
+        }
     }
     Ok(())
 }
