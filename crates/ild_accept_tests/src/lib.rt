@@ -3,9 +3,9 @@
 #![tactic(auto)]
 
 #[cfg(test)]
-mod corners;
-#[cfg(test)]
 mod parts;
+#[cfg(test)]
+mod prefixes;
 #[cfg(test)]
 mod splits;
 #[cfg(test)]

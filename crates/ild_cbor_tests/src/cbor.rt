@@ -1,7 +1,7 @@
 //! Blocks that the standards and other encoders give, and the accessors on one that has all kinds in it.
 use ild_cbor::CborKind::*;
 use ild_cbor::{CborFault, CborKind, Kind, Node, check};
-use std::process::Abort;
+use std::alloc::Global;
 use std::test::Fail;
 
 // {"b": true, "i": -2^63, "l": [1, 24, 256, 65536, 2^32, 2^64-1, false], "m": {"a": [], "bb": {}}, "n": null,
@@ -17,18 +17,21 @@ const ALL: [u8; 121] = [
     0x00, 0x00, 0x00, 0x00, 0x00, 0x00, 0x00, 0x00, 0x00,
 ];
 
-fn refused(rt: &impl Abort, bytes: &[u8], kind: CborKind, at: usize) {
-    assert_eq!(rt;
-        check(bytes).err(),
-        Some(CborFault { kind, at }),
-        "{bytes:?}"
-    );
+/// Whether bytes are refused for this fault first.
+fn is_refused(bytes: &[u8], kind: CborKind, at: usize) -> bool {
+    match check(bytes) {
+        Ok(_) => false,
+        Err(fault) => fault.kind == kind && fault.at == at,
+    }
 }
 
-/// Blocks that are refused, each with its first fault: one for each kind. More of them are cases of `show` (`NO_BLOCKS` of
-/// tests/conformance/tables.py), and so is each front of that block.
-const FAULTS: [(&[u8], CborKind, usize); 12] = [
+/// Blocks that are refused, each with its first fault: one for each kind, and counts that no block can hold. More of them are cases of `show`
+/// (`NO_BLOCKS` of tests/conformance/tables.py), and so is each front of that block.
+const FAULTS: [(&[u8], CborKind, usize); 14] = [
     (&[0xa1, 0x61, 0x61], Short, 3),
+    (b"\x9b\xff\xff\xff\xff\xff\xff\xff\xff", Short, 9),
+    (b"\xbb\xff\xff\xff\xff\xff\xff\xff\xff", Short, 9),
+    (b"\x5b\xff\xff\xff\xff\xff\xff\xff\xff", Short, 9),
     (&[0xf6, 0xf6], Rest, 1),
     (&[0x81, 0x18, 0x17], Head, 1),
     (&[0xa1, 0xff], KeyKind, 1),
@@ -39,14 +42,51 @@ const FAULTS: [(&[u8], CborKind, usize); 12] = [
     (&[0xf9, 0x3c, 0x00], Float, 0),
     (&[0xf7], Simple, 0),
     (&[0x3b, 0x80, 0, 0, 0, 0, 0, 0, 0], Range, 0),
-    (&[0x81; 97], Depth, 96),
 ];
 
 #[test]
 fn faults(rt: HostRuntime) {
     for (bytes, kind, at) in &FAULTS {
-        refused(&rt, bytes, *kind, *at);
+        assert!(rt; is_refused(bytes, *kind, *at), "at {at}");
     }
+}
+
+/// The root block of an empty club: a name, and a HAMT without entries.
+const CLUB: &[u8] =
+    b"\xa2dnamedKiteeusers\xa3dhamt\x82X \0\0\0\0\0\0\0\0\0\0\0\0\0\0\0\0\0\0\0\0\0\0\0\0\0\0\0\0\0\0\0\0\x80ghashAlg\x12jbucketSize\x03";
+
+/// Whether each front of a block is short at its end.
+fn are_short(block: &[u8]) -> bool {
+    let mut short = check(block).is_ok();
+    for length in 0..block.len() {
+        short &= match block.get(..length) {
+            Some(front) => is_refused(front, Short, length),
+            None => false,
+        };
+    }
+    short
+}
+
+/// So many lists in one another, around a zero.
+fn nested(alloc: Global, count: usize) -> Option<Vec<u8>> {
+    let mut lists = Vec::new(alloc);
+    lists.resize(count, 0x81).ok()?;
+    lists.push(0).ok()?;
+    Some(lists)
+}
+
+/// Whether 96 levels are a block, and one more is too deep.
+fn is_deepest(alloc: Global) -> Option<bool> {
+    let last = nested(alloc, 96)?;
+    let more = nested(alloc, 97)?;
+    Some(check(&last).is_ok() && is_refused(&more, Depth, 96))
+}
+
+#[test]
+fn fronts_and_levels(rt: HostRuntime) -> Result<(), Fail> {
+    let deepest = is_deepest(rt.alloc()) == Some(true);
+    assert!(rt; deepest && are_short(CLUB));
+    Ok(())
 }
 
 /// An entry of a block.
