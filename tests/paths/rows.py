@@ -135,9 +135,9 @@ def replies(document, script, failing=None):
 
 
 def others_row(clean, refused):
-    """The replies that are others than where nothing fails, by their numbers."""
-    others = [f"({number}, {quoted(reply)})" for number, (reply, was) in enumerate(zip(refused, clean)) if reply != was]
-    return f"&[{', '.join(others)}],"
+    """The replies, each in a line, with an empty line in place of one that is the same where nothing fails."""
+    lines = [reply if reply != was else "" for reply, was in zip(refused, clean)]
+    return "\n".join(lines).rstrip("\n") + "\n"
 
 
 CROWD = """get /users/k113/role
@@ -155,7 +155,7 @@ def user(name):
     return {"mail": f"{name}@x", "role": "Guest", "age": None, "contact": {"Phone": "1"}}
 
 
-def session(name, schema, ty, value, script, lines):
+def session(name, schema, ty, value, script, failing):
     """A value with a script: its blocks, the replies, and those where a line that stores, or one of these lines, meets a call that fails."""
     found = values.compiled(schema.encode())
     number = found.number(ty)
@@ -166,15 +166,20 @@ def session(name, schema, ty, value, script, lines):
 
     blocks, clean, last = document().blocks(), replies(document(), script), document()
     print(f"\nconst {name}: Session = Session {{")
-    print(f"    schema: {quoted(schema)},")
-    print(f"    ty: {quoted(ty)},")
-    print(f"    root: {quoted(values.cid_text(blocks[0]))},")
-    print(f"    blocks: &[{', '.join(map(literal, blocks))}],")
-    print("    script: &[" + ", ".join(quoted(line.decode()) for line in script) + "],")
-    print("    replies: &[" + ", ".join(map(quoted, clean)) + "],\n};")
+    for field, told in (
+        ("schema", schema),
+        ("ty", ty),
+        ("root", values.cid_text(blocks[0])),
+        ("blocks", "".join(block.hex() + "\n" for block in blocks)),
+        ("script", "".join(line.decode() + "\n" for line in script)),
+        ("replies", "".join(reply + "\n" for reply in clean)),
+    ):
+        print(f"    {field}: {lines(told)},")
+    print("};")
     edits = [n for n, reply in enumerate(clean) if reply.startswith("root ") and script[n] != b"root"]
-    print_rows(f"{name}_EDITS", "Others", [others_row(clean, replies(document(), script, n)) for n in edits])
-    print_rows(f"{name}_LINES", "Others", [others_row(clean, replies(document(), script, n)) for n in lines])
+    print_rows(f"{name}_EDITS", "&str", [lines(others_row(clean, replies(document(), script, n))) + "," for n in edits])
+    if failing:
+        print_rows(f"{name}_LINES", "&str", [lines(others_row(clean, replies(document(), script, n))) + "," for n in failing])
     replies(last, script)
     print(f"// {len(set(last.stored.values()) - set(blocks))} blocks come")
 
@@ -320,6 +325,13 @@ def forest_document():
 def quoted(text):
     plain = text.replace("\\", "\\\\").replace('"', '\\"').replace("\n", "\\n").replace("\0", "\\0")
     return '"' + "".join(c if ord(c) >= 32 else f"\\x{ord(c):02x}" for c in plain) + '"'
+
+
+def lines(text, indent="     "):
+    """A text of lines as a literal, with a line of the source for each, or more where it is long."""
+    kept, shown = text.endswith("\n"), text.rstrip("\n").split("\n") if text.strip("\n") else [text]
+    front, last = [texts(line, indent)[1:-1] + "\\n" for line in shown[:-1]], texts(shown[-1], indent)[1:-1] + ("\\n" if kept else "")
+    return '"' + "".join(line + "\\\n" + indent for line in front) + last + '"'
 
 
 def print_texts(name, rows):

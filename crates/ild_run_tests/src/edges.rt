@@ -1,6 +1,7 @@
 //! Each call once, and the failing ones by their numbers.
 use ild_data::{BlockId, Octets, block_id};
 use ild_edges::{EdgeErr, Inputs, MemInputs, MemSink, MemStore, Sink, Store, Taken};
+use std::alloc::Global;
 use std::test::Fail;
 
 /// What a take gives, as a text for a table.
@@ -47,12 +48,12 @@ fn write_by<W: Sink>(sink: &mut W, piece: &[u8]) -> &'static str {
     }
 }
 
-#[test]
-fn takes(rt: HostRuntime) -> Result<(), Fail> {
-    let mut inputs = MemInputs::new(rt.alloc(), &[2, 5])?;
-    inputs.add("a", b"two")?;
-    inputs.add("b", b"two")?;
-    inputs.add("a", b"one")?;
+fn takes(alloc: Global) -> Option<bool> {
+    let mut inputs = MemInputs::new(alloc, &[2, 5]).ok()?;
+    inputs.add("a", b"two").ok()?;
+    inputs.add("b", b"two").ok()?;
+    inputs.add("a", b"one").ok()?;
+    let mut same = true;
     for (name, wanted) in [
         ("a", "one"),
         ("a", "failed"),
@@ -61,37 +62,43 @@ fn takes(rt: HostRuntime) -> Result<(), Fail> {
         ("c", "failed"),
         ("a", "one"),
     ] {
-        assert_eq!(rt; take_by(&mut inputs, name), wanted);
+        same &= take_by(&mut inputs, name) == wanted;
     }
-    Ok(())
+    Some(same)
+}
+
+fn puts(alloc: Global) -> Option<bool> {
+    let mut store = MemStore::new(alloc, &[], &[1]).ok()?;
+    store.add(b"\x80").ok()?;
+    store.add(b"\x80").ok()?;
+    let first = put_by(&mut store, b"\xa0") == "failed" && put_by(&mut store, b"\xa0") == "none";
+    Some(first && put_by(&mut store, b"\x80") == "none")
+}
+
+fn gets(alloc: Global) -> Option<bool> {
+    let mut store = MemStore::new(alloc, &[2], &[]).ok()?;
+    store.add(b"\x80").ok()?;
+    let list = block_id(b"\x80");
+    let first = get_by(&mut store, &list) == "80" && get_by(&mut store, &list) == "failed";
+    let none = get_by(&mut store, &block_id(b"")) == "none";
+    Some(
+        first
+            && none
+            && put_by(&mut store, b"\xa0") == "none"
+            && get_by(&mut store, &block_id(b"\xa0")) == "a0",
+    )
+}
+
+fn writes(alloc: Global) -> Option<bool> {
+    let mut sink = MemSink::new(alloc, &[2]).ok()?;
+    let first = write_by(&mut sink, b"ok ") == "ok" && write_by(&mut sink, b"no") == "failed";
+    Some(first && write_by(&mut sink, b"x\n") == "ok" && sink.bytes() == b"ok x\n".as_slice())
 }
 
 #[test]
-fn puts_and_gets(rt: HostRuntime) -> Result<(), Fail> {
-    let mut store = MemStore::new(rt.alloc(), &[2], &[1])?;
-    store.add(b"\x80")?;
-    store.add(b"\x80")?;
-    let (list, map) = (block_id(b"\x80"), block_id(b"\xa0"));
-    for (block, wanted) in [(b"\xa0", "failed"), (b"\xa0", "none"), (b"\x80", "none")] {
-        assert_eq!(rt; put_by(&mut store, block), wanted);
-    }
-    for (id, wanted) in [
-        (&list, "80"),
-        (&list, "failed"),
-        (&map, "a0"),
-        (&block_id(b""), "none"),
-    ] {
-        assert_eq!(rt; get_by(&mut store, id), wanted);
-    }
-    Ok(())
-}
-
-#[test]
-fn writes(rt: HostRuntime) -> Result<(), Fail> {
-    let mut sink = MemSink::new(rt.alloc(), &[2])?;
-    for (piece, wanted) in [("ok ", "ok"), ("no", "failed"), ("x\n", "ok")] {
-        assert_eq!(rt; write_by(&mut sink, piece.as_bytes()), wanted);
-    }
-    assert_eq!(rt; sink.bytes(), b"ok x\n".as_slice());
+fn each_call_once(rt: HostRuntime) -> Result<(), Fail> {
+    let alloc = rt.alloc();
+    let inputs = takes(alloc) == Some(true) && writes(alloc) == Some(true);
+    assert!(rt; inputs && puts(alloc) == Some(true) && gets(alloc) == Some(true));
     Ok(())
 }

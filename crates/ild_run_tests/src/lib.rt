@@ -10,6 +10,8 @@ mod edges;
 #[cfg(test)]
 mod files;
 #[cfg(test)]
-mod run;
+mod plain;
+#[cfg(test)]
+mod sessions;
 #[cfg(test)]
 mod typed;
