@@ -76,9 +76,9 @@ fn are_ends(acc: &Accepted) -> Option<bool> {
 
 fn all_found(alloc: Global) -> Result<(), &'static str> {
     let acc = compile(alloc, SRC.as_bytes()).ok().ok_or("a schema")?;
-    for row in FOUND {
+    for row in &FOUND {
         if is_found(&acc, row) != Some(true) {
-            return Err(row);
+            return Err(*row);
         }
     }
     if are_ends(&acc) != Some(true) {

@@ -78,14 +78,14 @@ fn is_bytes(alloc: Global, row: &str) -> Option<bool> {
 }
 
 fn all_so(alloc: Global) -> Result<(), &'static str> {
-    for row in TEXTS {
+    for row in &TEXTS {
         if is_text(alloc, row) != Some(true) {
-            return Err(row);
+            return Err(*row);
         }
     }
-    for row in BYTES {
+    for row in &BYTES {
         if is_bytes(alloc, row) != Some(true) {
-            return Err(row);
+            return Err(*row);
         }
     }
     Ok(())

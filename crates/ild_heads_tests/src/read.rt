@@ -21,7 +21,7 @@ fn empty_text(alloc: Global, name: &Txt) -> Result<String, AllocError> {
 }
 
 /// What a line reads as.
-pub fn shown(alloc: Global, line: &str) -> Result<String, AllocError> {
+pub(crate) fn shown(alloc: Global, line: &str) -> Result<String, AllocError> {
     match asked_of(alloc, line.as_bytes()) {
         Ok(Some(Asked::Empty(name))) => empty_text(alloc, &name),
         Ok(Some(Asked::Event(event))) => event_text(alloc, &event),

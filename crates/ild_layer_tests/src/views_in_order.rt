@@ -117,9 +117,9 @@ fn is_root(alloc: Global, acc: &Accepted, row: &str) -> Option<bool> {
 
 fn all_roots(alloc: Global) -> Result<(), &'static str> {
     let acc = compile(alloc, SRC.as_bytes()).ok().ok_or("a schema")?;
-    for row in ROOTS {
+    for row in &ROOTS {
         if is_root(alloc, &acc, row) != Some(true) {
-            return Err(row);
+            return Err(*row);
         }
     }
     if is_an_element(alloc, &acc) != Some(true) {

@@ -76,8 +76,8 @@ const NO_NODES: [usize; 3] = [0, 2, 3];
 fn all_so(alloc: Global) -> Option<bool> {
     let acc = compile(alloc, SRC.as_bytes()).ok()?;
     let mut done = is_done_over(alloc, &acc, &turned(alloc, CHILD.len(), 0)?)?;
-    for at in NO_NODES {
-        done &= !is_done_over(alloc, &acc, &turned(alloc, at, 0)?)?;
+    for at in &NO_NODES {
+        done &= !is_done_over(alloc, &acc, &turned(alloc, *at, 0)?)?;
     }
     Some(done && each_bit(alloc, &acc)?)
 }

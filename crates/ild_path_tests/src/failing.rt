@@ -101,11 +101,11 @@ fn gets_of(alloc: Global, acc: &Accepted, row: &str) -> Option<u64> {
 
 fn all_refused(alloc: Global) -> Result<(), &'static str> {
     let acc = compile(alloc, SRC.as_bytes()).ok().ok_or("a schema")?;
-    for (row, new, old) in TRIED {
-        let puts = puts_of(alloc, &acc, row).ok_or(row)?;
-        let gets = gets_of(alloc, &acc, row).ok_or(row)?;
-        if puts < new || gets < old {
-            return Err(row);
+    for (row, new, old) in &TRIED {
+        let puts = puts_of(alloc, &acc, row).ok_or(*row)?;
+        let gets = gets_of(alloc, &acc, row).ok_or(*row)?;
+        if puts < *new || gets < *old {
+            return Err(*row);
         }
     }
     Ok(())

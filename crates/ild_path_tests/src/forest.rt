@@ -96,8 +96,7 @@ const EDITS: [&str; 34] = [
 
 /// A node of the first value, by its number.
 pub(crate) fn node(alloc: Global, number: usize) -> Option<Vec<u8>> {
-    let nodes = NODES;
-    decode(alloc, *nodes.get(number)?).ok()
+    decode(alloc, *NODES.get(number)?).ok()
 }
 
 /// A store that holds the first value, but for the node with a number, and whose gets and puts with these numbers fail.
@@ -122,10 +121,10 @@ fn all_told(alloc: Global) -> Result<(), &'static str> {
     let acc = compile(alloc, SRC.as_bytes()).ok().ok_or("a schema")?;
     let mut doc = doc_of(alloc, &acc, "Forest", "80").ok_or("a list")?;
     let mut store = MemStore::new(alloc, &[], &[]).ok().ok_or("a store")?;
-    for row in EDITS {
+    for row in &EDITS {
         let told = is_told(alloc, &mut doc, row, &PadKeys, &mut store);
         if told != Some(true) || !is_whole(alloc, &doc, &mut store) {
-            return Err(row);
+            return Err(*row);
         }
     }
     Ok(())
