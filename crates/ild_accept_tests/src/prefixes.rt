@@ -55,6 +55,14 @@ fn is_told(found: Option<(u32, &str)>, want: &str) -> Option<bool> {
     }
 }
 
+fn are_told(alloc: Global, found: Option<(u32, &[u8])>, want: &str) -> Option<bool> {
+    let Some((number, rest)) = found else {
+        return Some(want == "none");
+    };
+    let shown = encode(alloc, rest).ok()?;
+    is_told(Some((number, shown.as_str())), want)
+}
+
 fn is_text(alloc: Global, row: &str) -> Option<bool> {
     let (given, want) = row.split_once(" => ")?;
     let (one, rest) = given.split_once(' ')?;
@@ -68,13 +76,8 @@ fn is_bytes(alloc: Global, row: &str) -> Option<bool> {
     let (one, rest) = given.split_once(' ')?;
     let (other, text) = rest.split_once(' ')?;
     let def = union(alloc, one, other, UnionForm::BytesPrefix).ok()?;
-    match bytes_prefix(&decode(alloc, text).ok()?, &def) {
-        Some((number, rest)) => {
-            let shown = encode(alloc, rest).ok()?;
-            is_told(Some((number, shown.as_str())), want)
-        }
-        None => is_told(None, want),
-    }
+    let bytes = decode(alloc, text).ok()?;
+    are_told(alloc, bytes_prefix(&bytes, &def), want)
 }
 
 fn all_so(alloc: Global) -> Result<(), &'static str> {

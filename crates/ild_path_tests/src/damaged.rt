@@ -51,7 +51,7 @@ fn is_done_over(alloc: Global, acc: &Accepted, child: &[u8]) -> Option<bool> {
     let mut doc = root_over(alloc, acc, &block_id(child))?;
     let fault = fault_of(alloc, &doc, asked, &mut store);
     let text = told(alloc, &mut doc, asked, &PadKeys, &mut store)?;
-    let refused = text.as_slice() == b"no 11 block\n";
+    let refused = text.as_slice() == b"no 11 block\n".as_slice();
     match fault {
         None if !refused => Some(true),
         Some(PathFault::Block { id, why })

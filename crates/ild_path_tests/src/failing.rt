@@ -49,7 +49,10 @@ fn is_refused(alloc: Global, doc: &mut Doc<'_>, row: &str, store: &mut MemStore)
     if text.as_slice() == wanted.as_bytes() {
         return Some(false);
     }
-    if text.as_slice() == b"no 12 store\n" && doc.root() == root && is_whole(alloc, doc, store) {
+    if text.as_slice() == b"no 12 store\n".as_slice()
+        && doc.root() == root
+        && is_whole(alloc, doc, store)
+    {
         return Some(true);
     }
     None

@@ -30,7 +30,7 @@ fn is_refused(
     let named = fault_of(alloc, doc, asked, store) == Some(PathFault::Block { id, why });
     let root = doc.root();
     let text = told(alloc, doc, asked, &PadKeys, store)?;
-    Some(named && text.as_slice() == b"no 11 block\n" && doc.root() == root)
+    Some(named && text.as_slice() == b"no 11 block\n".as_slice() && doc.root() == root)
 }
 
 /// Whether an edit is told as it has to be where a node is missing.

@@ -44,7 +44,7 @@ fn is_stopped(alloc: Global, acc: &Accepted, puts: &[u64], child: bool) -> Optio
     let mut doc = doc_of(alloc, acc, "H", THREE)?;
     let root = doc.root();
     let text = told(alloc, &mut doc, asked, &PadKeys, &mut store)?;
-    let stays = text.as_slice() == b"no 12 store\n" && doc.root() == root;
+    let stays = text.as_slice() == b"no 12 store\n".as_slice() && doc.root() == root;
     let held = is_held(alloc, FOURTH, &mut store)? == child && !is_held(alloc, FOUR, &mut store)?;
     let again = puts.len() > 1 || is_told(alloc, &mut doc, SET_FOURTH, &PadKeys, &mut store)?;
     Some(stays && held && again)
