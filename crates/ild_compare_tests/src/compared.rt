@@ -50,8 +50,8 @@ fn store_of(alloc: Global, tree: Tree<'_>) -> Result<MemStore, Fail> {
 }
 
 /// What is told, in a word.
-fn word(result: &Result<Compared, OpenFault>) -> &'static str {
-    match result {
+fn word(answer: &Result<Compared, OpenFault>) -> &'static str {
+    match answer {
         Ok(Compared::Same) => "same",
         Ok(Compared::Other) => "other",
         Ok(Compared::Collide(_, _)) => "collide",
@@ -82,7 +82,7 @@ fn told(
     let mut right_store = store_of(alloc, right)?;
     let first = doc_of(alloc, &acc, ty, left.0)?;
     let second = doc_of(alloc, &acc, ty, right.0)?;
-    let result = compare_trees(
+    let answer = compare_trees(
         alloc,
         &first,
         &mut left_store,
@@ -90,7 +90,7 @@ fn told(
         &mut right_store,
         &PadKeys,
     );
-    Ok(word(&result))
+    Ok(word(&answer))
 }
 
 #[test]

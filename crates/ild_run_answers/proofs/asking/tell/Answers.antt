@@ -13,4 +13,4 @@ returns g c =
     c.view-view.ensures.table c.view-view.ensures.slot c.view-view.ensures.whole c.args.path.now c.args.what (g.K.Store.moment c.args.store.now) (g.K.Store.moment c.read.new.store) c.read.result c.read.ensures
 
 pub read-requires : goal.read-requires
-read-requires g c = root_is_shallow c.args.doc.now c.view-view.result c.args.doc.now.stands c.view-view.ensures.table c.view-view.ensures.slot c.view-view.ensures.front
+read-requires g c = record { shallow = root_is_shallow c.args.doc.now c.view-view.result c.args.doc.now.stands c.view-view.ensures.table c.view-view.ensures.slot c.view-view.ensures.front }
