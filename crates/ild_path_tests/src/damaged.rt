@@ -58,9 +58,9 @@ fn is_done(alloc: Global, doc: &mut Doc<'_>, child: &[u8], store: &mut MemStore)
     let text = told(alloc, doc, asked, &PadKeys, store)?;
     let refused = text.as_slice() == b"no 11 block\n".as_slice();
     match fault {
-        None => Some(!refused),
+        None if !refused => Some(true),
         Some(fault) if refused && is_named(fault, child) => Some(false),
-        Some(_) => None,
+        _ => None,
     }
 }
 
