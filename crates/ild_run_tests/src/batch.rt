@@ -302,8 +302,7 @@ fn each_get_fails(rt: HostRuntime) -> Result<(), Fail> {
 /// A commit puts each block once.
 #[test]
 fn each_put_of_a_commit_fails(rt: HostRuntime) -> Result<(), Fail> {
-    let [others] = NEST_EDITS;
-    let times = calls_of_row(rt.alloc(), &NEST, Call::Put, 1, others);
+    let times = calls_of_row(rt.alloc(), &NEST, Call::Put, 1, NEST_EDITS[0]);
     assert_eq!(rt; times, Some(NEST_PUTS));
     in_turn(rt.alloc(), &NEST, Call::Put, 0, &NEST_EDITS)?;
     Ok(())

@@ -39,6 +39,10 @@ const LINES_EDITS: [&str; 2] = [
 
 /// A set that comes again. The block of both is `a2 61 61 01 61 62 02`.
 const AGAIN: Session = Session {
+    schema: "type N {String:Int}",
+    ty: "N",
+    root: "-",
+    blocks: "",
     script: "set /a 1\n\
      set /b 2\n\
      root\n\
@@ -47,7 +51,6 @@ const AGAIN: Session = Session {
      root bafyreifa2oxz5bxfkf7xfg5nazl6frxtw7idrgmjjsgwwm3vsb2mre5v4m\n\
      root bafyreifa2oxz5bxfkf7xfg5nazl6frxtw7idrgmjjsgwwm3vsb2mre5v4m\n\
      root bafyreifa2oxz5bxfkf7xfg5nazl6frxtw7idrgmjjsgwwm3vsb2mre5v4m\n",
-    ..LINES
 };
 
 /// The third put is that of the second set.
