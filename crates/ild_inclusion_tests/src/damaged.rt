@@ -19,6 +19,15 @@ fn turned(alloc: Global, block: &[u8], at: usize, bit: u8) -> Option<Vec<u8>> {
     Some(other)
 }
 
+/// The proof of two blocks, of which the first or the second is another.
+fn with_other(alloc: Global, first: bool, other: &[u8]) -> Option<Proof> {
+    if first {
+        proof_of(alloc, &[other, FOUR_CHILD])
+    } else {
+        proof_of(alloc, &[FOUR, other])
+    }
+}
+
 /// Whether a proof of two blocks, of which one has a bit turned over, is answered so.
 fn is_refused(
     alloc: Global,
@@ -28,17 +37,9 @@ fn is_refused(
     bit: u8,
     want: (&str, usize, &[u8]),
 ) -> Option<bool> {
-    let proof = if first {
-        proof_of(
-            alloc,
-            &[turned(alloc, FOUR, at, bit)?.as_slice(), FOUR_CHILD],
-        )?
-    } else {
-        proof_of(
-            alloc,
-            &[FOUR, turned(alloc, FOUR_CHILD, at, bit)?.as_slice()],
-        )?
-    };
+    let block = if first { FOUR } else { FOUR_CHILD };
+    let other = turned(alloc, block, at, bit)?;
+    let proof = with_other(alloc, first, &other)?;
     is_answered(alloc, acc, "H", FOUR, &["\0\x02"], &proof, &PadKeys, want)
 }
 

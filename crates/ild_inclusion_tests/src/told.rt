@@ -52,8 +52,8 @@ fn reject_of(reject: Reject) -> (&'static str, usize) {
     }
 }
 
-fn is_told(result: &Result<Answer, VerifyErr>, want: (&str, usize, &[u8])) -> bool {
-    match result {
+fn is_told(answer: &Result<Answer, VerifyErr>, want: (&str, usize, &[u8])) -> bool {
+    match answer {
         Ok(Answer::Here(bytes)) => want.0 == "here" && bytes.as_slice() == want.2,
         Ok(Answer::Absent(k)) => want.0 == "absent" && *k == want.1,
         Err(VerifyErr::Reject(reject)) => reject_of(*reject) == (want.0, want.1),
@@ -77,6 +77,6 @@ pub fn is_answered<H: KeyHash>(
         return None;
     }
     let path = path_of(alloc, segments)?;
-    let result = verify(alloc, acc, ty, &block_id(root), &path, proof, keys);
-    Some(is_told(&result, want))
+    let answer = verify(alloc, acc, ty, &block_id(root), &path, proof, keys);
+    Some(is_told(&answer, want))
 }
