@@ -18,7 +18,7 @@ pub type Row = (
     (&'static str, usize, &'static [u8]),
 );
 
-pub fn schema(alloc: Global) -> Result<Accepted, Fail> {
+pub(crate) fn schema(alloc: Global) -> Result<Accepted, Fail> {
     match compile(alloc, SRC.as_bytes()) {
         Ok(acc) => Ok(acc),
         Err(_) => Err("a schema".into()),
@@ -33,7 +33,7 @@ fn path_of(alloc: Global, segments: &[&str]) -> Option<Path> {
     Some(path)
 }
 
-pub fn proof_of(alloc: Global, blocks: &[&[u8]]) -> Option<Proof> {
+pub(crate) fn proof_of(alloc: Global, blocks: &[&[u8]]) -> Option<Proof> {
     let mut proof = Proof::new(alloc);
     for block in blocks {
         proof.push(Octets::of(alloc, block).ok()?).ok()?;
@@ -62,7 +62,7 @@ fn is_told(answer: &Result<Answer, VerifyErr>, want: (&str, usize, &[u8])) -> bo
 }
 
 /// Whether a proof is answered so, for a path into the value of a type under the id of a block.
-pub fn is_answered<H: KeyHash>(
+pub(crate) fn is_answered<H: KeyHash>(
     alloc: Global,
     acc: &Accepted,
     name: &str,

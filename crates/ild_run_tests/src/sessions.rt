@@ -77,7 +77,8 @@ pub(crate) fn ended_by(alloc: Global, session: &Session, call: Call, number: u64
 
 /// Whether the value under a root is shown.
 fn is_shown(alloc: Global, session: &Session, root: &str, store: &mut MemStore) -> Option<bool> {
-    let words = owned(alloc, &["show", "s", session.ty, root]).ok()?;
+    let mut words = owned(alloc, &["show", "s", session.ty]).ok()?;
+    words.push(String::from_str(alloc, root).ok()?).ok()?;
     let mut inputs = inputs_of(alloc, session, &[])?;
     let mut out = MemSink::new(alloc, &[]).ok()?;
     Some(run(alloc, &words, &mut inputs, store, &mut out).code() == 0)
@@ -110,12 +111,11 @@ pub(crate) fn is_so(
 /// Replies with others in their places; an empty line stands for the reply itself.
 fn merged(alloc: Global, replies: &str, others: &str) -> Result<String, AllocError> {
     let mut text = String::new(alloc);
-    let mut rest = others;
+    let mut left = others.lines();
     for reply in replies.lines() {
-        let (other, after) = rest.split_once('\n').unwrap_or(("", ""));
+        let other = left.next().unwrap_or("");
         text.push_str(if other.is_empty() { reply } else { other })?;
         text.push('\n')?;
-        rest = after;
     }
     Ok(text)
 }
