@@ -108,14 +108,26 @@ pub(crate) fn is_so(
     Some(same && are_held(alloc, session, text, &mut ended.store)?)
 }
 
+/// Appends a reply, or the other in its place where that isn't empty.
+fn add_reply(text: &mut String, reply: &str, other: &str) -> Result<(), AllocError> {
+    if other.is_empty() {
+        text.push_str(reply)?;
+    } else {
+        text.push_str(other)?;
+    }
+    text.push('\n')?;
+    Ok(())
+}
+
 /// Replies with others in their places; an empty line stands for the reply itself.
 fn merged(alloc: Global, replies: &str, others: &str) -> Result<String, AllocError> {
     let mut text = String::new(alloc);
     let mut left = others.lines();
     for reply in replies.lines() {
-        let other = left.next().unwrap_or("");
-        text.push_str(if other.is_empty() { reply } else { other })?;
-        text.push('\n')?;
+        match left.next() {
+            Some(other) => add_reply(&mut text, reply, other)?,
+            None => add_reply(&mut text, reply, "")?,
+        }
     }
     Ok(text)
 }
