@@ -198,12 +198,15 @@ pub(crate) fn in_turn(
             _ => return Err(*others),
         }
     }
-    let mut ended = ended_by(alloc, session, call, number).ok_or("memory")?;
-    let status = status_of(session.replies);
-    match is_so(alloc, session, &mut ended, session.replies, status) {
-        Some(true) => Ok(()),
-        _ => Err("a call behind the last"),
+    // Its roots are held as those of a run of which nothing fails; its store would fail while they are shown.
+    let ended = ended_by(alloc, session, call, number).ok_or("memory")?;
+    if ended.status != status_of(session.replies) {
+        return Err("the status of a call behind the last");
     }
+    if ended.out.bytes() != session.replies.as_bytes() {
+        return Err("a call behind the last");
+    }
+    Ok(())
 }
 
 /// Each write fails in turn: what comes before it is written, and nothing behind it.
