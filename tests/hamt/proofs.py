@@ -11,9 +11,20 @@ def root(block):
     return head(5, 3) + string(3, b"hamt") + block + HASH_ALG + BUCKET_SIZE
 
 
-def one_link(block):
-    """The root node whose first slot is the link to a block."""
-    return head(4, 2) + string(2, b"\x01" + bytes(31)) + head(4, 1) + link(block)
+def narrow_root(block):
+    """The same of a HAMT of three bits a level and one entry a bucket."""
+    return head(5, 3) + string(3, b"hamt") + block + HASH_ALG + string(3, b"bucketSize") + head(0, 1)
+
+
+def one_link(block, size=32):
+    """The node, with a map of so many bytes, whose first slot is the link to a block."""
+    return head(4, 2) + string(2, b"\x01" + bytes(size - 1)) + head(4, 1) + link(block)
+
+
+def two_buckets(one, two):
+    """The node of three bits a level with an entry in its first slot and another in its third."""
+    buckets = [head(4, 1) + head(4, 2) + string(2, key) + value for key, value in (one, two)]
+    return head(4, 2) + string(2, b"\x05") + head(4, 2) + b"".join(buckets)
 
 
 def show(name, block):
@@ -39,6 +50,12 @@ def main():
     show("TO_LIST", root(one_link(b"\x80")))
     show("TO_LONG_HEAD", root(one_link(b"\x18\x17")))
     show("ABC", root(node({b"abc": head(0, 1)}, sha256, 0, [])))
+    last = two_buckets((b"\0", head(0, 1)), (b"\x01", head(0, 2)))
+    narrow = one_link(last, 1)
+    show("NARROW", narrow_root(one_link(narrow, 1)))
+    show("NARROW_CHILD", narrow)
+    show("NARROW_LAST", last)
+    show("TO_WIDE", narrow_root(one_link(beneath[0], 1)))
 
 
 main()

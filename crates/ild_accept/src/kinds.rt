@@ -60,7 +60,7 @@ fn map_kinds(form: &MapForm) -> Kinds
     ensures { result ≡ map_kinds form.now }
 {
     match form {
-        MapForm::Map | MapForm::Hamt => Kinds::only(KindWord::Map),
+        MapForm::Map | MapForm::Hamt(_) => Kinds::only(KindWord::Map),
         MapForm::ListPairs => Kinds::only(KindWord::List),
         MapForm::StringPairs(_, _) => Kinds::only(KindWord::Text),
     }

@@ -7,6 +7,7 @@ use Rattle.std.proofs.lemmas.Option.{same_Some, none-some}
 use Rattle.ild_data.specs.Data as T
 use Rattle.ild_data.specs.Data.{Data}
 use Rattle.ild_data.specs.Trie.{trie}
+use Rattle.ild_data.specs.declared.hamt_shape.HamtShape.{HamtShape}
 use Rattle.ild_schema.specs.declared.number.Slot.{Slot}
 use Rattle.ild_schema.specs.declared.def.TypeDef.{TypeDef}
 use Rattle.ild_schema.specs.declared.def.TypeDef.TheVariants as D
@@ -16,7 +17,7 @@ use Rattle.ild_schema.specs.declared.row.Row.{Row}
 use Rattle.ild_schema.specs.Slots.{form_of}
 use Rattle.ild_schema.specs.Value as V
 use Rattle.ild_schema.specs.Value.{Value, Values, Pairs, Optionals}
-use Rattle.ild_typed.specs.Composed.{Hamts, composed, usual}
+use Rattle.ild_typed.specs.Composed.{Hamts, composed}
 use Rattle.ild_typed.specs.Hamt.{root_map, whole}
 use Rattle.ild_typed.specs.Layer as L
 use Rattle.ild_typed.specs.Layer.{Layer, as_map}
@@ -58,7 +59,7 @@ never p l = None
 
 not_hamt : (h : List ℕ → List ℕ) (d : TypeDef) (es : List (List ℕ × Data)) (t : Data) (o : Option (List (List ℕ × Data))) (ts : List (List ℕ × Places)) → composed never d (L.map es) ≡ Some t
     → map_places h (Some d) o ts ≡ places_over (λ p. p.1) ts
-not_hamt h (D.Map key key_at value at MF.Hamt) es t o ts e = absurd (none-some t e)
+not_hamt h (D.Map key key_at value at (MF.Hamt p)) es t o ts e = absurd (none-some t e)
 not_hamt h (D.Map key key_at value at MF.Map) es t o ts e = refl
 not_hamt h (D.Map key key_at value at MF.ListPairs) es t o ts e = refl
 not_hamt h (D.Map key key_at value at (MF.StringPairs i k)) es t o ts e = refl
@@ -137,8 +138,8 @@ module _ (h : List ℕ → List ℕ) (rows : List Row) where
         let x = map_from Some (represented never rows f.slot v) b.item b.first in
         ap (λ q. joined q (places_in_fields h rows fs os)) (none_there f.slot v x.item x.there) ∙ none_fields fs os b.items b.rest
 
-  whole_not_flat : (l : Layer Data) (t : Data) → whole h usual l ≡ Some t → IsFlat t → ⊥
-  whole_not_flat l t e flat = let x = map_from (root_map usual) (option_and_then (λ es. trie h usual es 0) (as_map l)) t e in subst IsFlat (sym (same_Some (root_map usual x.item) t x.made)) flat
+  whole_not_flat : (p : HamtShape) (l : Layer Data) (t : Data) → whole h p l ≡ Some t → IsFlat t → ⊥
+  whole_not_flat p l t e flat = let x = map_from (root_map p) (option_and_then (λ es. trie h p es 0) (as_map l)) t e in subst IsFlat (sym (same_Some (root_map p x.item) t x.made)) flat
 
   pub flat_nowhere : (s : Slot) (v : Value) (t : Data) → represented (whole h) rows s v ≡ Some t → IsFlat t → places_in h rows s v ≡ nowhere
-  flat_nowhere s v t e flat = none_there s v t (flat_same (whole h) never (λ l c k f. whole_not_flat l c k f) rows s v t e flat)
+  flat_nowhere s v t e flat = none_there s v t (flat_same (whole h) never (λ p l c k f. whole_not_flat p l c k f) rows s v t e flat)

@@ -24,7 +24,7 @@ map_some : (f : MapForm) → 1 ≤ map_levels f
 map_some MF.Map = omega arith
 map_some MF.ListPairs = omega arith
 map_some (MF.StringPairs i e) = omega arith
-map_some MF.Hamt = omega arith
+map_some (MF.Hamt p) = omega arith
 
 struct_some : (f : StructForm) → 1 ≤ struct_levels f
 struct_some S.Map = omega arith

@@ -7,7 +7,7 @@ use Rattle.ild_data.proofs.Lists.{items_list-items_of}
 use Rattle.ild_data.specs.Data as T
 use Rattle.ild_data.specs.Data.{Data}
 use Rattle.ild_data.specs.Trie.{TrieSlot, empty, bucket, elements_of, entry_data, link_to, bucket_or, part, slot_of, all_some, node_of, at_depth}
-use Rattle.ild_data.specs.TrieShape.{TrieShape}
+use Rattle.ild_data.specs.declared.hamt_shape.HamtShape.{HamtShape}
 use Rattle.ild_schema.specs.declared.number.TypeNo.{TypeNo}
 use Rattle.ild_schema.specs.declared.row.Row.{Row}
 use Rattle.ild_hamt_trie.proofs.Node.{slots-node, no_node}
@@ -98,7 +98,7 @@ module _ (rows : List Row) (ty : TypeNo) where
           subst (λ ys. Of (flat_map (element_children f kind) (flat_map elements_of ys)) (places_over (λ i. stand (part at es i)) (j ∷ js))) (sym x.4)
           (subst (λ cs. Of cs (places_over (λ i. stand (part at es i)) (j ∷ js))) (sym (flat_append (element_children f kind) (elements_of x.0) (flat_map elements_of x.1))) all)
 
-    module _ (deeper : Data → List Child) (told_is : (n : Data) → children_in rows ty kind n ≡ node_children deeper kind n) (h : List ℕ → List ℕ) (p : TrieShape) (room : ℕ) where
+    module _ (deeper : Data → List Child) (told_is : (n : Data) → children_in rows ty kind n ≡ node_children deeper kind n) (h : List ℕ → List ℕ) (p : HamtShape) (room : ℕ) where
       pub node_tells : (f : Data → List Child) (left depth : ℕ) (es : List (List ℕ × Data)) (n : Data) → node_of h p left depth es ≡ Some n → Inside f es → Inside deeper es → AllByRecursion (EntryIn room) es
           → Of (node_children f kind n) (places_beneath inner h p left depth es)
       unfolding places_beneath

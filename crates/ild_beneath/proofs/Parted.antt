@@ -107,7 +107,7 @@ flat_implicit (Some s) d e = subst IsFlat (sym (scalar_same s d e)) (flat_data s
 
 -- a type whose maps are no HAMTs
 abbrev pub IsPlain : TypeDef → Type 0
-IsPlain (D.Map key key_at value at MF.Hamt) = ⊥
+IsPlain (D.Map key key_at value at (MF.Hamt p)) = ⊥
 IsPlain d = Unit {0}
 
 absent_parts : (fs : List Field) (os : List (Option Data)) → are_absent fs os ≡ true → field_parts fs os ≡ []
@@ -263,7 +263,7 @@ module _ {X : Type 0} (f : Part → List X) (none : (p : Part) → IsFlat p.1 �
   parts_read at (D.Map key key_at value place (MF.StringPairs inner entry)) clear plain (L.map es) t e hard =
       absurd (hard (text_flat (option_and_then (join_pairs inner entry) (text_pairs es)) t e))
   parts_read at (D.Map key key_at value place (MF.StringPairs inner entry)) clear plain l t e hard = absurd (none-some t e)
-  parts_read at (D.Map key key_at value place MF.Hamt) clear plain l t e hard = absurd plain
+  parts_read at (D.Map key key_at value place (MF.Hamt p)) clear plain l t e hard = absurd plain
   parts_read at (D.Struct s) clear plain (L.struct os) t e hard = of_struct s.form s.fields clear os t e hard
   parts_read at (D.Struct s) clear plain l t e hard = absurd (none-some t e)
   parts_read at (D.Union u) clear plain (L.union n c) t e hard =

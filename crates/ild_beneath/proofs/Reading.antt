@@ -4,12 +4,14 @@ use Rattle.std.specs.Prelude.{IsUtf8, option_and_then, slice_get}
 use Rattle.std.specs.List.{AllByRecursion}
 use Rattle.std.specs.Option.{option_map_or}
 use Rattle.std.proofs.lemmas.Option.{same_Some, none-some}
+use Rattle.std.proofs.Math.Nat.{sub-zero}
 use Rattle.ild_data.specs.ByteOrder.{in_byte_order, no_key_twice}
 use Rattle.ild_data.specs.Data as T
 use Rattle.ild_data.specs.Data.{Data}
 use Rattle.ild_data.specs.Limits.{deepest}
 use Rattle.ild_data.specs.Trie.{trie, node_of}
 use Rattle.ild_data.specs.TrieShape.{trie_levels}
+use Rattle.ild_data.specs.declared.hamt_shape.HamtShape.{HamtShape}
 use Rattle.ild_open_held.specs.Splits.{Part, element_parts, entry_parts, field_parts}
 use Rattle.ild_schema.specs.Clear.{IsClear}
 use Rattle.ild_schema.specs.Copies.{base}
@@ -24,7 +26,7 @@ use Rattle.ild_schema.specs.declared.def.TypeDef.TheVariants as D
 use Rattle.ild_schema.specs.declared.number.Slot.{Slot}
 use Rattle.ild_schema.specs.declared.number.TypeNo.{TypeNo}
 use Rattle.ild_schema.specs.declared.row.Row.{Row}
-use Rattle.ild_typed.specs.Composed.{composed, usual}
+use Rattle.ild_typed.specs.Composed.{composed}
 use Rattle.ild_typed.specs.Hamt.{root_map, whole}
 use Rattle.ild_typed.specs.Layer as L
 use Rattle.ild_typed.specs.Layer.{Layer, as_map}
@@ -72,8 +74,8 @@ leaf_map l leaf = refl
 
 module _ (h : List ℕ → List ℕ) where
   plain_of : (d : TypeDef) (l : Layer Data) (t : Data) → as_map l ≡ None → composed (whole h) d l ≡ Some t → IsPlain d
-  plain_of (D.Map key key_at value at MF.Hamt) l t none e =
-      absurd (none-some t (sym (ap (λ o. option_map (root_map usual) (option_and_then (λ es. trie h usual es 0) o)) none) ∙ e))
+  plain_of (D.Map key key_at value at (MF.Hamt p)) l t none e =
+      absurd (none-some t (sym (ap (λ o. option_map (root_map p) (option_and_then (λ es. trie h p es 0) o)) none) ∙ e))
   plain_of (D.Map key key_at value at MF.Map) l t none e = tt
   plain_of (D.Map key key_at value at MF.ListPairs) l t none e = tt
   plain_of (D.Map key key_at value at (MF.StringPairs i k)) l t none e = tt
@@ -86,7 +88,7 @@ module _ (h : List ℕ → List ℕ) where
   list_parts (D.Map key key_at value at MF.Map) u ds t e is = absurd (none-some t e)
   list_parts (D.Map key key_at value at MF.ListPairs) u ds t e is = absurd (none-some t e)
   list_parts (D.Map key key_at value at (MF.StringPairs i k)) u ds t e is = absurd (none-some t e)
-  list_parts (D.Map key key_at value at MF.Hamt) u ds t e is = absurd (none-some t e)
+  list_parts (D.Map key key_at value at (MF.Hamt p)) u ds t e is = absurd (none-some t e)
   list_parts d u ds t e is = absurd (none-some u is)
 
   map_parts : (d : TypeDef) (u : Slot) (es : List (List ℕ × Data)) (t : Data) → composed (whole h) d (L.map es) ≡ Some t → element_of (Some d) ≡ Some u → layer_parts d (L.map es) ≡ entry_parts u es
@@ -118,7 +120,7 @@ module _ (h : List ℕ → List ℕ) (rows : List Row) (clear : IsClear rows) (s
   flat_none (suc steps) s t flat = ap (λ b. cond b [] (by_form (found rows steps) s (form_of rows s) t)) (is_flat_too t flat)
 
   by_plain : (below : Slot → Data → List Child) (s : Slot) (d : TypeDef) (t : Data) → IsPlain d → by_form below s (Some d) t ≡ flat_map (λ p. below p.0 p.1) (parts_of d t)
-  by_plain below s (D.Map key key_at value at MF.Hamt) t plain = absurd plain
+  by_plain below s (D.Map key key_at value at (MF.Hamt p)) t plain = absurd plain
   by_plain below s (D.Map key key_at value at MF.Map) t plain = refl
   by_plain below s (D.Map key key_at value at MF.ListPairs) t plain = refl
   by_plain below s (D.Map key key_at value at (MF.StringPairs i k)) t plain = refl
@@ -166,28 +168,28 @@ module _ (h : List ℕ → List ℕ) (rows : List Row) (clear : IsClear rows) (s
 
   -- ---- HAMTs
 
-  trie_apart : (es : List (List ℕ × Data)) (node : Data) → trie h usual es 0 ≡ Some node → no_key_twice es ≡ true
+  trie_apart : (p : HamtShape) (es : List (List ℕ × Data)) (node : Data) → trie h p es 0 ≡ Some node → no_key_twice es ≡ true
   unfolding trie
-  trie_apart es node e = (if_from (no_key_twice es) (node_of h usual (trie_levels usual - 0) 0 (in_byte_order es)) node e).0
+  trie_apart p es node e = (if_from (no_key_twice es) (node_of h p (trie_levels p - 0) 0 (in_byte_order es)) node e).0
 
   node_is : (s : Slot) (d : TypeDef) (value : Slot) → form_of rows s ≡ Some d → element_of (Some d) ≡ Some value → (m : Data) → children_in rows ty (kind_in s) m ≡ node_children (found rows deepest value) (kind_in s) m
   node_is s d value form is m = ap (λ o. nodes_found rows (kind_in s) o m) (ap element_of form ∙ is)
 
-  hamt_told : (n : ℕ) (s : Slot) (t : Data) (key : TypeNo) (key_at : ℕ) (value : Slot) (at : ℕ) (es : List (List ℕ × Data)) (ps : List (List ℕ × Places))
-      → form_of rows s ≡ Some (D.Map key key_at value at MF.Hamt) → whole h usual (L.map es) ≡ Some t → is_flat t ≡ false
+  hamt_told : (n : ℕ) (s : Slot) (t : Data) (p : HamtShape) (key : TypeNo) (key_at : ℕ) (value : Slot) (at : ℕ) (es : List (List ℕ × Data)) (ps : List (List ℕ × Places))
+      → form_of rows s ≡ Some (D.Map key key_at value at (MF.Hamt p)) → whole h p (L.map es) ≡ Some t → is_flat t ≡ false
       → Zipped rows ty (found rows n value) es ps → Zipped rows ty (found rows deepest value) es ps → AllByRecursion (EntryIn deepest) es
-      → Of rows ty (found rows (suc n) s t) (map_places h (Some (D.Map key key_at value at MF.Hamt)) (Some es) ps)
-  hamt_told n s t key key_at value at es ps form made hard near deep trees =
-      let d : TypeDef = D.Map key key_at value at MF.Hamt in
-      let x = map_from (root_map usual) (trie h usual es 0) t made in
-      let one = trie_apart es x.item x.there in
+      → Of rows ty (found rows (suc n) s t) (map_places h (Some (D.Map key key_at value at (MF.Hamt p))) (Some es) ps)
+  hamt_told n s t p key key_at value at es ps form made hard near deep trees =
+      let d : TypeDef = D.Map key key_at value at (MF.Hamt p) in
+      let x = map_from (root_map p) (trie h p es 0) t made in
+      let one = trie_apart p es x.item x.there in
       let all = to_order (λ e. Of rows ty (found rows n value e.1) (at_key ps e.0)) es one (zipped_at rows ty (found rows n value) es ps near one) in
       let more = to_order (λ e. Of rows ty (found rows deepest value e.1) (at_key ps e.0)) es one (zipped_at rows ty (found rows deepest value) es ps deep one) in
-      let below = places_beneath (at_key ps) h usual (trie_levels usual) 0 (in_byte_order es) in
+      let below = places_beneath (at_key ps) h p (trie_levels p) 0 (in_byte_order es) in
       let of : Of rows ty (node_children (found rows n value) (kind_in s) x.item) below
-      = node_tells rows ty (at_key ps) (kind_in s) (found rows deepest value) (node_is s d value form refl) h usual deepest (found rows n value) (trie_levels usual) 0 (in_byte_order es) x.item (trie_node h usual es x.item x.there) all more (sorted_in deepest es trees) in
+      = node_tells rows ty (at_key ps) (kind_in s) (found rows deepest value) (node_is s d value form refl) h p deepest (found rows n value) (trie_levels p) 0 (in_byte_order es) x.item (subst (λ l. node_of h p l 0 (in_byte_order es) ≡ Some x.item) (sub-zero (trie_levels p)) (trie_node h p es x.item x.there)) all more (sorted_in deepest es trees) in
       let children : found rows (suc n) s t ≡ node_children (found rows n value) (kind_in s) x.item
-      = found_form n s t (Some d) form hard ∙ ap (root_children (found rows n value) (kind_in s)) (sym (same_Some (root_map usual x.item) t x.made)) in
+      = found_form n s t (Some d) form hard ∙ ap (root_children (found rows n value) (kind_in s)) (sym (same_Some (root_map p x.item) t x.made)) in
       subst (λ cs. Of rows ty cs (map_places h (Some d) (Some es) ps)) (sym children)
       (subst (λ o. Of rows ty (node_children (found rows n value) (kind_in s) x.item) (cond (is_some o) below (places_over (λ p. p.1) ps))) (sym x.there) of)
 
@@ -197,9 +199,9 @@ module _ (h : List ℕ → List ℕ) (rows : List Row) (clear : IsClear rows) (s
       → form_of rows s ≡ Some d → composed (whole h) d (L.map es) ≡ Some t → element_of (Some d) ≡ Some u → is_flat t ≡ false
       → Zipped rows ty (found rows n u) es ps → Zipped rows ty (found rows deepest u) es ps → AllByRecursion (EntryIn deepest) es
       → Of rows ty (found rows (suc n) s t) (map_places h (Some d) (Some es) ps)
-  map_told n s t (D.Map key key_at value at MF.Hamt) u es ps form made is hard near deep trees =
+  map_told n s t (D.Map key key_at value at (MF.Hamt p)) u es ps form made is hard near deep trees =
       let same : u ≡ value = sym (same_Some value u is) in
-      hamt_told n s t key key_at value at es ps form made hard (subst (λ k. Zipped rows ty (found rows n k) es ps) same near) (subst (λ k. Zipped rows ty (found rows deepest k) es ps) same deep) trees
+      hamt_told n s t p key key_at value at es ps form made hard (subst (λ k. Zipped rows ty (found rows n k) es ps) same near) (subst (λ k. Zipped rows ty (found rows deepest k) es ps) same deep) trees
   map_told n s t (D.Map key key_at value at MF.Map) u es ps form made is hard near deep trees =
       whole_told n s t (D.Map key key_at value at MF.Map) (L.map es) (entry_parts u es) (places_over (λ p. p.1) ps) form made tt hard (map_parts h (D.Map key key_at value at MF.Map) u es t made is) (zipped_over rows ty (found rows n) u es ps near)
   map_told n s t (D.Map key key_at value at MF.ListPairs) u es ps form made is hard near deep trees =

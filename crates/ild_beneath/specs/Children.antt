@@ -57,7 +57,7 @@ kind_in s = suc s.ty.0
 
 abbrev pub by_form : (Slot → Data → List Child) → Slot → Option TypeDef → Data → List Child
 by_form below s None t = []
-by_form below s (Some (D.Map key key_at value at MF.Hamt)) t = root_children (below value) (kind_in s) t
+by_form below s (Some (D.Map key key_at value at (MF.Hamt p))) t = root_children (below value) (kind_in s) t
 by_form below s (Some d) t = flat_map (λ p. below p.0 p.1) (parts_of d t)
 
 -- where so many steps to parts are left

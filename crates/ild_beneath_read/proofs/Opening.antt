@@ -13,6 +13,7 @@ use Rattle.ild_data.proofs.Lists.{items_of-items_list}
 use Rattle.ild_data.specs.Data as T
 use Rattle.ild_data.specs.Data.{Data}
 use Rattle.ild_data.specs.Key.{value_at}
+use Rattle.ild_data.specs.declared.hamt_shape.HamtShape.{HamtShape}
 use Rattle.ild_layer_piece.specs.Entries.{Found, HasLeft, Lists, Maps}
 use Rattle.ild_layer_piece.specs.declared.walk.MapEntries.{MapEntries}
 use Rattle.ild_open_held.specs.Splits.{element_parts, entry_parts}
@@ -167,21 +168,21 @@ module _ (rows : List Row) (s : Slot) (t : Data) where
     parts_open plain (O.Root u n) h = absurd h
 
   -- a map that is no HAMT
-  pub map_plain : (key : TypeNo) (key_at : ℕ) (value : Slot) (at : ℕ) (form : MapForm) → (form ≡ MF.Hamt → ⊥) → (k : ℕ)
+  pub map_plain : (key : TypeNo) (key_at : ℕ) (value : Slot) (at : ℕ) (form : MapForm) → ((p : HamtShape) → form ≡ MF.Hamt p → ⊥) → (k : ℕ)
       → by_form (found rows k) s (Some (D.Map key key_at value at form)) t ≡ flat_map (told rows k) (parts_of (D.Map key key_at value at form) t)
   map_plain key key_at value at MF.Map not_hamt k = refl
   map_plain key key_at value at MF.ListPairs not_hamt k = refl
   map_plain key key_at value at (MF.StringPairs inner entry) not_hamt k = refl
-  map_plain key key_at value at MF.Hamt not_hamt k = absurd (not_hamt refl)
+  map_plain key key_at value at (MF.Hamt p) not_hamt k = absurd (not_hamt p refl)
 
-  pub hamt_opens : is_flat t ≡ false → (key : TypeNo) (key_at : ℕ) (value : Slot) (at : ℕ) → form_of rows s ≡ Some (D.Map key key_at value at MF.Hamt) → (o : Opened) → OpensRoot value t o → Opens rows s t o
-  hamt_opens flat key key_at value at form O.Nothing h = ([], refl, λ k. found_by flat (D.Map key key_at value at MF.Hamt) form k ∙ h (found rows k value) (kind_in s))
-  hamt_opens flat key key_at value at form (O.Root v n) h =
-      (h.1, h.2, λ k. found_by flat (D.Map key key_at value at MF.Hamt) form k ∙ h.3 (found rows k value) (kind_in s) ∙ ap (λ u. node_children (found rows k u) (kind_in s) h.1) (sym h.0))
-  hamt_opens flat key key_at value at form (O.Parts x) h = absurd h
-  hamt_opens flat key key_at value at form (O.Named fs x) h = absurd h
-  hamt_opens flat key key_at value at form (O.Listed fs x) h = absurd h
-  hamt_opens flat key key_at value at form (O.Member u p) h = absurd h
+  pub hamt_opens : is_flat t ≡ false → (p : HamtShape) (key : TypeNo) (key_at : ℕ) (value : Slot) (at : ℕ) → form_of rows s ≡ Some (D.Map key key_at value at (MF.Hamt p)) → (o : Opened) → OpensRoot value t o → Opens rows s t o
+  hamt_opens flat p key key_at value at form O.Nothing h = ([], refl, λ k. found_by flat (D.Map key key_at value at (MF.Hamt p)) form k ∙ h (found rows k value) (kind_in s))
+  hamt_opens flat p key key_at value at form (O.Root v n) h =
+      (h.1, h.2, λ k. found_by flat (D.Map key key_at value at (MF.Hamt p)) form k ∙ h.3 (found rows k value) (kind_in s) ∙ ap (λ u. node_children (found rows k u) (kind_in s) h.1) (sym h.0))
+  hamt_opens flat p key key_at value at form (O.Parts x) h = absurd h
+  hamt_opens flat p key key_at value at form (O.Named fs x) h = absurd h
+  hamt_opens flat p key key_at value at form (O.Listed fs x) h = absurd h
+  hamt_opens flat p key key_at value at form (O.Member u q) h = absurd h
 
   -- a type whose data have no parts
   other_plain : (d : TypeDef) → ((elem : Slot) (at : ℕ) → d ≡ D.List elem at → ⊥) → ((key : TypeNo) (key_at : ℕ) (value : Slot) (at : ℕ) (form : MapForm) → d ≡ D.Map key key_at value at form → ⊥)

@@ -57,7 +57,7 @@ fn open_map<'b>(acc: &'b Accepted, value: Slot, form: &MapForm, piece: &Piece<'b
             None => Opened::Nothing,
         },
         MapForm::StringPairs(_, _) => Opened::Nothing,
-        MapForm::Hamt => Opened::Nothing,
+        MapForm::Hamt(_) => Opened::Nothing,
     }
 }
 
@@ -123,7 +123,7 @@ pub(crate) fn opened<'b>(acc: &'b Accepted, slot: Slot, piece: &Piece<'b>) -> Op
     match acc.def(base) {
         TypeDef::List { elem, .. } => open_list(*elem, piece),
         TypeDef::Map { value, form, .. } => match form {
-            MapForm::Hamt => open_root(acc, *value, piece),
+            MapForm::Hamt(_) => open_root(acc, *value, piece),
             _ => open_map(acc, *value, form, piece),
         },
         TypeDef::Struct(def) => open_struct(acc, base, def, piece),

@@ -117,7 +117,7 @@ module _ (rows : List Row) (made : IsMade rows) where
   map_text (MF.StringPairs inner entry) value only m = m
   map_text MF.Map value only m = let h : K.Map ≡ K.Text = only K.Map refl in absurd cc
   map_text MF.ListPairs value only m = let h : K.List ≡ K.Text = only K.List refl in absurd cc
-  map_text MF.Hamt value only m = let h : K.Map ≡ K.Text = only K.Map refl in absurd cc
+  map_text (MF.Hamt shape) value only m = let h : K.Map ≡ K.Text = only K.Map refl in absurd cc
 
   field_text_slot : (f : StructForm) (fs : List Field) → ((k : KindWord) → same_kind (struct_kind f) k ≡ true → k ≡ K.Text) → MadeStruct rows f fs → AllByRecursion (λ g. IsTextSlot rows g.slot) fs
   field_text_slot (S.StringPairs inner entry) fs only m = m
@@ -186,7 +186,7 @@ module _ (rows : List Row) (made : IsMade rows) where
   map_full h (MF.StringPairs inner entry) o only = refl
   map_full h MF.Map o only = refl
   map_full h MF.ListPairs o only = refl
-  map_full h MF.Hamt o only = let k : K.Map ≡ K.Text = only K.Map refl in absurd cc
+  map_full h (MF.Hamt shape) o only = let k : K.Map ≡ K.Text = only K.Map refl in absurd cc
 
   here_full : (h : List ℕ → List ℕ) (d : TypeDef) (v : Value) → ((k : KindWord) → has_kind d k ≡ true → k ≡ K.Text) → is_exhausted h rows (Some d) v ≡ false
   here_full h (D.Map key key_at value at form) (V.map ps) only = map_full h form (represented_pairs (whole h) rows value ps) only
@@ -295,7 +295,7 @@ map_only : (f : MapForm) → is_text_map f ≡ true → (k : KindWord) → same_
 map_only (MF.StringPairs inner entry) t k e = kind_text k e
 map_only MF.Map t k e = absurd cc
 map_only MF.ListPairs t k e = absurd cc
-map_only MF.Hamt t k e = absurd cc
+map_only (MF.Hamt shape) t k e = absurd cc
 
 struct_only : (f : StructForm) → is_text_struct f ≡ true → (k : KindWord) → same_kind (struct_kind f) k ≡ true → k ≡ K.Text
 struct_only (S.StringPairs inner entry) t k e = kind_text k e
@@ -314,7 +314,7 @@ no_struct_break (S.StringJoin delim) fs o e = absurd cc
 no_map_break : (f : MapForm) (o : Option (List (List ℕ × Data))) → is_text_map f ≡ false → map_breaks f o ≡ false
 no_map_break MF.Map o e = refl
 no_map_break MF.ListPairs o e = refl
-no_map_break MF.Hamt o e = refl
+no_map_break (MF.Hamt shape) o e = refl
 no_map_break (MF.StringPairs inner entry) o e = absurd cc
 
 pub no_break_here : (rows : List Row) (d : TypeDef) (v : Value) → is_text_layer d v ≡ false → breaks rows (Some d) v ≡ false

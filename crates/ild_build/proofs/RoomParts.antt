@@ -100,7 +100,7 @@ leaf_layer P Q rows (D.Map key key_at value at form) v l e h = absurd (some form
     some MF.Map k = omega (arith, k)
     some MF.ListPairs k = omega (arith, k)
     some (MF.StringPairs a b) k = omega (arith, k)
-    some MF.Hamt k = omega (arith, k)
+    some (MF.Hamt shape) k = omega (arith, k)
 leaf_layer P Q rows (D.Struct s) v l e h = absurd (some s.form e)
   where
     some : (f : StructForm) → struct_levels f ≡ 0 → ⊥

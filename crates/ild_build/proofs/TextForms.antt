@@ -431,7 +431,7 @@ module _ (rows : List Row) where
   as_map_none MF.Map l e = ap (λ o. option_and_then text_in (option_map map_data o)) e
   as_map_none MF.ListPairs l e = ap (λ o. option_and_then text_in (option_map listpairs o)) e
   as_map_none (MF.StringPairs inner entry) l e = ap (λ o. option_and_then text_in (option_and_then (stringpairs inner entry) o)) e
-  as_map_none MF.Hamt l e = by (as_hamt l)
+  as_map_none (MF.Hamt shape) l e = by (as_hamt l)
     where
       maps : (d : Data) → option_and_then text_in (a_map d) ≡ None
       maps (T.map ms) = refl
@@ -473,7 +473,7 @@ module _ (rows : List Row) where
   pub no_pairs_text : (s : Slot) (ps : Pairs) (key : TypeNo) (key_at : ℕ) (value : Slot) (place : ℕ) (f : MapForm) → form_of rows s ≡ Some (D.Map key key_at value place f) → ((i e : List ℕ) → f ≡ MF.StringPairs i e → ⊥) → text_rep rows s (V.map ps) ≡ None
   no_pairs_text s ps key key_at value place MF.Map is never = no_map_text s ps key key_at value place MF.Map MF.Map is refl (λ es. refl)
   no_pairs_text s ps key key_at value place MF.ListPairs is never = no_map_text s ps key key_at value place MF.ListPairs MF.ListPairs is refl (λ es. refl)
-  no_pairs_text s ps key key_at value place MF.Hamt is never = no_map_text s ps key key_at value place MF.Hamt MF.Hamt is refl (λ es. refl)
+  no_pairs_text s ps key key_at value place (MF.Hamt shape) is never = no_map_text s ps key key_at value place (MF.Hamt shape) (MF.Hamt shape) is refl (λ es. refl)
   no_pairs_text s ps key key_at value place (MF.StringPairs i e) is never = absurd (never i e refl)
 
 pub plain_kind : (d : TypeDef) → (d ≡ D.Text → ⊥) → (d ≡ D.Any → ⊥) → ((a : TypeNo) (b : ℕ) (c : Slot) (e : ℕ) (f : MapForm) → d ≡ D.Map a b c e f → ⊥) → ((x : StructDef) → d ≡ D.Struct x → ⊥) → ((x : UnionDef) → d ≡ D.Union x → ⊥)

@@ -24,7 +24,7 @@ fn map_levels(form: &MapForm) -> u32
     match form {
         MapForm::Map | MapForm::StringPairs(_, _) => 1,
         MapForm::ListPairs => 2,
-        MapForm::Hamt => 5,
+        MapForm::Hamt(_) => 5,
     }
 }
 

@@ -10,7 +10,7 @@ use Rattle.ild_data.specs.Key.{same_text}
 use Rattle.ild_data.specs.ByteOrder.{in_byte_order}
 use Rattle.ild_data.specs.Trie.{trie}
 use Rattle.ild_data.specs.TrieShape.{trie_levels}
-use Rattle.ild_typed.specs.Composed.{usual}
+use Rattle.ild_data.specs.declared.hamt_shape.HamtShape.{HamtShape}
 use Rattle.ild_schema.specs.declared.number.TypeNo.{TypeNo}
 use Rattle.ild_schema.specs.declared.number.Slot.{Slot}
 use Rattle.ild_schema.specs.declared.def.TypeDef.{TypeDef}
@@ -90,23 +90,23 @@ module _ (before : List (List ℕ)) (b : List ℕ) where
     abbrev test : Weight
     test = over_children h rows before b
 
-    of_test : (u : Slot) (ps : Pairs) → 1 ≤ test u ps → HasPlaceOver (hamt_places h rows u ps) before b
-    of_test u ps k = by (has_place_over (each_place (hamt_places h rows u ps)) before b) refl k
+    of_test : (p : HamtShape) (u : Slot) (ps : Pairs) → 1 ≤ test p u ps → HasPlaceOver (hamt_places h p rows u ps) before b
+    of_test p u ps k = by (has_place_over (each_place (hamt_places h p rows u ps)) before b) refl k
       where
-        by : (c : Bool) → has_place_over (each_place (hamt_places h rows u ps)) before b ≡ c → 1 ≤ cond c 1 0 → HasPlaceOver (hamt_places h rows u ps) before b
-        by true e k = let x = place_from (each_place (hamt_places h rows u ps)) e in record { at = x.0; among = x.1; is = x.2; children = x.3 }
+        by : (c : Bool) → has_place_over (each_place (hamt_places h p rows u ps)) before b ≡ c → 1 ≤ cond c 1 0 → HasPlaceOver (hamt_places h p rows u ps) before b
+        by true e k = let x = place_from (each_place (hamt_places h p rows u ps)) e in record { at = x.0; among = x.1; is = x.2; children = x.3 }
         by false e k = absurd (omega (arith, k))
 
-    same_hamt : (u : Slot) (ps : Pairs) (key : TypeNo) (key_at at : ℕ) (o : Option (List (List ℕ × Data)))
-        → option_map_or (λ es. cond (is_some (trie h usual es 0)) (places_beneath (at_key (places_in_pairs h rows u ps)) h usual (trie_levels usual) 0 (in_byte_order es)) (places_over (λ p. p.1) (places_in_pairs h rows u ps))) o (places_over (λ p. p.1) (places_in_pairs h rows u ps))
-        ≡ map_places h (Some (D.Map key key_at u at MF.Hamt)) o (places_in_pairs h rows u ps)
-    same_hamt u ps key key_at at None = refl
-    same_hamt u ps key key_at at (Some es) = refl
+    same_hamt : (p : HamtShape) (u : Slot) (ps : Pairs) (key : TypeNo) (key_at at : ℕ) (o : Option (List (List ℕ × Data)))
+        → option_map_or (λ es. cond (is_some (trie h p es 0)) (places_beneath (at_key (places_in_pairs h rows u ps)) h p (trie_levels p) 0 (in_byte_order es)) (places_over (λ q. q.1) (places_in_pairs h rows u ps))) o (places_over (λ q. q.1) (places_in_pairs h rows u ps))
+        ≡ map_places h (Some (D.Map key key_at u at (MF.Hamt p))) o (places_in_pairs h rows u ps)
+    same_hamt p u ps key key_at at None = refl
+    same_hamt p u ps key key_at at (Some es) = refl
 
     of_hamt : (s : Slot) (ps : Pairs) (d : Option TypeDef) → form_of rows s ≡ d → 1 ≤ hamt_weight test d ps → HasPlaceOver (places_in h rows s (V.map ps)) before b
-    of_hamt s ps (Some (D.Map key key_at u at MF.Hamt)) e k =
+    of_hamt s ps (Some (D.Map key key_at u at (MF.Hamt p))) e k =
         subst (λ c. HasPlaceOver (option_map_or (λ w. map_places h c (represented_pairs (whole h) rows w ps) (places_in_pairs h rows w ps)) (element_of c) nowhere) before b) (sym e)
-        (subst (λ qs. HasPlaceOver qs before b) (same_hamt u ps key key_at at (represented_pairs (whole h) rows u ps)) (of_test u ps k))
+        (subst (λ qs. HasPlaceOver qs before b) (same_hamt p u ps key key_at at (represented_pairs (whole h) rows u ps)) (of_test p u ps k))
     of_hamt s ps (Some (D.Map key key_at u at MF.Map)) e k = absurd (omega (arith, k))
     of_hamt s ps (Some (D.Map key key_at u at MF.ListPairs)) e k = absurd (omega (arith, k))
     of_hamt s ps (Some (D.Map key key_at u at (MF.StringPairs i j))) e k = absurd (omega (arith, k))

@@ -22,7 +22,7 @@ use Rattle.ild_node_slots.specs.Form.{AreTexts}
 use Rattle.ild_node.specs.Rows.{AreRows, AreShallow, deepest_value}
 use Rattle.ild_node.proofs.Writing.{root-done}
 use Rattle.ild_hamt_trie.proofs.Pairs.{find-permutation, in_order-from_sort, sorted-permutation}
-use Rattle.ild_typed.specs.Composed.{usual}
+use Rattle.ild_data.specs.declared.hamt_shape.HamtShape.{HamtShape}
 use Rattle.ild_typed.specs.Hamt.{root_map}
 use Rattle.ild_typed.specs.Nested.{BlockIn, TreeIn}
 use Rattle.ild_build_entries.specs.Entries.{AddsEntry, AreKeyedMarks, EndsEntry, FitsEntry, IsKeyedMark}
@@ -222,19 +222,19 @@ marks_more h b c es ks new e k are grown is pushes =
 
 -- ---- a root map behind other bytes
 
-pub root_behind : (old : List ℕ) (node : Data) (a b c d e f g : List ℕ) → a ≡ old ++ head 5 3 → b ≡ a ++ spell_text (codes "hamt") → c ≡ b ++ spell node → d ≡ c ++ spell_text (codes "hashAlg") → e ≡ d ++ head 0 18
-    → f ≡ e ++ spell_text (codes "bucketSize") → g ≡ f ++ head 0 3 → g ≡ old ++ spell (root_map usual node)
-root_behind old node a b c d e f g is_a is_b is_c is_d is_e is_f is_g =
+pub root_behind : (p : HamtShape) (old : List ℕ) (node : Data) (a b c d e f g : List ℕ) → a ≡ old ++ head 5 3 → b ≡ a ++ spell_text (codes "hamt") → c ≡ b ++ spell node → d ≡ c ++ spell_text (codes "hashAlg") → e ≡ d ++ head 0 18
+    → f ≡ e ++ spell_text (codes "bucketSize") → g ≡ f ++ head 0 p.bucket → g ≡ old ++ spell (root_map p node)
+root_behind p old node a b c d e f g is_a is_b is_c is_d is_e is_f is_g =
     let a0 : List ℕ = head 5 3 in
     let b0 : List ℕ = a0 ++ spell_text (codes "hamt") in
     let c0 : List ℕ = b0 ++ spell node in
     let d0 : List ℕ = c0 ++ spell_text (codes "hashAlg") in
     let e0 : List ℕ = d0 ++ head 0 18 in
     let f0 : List ℕ = e0 ++ spell_text (codes "bucketSize") in
-    let g0 : List ℕ = f0 ++ head 0 3 in
+    let g0 : List ℕ = f0 ++ head 0 p.bucket in
     let on_b : b ≡ old ++ b0 = appended old a b a0 (spell_text (codes "hamt")) is_a is_b in
     let on_c : c ≡ old ++ c0 = appended old b c b0 (spell node) on_b is_c in
     let on_d : d ≡ old ++ d0 = appended old c d c0 (spell_text (codes "hashAlg")) on_c is_d in
     let on_e : e ≡ old ++ e0 = appended old d e d0 (head 0 18) on_d is_e in
     let on_f : f ≡ old ++ f0 = appended old e f e0 (spell_text (codes "bucketSize")) on_e is_f in
-    appended old f g f0 (head 0 3) on_f is_g ∙ ap (λ x. old ++ x) (root-done node a0 b0 c0 d0 e0 f0 g0 refl refl refl refl refl refl refl)
+    appended old f g f0 (head 0 p.bucket) on_f is_g ∙ ap (λ x. old ++ x) (root-done p node a0 b0 c0 d0 e0 f0 g0 refl refl refl refl refl refl refl)

@@ -8,6 +8,7 @@ use Rattle.std.specs.declared.cmp.Ordering.TheVariants.{Less, Equal, Greater}
 use Rattle.std.proofs.lemmas.Bool.{and_parts}
 use Rattle.std.proofs.lemmas.List.Sums.{sum_by-append}
 use Rattle.std.proofs.lemmas.Option.{same_Some, none-some}
+use Rattle.std.proofs.Math.Nat.{sub-zero}
 use Rattle.ild_bulk.specs.Children.{Follows}
 use Rattle.ild_bulk.specs.Planned.{planned, slot_plan, PlansNode}
 use Rattle.ild_bulk.proofs.Building.{planned_is}
@@ -17,10 +18,10 @@ use Rattle.ild_data.specs.Data.{Data}
 use Rattle.ild_data.specs.Spell.{spell}
 use Rattle.ild_data.specs.Trie.{part, at_depth, node_of, trie}
 use Rattle.ild_data.specs.TrieBlocks.{block_of, node_and_beneath, nodes_beneath, none_or}
-use Rattle.ild_data.specs.TrieShape.{TrieShape, trie_levels}
+use Rattle.ild_data.specs.declared.hamt_shape.HamtShape.{HamtShape}
+use Rattle.ild_data.specs.TrieShape.{trie_levels}
 use Rattle.ild_emit.specs.Grown.{IsGrown}
 use Rattle.ild_hamt_trie.proofs.Parts.{find-sorted}
-use Rattle.ild_typed.specs.Composed.{usual}
 use Rattle.ild_typed.specs.Hamt.{root_map}
 use Rattle.ild_typed.proofs.Basics.{if_from, map_from}
 use Rattle.ild_build_entries.specs.Entries.{AddsRoot, untried}
@@ -43,7 +44,7 @@ module _ (f : List ℕ → ℕ) where
       let y = sum_by-append f (block_of (below es)) (b es) in
       omega (arith, x, y, each)
 
-  module _ (h : List ℕ → List ℕ) (p : TrieShape) where
+  module _ (h : List ℕ → List ℕ) (p : HamtShape) where
     beneath_is : (left depth : ℕ) (es : List (List ℕ × Data))
         → nodes_beneath h p (suc left) depth es ≡ flat_map (λ i. node_and_beneath p.bucket (node_of h p left (depth + 1)) (nodes_beneath h p left (depth + 1)) (part (at_depth h p depth) es i)) (range_with_len 0 (2 ^ p.width))
     unfolding nodes_beneath
@@ -108,45 +109,46 @@ module _ (P : List ℕ × Data → Type 0) where
 
 -- ---- tries
 
-module _ (h : List ℕ → List ℕ) where
-  trie_known : (es : List (List ℕ × Data)) → no_key_twice es ≡ true → trie h usual es 0 ≡ node_of h usual (trie_levels usual - 0) 0 (in_byte_order es)
+module _ (h : List ℕ → List ℕ) (p : HamtShape) where
+  trie_known : (es : List (List ℕ × Data)) → no_key_twice es ≡ true → trie h p es 0 ≡ node_of h p (trie_levels p - 0) 0 (in_byte_order es)
   unfolding trie
-  trie_known es one = ap (λ c. cond c (node_of h usual (trie_levels usual - 0) 0 (in_byte_order es)) None) one
+  trie_known es one = ap (λ c. cond c (node_of h p (trie_levels p - 0) 0 (in_byte_order es)) None) one
 
-  pub trie_node : (es : List (List ℕ × Data)) (node : Data) → trie h usual es 0 ≡ Some node → (no_key_twice es ≡ true) × (node_of h usual (trie_levels usual - 0) 0 (in_byte_order es) ≡ Some node)
+  pub trie_node : (es : List (List ℕ × Data)) (node : Data) → trie h p es 0 ≡ Some node → (no_key_twice es ≡ true) × (node_of h p (trie_levels p - 0) 0 (in_byte_order es) ≡ Some node)
   unfolding trie
-  trie_node es node e = if_from (no_key_twice es) (node_of h usual (trie_levels usual - 0) 0 (in_byte_order es)) node e
+  trie_node es node e = if_from (no_key_twice es) (node_of h p (trie_levels p - 0) 0 (in_byte_order es)) node e
 
-  pub tried : (es : List (List ℕ × Data)) (node : Data) → trie h usual es 0 ≡ Some node → untried h es ≡ 0
+  pub tried : (es : List (List ℕ × Data)) (node : Data) → trie h p es 0 ≡ Some node → untried h p es ≡ 0
   tried es node e = ap {B = ℕ} (λ o. cond (is_none o) 1 0) e
 
   -- ---- a root that is written
 
   module _ (es fs : List (List ℕ × Data)) (order : in_byte_order es ≡ fs) (one : no_key_twice es ≡ true) (old new : List ℕ) (was now : Nodes) where
-    known : trie h usual es 0 ≡ node_of h usual (trie_levels usual - 0) 0 fs
-    known = trie_known es one ∙ ap (node_of h usual (trie_levels usual - 0) 0) order
+    known : trie h p es 0 ≡ node_of h p (trie_levels p - 0) 0 fs
+    known = trie_known es one ∙ ap (node_of h p (trie_levels p - 0) 0) order
 
-    pub root_added : (root : List ℕ) (none bs : List (List ℕ)) → PlansNode h usual (trie_levels usual - 0) 0 fs (Ok root) none bs → none ≡ [] → now.blocks.items ≡ was.blocks.items ++ bs → now.exhausted ≡ was.exhausted → now.long ≡ was.long
-        → IsGrown old new → ((node : Data) → root ≡ spell node → new ≡ old ++ spell (root_map usual node)) → AddsRoot h es old new was now
+    pub root_added : (root : List ℕ) (none bs : List (List ℕ)) → PlansNode h p (trie_levels p - 0) 0 fs (Ok root) none bs → none ≡ [] → now.blocks.items ≡ was.blocks.items ++ bs → now.exhausted ≡ was.exhausted → now.long ≡ was.long
+        → IsGrown old new → ((node : Data) → root ≡ spell node → new ≡ old ++ spell (root_map p node)) → AddsRoot h p es old new was now
     root_added root none bs plans empty blocks exhausted long grown written =
-        let x = map_from spell (node_of h usual (trie_levels usual - 0) 0 fs) root (sym plans.0) in
-        let all : bs ≡ planned h usual (trie_levels usual - 0) 0 fs = plans.1 ∙ ap (λ y. y ++ planned h usual (trie_levels usual - 0) 0 fs) empty in
+        let x = map_from spell (node_of h p (trie_levels p - 0) 0 fs) root (sym plans.0) in
+        let every : trie_levels p - 0 ≡ trie_levels p = sub-zero (trie_levels p) in
+        let all : bs ≡ planned h p (trie_levels p - 0) 0 fs = plans.1 ∙ ap (λ y. y ++ planned h p (trie_levels p - 0) 0 fs) empty in
         record {
           grown = grown;
           added = bs;
           blocks = blocks;
-          follows = λ before. subst (λ y. Follows before y) (sym all) (plan-follows h usual (trie_levels usual - 0) 0 fs before);
+          follows = λ before. subst (λ y. Follows before y) (sym all) (plan-follows h p (trie_levels p - 0) 0 fs before);
           exhausted = subst (λ n. SetWhere was.exhausted n now.exhausted) (sym (tried es x.item (known ∙ x.there))) (subst (λ b. SetWhere was.exhausted 0 b) (sym exhausted) (set_none was.exhausted));
           long = long;
           spelled = λ node is. written node (sym (same_Some (spell x.item) root x.made) ∙ ap spell (same_Some x.item node (sym x.there ∙ sym known ∙ is)));
-          plan = λ node is. all ∙ ap (planned h usual (trie_levels usual - 0) 0) (sym order);
-          same = λ node is f. ap (sum_by f) all ∙ plan_sums f h usual (trie_levels usual - 0) 0 fs ∙ ap (λ y. sum_by f (nodes_beneath h usual (trie_levels usual - 0) 0 y)) (sym order);
+          plan = λ node is. all ∙ (λ i. planned h p (every i) 0 (sym order i));
+          same = λ node is f. ap (sum_by f) all ∙ plan_sums f h p (trie_levels p - 0) 0 fs ∙ (λ i. sum_by f (nodes_beneath h p (every i) 0 (sym order i)));
         }
 
-    pub root_missing : node_of h usual (trie_levels usual - 0) 0 fs ≡ None → now.blocks.items ≡ was.blocks.items → now.exhausted ≡ true → now.long ≡ was.long → new ≡ old → AddsRoot h es old new was now
+    pub root_missing : node_of h p (trie_levels p - 0) 0 fs ≡ None → now.blocks.items ≡ was.blocks.items → now.exhausted ≡ true → now.long ≡ was.long → new ≡ old → AddsRoot h p es old new was now
     root_missing none blocks exhausted long same =
-        let all : trie h usual es 0 ≡ None = known ∙ none in
-        let one : untried h es ≡ 1 = ap {B = ℕ} (λ o. cond (is_none o) 1 0) all in
+        let all : trie h p es 0 ≡ None = known ∙ none in
+        let one : untried h p es ≡ 1 = ap {B = ℕ} (λ o. cond (is_none o) 1 0) all in
         let set : told now.exhausted ≡ 1 = ap told exhausted in
         record {
           grown = record { more = []; is = same ∙ sym (append-nil old) };

@@ -12,9 +12,9 @@ use Rattle.ild_data.specs.Spell.{spell}
 use Rattle.ild_data.specs.Trie.{trie}
 use Rattle.ild_data.specs.TrieBlocks.{nodes_beneath}
 use Rattle.ild_data.specs.TrieShape.{trie_levels}
+use Rattle.ild_data.specs.declared.hamt_shape.HamtShape.{HamtShape}
 use Rattle.ild_emit.specs.Grown.{IsGrown}
 use Rattle.ild_node.specs.Rows.{deepest_value}
-use Rattle.ild_typed.specs.Composed.{usual}
 use Rattle.ild_typed.specs.Hamt.{root_map}
 use Rattle.ild_typed.specs.Nested.{BlockIn, TreeIn}
 use Rattle.ild_build_entries.specs.Fine.{IsFine, SetWhere}
@@ -65,18 +65,18 @@ pub record AddsEntry (h : List ℕ → List ℕ) (key value : List ℕ) (was now
   pub exact : IsFine now → (t : Data) → TreeIn deepest_value t → value ≡ spell t → of ≡ t
   pub long : was.long ≡ false → now.long ≡ true → over value ≡ 1
 
--- one where entries have no trie
-abbrev pub untried : (List ℕ → List ℕ) → List (List ℕ × Data) → ℕ
-untried h es = cond (is_none (trie h usual es 0)) 1 0
+-- one where entries have no trie of this shape
+abbrev pub untried : (List ℕ → List ℕ) → HamtShape → List (List ℕ × Data) → ℕ
+untried h p es = cond (is_none (trie h p es 0)) 1 0
 
--- The root map of the trie of entries was appended, and the blocks beneath it; or there is none.
-pub record AddsRoot (h : List ℕ → List ℕ) (es : List (List ℕ × Data)) (old new : List ℕ) (was now : Nodes) : Type 0 where
+-- The root map of the trie of this shape of entries was appended, and the blocks beneath it; or there is none.
+pub record AddsRoot (h : List ℕ → List ℕ) (p : HamtShape) (es : List (List ℕ × Data)) (old new : List ℕ) (was now : Nodes) : Type 0 where
   pub grown : IsGrown old new
   pub added : List (List ℕ)
   pub blocks : now.blocks.items ≡ was.blocks.items ++ added
   pub follows : (before : List (List ℕ)) → Follows before added
-  pub exhausted : SetWhere was.exhausted (untried h es) now.exhausted
+  pub exhausted : SetWhere was.exhausted (untried h p es) now.exhausted
   pub long : now.long ≡ was.long
-  pub spelled : (node : Data) → trie h usual es 0 ≡ Some node → new ≡ old ++ spell (root_map usual node)
-  pub plan : (node : Data) → trie h usual es 0 ≡ Some node → added ≡ planned h usual (trie_levels usual) 0 (in_byte_order es)
-  pub same : (node : Data) → trie h usual es 0 ≡ Some node → (f : List ℕ → ℕ) → sum_by f added ≡ sum_by f (nodes_beneath h usual (trie_levels usual) 0 (in_byte_order es))
+  pub spelled : (node : Data) → trie h p es 0 ≡ Some node → new ≡ old ++ spell (root_map p node)
+  pub plan : (node : Data) → trie h p es 0 ≡ Some node → added ≡ planned h p (trie_levels p) 0 (in_byte_order es)
+  pub same : (node : Data) → trie h p es 0 ≡ Some node → (f : List ℕ → ℕ) → sum_by f added ≡ sum_by f (nodes_beneath h p (trie_levels p) 0 (in_byte_order es))

@@ -9,7 +9,6 @@ ghost use Rattle.ild_data.specs.Spell.{spell};
 ghost use Rattle.ild_emit.specs.Grown.{IsGrown};
 ghost use Rattle.ild_node_slots.specs.Form.{AreTexts};
 ghost use Rattle.ild_node.specs.Rows.{AreShallow, deepest_value};
-ghost use Rattle.ild_typed.specs.Composed.{usual};
 ghost use Rattle.ild_typed.specs.Hamt.{root_map};
 ghost use Rattle.ild_typed.specs.Nested.{BlockIn};
 ghost use Rattle.ild_build_entries.specs.Entries.{AddsEntry, AddsRoot, AreKeyedMarks, EndsEntry, FitsEntry};
@@ -17,9 +16,9 @@ ghost use Rattle.ild_build_entries.specs.Fine.{IsFine};
 
 use crate::nodes::Nodes;
 use ild_bulk::{KeyedMark, begin_entry, mark_of, plan_marked};
-use ild_data::{KeyHash, LONGEST_BLOCK};
+use ild_data::{HamtShape, KeyHash, LONGEST_BLOCK};
 use ild_emit::Emit;
-use ild_node::{BUCKET_SIZE, HamtFault};
+use ild_node::HamtFault;
 use std::alloc::{AllocError, Global};
 
 /// For each of many entries so many bytes are taken at once.
@@ -94,9 +93,9 @@ fn sort_marks(marks: &mut Vec<KeyedMark<'_>>)
     marks.sort_unstable_by(|a, b| a.key.cmp(b.key));
 }
 
-// Appends the root map over a root node.
-fn add_root_map(out: &mut Emit, root: &[u8]) -> Result<(), AllocError>
-    ensures ok { (node : Data) → root.now ≡ spell node → OnOk result (out.new ≡ out.old ++ spell (root_map usual node)) }
+// Appends the root map of a HAMT of this shape over a root node.
+fn add_root_map(out: &mut Emit, shape: HamtShape, root: &[u8]) -> Result<(), AllocError>
+    ensures ok { (node : Data) → root.now ≡ spell node → OnOk result (out.new ≡ out.old ++ spell (root_map shape node)) }
     ensures grown { IsGrown out.old out.new }
 {
     out.head(5, 3)?;
@@ -105,28 +104,29 @@ fn add_root_map(out: &mut Emit, root: &[u8]) -> Result<(), AllocError>
     out.text("hashAlg")?;
     out.head(0, 18)?;
     out.text("bucketSize")?;
-    out.head(0, BUCKET_SIZE as u64)
+    out.head(0, shape.bucket as u64)
 }
 
-/// Appends the root map of the HAMT of these entries. The blocks beneath its root go to the others.
+/// Appends the root map of the HAMT of this shape of these entries. The blocks beneath its root go to the others.
 pub fn add_root(
     alloc: Global,
+    shape: HamtShape,
     entries: MarkedEntries<'_>,
     nodes: &mut Nodes,
     out: &mut Emit,
 ) -> Result<(), AllocError>
     ensures ok { (h : List ℕ → List ℕ) (es : List (List ℕ × Data)) → AreKeyedMarks h entries.entry.out es entries.entry.marks.items → no_key_twice es ≡ true → AreTexts es → AreShallow es
-        → OnOk result (AddsRoot h es out.old out.new nodes.old nodes.new) }
+        → OnOk result (AddsRoot h shape es out.old out.new nodes.old nodes.new) }
     ensures err { OnErr result (IsGrown out.old out.new) }
 {
     let mut entries = entries;
     sort_marks(&mut entries.marks);
     let bytes = entries.out.finish();
     let mut blocks = Vec::new(alloc);
-    match plan_marked(alloc, bytes.as_slice(), &entries.marks, &mut blocks) {
+    match plan_marked(alloc, shape, bytes.as_slice(), &entries.marks, &mut blocks) {
         Ok(root) => {
             nodes.blocks.append(&mut blocks)?;
-            add_root_map(out, root.as_slice())
+            add_root_map(out, shape, root.as_slice())
         }
         Err(HamtFault::Exhausted) => {
             nodes.exhausted = true;

@@ -24,7 +24,8 @@ use Rattle.ild_schema.specs.ValueSeen.{value_of}
 use Rattle.ild_schema.specs.declared.val.Val.{Val}
 use Rattle.ild_schema.specs.declared.val.Val.TheVariants as W
 use Rattle.ild_data.specs.Trie.{trie}
-use Rattle.ild_typed.specs.Composed.{map_form, usual}
+use Rattle.ild_data.specs.declared.hamt_shape.HamtShape.{HamtShape}
+use Rattle.ild_typed.specs.Composed.{map_form}
 use Rattle.ild_typed.specs.EachLayer.{some_layer, some_value, some_pair, some_field}
 use Rattle.ild_typed.specs.Hamt.{a_map, alone, root_map, whole}
 use Rattle.ild_typed.specs.Layer as L
@@ -68,8 +69,8 @@ module _ (h : List ℕ → List ℕ) (rows : List Row) where
   map_alone MF.Map l a b = refl
   map_alone MF.ListPairs l a b = refl
   map_alone (MF.StringPairs i e) l a b = refl
-  map_alone MF.Hamt l a b =
-      ap (λ o. option_map (root_map usual) (option_and_then (λ es. trie h usual es 0) o)) a
+  map_alone (MF.Hamt p) l a b =
+      ap (λ o. option_map (root_map p) (option_and_then (λ es. trie h p es 0) o)) a
       ∙ sym (ap (λ o. option_and_then a_map o) b)
 
   layer_alone : (o : Option TypeDef) (l : Layer Data) → as_map l ≡ None → as_hamt l ≡ None → layered (whole h) o (Some l) ≡ layered alone o (Some l)
@@ -142,7 +143,7 @@ a_leaf (W.Union n x) a b c d = absurd (d n x refl)
 -- ---- no HAMT in a value
 
 abbrev pub is_hamt : Option TypeDef → Value → Bool
-is_hamt (Some (D.Map key key_at value at MF.Hamt)) (V.map ps) = true
+is_hamt (Some (D.Map key key_at value at (MF.Hamt p))) (V.map ps) = true
 is_hamt d v = false
 
 or_parts : (a b : Bool) → (a || b) ≡ false → (a ≡ false) × (b ≡ false)
@@ -152,7 +153,7 @@ or_parts false b e = (refl, e)
 module _ (μ : Weight) (rows : List Row) where
   here_none : (o : Option TypeDef) (ps : Pairs) → is_hamt o (V.map ps) ≡ false → hamt_weight μ o ps ≡ 0
   here_none None ps e = refl
-  here_none (Some (D.Map key key_at value at MF.Hamt)) ps e = absurd cc
+  here_none (Some (D.Map key key_at value at (MF.Hamt p))) ps e = absurd cc
   here_none (Some (D.Map key key_at value at MF.Map)) ps e = refl
   here_none (Some (D.Map key key_at value at MF.ListPairs)) ps e = refl
   here_none (Some (D.Map key key_at value at (MF.StringPairs a b))) ps e = refl
@@ -222,15 +223,15 @@ module _ (μ : Weight) (rows : List Row) where
 -- ---- texts
 
 module _ (rows : List Row) (made_is : IsMade rows) where
-  no_form : (f : MapForm) → ((k : KindWord) → same_kind (map_kind f) k ≡ true → k ≡ K.Text) → f ≡ MF.Hamt → ⊥
-  no_form f only e = let k : K.Map ≡ K.Text = only K.Map (ap (λ g. same_kind (map_kind g) K.Map) e) in absurd cc
+  no_form : (f : MapForm) (p : HamtShape) → ((k : KindWord) → same_kind (map_kind f) k ≡ true → k ≡ K.Text) → f ≡ MF.Hamt p → ⊥
+  no_form f p only e = let k : K.Map ≡ K.Text = only K.Map (ap (λ g. same_kind (map_kind g) K.Map) e) in absurd cc
 
   here_text : (d : TypeDef) (v : Value) → ((k : KindWord) → has_kind d k ≡ true → k ≡ K.Text) → is_hamt (Some d) v ≡ false
-  here_text (D.Map key key_at value at MF.Hamt) (V.map ps) only = absurd (no_form MF.Hamt only refl)
+  here_text (D.Map key key_at value at (MF.Hamt p)) (V.map ps) only = absurd (no_form (MF.Hamt p) p only refl)
   here_text (D.Map key key_at value at MF.Map) v only = refl
   here_text (D.Map key key_at value at MF.ListPairs) v only = refl
   here_text (D.Map key key_at value at (MF.StringPairs a b)) v only = refl
-  here_text (D.Map key key_at value at MF.Hamt) v only = refl
+  here_text (D.Map key key_at value at (MF.Hamt p)) v only = refl
   here_text d v only = refl
 
   no_part : (x : Value) (i : ℕ) (u : Slot) (w : Value) → part_at None x i ≡ Some (u, w) → ⊥

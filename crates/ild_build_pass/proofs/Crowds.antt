@@ -10,7 +10,8 @@ use Rattle.ild_data.specs.ByteOrder.{bytewise, in_byte_order, no_key_twice}
 use Rattle.ild_data.specs.Data as T
 use Rattle.ild_data.specs.Data.{Data}
 use Rattle.ild_data.specs.Trie.{all_some, at_depth, node_data, node_of, part, slot_of, slots_at, trie}
-use Rattle.ild_data.specs.TrieShape.{TrieShape, trie_levels}
+use Rattle.ild_data.specs.declared.hamt_shape.HamtShape.{HamtShape}
+use Rattle.ild_data.specs.TrieShape.{trie_levels}
 use Rattle.ild_hamt_trie.proofs.Node.{is_some-map, is_some-slot, no_node, node-slots}
 use Rattle.ild_schema.specs.declared.number.Slot.{Slot}
 use Rattle.ild_schema.specs.declared.row.Row.{Row}
@@ -48,7 +49,7 @@ all_alike : {X Y : Type 0} (f g : X → Option Y) (xs : List X) → ((x : X) →
 all_alike f g [] each = refl
 all_alike f g (x ∷ xs) each = some_first (f x) (map f xs) ∙ (λ i. each x i && all_alike f g xs each i) ∙ sym (some_first (g x) (map g xs))
 
-module _ (h : List ℕ → List ℕ) (p : TrieShape) where
+module _ (h : List ℕ → List ℕ) (p : HamtShape) where
   node_nulls : (left depth : ℕ) (es : List (List ℕ × Data)) → is_some (node_of h p left depth (nulls es)) ≡ is_some (node_of h p left depth es)
   node_nulls zero depth es = ap is_some (no_node h p depth (nulls es)) ∙ sym (ap is_some (no_node h p depth es))
   node_nulls (suc left) depth es =

@@ -2,6 +2,7 @@
 use Rattle.std.proofs.Common.{◌≡◌, ℕ, zero, suc, ◌+◌, ◌-◌, ◌≤◌, List, [], ◌∷◌, Option, Some, None, IsUtf8, slice_get, Bool, true, false, option_map, refl, sym, ap, ◌∙◌, subst, arith}
 use Rattle.std.specs.List.{AllByRecursion}
 use Rattle.std.proofs.lemmas.Option.{same_Some, none-some}
+use Rattle.ild_data.specs.declared.hamt_shape.HamtShape.{HamtShape}
 use Rattle.ild_data.specs.Data as T
 use Rattle.ild_data.specs.Limits.{deepest}
 use Rattle.ild_schema.specs.declared.number.Slot.{Slot}
@@ -111,7 +112,7 @@ module _ (rows : List Row) where
     pub form : MapForm
     pub is : d ≡ D.Map key key_at value place form
     pub each : EntriesFit rows value (pairs_list ps)
-    pub hamt : form ≡ MF.Hamt → HamtFits rows value (pairs_list ps)
+    pub hamt : (p : HamtShape) → form ≡ MF.Hamt p → HamtFits rows value (pairs_list ps)
 
   at_value : (u : Slot) (ps : Pairs) (i : ℕ) (p : List ℕ × Value) → slice_get (pairs_list ps) i ≡ Some p → option_map {U = Slot × Value} (λ v. (u, v)) (option_map (λ (q : List ℕ × Value). q.1) (slice_get (pairs_list ps) i)) ≡ Some (u, p.1)
   at_value u ps i p e = ap (λ o. option_map {U = Slot × Value} (λ v. (u, v)) (option_map (λ (q : List ℕ × Value). q.1) o)) e
@@ -130,9 +131,9 @@ module _ (rows : List Row) where
         form = y.4;
         is = y.5;
         each = λ i p e. (part y.4 refl i p e).fit;
-        hamt = λ h. record {
+        hamt = λ shape h. record {
           rises = subst (λ g. AreKeys g (pairs_list ps)) h y.6.0;
-          each = λ i p e. let k = part MF.Hamt h i p e in record { text = texts_in y.0 y.2 x.room (pairs_list ps) y.6.1 i p e; part = k.fit; low = k.low };
+          each = λ i p e. let k = part (MF.Hamt shape) h i p e in record { text = texts_in y.0 y.2 x.room (pairs_list ps) y.6.1 i p e; part = k.fit; low = k.low };
         };
       }
 
@@ -195,10 +196,10 @@ module _ (rows : List Row) where
   form_in g (D.Map key key_at value at form) = form
   form_in g d = g
 
-  pub hamt_fit : (s : Slot) (key : TypeNo) (key_at : ℕ) (value : Slot) (at : ℕ) (form : MapForm) (ps : Pairs) → form_of rows s ≡ Some (D.Map key key_at value at form) → form ≡ MF.Hamt → FitsIn rows s (V.map ps) → HamtFits rows value (pairs_list ps)
-  hamt_fit s key key_at value at form ps f h fit =
+  pub hamt_fit : (s : Slot) (key : TypeNo) (key_at : ℕ) (value : Slot) (at : ℕ) (form : MapForm) (p : HamtShape) (ps : Pairs) → form_of rows s ≡ Some (D.Map key key_at value at form) → form ≡ MF.Hamt p → FitsIn rows s (V.map ps) → HamtFits rows value (pairs_list ps)
+  hamt_fit s key key_at value at form p ps f h fit =
       let x = map_fit s ps (D.Map key key_at value at form) f fit in
-      subst (λ (u : Slot). HamtFits rows u (pairs_list ps)) (same_Some x.value value (ap (λ (d : TypeDef). element_of (Some d)) (sym x.is))) (x.hamt (ap (form_in form) (sym x.is) ∙ h))
+      subst (λ (u : Slot). HamtFits rows u (pairs_list ps)) (same_Some x.value value (ap (λ (d : TypeDef). element_of (Some d)) (sym x.is))) (x.hamt p (ap (form_in form) (sym x.is) ∙ h))
 
   pub places_fit : (s : Slot) (sd : StructDef) (os : Optionals) → form_of rows s ≡ Some (D.Struct sd) → FitsIn rows s (V.struct os) → PlacesFit rows sd.fields (optionals_list os)
   places_fit s sd os f fit =

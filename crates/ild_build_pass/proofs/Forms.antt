@@ -16,7 +16,8 @@ use Rattle.ild_schema.specs.Slots.{form_of}
 use Rattle.ild_schema.specs.Value as V
 use Rattle.ild_schema.specs.Value.{Value, Values, Pairs, Optionals, values_list, pairs_list, optionals_list}
 use Rattle.ild_data.specs.Trie.{trie}
-use Rattle.ild_typed.specs.Composed.{composed, usual}
+use Rattle.ild_data.specs.declared.hamt_shape.HamtShape.{HamtShape}
+use Rattle.ild_typed.specs.Composed.{composed}
 use Rattle.ild_typed.specs.Hamt.{root_map, whole}
 use Rattle.ild_typed.specs.Layer as L
 use Rattle.ild_typed.specs.Layer.{Layer}
@@ -66,13 +67,13 @@ module _ (hash : List ℕ → List ℕ) (rows : List Row) where
   abbrev map_in : Option TypeDef → Pairs → Option (List ℕ)
   map_in o ps = option_map spell (layered (whole hash) o (option_map L.map (option_and_then (λ u. represented_pairs (whole hash) rows u ps) (element_of o))))
 
-  pub hamt_is_made : (s : Slot) (key : TypeNo) (key_at : ℕ) (value : Slot) (at : ℕ) (f : MapForm) (ps : Pairs) → form_of rows s ≡ Some (D.Map key key_at value at f) → f ≡ MF.Hamt
-      → (t : List ℕ) → made (whole hash) rows s (V.map ps) ≡ Some t → hamt_made hash rows value ps ≡ Some t
-  hamt_is_made s key key_at value at f ps is form t e = by (represented_pairs (whole hash) rows value ps) refl (sym (ap (λ o. map_in o ps) (is ∙ ap (λ g. Some (D.Map key key_at value at g)) form)) ∙ e)
+  pub hamt_is_made : (s : Slot) (key : TypeNo) (key_at : ℕ) (value : Slot) (at : ℕ) (f : MapForm) (p : HamtShape) (ps : Pairs) → form_of rows s ≡ Some (D.Map key key_at value at f) → f ≡ MF.Hamt p
+      → (t : List ℕ) → made (whole hash) rows s (V.map ps) ≡ Some t → hamt_made hash p rows value ps ≡ Some t
+  hamt_is_made s key key_at value at f p ps is form t e = by (represented_pairs (whole hash) rows value ps) refl (sym (ap (λ o. map_in o ps) (is ∙ ap (λ g. Some (D.Map key key_at value at g)) form)) ∙ e)
     where
-      by : (o : Option (List (List ℕ × Data))) → represented_pairs (whole hash) rows value ps ≡ o → option_map spell (option_and_then (composed (whole hash) (D.Map key key_at value at MF.Hamt)) (option_map L.map o)) ≡ Some t → hamt_made hash rows value ps ≡ Some t
+      by : (o : Option (List (List ℕ × Data))) → represented_pairs (whole hash) rows value ps ≡ o → option_map spell (option_and_then (composed (whole hash) (D.Map key key_at value at (MF.Hamt p))) (option_map L.map o)) ≡ Some t → hamt_made hash p rows value ps ≡ Some t
       by None there h = absurd (none-some t h)
-      by (Some es) there h = ap (λ o. option_map spell (option_map (root_map usual) (option_and_then (λ xs. trie hash usual xs 0) o))) there ∙ h
+      by (Some es) there h = ap (λ o. option_map spell (option_map (root_map p) (option_and_then (λ xs. trie hash p xs 0) o))) there ∙ h
 
   record EntriesMade (u : Slot) (ps : Pairs) (es : List (List ℕ × Data)) : Type 0 where
     members : entries_made (whole hash) rows false u (pairs_list ps) ≡ Some (spell_members (T.members_of es))

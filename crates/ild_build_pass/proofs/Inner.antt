@@ -12,12 +12,12 @@ use Rattle.ild_data.specs.Data.{Data}
 use Rattle.ild_data.specs.Key.{same_text}
 use Rattle.ild_data.specs.Trie.{trie}
 use Rattle.ild_data.specs.TrieShape.{trie_levels}
+use Rattle.ild_data.specs.declared.hamt_shape.HamtShape.{HamtShape}
 use Rattle.ild_schema.specs.declared.number.Slot.{Slot}
 use Rattle.ild_schema.specs.declared.row.Row.{Row}
 use Rattle.ild_schema.specs.Value as V
 use Rattle.ild_schema.specs.Value.{Pairs, pairs_list}
 use Rattle.ild_typed.specs.Blocks.{nodes, nodes_of_pairs}
-use Rattle.ild_typed.specs.Composed.{usual}
 use Rattle.ild_typed.specs.Hamt.{whole}
 use Rattle.ild_typed.specs.Represented.{represented_pairs}
 use Rattle.ild_typed.proofs.TreeNodes.{all_split}
@@ -74,20 +74,20 @@ module _ (h : List ℕ → List ℕ) (rows : List Row) (u : Slot) where
   in_pairs P (V.pair k v ps) all = let x = all_split P (nodes h rows u v) (nodes_of_pairs h rows u ps) all in ((alike P h rows u v).0 x.0, in_pairs P ps x.1)
 
   -- the blocks of a HAMT that were planned behind those of its entries
-  pub hamt_placed : (ps : Pairs) (es : List (List ℕ × Data)) (node : Data) (before added bs : List (List ℕ)) → represented_pairs (whole h) rows u ps ≡ Some es → trie h usual es 0 ≡ Some node
-      → ((f : List ℕ → ℕ) → sum_by f added ≡ entries_weight (beneath h rows f) rows u (pairs_list ps)) → bs ≡ planned h usual (trie_levels usual) 0 (in_byte_order es)
-      → PlacedIn h rows (λ μ. μ u ps) (before ++ added) bs
-  hamt_placed ps es node before added bs are is sums all =
+  pub hamt_placed : (p : HamtShape) (ps : Pairs) (es : List (List ℕ × Data)) (node : Data) (before added bs : List (List ℕ)) → represented_pairs (whole h) rows u ps ≡ Some es → trie h p es 0 ≡ Some node
+      → ((f : List ℕ → ℕ) → sum_by f added ≡ entries_weight (beneath h rows f) rows u (pairs_list ps)) → bs ≡ planned h p (trie_levels p) 0 (in_byte_order es)
+      → PlacedIn h rows (λ μ. μ p u ps) (before ++ added) bs
+  hamt_placed p ps es node before added bs are is sums all =
       let ts = places_in_pairs h rows u ps in
-      let flat : Places = places_over (λ p. p.1) ts in
-      let under : Places = places_beneath (at_key ts) h usual (trie_levels usual) 0 (in_byte_order es) in
-      let same : hamt_places h rows u ps ≡ under
-      = ap (λ o. option_map_or (λ fs. cond (is_some (trie h usual fs 0)) (places_beneath (at_key ts) h usual (trie_levels usual) 0 (in_byte_order fs)) flat) o flat) are ∙ ap (λ o. cond (is_some o) under flat) is in
+      let flat : Places = places_over (λ q. q.1) ts in
+      let under : Places = places_beneath (at_key ts) h p (trie_levels p) 0 (in_byte_order es) in
+      let same : hamt_places h p rows u ps ≡ under
+      = ap (λ o. option_map_or (λ fs. cond (is_some (trie h p fs 0)) (places_beneath (at_key ts) h p (trie_levels p) 0 (in_byte_order fs)) flat) o flat) are ∙ ap (λ o. cond (is_some o) under flat) is in
       let inside : AllByRecursion (λ b. IsAmong b (before ++ added)) (nodes_of_pairs h rows u ps)
       = all_right (nodes_of_pairs h rows u ps) before added (each_among (nodes_of_pairs h rows u ps) added (λ f. pairs_nodes h rows f u ps ∙ pairs_weigh rows (beneath h rows f) u ps ∙ sym (sums f))) in
       let each = in_pairs (λ b. IsAmong b (before ++ added)) ps inside in
       let ready = all_from (λ (e : List ℕ × Data). AreAmong (tops (at_key ts e.0)) (before ++ added))
       (λ e. tops_all (λ b. IsAmong b (before ++ added)) (at_key ts e.0) (at_keys (λ b. IsAmong b (before ++ added)) ts each e.0)) (in_byte_order es) in
-      follows_placed h rows u ps (before ++ added) bs
+      follows_placed h rows p u ps (before ++ added) bs
       (subst (λ ps'. FollowsIn ps' (before ++ added) bs) (sym same)
-      (subst (λ xs. FollowsIn under (before ++ added) xs) (sym all) (plans (at_key ts) h usual (trie_levels usual) 0 (in_byte_order es) (before ++ added) ready)))
+      (subst (λ xs. FollowsIn under (before ++ added) xs) (sym all) (plans (at_key ts) h p (trie_levels p) 0 (in_byte_order es) (before ++ added) ready)))

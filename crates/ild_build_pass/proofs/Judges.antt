@@ -6,6 +6,7 @@ use Rattle.std.proofs.lemmas.List.Sums.{sum_by-append}
 use Rattle.std.proofs.lemmas.Option.{same_Some, none-some}
 use Rattle.ild_data.specs.Data.{Data}
 use Rattle.ild_data.specs.Trie.{trie}
+use Rattle.ild_data.specs.declared.hamt_shape.HamtShape.{HamtShape}
 use Rattle.ild_schema.specs.declared.number.Slot.{Slot}
 use Rattle.ild_schema.specs.declared.number.TypeNo.{TypeNo}
 use Rattle.ild_schema.specs.declared.def.TypeDef.{TypeDef}
@@ -17,7 +18,7 @@ use Rattle.ild_schema.specs.Slots.{form_of}
 use Rattle.ild_schema.specs.Value as V
 use Rattle.ild_schema.specs.Value.{Value, Values, Pairs, Optionals, pairs_list}
 use Rattle.ild_typed.specs.Blocks.{hamt_nodes, nodes, nodes_of_values, nodes_of_pairs, nodes_of_fields}
-use Rattle.ild_typed.specs.Composed.{composed, usual}
+use Rattle.ild_typed.specs.Composed.{composed}
 use Rattle.ild_typed.specs.EachLayer.{some_layer, some_value, some_pair, some_field}
 use Rattle.ild_typed.specs.Hamt.{root_map, whole}
 use Rattle.ild_typed.specs.Judged.{exhausts, is_exhausted, map_exhausts}
@@ -51,14 +52,14 @@ no_element μ (Some (D.Enum a)) ps e = refl
 no_element μ (Some (D.Copy t)) ps e = refl
 
 module _ (h : List ℕ → List ℕ) (rows : List Row) (f : List ℕ → ℕ) where
-  root_same : (key : TypeNo) (key_at : ℕ) (value : Slot) (at : ℕ) (o : Option (List (List ℕ × Data))) → sum_by f (hamt_nodes h (Some (D.Map key key_at value at MF.Hamt)) o) ≡ sum_by f (beneath_of h o)
-  root_same key key_at value at None = refl
-  root_same key key_at value at (Some es) = refl
+  root_same : (key : TypeNo) (key_at : ℕ) (value : Slot) (at : ℕ) (p : HamtShape) (o : Option (List (List ℕ × Data))) → sum_by f (hamt_nodes h (Some (D.Map key key_at value at (MF.Hamt p))) o) ≡ sum_by f (beneath_of h p o)
+  root_same key key_at value at p None = refl
+  root_same key key_at value at p (Some es) = refl
 
   hamt_same : (o : Option TypeDef) (u : Slot) (ps : Pairs) → element_of o ≡ Some u → sum_by f (hamt_nodes h o (represented_pairs (whole h) rows u ps)) ≡ hamt_weight (beneath h rows f) o ps
   hamt_same None u ps e = refl
-  hamt_same (Some (D.Map key key_at value at MF.Hamt)) u ps e =
-      root_same key key_at value at (represented_pairs (whole h) rows u ps) ∙ ap (λ s. sum_by f (beneath_of h (represented_pairs (whole h) rows s ps))) (sym (same_Some value u e))
+  hamt_same (Some (D.Map key key_at value at (MF.Hamt p))) u ps e =
+      root_same key key_at value at p (represented_pairs (whole h) rows u ps) ∙ ap (λ s. sum_by f (beneath_of h p (represented_pairs (whole h) rows s ps))) (sym (same_Some value u e))
   hamt_same (Some (D.Map key key_at value at MF.Map)) u ps e = refl
   hamt_same (Some (D.Map key key_at value at MF.ListPairs)) u ps e = refl
   hamt_same (Some (D.Map key key_at value at (MF.StringPairs a b))) u ps e = refl
@@ -128,8 +129,8 @@ none_or : (a b : Bool) → a ≡ false → b ≡ false → (a || b) ≡ false
 none_or a b x y = ap (λ c. c || b) x ∙ y
 
 module _ (h : List ℕ → List ℕ) (rows : List Row) where
-  crowd_of : (ps : Pairs) (es : List (List ℕ × Data)) (value : Slot) → represented_pairs (whole h) rows value ps ≡ Some es → is_some (trie h usual (bare_keys (pairs_list ps)) 0) ≡ is_some (trie h usual es 0)
-  crowd_of ps es value e = ap (λ xs. is_some (trie h usual xs 0)) (sym (nulls_keys (whole h) rows value ps es e)) ∙ trie_nulls h usual es
+  crowd_of : (p : HamtShape) (ps : Pairs) (es : List (List ℕ × Data)) (value : Slot) → represented_pairs (whole h) rows value ps ≡ Some es → is_some (trie h p (bare_keys (pairs_list ps)) 0) ≡ is_some (trie h p es 0)
+  crowd_of p ps es value e = ap (λ xs. is_some (trie h p xs 0)) (sym (nulls_keys (whole h) rows value ps es e)) ∙ trie_nulls h p es
 
   some_or : {A : Type 0} (o : Option A) → ◌≡◌ {A = ℕ} (cond (is_none o) 1 0) 0 → is_some o ≡ true
   some_or None e = absurd (omega (arith, e))
@@ -139,12 +140,12 @@ module _ (h : List ℕ → List ℕ) (rows : List Row) where
   not_none None e = absurd cc
   not_none (Some a) e = refl
 
-  full_map : (value : Slot) (ps : Pairs) (o : Option (List (List ℕ × Data))) → represented_pairs (whole h) rows value ps ≡ o → crowded h value ps ≡ 0 → map_exhausts h MF.Hamt o ≡ false
-  full_map value ps None is e = refl
-  full_map value ps (Some es) is e = not_none (trie h usual es 0) (sym (crowd_of ps es value is) ∙ some_or (trie h usual (bare_keys (pairs_list ps)) 0) e)
+  full_map : (p : HamtShape) (value : Slot) (ps : Pairs) (o : Option (List (List ℕ × Data))) → represented_pairs (whole h) rows value ps ≡ o → crowded h p value ps ≡ 0 → map_exhausts h (MF.Hamt p) o ≡ false
+  full_map p value ps None is e = refl
+  full_map p value ps (Some es) is e = not_none (trie h p es 0) (sym (crowd_of p ps es value is) ∙ some_or (trie h p (bare_keys (pairs_list ps)) 0) e)
 
   full_here : (o : Option TypeDef) (ps : Pairs) → hamt_weight (crowded h) o ps ≡ 0 → is_exhausted h rows o (V.map ps) ≡ false
-  full_here (Some (D.Map key key_at value at MF.Hamt)) ps e = full_map value ps (represented_pairs (whole h) rows value ps) refl e
+  full_here (Some (D.Map key key_at value at (MF.Hamt p))) ps e = full_map p value ps (represented_pairs (whole h) rows value ps) refl e
   full_here (Some (D.Map key key_at value at MF.Map)) ps e = refl
   full_here (Some (D.Map key key_at value at MF.ListPairs)) ps e = refl
   full_here (Some (D.Map key key_at value at (MF.StringPairs a b))) ps e = refl
@@ -234,9 +235,9 @@ module _ (h : List ℕ → List ℕ) (rows : List Row) where
   none_of o e = ap {B = ℕ} (λ b. cond b 1 0) (not_none o e)
 
   told_here : (d : TypeDef) (u : Slot) (ps : Pairs) (es : List (List ℕ × Data)) (t : Data) → element_of (Some d) ≡ Some u → represented_pairs (whole h) rows u ps ≡ Some es → composed (whole h) d (L.map es) ≡ Some t → hamt_weight (crowded h) (Some d) ps ≡ 0
-  told_here (D.Map key key_at value at MF.Hamt) u ps es t is e k =
-      let x = map_from (root_map usual) (trie h usual es 0) t k in
-      none_of (trie h usual (bare_keys (pairs_list ps)) 0) (crowd_of ps es u e ∙ ap is_some x.there)
+  told_here (D.Map key key_at value at (MF.Hamt p)) u ps es t is e k =
+      let x = map_from (root_map p) (trie h p es 0) t k in
+      none_of (trie h p (bare_keys (pairs_list ps)) 0) (crowd_of p ps es u e ∙ ap is_some x.there)
   told_here (D.Map key key_at value at MF.Map) u ps es t is e k = refl
   told_here (D.Map key key_at value at MF.ListPairs) u ps es t is e k = refl
   told_here (D.Map key key_at value at (MF.StringPairs a b)) u ps es t is e k = refl

@@ -1,6 +1,7 @@
 -- A call that wrote the parts of a layer wrote the layer, by the form of its type.
 use Rattle.std.proofs.Common.{◌≡◌, ℕ, ◌+◌, ℤ, Bool, List, [], ◌++◌, length, true, false, Option, Some, option_map, Result, slice_get, refl, sym, ap, ◌∙◌, subst}
 use Rattle.std.specs.Prelude.{OnOk, option_and_then}
+use Rattle.ild_data.specs.declared.hamt_shape.HamtShape.{HamtShape}
 use Rattle.ild_data.specs.Spell.{head, spell, spell_int, spell_text}
 use Rattle.ild_emit.specs.Simple.{simple_data}
 use Rattle.ild_schema.specs.Clear.{AreNamesApart}
@@ -84,10 +85,10 @@ module _ (h : List ℕ → List ℕ) (rows : List Row) {T E : Type 0} (r : Resul
         handed (made (whole h) rows s (V.map ps)) (counted 4 (length (pairs_list ps)) (entries_made (whole h) rows true value (pairs_list ps))) (λ μ. weigh μ rows s (V.map ps)) (λ μ. entries_weight μ rows value (pairs_list ps))
         (pairs_are_made h rows s key key_at value at form ps (known ∙ ap Some is) kind) (λ μ. map_weight rows μ s key key_at value at form MF.ListPairs ps (known ∙ ap Some is) kind refl)
 
-    pub hamt_layer : form ≡ MF.Hamt → Left (hamt_made h rows value ps) (λ μ. μ value ps + entries_weight μ rows value (pairs_list ps)) → Left (made (whole h) rows s (V.map ps)) (λ μ. weigh μ rows s (V.map ps))
-    hamt_layer kind =
-        handed (made (whole h) rows s (V.map ps)) (hamt_made h rows value ps) (λ μ. weigh μ rows s (V.map ps)) (λ μ. μ value ps + entries_weight μ rows value (pairs_list ps))
-        (hamt_is_made h rows s key key_at value at form ps (known ∙ ap Some is) kind) (λ μ. hamt_weigh rows μ s key key_at value at form ps (known ∙ ap Some is) kind)
+    pub hamt_layer : (p : HamtShape) → form ≡ MF.Hamt p → Left (hamt_made h p rows value ps) (λ μ. μ p value ps + entries_weight μ rows value (pairs_list ps)) → Left (made (whole h) rows s (V.map ps)) (λ μ. weigh μ rows s (V.map ps))
+    hamt_layer p kind =
+        handed (made (whole h) rows s (V.map ps)) (hamt_made h p rows value ps) (λ μ. weigh μ rows s (V.map ps)) (λ μ. μ p value ps + entries_weight μ rows value (pairs_list ps))
+        (hamt_is_made h rows s key key_at value at form p ps (known ∙ ap Some is) kind) (λ μ. hamt_weigh rows μ s key key_at value at form p ps (known ∙ ap Some is) kind)
 
   -- ---- structs
 

@@ -12,7 +12,7 @@ use Rattle.ild_data.specs.Limits.{longest_block}
 use Rattle.ild_data.specs.Spell.{head, spell, spell_items, spell_members, spell_text}
 use Rattle.ild_data.specs.Trie.{TrieSlot, bucket, all_some, at_depth, elements_of, entry_data, map_of, node_data, node_of, part, slot_of}
 use Rattle.ild_data.specs.TrieBlocks.{block_of, node_and_beneath, nodes_beneath, none_or}
-use Rattle.ild_data.specs.TrieShape.{TrieShape}
+use Rattle.ild_data.specs.declared.hamt_shape.HamtShape.{HamtShape}
 use Rattle.ild_hamt_trie.proofs.Index.{index_below}
 use Rattle.ild_hamt_trie.proofs.Node.{no_node, slots-node}
 use Rattle.ild_hamt_trie.proofs.Slots.{all_some-cons}
@@ -65,7 +65,7 @@ node_size slots =
     let d = list_size (T.bytes (map_of slots) ∷ T.list (T.items_of (flat_map elements_of slots)) ∷ []) in
     omega (arith, a, b, c, d)
 
-pub root_size : (p : TrieShape) (node : Data) → length (spell node) ≤ length (spell (root_map p node))
+pub root_size : (p : HamtShape) (node : Data) → length (spell node) ≤ length (spell (root_map p node))
 root_size p node =
     let rest = spell_members (T.members_of ((codes "hashAlg", T.integer (pos 18)) ∷ (codes "bucketSize", T.integer (pos p.bucket)) ∷ [])) in
     let key = spell_text (codes "hamt") in
@@ -87,7 +87,7 @@ part_all P at n (e ∷ es) below each = (first, part_all P at n es below rest)
         by true all = all.1
         by false all = all
 
-module _ (h : List ℕ → List ℕ) (p : TrieShape) where
+module _ (h : List ℕ → List ℕ) (p : HamtShape) where
   abbrev Below : ℕ → ℕ → Type 0
   Below left depth = (es : List (List ℕ × Data)) (node : Data) → node_of h p left depth es ≡ Some node → over (spell node) ≡ 0 → sum_by over (nodes_beneath h p left depth es) ≡ 0 → AllByRecursion IsShort es
 

@@ -1,5 +1,6 @@
 -- What a call on a part of a value asks: the part nests less deep, its type is in the table, and it fits.
 use Rattle.std.proofs.Common.{◌≡◌, ℕ, ◌<◌, ◌≤◌, List, length, Some, get_or, slice_get, sym, ap, ◌∙◌, subst, arith}
+use Rattle.ild_data.specs.declared.hamt_shape.HamtShape.{HamtShape}
 use Rattle.ild_schema.specs.Clear.{KeysApart}
 use Rattle.ild_schema.specs.Legible.{IsLegible}
 use Rattle.ild_schema.specs.Made.{MadeMember}
@@ -95,8 +96,8 @@ module _ (rows : List Row) (s : Slot) (d : TypeDef) (known : form_of rows s ≡ 
       pub low : value.ty.0 < length rows
       pub each : HamtFits rows value (pairs_list ps)
 
-    pub root_in : form ≡ MF.Hamt → IsRoot
-    root_in hamt = record { low = value_low; each = hamt_fit rows s key key_at value at form ps (known ∙ ap Some is) hamt fits }
+    pub root_in : (p : HamtShape) → form ≡ MF.Hamt p → IsRoot
+    root_in p hamt = record { low = value_low; each = hamt_fit rows s key key_at value at form p ps (known ∙ ap Some is) hamt fits }
 
   pub record AreFields (sd : StructDef) (os : Optionals) : Type 0 where
     pub low : IsWithin (length rows) (D.Struct sd)

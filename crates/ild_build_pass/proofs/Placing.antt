@@ -3,6 +3,7 @@ use Rattle.std.proofs.Common.{◌≡◌, inl, inr, ℕ, ◌≤◌, Bool, true, f
 use Rattle.std.specs.List.{AllByRecursion}
 use Rattle.std.specs.Cmp.Lexicographic.{nat_list_eq_equiv}
 use Rattle.ild_bulk.specs.Putting.{IsAmong}
+use Rattle.ild_data.specs.declared.hamt_shape.HamtShape.{HamtShape}
 use Rattle.ild_data.specs.Key.{same_text}
 use Rattle.ild_schema.specs.declared.number.Slot.{Slot}
 use Rattle.ild_schema.specs.declared.row.Row.{Row}
@@ -58,11 +59,11 @@ module _ (h : List ℕ → List ℕ) (rows : List Row) where
       more [] all = tt
       more (p ∷ qs) all = ((λ e a. or_right (same_text q.0 b && are_among (tops q.1) before) (has_place_over ps before b) (all.0 e a)), more qs all.1)
 
-  pub follows_placed : (u : Slot) (ps : Pairs) (before bs : List (List ℕ)) → FollowsIn (hamt_places h rows u ps) before bs → PlacedIn h rows (λ μ. μ u ps) before bs
-  follows_placed u ps before [] follows = tt
-  follows_placed u ps before (b ∷ bs) follows =
-      let all = each_place (hamt_places h rows u ps) in
+  pub follows_placed : (p : HamtShape) (u : Slot) (ps : Pairs) (before bs : List (List ℕ)) → FollowsIn (hamt_places h p rows u ps) before bs → PlacedIn h rows (λ μ. μ p u ps) before bs
+  follows_placed p u ps before [] follows = tt
+  follows_placed p u ps before (b ∷ bs) follows =
+      let all = each_place (hamt_places h p rows u ps) in
       let x = follows.0 in
-      let passed : has_place_over all before b ≡ true = all_contained (λ (p : Place). p.0 ≡ b → AreAmong (tops p.1) before → has_place_over all before b ≡ true) all x.at (passes before b all) x.among x.is x.children in
-      let one : over_children h rows before b u ps ≡ 1 = ap {B = ℕ} (λ c. cond c 1 0) passed in
-      (omega (arith, one), follows_placed u ps (before ++ b ∷ []) bs follows.1)
+      let passed : has_place_over all before b ≡ true = all_contained (λ (q : Place). q.0 ≡ b → AreAmong (tops q.1) before → has_place_over all before b ≡ true) all x.at (passes before b all) x.among x.is x.children in
+      let one : over_children h rows before b p u ps ≡ 1 = ap {B = ℕ} (λ c. cond c 1 0) passed in
+      (omega (arith, one), follows_placed p u ps (before ++ b ∷ []) bs follows.1)

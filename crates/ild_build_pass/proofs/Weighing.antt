@@ -1,6 +1,7 @@
 -- What the parts of a value weigh, in the turns of the loops that write them.
 use Rattle.std.proofs.Common.{◌≡◌, ⊎_elim, ℕ, ◌+◌, ◌≤◌, List, [], ◌∷◌, length, drop, true, Option, Some, None, option_map, slice_get, refl, ap, ◌∙◌, zero-add, arith}
 use Rattle.std.specs.Option.{option_map_or}
+use Rattle.ild_data.specs.declared.hamt_shape.HamtShape.{HamtShape}
 use Rattle.ild_schema.specs.declared.number.Slot.{Slot}
 use Rattle.ild_schema.specs.declared.number.TypeNo.{TypeNo}
 use Rattle.ild_schema.specs.declared.def.TypeDef.TheVariants as D
@@ -105,9 +106,9 @@ module _ (rows : List Row) (μ : Weight) where
   map_weight s key key_at value at f g ps is form none =
       map_weight_by s key key_at value at g ps (is ∙ ap (λ k. Some (D.Map key key_at value at k)) form) ∙ ap (λ n. n + entries_weight μ rows value (pairs_list ps)) none ∙ zero-add (entries_weight μ rows value (pairs_list ps))
 
-  pub hamt_weigh : (s : Slot) (key : TypeNo) (key_at : ℕ) (value : Slot) (at : ℕ) (f : MapForm) (ps : Pairs) → form_of rows s ≡ Some (D.Map key key_at value at f) → f ≡ MF.Hamt
-      → weigh μ rows s (V.map ps) ≡ μ value ps + entries_weight μ rows value (pairs_list ps)
-  hamt_weigh s key key_at value at f ps is form = map_weight_by s key key_at value at MF.Hamt ps (is ∙ ap (λ k. Some (D.Map key key_at value at k)) form)
+  pub hamt_weigh : (s : Slot) (key : TypeNo) (key_at : ℕ) (value : Slot) (at : ℕ) (f : MapForm) (p : HamtShape) (ps : Pairs) → form_of rows s ≡ Some (D.Map key key_at value at f) → f ≡ MF.Hamt p
+      → weigh μ rows s (V.map ps) ≡ μ p value ps + entries_weight μ rows value (pairs_list ps)
+  hamt_weigh s key key_at value at f p ps is form = map_weight_by s key key_at value at (MF.Hamt p) ps (is ∙ ap (λ k. Some (D.Map key key_at value at k)) form)
 
   pub struct_weight : (s : Slot) (sd : StructDef) (os : Optionals) → form_of rows s ≡ Some (D.Struct sd) → weigh μ rows s (V.struct os) ≡ fields_weight μ rows sd.fields (optionals_list os)
   struct_weight s sd os is = ap (λ o. weigh_fields μ rows (fields_of o) os) is ∙ optionals_weigh sd.fields os

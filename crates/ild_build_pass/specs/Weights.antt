@@ -9,6 +9,7 @@ use Rattle.ild_data.specs.Spell.{spell}
 use Rattle.ild_data.specs.Trie.{trie}
 use Rattle.ild_data.specs.TrieBlocks.{nodes_beneath}
 use Rattle.ild_data.specs.TrieShape.{trie_levels}
+use Rattle.ild_data.specs.declared.hamt_shape.HamtShape.{HamtShape}
 use Rattle.ild_schema.specs.declared.number.Slot.{Slot}
 use Rattle.ild_schema.specs.declared.def.TypeDef.{TypeDef}
 use Rattle.ild_schema.specs.declared.def.TypeDef.TheVariants as D
@@ -18,18 +19,17 @@ use Rattle.ild_schema.specs.declared.row.Row.{Row}
 use Rattle.ild_schema.specs.Slots.{form_of}
 use Rattle.ild_schema.specs.Value as V
 use Rattle.ild_schema.specs.Value.{Value, Values, Pairs, Optionals, pairs_list}
-use Rattle.ild_typed.specs.Composed.{usual}
 use Rattle.ild_typed.specs.Hamt.{root_map, whole}
 use Rattle.ild_typed.specs.Represented.{represented_pairs}
 use Rattle.ild_typed.specs.Slots.{element_of, fields_of, member_of}
 use Rattle.ild_build.specs.PartAt.{field_at}
 
--- of one HAMT, by the slot of its values and its entries
+-- of one HAMT, by its shape, the slot of its values and its entries
 abbrev pub Weight : Type 0
-Weight = Slot → Pairs → ℕ
+Weight = HamtShape → Slot → Pairs → ℕ
 
 abbrev pub hamt_weight : Weight → Option TypeDef → Pairs → ℕ
-hamt_weight μ (Some (D.Map key key_at value at MF.Hamt)) ps = μ value ps
+hamt_weight μ (Some (D.Map key key_at value at (MF.Hamt p))) ps = μ p value ps
 hamt_weight μ d ps = 0
 
 -- ---- of all in a value
@@ -84,22 +84,22 @@ places_weight μ rows fs os (i ∷ is) = place_weight μ rows fs os i + places_w
 -- ---- two weights
 
 -- the blocks of the nodes beneath a root
-abbrev pub beneath_of : (List ℕ → List ℕ) → Option (List (List ℕ × Data)) → List (List ℕ)
-beneath_of h None = []
-beneath_of h (Some es) = cond (is_some (trie h usual es 0)) (nodes_beneath h usual (trie_levels usual) 0 (in_byte_order es)) []
+abbrev pub beneath_of : (List ℕ → List ℕ) → HamtShape → Option (List (List ℕ × Data)) → List (List ℕ)
+beneath_of h p None = []
+beneath_of h p (Some es) = cond (is_some (trie h p es 0)) (nodes_beneath h p (trie_levels p) 0 (in_byte_order es)) []
 
 -- those blocks, each by its own weight
 abbrev pub beneath : (List ℕ → List ℕ) → List Row → (List ℕ → ℕ) → Weight
-beneath h rows f value ps = sum_by f (beneath_of h (represented_pairs (whole h) rows value ps))
+beneath h rows f p value ps = sum_by f (beneath_of h p (represented_pairs (whole h) rows value ps))
 
 abbrev pub bare_keys : List (List ℕ × Value) → List (List ℕ × Data)
 bare_keys ps = map (λ (p : List ℕ × Value). (p.0, T.null)) ps
 
 -- one where there is no trie of the keys, whatever stands at them
 abbrev pub crowded : (List ℕ → List ℕ) → Weight
-crowded h value ps = cond (is_none (trie h usual (bare_keys (pairs_list ps)) 0)) 1 0
+crowded h p value ps = cond (is_none (trie h p (bare_keys (pairs_list ps)) 0)) 1 0
 
 -- ---- the root map of a HAMT
 
-abbrev pub hamt_made : (List ℕ → List ℕ) → List Row → Slot → Pairs → Option (List ℕ)
-hamt_made h rows value ps = option_map spell (option_map (root_map usual) (option_and_then (λ es. trie h usual es 0) (represented_pairs (whole h) rows value ps)))
+abbrev pub hamt_made : (List ℕ → List ℕ) → HamtShape → List Row → Slot → Pairs → Option (List ℕ)
+hamt_made h p rows value ps = option_map spell (option_map (root_map p) (option_and_then (λ es. trie h p es 0) (represented_pairs (whole h) rows value ps)))

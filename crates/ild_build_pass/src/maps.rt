@@ -16,7 +16,7 @@ use crate::pass::add;
 use ild_build::form_of;
 use ild_build_entries::{Nodes, add_root, end_entry, no_entries};
 use ild_build_leaf::{add_as_text, add_count, add_key};
-use ild_data::KeyHash;
+use ild_data::{HamtShape, KeyHash};
 use ild_emit::Emit;
 use ild_schema::{Accepted, MapForm, Slot, TypeDef, Val, ValPairs};
 use std::alloc::{AllocError, Global};
@@ -57,7 +57,7 @@ pub(crate) fn add_map<H: KeyHash>(
             MapForm::Map => add_pairs(alloc, acc, keys, *value, pairs, false, nodes, out),
             MapForm::ListPairs => add_pairs(alloc, acc, keys, *value, pairs, true, nodes, out),
             MapForm::StringPairs(_, _) => add_as_text(alloc, acc, slot, val, out),
-            MapForm::Hamt => add_hamt(alloc, acc, keys, *value, pairs, nodes, out),
+            MapForm::Hamt(shape) => add_hamt(alloc, acc, keys, *shape, *value, pairs, nodes, out),
         },
         _ => Ok(()),
     }
@@ -90,12 +90,13 @@ fn add_pairs<H: KeyHash>(
     Ok(())
 }
 
-// Appends the root map of a HAMT. The blocks beneath its root go to the others, behind those of its values.
+// Appends the root map of a HAMT of this shape. The blocks beneath its root go to the others, behind those of its values.
 #[cycle(pass)]
 fn add_hamt<H: KeyHash>(
     alloc: Global,
     acc: &Accepted,
     keys: &H,
+    shape: HamtShape,
     value: Slot,
     pairs: &ValPairs,
     nodes: &mut Nodes,
@@ -103,7 +104,7 @@ fn add_hamt<H: KeyHash>(
 ) -> Result<(), AllocError>
     requires within { value.ty.0 < length acc.now }
     requires fits { HamtFits acc.now value (pairs_list pairs.now) }
-    ensures ok { OnOk result (Writes H.hash_of acc.now (hamt_made H.hash_of acc.now value pairs.now) (λ μ. μ value pairs.now + entries_weight μ acc.now value (pairs_list pairs.now)) out.old out.new nodes.old nodes.new) }
+    ensures ok { OnOk result (Writes H.hash_of acc.now (hamt_made H.hash_of shape acc.now value pairs.now) (λ μ. μ shape value pairs.now + entries_weight μ acc.now value (pairs_list pairs.now)) out.old out.new nodes.old nodes.new) }
     ensures err { OnErr result (IsGrown out.old out.new) }
 {
     let _legible = acc.types();
@@ -116,7 +117,7 @@ fn add_hamt<H: KeyHash>(
         add(alloc, acc, keys, value, val, nodes, &mut entries.out)?;
         end_entry(keys, key, begun.from, begun.value_from, nodes, &mut entries)?;
     }
-    add_root(alloc, entries, nodes, out)
+    add_root(alloc, shape, entries, nodes, out)
 }
 
 // Appends a key and its value, as an entry of a map or as a pair.

@@ -5,7 +5,7 @@ use Rattle.std.specs.List.{AllByRecursion, range_with_len}
 use Rattle.std.proofs.lemmas.Bool.{lt-leb}
 use Rattle.ild_data.specs.Data.{Data}
 use Rattle.ild_data.specs.Spell.{spell, id_of}
-use Rattle.ild_data.specs.TrieShape.{TrieShape}
+use Rattle.ild_data.specs.declared.hamt_shape.HamtShape.{HamtShape}
 use Rattle.ild_data.specs.Trie.{TrieSlot, empty, bucket, child, part, slot_of, all_some, node_of, at_depth}
 use Rattle.ild_data.specs.TrieBlocks.{block_of, none_or}
 use Rattle.ild_hamt_trie.proofs.Node.{slots-node, no_node}
@@ -48,7 +48,7 @@ children_of most at below beneath es (j ∷ js) slots whole is sub =
     )
 
 -- a node's block, where the blocks beneath it stand before
-pub node-over : (h : List ℕ → List ℕ) (p : TrieShape) (left depth : ℕ) (es : List (List ℕ × Data)) (node : Data) (before : List (List ℕ)) → node_of h p left depth es ≡ Some node
+pub node-over : (h : List ℕ → List ℕ) (p : HamtShape) (left depth : ℕ) (es : List (List ℕ × Data)) (node : Data) (before : List (List ℕ)) → node_of h p left depth es ≡ Some node
     → IsNodeOver (IsIdAmong (before ++ planned h p left depth es)) (spell node)
 node-over h p zero depth es node before is = absurd (let e : None ≡ Some node = sym (no_node h p depth es) ∙ is in cc)
 node-over h p (suc left) depth es node before is =
@@ -79,11 +79,11 @@ pub follows_slot : (b : Bool) (below : List (List ℕ × Data) → Option Data) 
 follows_slot true below beneath es before first over = tt
 follows_slot false below beneath es before first over = follows-append before (beneath es) (block_of (below es)) first (follows_block (below es) (before ++ beneath es) over)
 
-none_planned : (h : List ℕ → List ℕ) (p : TrieShape) (depth : ℕ) (es : List (List ℕ × Data)) (before : List (List ℕ)) → Follows before (planned h p zero depth es)
+none_planned : (h : List ℕ → List ℕ) (p : HamtShape) (depth : ℕ) (es : List (List ℕ × Data)) (before : List (List ℕ)) → Follows before (planned h p zero depth es)
 unfolding planned
 none_planned h p depth es before = tt
 
-pub plan-follows : (h : List ℕ → List ℕ) (p : TrieShape) (left depth : ℕ) (es : List (List ℕ × Data)) (before : List (List ℕ)) → Follows before (planned h p left depth es)
+pub plan-follows : (h : List ℕ → List ℕ) (p : HamtShape) (left depth : ℕ) (es : List (List ℕ × Data)) (before : List (List ℕ)) → Follows before (planned h p left depth es)
 plan-follows h p zero depth es before = none_planned h p depth es before
 plan-follows h p (suc left) depth es before =
     subst (λ (bs : List (List ℕ)). Follows before bs) (sym (planned_is h p left depth es))

@@ -4,7 +4,8 @@ use Rattle.std.specs.Prelude.{IsUtf8}
 use Rattle.std.specs.List.{AllByRecursion}
 use Rattle.std.specs.Global.{Vec}
 use Rattle.ild_data.specs.Data.{Data}
-use Rattle.ild_data.specs.TrieShape.{TrieShape, index}
+use Rattle.ild_data.specs.declared.hamt_shape.HamtShape.{HamtShape}
+use Rattle.ild_data.specs.TrieShape.{index}
 use Rattle.ild_data.specs.Trie.{part, at_depth}
 use Rattle.ild_hamt_trie.proofs.Parts.{in_order-part}
 use Rattle.ild_typed.specs.Nested.{TreeIn}
@@ -14,7 +15,7 @@ use Rattle.ild_node.specs.declared.hashed.HashedEntry.{HashedEntry}
 use Rattle.ild_bulk.specs.Keyed.{HasParts, Parted, hashed_index, hashed_part}
 
 -- those of one index
-pub hashed-part : (h : List ℕ → List ℕ) (p : TrieShape) (depth : ℕ) (es : List (List ℕ × Data)) (ks : List HashedEntry) (i : ℕ) → AreHashed h es ks → AreHashed h (part (at_depth h p depth) es i) (hashed_part p depth ks i)
+pub hashed-part : (h : List ℕ → List ℕ) (p : HamtShape) (depth : ℕ) (es : List (List ℕ × Data)) (ks : List HashedEntry) (i : ℕ) → AreHashed h es ks → AreHashed h (part (at_depth h p depth) es i) (hashed_part p depth ks i)
 hashed-part h p depth [] [] i are = tt
 hashed-part h p depth [] (k ∷ ks) i are = absurd are
 hashed-part h p depth (e ∷ es) [] i are = absurd are
@@ -33,17 +34,17 @@ hashed_none h [] are = refl
 hashed_none h (e ∷ es) are = absurd are
 
 -- an index that no entry has
-pub no-part : (h : List ℕ → List ℕ) (p : TrieShape) (depth : ℕ) (es : List (List ℕ × Data)) (ks : List HashedEntry) (i : ℕ) → AreHashed h es ks → hashed_part p depth ks i ≡ [] → part (at_depth h p depth) es i ≡ []
+pub no-part : (h : List ℕ → List ℕ) (p : HamtShape) (depth : ℕ) (es : List (List ℕ × Data)) (ks : List HashedEntry) (i : ℕ) → AreHashed h es ks → hashed_part p depth ks i ≡ [] → part (at_depth h p depth) es i ≡ []
 no-part h p depth es ks i are none = hashed_none h (part (at_depth h p depth) es i) (subst (λ (js : List HashedEntry). AreHashed h (part (at_depth h p depth) es i) js) none (hashed-part h p depth es ks i are))
 
 -- the entries in a vector of their part
-pub hashed-in : (h : List ℕ → List ℕ) (p : TrieShape) (depth count : ℕ) (es : List (List ℕ × Data)) (ks : List HashedEntry) (parts : List (Vec HashedEntry)) (i : ℕ) (v : Vec HashedEntry) → AreHashed h es ks
+pub hashed-in : (h : List ℕ → List ℕ) (p : HamtShape) (depth count : ℕ) (es : List (List ℕ × Data)) (ks : List HashedEntry) (parts : List (Vec HashedEntry)) (i : ℕ) (v : Vec HashedEntry) → AreHashed h es ks
     → Parted (hashed_index p depth) count ks parts → i < count → v ≡ get_or parts i v → AreHashed h (part (at_depth h p depth) es i) v.items
 hashed-in h p depth count es ks parts i v are parted lt is =
     subst (λ (js : List HashedEntry). AreHashed h (part (at_depth h p depth) es i) js) (sym (ap (λ (w : Vec HashedEntry). w.items) is ∙ parted.each i v lt)) (hashed-part h p depth es ks i are)
 
 -- parts of pieces
-pub parted-has : (h : List ℕ → List ℕ) (p : TrieShape) (depth : ℕ) (es : List (List ℕ × Data)) (ks : List HashedEntry) (parts ps : List (Vec HashedEntry)) → AreHashed h es ks → Parted (hashed_index p depth) (2 ^ p.width) ks parts → ps ≡ parts
+pub parted-has : (h : List ℕ → List ℕ) (p : HamtShape) (depth : ℕ) (es : List (List ℕ × Data)) (ks : List HashedEntry) (parts ps : List (Vec HashedEntry)) → AreHashed h es ks → Parted (hashed_index p depth) (2 ^ p.width) ks parts → ps ≡ parts
     → HasParts h p depth es ps
 parted-has h p depth es ks parts ps are parted same = record { pieces = ks; are = are; parted = subst (λ (qs : List (Vec HashedEntry)). Parted (hashed_index p depth) (2 ^ p.width) ks qs) (sym same) parted }
 

@@ -4,10 +4,10 @@ use Rattle.std.specs.List.{AllByRecursion, range_with_len}
 use Rattle.std.proofs.lemmas.Bool.{leb-false}
 use Rattle.ild_data.specs.Data.{Data}
 use Rattle.ild_data.specs.Limits.{longest_block}
-use Rattle.ild_data.specs.TrieShape.{TrieShape, trie_levels}
+use Rattle.ild_data.specs.declared.hamt_shape.HamtShape.{HamtShape}
+use Rattle.ild_data.specs.TrieShape.{trie_levels}
 use Rattle.ild_data.specs.Trie.{part, node_of, at_depth}
 use Rattle.ild_data.specs.TrieBlocks.{block_of, none_or}
-use Rattle.ild_typed.specs.Composed.{usual}
 use Rattle.ild_typed.specs.Nested.{TreeIn, BlockIn, IsBlock}
 use Rattle.ild_typed.proofs.Treed.{EntryIn}
 use Rattle.ild_typed.proofs.TreeNodes.{node_of_in, part_in}
@@ -39,11 +39,11 @@ slot_in : (n : ℕ) (b : Bool) (below : List (List ℕ × Data) → Option Data)
 slot_in n true below beneath es first fits = tt
 slot_in n false below beneath es first fits = all_join (BlockIn n) (beneath es) (block_of (below es)) first (block_in n (below es) fits)
 
-none_in : (n : ℕ) (h : List ℕ → List ℕ) (p : TrieShape) (depth : ℕ) (es : List (List ℕ × Data)) → AllByRecursion (BlockIn n) (planned h p zero depth es)
+none_in : (n : ℕ) (h : List ℕ → List ℕ) (p : HamtShape) (depth : ℕ) (es : List (List ℕ × Data)) → AllByRecursion (BlockIn n) (planned h p zero depth es)
 unfolding planned
 none_in n h p depth es = tt
 
-planned_in : (n : ℕ) (h : List ℕ → List ℕ) (p : TrieShape) (left depth : ℕ) (es : List (List ℕ × Data)) → AllByRecursion (EntryIn n) es → AllByRecursion (BlockIn (n + 4)) (planned h p left depth es)
+planned_in : (n : ℕ) (h : List ℕ → List ℕ) (p : HamtShape) (left depth : ℕ) (es : List (List ℕ × Data)) → AllByRecursion (EntryIn n) es → AllByRecursion (BlockIn (n + 4)) (planned h p left depth es)
 planned_in n h p zero depth es all = none_in (n + 4) h p depth es
 planned_in n h p (suc left) depth es all =
     subst (λ (bs : List (List ℕ)). AllByRecursion (BlockIn (n + 4)) bs) (sym (planned_is h p left depth es))
@@ -53,8 +53,8 @@ planned_in n h p (suc left) depth es all =
     (planned_in n h p left (depth + 1) (part (at_depth h p depth) es i) here)
     (λ d is. node_of_in n h p left (depth + 1) (part (at_depth h p depth) es i) d here is)))
 
-pub plan-nests : (h : List ℕ → List ℕ) (left depth : ℕ) (es : List (List ℕ × Data)) → AreRows es → AllByRecursion (BlockIn 96) (planned h usual left depth es)
-plan-nests h left depth es rows = planned_in deepest_value h usual left depth es (entries_in es rows.1 rows.2)
+pub plan-nests : (p : HamtShape) (h : List ℕ → List ℕ) (left depth : ℕ) (es : List (List ℕ × Data)) → AreRows es → AllByRecursion (BlockIn 96) (planned h p left depth es)
+plan-nests p h left depth es rows = planned_in deepest_value h p left depth es (entries_in es rows.1 rows.2)
 
 short_one : (b : List ℕ) → BlockIn 96 b → is_long b ≡ false → IsBlock b
 short_one b nests short = record {
@@ -75,9 +75,9 @@ short_all (b ∷ bs) all short = let parts = neither (is_long b) (any_long bs) s
     neither true y e = absurd cc
     neither false y e = (refl, e)
 
-pub short-blocks : (h : List ℕ → List ℕ) (es : List (List ℕ × Data)) (root : List ℕ) → AreRows es → HasShortTrie h usual es root → AllByRecursion IsBlock (root ∷ plan_of h usual es)
-short-blocks h es root rows short =
-    let node : node_of h usual (trie_levels usual - 0) 0 es ≡ Some short.trie.node = sym (trie-rows h usual es rows) ∙ short.trie.is in
-    short_all (root ∷ plan_of h usual es)
-    (record { of = short.trie.node; is = short.trie.spelled; fits = node_of_in deepest_value h usual (trie_levels usual - 0) 0 es short.trie.node (entries_in es rows.1 rows.2) node }, plan-nests h (trie_levels usual) 0 es rows)
+pub short-blocks : (p : HamtShape) (h : List ℕ → List ℕ) (es : List (List ℕ × Data)) (root : List ℕ) → AreRows es → HasShortTrie h p es root → AllByRecursion IsBlock (root ∷ plan_of h p es)
+short-blocks p h es root rows short =
+    let node : node_of h p (trie_levels p - 0) 0 es ≡ Some short.trie.node = sym (trie-rows h p es rows) ∙ short.trie.is in
+    short_all (root ∷ plan_of h p es)
+    (record { of = short.trie.node; is = short.trie.spelled; fits = node_of_in deepest_value h p (trie_levels p - 0) 0 es short.trie.node (entries_in es rows.1 rows.2) node }, plan-nests p h (trie_levels p) 0 es rows)
     short.short

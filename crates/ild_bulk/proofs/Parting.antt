@@ -6,8 +6,8 @@ use Rattle.std.proofs.lemmas.List.Elements.{filter-append}
 use Rattle.std.proofs.lemmas.Bool.{cases_eq, eq-eqb, ne_eqb, cases_lt}
 use Rattle.ild_node.specs.declared.hashed.HashedEntry.{HashedEntry}
 use Rattle.ild_hamt_trie.proofs.Index.{index_below}
-use Rattle.ild_typed.specs.Composed.{usual}
 use Rattle.ild_bulk.specs.Keyed.{AreEmpty, Parted, hashed_index}
+use Rattle.ild_data.specs.declared.hamt_shape.HamtShape.{HamtShape}
 
 -- the vectors up to a place are empty
 pub record EmptiedTo (count i : ℕ) (parts : List (Vec HashedEntry)) : Type 0 where
@@ -64,11 +64,11 @@ Parted-more at n rows parts row i old w was lt here reads pushes = record {
 }
 
 -- the next entry
-pub parted-next : (depth : ℕ) (ks : List HashedEntry) (j : ℕ) (parts : List (Vec HashedEntry)) (d : HashedEntry) (i : ℕ) (old w : Vec HashedEntry) → Parted (hashed_index usual depth) (2 ^ usual.width) (take j ks) parts
-    → i ≡ hashed_index usual depth (get_or ks j d) → old ≡ get_or parts i old → w.items ≡ old.items ++ get_or ks j d ∷ [] → j < length ks → Parted (hashed_index usual depth) (2 ^ usual.width) (take (j + 1) ks) (set parts i w)
-parted-next depth ks j parts d i old w was here reads pushes within =
-    subst (λ (xs : List HashedEntry). Parted (hashed_index usual depth) (2 ^ usual.width) xs (set parts i w)) (sym (take_more ks j d within))
-    (Parted-more (hashed_index usual depth) (2 ^ usual.width) (take j ks) parts (get_or ks j d) i old w was (omega (arith, here, index_below usual (get_or ks j d).hash depth)) (sym here) reads pushes)
+pub parted-next : (p : HamtShape) (depth : ℕ) (ks : List HashedEntry) (j : ℕ) (parts : List (Vec HashedEntry)) (d : HashedEntry) (i : ℕ) (old w : Vec HashedEntry) → Parted (hashed_index p depth) (2 ^ p.width) (take j ks) parts
+    → i ≡ hashed_index p depth (get_or ks j d) → old ≡ get_or parts i old → w.items ≡ old.items ++ get_or ks j d ∷ [] → j < length ks → Parted (hashed_index p depth) (2 ^ p.width) (take (j + 1) ks) (set parts i w)
+parted-next p depth ks j parts d i old w was here reads pushes within =
+    subst (λ (xs : List HashedEntry). Parted (hashed_index p depth) (2 ^ p.width) xs (set parts i w)) (sym (take_more ks j d within))
+    (Parted-more (hashed_index p depth) (2 ^ p.width) (take j ks) parts (get_or ks j d) i old w was (omega (arith, here, index_below p (get_or ks j d).hash depth)) (sym here) reads pushes)
 
 -- ---- one index
 

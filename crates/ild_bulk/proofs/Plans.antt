@@ -3,7 +3,7 @@ use Rattle.std.proofs.Common.{◌≡◌, ℕ, zero, suc, ◌+◌, ◌^◌, Bool,
 use Rattle.std.specs.List.{range_with_len, list_all}
 use Rattle.std.proofs.lemmas.List.{length-append}
 use Rattle.ild_data.specs.Data.{Data}
-use Rattle.ild_data.specs.TrieShape.{TrieShape}
+use Rattle.ild_data.specs.declared.hamt_shape.HamtShape.{HamtShape}
 use Rattle.ild_data.specs.Trie.{part, at_depth, node_of}
 use Rattle.ild_data.specs.TrieBlocks.{block_of, none_or, node_and_beneath, nodes_beneath}
 use Rattle.ild_bulk.specs.Planned.{planned, slot_plan}
@@ -50,16 +50,16 @@ alike-slot : (b : Bool) (below : List (List ℕ × Data) → Option Data) (f g :
 alike-slot true below f g es each = record { many = refl; all = λ q. refl }
 alike-slot false below f g es each = alike-swap (f es) (block_of (below es)) (g es) each
 
-beneath_is : (h : List ℕ → List ℕ) (p : TrieShape) (left depth : ℕ) (es : List (List ℕ × Data))
+beneath_is : (h : List ℕ → List ℕ) (p : HamtShape) (left depth : ℕ) (es : List (List ℕ × Data))
     → nodes_beneath h p (suc left) depth es ≡ flat_map (λ i. node_and_beneath p.bucket (node_of h p left (depth + 1)) (nodes_beneath h p left (depth + 1)) (part (at_depth h p depth) es i)) (range_with_len 0 (2 ^ p.width))
 unfolding nodes_beneath
 beneath_is h p left depth es = refl
 
-none_left : (h : List ℕ → List ℕ) (p : TrieShape) (depth : ℕ) (es : List (List ℕ × Data)) → Alike (planned h p zero depth es) (nodes_beneath h p zero depth es)
+none_left : (h : List ℕ → List ℕ) (p : HamtShape) (depth : ℕ) (es : List (List ℕ × Data)) → Alike (planned h p zero depth es) (nodes_beneath h p zero depth es)
 unfolding planned nodes_beneath
 none_left h p depth es = record { many = refl; all = λ q. refl }
 
-alike-plan : (h : List ℕ → List ℕ) (p : TrieShape) (left depth : ℕ) (es : List (List ℕ × Data)) → Alike (planned h p left depth es) (nodes_beneath h p left depth es)
+alike-plan : (h : List ℕ → List ℕ) (p : HamtShape) (left depth : ℕ) (es : List (List ℕ × Data)) → Alike (planned h p left depth es) (nodes_beneath h p left depth es)
 alike-plan h p zero depth es = none_left h p depth es
 alike-plan h p (suc left) depth es =
     let each = alike-parts
@@ -73,5 +73,5 @@ alike-plan h p (suc left) depth es =
       all = λ q. ap (list_all q) (planned_is h p left depth es) ∙ each.all q ∙ ap (list_all q) (sym (beneath_is h p left depth es));
     }
 
-pub same-blocks : (h : List ℕ → List ℕ) (p : TrieShape) (left depth : ℕ) (es : List (List ℕ × Data)) → SameBlocks h p left depth es
+pub same-blocks : (h : List ℕ → List ℕ) (p : HamtShape) (left depth : ℕ) (es : List (List ℕ × Data)) → SameBlocks h p left depth es
 same-blocks h p left depth es = let a = alike-plan h p left depth es in record { many = a.many; all = a.all }

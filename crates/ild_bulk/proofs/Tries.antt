@@ -7,7 +7,8 @@ use Rattle.std.proofs.lemmas.Bool.{and_parts}
 use Rattle.std.proofs.lemmas.List.{take_more, take_all, map-append}
 use Rattle.ild_data.specs.Data.{Data}
 use Rattle.ild_data.specs.Spell.{spell}
-use Rattle.ild_data.specs.TrieShape.{TrieShape, trie_levels}
+use Rattle.ild_data.specs.declared.hamt_shape.HamtShape.{HamtShape}
+use Rattle.ild_data.specs.TrieShape.{trie_levels}
 use Rattle.ild_data.specs.ByteOrder.{bytewise, no_key_twice}
 use Rattle.ild_data.specs.Trie.{node_of, trie}
 use Rattle.ild_hamt_trie.proofs.Node.{trie-sorted}
@@ -37,23 +38,23 @@ once (e ∷ es) order =
     let parts = and_parts (below_all bytewise e.0 es) (is_sorted bytewise es) order in
     (λ i. not (is_some (no_find e.0 es parts.0 i)) && once es parts.1 i)
 
-pub trie-rows : (h : List ℕ → List ℕ) (p : TrieShape) (es : List (List ℕ × Data)) → AreRows es → trie h p es 0 ≡ node_of h p (trie_levels p - 0) 0 es
+pub trie-rows : (h : List ℕ → List ℕ) (p : HamtShape) (es : List (List ℕ × Data)) → AreRows es → trie h p es 0 ≡ node_of h p (trie_levels p - 0) 0 es
 trie-rows h p es rows = trie-sorted h p es 0 (once es (true_of _ rows.0)) ∙ ap (node_of h p (trie_levels p - 0) 0) (sorted_in_order es rows.0)
 
 node_in : (o : Option Data) (root : List ℕ) → Some root ≡ option_map spell o → (node : Data) × (o ≡ Some node) × (root ≡ spell node)
 node_in None root is = absurd cc
 node_in (Some node) root is = (node, refl, cc)
 
-pub has-trie : (h : List ℕ → List ℕ) (p : TrieShape) (es fs : List (List ℕ × Data)) (root : List ℕ) (old new : List (List ℕ)) → fs ≡ es → AreRows es → PlansNode h p (trie_levels p - 0) 0 fs (Ok root) old new → HasTrie h p es root
+pub has-trie : (h : List ℕ → List ℕ) (p : HamtShape) (es fs : List (List ℕ × Data)) (root : List ℕ) (old new : List (List ℕ)) → fs ≡ es → AreRows es → PlansNode h p (trie_levels p - 0) 0 fs (Ok root) old new → HasTrie h p es root
 has-trie h p es fs root old new same rows plans =
     let n = node_in (node_of h p (trie_levels p - 0) 0 fs) root plans.0 in
     record { node = n.0; is = trie-rows h p es rows ∙ ap (node_of h p (trie_levels p - 0) 0) (sym same) ∙ n.1; spelled = n.2 }
 
-pub no-trie : (h : List ℕ → List ℕ) (p : TrieShape) (es fs : List (List ℕ × Data)) → fs ≡ es → AreRows es → node_of h p (trie_levels p - 0) 0 fs ≡ None → trie h p es 0 ≡ None
+pub no-trie : (h : List ℕ → List ℕ) (p : HamtShape) (es fs : List (List ℕ × Data)) → fs ≡ es → AreRows es → node_of h p (trie_levels p - 0) 0 fs ≡ None → trie h p es 0 ≡ None
 no-trie h p es fs same rows none = trie-rows h p es rows ∙ ap (node_of h p (trie_levels p - 0) 0) (sym same) ∙ none
 
 -- a plan that ended with a fault
-pub plan-stopped : (h : List ℕ → List ℕ) (p : TrieShape) (es fs : List (List ℕ × Data)) (e : HamtFault) (old new : List (List ℕ)) (m : Moment) → fs ≡ es → AreRows es → PlansNode h p (trie_levels p - 0) 0 fs (Err e) old new
+pub plan-stopped : (h : List ℕ → List ℕ) (p : HamtShape) (es fs : List (List ℕ × Data)) (e : HamtFault) (old new : List (List ℕ)) (m : Moment) → fs ≡ es → AreRows es → PlansNode h p (trie_levels p - 0) 0 fs (Err e) old new
     → Builds h p es m (Err e) m
 plan-stopped h p es fs F.Exhausted old new m same rows plans = (no-trie h p es fs same rows plans, refl)
 plan-stopped h p es fs F.Memory old new m same rows plans = inl refl
@@ -63,7 +64,7 @@ plan-stopped h p es fs (F.Clash id kept other) old new m same rows plans = absur
 plan-stopped h p es fs F.Size old new m same rows plans = absurd plans
 plan-stopped h p es fs F.NoKey old new m same rows plans = absurd plans
 
-pub plan-is : (h : List ℕ → List ℕ) (p : TrieShape) (es fs : List (List ℕ × Data)) (root : List ℕ) (old new : List (List ℕ)) → fs ≡ es → old ≡ [] → PlansNode h p (trie_levels p - 0) 0 fs (Ok root) old new → new ≡ plan_of h p es
+pub plan-is : (h : List ℕ → List ℕ) (p : HamtShape) (es fs : List (List ℕ × Data)) (root : List ℕ) (old new : List (List ℕ)) → fs ≡ es → old ≡ [] → PlansNode h p (trie_levels p - 0) 0 fs (Ok root) old new → new ≡ plan_of h p es
 plan-is h p es fs root old new same none plans =
     let all : trie_levels p - 0 ≡ trie_levels p = omega arith in
     plans.1 ∙ (λ i. none i ++ planned h p (all i) 0 (same i))
@@ -117,7 +118,7 @@ keyed-more h rows i ks new k r was pushes row hash lt is = record {
 pub long-is : (root : List ℕ) (bs plan : List (List ℕ)) (a b : Bool) → a ≡ is_long root → b ≡ any_long bs → bs ≡ plan → any_long (root ∷ plan) ≡ (a || b)
 long-is root bs plan a b first rest same = sym (λ j. first j || (rest ∙ ap any_long same) j)
 
-pub stops-any : (h : List ℕ → List ℕ) (p : TrieShape) (es : List (List ℕ × Data)) (m : Moment) (e : HamtFault) (n : Moment) → Stops h p es m e n → Builds h p es m (Err e) n
+pub stops-any : (h : List ℕ → List ℕ) (p : HamtShape) (es : List (List ℕ × Data)) (m : Moment) (e : HamtFault) (n : Moment) → Stops h p es m e n → Builds h p es m (Err e) n
 stops-any h p es m F.Exhausted n s = absurd s.puts.answer
 stops-any h p es m (F.Block id why) n s = absurd s.puts.answer
 stops-any h p es m F.Store n s = s
@@ -126,7 +127,7 @@ stops-any h p es m F.Size n s = absurd s.puts.answer
 stops-any h p es m F.NoKey n s = absurd s.puts.answer
 stops-any h p es m F.Memory n s = inr s
 
-pub build-long : (h : List ℕ → List ℕ) (p : TrieShape) (es fs : List (List ℕ × Data)) (root : List ℕ) (old new bs : List (List ℕ)) (a b : Bool) → fs ≡ es → AreRows es → old ≡ []
+pub build-long : (h : List ℕ → List ℕ) (p : HamtShape) (es fs : List (List ℕ × Data)) (root : List ℕ) (old new bs : List (List ℕ)) (a b : Bool) → fs ≡ es → AreRows es → old ≡ []
     → PlansNode h p (trie_levels p - 0) 0 fs (Ok root) old new → bs ≡ new → a ≡ is_long root → b ≡ any_long bs → (a || b) ≡ true → HasLongTrie h p es
 build-long h p es fs root old new bs a b same rows none plans read first rest is = record {
   root = root;
@@ -134,14 +135,14 @@ build-long h p es fs root old new bs a b same rows none plans read first rest is
   long = long-is root bs (plan_of h p es) a b first rest (read ∙ plan-is h p es fs root old new same none plans) ∙ is;
 }
 
-pub build-short : (h : List ℕ → List ℕ) (p : TrieShape) (es fs : List (List ℕ × Data)) (root : List ℕ) (old new bs : List (List ℕ)) (a b : Bool) → fs ≡ es → AreRows es → old ≡ []
+pub build-short : (h : List ℕ → List ℕ) (p : HamtShape) (es fs : List (List ℕ × Data)) (root : List ℕ) (old new bs : List (List ℕ)) (a b : Bool) → fs ≡ es → AreRows es → old ≡ []
     → PlansNode h p (trie_levels p - 0) 0 fs (Ok root) old new → bs ≡ new → a ≡ is_long root → b ≡ any_long bs → (a || b) ≡ false → HasShortTrie h p es root
 build-short h p es fs root old new bs a b same rows none plans read first rest is = record {
   trie = has-trie h p es fs root old new same rows plans;
   short = long-is root bs (plan_of h p es) a b first rest (read ∙ plan-is h p es fs root old new same none plans) ∙ is;
 }
 
-pub puts-plan : (h : List ℕ → List ℕ) (p : TrieShape) (es fs : List (List ℕ × Data)) (root : List ℕ) (old new bs : List (List ℕ)) (m : Moment) (r : Result (Unit {0}) HamtFault) (n : Moment) → fs ≡ es → old ≡ []
+pub puts-plan : (h : List ℕ → List ℕ) (p : HamtShape) (es fs : List (List ℕ × Data)) (root : List ℕ) (old new bs : List (List ℕ)) (m : Moment) (r : Result (Unit {0}) HamtFault) (n : Moment) → fs ≡ es → old ≡ []
     → PlansNode h p (trie_levels p - 0) 0 fs (Ok root) old new → bs ≡ new → PutsAll m bs r n → PutsAll m (plan_of h p es) r n
 puts-plan h p es fs root old new bs m r n same none plans read puts =
     subst (λ (cs : List (List ℕ)). PutsAll m cs r n) (read ∙ plan-is h p es fs root old new same none plans) puts

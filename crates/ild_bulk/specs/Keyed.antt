@@ -5,7 +5,8 @@ use Rattle.std.specs.Global.{Vec}
 use Rattle.ild_data.specs.Data.{Data}
 use Rattle.ild_data.specs.Spell.{head, spell, spell_bytes}
 use Rattle.ild_data.specs.Trie.{at_depth, entry_data, part}
-use Rattle.ild_data.specs.TrieShape.{TrieShape, index}
+use Rattle.ild_data.specs.declared.hamt_shape.HamtShape.{HamtShape}
+use Rattle.ild_data.specs.TrieShape.{index}
 use Rattle.ild_node.specs.Hashed.{AreHashed}
 use Rattle.ild_node.specs.Keyed.{keyed_seen}
 use Rattle.ild_node.specs.declared.keyed.Keyed.{Keyed}
@@ -52,11 +53,11 @@ pub record HasEntries (h : List ℕ → List ℕ) (es : List (List ℕ × Data))
 
 -- ---- their parts by index
 
-abbrev pub hashed_index : TrieShape → ℕ → HashedEntry → ℕ
+abbrev pub hashed_index : HamtShape → ℕ → HashedEntry → ℕ
 hashed_index p depth k = index p k.hash depth
 
 -- the entries of one index, in their order
-abbrev pub hashed_part : TrieShape → ℕ → List HashedEntry → ℕ → List HashedEntry
+abbrev pub hashed_part : HamtShape → ℕ → List HashedEntry → ℕ → List HashedEntry
 hashed_part p depth ks i = filter (λ k. hashed_index p depth k == i) ks
 
 -- all stand in their parts
@@ -65,7 +66,7 @@ pub record Parted (at : HashedEntry → ℕ) (count : ℕ) (ks : List HashedEntr
   pub each : (i : ℕ) (z : Vec HashedEntry) → i < count → (slice_index_or parts i z).items ≡ filter (λ k. at k == i) ks
 
 -- the pieces of entries stand in their parts
-pub record HasParts (h : List ℕ → List ℕ) (p : TrieShape) (depth : ℕ) (es : List (List ℕ × Data)) (parts : List (Vec HashedEntry)) : Type 0 where
+pub record HasParts (h : List ℕ → List ℕ) (p : HamtShape) (depth : ℕ) (es : List (List ℕ × Data)) (parts : List (Vec HashedEntry)) : Type 0 where
   pub pieces : List HashedEntry
   pub are : AreHashed h es pieces
   pub parted : Parted (hashed_index p depth) (2 ^ p.width) pieces parts
@@ -78,7 +79,7 @@ pub record AreEmpty (count : ℕ) (parts : List (Vec HashedEntry)) : Type 0 wher
 -- ---- their marks by index
 
 -- the marks of the entries of each index stand in their part
-pub record HasMarks (h : List ℕ → List ℕ) (p : TrieShape) (depth : ℕ) (b : List ℕ) (es : List (List ℕ × Data)) (parts : List (Vec BorrowedMark)) : Type 0 where
+pub record HasMarks (h : List ℕ → List ℕ) (p : HamtShape) (depth : ℕ) (b : List ℕ) (es : List (List ℕ × Data)) (parts : List (Vec BorrowedMark)) : Type 0 where
   pub many : length parts ≡ 2 ^ p.width
   pub each : (i : ℕ) (z : Vec BorrowedMark) → i < 2 ^ p.width → AreMarked h b (part (at_depth h p depth) es i) (map mark_behind (slice_index_or parts i z).items)
 

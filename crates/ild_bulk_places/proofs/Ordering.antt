@@ -9,7 +9,7 @@ use Rattle.ild_data.specs.Data.{Data}
 use Rattle.ild_data.specs.Spell.{spell}
 use Rattle.ild_data.specs.Trie.{part, node_of, at_depth}
 use Rattle.ild_data.specs.TrieBlocks.{block_of, none_or}
-use Rattle.ild_data.specs.TrieShape.{TrieShape}
+use Rattle.ild_data.specs.declared.hamt_shape.HamtShape.{HamtShape}
 use Rattle.ild_typed.proofs.Rooms.{all_more}
 use Rattle.ild_typed.proofs.Treed.{all_append}
 use Rattle.ild_typed.proofs.TreeNodes.{part_in}
@@ -113,7 +113,7 @@ module _ (inner : List ℕ → Places) (home : Places) where
           there = subst (AreAmong (tops (joined here others))) (append_assoc before bs more) (both_tops ((before ++ bs) ++ more) here others (are_more (tops here) (before ++ bs) more x.there) y.there);
         }
 
-  module _ (h : List ℕ → List ℕ) (p : TrieShape) where
+  module _ (h : List ℕ → List ℕ) (p : HamtShape) where
     pub of_plan : (left depth : ℕ) (es : List (List ℕ × Data)) (before : List (List ℕ)) → Ready before es → Follow before (planned h p left depth es) (places_beneath inner h p left depth es)
     unfolding planned places_beneath
     of_plan zero depth es before ready = record { follows = λ lies. tt; there = are_more (tops (places_over (λ e. inner e.0) es)) before [] (over_tops before (λ e. inner e.0) es ready) }

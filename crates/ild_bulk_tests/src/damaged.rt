@@ -2,7 +2,7 @@
 use ild_bulk::from_entries;
 use ild_bulk_walker::{Walker, check_tree};
 use ild_cbor::{BlockWhy, Why, check};
-use ild_data::{BlockId, KeyHash, PadKeys, Sha256Keys, block_id};
+use ild_data::{BlockId, HamtShape, KeyHash, PadKeys, Sha256Keys, block_id};
 use ild_edges::MemStore;
 use ild_hamt_samples::{CHILD_OF_FOUR, push};
 use ild_node::{HamtFault, Rows, node_of};
@@ -42,7 +42,7 @@ fn refused<H: KeyHash>(
     keys: &H,
     store: &mut MemStore,
 ) -> Result<Option<(BlockId, BlockWhy)>, Fail> {
-    let view = node_of(check(root).ok().ok_or("a block")?)
+    let view = node_of(check(root).ok().ok_or("a block")?, HamtShape::usual())
         .ok()
         .ok_or("a node")?;
     Ok(match check_tree(alloc, view, block_id(root), keys, store) {
@@ -125,7 +125,7 @@ fn given(alloc: Global, root: &[u8], store: &mut MemStore) -> Result<Option<Rows
     let Ok(node) = check(root) else {
         return Ok(None);
     };
-    let Ok(view) = node_of(node) else {
+    let Ok(view) = node_of(node, HamtShape::usual()) else {
         return Ok(None);
     };
     let mut walker = Walker::new(alloc, view, block_id(root))?;
@@ -143,7 +143,7 @@ fn given(alloc: Global, root: &[u8], store: &mut MemStore) -> Result<Option<Rows
 /// Whether a walk is refused, or gives the entries of which the root is that of the HAMT.
 fn is_sound(alloc: Global, root: &[u8], store: &mut MemStore) -> Result<bool, Fail> {
     match given(alloc, root, store)? {
-        Some(rows) => match from_entries(alloc, &rows, &PadKeys, store) {
+        Some(rows) => match from_entries(alloc, HamtShape::usual(), &rows, &PadKeys, store) {
             Ok(again) => Ok(again.as_slice() == root),
             Err(_) => Ok(false),
         },

@@ -2,7 +2,7 @@
 use ild_bulk::from_entries;
 use ild_bulk_walker::{Row, Walker, walk};
 use ild_cbor::check;
-use ild_data::{PadKeys, Sha256Keys, block_id};
+use ild_data::{HamtShape, PadKeys, Sha256Keys, block_id};
 use ild_edges::MemStore;
 use ild_hamt_samples::{CHILD_OF_FOUR, ROOT_OF_FOUR, TWO_CHILDREN, built, pseudo_random};
 use ild_node::{HamtFault, node_of};
@@ -11,7 +11,7 @@ use std::test::Fail;
 
 /// How many entries a walk gives, and how often the store failed on the way.
 fn given_and_faults(alloc: Global, root: &[u8], store: &mut MemStore) -> Result<(u32, u32), Fail> {
-    let view = node_of(check(root).ok().ok_or("a block")?)
+    let view = node_of(check(root).ok().ok_or("a block")?, HamtShape::usual())
         .ok()
         .ok_or("a node")?;
     let mut walker = Walker::new(alloc, view, block_id(root))?;
@@ -32,7 +32,13 @@ fn given_and_faults(alloc: Global, root: &[u8], store: &mut MemStore) -> Result<
 fn each_get_fails_in_turn(rt: HostRuntime) -> Result<(), Fail> {
     for (k, faults) in [(1, 1), (2, 1), (3, 0)] {
         let mut store = MemStore::new(rt.alloc(), &[k], &[])?;
-        let root = built(rt.alloc(), &TWO_CHILDREN, &PadKeys, &mut store)?;
+        let root = built(
+            rt.alloc(),
+            HamtShape::usual(),
+            &TWO_CHILDREN,
+            &PadKeys,
+            &mut store,
+        )?;
         let ended = given_and_faults(rt.alloc(), root.as_slice(), &mut store)?;
         assert_eq!(rt; ended, (8, faults));
     }
@@ -42,9 +48,12 @@ fn each_get_fails_in_turn(rt: HostRuntime) -> Result<(), Fail> {
 #[test]
 fn a_child_comes_later(rt: HostRuntime) -> Result<(), Fail> {
     let mut store = MemStore::new(rt.alloc(), &[], &[])?;
-    let view = node_of(check(ROOT_OF_FOUR).ok().ok_or("a block")?)
-        .ok()
-        .ok_or("a node")?;
+    let view = node_of(
+        check(ROOT_OF_FOUR).ok().ok_or("a block")?,
+        HamtShape::usual(),
+    )
+    .ok()
+    .ok_or("a node")?;
     let mut walker = Walker::new(rt.alloc(), view, block_id(ROOT_OF_FOUR))?;
     assert_eq!(rt; walker.next(&PadKeys, &mut store).is_err(), true);
     assert_eq!(rt; walker.next(&PadKeys, &mut store).is_err(), true);
@@ -62,7 +71,7 @@ fn a_child_comes_later(rt: HostRuntime) -> Result<(), Fail> {
 
 /// The rows beneath a root under the sha2-256.
 fn listed(alloc: Global, root: &[u8], store: &mut MemStore) -> Result<Vec<Row>, Fail> {
-    let view = node_of(check(root).ok().ok_or("a block")?)
+    let view = node_of(check(root).ok().ok_or("a block")?, HamtShape::usual())
         .ok()
         .ok_or("a node")?;
     Ok(
@@ -83,7 +92,13 @@ fn in_the_order_of_keys(rt: HostRuntime) -> Result<(), Fail> {
         ("ba", 5),
         ("c", 6),
     ];
-    let root = built(rt.alloc(), &pairs, &Sha256Keys, &mut store)?;
+    let root = built(
+        rt.alloc(),
+        HamtShape::usual(),
+        &pairs,
+        &Sha256Keys,
+        &mut store,
+    )?;
     let rows = listed(rt.alloc(), root.as_slice(), &mut store)?;
     assert_eq!(rt; rows.len(), 6);
     for (row, key) in rows.iter().zip(["", "b", "c", "aa", "ba", "aaa"]) {
@@ -97,9 +112,15 @@ fn in_the_order_of_keys(rt: HostRuntime) -> Result<(), Fail> {
 fn many_rows(rt: HostRuntime) -> Result<(), Fail> {
     let mut store = MemStore::new(rt.alloc(), &[], &[])?;
     let rows = pseudo_random(rt.alloc(), 3000)?;
-    let root = from_entries(rt.alloc(), &rows, &Sha256Keys, &mut store)
-        .ok()
-        .ok_or("a root")?;
+    let root = from_entries(
+        rt.alloc(),
+        HamtShape::usual(),
+        &rows,
+        &Sha256Keys,
+        &mut store,
+    )
+    .ok()
+    .ok_or("a root")?;
     let listed = listed(rt.alloc(), root.as_slice(), &mut store)?;
     assert_eq!(rt; listed.len(), 3000);
     for (i, row) in listed.iter().enumerate() {

@@ -2,7 +2,7 @@
 use ild_bulk::from_entries;
 use ild_bulk_walker::{Walker, check_tree};
 use ild_cbor::{BlockWhy, Why, check};
-use ild_data::{KeyHash, PadKeys, Sha256Keys, block_id};
+use ild_data::{HamtShape, KeyHash, PadKeys, Sha256Keys, block_id};
 use ild_edges::MemStore;
 use ild_hamt_samples::{CHILD_OF_FOUR, FOUR, ROOT_OF_FOUR, TWO_CHILDREN, built, pseudo_random};
 use ild_node::{HamtFault, node_of};
@@ -17,7 +17,7 @@ fn counted<H: KeyHash>(
     store: &mut MemStore,
 ) -> Result<Result<u64, HamtFault>, Fail> {
     let node = check(root).ok().ok_or("a block")?;
-    let view = node_of(node).ok().ok_or("a node")?;
+    let view = node_of(node, HamtShape::usual()).ok().ok_or("a node")?;
     Ok(check_tree(alloc, view, block_id(root), keys, store))
 }
 
@@ -37,7 +37,7 @@ fn four_entries(rt: HostRuntime) -> Result<(), Fail> {
     let mut store = MemStore::new(rt.alloc(), &[], &[])?;
     store.add(CHILD_OF_FOUR)?;
     let node = check(ROOT_OF_FOUR).ok().ok_or("a block")?;
-    let view = node_of(node).ok().ok_or("a node")?;
+    let view = node_of(node, HamtShape::usual()).ok().ok_or("a node")?;
     let mut walker = Walker::new(rt.alloc(), view, block_id(ROOT_OF_FOUR))?;
     for n in 1..5u8 {
         assert_eq!(rt; next_of(&mut walker, &mut store)?, Some((n, n)));
@@ -49,13 +49,25 @@ fn four_entries(rt: HostRuntime) -> Result<(), Fail> {
 #[test]
 fn counts(rt: HostRuntime) -> Result<(), Fail> {
     let mut store = MemStore::new(rt.alloc(), &[], &[])?;
-    let root = built(rt.alloc(), &TWO_CHILDREN, &PadKeys, &mut store)?;
+    let root = built(
+        rt.alloc(),
+        HamtShape::usual(),
+        &TWO_CHILDREN,
+        &PadKeys,
+        &mut store,
+    )?;
     let count = counted(rt.alloc(), root.as_slice(), &PadKeys, &mut store)?;
     assert_eq!(rt; count.ok(), Some(8));
     let rows = pseudo_random(rt.alloc(), 1000)?;
-    let root = from_entries(rt.alloc(), &rows, &Sha256Keys, &mut store)
-        .ok()
-        .ok_or("a root")?;
+    let root = from_entries(
+        rt.alloc(),
+        HamtShape::usual(),
+        &rows,
+        &Sha256Keys,
+        &mut store,
+    )
+    .ok()
+    .ok_or("a root")?;
     let count = counted(rt.alloc(), root.as_slice(), &Sha256Keys, &mut store)?;
     assert_eq!(rt; count.ok(), Some(1000));
     Ok(())

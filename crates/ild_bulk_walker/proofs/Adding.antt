@@ -1,9 +1,10 @@
 -- The steps that are added while a node is told to be one.
-use Rattle.std.proofs.Common.{◌≡◌, ℕ, suc, ◌+◌, ◌-◌, ◌<◌, ◌≤◌, ◌&&◌, ◌==◌, Bool, true, false, List, [], ◌∷◌, ◌++◌, length, map, Option, Some, None, refl, sym, ap, ◌∙◌, subst, arith, append_assoc, append-nil, flat_map}
+use Rattle.std.proofs.Common.{◌≡◌, ℕ, suc, ◌+◌, ◌-◌, ◌<◌, ◌≤◌, ◌&&◌, ◌==◌, ◌/◌, ◌^◌, Bool, true, false, List, [], ◌∷◌, ◌++◌, length, map, Option, Some, None, refl, sym, ap, ◌∙◌, subst, arith, append_assoc, append-nil, flat_map}
 use Rattle.std.specs.Prelude.{IsUtf8, is_none, reverse}
 use Rattle.std.specs.Borrow.{Bor}
 use Rattle.std.specs.List.{AllByRecursion}
 use Rattle.std.proofs.lemmas.Bool.{false≢true, and_from, eq-eqb}
+use Rattle.ild_data.specs.declared.hamt_shape.HamtShape.{HamtShape}
 use Rattle.ild_data.specs.Data.{Data, bytes, list, Items, no_items, item, items_of as items_from, items_list}
 use Rattle.ild_data.specs.Trie.{TrieSlot, empty, bucket, child, is_used, map_of, elements_of, entry_data, node_data}
 use Rattle.ild_cbor.specs.Chain.{chain}
@@ -13,7 +14,6 @@ use Rattle.ild_cbor.specs.Scalar.{bytes_of}
 use Rattle.ild_cbor.specs.Steps.{HasItems, FindsItems, ItemsGive, items_of}
 use Rattle.ild_cbor.specs.declared.items.Items.{Items as ItemsLeft}
 use Rattle.ild_cbor.specs.declared.node.Node.{Node}
-use Rattle.ild_typed.specs.Composed.{usual}
 use Rattle.ild_typed.specs.Node.{IsSlot}
 use Rattle.ild_typed.specs.NodeReading.{entry_in, pair_in, rises, goes_on, are_entries, elements_fit, pair_fits, node_fits, map_bit, map_bits}
 use Rattle.ild_typed.proofs.NodeElements.{id-read}
@@ -22,7 +22,8 @@ use Rattle.ild_typed.proofs.NodeMaps.{bits-read}
 use Rattle.ild_node_slots.specs.Form.{IsNode}
 use Rattle.ild_node_slots.specs.Told.{EntryTold, EntryNext}
 use Rattle.ild_node_slots.proofs.Entries.{pair-found}
-use Rattle.ild_node_slots.proofs.Fits.{parts-of, not-listed, whole_map}
+use Rattle.ild_node_slots.proofs.Fits.{parts-of, not-listed}
+use Rattle.ild_node_slots.proofs.Shapes.{whole_map}
 use Rattle.ild_node_slots.proofs.Telling.{EntriesAhead, GivesEntry, entries-fall, entries-miss}
 use Rattle.ild_bulk_walker.proofs.Stepping.{steps-turned}
 use Rattle.ild_bulk_walker.specs.Steps.{step_todo, steps_todo}
@@ -120,83 +121,91 @@ entries-end s es ds last left index block old now l none = let many = l.many in 
 
 -- ---- all elements
 
-pub record ElementsRead (s : ItemsLeft) (ones : List ℕ) (i : ℕ) (block : List ℕ) (ds : Items) (old now : List Step) : Type 0 where
+pub record ElementsRead (p : HamtShape) (s : ItemsLeft) (ones : List ℕ) (i : ℕ) (block : List ℕ) (ds : Items) (old now : List Step) : Type 0 where
   pub more : Items
   pub left : HasItems s more
   pub here : s.block.now ≡ block
-  pub same : elements_fit usual.bucket (map_bits ones 0 256) ds ≡ elements_fit usual.bucket (map_bits ones i (256 - i)) more
-  pub todo_is : map step_todo now ++ elements_todo i (map_bits ones i (256 - i)) more ≡ map step_todo old ++ elements_todo 0 (map_bits ones 0 256) ds
+  pub same : elements_fit p.bucket (map_bits ones 0 (2 ^ p.width)) ds ≡ elements_fit p.bucket (map_bits ones i (2 ^ p.width - i)) more
+  pub todo_is : map step_todo now ++ elements_todo i (map_bits ones i (2 ^ p.width - i)) more ≡ map step_todo old ++ elements_todo 0 (map_bits ones 0 (2 ^ p.width)) ds
 
-pub elements-first : (s : ItemsLeft) (ones : List ℕ) (block : List ℕ) (ds : Items) (old : List Step) → HasItems s ds → s.block.now ≡ block → ElementsRead s ones 0 block ds old old
-elements-first s ones block ds old left here = record { more = ds; left = left; here = here; same = refl; todo_is = refl }
+pub elements-first : (p : HamtShape) (s : ItemsLeft) (ones : List ℕ) (block : List ℕ) (ds : Items) (old : List Step) → HasItems s ds → s.block.now ≡ block → ElementsRead p s ones 0 block ds old old
+elements-first p s ones block ds old left here =
+    let whole : 2 ^ p.width ≡ 2 ^ p.width - 0 = omega arith in
+    record {
+      more = ds;
+      left = left;
+      here = here;
+      same = ap (λ n. elements_fit p.bucket (map_bits ones 0 n) ds) whole;
+      todo_is = ap (λ n. map step_todo old ++ elements_todo 0 (map_bits ones 0 n) ds) (sym whole);
+    }
 
-bits-more : (ones : List ℕ) (i : ℕ) → i < 256 → map_bits ones i (256 - i) ≡ map_bit ones i ∷ map_bits ones (i + 1) (256 - (i + 1))
-bits-more ones i lt = let e : 256 - i ≡ suc (256 - (i + 1)) = omega arith in ap (map_bits ones i) e
+bits-more : (n : ℕ) (ones : List ℕ) (i : ℕ) → i < n → map_bits ones i (n - i) ≡ map_bit ones i ∷ map_bits ones (i + 1) (n - (i + 1))
+bits-more n ones i lt = let e : n - i ≡ suc (n - (i + 1)) = omega arith in ap (map_bits ones i) e
 
-bits-done : (ones : List ℕ) (i : ℕ) → 256 ≤ i → map_bits ones i (256 - i) ≡ []
-bits-done ones i le = let e : 256 - i ≡ 0 = omega arith in ap (map_bits ones i) e
+bits-done : (n : ℕ) (ones : List ℕ) (i : ℕ) → n ≤ i → map_bits ones i (n - i) ≡ []
+bits-done n ones i le = let e : n - i ≡ 0 = omega arith in ap (map_bits ones i) e
 
-record SlotOn (s : ItemsLeft) (b : Bool) (i : ℕ) (bits : List Bool) (block : List ℕ) (more : Items) (now : List Step) (t : ItemsLeft) (new : List Step) : Type 0 where
+record SlotOn (p : HamtShape) (s : ItemsLeft) (b : Bool) (i : ℕ) (bits : List Bool) (block : List ℕ) (more : Items) (now : List Step) (t : ItemsLeft) (new : List Step) : Type 0 where
   pub rest : Items
   pub left : HasItems t rest
   pub here : t.block.now ≡ block
-  pub same : elements_fit usual.bucket (b ∷ bits) more ≡ elements_fit usual.bucket bits rest
+  pub same : elements_fit p.bucket (b ∷ bits) more ≡ elements_fit p.bucket bits rest
   pub todo_is : map step_todo new ++ elements_todo (i + 1) bits rest ≡ map step_todo now ++ elements_todo i (b ∷ bits) more
 
-slot-on : (s t : ItemsLeft) (b : Bool) (i : ℕ) (bits : List Bool) (block : List ℕ) (more : Items) (now new : List Step) (r : Bool) → HasItems s more → s.block.now ≡ block → SlotAdds b i block more s now r t new → r ≡ true → SlotOn s b i bits block more now t new
-slot-on s t false i bits block more now new r has here adds said = record {
+slot-on : (p : HamtShape) (s t : ItemsLeft) (b : Bool) (i : ℕ) (bits : List Bool) (block : List ℕ) (more : Items) (now new : List Step) (r : Bool) → HasItems s more → s.block.now ≡ block → SlotAdds p b i block more s now r t new → r ≡ true → SlotOn p s b i bits block more now t new
+slot-on p s t false i bits block more now new r has here adds said = record {
   rest = more;
   left = subst (λ (x : ItemsLeft). HasItems x more) (sym adds.1) has;
   here = ap (λ (x : ItemsLeft). x.block.now) adds.1 ∙ here;
   same = refl;
   todo_is = ap (λ (xs : List Step). map step_todo xs ++ elements_todo (i + 1) bits more) adds.2;
 }
-slot-on s t true i bits block no_items now new r has here adds said = absurd (false≢true (sym adds ∙ said))
-slot-on s t true i bits block (item d more) now new r has here adds said =
+slot-on p s t true i bits block no_items now new r has here adds said = absurd (false≢true (sym adds ∙ said))
+slot-on p s t true i bits block (item d more) now new r has here adds said =
     let a = adds.added said in
     record {
       rest = more;
       left = a.left;
       here = a.here;
-      same = ap (λ c. c && elements_fit usual.bucket bits more) (sym adds.same ∙ said);
+      same = ap (λ c. c && elements_fit p.bucket bits more) (sym adds.same ∙ said);
       todo_is = ap (λ (ts : List Todo). ts ++ elements_todo (i + 1) bits more) a.todo_is ∙ append_assoc (map step_todo now) (element_todo i d) (elements_todo (i + 1) bits more);
     }
 
-pub elements-on : (s t : ItemsLeft) (ones : List ℕ) (i : ℕ) (block : List ℕ) (ds : Items) (old now new : List Step) (r : Bool) → ElementsRead s ones i block ds old now → i < 256
-    → ((more : Items) → HasItems s more → SlotAdds (map_bit ones i) i block more s now r t new) → r ≡ true → ElementsRead t ones (i + 1) block ds old new
-elements-on s t ones i block ds old now new r l lt adds said =
-    let bits = map_bits ones (i + 1) (256 - (i + 1)) in
-    let on = slot-on s t (map_bit ones i) i bits block l.more now new r l.left l.here (adds l.more l.left) said in
-    let cut = bits-more ones i lt in
+pub elements-on : (p : HamtShape) (s t : ItemsLeft) (ones : List ℕ) (i : ℕ) (block : List ℕ) (ds : Items) (old now new : List Step) (r : Bool) → ElementsRead p s ones i block ds old now → i < 2 ^ p.width
+    → ((more : Items) → HasItems s more → SlotAdds p (map_bit ones i) i block more s now r t new) → r ≡ true → ElementsRead p t ones (i + 1) block ds old new
+elements-on p s t ones i block ds old now new r l lt adds said =
+    let bits = map_bits ones (i + 1) (2 ^ p.width - (i + 1)) in
+    let on = slot-on p s t (map_bit ones i) i bits block l.more now new r l.left l.here (adds l.more l.left) said in
+    let cut = bits-more (2 ^ p.width) ones i lt in
     record {
       more = on.rest;
       left = on.left;
       here = on.here;
-      same = l.same ∙ ap (λ bs. elements_fit usual.bucket bs l.more) cut ∙ on.same;
+      same = l.same ∙ ap (λ bs. elements_fit p.bucket bs l.more) cut ∙ on.same;
       todo_is = on.todo_is ∙ ap (λ bs. map step_todo now ++ elements_todo i bs l.more) (sym cut) ∙ l.todo_is;
     }
 
-slot-off : (s t : ItemsLeft) (b : Bool) (i : ℕ) (bits : List Bool) (block : List ℕ) (more : Items) (now new : List Step) (r : Bool) → SlotAdds b i block more s now r t new → r ≡ false → elements_fit usual.bucket (b ∷ bits) more ≡ false
-slot-off s t false i bits block more now new r adds said = absurd (false≢true (sym said ∙ adds.0))
-slot-off s t true i bits block no_items now new r adds said = refl
-slot-off s t true i bits block (item d more) now new r adds said = ap (λ c. c && elements_fit usual.bucket bits more) (sym adds.same ∙ said)
+slot-off : (p : HamtShape) (s t : ItemsLeft) (b : Bool) (i : ℕ) (bits : List Bool) (block : List ℕ) (more : Items) (now new : List Step) (r : Bool) → SlotAdds p b i block more s now r t new → r ≡ false → elements_fit p.bucket (b ∷ bits) more ≡ false
+slot-off p s t false i bits block more now new r adds said = absurd (false≢true (sym said ∙ adds.0))
+slot-off p s t true i bits block no_items now new r adds said = refl
+slot-off p s t true i bits block (item d more) now new r adds said = ap (λ c. c && elements_fit p.bucket bits more) (sym adds.same ∙ said)
 
-pub elements-off : (s t : ItemsLeft) (ones : List ℕ) (i : ℕ) (block : List ℕ) (ds : Items) (old now new : List Step) (r : Bool) → ElementsRead s ones i block ds old now → i < 256
-    → ((more : Items) → HasItems s more → SlotAdds (map_bit ones i) i block more s now r t new) → r ≡ false → ReadsElements ones ds old false new
-elements-off s t ones i block ds old now new r l lt adds said =
-    let bits = map_bits ones (i + 1) (256 - (i + 1)) in
+pub elements-off : (p : HamtShape) (s t : ItemsLeft) (ones : List ℕ) (i : ℕ) (block : List ℕ) (ds : Items) (old now new : List Step) (r : Bool) → ElementsRead p s ones i block ds old now → i < 2 ^ p.width
+    → ((more : Items) → HasItems s more → SlotAdds p (map_bit ones i) i block more s now r t new) → r ≡ false → ReadsElements p ones ds old false new
+elements-off p s t ones i block ds old now new r l lt adds said =
+    let bits = map_bits ones (i + 1) (2 ^ p.width - (i + 1)) in
     record {
-      same = sym (l.same ∙ ap (λ bs. elements_fit usual.bucket bs l.more) (bits-more ones i lt) ∙ slot-off s t (map_bit ones i) i bits block l.more now new r (adds l.more l.left) said);
+      same = sym (l.same ∙ ap (λ bs. elements_fit p.bucket bs l.more) (bits-more (2 ^ p.width) ones i lt) ∙ slot-off p s t (map_bit ones i) i bits block l.more now new r (adds l.more l.left) said);
       added = λ yes. absurd (false≢true yes);
     }
 
-pub elements-end : (s t : ItemsLeft) (ones : List ℕ) (i : ℕ) (block : List ℕ) (ds : Items) (old now : List Step) (o : Option Node) (r : Bool) → ElementsRead s ones i block ds old now → 256 ≤ i → ItemsGive s o t → r ≡ is_none o → ReadsElements ones ds old r now
-elements-end s t ones i block ds old now o r l le gives is =
-    let cut = bits-done ones i le in
-    by l.more o l.left (l.same ∙ ap (λ bs. elements_fit usual.bucket bs l.more) cut) (ap (λ bs. map step_todo now ++ elements_todo i bs l.more) (sym cut) ∙ l.todo_is) gives is
+pub elements-end : (p : HamtShape) (s t : ItemsLeft) (ones : List ℕ) (i : ℕ) (block : List ℕ) (ds : Items) (old now : List Step) (o : Option Node) (r : Bool) → ElementsRead p s ones i block ds old now → 2 ^ p.width ≤ i → ItemsGive s o t → r ≡ is_none o → ReadsElements p ones ds old r now
+elements-end p s t ones i block ds old now o r l le gives is =
+    let cut = bits-done (2 ^ p.width) ones i le in
+    by l.more o l.left (l.same ∙ ap (λ bs. elements_fit p.bucket bs l.more) cut) (ap (λ bs. map step_todo now ++ elements_todo i bs l.more) (sym cut) ∙ l.todo_is) gives is
   where
-    by : (more : Items) (o : Option Node) → HasItems s more → elements_fit usual.bucket (map_bits ones 0 256) ds ≡ elements_fit usual.bucket [] more → map step_todo now ++ [] ≡ map step_todo old ++ elements_todo 0 (map_bits ones 0 256) ds
-        → ItemsGive s o t → r ≡ is_none o → ReadsElements ones ds old r now
+    by : (more : Items) (o : Option Node) → HasItems s more → elements_fit p.bucket (map_bits ones 0 (2 ^ p.width)) ds ≡ elements_fit p.bucket [] more → map step_todo now ++ [] ≡ map step_todo old ++ elements_todo 0 (map_bits ones 0 (2 ^ p.width)) ds
+        → ItemsGive s o t → r ≡ is_none o → ReadsElements p ones ds old r now
     by no_items None has same todo gives is = record { same = is ∙ sym same; added = λ yes. sym (append-nil (map step_todo now)) ∙ todo }
     by no_items (Some n) has same todo gives is = absurd (gives no_items has)
     by (item d more) None has same todo gives is = absurd (gives (item d more) has)
@@ -209,18 +218,18 @@ parts-in n t a b m it finds keys items =
     let p = parts-of n t a b m.now it (pair-found n t (Some (a, b)) finds) keys items in
     record { parts = p.parts; pair = p.pair; has = p.items.left; here = p.items.block_is ∙ p.elements.block_is }
 
-pub no-parts : (n : Node) (t : Data) (a b : Node) → FindsPair n t (Some (a, b)) → ((d : Data) → Stands b d → FindsItems b (items_of d) None) → node_fits usual t ≡ false
-no-parts n t a b finds items = not-listed usual n t a b None (λ v. Unit {0}) (pair-found n t (Some (a, b)) finds) items refl
+pub no-parts : (p : HamtShape) (n : Node) (t : Data) (a b : Node) → FindsPair n t (Some (a, b)) → ((d : Data) → Stands b d → FindsItems b (items_of d) None) → node_fits p t ≡ false
+no-parts p n t a b finds items = not-listed p n t a b None (λ v. Unit {0}) (pair-found n t (Some (a, b)) finds) items refl
 
 and-false : (b : Bool) → (b && false) ≡ false
 and-false true = refl
 and-false false = refl
 
-pub no-node : (t : Data) (ones : List ℕ) (parts : Items) (r : Bool) → pair_in t ≡ Some (bytes ones, list parts) → r ≡ elements_fit usual.bucket (map_bits ones 0 256) parts → r ≡ false → node_fits usual t ≡ false
-no-node t ones parts r pair is off = ap (pair_fits usual) pair ∙ ap (λ b. (length ones == 32) && b) (sym is ∙ off) ∙ and-false (length ones == 32)
+pub no-node : (p : HamtShape) (t : Data) (ones : List ℕ) (parts : Items) (r : Bool) → pair_in t ≡ Some (bytes ones, list parts) → r ≡ elements_fit p.bucket (map_bits ones 0 (2 ^ p.width)) parts → r ≡ false → node_fits p t ≡ false
+no-node p t ones parts r pair is off = ap (pair_fits p) pair ∙ ap (λ b. (length ones == 2 ^ p.width / 8) && b) (sym is ∙ off) ∙ and-false (length ones == 2 ^ p.width / 8)
 
-pub is-node : (t : Data) (ones : List ℕ) (parts : Items) (r : Bool) → pair_in t ≡ Some (bytes ones, list parts) → length ones ≡ 32 → r ≡ elements_fit usual.bucket (map_bits ones 0 256) parts → r ≡ true → node_fits usual t ≡ true
-is-node t ones parts r pair long is on = ap (pair_fits usual) pair ∙ and_from (length ones == 32) (elements_fit usual.bucket (map_bits ones 0 256) parts) (eq-eqb (length ones) 32 long) (sym is ∙ on)
+pub is-node : (p : HamtShape) (t : Data) (ones : List ℕ) (parts : Items) (r : Bool) → pair_in t ≡ Some (bytes ones, list parts) → length ones ≡ 2 ^ p.width / 8 → r ≡ elements_fit p.bucket (map_bits ones 0 (2 ^ p.width)) parts → r ≡ true → node_fits p t ≡ true
+is-node p t ones parts r pair long is on = ap (pair_fits p) pair ∙ and_from (length ones == 2 ^ p.width / 8) (elements_fit p.bucket (map_bits ones 0 (2 ^ p.width)) parts) (eq-eqb (length ones) (2 ^ p.width / 8) long) (sym is ∙ on)
 
 -- ---- the steps of slots
 
@@ -228,11 +237,11 @@ entries-are : (i : ℕ) (es : List (List ℕ × Data)) → AllByRecursion (λ (e
 entries-are i [] all = refl
 entries-are i (e ∷ es) all = ap (λ o. entry_todo i o (entries_todo i (items_from (map entry_data es)))) (entry-read e all.0) ∙ ap (λ ts. give e.0 e.1 i ∷ ts) (entries-are i es all.1)
 
-slots-are : (i : ℕ) (slots : List TrieSlot) → AllByRecursion (IsSlot usual) slots → elements_todo i (map is_used slots) (items_from (flat_map elements_of slots)) ≡ node_todo i slots
-slots-are i [] all = refl
-slots-are i (empty ∷ slots) all = slots-are (i + 1) slots all.1
-slots-are i (bucket es ∷ slots) all = let here = entries-are i es all.0.3 in let more = slots-are (i + 1) slots all.1 in (λ k. here k ++ more k)
-slots-are i (child id ∷ slots) all = let here = id-read id all.0.0 in let more = slots-are (i + 1) slots all.1 in (λ k. element_by i None (here k) ++ more k)
+slots-are : (p : HamtShape) (i : ℕ) (slots : List TrieSlot) → AllByRecursion (IsSlot p) slots → elements_todo i (map is_used slots) (items_from (flat_map elements_of slots)) ≡ node_todo i slots
+slots-are p i [] all = refl
+slots-are p i (empty ∷ slots) all = slots-are p (i + 1) slots all.1
+slots-are p i (bucket es ∷ slots) all = let here = entries-are i es all.0.3 in let more = slots-are p (i + 1) slots all.1 in (λ k. here k ++ more k)
+slots-are p i (child id ∷ slots) all = let here = id-read id all.0.0 in let more = slots-are p (i + 1) slots all.1 in (λ k. element_by i None (here k) ++ more k)
 
 same-pair : (m n : List ℕ) (ds es : Items) → ◌≡◌ {A = Option (Data × Data)} (Some (bytes m, list ds)) (Some (bytes n, list es)) → (m ≡ n) × (ds ≡ es)
 same-pair m n ds es is =
@@ -246,14 +255,14 @@ same-pair m n ds es is =
     same_items ds es is = cc
 
 -- the steps of what was read are those of the node's slots
-pub node-steps : (t : Data) (ones : List ℕ) (parts : Items) (slots : List TrieSlot) → pair_in t ≡ Some (bytes ones, list parts) → t ≡ node_data slots → IsNode usual slots → elements_todo 0 (map_bits ones 0 256) parts ≡ node_todo 0 slots
-node-steps t ones parts slots pair is form =
+pub node-steps : (p : HamtShape) (t : Data) (ones : List ℕ) (parts : Items) (slots : List TrieSlot) → pair_in t ≡ Some (bytes ones, list parts) → t ≡ node_data slots → IsNode p slots → elements_todo 0 (map_bits ones 0 (2 ^ p.width)) parts ≡ node_todo 0 slots
+node-steps p t ones parts slots pair is form =
     let same = same-pair ones (map_of slots) parts (items_from (flat_map elements_of slots)) (sym pair ∙ ap pair_in is) in
-    let bits : map_bits (map_of slots) 0 256 ≡ map is_used slots =
-    ap (map_bits (map_of slots) 0) (sym form.many) ∙ bits-read slots (whole_map usual.width (length slots) (omega arith) form.many) in
-    (λ k. elements_todo 0 (map_bits (same.0 k) 0 256) (same.1 k)) ∙ ap (λ bs. elements_todo 0 bs (items_from (flat_map elements_of slots))) bits ∙ slots-are 0 slots form.each
+    let bits : map_bits (map_of slots) 0 (2 ^ p.width) ≡ map is_used slots =
+    ap (map_bits (map_of slots) 0) (sym form.many) ∙ bits-read slots (whole_map p.width (length slots) p.wide form.many) in
+    (λ k. elements_todo 0 (map_bits (same.0 k) 0 (2 ^ p.width)) (same.1 k)) ∙ ap (λ bs. elements_todo 0 bs (items_from (flat_map elements_of slots))) bits ∙ slots-are p 0 slots form.each
 
-pub steps-done : (t : Data) (ones : List ℕ) (parts : Items) (slots : List TrieSlot) (old now new : List Step) → pair_in t ≡ Some (bytes ones, list parts) → old ≡ [] → map step_todo now ≡ map step_todo old ++ elements_todo 0 (map_bits ones 0 256) parts
-    → new ≡ reverse now → t ≡ node_data slots → IsNode usual slots → steps_todo new ≡ node_todo 0 slots
-steps-done t ones parts slots old now new pair none adds turned is form =
-    steps-turned now new turned ∙ adds ∙ ap (λ (xs : List Step). map step_todo xs ++ elements_todo 0 (map_bits ones 0 256) parts) none ∙ node-steps t ones parts slots pair is form
+pub steps-done : (p : HamtShape) (t : Data) (ones : List ℕ) (parts : Items) (slots : List TrieSlot) (old now new : List Step) → pair_in t ≡ Some (bytes ones, list parts) → old ≡ [] → map step_todo now ≡ map step_todo old ++ elements_todo 0 (map_bits ones 0 (2 ^ p.width)) parts
+    → new ≡ reverse now → t ≡ node_data slots → IsNode p slots → steps_todo new ≡ node_todo 0 slots
+steps-done p t ones parts slots old now new pair none adds turned is form =
+    steps-turned now new turned ∙ adds ∙ ap (λ (xs : List Step). map step_todo xs ++ elements_todo 0 (map_bits ones 0 (2 ^ p.width)) parts) none ∙ node-steps p t ones parts slots pair is form

@@ -1,6 +1,7 @@
 -- The gets of any number of calls.
 use Rattle.std.proofs.Common.{◌≡◌, ℕ, ◌+◌, ◌≤◌, List, [], ◌∷◌, Option, Some, sym, subst, refl, arith}
 use Rattle.std.specs.Prelude.{Result, IfErr}
+use Rattle.ild_data.specs.declared.hamt_shape.HamtShape.{HamtShape}
 use Rattle.ild_data.specs.Trie.{TrieSlot}
 use Rattle.ild_edges.specs.Store.{Moment}
 use Rattle.ild_edges.specs.Told.{IfTold}
@@ -12,24 +13,24 @@ use Rattle.ild_bulk_walker.specs.declared.row.Row.{Row}
 use Rattle.ild_bulk_walker.specs.declared.walker.Walker.{Walker}
 use Rattle.ild_bulk_walker.proofs.Resuming.{read-nothing, read-both}
 
-pub gets-what-it-enters : (h : List ℕ → List ℕ) (rs : List (Result (Option Row) HamtFault)) (m n : Moment) (v w : Walker) → Calls h rs m v w n → HasRead (λ blocks. Unit {0}) (fails_in rs) m v w n
-gets-what-it-enters h [] m n v w c =
-    subst (λ x. HasRead (λ blocks. Unit {0}) 0 m v x n) (sym c.0) (subst (λ k. HasRead (λ blocks. Unit {0}) 0 m v v k) (sym c.1) (read-nothing (λ blocks. Unit {0}) 0 m m v v (omega arith) (λ held k l. l) tt))
-gets-what-it-enters h (r ∷ rs) m n v w c =
+pub gets-what-it-enters : (p : HamtShape) (h : List ℕ → List ℕ) (rs : List (Result (Option Row) HamtFault)) (m n : Moment) (v w : Walker) → Calls h p rs m v w n → HasRead p (λ blocks. Unit {0}) (fails_in rs) m v w n
+gets-what-it-enters p h [] m n v w c =
+    subst (λ x. HasRead p (λ blocks. Unit {0}) 0 m v x n) (sym c.0) (subst (λ k. HasRead p (λ blocks. Unit {0}) 0 m v v k) (sym c.1) (read-nothing p (λ blocks. Unit {0}) 0 m m v v (omega arith) (λ held k l. l) tt))
+gets-what-it-enters p h (r ∷ rs) m n v w c =
     let u = c.0 in
     let k = c.1 in
     let first = c.2 in
-    read-both (λ blocks. IfErr r (λ e. KeepsWhere h blocks v u)) (λ blocks. Unit {0}) (λ blocks. Unit {0}) (fails_of r + fails_in rs) m k n v u w first.only.blocks (λ xs ys p q. tt) (fails_of r) (fails_in rs) refl first.read
-    (gets-what-it-enters h rs k n u w c.3)
+    read-both p (λ blocks. IfErr r (λ e. KeepsWhere h p blocks v u)) (λ blocks. Unit {0}) (λ blocks. Unit {0}) (fails_of r + fails_in rs) m k n v u w first.only.blocks (λ xs ys s q. tt) (fails_of r) (fails_in rs) refl first.read
+    (gets-what-it-enters p h rs k n u w c.3)
 
 told-are : (told : Option (List (List ℕ))) (held blocks : List (List ℕ)) → told ≡ Some held → IfTold told (λ held. HoldsAll held blocks) → HoldsAll held blocks
-told-are told held blocks is p = subst (λ o. IfTold o (λ held. HoldsAll held blocks)) is p
+told-are told held blocks is q = subst (λ o. IfTold o (λ held. HoldsAll held blocks)) is q
 
-pub gets-in-all : (h : List ℕ → List ℕ) (rs : List (Result (Option Row) HamtFault)) (m n : Moment) (v w : Walker) (slots : List TrieSlot) (held : List (List ℕ)) (many : ℕ)
-    → IsNewLeft slots v → Calls h rs m v w n → m.blocks ≡ Some held → NodesBeneath held slots many → n.gets ≤ m.gets + (many + fails_in rs)
-gets-in-all h rs m n v w slots held many new c told nodes =
-    let r = gets-what-it-enters h rs m n v w c in
-    let p = r.left held many (told-are m.blocks held r.blocks told r.held) (new held many nodes) in
+pub gets-in-all : (p : HamtShape) (h : List ℕ → List ℕ) (rs : List (Result (Option Row) HamtFault)) (m n : Moment) (v w : Walker) (slots : List TrieSlot) (held : List (List ℕ)) (many : ℕ)
+    → IsNewLeft p slots v → Calls h p rs m v w n → m.blocks ≡ Some held → NodesBeneath p held slots many → n.gets ≤ m.gets + (many + fails_in rs)
+gets-in-all p h rs m n v w slots held many new c told nodes =
+    let r = gets-what-it-enters p h rs m n v w c in
+    let q = r.left held many (told-are m.blocks held r.blocks told r.held) (new held many nodes) in
     let gets = r.gets in
-    let is = p.1 in
+    let is = q.1 in
     omega arith

@@ -6,13 +6,13 @@ use Rattle.std.specs.List.Sorted.{IsPermutation}
 use Rattle.std.proofs.lemmas.List.{length-append, map-append}
 use Rattle.std.proofs.lemmas.List.Elements.{All-nil, All-same, All-push}
 use Rattle.std.proofs.lemmas.List.Sorted.{All-permutation, IsPermutation-map}
+use Rattle.ild_data.specs.declared.hamt_shape.HamtShape.{HamtShape}
 use Rattle.ild_data.specs.Data.{Data}
 use Rattle.ild_data.specs.Spell.{spell}
 use Rattle.ild_data.specs.Trie.{TrieSlot}
 use Rattle.ild_data.specs.TrieShape.{trie_levels}
 use Rattle.ild_edges.specs.Store.{Moment}
 use Rattle.ild_edges.proofs.Later.{Later-refl, Later-trans}
-use Rattle.ild_typed.specs.Composed.{usual}
 use Rattle.ild_node_slots.specs.declared.fault.HamtFault.{HamtFault}
 use Rattle.ild_node_slots.specs.declared.fault.HamtFault.TheVariants as F
 use Rattle.ild_bulk_walker.specs.Ahead.{Ahead, BeginsWith, IsNew, IsNewOn, IsNewLeft, NextAnswer, Nexts}
@@ -27,15 +27,15 @@ use Rattle.ild_bulk_walker.proofs.Keeping.{broken-since}
 use Rattle.ild_bulk_walker.proofs.Listing.{rows-rise}
 use Rattle.ild_bulk_walker.proofs.Nexting.{rose-later, cause-later}
 
-from-root : (h : List ℕ → List ℕ) (slots : List TrieSlot) (m : Moment) (w : Walker) (held : List (List ℕ)) → IsNew slots w → (es : List (List ℕ × Data)) → RootGives h usual held (trie_levels usual - 1) slots es ↔ Behind h held [] w es
-from-root h slots m w held new es = (
+from-root : (p : HamtShape) (h : List ℕ → List ℕ) (slots : List TrieSlot) (m : Moment) (w : Walker) (held : List (List ℕ)) → IsNew p slots w → (es : List (List ℕ × Data)) → RootGives h p held (trie_levels p - 1) slots es ↔ Behind h p held [] w es
+from-root p h slots m w held new es = (
   λ r. record { rest = es; is = refl; ahead = (new h held es).1 r },
-  λ b. subst (λ xs. RootGives h usual held (trie_levels usual - 1) slots xs) (sym b.is) ((new h held b.rest).0 b.ahead),
+  λ b. subst (λ xs. RootGives h p held (trie_levels p - 1) slots xs) (sym b.is) ((new h held b.rest).0 b.ahead),
 )
 
-pub begun : (h : List ℕ → List ℕ) (slots : List TrieSlot) (at : List ℕ) (AreDone : List (List ℕ × Data) → Type 0) (m : Moment) (w : Walker) → AreDone [] → IsNew slots w → IsNewOn slots at w → IsNewLeft slots w → w.given ≡ 0 → HasWalked h slots at AreDone m w m
-begun h slots at AreDone m w are new on left none = record {
-  walked = λ held told. record { done = []; are = are; many = sym none; ahead = from-root h slots m w held new };
+pub begun : (p : HamtShape) (h : List ℕ → List ℕ) (slots : List TrieSlot) (at : List ℕ) (AreDone : List (List ℕ × Data) → Type 0) (m : Moment) (w : Walker) → AreDone [] → IsNew p slots w → IsNewOn p slots at w → IsNewLeft p slots w → w.given ≡ 0 → HasWalked h p slots at AreDone m w m
+begun p h slots at AreDone m w are new on left none = record {
+  walked = λ held told. record { done = []; are = are; many = sym none; ahead = from-root p h slots m w held new };
   on = on m.blocks;
   spent = λ held many told nodes. record { left = many; nodes = left held many nodes; gets = omega arith };
   later = Later-refl m;
@@ -45,9 +45,9 @@ begun h slots at AreDone m w are new on left none = record {
 }
 
 -- a row more
-walked-one : (h : List ℕ → List ℕ) (slots : List TrieSlot) (held : List (List ℕ)) (P Q : List (List ℕ × Data) → Type 0) (v w : Walker) (row : Row) (value : Data) → (es : List (List ℕ × Data)) → ((es : List (List ℕ × Data)) → Ahead h held v es ↔ BeginsWith h held row.key value w es)
-    → (b : Walked h held slots P v) → RootGives h usual held (trie_levels usual - 1) slots es ↔ Behind h held (b.done ++ (row.key, value) ∷ []) w es
-walked-one h slots held P Q v w row value es ahead b = (
+walked-one : (p : HamtShape) (h : List ℕ → List ℕ) (slots : List TrieSlot) (held : List (List ℕ)) (P Q : List (List ℕ × Data) → Type 0) (v w : Walker) (row : Row) (value : Data) → (es : List (List ℕ × Data)) → ((es : List (List ℕ × Data)) → Ahead h p held v es ↔ BeginsWith h p held row.key value w es)
+    → (b : Walked h p held slots P v) → RootGives h p held (trie_levels p - 1) slots es ↔ Behind h p held (b.done ++ (row.key, value) ∷ []) w es
+walked-one p h slots held P Q v w row value es ahead b = (
   λ r.
       let u = (b.ahead es).0 r in
       let f = (ahead u.rest).0 u.ahead in
@@ -60,9 +60,9 @@ walked-one h slots held P Q v w row value es ahead b = (
       }),
 )
 
-pub walked-more : (h : List ℕ → List ℕ) (slots : List TrieSlot) (at : List ℕ) (P Q : List (List ℕ × Data) → Type 0) (m n o : Moment) (v w : Walker) (row : Row) → ((done : List (List ℕ × Data)) (value : Data) → row.value ≡ spell value → P done → Q (done ++ (row.key, value) ∷ []))
-    → HasWalked h slots at P m v n → Nexts h n v (Ok (Some row)) w o → HasWalked h slots at Q m w o
-walked-more h slots at P Q m n o v w row more was next = record {
+pub walked-more : (p : HamtShape) (h : List ℕ → List ℕ) (slots : List TrieSlot) (at : List ℕ) (P Q : List (List ℕ × Data) → Type 0) (m n o : Moment) (v w : Walker) (row : Row) → ((done : List (List ℕ × Data)) (value : Data) → row.value ≡ spell value → P done → Q (done ++ (row.key, value) ∷ []))
+    → HasWalked h p slots at P m v n → Nexts h p n v (Ok (Some row)) w o → HasWalked h p slots at Q m w o
+walked-more p h slots at P Q m n o v w row more was next = record {
   walked = λ held told.
       let b = was.walked held told in
       let g = next.answer in
@@ -70,10 +70,10 @@ walked-more h slots at P Q m n o v w row more was next = record {
         done = b.done ++ (row.key, g.value) ∷ [];
         are = more b.done g.value g.spelled b.are;
         many = length-append b.done ((row.key, g.value) ∷ []) ∙ ap (λ k. k + 1) b.many ∙ sym next.counts.0;
-        ahead = λ es. walked-one h slots held P Q v w row g.value es (λ fs. g.ahead held fs (was.blocks ∙ told)) b;
+        ahead = λ es. walked-one p h slots held P Q v w row g.value es (λ fs. g.ahead held fs (was.blocks ∙ told)) b;
       };
-  on = subst (λ told. IsOn told slots at w) was.blocks (next.on slots at (subst (λ told. IsOn told slots at v) (sym was.blocks) was.on)).0;
-  spent = λ held many told nodes. let p = was.spent held many told nodes in let q = next.reads held (was.blocks ∙ told) p.left p.nodes in record { left = q.left; nodes = q.nodes; gets = let one = p.gets in let two = q.gets in omega arith };
+  on = subst (λ told. IsOn p told slots at w) was.blocks (next.on slots at (subst (λ told. IsOn p told slots at v) (sym was.blocks) was.on)).0;
+  spent = λ held many told nodes. let s = was.spent held many told nodes in let q = next.reads held (was.blocks ∙ told) s.left s.nodes in record { left = q.left; nodes = q.nodes; gets = let one = s.gets in let two = q.gets in omega arith };
   later = Later-trans m n o was.later next.only.later;
   blocks = next.only.blocks ∙ was.blocks;
   given = next.only.given ∙ was.given;
@@ -84,71 +84,71 @@ pub any-more : (row : Row) → (done : List (List ℕ × Data)) (value : Data) �
 any-more row done value spelled u = u
 
 -- what the gets were so far, and a call that ends the walk
-ended : (h : List ℕ → List ℕ) (slots : List TrieSlot) (at : List ℕ) (P : List (List ℕ × Data) → Type 0) (m n o : Moment) (v w : Walker) (r : Result (Option Row) HamtFault) → HasWalked h slots at P m v n → Nexts h n v r w o → ReadsTree slots m o
-ended h slots at P m n o v w r was next = record {
+ended : (p : HamtShape) (h : List ℕ → List ℕ) (slots : List TrieSlot) (at : List ℕ) (P : List (List ℕ × Data) → Type 0) (m n o : Moment) (v w : Walker) (r : Result (Option Row) HamtFault) → HasWalked h p slots at P m v n → Nexts h p n v r w o → ReadsTree p slots m o
+ended p h slots at P m n o v w r was next = record {
   later = Later-trans m n o was.later next.only.later;
   blocks = next.only.blocks ∙ was.blocks;
   given = next.only.given ∙ was.given;
   puts = next.only.puts ∙ was.puts;
-  gets = λ held many told nodes. let p = was.spent held many told nodes in let one = p.gets in let two = by r (next.reads held (was.blocks ∙ told)) p.left p.nodes in omega arith;
+  gets = λ held many told nodes. let y = was.spent held many told nodes in let one = y.gets in let two = by r (next.reads held (was.blocks ∙ told)) y.left y.nodes in omega arith;
 }
   where
-    by : {held : List (List ℕ)} (r : Result (Option Row) HamtFault) → Spends held n.gets o.gets v r w → (k : ℕ) → LeftNodes held v k → o.gets ≤ n.gets + k
+    by : {held : List (List ℕ)} (r : Result (Option Row) HamtFault) → Spends p held n.gets o.gets v r w → (k : ℕ) → LeftNodes p held v k → o.gets ≤ n.gets + k
     by (Ok x) s = λ k l. let q = s k l in let gets = q.gets in omega arith
     by (Err e) s = s
 
-pub still-reads : (h : List ℕ → List ℕ) (slots : List TrieSlot) (at : List ℕ) (P : List (List ℕ × Data) → Type 0) (m n : Moment) (w : Walker) → HasWalked h slots at P m w n → ReadsTree slots m n
-still-reads h slots at P m n w was = record {
+pub still-reads : (p : HamtShape) (h : List ℕ → List ℕ) (slots : List TrieSlot) (at : List ℕ) (P : List (List ℕ × Data) → Type 0) (m n : Moment) (w : Walker) → HasWalked h p slots at P m w n → ReadsTree p slots m n
+still-reads p h slots at P m n w was = record {
   later = was.later;
   blocks = was.blocks;
   given = was.given;
   puts = was.puts;
-  gets = λ held many told nodes. let p = was.spent held many told nodes in let one = p.gets in omega arith;
+  gets = λ held many told nodes. let q = was.spent held many told nodes in let one = q.gets in omega arith;
 }
 
-pub no-reads : (slots : List TrieSlot) (m : Moment) → ReadsTree slots m m
-no-reads slots m = record { later = Later-refl m; blocks = refl; given = refl; puts = refl; gets = λ held many told nodes. omega arith }
+pub no-reads : (p : HamtShape) (slots : List TrieSlot) (m : Moment) → ReadsTree p slots m m
+no-reads p slots m = record { later = Later-refl m; blocks = refl; given = refl; puts = refl; gets = λ held many told nodes. omega arith }
 
 -- all entries were given
-all-given : (h : List ℕ → List ℕ) (slots : List TrieSlot) (at : List ℕ) (P : List (List ℕ × Data) → Type 0) (m n o : Moment) (v w : Walker) (held : List (List ℕ)) → HasWalked h slots at P m v n → Nexts h n v (Ok None) w o → m.blocks ≡ Some held → (b : Walked h held slots P v)
-    → RootGives h usual held (trie_levels usual - 1) slots b.done
-all-given h slots at P m n o v w held was next told b = (b.ahead b.done).1 (record { rest = []; is = sym (append-nil b.done); ahead = (next.answer held [] (was.blocks ∙ told)).1 refl })
+all-given : (p : HamtShape) (h : List ℕ → List ℕ) (slots : List TrieSlot) (at : List ℕ) (P : List (List ℕ × Data) → Type 0) (m n o : Moment) (v w : Walker) (held : List (List ℕ)) → HasWalked h p slots at P m v n → Nexts h p n v (Ok None) w o → m.blocks ≡ Some held → (b : Walked h p held slots P v)
+    → RootGives h p held (trie_levels p - 1) slots b.done
+all-given p h slots at P m n o v w held was next told b = (b.ahead b.done).1 (record { rest = []; is = sym (append-nil b.done); ahead = (next.answer held [] (was.blocks ∙ told)).1 refl })
 
-pub walked-end : (h : List ℕ → List ℕ) (slots : List TrieSlot) (at : List ℕ) (m n o : Moment) (v w : Walker) (count : ℕ) → HasWalked h slots at (λ done. Unit {0}) m v n → Nexts h n v (Ok None) w o → w.given ≡ count → Checks h slots at m (Ok count) o
-walked-end h slots at m n o v w count was next is = record {
+pub walked-end : (p : HamtShape) (h : List ℕ → List ℕ) (slots : List TrieSlot) (at : List ℕ) (m n o : Moment) (v w : Walker) (count : ℕ) → HasWalked h p slots at (λ done. Unit {0}) m v n → Nexts h p n v (Ok None) w o → w.given ≡ count → Checks h p slots at m (Ok count) o
+walked-end p h slots at m n o v w count was next is = record {
   answer = λ held told.
       let b = was.walked held told in
-      record { entries = b.done; many = b.many ∙ sym next.counts ∙ is; gives = all-given h slots at (λ done. Unit {0}) m n o v w held was next told b };
+      record { entries = b.done; many = b.many ∙ sym next.counts ∙ is; gives = all-given p h slots at (λ done. Unit {0}) m n o v w held was next told b };
   broken = tt;
-  reads = ended h slots at (λ done. Unit {0}) m n o v w (Ok None) was next;
+  reads = ended p h slots at (λ done. Unit {0}) m n o v w (Ok None) was next;
 }
 
-pub stopped : (h : List ℕ → List ℕ) (slots : List TrieSlot) (at : List ℕ) (P : List (List ℕ × Data) → Type 0) (m n o : Moment) (v w : Walker) (e : HamtFault) → HasWalked h slots at P m v n → Nexts h n v (Err e) w o → StopsWith h slots m e o
-stopped h slots at P m n o v w e was next = by e next.answer
+pub stopped : (p : HamtShape) (h : List ℕ → List ℕ) (slots : List TrieSlot) (at : List ℕ) (P : List (List ℕ × Data) → Type 0) (m n o : Moment) (v w : Walker) (e : HamtFault) → HasWalked h p slots at P m v n → Nexts h p n v (Err e) w o → StopsWith h p slots m e o
+stopped p h slots at P m n o v w e was next = by e next.answer
   where
-    none : ((held : List (List ℕ)) (es : List (List ℕ × Data)) → n.blocks ≡ Some held → Ahead h held v es → ⊥) → GivesNone h slots m
+    none : ((held : List (List ℕ)) (es : List (List ℕ × Data)) → n.blocks ≡ Some held → Ahead h p held v es → ⊥) → GivesNone h p slots m
     none no_more held es told r = let u = ((was.walked held told).ahead es).0 r in no_more held u.rest (was.blocks ∙ told) u.ahead
 
-    by : (e : HamtFault) → NextAnswer h n v (Err e) w o → StopsWith h slots m e o
-    by F.Store p = rose-later m.faults n.faults o.faults was.later.faults p.0
-    by F.Memory p = tt
-    by (F.Block id why) p = (cause-later m n o (F.Block id why) was.later was.blocks p.0, none p.1)
-    by F.Exhausted p = absurd p.0
-    by (F.Clash id kept new) p = absurd p.0
-    by F.Size p = absurd p.0
-    by F.NoKey p = absurd p.0
+    by : (e : HamtFault) → NextAnswer h p n v (Err e) w o → StopsWith h p slots m e o
+    by F.Store q = rose-later m.faults n.faults o.faults was.later.faults q.0
+    by F.Memory q = tt
+    by (F.Block id why) q = (cause-later p m n o (F.Block id why) was.later was.blocks q.0, none q.1)
+    by F.Exhausted q = absurd q.0
+    by (F.Clash id kept new) q = absurd q.0
+    by F.Size q = absurd q.0
+    by F.NoKey q = absurd q.0
 
-pub stopped-broken : (h : List ℕ → List ℕ) (slots : List TrieSlot) (at : List ℕ) (P : List (List ℕ × Data) → Type 0) (m n o : Moment) (v w : Walker) (e : HamtFault) → HasWalked h slots at P m v n → Nexts h n v (Err e) w o → IsBroken h m.blocks slots at m.lacks o.lacks e
-stopped-broken h slots at P m n o v w e was next =
-    let p = next.on slots at (subst (λ told. IsOn told slots at v) (sym was.blocks) was.on) in
-    broken-since h m.blocks slots at m.lacks n.lacks o.lacks e was.later.lacks (subst (λ told. IsBroken h told slots at n.lacks o.lacks e) was.blocks p.1)
+pub stopped-broken : (p : HamtShape) (h : List ℕ → List ℕ) (slots : List TrieSlot) (at : List ℕ) (P : List (List ℕ × Data) → Type 0) (m n o : Moment) (v w : Walker) (e : HamtFault) → HasWalked h p slots at P m v n → Nexts h p n v (Err e) w o → IsBroken h p m.blocks slots at m.lacks o.lacks e
+stopped-broken p h slots at P m n o v w e was next =
+    let q = next.on slots at (subst (λ told. IsOn p told slots at v) (sym was.blocks) was.on) in
+    broken-since p h m.blocks slots at m.lacks n.lacks o.lacks e was.later.lacks (subst (λ told. IsBroken h p told slots at n.lacks o.lacks e) was.blocks q.1)
 
-pub walked-stop : (h : List ℕ → List ℕ) (slots : List TrieSlot) (at : List ℕ) (P : List (List ℕ × Data) → Type 0) (m n o : Moment) (v w : Walker) (e : HamtFault) → HasWalked h slots at P m v n → Nexts h n v (Err e) w o → Checks h slots at m (Err e) o
-walked-stop h slots at P m n o v w e was next =
-    record { answer = stopped h slots at P m n o v w e was next; broken = stopped-broken h slots at P m n o v w e was next; reads = ended h slots at P m n o v w (Err e) was next }
+pub walked-stop : (p : HamtShape) (h : List ℕ → List ℕ) (slots : List TrieSlot) (at : List ℕ) (P : List (List ℕ × Data) → Type 0) (m n o : Moment) (v w : Walker) (e : HamtFault) → HasWalked h p slots at P m v n → Nexts h p n v (Err e) w o → Checks h p slots at m (Err e) o
+walked-stop p h slots at P m n o v w e was next =
+    record { answer = stopped p h slots at P m n o v w e was next; broken = stopped-broken p h slots at P m n o v w e was next; reads = ended p h slots at P m n o v w (Err e) was next }
 
-pub check-memory : (h : List ℕ → List ℕ) (slots : List TrieSlot) (at : List ℕ) (m : Moment) → Checks h slots at m (Err F.Memory) m
-check-memory h slots at m = record { answer = tt; broken = tt; reads = no-reads slots m }
+pub check-memory : (p : HamtShape) (h : List ℕ → List ℕ) (slots : List TrieSlot) (at : List ℕ) (m : Moment) → Checks h p slots at m (Err F.Memory) m
+check-memory p h slots at m = record { answer = tt; broken = tt; reads = no-reads p slots m }
 
 pub none-of : (o : Option Row) → ((row : Row) → o ≡ Some row → ⊥) → o ≡ None
 none-of None other = refl
@@ -156,45 +156,45 @@ none-of (Some row) other = absurd (other row refl)
 
 -- ---- listing
 
-pub listed-none : (h : List ℕ → List ℕ) (slots : List TrieSlot) (at : List ℕ) (m : Moment) (w : Walker) → IsNew slots w → IsNewOn slots at w → IsNewLeft slots w → w.given ≡ 0 → HasListed h slots at [] m w m
-listed-none h slots at m w new on left none = record { walk = begun h slots at (λ done. map spelled_pair done ≡ map row_pair []) m w refl new on left none; stand = All-nil (StandsThere m.blocks slots at) }
+pub listed-none : (p : HamtShape) (h : List ℕ → List ℕ) (slots : List TrieSlot) (at : List ℕ) (m : Moment) (w : Walker) → IsNew p slots w → IsNewOn p slots at w → IsNewLeft p slots w → w.given ≡ 0 → HasListed h p slots at [] m w m
+listed-none p h slots at m w new on left none = record { walk = begun p h slots at (λ done. map spelled_pair done ≡ map row_pair []) m w refl new on left none; stand = All-nil (StandsThere p m.blocks slots at) }
 
-pub listed-more : (h : List ℕ → List ℕ) (slots : List TrieSlot) (at : List ℕ) (rows more : List Row) (m n o : Moment) (v w : Walker) (row : Row) → more ≡ rows ++ row ∷ [] → HasListed h slots at rows m v n → Nexts h n v (Ok (Some row)) w o → HasListed h slots at more m w o
-listed-more h slots at rows more m n o v w row is was next = record {
-  walk = walked-more h slots at (λ done. map spelled_pair done ≡ map row_pair rows) (λ done. map spelled_pair done ≡ map row_pair more) m n o v w row pairs was.walk next;
-  stand = All-same (StandsThere m.blocks slots at) more (rows ++ row ∷ []) is
-      (All-push (StandsThere m.blocks slots at) rows row was.stand (subst (λ told. StandsThere told slots at row) was.walk.blocks (next.row slots at (subst (λ told. IsOn told slots at v) (sym was.walk.blocks) was.walk.on))));
+pub listed-more : (p : HamtShape) (h : List ℕ → List ℕ) (slots : List TrieSlot) (at : List ℕ) (rows more : List Row) (m n o : Moment) (v w : Walker) (row : Row) → more ≡ rows ++ row ∷ [] → HasListed h p slots at rows m v n → Nexts h p n v (Ok (Some row)) w o → HasListed h p slots at more m w o
+listed-more p h slots at rows more m n o v w row is was next = record {
+  walk = walked-more p h slots at (λ done. map spelled_pair done ≡ map row_pair rows) (λ done. map spelled_pair done ≡ map row_pair more) m n o v w row pairs was.walk next;
+  stand = All-same (StandsThere p m.blocks slots at) more (rows ++ row ∷ []) is
+      (All-push (StandsThere p m.blocks slots at) rows row was.stand (subst (λ told. StandsThere p told slots at row) was.walk.blocks (next.row slots at (subst (λ told. IsOn p told slots at v) (sym was.walk.blocks) was.walk.on))));
 }
   where
     pairs : (done : List (List ℕ × Data)) (value : Data) → row.value ≡ spell value → map spelled_pair done ≡ map row_pair rows → map spelled_pair (done ++ (row.key, value) ∷ []) ≡ map row_pair more
     pairs done value spelled same =
         map-append spelled_pair done ((row.key, value) ∷ []) ∙ ap (λ xs. xs ++ (row.key, spell value) ∷ []) same ∙ ap (λ x. map row_pair rows ++ (row.key, x) ∷ []) (sym spelled) ∙ sym (map-append row_pair rows (row ∷ [])) ∙ ap (map row_pair) (sym is)
 
-pub listed-end : (h : List ℕ → List ℕ) (slots : List TrieSlot) (at : List ℕ) (rows : List Row) (m n o : Moment) (v w : Walker) (sorted : Vec Row) → IsNode usual slots → HasListed h slots at rows m v n → Nexts h n v (Ok None) w o → IsPermutation rows sorted.items → InKeyOrder sorted.items → Walks h slots at m (Ok sorted) o
-listed-end h slots at rows m n o v w sorted form was next same order = record {
+pub listed-end : (p : HamtShape) (h : List ℕ → List ℕ) (slots : List TrieSlot) (at : List ℕ) (rows : List Row) (m n o : Moment) (v w : Walker) (sorted : Vec Row) → IsNode p slots → HasListed h p slots at rows m v n → Nexts h p n v (Ok None) w o → IsPermutation rows sorted.items → InKeyOrder sorted.items → Walks h p slots at m (Ok sorted) o
+listed-end p h slots at rows m n o v w sorted form was next same order = record {
   answer = λ held told.
       let b = was.walk.walked held told in
-      let gives = all-given h slots at (λ done. map spelled_pair done ≡ map row_pair rows) m n o v w held was.walk next told b in
+      let gives = all-given p h slots at (λ done. map spelled_pair done ≡ map row_pair rows) m n o v w held was.walk next told b in
       let moved : IsPermutation (map spelled_pair b.done) (map row_pair sorted.items) = subst (λ xs. IsPermutation xs (map row_pair sorted.items)) (sym b.are) (IsPermutation-map row_pair rows sorted.items same) in
-      record { entries = b.done; gives = gives; same = moved; rise = rows-rise h held slots b.done sorted.items form gives moved order };
+      record { entries = b.done; gives = gives; same = moved; rise = rows-rise p h held slots b.done sorted.items form gives moved order };
   order = order;
-  stand = All-permutation (StandsThere m.blocks slots at) rows sorted.items same was.stand;
+  stand = All-permutation (StandsThere p m.blocks slots at) rows sorted.items same was.stand;
   broken = tt;
-  reads = ended h slots at (λ done. map spelled_pair done ≡ map row_pair rows) m n o v w (Ok None) was.walk next;
+  reads = ended p h slots at (λ done. map spelled_pair done ≡ map row_pair rows) m n o v w (Ok None) was.walk next;
 }
 
-pub listed-stop : (h : List ℕ → List ℕ) (slots : List TrieSlot) (at : List ℕ) (rows : List Row) (m n o : Moment) (v w : Walker) (e : HamtFault) → HasListed h slots at rows m v n → Nexts h n v (Err e) w o → Walks h slots at m (Err e) o
-listed-stop h slots at rows m n o v w e was next = record {
-  answer = stopped h slots at (λ done. map spelled_pair done ≡ map row_pair rows) m n o v w e was.walk next;
+pub listed-stop : (p : HamtShape) (h : List ℕ → List ℕ) (slots : List TrieSlot) (at : List ℕ) (rows : List Row) (m n o : Moment) (v w : Walker) (e : HamtFault) → HasListed h p slots at rows m v n → Nexts h p n v (Err e) w o → Walks h p slots at m (Err e) o
+listed-stop p h slots at rows m n o v w e was next = record {
+  answer = stopped p h slots at (λ done. map spelled_pair done ≡ map row_pair rows) m n o v w e was.walk next;
   order = tt;
   stand = tt;
-  broken = stopped-broken h slots at (λ done. map spelled_pair done ≡ map row_pair rows) m n o v w e was.walk next;
-  reads = ended h slots at (λ done. map spelled_pair done ≡ map row_pair rows) m n o v w (Err e) was.walk next;
+  broken = stopped-broken p h slots at (λ done. map spelled_pair done ≡ map row_pair rows) m n o v w e was.walk next;
+  reads = ended p h slots at (λ done. map spelled_pair done ≡ map row_pair rows) m n o v w (Err e) was.walk next;
 }
 
-pub walk-memory : (h : List ℕ → List ℕ) (slots : List TrieSlot) (at : List ℕ) (m n : Moment) → ReadsTree slots m n → Walks h slots at m (Err F.Memory) n
-walk-memory h slots at m n reads = record { answer = tt; order = tt; stand = tt; broken = tt; reads = reads }
+pub walk-memory : (p : HamtShape) (h : List ℕ → List ℕ) (slots : List TrieSlot) (at : List ℕ) (m n : Moment) → ReadsTree p slots m n → Walks h p slots at m (Err F.Memory) n
+walk-memory p h slots at m n reads = record { answer = tt; order = tt; stand = tt; broken = tt; reads = reads }
 
 -- no memory is left for a row
-pub listed-full : (h : List ℕ → List ℕ) (slots : List TrieSlot) (at : List ℕ) (rows : List Row) (m n o : Moment) (v w : Walker) (row : Row) → HasListed h slots at rows m v n → Nexts h n v (Ok (Some row)) w o → Walks h slots at m (Err F.Memory) o
-listed-full h slots at rows m n o v w row was next = walk-memory h slots at m o (ended h slots at (λ done. map spelled_pair done ≡ map row_pair rows) m n o v w (Ok (Some row)) was.walk next)
+pub listed-full : (p : HamtShape) (h : List ℕ → List ℕ) (slots : List TrieSlot) (at : List ℕ) (rows : List Row) (m n o : Moment) (v w : Walker) (row : Row) → HasListed h p slots at rows m v n → Nexts h p n v (Ok (Some row)) w o → Walks h p slots at m (Err F.Memory) o
+listed-full p h slots at rows m n o v w row was next = walk-memory p h slots at m o (ended p h slots at (λ done. map spelled_pair done ≡ map row_pair rows) m n o v w (Ok (Some row)) was.walk next)

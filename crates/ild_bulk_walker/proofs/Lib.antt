@@ -9,6 +9,7 @@ pub mod Placed
 pub mod Keeping
 pub mod Walking
 pub mod Nexting
+pub mod Shaped
 pub mod Calling
 pub mod Passing
 pub mod Listing

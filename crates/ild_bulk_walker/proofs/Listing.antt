@@ -10,6 +10,7 @@ use Rattle.std.proofs.lemmas.Bool.{and_parts}
 use Rattle.std.proofs.lemmas.Cmp.{eq_by_cmp_equiv}
 use Rattle.std.proofs.lemmas.List.Sorted.{IsPermutation-map}
 use Rattle.std.proofs.lemmas.Map.Keys.{IsDistinct-IsPermutation, IsDistinct-head, IsDistinct-tail}
+use Rattle.ild_data.specs.declared.hamt_shape.HamtShape.{HamtShape}
 use Rattle.ild_data.specs.ByteOrder.{bytewise, no_key_twice}
 use Rattle.ild_data.specs.Data.{Data}
 use Rattle.ild_data.specs.Key.{key_cmp, key_less, Rises}
@@ -17,7 +18,6 @@ use Rattle.ild_data.specs.Trie.{TrieSlot}
 use Rattle.ild_data.specs.TrieShape.{trie_levels}
 use Rattle.ild_data.proofs.Rising.{key_cmp_total, key_exact}
 use Rattle.ild_hamt_trie.proofs.Parts.{total, key_itself}
-use Rattle.ild_typed.specs.Composed.{usual}
 use Rattle.ild_node_slots.specs.Form.{IsNode}
 use Rattle.ild_bulk_walker.specs.Checked.{InKeyOrder, row_pair, spelled_pair}
 use Rattle.ild_bulk_walker.specs.Gives.{RootGives}
@@ -64,9 +64,9 @@ rise_from (r ∷ s ∷ rows) apart order = (
       (λ k d from lt. ap (λ n. key_less (get_or (r ∷ s ∷ rows) n d).key (get_or (s ∷ rows) k d).key) (sym (later k)) ∙ order (suc k) d (omega arith) (omega (arith, lt))),
 )
 
-pub rows-rise : (h : List ℕ → List ℕ) (held : List (List ℕ)) (slots : List TrieSlot) (es : List (List ℕ × Data)) (rows : List Row) → IsNode usual slots → RootGives h usual held (trie_levels usual - 1) slots es
+pub rows-rise : (p : HamtShape) (h : List ℕ → List ℕ) (held : List (List ℕ)) (slots : List TrieSlot) (es : List (List ℕ × Data)) (rows : List Row) → IsNode p slots → RootGives h p held (trie_levels p - 1) slots es
     → IsPermutation (map spelled_pair es) (map row_pair rows) → InKeyOrder rows → Rises (map row_pair rows)
-rows-rise h held slots es rows form gives same order =
+rows-rise p h held slots es rows form gives same order =
     rise_from rows
     (IsDistinct-IsPermutation (eq_by_cmp bytewise) laws.symm (map key_of (map spelled_pair es)) (map key_of (map row_pair rows)) (IsPermutation-map key_of (map spelled_pair es) (map row_pair rows) same)
-    (distinct_keys es (given-is-trie h held slots es form gives).distinct)) order
+    (distinct_keys es (given-is-trie p h held slots es form gives).distinct)) order

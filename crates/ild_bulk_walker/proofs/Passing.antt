@@ -1,6 +1,7 @@
 -- Passing over an entry, with or without its row.
 use Rattle.std.proofs.Common.{◌≡◌, ℕ, true, List, ◌∷◌, Some, refl, sym, ap, ◌∙◌}
 use Rattle.std.specs.Prelude.{Result, Ok, Err, IfOk}
+use Rattle.ild_data.specs.declared.hamt_shape.HamtShape.{HamtShape}
 use Rattle.ild_data.specs.Spell.{spell}
 use Rattle.ild_node_slots.specs.declared.fault.HamtFault.{HamtFault}
 use Rattle.ild_node_slots.specs.declared.fault.HamtFault.TheVariants as F
@@ -28,25 +29,25 @@ next-row-of v e here rest is same (Ok row) of = next-row v e row rest is (record
 next-row-of v e here rest is same (Err f) of = tt
 
 pub taken-row-of : (v w : Walker) (row : Row) → IsNextRow v row → IsPassed v w → IsTaken v row w
-taken-row-of v w row n p =
-    let same : n.rest ≡ walker_todo w = let both = sym n.was ∙ p.was in cc in
-    record { value = n.value; index = n.index; rest = n.rest; was = n.was; todo = sym same; spelled = n.spelled; path = p.path; given = p.given; most = p.most; children = p.children; at = p.at; block = n.block }
+taken-row-of v w row n q =
+    let same : n.rest ≡ walker_todo w = let both = sym n.was ∙ q.was in cc in
+    record { value = n.value; index = n.index; rest = n.rest; was = n.was; todo = sym same; spelled = n.spelled; path = q.path; given = q.given; most = q.most; children = q.children; at = q.at; block = n.block }
 
 -- there is a row for what is next
 any-row : (v : Walker) → GivesNext v → (row : Row) × IsNextRow v row
 any-row v g = (record { key = g.key; value = spell g.value; block = record { 0 = walker_here v } }, record { value = g.value; index = g.index; rest = g.rest; was = g.is; spelled = refl; block = refl })
 
 pub takes-none : (v w : Walker) (e : HamtFault) → PassesStep v (Err e) w → Takes v (Err e) w
-takes-none v w F.Memory p = p
-takes-none v w F.Exhausted p = absurd p
-takes-none v w (F.Block id why) p = absurd p
-takes-none v w F.Store p = absurd p
-takes-none v w (F.Clash id kept new) p = absurd p
-takes-none v w F.Size p = absurd p
-takes-none v w F.NoKey p = absurd p
+takes-none v w F.Memory q = q
+takes-none v w F.Exhausted q = absurd q
+takes-none v w (F.Block id why) q = absurd q
+takes-none v w F.Store q = absurd q
+takes-none v w (F.Clash id kept new) q = absurd q
+takes-none v w F.Size q = absurd q
+takes-none v w F.NoKey q = absurd q
 
-pub passed-on : (h : List ℕ → List ℕ) (v w : Walker) → FitsNext h v → IsPassed v w → AnyRow (λ r. Gives h v r w) (Ok true)
-passed-on h v w f p = let r = any-row v f.next in (r.0, taken h v w f.next (Ok (Some r.0)) f.fit (taken-row-of v w r.0 r.1 p))
+pub passed-on : (p : HamtShape) (h : List ℕ → List ℕ) (v w : Walker) → FitsNext h p v → IsPassed v w → AnyRow (λ r. Gives h p v r w) (Ok true)
+passed-on p h v w f q = let r = any-row v f.next in (r.0, taken p h v w f.next (Ok (Some r.0)) f.fit (taken-row-of v w r.0 r.1 q))
 
-pub passed-none : (h : List ℕ → List ℕ) (v w : Walker) (e : HamtFault) → FitsNext h v → PassesStep v (Err e) w → AnyRow (λ r. Gives h v r w) (Err e)
-passed-none h v w e f p = taken h v w f.next (Err e) f.fit (takes-none v w e p)
+pub passed-none : (p : HamtShape) (h : List ℕ → List ℕ) (v w : Walker) (e : HamtFault) → FitsNext h p v → PassesStep v (Err e) w → AnyRow (λ r. Gives h p v r w) (Err e)
+passed-none p h v w e f q = taken p h v w f.next (Err e) f.fit (takes-none v w e q)

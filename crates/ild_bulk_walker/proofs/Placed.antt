@@ -1,10 +1,10 @@
 -- What stands where on the tree that a walk is on.
 use Rattle.std.proofs.Common.{◌≡◌, ◌⊎◌, inl, inr, ⊎_elim, ℕ, suc, ◌+◌, ◌-◌, ◌<◌, List, [], ◌∷◌, ◌++◌, length, map, Option, Some, refl, sym, ap, ◌∙◌, subst, arith, append_assoc, append-nil}
 use Rattle.std.specs.Prelude.{slice_get}
+use Rattle.ild_data.specs.declared.hamt_shape.HamtShape.{HamtShape}
 use Rattle.ild_data.specs.Data.{Data}
 use Rattle.ild_data.specs.Trie.{TrieSlot, empty, bucket, child}
 use Rattle.ild_data.specs.TrieShape.{trie_levels}
-use Rattle.ild_typed.specs.Composed.{usual}
 use Rattle.ild_bulk_walker.specs.OnTree.{IsNodeAt, HasNode, IsOnTree, SlotMany, SlotsMany, TreeMany}
 use Rattle.ild_bulk_walker.specs.Standing.{indices_of, last_of, DoneMany, Stands}
 use Rattle.ild_bulk_walker.specs.Todo.{Todo, give, enter, leave, slot_todo, node_todo}
@@ -50,47 +50,47 @@ rest-steps slots done rest is = steps-behind done rest (subst AreSteps is (node-
 none-more : (n m : ℕ) → n ≡ 0 → m ≡ n + m
 none-more n m is = omega arith
 
-done-more : (told : Option (List (List ℕ))) (left : ℕ) (done : List Todo) (t : Todo) (n m : ℕ) → DoneMany told left done n → DoneMany told left (t ∷ []) m → DoneMany told left (done ++ t ∷ []) (n + m)
-done-more told left [] t n m a b = subst (DoneMany told left (t ∷ [])) (none-more n m a) b
-done-more told left (give k v i ∷ done) t n m a b = let is = a.1 in (a.0 + m, omega arith, done-more told left done t a.0 m a.2 b)
-done-more told left (enter id i ∷ done) t n m a b = let is = a.2 in (a.0, a.1 + m, omega arith, a.3, done-more told left done t a.1 m a.4 b)
-done-more told left (leave before ∷ done) t n m a b = absurd a
+done-more : (p : HamtShape) (told : Option (List (List ℕ))) (left : ℕ) (done : List Todo) (t : Todo) (n m : ℕ) → DoneMany p told left done n → DoneMany p told left (t ∷ []) m → DoneMany p told left (done ++ t ∷ []) (n + m)
+done-more p told left [] t n m a b = subst (DoneMany p told left (t ∷ [])) (none-more n m a) b
+done-more p told left (give k v i ∷ done) t n m a b = let is = a.1 in (a.0 + m, omega arith, done-more p told left done t a.0 m a.2 b)
+done-more p told left (enter id i ∷ done) t n m a b = let is = a.2 in (a.0, a.1 + m, omega arith, a.3, done-more p told left done t a.1 m a.4 b)
+done-more p told left (leave before ∷ done) t n m a b = absurd a
 
-record Halves (told : Option (List (List ℕ))) (left : ℕ) (xs ys : List Todo) (n : ℕ) : Type 0 where
+record Halves (p : HamtShape) (told : Option (List (List ℕ))) (left : ℕ) (xs ys : List Todo) (n : ℕ) : Type 0 where
   pub here : ℕ
   pub more : ℕ
   pub is : n ≡ here + more
-  pub first : DoneMany told left xs here
-  pub rest : DoneMany told left ys more
+  pub first : DoneMany p told left xs here
+  pub rest : DoneMany p told left ys more
 
-done-split : (told : Option (List (List ℕ))) (left : ℕ) (xs ys : List Todo) (n : ℕ) → DoneMany told left (xs ++ ys) n → Halves told left xs ys n
-done-split told left [] ys n d = record { here = 0; more = n; is = omega arith; first = refl; rest = d }
-done-split told left (give k v i ∷ xs) ys n d =
-    let r = done-split told left xs ys d.0 d.2 in
+done-split : (p : HamtShape) (told : Option (List (List ℕ))) (left : ℕ) (xs ys : List Todo) (n : ℕ) → DoneMany p told left (xs ++ ys) n → Halves p told left xs ys n
+done-split p told left [] ys n d = record { here = 0; more = n; is = omega arith; first = refl; rest = d }
+done-split p told left (give k v i ∷ xs) ys n d =
+    let r = done-split p told left xs ys d.0 d.2 in
     let one = d.1 in
     let two = r.is in
     record { here = 1 + r.here; more = r.more; is = omega arith; first = (r.here, refl, r.first); rest = r.rest }
-done-split told left (enter id i ∷ xs) ys n d =
-    let r = done-split told left xs ys d.1 d.4 in
+done-split p told left (enter id i ∷ xs) ys n d =
+    let r = done-split p told left xs ys d.1 d.4 in
     let one = d.2 in
     let two = r.is in
     record { here = d.0 + r.here; more = r.more; is = omega arith; first = (d.0, r.here, refl, d.3, r.first); rest = r.rest }
-done-split told left (leave before ∷ xs) ys n d = absurd d
+done-split p told left (leave before ∷ xs) ys n d = absurd d
 
-bucket-many : (told : Option (List (List ℕ))) (left i : ℕ) (es : List (List ℕ × Data)) (n : ℕ) → DoneMany told left (map (λ e. give e.0 e.1 i) es) n → n ≡ length es
-bucket-many told left i [] n d = d
-bucket-many told left i (e ∷ es) n d = let one = d.1 in let rest = bucket-many told left i es d.0 d.2 in omega arith
+bucket-many : (p : HamtShape) (told : Option (List (List ℕ))) (left i : ℕ) (es : List (List ℕ × Data)) (n : ℕ) → DoneMany p told left (map (λ e. give e.0 e.1 i) es) n → n ≡ length es
+bucket-many p told left i [] n d = d
+bucket-many p told left i (e ∷ es) n d = let one = d.1 in let rest = bucket-many p told left i es d.0 d.2 in omega arith
 
-slot-many : (told : Option (List (List ℕ))) (left i : ℕ) (s : TrieSlot) (n : ℕ) → DoneMany told left (slot_todo i s) n → SlotMany (TreeMany told left) s n
-slot-many told left i empty n d = d
-slot-many told left i (bucket es) n d = bucket-many told left i es n d
-slot-many told left i (child id) n d = let sum = d.2 in let none = d.4 in let same : d.0 ≡ n = omega arith in subst (TreeMany told left id) same d.3
+slot-many : (p : HamtShape) (told : Option (List (List ℕ))) (left i : ℕ) (s : TrieSlot) (n : ℕ) → DoneMany p told left (slot_todo i s) n → SlotMany (TreeMany p told left) s n
+slot-many p told left i empty n d = d
+slot-many p told left i (bucket es) n d = bucket-many p told left i es n d
+slot-many p told left i (child id) n d = let sum = d.2 in let none = d.4 in let same : d.0 ≡ n = omega arith in subst (TreeMany p told left id) same d.3
 
-slots-many : (told : Option (List (List ℕ))) (left i : ℕ) (slots : List TrieSlot) (n : ℕ) → DoneMany told left (node_todo i slots) n → SlotsMany (TreeMany told left) slots n
-slots-many told left i [] n d = d
-slots-many told left i (s ∷ slots) n d =
-    let r = done-split told left (slot_todo i s) (node_todo (i + 1) slots) n d in
-    (r.here, r.more, r.is, slot-many told left i s r.here r.first, slots-many told left (i + 1) slots r.more r.rest)
+slots-many : (p : HamtShape) (told : Option (List (List ℕ))) (left i : ℕ) (slots : List TrieSlot) (n : ℕ) → DoneMany p told left (node_todo i slots) n → SlotsMany (TreeMany p told left) slots n
+slots-many p told left i [] n d = d
+slots-many p told left i (s ∷ slots) n d =
+    let r = done-split p told left (slot_todo i s) (node_todo (i + 1) slots) n d in
+    (r.here, r.more, r.is, slot-many p told left i s r.here r.first, slots-many p told left (i + 1) slots r.more r.rest)
 
 -- ---- the steps of the innermost node
 
@@ -116,11 +116,11 @@ ends todo [] behind a b steps is = let same : b ≡ a = cc in let tail : todo �
 ends todo (r ∷ rest) behind a b steps is = let head : r ≡ leave b = cc in absurd (subst (λ x. AreSteps (x ∷ rest)) head steps)
 
 -- a step of the innermost node is done, which gave so many
-pub pass : (told : Option (List (List ℕ))) (root : List TrieSlot) (way : List (List ℕ × ℕ)) (t : Todo) (todo : List Todo) (given n : ℕ) → AreSteps (t ∷ []) → DoneMany told (trie_levels usual - suc (length way)) (t ∷ []) n → Stands told root way (t ∷ todo) given
-    → Stands told root way todo (given + n)
-pass told root [] t todo given n step many s =
-    record { done = s.done ++ t ∷ []; steps = s.steps ∙ sym (append_assoc s.done (t ∷ []) todo); gave = done-more told (trie_levels usual - 1) s.done t given n s.gave many }
-pass told root (c ∷ way) t todo given n step many s =
+pub pass : (p : HamtShape) (told : Option (List (List ℕ))) (root : List TrieSlot) (way : List (List ℕ × ℕ)) (t : Todo) (todo : List Todo) (given n : ℕ) → AreSteps (t ∷ []) → DoneMany p told (trie_levels p - suc (length way)) (t ∷ []) n → Stands p told root way (t ∷ todo) given
+    → Stands p told root way todo (given + n)
+pass p told root [] t todo given n step many s =
+    record { done = s.done ++ t ∷ []; steps = s.steps ∙ sym (append_assoc s.done (t ∷ []) todo); gave = done-more p told (trie_levels p - 1) s.done t given n s.gave many }
+pass p told root (c ∷ way) t todo given n step many s =
     let k = cut t todo s.rest s.above s.before step s.is in
     let sum = s.count in
     record {
@@ -133,56 +133,56 @@ pass told root (c ∷ way) t todo given n step many s =
       many = s.many + n;
       is = k.left;
       steps = s.steps ∙ ap (λ r. s.done ++ r) k.is ∙ sym (append_assoc s.done (t ∷ []) k.more);
-      gave = done-more told (trie_levels usual - suc (length (c ∷ way))) s.done t s.many n s.gave many;
+      gave = done-more p told (trie_levels p - suc (length (c ∷ way))) s.done t s.many n s.gave many;
       count = omega arith;
       still = s.still;
     }
 
 -- ---- leaving
 
-pub record AtEnd (told : Option (List (List ℕ))) (root : List TrieSlot) (c : List ℕ × ℕ) (way : List (List ℕ × ℕ)) (b : ℕ) (todo : List Todo) (given : ℕ) : Type 0 where
+pub record AtEnd (p : HamtShape) (told : Option (List (List ℕ))) (root : List TrieSlot) (c : List ℕ × ℕ) (way : List (List ℕ × ℕ)) (b : ℕ) (todo : List Todo) (given : ℕ) : Type 0 where
   pub slots : List TrieSlot
-  pub node : IsNodeAt told c.0 slots
+  pub node : IsNodeAt p told c.0 slots
   pub many : ℕ
-  pub stands : SlotsMany (TreeMany told (trie_levels usual - suc (length (c ∷ way)))) slots many
+  pub stands : SlotsMany (TreeMany p told (trie_levels p - suc (length (c ∷ way)))) slots many
   pub count : given ≡ b + many
-  pub still : Stands told root way (enter c.0 c.1 ∷ todo) b
+  pub still : Stands p told root way (enter c.0 c.1 ∷ todo) b
 
-pub at-end : (told : Option (List (List ℕ))) (root : List TrieSlot) (c : List ℕ × ℕ) (way : List (List ℕ × ℕ)) (b : ℕ) (todo : List Todo) (given : ℕ) → Stands told root (c ∷ way) (leave b ∷ todo) given → AtEnd told root c way b todo given
-at-end told root c way b todo given s =
+pub at-end : (p : HamtShape) (told : Option (List (List ℕ))) (root : List TrieSlot) (c : List ℕ × ℕ) (way : List (List ℕ × ℕ)) (b : ℕ) (todo : List Todo) (given : ℕ) → Stands p told root (c ∷ way) (leave b ∷ todo) given → AtEnd p told root c way b todo given
+at-end p told root c way b todo given s =
     let e = ends todo s.rest s.above s.before b (rest-steps s.slots s.done s.rest s.steps) s.is in
     let whole : s.done ≡ node_todo 0 s.slots = sym (append-nil s.done) ∙ ap (λ r. s.done ++ r) (sym e.none) ∙ sym s.steps in
     record {
       slots = s.slots;
       node = s.node;
       many = s.many;
-      stands = slots-many told (trie_levels usual - suc (length (c ∷ way))) 0 s.slots s.many (subst (λ d. DoneMany told (trie_levels usual - suc (length (c ∷ way))) d s.many) whole s.gave);
+      stands = slots-many p told (trie_levels p - suc (length (c ∷ way))) 0 s.slots s.many (subst (λ d. DoneMany p told (trie_levels p - suc (length (c ∷ way))) d s.many) whole s.gave);
       count = s.count ∙ ap (λ n. n + s.many) (sym e.before);
-      still = subst (λ ts. Stands told root way (enter c.0 c.1 ∷ ts) b) (sym e.left) (subst (λ n. Stands told root way (enter c.0 c.1 ∷ s.above) n) (sym e.before) s.still);
+      still = subst (λ ts. Stands p told root way (enter c.0 c.1 ∷ ts) b) (sym e.left) (subst (λ n. Stands p told root way (enter c.0 c.1 ∷ s.above) n) (sym e.before) s.still);
     }
 
-pub root-stays : (told : Option (List (List ℕ))) (root : List TrieSlot) (b : ℕ) (todo : List Todo) (given : ℕ) → Stands told root [] (leave b ∷ todo) given → ⊥
-root-stays told root b todo given s = rest-steps root s.done (leave b ∷ todo) s.steps
+pub root-stays : (p : HamtShape) (told : Option (List (List ℕ))) (root : List TrieSlot) (b : ℕ) (todo : List Todo) (given : ℕ) → Stands p told root [] (leave b ∷ todo) given → ⊥
+root-stays p told root b todo given s = rest-steps root s.done (leave b ∷ todo) s.steps
 
-one-left : (n : ℕ) → suc n < trie_levels usual → suc (trie_levels usual - suc (suc n)) ≡ trie_levels usual - suc n
-one-left n short = omega arith
+one-left : (p : HamtShape) (n : ℕ) → suc n < trie_levels p → suc (trie_levels p - suc (suc n)) ≡ trie_levels p - suc n
+one-left p n short = omega arith
 
 zero-more : (n : ℕ) → n ≡ n + 0
 zero-more n = omega arith
 
-pub left-stands : (told : Option (List (List ℕ))) (root : List TrieSlot) (c : List ℕ × ℕ) (way : List (List ℕ × ℕ)) (b : ℕ) (todo : List Todo) (given : ℕ) → length (c ∷ way) < trie_levels usual → Stands told root (c ∷ way) (leave b ∷ todo) given
-    → Stands told root way todo given
-left-stands told root c way b todo given short s =
-    let e = at-end told root c way b todo given s in
-    subst (Stands told root way todo) (sym e.count)
-    (pass told root way (enter c.0 c.1) todo b e.many tt
-    (e.many, 0, zero-more e.many, subst (λ left. TreeMany told left c.0 e.many) (one-left (length way) short) (record { slots = e.slots; node = e.node; many = e.stands }), refl) e.still)
+pub left-stands : (p : HamtShape) (told : Option (List (List ℕ))) (root : List TrieSlot) (c : List ℕ × ℕ) (way : List (List ℕ × ℕ)) (b : ℕ) (todo : List Todo) (given : ℕ) → length (c ∷ way) < trie_levels p → Stands p told root (c ∷ way) (leave b ∷ todo) given
+    → Stands p told root way todo given
+left-stands p told root c way b todo given short s =
+    let e = at-end p told root c way b todo given s in
+    subst (Stands p told root way todo) (sym e.count)
+    (pass p told root way (enter c.0 c.1) todo b e.many tt
+    (e.many, 0, zero-more e.many, subst (λ left. TreeMany p told left c.0 e.many) (one-left p (length way) short) (record { slots = e.slots; node = e.node; many = e.stands }), refl) e.still)
 
 -- ---- entering
 
-pub enter-stands : (told : Option (List (List ℕ))) (root : List TrieSlot) (way : List (List ℕ × ℕ)) (id : List ℕ) (i : ℕ) (slots : List TrieSlot) (todo : List Todo) (given : ℕ) → IsNodeAt told id slots → Stands told root way (enter id i ∷ todo) given
-    → Stands told root ((id, i) ∷ way) (node_todo 0 slots ++ leave given ∷ todo) given
-enter-stands told root way id i slots todo given node s = record {
+pub enter-stands : (p : HamtShape) (told : Option (List (List ℕ))) (root : List TrieSlot) (way : List (List ℕ × ℕ)) (id : List ℕ) (i : ℕ) (slots : List TrieSlot) (todo : List Todo) (given : ℕ) → IsNodeAt p told id slots → Stands p told root way (enter id i ∷ todo) given
+    → Stands p told root ((id, i) ∷ way) (node_todo 0 slots ++ leave given ∷ todo) given
+enter-stands p told root way id i slots todo given node s = record {
   slots = slots;
   node = node;
   done = [];
@@ -199,16 +199,16 @@ enter-stands told root way id i slots todo given node s = record {
 
 -- ---- the node whose step is next
 
-pub record AtNode (told : Option (List (List ℕ))) (root : List TrieSlot) (at : List ℕ) (way : List (List ℕ × ℕ)) (t : Todo) : Type 0 where
+pub record AtNode (p : HamtShape) (told : Option (List (List ℕ))) (root : List TrieSlot) (at : List ℕ) (way : List (List ℕ × ℕ)) (t : Todo) : Type 0 where
   pub slots : List TrieSlot
-  pub node : HasNode told root (indices_of way) (last_of at way) slots
+  pub node : HasNode p told root (indices_of way) (last_of at way) slots
   pub done : List Todo
   pub rest : List Todo
   pub steps : node_todo 0 slots ≡ done ++ t ∷ rest
 
-pub at-node : (told : Option (List (List ℕ))) (root : List TrieSlot) (at : List ℕ) (way : List (List ℕ × ℕ)) (t : Todo) (todo : List Todo) (given : ℕ) → AreSteps (t ∷ []) → Stands told root way (t ∷ todo) given → AtNode told root at way t
-at-node told root at [] t todo given step s = record { slots = root; node = refl; done = s.done; rest = todo; steps = s.steps }
-at-node told root at (c ∷ way) t todo given step s =
+pub at-node : (p : HamtShape) (told : Option (List (List ℕ))) (root : List TrieSlot) (at : List ℕ) (way : List (List ℕ × ℕ)) (t : Todo) (todo : List Todo) (given : ℕ) → AreSteps (t ∷ []) → Stands p told root way (t ∷ todo) given → AtNode p told root at way t
+at-node p told root at [] t todo given step s = record { slots = root; node = refl; done = s.done; rest = todo; steps = s.steps }
+at-node p told root at (c ∷ way) t todo given step s =
     let k = cut t todo s.rest s.above s.before step s.is in
     record { slots = s.slots; node = s.node; done = s.done; rest = k.more; steps = s.steps ∙ ap (λ r. s.done ++ r) k.is }
 
@@ -323,8 +323,8 @@ give-there slots done rest key value i is =
 
 -- ---- the way is one on the tree
 
-pub on-tree : (told : Option (List (List ℕ))) (root : List TrieSlot) (at : List ℕ) (way : List (List ℕ × ℕ)) (todo : List Todo) (given : ℕ) → Stands told root way todo given → IsOnTree told root at (indices_of way) (last_of at way)
-on-tree told root at [] todo given s = refl
-on-tree told root at (c ∷ way) todo given s =
-    let n = at-node told root at way (enter c.0 c.1) s.above s.before tt s.still in
-    (last_of at way, n.slots, on-tree told root at way (enter c.0 c.1 ∷ s.above) s.before s.still, n.node, enter-there n.slots n.done n.rest c.0 c.1 n.steps)
+pub on-tree : (p : HamtShape) (told : Option (List (List ℕ))) (root : List TrieSlot) (at : List ℕ) (way : List (List ℕ × ℕ)) (todo : List Todo) (given : ℕ) → Stands p told root way todo given → IsOnTree p told root at (indices_of way) (last_of at way)
+on-tree p told root at [] todo given s = refl
+on-tree p told root at (c ∷ way) todo given s =
+    let n = at-node p told root at way (enter c.0 c.1) s.above s.before tt s.still in
+    (last_of at way, n.slots, on-tree p told root at way (enter c.0 c.1 ∷ s.above) s.before s.still, n.node, enter-there n.slots n.done n.rest c.0 c.1 n.steps)

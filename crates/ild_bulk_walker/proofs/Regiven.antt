@@ -7,19 +7,19 @@ use Rattle.std.specs.FinMap.Entries.{length-put}
 use Rattle.std.proofs.lemmas.Bool.{eqb-true, le-leb, leb-false}
 use Rattle.std.proofs.lemmas.Option.{same_Some}
 use Rattle.std.proofs.lemmas.List.FromFn.{length-map-range_with_len}
+use Rattle.ild_data.specs.declared.hamt_shape.HamtShape.{HamtShape}
 use Rattle.ild_data.specs.ByteOrder.{bytewise, in_byte_order, IsInOrder}
 use Rattle.ild_data.specs.Data.{Data}
 use Rattle.ild_data.specs.Spell.{spell, id_of}
 use Rattle.ild_data.specs.Trie.{TrieSlot, empty, bucket, child, bucket_or, link_to, part, slot_of, all_some, at_depth, node_data, node_of, slots_at}
 use Rattle.ild_data.specs.TrieShape.{trie_levels}
-use Rattle.ild_typed.specs.Composed.{usual}
 use Rattle.ild_hamt_trie.specs.Walk.{part_or, in_trie_order}
 use Rattle.ild_hamt_trie.proofs.Bits.{same_node}
 use Rattle.ild_hamt_trie.proofs.Node.{slots-node, no_node, trie-sorted}
 use Rattle.ild_hamt_trie.proofs.Parts.{total, in_order-sorted, in_order-part}
 use Rattle.ild_hamt_trie.proofs.Slots.{all_some-cons, all_some-length}
 use Rattle.ild_hamt_trie.proofs.Walk.{sorted-walk}
-use Rattle.ild_node_slots.proofs.Fits.{whole_map}
+use Rattle.ild_node_slots.proofs.Shapes.{whole_map, levels_suc, levels_all}
 use Rattle.ild_node_slots.specs.Form.{IsNode}
 use Rattle.ild_bulk_walker.specs.Gives.{SlotGives, AtIndex, SlotsGive, TreeGives, RootGives}
 use Rattle.ild_bulk_walker.specs.Trees.{IsHeldNode, HoldsBelow, IsTrieOf}
@@ -44,18 +44,18 @@ all-or : (P : List ℕ × Data → Type 0) (b : Bool) (below : List (List ℕ ×
 all-or P true below es here beneath = here
 all-or P false below es here beneath = beneath
 
-all-none : (P : List ℕ × Data → Type 0) (h : List ℕ → List ℕ) (depth : ℕ) (es : List (List ℕ × Data)) → AllByRecursion P es → AllByRecursion P (in_trie_order h usual zero depth es)
+all-none : (p : HamtShape) (P : List ℕ × Data → Type 0) (h : List ℕ → List ℕ) (depth : ℕ) (es : List (List ℕ × Data)) → AllByRecursion P es → AllByRecursion P (in_trie_order h p zero depth es)
 unfolding in_trie_order
-all-none P h depth es all = all
+all-none p P h depth es all = all
 
-all-walk : (P : List ℕ × Data → Type 0) (h : List ℕ → List ℕ) (left depth : ℕ) (es : List (List ℕ × Data)) → AllByRecursion P es → AllByRecursion P (in_trie_order h usual left depth es)
-all-walk P h zero depth es all = all-none P h depth es all
-all-walk P h (suc left) depth es all =
-    subst (λ (xs : List (List ℕ × Data)). AllByRecursion P xs) (sym (walk_step h usual left depth es))
-    (all-flat P (λ i. ordered h usual left depth (part (at_depth h usual depth) es i)) (range_with_len 0 (2 ^ usual.width)) (λ i.
-    let here = all-filter P (λ e. at_depth h usual depth e.0 == i) es all in
-    all-or P (nat_le (length (part (at_depth h usual depth) es i)) usual.bucket) (in_trie_order h usual left (depth + 1)) (part (at_depth h usual depth) es i) here
-    (all-walk P h left (depth + 1) (part (at_depth h usual depth) es i) here)))
+all-walk : (p : HamtShape) (P : List ℕ × Data → Type 0) (h : List ℕ → List ℕ) (left depth : ℕ) (es : List (List ℕ × Data)) → AllByRecursion P es → AllByRecursion P (in_trie_order h p left depth es)
+all-walk p P h zero depth es all = all-none p P h depth es all
+all-walk p P h (suc left) depth es all =
+    subst (λ (xs : List (List ℕ × Data)). AllByRecursion P xs) (sym (walk_step h p left depth es))
+    (all-flat P (λ i. ordered h p left depth (part (at_depth h p depth) es i)) (range_with_len 0 (2 ^ p.width)) (λ i.
+    let here = all-filter P (λ e. at_depth h p depth e.0 == i) es all in
+    all-or P (nat_le (length (part (at_depth h p depth) es i)) p.bucket) (in_trie_order h p left (depth + 1)) (part (at_depth h p depth) es i) here
+    (all-walk p P h left (depth + 1) (part (at_depth h p depth) es i) here)))
 
 part-at : (at : List ℕ → ℕ) (i : ℕ) (es : List (List ℕ × Data)) → AllByRecursion (λ e. at e.0 ≡ i) (part at es i)
 part-at at i [] = tt
@@ -65,11 +65,11 @@ part-at at i (e ∷ es) = by (at e.0 == i) refl (part-at at i es)
     by true same rest = (eqb-true (at e.0) i same, rest)
     by false same rest = rest
 
-ordered-at : (h : List ℕ → List ℕ) (left depth i : ℕ) (es : List (List ℕ × Data)) → AtIndex h usual depth i (ordered h usual left depth (part (at_depth h usual depth) es i))
-ordered-at h left depth i es =
-    let at : List ℕ → ℕ = at_depth h usual depth in
+ordered-at : (p : HamtShape) (h : List ℕ → List ℕ) (left depth i : ℕ) (es : List (List ℕ × Data)) → AtIndex h p depth i (ordered h p left depth (part (at_depth h p depth) es i))
+ordered-at p h left depth i es =
+    let at : List ℕ → ℕ = at_depth h p depth in
     let here = part-at at i es in
-    all-or (λ e. at e.0 ≡ i) (nat_le (length (part at es i)) usual.bucket) (in_trie_order h usual left (depth + 1)) (part at es i) here (all-walk (λ e. at e.0 ≡ i) h left (depth + 1) (part at es i) here)
+    all-or (λ e. at e.0 ≡ i) (nat_le (length (part at es i)) p.bucket) (in_trie_order h p left (depth + 1)) (part at es i) here (all-walk p (λ e. at e.0 ≡ i) h left (depth + 1) (part at es i) here)
 
 -- ---- lengths
 
@@ -84,94 +84,95 @@ shorter (e ∷ es) =
     by true long rest = omega (arith, long, rest)
     by false long rest = omega (arith, long, rest)
 
-walk-long : (h : List ℕ → List ℕ) (left depth : ℕ) (es : List (List ℕ × Data)) → IsInOrder es → length es ≤ length (in_trie_order h usual left depth es)
-walk-long h left depth es order =
-    let le = shorter (in_trie_order h usual left depth es) in
-    let same = ap (λ (xs : List (List ℕ × Data)). length xs) (sorted-walk h usual left depth es order) in
+walk-long : (p : HamtShape) (h : List ℕ → List ℕ) (left depth : ℕ) (es : List (List ℕ × Data)) → IsInOrder es → length es ≤ length (in_trie_order h p left depth es)
+walk-long p h left depth es order =
+    let le = shorter (in_trie_order h p left depth es) in
+    let same = ap (λ (xs : List (List ℕ × Data)). length xs) (sorted-walk h p left depth es order) in
     omega (arith, le, same)
 
 -- ---- one slot
 
-abbrev Beneath : (List ℕ → List ℕ) → List (List ℕ) → ℕ → ℕ → Type 0
-Beneath h held left depth = (fs : List (List ℕ × Data)) (node : Data) → IsInOrder fs → usual.bucket < length fs → node_of h usual left (depth + 1) fs ≡ Some node → IsHeldNode usual held node → HoldsBelow h usual held left (depth + 1) fs
-    → TreeGives h usual held left (depth + 1) (id_of (spell node)) (in_trie_order h usual left (depth + 1) fs)
+abbrev Beneath : (p : HamtShape) → (List ℕ → List ℕ) → List (List ℕ) → ℕ → ℕ → Type 0
+Beneath p h held left depth = (fs : List (List ℕ × Data)) (node : Data) → IsInOrder fs → p.bucket < length fs → node_of h p left (depth + 1) fs ≡ Some node → IsHeldNode p held node → HoldsBelow h p held left (depth + 1) fs
+    → TreeGives h p held left (depth + 1) (id_of (spell node)) (in_trie_order h p left (depth + 1) fs)
 
 linked : (o : Option Data) (s : TrieSlot) → option_map link_to o ≡ Some s → (node : Data) × (o ≡ Some node) × (s ≡ child (id_of (spell node)))
 linked None s is = absurd cc
 linked (Some node) s is = (node, refl, sym (same_Some (link_to node) s is))
 
-slot-given : (h : List ℕ → List ℕ) (held : List (List ℕ)) (left depth : ℕ) (fs : List (List ℕ × Data)) (s : TrieSlot) → Beneath h held left depth → IsInOrder fs → slot_of usual.bucket (node_of h usual left (depth + 1)) fs ≡ Some s
-    → ((node : Data) → usual.bucket < length fs → node_of h usual left (depth + 1) fs ≡ Some node → IsHeldNode usual held node × HoldsBelow h usual held left (depth + 1) fs)
-    → SlotGives (TreeGives h usual held left (depth + 1)) s (ordered h usual left depth fs)
-slot-given h held left depth [] s beneath order is holds =
-    subst (λ z. SlotGives (TreeGives h usual held left (depth + 1)) z (ordered h usual left depth [])) (same_Some empty s is)
-    (ap (λ b. part_or b (in_trie_order h usual left (depth + 1)) []) (le-leb 0 usual.bucket (omega arith)))
-slot-given h held left depth (f ∷ fs) s beneath order is holds = by (nat_le (length (f ∷ fs)) usual.bucket) refl is
+slot-given : (p : HamtShape) (h : List ℕ → List ℕ) (held : List (List ℕ)) (left depth : ℕ) (fs : List (List ℕ × Data)) (s : TrieSlot) → Beneath p h held left depth → IsInOrder fs → slot_of p.bucket (node_of h p left (depth + 1)) fs ≡ Some s
+    → ((node : Data) → p.bucket < length fs → node_of h p left (depth + 1) fs ≡ Some node → IsHeldNode p held node × HoldsBelow h p held left (depth + 1) fs)
+    → SlotGives (TreeGives h p held left (depth + 1)) s (ordered h p left depth fs)
+slot-given p h held left depth [] s beneath order is holds =
+    subst (λ z. SlotGives (TreeGives h p held left (depth + 1)) z (ordered h p left depth [])) (same_Some empty s is)
+    (ap (λ b. part_or b (in_trie_order h p left (depth + 1)) []) (le-leb 0 p.bucket (omega arith)))
+slot-given p h held left depth (f ∷ fs) s beneath order is holds = by (nat_le (length (f ∷ fs)) p.bucket) refl is
   where
-    by : (b : Bool) → nat_le (length (f ∷ fs)) usual.bucket ≡ b → bucket_or b (node_of h usual left (depth + 1)) (f ∷ fs) ≡ Some s → SlotGives (TreeGives h usual held left (depth + 1)) s (part_or b (in_trie_order h usual left (depth + 1)) (f ∷ fs))
-    by true few made = subst (λ z. SlotGives (TreeGives h usual held left (depth + 1)) z (f ∷ fs)) (same_Some (bucket (f ∷ fs)) s made) refl
+    by : (b : Bool) → nat_le (length (f ∷ fs)) p.bucket ≡ b → bucket_or b (node_of h p left (depth + 1)) (f ∷ fs) ≡ Some s → SlotGives (TreeGives h p held left (depth + 1)) s (part_or b (in_trie_order h p left (depth + 1)) (f ∷ fs))
+    by true few made = subst (λ z. SlotGives (TreeGives h p held left (depth + 1)) z (f ∷ fs)) (same_Some (bucket (f ∷ fs)) s made) refl
     by false many made =
-        let more = leb-false (length (f ∷ fs)) usual.bucket many in
-        let l = linked (node_of h usual left (depth + 1) (f ∷ fs)) s made in
+        let more = leb-false (length (f ∷ fs)) p.bucket many in
+        let l = linked (node_of h p left (depth + 1) (f ∷ fs)) s made in
         let held_so = holds l.0 more l.1 in
-        subst (λ z. SlotGives (TreeGives h usual held left (depth + 1)) z (in_trie_order h usual left (depth + 1) (f ∷ fs))) (sym l.2) (beneath (f ∷ fs) l.0 order more l.1 held_so.0 held_so.1)
+        subst (λ z. SlotGives (TreeGives h p held left (depth + 1)) z (in_trie_order h p left (depth + 1) (f ∷ fs))) (sym l.2) (beneath (f ∷ fs) l.0 order more l.1 held_so.0 held_so.1)
 
 -- ---- all slots
 
-slots-given : (h : List ℕ → List ℕ) (held : List (List ℕ)) (left depth : ℕ) (es : List (List ℕ × Data)) (a n : ℕ) (slots : List TrieSlot) → Beneath h held left depth → IsInOrder es → HoldsBelow h usual held (suc left) depth es
-    → all_some (map (λ i. slot_of usual.bucket (node_of h usual left (depth + 1)) (part (at_depth h usual depth) es i)) (range_with_len a n)) ≡ Some slots
-    → SlotsGive h usual depth a (TreeGives h usual held left (depth + 1)) slots (flat_map (λ i. ordered h usual left depth (part (at_depth h usual depth) es i)) (range_with_len a n))
-slots-given h held left depth es a zero slots beneath order holds is = subst (λ ss. SlotsGive h usual depth a (TreeGives h usual held left (depth + 1)) ss []) (same_Some [] slots is) refl
-slots-given h held left depth es a (suc n) slots beneath order holds is =
-    let at : List ℕ → ℕ = at_depth h usual depth in
-    let slot_in : ℕ → Option TrieSlot = λ i. slot_of usual.bucket (node_of h usual left (depth + 1)) (part at es i) in
+slots-given : (p : HamtShape) (h : List ℕ → List ℕ) (held : List (List ℕ)) (left depth : ℕ) (es : List (List ℕ × Data)) (a n : ℕ) (slots : List TrieSlot) → Beneath p h held left depth → IsInOrder es → HoldsBelow h p held (suc left) depth es
+    → all_some (map (λ i. slot_of p.bucket (node_of h p left (depth + 1)) (part (at_depth h p depth) es i)) (range_with_len a n)) ≡ Some slots
+    → SlotsGive h p depth a (TreeGives h p held left (depth + 1)) slots (flat_map (λ i. ordered h p left depth (part (at_depth h p depth) es i)) (range_with_len a n))
+slots-given p h held left depth es a zero slots beneath order holds is = subst (λ ss. SlotsGive h p depth a (TreeGives h p held left (depth + 1)) ss []) (same_Some [] slots is) refl
+slots-given p h held left depth es a (suc n) slots beneath order holds is =
+    let at : List ℕ → ℕ = at_depth h p depth in
+    let slot_in : ℕ → Option TrieSlot = λ i. slot_of p.bucket (node_of h p left (depth + 1)) (part at es i) in
     let c = all_some-cons (slot_in a) (map slot_in (range_with_len (a + 1) n)) slots is in
-    let more : List (List ℕ × Data) = flat_map (λ i. ordered h usual left depth (part at es i)) (range_with_len (a + 1) n) in
-    subst (λ ss. SlotsGive h usual depth a (TreeGives h usual held left (depth + 1)) ss (ordered h usual left depth (part at es a) ++ more)) (sym c.4) (
-      ordered h usual left depth (part at es a),
+    let more : List (List ℕ × Data) = flat_map (λ i. ordered h p left depth (part at es i)) (range_with_len (a + 1) n) in
+    subst (λ ss. SlotsGive h p depth a (TreeGives h p held left (depth + 1)) ss (ordered h p left depth (part at es a) ++ more)) (sym c.4) (
+      ordered h p left depth (part at es a),
       more,
       refl,
-      ordered-at h left depth a es,
-      slot-given h held left depth (part at es a) c.0 beneath (in_order-part at es a order) c.2 (holds a),
-      slots-given h held left depth es (a + 1) n c.1 beneath order holds c.3,
+      ordered-at p h left depth a es,
+      slot-given p h held left depth (part at es a) c.0 beneath (in_order-part at es a order) c.2 (holds a),
+      slots-given p h held left depth es (a + 1) n c.1 beneath order holds c.3,
     )
 
-node-given : (h : List ℕ → List ℕ) (held : List (List ℕ)) (left depth : ℕ) (slots : List TrieSlot) (es : List (List ℕ × Data)) → Beneath h held left depth → IsInOrder es → HoldsBelow h usual held (suc left) depth es → slots_at h usual left depth es ≡ Some slots
-    → SlotsGive h usual depth 0 (TreeGives h usual held left (depth + 1)) slots (in_trie_order h usual (suc left) depth es)
-node-given h held left depth slots es beneath order holds is =
-    subst (λ xs. SlotsGive h usual depth 0 (TreeGives h usual held left (depth + 1)) slots xs) (sym (walk_step h usual left depth es)) (slots-given h held left depth es 0 (2 ^ usual.width) slots beneath order holds is)
+node-given : (p : HamtShape) (h : List ℕ → List ℕ) (held : List (List ℕ)) (left depth : ℕ) (slots : List TrieSlot) (es : List (List ℕ × Data)) → Beneath p h held left depth → IsInOrder es → HoldsBelow h p held (suc left) depth es → slots_at h p left depth es ≡ Some slots
+    → SlotsGive h p depth 0 (TreeGives h p held left (depth + 1)) slots (in_trie_order h p (suc left) depth es)
+node-given p h held left depth slots es beneath order holds is =
+    subst (λ xs. SlotsGive h p depth 0 (TreeGives h p held left (depth + 1)) slots xs) (sym (walk_step h p left depth es)) (slots-given p h held left depth es 0 (2 ^ p.width) slots beneath order holds is)
 
-slots-long : (h : List ℕ → List ℕ) (left depth : ℕ) (es : List (List ℕ × Data)) (slots : List TrieSlot) → slots_at h usual left depth es ≡ Some slots → length slots ≡ 2 ^ usual.width
-slots-long h left depth es slots is =
-    all_some-length (map (λ i. slot_of usual.bucket (node_of h usual left (depth + 1)) (part (at_depth h usual depth) es i)) (range_with_len 0 (2 ^ usual.width))) slots is
-    ∙ length-map-range_with_len (λ i. slot_of usual.bucket (node_of h usual left (depth + 1)) (part (at_depth h usual depth) es i)) 0 (2 ^ usual.width)
+slots-long : (p : HamtShape) (h : List ℕ → List ℕ) (left depth : ℕ) (es : List (List ℕ × Data)) (slots : List TrieSlot) → slots_at h p left depth es ≡ Some slots → length slots ≡ 2 ^ p.width
+slots-long p h left depth es slots is =
+    all_some-length (map (λ i. slot_of p.bucket (node_of h p left (depth + 1)) (part (at_depth h p depth) es i)) (range_with_len 0 (2 ^ p.width))) slots is
+    ∙ length-map-range_with_len (λ i. slot_of p.bucket (node_of h p left (depth + 1)) (part (at_depth h p depth) es i)) 0 (2 ^ p.width)
 
-one-node : (ss ts : List TrieSlot) → length ss ≡ 2 ^ usual.width → length ts ≡ 2 ^ usual.width → node_data ss ≡ node_data ts → ss ≡ ts
-one-node ss ts long also same = same_node ss ts (whole_map usual.width (length ss) (omega arith) long) (also ∙ sym long) same
+one-node : (p : HamtShape) (ss ts : List TrieSlot) → length ss ≡ 2 ^ p.width → length ts ≡ 2 ^ p.width → node_data ss ≡ node_data ts → ss ≡ ts
+one-node p ss ts long also same = same_node ss ts (whole_map p.width (length ss) p.wide long) (also ∙ sym long) same
 
-tree-given : (h : List ℕ → List ℕ) (held : List (List ℕ)) (left depth : ℕ) (slots : List TrieSlot) (es : List (List ℕ × Data)) → IsInOrder es → HoldsBelow h usual held (suc left) depth es → slots_at h usual left depth es ≡ Some slots
-    → SlotsGive h usual depth 0 (TreeGives h usual held left (depth + 1)) slots (in_trie_order h usual (suc left) depth es)
-tree-given h held zero depth slots es order holds is =
-    node-given h held zero depth slots es (λ fs node o many there n b. absurd (let none : None ≡ Some node = sym (no_node h usual (depth + 1) fs) ∙ there in cc)) order holds is
-tree-given h held (suc left) depth slots es order holds is =
-    node-given h held (suc left) depth slots es (λ fs node o many there n b.
-    let s = slots-node h usual left (depth + 1) fs node there in
-    let same : s.0 ≡ n.slots = one-node s.0 n.slots (slots-long h left (depth + 1) fs s.0 s.1) n.block.form.many (sym s.2 ∙ n.is) in
+tree-given : (p : HamtShape) (h : List ℕ → List ℕ) (held : List (List ℕ)) (left depth : ℕ) (slots : List TrieSlot) (es : List (List ℕ × Data)) → IsInOrder es → HoldsBelow h p held (suc left) depth es → slots_at h p left depth es ≡ Some slots
+    → SlotsGive h p depth 0 (TreeGives h p held left (depth + 1)) slots (in_trie_order h p (suc left) depth es)
+tree-given p h held zero depth slots es order holds is =
+    node-given p h held zero depth slots es (λ fs node o many there n b. absurd (let none : None ≡ Some node = sym (no_node h p (depth + 1) fs) ∙ there in cc)) order holds is
+tree-given p h held (suc left) depth slots es order holds is =
+    node-given p h held (suc left) depth slots es (λ fs node o many there n b.
+    let s = slots-node h p left (depth + 1) fs node there in
+    let same : s.0 ≡ n.slots = one-node p s.0 n.slots (slots-long p h left (depth + 1) fs s.0 s.1) n.block.form.many (sym s.2 ∙ n.is) in
     record {
       block = spell node;
       slots = n.slots;
       here = n.here;
       node = n.block;
-      many = let long = walk-long h (suc left) (depth + 1) fs o in omega (arith, long, many);
-      gives = tree-given h held left (depth + 1) n.slots fs o b (s.1 ∙ ap Some same);
+      many = let long = walk-long p h (suc left) (depth + 1) fs o in omega (arith, long, many);
+      gives = tree-given p h held left (depth + 1) n.slots fs o b (s.1 ∙ ap Some same);
     }) order holds is
 
-some-data : (h : List ℕ → List ℕ) (slots : List TrieSlot) (es : List (List ℕ × Data)) → length slots ≡ 2 ^ usual.width → node_of h usual 32 0 es ≡ Some (node_data slots) → slots_at h usual 31 0 es ≡ Some slots
-some-data h slots es long is =
-    let s = slots-node h usual 31 0 es (node_data slots) is in
-    s.1 ∙ ap Some (one-node s.0 slots (slots-long h 31 0 es s.0 s.1) long (sym s.2))
+some-data : (p : HamtShape) (h : List ℕ → List ℕ) (slots : List TrieSlot) (es : List (List ℕ × Data)) → length slots ≡ 2 ^ p.width → node_of h p (trie_levels p - 0) 0 es ≡ Some (node_data slots) → slots_at h p (trie_levels p - 1) 0 es ≡ Some slots
+some-data p h slots es long is =
+    let left : ℕ = trie_levels p - 1 in
+    let s = slots-node h p left 0 es (node_data slots) (ap (λ n. node_of h p n 0 es) (sym (levels_all p)) ∙ is) in
+    s.1 ∙ ap Some (one-node p s.0 slots (slots-long p h left 0 es s.0 s.1) long (sym s.2))
 
-pub trie-is-given : (h : List ℕ → List ℕ) (held : List (List ℕ)) (slots : List TrieSlot) (es : List (List ℕ × Data)) → IsNode usual slots → IsTrieOf h held slots es → RootGives h usual held (trie_levels usual - 1) slots es
-trie-is-given h held slots es form t =
-    subst (λ xs. SlotsGive h usual 0 0 (TreeGives h usual held 31 1) slots xs) (sym t.order)
-    (tree-given h held 31 0 slots (in_byte_order es) (in_order-sorted es) t.holds (some-data h slots (in_byte_order es) form.many (sym (trie-sorted h usual es 0 t.distinct) ∙ t.tree)))
+pub trie-is-given : (p : HamtShape) (h : List ℕ → List ℕ) (held : List (List ℕ)) (slots : List TrieSlot) (es : List (List ℕ × Data)) → IsNode p slots → IsTrieOf h p held slots es → RootGives h p held (trie_levels p - 1) slots es
+trie-is-given p h held slots es form t =
+    subst (λ xs. SlotsGive h p 0 0 (TreeGives h p held (trie_levels p - 1) 1) slots xs) (sym (t.order ∙ ap (λ n. in_trie_order h p n 0 (in_byte_order es)) (levels_suc p)))
+    (tree-given p h held (trie_levels p - 1) 0 slots (in_byte_order es) (in_order-sorted es) (subst (λ n. HoldsBelow h p held n 0 (in_byte_order es)) (levels_suc p) t.holds) (some-data p h slots (in_byte_order es) form.many (sym (trie-sorted h p es 0 t.distinct) ∙ t.tree)))

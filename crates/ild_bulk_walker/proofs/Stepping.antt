@@ -2,6 +2,7 @@
 use Rattle.std.proofs.Common.{◌≡◌, ℕ, List, [], ◌∷◌, ◌++◌, map, refl, sym, ap, ◌∙◌}
 use Rattle.std.specs.Prelude.{reverse, Result, Ok, Err}
 use Rattle.std.proofs.lemmas.List.{map-append, reverse-append}
+use Rattle.ild_data.specs.declared.hamt_shape.HamtShape.{HamtShape}
 use Rattle.ild_data.specs.Data.{Data}
 use Rattle.std.specs.Global.{Vec}
 use Rattle.ild_cbor.specs.declared.why.BlockWhy.TheVariants.{Missing, Cbor, Shape as NoNode}
@@ -35,14 +36,14 @@ steps-turned steps new turned = ap (λ (xs : List Step). reverse (map step_todo 
 
 -- ---- a block that was got
 
-pub fetched : (m n : Moment) (id b : List ℕ) (r : Result (Vec Step) HamtFault) → ReadsBlock id b r → IsBlockAt m id b → OnlyGets 1 m n → Fetches m id r n
-fetched m n id b (Ok steps) reads at only = record { answer = record { block = b; at = at; has = reads }; only = only }
-fetched m n id b (Err (F.Block i Missing)) reads at only = absurd reads.1
-fetched m n id b (Err (F.Block i (Cbor fault))) reads at only = record { answer = (reads.0, record { block = b; at = at; wrong = reads.1 }); only = only }
-fetched m n id b (Err (F.Block i (NoNode why))) reads at only = record { answer = (reads.0, record { block = b; at = at; wrong = reads.1 }); only = only }
-fetched m n id b (Err F.Exhausted) reads at only = absurd reads
-fetched m n id b (Err F.Store) reads at only = absurd reads
-fetched m n id b (Err (F.Clash i kept new)) reads at only = absurd reads
-fetched m n id b (Err F.Size) reads at only = absurd reads
-fetched m n id b (Err F.NoKey) reads at only = absurd reads
-fetched m n id b (Err F.Memory) reads at only = record { answer = tt; only = only }
+pub fetched : (p : HamtShape) (m n : Moment) (id b : List ℕ) (r : Result (Vec Step) HamtFault) → ReadsBlock p id b r → IsBlockAt m id b → OnlyGets 1 m n → Fetches p m id r n
+fetched p m n id b (Ok steps) reads at only = record { answer = record { block = b; at = at; has = reads }; only = only }
+fetched p m n id b (Err (F.Block i Missing)) reads at only = absurd reads.1
+fetched p m n id b (Err (F.Block i (Cbor fault))) reads at only = record { answer = (reads.0, record { block = b; at = at; wrong = reads.1 }); only = only }
+fetched p m n id b (Err (F.Block i (NoNode why))) reads at only = record { answer = (reads.0, record { block = b; at = at; wrong = reads.1 }); only = only }
+fetched p m n id b (Err F.Exhausted) reads at only = absurd reads
+fetched p m n id b (Err F.Store) reads at only = absurd reads
+fetched p m n id b (Err (F.Clash i kept new)) reads at only = absurd reads
+fetched p m n id b (Err F.Size) reads at only = absurd reads
+fetched p m n id b (Err F.NoKey) reads at only = absurd reads
+fetched p m n id b (Err F.Memory) reads at only = record { answer = tt; only = only }

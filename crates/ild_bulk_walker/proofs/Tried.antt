@@ -15,13 +15,14 @@ use Rattle.ild_data.specs.Data.{Data}
 use Rattle.ild_data.specs.Spell.{spell, id_of}
 use Rattle.ild_data.specs.Trie.{TrieSlot, empty, bucket, child, bucket_or, link_to, part, slot_of, all_some, at_depth, node_data, node_of, slots_at}
 use Rattle.ild_data.specs.TrieBlocks.{block_of, none_or, node_and_beneath, nodes_beneath}
-use Rattle.ild_data.specs.TrieShape.{TrieShape, trie_levels}
+use Rattle.ild_data.specs.declared.hamt_shape.HamtShape.{HamtShape}
+use Rattle.ild_data.specs.TrieShape.{trie_levels}
 use Rattle.ild_edges.specs.Store.{block_at}
 use Rattle.ild_edges.proofs.Held.{block_at_id}
-use Rattle.ild_typed.specs.Composed.{usual}
 use Rattle.ild_typed.specs.Node.{IsSlot}
 use Rattle.ild_typed.proofs.NodeEntries.{less, true_of}
 use Rattle.ild_hamt_trie.specs.Walk.{part_or, in_trie_order}
+use Rattle.ild_node_slots.proofs.Shapes.{levels_suc, levels_all}
 use Rattle.ild_hamt_trie.proofs.Fold.{or_else, find-append, slot-many}
 use Rattle.ild_hamt_trie.proofs.Gather.{StandApart, part-gathered, slots-gathered}
 use Rattle.ild_hamt_trie.proofs.Index.{index_below}
@@ -85,7 +86,7 @@ length-sorted (e ∷ es) once =
 -- ---- how many nodes
 
 -- as many blocks as are beneath a link to a child, each of which is held
-record CountsNode (p : TrieShape) (held : List (List ℕ)) (below : List ℕ → ℕ → Type 0) (id : List ℕ) (n : ℕ) : Type 0 where
+record CountsNode (p : HamtShape) (held : List (List ℕ)) (below : List ℕ → ℕ → Type 0) (id : List ℕ) (n : ℕ) : Type 0 where
   pub block : List ℕ
   pub slots : List TrieSlot
   pub here : block_at held id ≡ Some block
@@ -94,35 +95,35 @@ record CountsNode (p : TrieShape) (held : List (List ℕ)) (below : List ℕ →
   pub is : n ≡ 1 + more
   pub many : SlotsNodes below slots more
 
-abbrev Counts : TrieShape → List (List ℕ) → ℕ → List ℕ → ℕ → Type 0
+abbrev Counts : HamtShape → List (List ℕ) → ℕ → List ℕ → ℕ → Type 0
 Counts p held zero id n = ⊥
 Counts p held (suc left) id n = CountsNode p held (Counts p held left) id n
 
 -- the blocks of a part: its own, and those beneath
-abbrev blocks : (List ℕ → List ℕ) → TrieShape → ℕ → ℕ → List (List ℕ × Data) → List (List ℕ)
+abbrev blocks : (List ℕ → List ℕ) → HamtShape → ℕ → ℕ → List (List ℕ × Data) → List (List ℕ)
 blocks h p left depth fs = node_and_beneath p.bucket (node_of h p left (depth + 1)) (nodes_beneath h p left (depth + 1)) fs
 
-beneath_step : (h : List ℕ → List ℕ) (p : TrieShape) (left depth : ℕ) (es : List (List ℕ × Data)) → nodes_beneath h p (suc left) depth es ≡ flat_map (λ i. blocks h p left depth (part (at_depth h p depth) es i)) (range_with_len 0 (2 ^ p.width))
+beneath_step : (h : List ℕ → List ℕ) (p : HamtShape) (left depth : ℕ) (es : List (List ℕ × Data)) → nodes_beneath h p (suc left) depth es ≡ flat_map (λ i. blocks h p left depth (part (at_depth h p depth) es i)) (range_with_len 0 (2 ^ p.width))
 unfolding nodes_beneath
 beneath_step h p left depth es = refl
 
 -- ---- one part
 
-record PartIs (h : List ℕ → List ℕ) (p : TrieShape) (held : List (List ℕ)) (left depth : ℕ) (s : TrieSlot) (es : List (List ℕ × Data)) : Type 0 where
+record PartIs (h : List ℕ → List ℕ) (p : HamtShape) (held : List (List ℕ)) (left depth : ℕ) (s : TrieSlot) (es : List (List ℕ × Data)) : Type 0 where
   pub distinct : no_key_twice es ≡ true
   pub slot : slot_of p.bucket (node_of h p left (depth + 1)) (in_byte_order es) ≡ Some s
   pub order : es ≡ part_or (nat_le (length (in_byte_order es)) p.bucket) (in_trie_order h p left (depth + 1)) (in_byte_order es)
   pub nodes : SlotNodes (Counts p held left) s (length (blocks h p left depth (in_byte_order es)))
   pub holds : (node : Data) → p.bucket < length (in_byte_order es) → node_of h p left (depth + 1) (in_byte_order es) ≡ Some node → IsHeldNode p held node × HoldsBelow h p held left (depth + 1) (in_byte_order es)
 
-record Tells (h : List ℕ → List ℕ) (p : TrieShape) (held : List (List ℕ)) (left depth : ℕ) (slots : List TrieSlot) (es : List (List ℕ × Data)) : Type 0 where
+record Tells (h : List ℕ → List ℕ) (p : HamtShape) (held : List (List ℕ)) (left depth : ℕ) (slots : List TrieSlot) (es : List (List ℕ × Data)) : Type 0 where
   pub distinct : no_key_twice es ≡ true
   pub order : es ≡ in_trie_order h p (suc left) depth (in_byte_order es)
   pub node : slots_at h p left depth (in_byte_order es) ≡ Some slots
   pub nodes : SlotsNodes (Counts p held left) slots (length (nodes_beneath h p (suc left) depth (in_byte_order es)))
   pub holds : HoldsBelow h p held (suc left) depth (in_byte_order es)
 
-part-few : (h : List ℕ → List ℕ) (p : TrieShape) (held : List (List ℕ)) (left depth : ℕ) (es : List (List ℕ × Data)) → IsInOrder es → 1 ≤ length es → length es ≤ p.bucket → PartIs h p held left depth (bucket es) es
+part-few : (h : List ℕ → List ℕ) (p : HamtShape) (held : List (List ℕ)) (left depth : ℕ) (es : List (List ℕ × Data)) → IsInOrder es → 1 ≤ length es → length es ≤ p.bucket → PartIs h p held left depth (bucket es) es
 part-few h p held left depth [] order some few = absurd (omega arith)
 part-few h p held left depth (e ∷ es) order some few =
     let same : in_byte_order (e ∷ es) ≡ e ∷ es = sorted_in_order (e ∷ es) order in
@@ -135,7 +136,7 @@ part-few h p held left depth (e ∷ es) order some few =
       holds = λ node many is. absurd (let long = ap (λ (fs : List (List ℕ × Data)). length fs) same in omega arith);
     }
 
-part-none : (h : List ℕ → List ℕ) (p : TrieShape) (held : List (List ℕ)) (left depth : ℕ) → PartIs h p held left depth empty []
+part-none : (h : List ℕ → List ℕ) (p : HamtShape) (held : List (List ℕ)) (left depth : ℕ) → PartIs h p held left depth empty []
 part-none h p held left depth = record {
   distinct = refl;
   slot = refl;
@@ -150,7 +151,7 @@ same-node a b is = cc
 one-added : (n : ℕ) → suc n ≡ 1 + n
 one-added n = omega arith
 
-part-child : (h : List ℕ → List ℕ) (p : TrieShape) (held : List (List ℕ)) (left depth : ℕ) (id : List ℕ) (es : List (List ℕ × Data)) (t : NodeGives h p held (depth + 1) (TreeGives h p held left (depth + 1 + 1)) id es) → Tells h p held left (depth + 1) t.slots es
+part-child : (h : List ℕ → List ℕ) (p : HamtShape) (held : List (List ℕ)) (left depth : ℕ) (id : List ℕ) (es : List (List ℕ × Data)) (t : NodeGives h p held (depth + 1) (TreeGives h p held left (depth + 1 + 1)) id es) → Tells h p held left (depth + 1) t.slots es
     → PartIs h p held (suc left) depth (child id) es
 part-child h p held left depth id es t tells =
     let fs : List (List ℕ × Data) = in_byte_order es in
@@ -186,7 +187,7 @@ part-child h p held left depth id es t tells =
 
 -- ---- all parts
 
-abbrev Each : (List ℕ → List ℕ) → TrieShape → List (List ℕ) → ℕ → ℕ → ℕ → List TrieSlot → List (List (List ℕ × Data)) → Type 0
+abbrev Each : (List ℕ → List ℕ) → HamtShape → List (List ℕ) → ℕ → ℕ → ℕ → List TrieSlot → List (List (List ℕ × Data)) → Type 0
 Each h p held left depth i [] [] = Unit {0}
 Each h p held left depth i [] (es ∷ ess) = ⊥
 Each h p held left depth i (s ∷ slots) [] = ⊥
@@ -195,38 +196,38 @@ Each h p held left depth i (s ∷ slots) (es ∷ ess) = AtIndex h p depth i es �
 abbrev joined : List (List (List ℕ × Data)) → List (List ℕ × Data)
 joined ess = flat_map (λ es. es) ess
 
-record Split (h : List ℕ → List ℕ) (p : TrieShape) (held : List (List ℕ)) (left depth i : ℕ) (slots : List TrieSlot) (es : List (List ℕ × Data)) : Type 0 where
+record Split (h : List ℕ → List ℕ) (p : HamtShape) (held : List (List ℕ)) (left depth i : ℕ) (slots : List TrieSlot) (es : List (List ℕ × Data)) : Type 0 where
   pub parts : List (List (List ℕ × Data))
   pub is : es ≡ joined parts
   pub each : Each h p held left depth i slots parts
 
-slot-part : (h : List ℕ → List ℕ) (p : TrieShape) (held : List (List ℕ)) (left depth : ℕ) (s : TrieSlot) (es : List (List ℕ × Data)) → ((id : List ℕ) (fs : List (List ℕ × Data)) → TreeGives h p held left (depth + 1) id fs → PartIs h p held left depth (child id) fs)
+slot-part : (h : List ℕ → List ℕ) (p : HamtShape) (held : List (List ℕ)) (left depth : ℕ) (s : TrieSlot) (es : List (List ℕ × Data)) → ((id : List ℕ) (fs : List (List ℕ × Data)) → TreeGives h p held left (depth + 1) id fs → PartIs h p held left depth (child id) fs)
     → IsSlot p s → SlotGives (TreeGives h p held left (depth + 1)) s es → PartIs h p held left depth s es
 slot-part h p held left depth empty es beneath form gives = subst (PartIs h p held left depth empty) (sym gives) (part-none h p held left depth)
 slot-part h p held left depth (bucket fs) es beneath form gives = subst (PartIs h p held left depth (bucket fs)) (sym gives) (part-few h p held left depth fs form.0 form.1 form.2)
 slot-part h p held left depth (child id) es beneath form gives = beneath id es gives
 
-split : (h : List ℕ → List ℕ) (p : TrieShape) (held : List (List ℕ)) (left depth i : ℕ) (slots : List TrieSlot) (es : List (List ℕ × Data)) → ((id : List ℕ) (fs : List (List ℕ × Data)) → TreeGives h p held left (depth + 1) id fs → PartIs h p held left depth (child id) fs)
+split : (h : List ℕ → List ℕ) (p : HamtShape) (held : List (List ℕ)) (left depth i : ℕ) (slots : List TrieSlot) (es : List (List ℕ × Data)) → ((id : List ℕ) (fs : List (List ℕ × Data)) → TreeGives h p held left (depth + 1) id fs → PartIs h p held left depth (child id) fs)
     → AreSlots p slots → SlotsGive h p depth i (TreeGives h p held left (depth + 1)) slots es → Split h p held left depth i slots es
 split h p held left depth i [] es beneath forms gives = record { parts = []; is = gives; each = tt }
 split h p held left depth i (s ∷ slots) es beneath forms gives =
     let rest = split h p held left depth (i + 1) slots gives.1 beneath forms.1 gives.5 in
     record { parts = gives.0 ∷ rest.parts; is = gives.2 ∙ ap (λ fs. gives.0 ++ fs) rest.is; each = (gives.3, slot-part h p held left depth s gives.0 beneath forms.0 gives.4, rest.each) }
 
-each-long : (h : List ℕ → List ℕ) (p : TrieShape) (held : List (List ℕ)) (left depth i : ℕ) (slots : List TrieSlot) (ess : List (List (List ℕ × Data))) → Each h p held left depth i slots ess → length ess ≡ length slots
+each-long : (h : List ℕ → List ℕ) (p : HamtShape) (held : List (List ℕ)) (left depth i : ℕ) (slots : List TrieSlot) (ess : List (List (List ℕ × Data))) → Each h p held left depth i slots ess → length ess ≡ length slots
 each-long h p held left depth i [] [] each = refl
 each-long h p held left depth i [] (es ∷ ess) each = absurd each
 each-long h p held left depth i (s ∷ slots) [] each = absurd each
 each-long h p held left depth i (s ∷ slots) (es ∷ ess) each = ap suc (each-long h p held left depth (i + 1) slots ess each.2)
 
-each-apart : (h : List ℕ → List ℕ) (p : TrieShape) (held : List (List ℕ)) (left depth i : ℕ) (slots : List TrieSlot) (ess : List (List (List ℕ × Data))) → Each h p held left depth i slots ess → StandApart (at_depth h p depth) i (map in_byte_order ess)
+each-apart : (h : List ℕ → List ℕ) (p : HamtShape) (held : List (List ℕ)) (left depth i : ℕ) (slots : List TrieSlot) (ess : List (List (List ℕ × Data))) → Each h p held left depth i slots ess → StandApart (at_depth h p depth) i (map in_byte_order ess)
 each-apart h p held left depth i [] [] each = tt
 each-apart h p held left depth i [] (es ∷ ess) each = absurd each
 each-apart h p held left depth i (s ∷ slots) [] each = absurd each
 each-apart h p held left depth i (s ∷ slots) (es ∷ ess) each =
     (in_order-sorted es, λ q other. find-sorted q es ∙ find-absent (at_depth h p depth) i es q each.0 other, each-apart h p held left depth (i + 1) slots ess each.2)
 
-each-slots : (h : List ℕ → List ℕ) (p : TrieShape) (held : List (List ℕ)) (left depth i : ℕ) (slots : List TrieSlot) (ess : List (List (List ℕ × Data))) → Each h p held left depth i slots ess
+each-slots : (h : List ℕ → List ℕ) (p : HamtShape) (held : List (List ℕ)) (left depth i : ℕ) (slots : List TrieSlot) (ess : List (List (List ℕ × Data))) → Each h p held left depth i slots ess
     → all_some (map (slot_of p.bucket (node_of h p left (depth + 1))) (map in_byte_order ess)) ≡ Some slots
 each-slots h p held left depth i [] [] each = refl
 each-slots h p held left depth i [] (es ∷ ess) each = absurd each
@@ -234,16 +235,16 @@ each-slots h p held left depth i (s ∷ slots) [] each = absurd each
 each-slots h p held left depth i (s ∷ slots) (es ∷ ess) each =
     ap (λ o. all_some (o ∷ map (slot_of p.bucket (node_of h p left (depth + 1))) (map in_byte_order ess))) each.1.slot ∙ ap (option_map (λ ss. s ∷ ss)) (each-slots h p held left depth (i + 1) slots ess each.2)
 
-abbrev pub ordered : (List ℕ → List ℕ) → TrieShape → ℕ → ℕ → List (List ℕ × Data) → List (List ℕ × Data)
+abbrev pub ordered : (List ℕ → List ℕ) → HamtShape → ℕ → ℕ → List (List ℕ × Data) → List (List ℕ × Data)
 ordered h p left depth fs = part_or (nat_le (length fs) p.bucket) (in_trie_order h p left (depth + 1)) fs
 
-each-order : (h : List ℕ → List ℕ) (p : TrieShape) (held : List (List ℕ)) (left depth i : ℕ) (slots : List TrieSlot) (ess : List (List (List ℕ × Data))) → Each h p held left depth i slots ess → joined ess ≡ flat_map (ordered h p left depth) (map in_byte_order ess)
+each-order : (h : List ℕ → List ℕ) (p : HamtShape) (held : List (List ℕ)) (left depth i : ℕ) (slots : List TrieSlot) (ess : List (List (List ℕ × Data))) → Each h p held left depth i slots ess → joined ess ≡ flat_map (ordered h p left depth) (map in_byte_order ess)
 each-order h p held left depth i [] [] each = refl
 each-order h p held left depth i [] (es ∷ ess) each = absurd each
 each-order h p held left depth i (s ∷ slots) [] each = absurd each
 each-order h p held left depth i (s ∷ slots) (es ∷ ess) each = (λ k. each.1.order k ++ each-order h p held left depth (i + 1) slots ess each.2 k)
 
-each-nodes : (h : List ℕ → List ℕ) (p : TrieShape) (held : List (List ℕ)) (left depth i : ℕ) (slots : List TrieSlot) (ess : List (List (List ℕ × Data))) → Each h p held left depth i slots ess
+each-nodes : (h : List ℕ → List ℕ) (p : HamtShape) (held : List (List ℕ)) (left depth i : ℕ) (slots : List TrieSlot) (ess : List (List (List ℕ × Data))) → Each h p held left depth i slots ess
     → SlotsNodes (Counts p held left) slots (length (flat_map (blocks h p left depth) (map in_byte_order ess)))
 each-nodes h p held left depth i [] [] each = refl
 each-nodes h p held left depth i [] (es ∷ ess) each = absurd each
@@ -256,7 +257,7 @@ each-nodes h p held left depth i (s ∷ slots) (es ∷ ess) each = (
   each-nodes h p held left depth (i + 1) slots ess each.2,
 )
 
-each-holds : (h : List ℕ → List ℕ) (p : TrieShape) (held : List (List ℕ)) (left depth i : ℕ) (slots : List TrieSlot) (ess : List (List (List ℕ × Data))) → Each h p held left depth i slots ess → (j : ℕ) (node : Data)
+each-holds : (h : List ℕ → List ℕ) (p : HamtShape) (held : List (List ℕ)) (left depth i : ℕ) (slots : List TrieSlot) (ess : List (List (List ℕ × Data))) → Each h p held left depth i slots ess → (j : ℕ) (node : Data)
     → p.bucket < length (get_or (map in_byte_order ess) j []) → node_of h p left (depth + 1) (get_or (map in_byte_order ess) j []) ≡ Some node → IsHeldNode p held node × HoldsBelow h p held left (depth + 1) (get_or (map in_byte_order ess) j [])
 each-holds h p held left depth i [] [] each j node many is = absurd (omega arith)
 each-holds h p held left depth i [] (es ∷ ess) each j node many is = absurd each
@@ -264,14 +265,14 @@ each-holds h p held left depth i (s ∷ slots) [] each j node many is = absurd e
 each-holds h p held left depth i (s ∷ slots) (es ∷ ess) each zero node many is = each.1.holds node many is
 each-holds h p held left depth i (s ∷ slots) (es ∷ ess) each (suc j) node many is = each-holds h p held left depth (i + 1) slots ess each.2 j node many is
 
-absent-later : (h : List ℕ → List ℕ) (p : TrieShape) (held : List (List ℕ)) (left depth i : ℕ) (slots : List TrieSlot) (ess : List (List (List ℕ × Data))) (q : List ℕ) → Each h p held left depth i slots ess → at_depth h p depth q < i → find bytewise q (joined ess) ≡ None
+absent-later : (h : List ℕ → List ℕ) (p : HamtShape) (held : List (List ℕ)) (left depth i : ℕ) (slots : List TrieSlot) (ess : List (List (List ℕ × Data))) (q : List ℕ) → Each h p held left depth i slots ess → at_depth h p depth q < i → find bytewise q (joined ess) ≡ None
 absent-later h p held left depth i [] [] q each lt = refl
 absent-later h p held left depth i [] (es ∷ ess) q each lt = absurd each
 absent-later h p held left depth i (s ∷ slots) [] q each lt = absurd each
 absent-later h p held left depth i (s ∷ slots) (es ∷ ess) q each lt =
     find-append q es (joined ess) ∙ or_nothing (find bytewise q es) (find bytewise q (joined ess)) (find-absent (at_depth h p depth) i es q each.0 (λ same. omega arith)) (absent-later h p held left depth (i + 1) slots ess q each.2 (omega arith))
 
-each-distinct : (h : List ℕ → List ℕ) (p : TrieShape) (held : List (List ℕ)) (left depth i : ℕ) (slots : List TrieSlot) (ess : List (List (List ℕ × Data))) → Each h p held left depth i slots ess → no_key_twice (joined ess) ≡ true
+each-distinct : (h : List ℕ → List ℕ) (p : HamtShape) (held : List (List ℕ)) (left depth i : ℕ) (slots : List TrieSlot) (ess : List (List (List ℕ × Data))) → Each h p held left depth i slots ess → no_key_twice (joined ess) ≡ true
 each-distinct h p held left depth i [] [] each = refl
 each-distinct h p held left depth i [] (es ∷ ess) each = absurd each
 each-distinct h p held left depth i (s ∷ slots) [] each = absurd each
@@ -291,11 +292,11 @@ no-part : (at : List ℕ → ℕ) (i : ℕ) (es : List (List ℕ × Data)) → (
 no-part at i [] other = refl
 no-part at i (e ∷ es) other = ap (λ b. cond b (e ∷ part at es i) (part at es i)) (ne_eqb (at e.0) i (other e.0)) ∙ no-part at i es other
 
-pub walk_step : (h : List ℕ → List ℕ) (p : TrieShape) (left depth : ℕ) (es : List (List ℕ × Data)) → in_trie_order h p (suc left) depth es ≡ flat_map (λ i. ordered h p left depth (part (at_depth h p depth) es i)) (range_with_len 0 (2 ^ p.width))
+pub walk_step : (h : List ℕ → List ℕ) (p : HamtShape) (left depth : ℕ) (es : List (List ℕ × Data)) → in_trie_order h p (suc left) depth es ≡ flat_map (λ i. ordered h p left depth (part (at_depth h p depth) es i)) (range_with_len 0 (2 ^ p.width))
 unfolding in_trie_order
 walk_step h p left depth es = refl
 
-from-parts : (h : List ℕ → List ℕ) (p : TrieShape) (held : List (List ℕ)) (left depth : ℕ) (slots : List TrieSlot) (es : List (List ℕ × Data)) → ((id : List ℕ) (fs : List (List ℕ × Data)) → TreeGives h p held left (depth + 1) id fs → PartIs h p held left depth (child id) fs)
+from-parts : (h : List ℕ → List ℕ) (p : HamtShape) (held : List (List ℕ)) (left depth : ℕ) (slots : List TrieSlot) (es : List (List ℕ × Data)) → ((id : List ℕ) (fs : List (List ℕ × Data)) → TreeGives h p held left (depth + 1) id fs → PartIs h p held left depth (child id) fs)
     → IsNode p slots → SlotsGive h p depth 0 (TreeGives h p held left (depth + 1)) slots es → Tells h p held left depth slots es
 from-parts h p held left depth slots es beneath form gives =
     let at : List ℕ → ℕ = at_depth h p depth in
@@ -343,41 +344,44 @@ from-parts h p held left depth slots es beneath form gives =
           (cases_lt i (2 ^ p.width)));
     }
 
-tells : (h : List ℕ → List ℕ) (p : TrieShape) (held : List (List ℕ)) (left depth : ℕ) (slots : List TrieSlot) (es : List (List ℕ × Data)) → IsNode p slots → SlotsGive h p depth 0 (TreeGives h p held left (depth + 1)) slots es → Tells h p held left depth slots es
+tells : (h : List ℕ → List ℕ) (p : HamtShape) (held : List (List ℕ)) (left depth : ℕ) (slots : List TrieSlot) (es : List (List ℕ × Data)) → IsNode p slots → SlotsGive h p depth 0 (TreeGives h p held left (depth + 1)) slots es → Tells h p held left depth slots es
 tells h p held zero depth slots es form gives = from-parts h p held zero depth slots es (λ id fs t. absurd t) form gives
 tells h p held (suc left) depth slots es form gives =
     from-parts h p held (suc left) depth slots es (λ id fs t. part-child h p held left depth id fs t (tells h p held left (depth + 1) t.slots fs t.node.form t.gives)) form gives
 
-pub given-is-trie : (h : List ℕ → List ℕ) (held : List (List ℕ)) (slots : List TrieSlot) (es : List (List ℕ × Data)) → IsNode usual slots → RootGives h usual held (trie_levels usual - 1) slots es → IsTrieOf h held slots es
-given-is-trie h held slots es form gives =
-    let t = tells h usual held 31 0 slots es form gives in
+pub given-is-trie : (p : HamtShape) (h : List ℕ → List ℕ) (held : List (List ℕ)) (slots : List TrieSlot) (es : List (List ℕ × Data)) → IsNode p slots → RootGives h p held (trie_levels p - 1) slots es → IsTrieOf h p held slots es
+given-is-trie p h held slots es form gives =
+    let left : ℕ = trie_levels p - 1 in
+    let t = tells h p held left 0 slots es form gives in
     record {
       distinct = t.distinct;
-      order = t.order;
-      tree = trie-sorted h usual es 0 t.distinct ∙ node-slots h usual 31 0 (in_byte_order es) ∙ ap (option_map node_data) t.node;
-      holds = t.holds;
+      order = t.order ∙ ap (λ n. in_trie_order h p n 0 (in_byte_order es)) (sym (levels_suc p));
+      tree = trie-sorted h p es 0 t.distinct ∙ ap (λ n. node_of h p n 0 (in_byte_order es)) (levels_all p) ∙ node-slots h p left 0 (in_byte_order es) ∙ ap (option_map node_data) t.node;
+      holds = subst (λ n. HoldsBelow h p held n 0 (in_byte_order es)) (sym (levels_suc p)) t.holds;
     }
 
 -- ---- the nodes that a walk reads
 
-slots-counted : (held : List (List ℕ)) (left : ℕ) (slots : List TrieSlot) (n : ℕ) → ((id : List ℕ) (k : ℕ) → Counts usual held left id k → TreeNodes held left id k) → SlotsNodes (Counts usual held left) slots n → SlotsNodes (TreeNodes held left) slots n
-slots-counted held left [] n beneath many = many
-slots-counted held left (empty ∷ slots) n beneath many = (many.0, many.1, many.2, many.3, slots-counted held left slots many.1 beneath many.4)
-slots-counted held left (bucket es ∷ slots) n beneath many = (many.0, many.1, many.2, many.3, slots-counted held left slots many.1 beneath many.4)
-slots-counted held left (child id ∷ slots) n beneath many = (many.0, many.1, many.2, beneath id many.0 many.3, slots-counted held left slots many.1 beneath many.4)
+slots-counted : (p : HamtShape) (held : List (List ℕ)) (left : ℕ) (slots : List TrieSlot) (n : ℕ) → ((id : List ℕ) (k : ℕ) → Counts p held left id k → TreeNodes p held left id k) → SlotsNodes (Counts p held left) slots n → SlotsNodes (TreeNodes p held left) slots n
+slots-counted p held left [] n beneath many = many
+slots-counted p held left (empty ∷ slots) n beneath many = (many.0, many.1, many.2, many.3, slots-counted p held left slots many.1 beneath many.4)
+slots-counted p held left (bucket es ∷ slots) n beneath many = (many.0, many.1, many.2, many.3, slots-counted p held left slots many.1 beneath many.4)
+slots-counted p held left (child id ∷ slots) n beneath many = (many.0, many.1, many.2, beneath id many.0 many.3, slots-counted p held left slots many.1 beneath many.4)
 
-tree-counted : (held : List (List ℕ)) (left : ℕ) (id : List ℕ) (n : ℕ) → Counts usual held left id n → TreeNodes held left id n
-tree-counted held zero id n c = absurd c
-tree-counted held (suc left) id n c = (
+tree-counted : (p : HamtShape) (held : List (List ℕ)) (left : ℕ) (id : List ℕ) (n : ℕ) → Counts p held left id n → TreeNodes p held left id n
+tree-counted p held zero id n c = absurd c
+tree-counted p held (suc left) id n c = (
   c.more,
   c.is,
   inl (record {
     slots = c.slots;
     node = record { block = c.block; at = record { named = block_at_id held id c.block c.here; held = c.here }; node = c.node };
-    many = slots-counted held left c.slots c.more (tree-counted held left) c.many;
+    many = slots-counted p held left c.slots c.more (tree-counted p held left) c.many;
   }),
 )
 
-pub given-counted : (h : List ℕ → List ℕ) (held : List (List ℕ)) (slots : List TrieSlot) (es : List (List ℕ × Data)) → IsNode usual slots → RootGives h usual held (trie_levels usual - 1) slots es → NodesBeneath held slots (length (nodes_beneath h usual (trie_levels usual) 0 (in_byte_order es)))
-given-counted h held slots es form gives =
-    slots-counted held 31 slots (length (nodes_beneath h usual 32 0 (in_byte_order es))) (tree-counted held 31) (tells h usual held 31 0 slots es form gives).nodes
+pub given-counted : (p : HamtShape) (h : List ℕ → List ℕ) (held : List (List ℕ)) (slots : List TrieSlot) (es : List (List ℕ × Data)) → IsNode p slots → RootGives h p held (trie_levels p - 1) slots es → NodesBeneath p held slots (length (nodes_beneath h p (trie_levels p) 0 (in_byte_order es)))
+given-counted p h held slots es form gives =
+    let left : ℕ = trie_levels p - 1 in
+    subst (λ n. NodesBeneath p held slots (length (nodes_beneath h p n 0 (in_byte_order es)))) (sym (levels_suc p))
+    (slots-counted p held left slots (length (nodes_beneath h p (suc left) 0 (in_byte_order es))) (tree-counted p held left) (tells h p held left 0 slots es form gives).nodes)

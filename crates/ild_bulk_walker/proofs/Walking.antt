@@ -10,11 +10,11 @@ use Rattle.ild_cbor.specs.Reading.{fault_of}
 use Rattle.ild_cbor.specs.declared.why.BlockWhy.{BlockWhy}
 use Rattle.ild_cbor.specs.declared.why.BlockWhy.TheVariants.{Missing, Cbor, Shape as NoNode}
 use Rattle.ild_edges.specs.Told.{IfTold}
+use Rattle.ild_data.specs.declared.hamt_shape.HamtShape.{HamtShape}
 use Rattle.ild_data.specs.Data.{Data}
 use Rattle.ild_data.specs.Trie.{TrieSlot, node_data, empty, bucket, child}
 use Rattle.ild_data.specs.TrieShape.{trie_levels}
 use Rattle.ild_edges.specs.Store.{Moment, block_at}
-use Rattle.ild_typed.specs.Composed.{usual}
 use Rattle.ild_node_slots.specs.declared.fault.HamtFault.{HamtFault}
 use Rattle.ild_node_slots.specs.declared.fault.HamtFault.TheVariants as F
 use Rattle.ild_bulk_walker.specs.Gives.{IsNodeOf, TreeGives, SlotsGive}
@@ -65,9 +65,9 @@ snoc-same (a ∷ xs) (b ∷ ys) x y same = let head : a ≡ b = cc in let tail :
 
 -- ---- leaving
 
-pub left-one : (v w : Walker) (before : ℕ) (s : Step) (c : Child) → NextIs (leave before) v → v.steps.items ≡ w.steps.items ++ s ∷ [] → v.path.items ≡ w.path.items ++ c ∷ [] → before + usual.bucket < v.given → w.given ≡ v.given → w.at.0 ≡ v.at.0
-    → Leaves v (Ok tt) w
-left-one v w before s c next steps path many given here =
+pub left-one : (p : HamtShape) (v w : Walker) (before : ℕ) (s : Step) (c : Child) → NextIs (leave before) v → v.steps.items ≡ w.steps.items ++ s ∷ [] → v.path.items ≡ w.path.items ++ c ∷ [] → before + p.bucket < v.given → w.given ≡ v.given → w.at.0 ≡ v.at.0
+    → Leaves p v (Ok tt) w
+left-one p v w before s c next steps path many given here =
     let todo : walker_todo v ≡ step_todo s ∷ walker_todo w = steps-last v.steps.items w.steps.items s steps in
     let same : next.rest ≡ walker_todo w = let both = sym next.is ∙ todo in cc in
     let is : walker_todo v ≡ leave before ∷ walker_todo w = next.is ∙ ap (λ ts. leave before ∷ ts) same in
@@ -76,28 +76,28 @@ left-one v w before s c next steps path many given here =
       answer = tt;
       same = λ h held es. (
         λ a.
-            let g = subst (λ ts. StillGives h usual held ts (walker_path v) v.given es) is a.gives in
+            let g = subst (λ ts. StillGives h p held ts (walker_path v) v.given es) is a.gives in
             let above : g.0 ≡ walker_path w = snoc-same g.0 (walker_path w) g.1 c.index (sym g.2 ∙ way) in
-            record { gives = subst (λ q. StillGives h usual held (walker_todo w) q w.given es) above (subst (λ n. StillGives h usual held (walker_todo w) g.0 n es) (sym given) g.4) },
+            record { gives = subst (λ q. StillGives h p held (walker_todo w) q w.given es) above (subst (λ n. StillGives h p held (walker_todo w) g.0 n es) (sym given) g.4) },
         λ b.
             record {
-              gives = subst (λ ts. StillGives h usual held ts (walker_path v) v.given es) (sym is)
-                  (walker_path w, c.index, way, many, subst (λ n. StillGives h usual held (walker_todo w) (walker_path w) n es) given b.gives);
+              gives = subst (λ ts. StillGives h p held ts (walker_path v) v.given es) (sym is)
+                  (walker_path w, c.index, way, many, subst (λ n. StillGives h p held (walker_todo w) (walker_path w) n es) given b.gives);
             },
       );
       given = given;
       path = let long = ap (λ (q : List ℕ). length q) way in let more = length-append (walker_path w) (c.index ∷ []) in omega arith;
-      on = λ h told lacks root at on. (left-keeps told v w before c is path given here root at on, tt);
-      reads = λ held gets. left-passes held gets v w before c is path;
-      nodes = left-nodes v w before c is path;
+      on = λ h told lacks root at on. (left-keeps p told v w before c is path given here root at on, tt);
+      reads = λ held gets. left-passes p held gets v w before c is path;
+      nodes = left-nodes p v w before c is path;
     }
 
-pub left-few : (v : Walker) (before : ℕ) → NextIs (leave before) v → v.given - before ≤ usual.bucket → NothingAhead v
-left-few v before next few = λ h held es a. let g = subst (λ ts. StillGives h usual held ts (walker_path v) v.given es) next.is a.gives in let many = g.3 in omega arith
+pub left-few : (p : HamtShape) (v : Walker) (before : ℕ) → NextIs (leave before) v → v.given - before ≤ p.bucket → NothingAhead p v
+left-few p v before next few = λ h held es a. let g = subst (λ ts. StillGives h p held ts (walker_path v) v.given es) next.is a.gives in let many = g.3 in omega arith
 
-pub left-none : (v : Walker) (before : ℕ) → NextIs (leave before) v → length v.path.items ≡ 0 → NothingAhead v
-left-none v before next none = λ h held es a.
-    let g = subst (λ ts. StillGives h usual held ts (walker_path v) v.given es) next.is a.gives in
+pub left-none : (p : HamtShape) (v : Walker) (before : ℕ) → NextIs (leave before) v → length v.path.items ≡ 0 → NothingAhead p v
+left-none p v before next none = λ h held es a.
+    let g = subst (λ ts. StillGives h p held ts (walker_path v) v.given es) next.is a.gives in
     let long = ap (λ (q : List ℕ). length q) g.2 in
     let more = length-append g.0 (g.1 ∷ []) in
     let seen = length-map v.path.items (λ (d : Child). d.index) in
@@ -111,47 +111,47 @@ some-step v t next = by v.steps.items next.is
     by (s ∷ steps) is = omega arith
 
 -- the last step and the last child are taken off
-pub left-popped : (v w : Walker) (before : ℕ) (s : Option Step) (c : Option Child) → NextIs (leave before) v → v.steps.items ≡ w.steps.items ++ option_to_list s → IsSome s → v.path.items ≡ w.path.items ++ option_to_list c → IsSome c
-    → before + usual.bucket < v.given → w.given ≡ v.given → w.at.0 ≡ v.at.0 → Leaves v (Ok tt) w
-left-popped v w before (Some s) (Some c) next steps some path is many given here = left-one v w before s c next steps path many given here
-left-popped v w before None c next steps some path is many given here = absurd (false≢true some)
-left-popped v w before (Some s) None next steps some path is many given here = absurd (false≢true is)
+pub left-popped : (p : HamtShape) (v w : Walker) (before : ℕ) (s : Option Step) (c : Option Child) → NextIs (leave before) v → v.steps.items ≡ w.steps.items ++ option_to_list s → IsSome s → v.path.items ≡ w.path.items ++ option_to_list c → IsSome c
+    → before + p.bucket < v.given → w.given ≡ v.given → w.at.0 ≡ v.at.0 → Leaves p v (Ok tt) w
+left-popped p v w before (Some s) (Some c) next steps some path is many given here = left-one p v w before s c next steps path many given here
+left-popped p v w before None c next steps some path is many given here = absurd (false≢true some)
+left-popped p v w before (Some s) None next steps some path is many given here = absurd (false≢true is)
 
 pub not-empty : (n : ℕ) → (n == 0) ≡ false → 0 < n
 not-empty zero is = absurd (false≢true (sym is))
 not-empty (suc n) is = omega arith
 
-fault-is : (v : Walker) (e : HamtFault) → IsTrieFault e → NothingAhead v → ((h : List ℕ → List ℕ) (told : Option (List (List ℕ))) (lacks : ℕ) → FaultOn h told lacks lacks v e v) → Leaves v (Err e) v
-fault-is v e trie nothing keeps = record { answer = (trie, nothing); same = λ h held es. (λ a. a, λ a. a); given = refl; path = omega arith; on = keeps; reads = λ held gets. spends-none held gets v; nodes = λ held n l. l }
+fault-is : (p : HamtShape) (v : Walker) (e : HamtFault) → IsTrieFault e → NothingAhead p v → ((h : List ℕ → List ℕ) (told : Option (List (List ℕ))) (lacks : ℕ) → FaultOn p h told lacks lacks v e v) → Leaves p v (Err e) v
+fault-is p v e trie nothing keeps = record { answer = (trie, nothing); same = λ h held es. (λ a. a, λ a. a); given = refl; path = omega arith; on = keeps; reads = λ held gets. spends-none p held gets v; nodes = λ held n l. l }
 
 -- a node is left too early
-pub left-early : (v : Walker) (before : ℕ) (e : HamtFault) → NextIs (leave before) v → v.given - before ≤ usual.bucket → IsTrieFault e → IsFaultAt (walker_here v) e → Leaves v (Err e) v
-left-early v before e next few trie here = fault-is v e trie (left-few v before next few) (λ h told lacks. few-keeps h told lacks v before next.rest e next.is few trie here)
+pub left-early : (p : HamtShape) (v : Walker) (before : ℕ) (e : HamtFault) → NextIs (leave before) v → v.given - before ≤ p.bucket → IsTrieFault e → IsFaultAt (walker_here v) e → Leaves p v (Err e) v
+left-early p v before e next few trie here = fault-is p v e trie (left-few p v before next few) (λ h told lacks. few-keeps p h told lacks v before next.rest e next.is few trie here)
 
 -- the root is left
-pub left-root : (v : Walker) (before : ℕ) (e : HamtFault) → NextIs (leave before) v → length v.path.items ≡ 0 → IsTrieFault e → Leaves v (Err e) v
-left-root v before e next none trie = fault-is v e trie (left-none v before next none) (λ h told lacks. none-keeps h told lacks v before next.rest e next.is none)
+pub left-root : (p : HamtShape) (v : Walker) (before : ℕ) (e : HamtFault) → NextIs (leave before) v → length v.path.items ≡ 0 → IsTrieFault e → Leaves p v (Err e) v
+left-root p v before e next none trie = fault-is p v e trie (left-none p v before next none) (λ h told lacks. none-keeps p h told lacks v before next.rest e next.is none)
 
-pub same-itself : (v : Walker) → Leaves v (Ok tt) v
-same-itself v = record { answer = tt; same = λ h held es. (λ a. a, λ a. a); given = refl; path = omega arith; on = λ h told lacks root at on. (on, tt); reads = λ held gets. passes-itself held gets v; nodes = λ held n l. l }
+pub same-itself : (p : HamtShape) (v : Walker) → Leaves p v (Ok tt) v
+same-itself p v = record { answer = tt; same = λ h held es. (λ a. a, λ a. a); given = refl; path = omega arith; on = λ h told lacks root at on. (on, tt); reads = λ held gets. passes-itself p held gets v; nodes = λ held n l. l }
 
-pub left-more : (u v w : Walker) (r : Result (Unit {0}) HamtFault) → Leaves u (Ok tt) v → Leaves v r w → Leaves u r w
-left-more u v w (Ok x) a b = record {
+pub left-more : (p : HamtShape) (u v w : Walker) (r : Result (Unit {0}) HamtFault) → Leaves p u (Ok tt) v → Leaves p v r w → Leaves p u r w
+left-more p u v w (Ok x) a b = record {
   answer = tt;
   same = λ h held es. (λ s. (b.same h held es).0 ((a.same h held es).0 s), λ s. (a.same h held es).1 ((b.same h held es).1 s));
   given = b.given ∙ a.given;
-  path = let p = a.path in let q = b.path in omega arith;
-  on = λ h told lacks. keeps-more h told lacks lacks lacks u v w (Ok x) (omega arith) (λ root at on. (a.on h told lacks root at on).0) (b.on h told lacks);
-  reads = λ held gets. spends-more held gets gets gets u v w (Ok x) (a.reads held gets) (b.reads held gets);
+  path = let y = a.path in let q = b.path in omega arith;
+  on = λ h told lacks. keeps-more p h told lacks lacks lacks u v w (Ok x) (omega arith) (λ root at on. (a.on h told lacks root at on).0) (b.on h told lacks);
+  reads = λ held gets. spends-more p held gets gets gets u v w (Ok x) (a.reads held gets) (b.reads held gets);
   nodes = λ held n l. b.nodes held n (a.nodes held n l);
 }
-left-more u v w (Err e) a b = record {
+left-more p u v w (Err e) a b = record {
   answer = (b.answer.0, λ h held es s. b.answer.1 h held es ((a.same h held es).0 s));
   same = λ h held es. (λ s. (b.same h held es).0 ((a.same h held es).0 s), λ s. (a.same h held es).1 ((b.same h held es).1 s));
   given = b.given ∙ a.given;
-  path = let p = a.path in let q = b.path in omega arith;
-  on = λ h told lacks root at on. let p = b.on h told lacks root at (a.on h told lacks root at on).0 in (p.0, p.1);
-  reads = λ held gets n l. let p = a.reads held gets n l in let q = b.reads held gets p.left p.nodes in let one = p.gets in omega arith;
+  path = let y = a.path in let q = b.path in omega arith;
+  on = λ h told lacks root at on. let y = b.on h told lacks root at (a.on h told lacks root at on).0 in (y.0, y.1);
+  reads = λ held gets n l. let y = a.reads held gets n l in let q = b.reads held gets y.left y.nodes in let one = y.gets in omega arith;
   nodes = λ held n l. b.nodes held n (a.nodes held n l);
 }
 
@@ -169,10 +169,10 @@ node-past given i (s ∷ slots) todo past =
     subst (IsPast given) (sym (append_assoc (slot_todo i s) (node_todo (i + 1) slots) todo)) (slot-past given i s (node_todo (i + 1) slots ++ todo) (node-past given (i + 1) slots todo past))
 
 -- the trees beneath, at the next level
-below-is : (h : List ℕ → List ℕ) (held : List (List ℕ)) (path : List ℕ) (i : ℕ) → suc (length path) < trie_levels usual → beneath h usual held (path ++ i ∷ []) ≡ TreeGives h usual held (trie_levels usual - suc (suc (length path))) (suc (length path) + 1)
-below-is h held path i short =
+below-is : (p : HamtShape) (h : List ℕ → List ℕ) (held : List (List ℕ)) (path : List ℕ) (i : ℕ) → suc (length path) < trie_levels p → beneath h p held (path ++ i ∷ []) ≡ TreeGives h p held (trie_levels p - suc (suc (length path))) (suc (length path) + 1)
+below-is p h held path i short =
     let long : length (path ++ i ∷ []) ≡ suc (length path) = length-append path (i ∷ []) ∙ next (length path) in
-    ap (λ n. TreeGives h usual held (trie_levels usual - suc n) (suc n)) long ∙ ap (TreeGives h usual held (trie_levels usual - suc (suc (length path)))) (more (suc (length path)))
+    ap (λ n. TreeGives h p held (trie_levels p - suc n) (suc n)) long ∙ ap (TreeGives h p held (trie_levels p - suc (suc (length path)))) (more (suc (length path)))
   where
     next : (n : ℕ) → n + 1 ≡ suc n
     next n = omega arith
@@ -180,51 +180,51 @@ below-is h held path i short =
     more : (n : ℕ) → suc n ≡ n + 1
     more n = omega arith
 
-one-left : (path : List ℕ) → suc (length path) < trie_levels usual → trie_levels usual - suc (length path) ≡ suc (trie_levels usual - suc (suc (length path)))
-one-left path short = omega arith
+one-left : (p : HamtShape) (path : List ℕ) → suc (length path) < trie_levels p → trie_levels p - suc (length path) ≡ suc (trie_levels p - suc (suc (length path)))
+one-left p path short = omega arith
 
 -- the tree of a child whose block is held
-pub record ChildGives (h : List ℕ → List ℕ) (held : List (List ℕ)) (path : List ℕ) (i : ℕ) (slots : List TrieSlot) (es : List (List ℕ × Data)) : Type 0 where
-  pub many : usual.bucket < length es
-  pub gives : SlotsGive h usual (suc (length path)) 0 (beneath h usual held (path ++ i ∷ [])) slots es
+pub record ChildGives (p : HamtShape) (h : List ℕ → List ℕ) (held : List (List ℕ)) (path : List ℕ) (i : ℕ) (slots : List TrieSlot) (es : List (List ℕ × Data)) : Type 0 where
+  pub many : p.bucket < length es
+  pub gives : SlotsGive h p (suc (length path)) 0 (beneath h p held (path ++ i ∷ [])) slots es
 
-child-on : (h : List ℕ → List ℕ) (held : List (List ℕ)) (path : List ℕ) (i : ℕ) (id block : List ℕ) (slots : List TrieSlot) (es : List (List ℕ × Data)) → suc (length path) < trie_levels usual → block_at held id ≡ Some block → IsNodeOf usual block slots
-    → beneath h usual held path id es → ChildGives h held path i slots es
-child-on h held path i id block slots es short here node tree =
-    let n = subst (λ left. TreeGives h usual held left (suc (length path)) id es) (one-left path short) tree in
+child-on : (p : HamtShape) (h : List ℕ → List ℕ) (held : List (List ℕ)) (path : List ℕ) (i : ℕ) (id block : List ℕ) (slots : List TrieSlot) (es : List (List ℕ × Data)) → suc (length path) < trie_levels p → block_at held id ≡ Some block → IsNodeOf p block slots
+    → beneath h p held path id es → ChildGives p h held path i slots es
+child-on p h held path i id block slots es short here node tree =
+    let n = subst (λ left. TreeGives h p held left (suc (length path)) id es) (one-left p path short) tree in
     let same : n.block ≡ block = same_Some n.block block (sym n.here ∙ here) in
-    let alike : n.slots ≡ slots = same-slots n.slots slots block (subst (λ b. IsNodeOf usual b n.slots) same n.node) node in
+    let alike : n.slots ≡ slots = same-slots p n.slots slots block (subst (λ b. IsNodeOf p b n.slots) same n.node) node in
     record {
       many = n.many;
-      gives = subst (λ f. SlotsGive h usual (suc (length path)) 0 f slots es) (sym (below-is h held path i short))
-          (subst (λ ss. SlotsGive h usual (suc (length path)) 0 (TreeGives h usual held (trie_levels usual - suc (suc (length path))) (suc (length path) + 1)) ss es) alike n.gives);
+      gives = subst (λ f. SlotsGive h p (suc (length path)) 0 f slots es) (sym (below-is p h held path i short))
+          (subst (λ ss. SlotsGive h p (suc (length path)) 0 (TreeGives h p held (trie_levels p - suc (suc (length path))) (suc (length path) + 1)) ss es) alike n.gives);
     }
 
-child-off : (h : List ℕ → List ℕ) (held : List (List ℕ)) (path : List ℕ) (i : ℕ) (id block : List ℕ) (slots : List TrieSlot) (es : List (List ℕ × Data)) → suc (length path) < trie_levels usual → block_at held id ≡ Some block → IsNodeOf usual block slots
-    → ChildGives h held path i slots es → beneath h usual held path id es
-child-off h held path i id block slots es short here node c =
-    subst (λ left. TreeGives h usual held left (suc (length path)) id es) (sym (one-left path short)) (record {
+child-off : (p : HamtShape) (h : List ℕ → List ℕ) (held : List (List ℕ)) (path : List ℕ) (i : ℕ) (id block : List ℕ) (slots : List TrieSlot) (es : List (List ℕ × Data)) → suc (length path) < trie_levels p → block_at held id ≡ Some block → IsNodeOf p block slots
+    → ChildGives p h held path i slots es → beneath h p held path id es
+child-off p h held path i id block slots es short here node c =
+    subst (λ left. TreeGives h p held left (suc (length path)) id es) (sym (one-left p path short)) (record {
       block = block;
       slots = slots;
       here = here;
       node = node;
       many = c.many;
-      gives = subst (λ f. SlotsGive h usual (suc (length path)) 0 f slots es) (below-is h held path i short) c.gives;
+      gives = subst (λ f. SlotsGive h p (suc (length path)) 0 f slots es) (below-is p h held path i short) c.gives;
     })
 
 -- once a child is entered the same is ahead
-entered-on : (h : List ℕ → List ℕ) (held : List (List ℕ)) (path : List ℕ) (i given : ℕ) (id block : List ℕ) (slots : List TrieSlot) (rest : List Todo) (es : List (List ℕ × Data)) → suc (length path) < trie_levels usual → block_at held id ≡ Some block → IsNodeOf usual block slots
-    → StillGives h usual held (enter id i ∷ rest) path given es → StillGives h usual held (node_todo 0 slots ++ leave given ∷ rest) (path ++ i ∷ []) given es
-entered-on h held path i given id block slots rest es short here node g =
-    let c = child-on h held path i id block slots g.0 short here node g.4 in
+entered-on : (p : HamtShape) (h : List ℕ → List ℕ) (held : List (List ℕ)) (path : List ℕ) (i given : ℕ) (id block : List ℕ) (slots : List TrieSlot) (rest : List Todo) (es : List (List ℕ × Data)) → suc (length path) < trie_levels p → block_at held id ≡ Some block → IsNodeOf p block slots
+    → StillGives h p held (enter id i ∷ rest) path given es → StillGives h p held (node_todo 0 slots ++ leave given ∷ rest) (path ++ i ∷ []) given es
+entered-on p h held path i given id block slots rest es short here node g =
+    let c = child-on p h held path i id block slots g.0 short here node g.4 in
     let many = c.many in
-    subst (λ xs. StillGives h usual held (node_todo 0 slots ++ leave given ∷ rest) (path ++ i ∷ []) given xs) (sym g.2)
-    (slots-on h usual held path i 0 (leave given ∷ rest) given slots g.0 g.1 g.3 c.gives (path, i, refl, omega arith, g.5))
+    subst (λ xs. StillGives h p held (node_todo 0 slots ++ leave given ∷ rest) (path ++ i ∷ []) given xs) (sym g.2)
+    (slots-on h p held path i 0 (leave given ∷ rest) given slots g.0 g.1 g.3 c.gives (path, i, refl, omega arith, g.5))
 
-entered-off : (h : List ℕ → List ℕ) (held : List (List ℕ)) (path : List ℕ) (i given : ℕ) (id block : List ℕ) (slots : List TrieSlot) (rest : List Todo) (es : List (List ℕ × Data)) → suc (length path) < trie_levels usual → block_at held id ≡ Some block → IsNodeOf usual block slots
-    → StillGives h usual held (node_todo 0 slots ++ leave given ∷ rest) (path ++ i ∷ []) given es → StillGives h usual held (enter id i ∷ rest) path given es
-entered-off h held path i given id block slots rest es short here node g =
-    let r = slots-off h usual held path i 0 (leave given ∷ rest) given slots es g in
+entered-off : (p : HamtShape) (h : List ℕ → List ℕ) (held : List (List ℕ)) (path : List ℕ) (i given : ℕ) (id block : List ℕ) (slots : List TrieSlot) (rest : List Todo) (es : List (List ℕ × Data)) → suc (length path) < trie_levels p → block_at held id ≡ Some block → IsNodeOf p block slots
+    → StillGives h p held (node_todo 0 slots ++ leave given ∷ rest) (path ++ i ∷ []) given es → StillGives h p held (enter id i ∷ rest) path given es
+entered-off p h held path i given id block slots rest es short here node g =
+    let r = slots-off h p held path i 0 (leave given ∷ rest) given slots es g in
     let l = r.parts.rest in
     let above : l.0 ≡ path = sym (snoc-same path l.0 i l.1 l.2) in
     let many = l.3 in (
@@ -232,83 +232,83 @@ entered-off h held path i given id block slots rest es short here node g =
       r.parts.more,
       r.parts.is,
       r.fit,
-      child-off h held path i id block slots r.here short here node (record { many = omega arith; gives = r.gives }),
-      subst (λ q. StillGives h usual held rest q (given + length r.here) r.parts.more) above l.4,
+      child-off p h held path i id block slots r.here short here node (record { many = omega arith; gives = r.gives }),
+      subst (λ q. StillGives h p held rest q (given + length r.here) r.parts.more) above l.4,
     )
 
 told-held : (m : Moment) (held : List (List ℕ)) (id block : List ℕ) → IfTold m.blocks (λ bs. block_at bs id ≡ Some block) → m.blocks ≡ Some held → block_at held id ≡ Some block
 told-held m held id block told is = subst (λ o. IfTold o (λ bs. block_at bs id ≡ Some block)) is told
 
-entered-still : (m : Moment) (v w : Walker) (c : Child) (steps : List Step) → suc (length (walker_path v)) < trie_levels usual → (got : GotSteps m c.id.0 steps) → IsEntered v c steps w
-    → (h : List ℕ → List ℕ) (held : List (List ℕ)) (es : List (List ℕ × Data)) → block_at held c.id.0 ≡ Some got.block → StillAhead h held v es ↔ StillAhead h held w es
-entered-still m v w c steps short got e = λ h held es here.
+entered-still : (p : HamtShape) (m : Moment) (v w : Walker) (c : Child) (steps : List Step) → suc (length (walker_path v)) < trie_levels p → (got : GotSteps p m c.id.0 steps) → IsEntered v c steps w
+    → (h : List ℕ → List ℕ) (held : List (List ℕ)) (es : List (List ℕ × Data)) → block_at held c.id.0 ≡ Some got.block → StillAhead h p held v es ↔ StillAhead h p held w es
+entered-still p m v w c steps short got e = λ h held es here.
     let todo : walker_todo w ≡ node_todo 0 got.has.slots ++ leave v.given ∷ e.rest = e.todo ∙ ap (λ ts. ts ++ leave v.given ∷ e.rest) got.has.todo in (
       λ a. record {
-        gives = subst (λ ts. StillGives h usual held ts (walker_path w) w.given es) (sym todo)
-            (subst (λ q. StillGives h usual held (node_todo 0 got.has.slots ++ leave v.given ∷ e.rest) q w.given es) (sym e.path)
-            (subst (λ n. StillGives h usual held (node_todo 0 got.has.slots ++ leave v.given ∷ e.rest) (walker_path v ++ c.index ∷ []) n es) (sym e.given)
-            (entered-on h held (walker_path v) c.index v.given c.id.0 got.block got.has.slots e.rest es short here got.has.node
-            (subst (λ ts. StillGives h usual held ts (walker_path v) v.given es) e.was a.gives))));
+        gives = subst (λ ts. StillGives h p held ts (walker_path w) w.given es) (sym todo)
+            (subst (λ q. StillGives h p held (node_todo 0 got.has.slots ++ leave v.given ∷ e.rest) q w.given es) (sym e.path)
+            (subst (λ n. StillGives h p held (node_todo 0 got.has.slots ++ leave v.given ∷ e.rest) (walker_path v ++ c.index ∷ []) n es) (sym e.given)
+            (entered-on p h held (walker_path v) c.index v.given c.id.0 got.block got.has.slots e.rest es short here got.has.node
+            (subst (λ ts. StillGives h p held ts (walker_path v) v.given es) e.was a.gives))));
       },
       λ b. record {
-        gives = subst (λ ts. StillGives h usual held ts (walker_path v) v.given es) (sym e.was)
-            (entered-off h held (walker_path v) c.index v.given c.id.0 got.block got.has.slots e.rest es short here got.has.node
-            (subst (λ n. StillGives h usual held (node_todo 0 got.has.slots ++ leave v.given ∷ e.rest) (walker_path v ++ c.index ∷ []) n es) e.given
-            (subst (λ q. StillGives h usual held (node_todo 0 got.has.slots ++ leave v.given ∷ e.rest) q w.given es) e.path
-            (subst (λ ts. StillGives h usual held ts (walker_path w) w.given es) todo b.gives))));
+        gives = subst (λ ts. StillGives h p held ts (walker_path v) v.given es) (sym e.was)
+            (entered-off p h held (walker_path v) c.index v.given c.id.0 got.block got.has.slots e.rest es short here got.has.node
+            (subst (λ n. StillGives h p held (node_todo 0 got.has.slots ++ leave v.given ∷ e.rest) (walker_path v ++ c.index ∷ []) n es) e.given
+            (subst (λ q. StillGives h p held (node_todo 0 got.has.slots ++ leave v.given ∷ e.rest) q w.given es) e.path
+            (subst (λ ts. StillGives h p held ts (walker_path w) w.given es) todo b.gives))));
       },
     )
 
-pub entered-same : (m : Moment) (v w : Walker) (c : Child) (steps : List Step) → suc (length (walker_path v)) < trie_levels usual → GotSteps m c.id.0 steps → IsEntered v c steps w → SameTold m v w
-entered-same m v w c steps short got e = λ h held es told. entered-still m v w c steps short got e h held es (told-held m held c.id.0 got.block got.at.held told)
+pub entered-same : (p : HamtShape) (m : Moment) (v w : Walker) (c : Child) (steps : List Step) → suc (length (walker_path v)) < trie_levels p → GotSteps p m c.id.0 steps → IsEntered v c steps w → SameTold p m v w
+entered-same p m v w c steps short got e = λ h held es told. entered-still p m v w c steps short got e h held es (told-held m held c.id.0 got.block got.at.held told)
 
 -- over every store: wherever the block is held that was got
-entered-where : (m : Moment) (v w : Walker) (c : Child) (steps : List Step) → suc (length (walker_path v)) < trie_levels usual → (got : GotSteps m c.id.0 steps) → IsEntered v c steps w → SameWhere (got.block ∷ []) v w
-entered-where m v w c steps short got e = λ h held es all. entered-still m v w c steps short got e h held es (holds-one held c.id.0 got.block got.at.named all)
+entered-where : (p : HamtShape) (m : Moment) (v w : Walker) (c : Child) (steps : List Step) → suc (length (walker_path v)) < trie_levels p → (got : GotSteps p m c.id.0 steps) → IsEntered v c steps w → SameWhere p (got.block ∷ []) v w
+entered-where p m v w c steps short got e = λ h held es all. entered-still p m v w c steps short got e h held es (holds-one held c.id.0 got.block got.at.named all)
 
-pub unchanged-still : (v w : Walker) → IsUnchanged v w → (h : List ℕ → List ℕ) (held : List (List ℕ)) (es : List (List ℕ × Data)) → StillAhead h held v es ↔ StillAhead h held w es
-unchanged-still v w u = λ h held es. (
+pub unchanged-still : (p : HamtShape) (v w : Walker) → IsUnchanged v w → (h : List ℕ → List ℕ) (held : List (List ℕ)) (es : List (List ℕ × Data)) → StillAhead h p held v es ↔ StillAhead h p held w es
+unchanged-still p v w u = λ h held es. (
   λ a. record {
-    gives = subst (λ ts. StillGives h usual held ts (walker_path w) w.given es) (sym u.todo)
-        (subst (λ q. StillGives h usual held (walker_todo v) q w.given es) (sym u.path) (subst (λ n. StillGives h usual held (walker_todo v) (walker_path v) n es) (sym u.given) a.gives));
+    gives = subst (λ ts. StillGives h p held ts (walker_path w) w.given es) (sym u.todo)
+        (subst (λ q. StillGives h p held (walker_todo v) q w.given es) (sym u.path) (subst (λ n. StillGives h p held (walker_todo v) (walker_path v) n es) (sym u.given) a.gives));
   },
   λ b. record {
-    gives = subst (λ n. StillGives h usual held (walker_todo v) (walker_path v) n es) u.given
-        (subst (λ q. StillGives h usual held (walker_todo v) q w.given es) u.path (subst (λ ts. StillGives h usual held ts (walker_path w) w.given es) u.todo b.gives));
+    gives = subst (λ n. StillGives h p held (walker_todo v) (walker_path v) n es) u.given
+        (subst (λ q. StillGives h p held (walker_todo v) q w.given es) u.path (subst (λ ts. StillGives h p held ts (walker_path w) w.given es) u.todo b.gives));
   },
 )
 
-pub unchanged-same : (m : Moment) (v w : Walker) → IsUnchanged v w → SameTold m v w
-unchanged-same m v w u = λ h held es told. unchanged-still v w u h held es
+pub unchanged-same : (p : HamtShape) (m : Moment) (v w : Walker) → IsUnchanged v w → SameTold p m v w
+unchanged-same p m v w u = λ h held es told. unchanged-still p v w u h held es
 
 -- a child for which no level is left
-pub entered-deep : (m : Moment) (v : Walker) (c : Child) → NextIs (enter c.id.0 c.index) v → trie_levels usual ≤ suc (length (walker_path v)) → NothingTold m v
-entered-deep m v c next deep = λ h held es told a.
-    let g = subst (λ ts. StillGives h usual held ts (walker_path v) v.given es) next.is a.gives in
-    let none : trie_levels usual - suc (length (walker_path v)) ≡ 0 = omega arith in
-    subst (λ left. TreeGives h usual held left (suc (length (walker_path v))) c.id.0 g.0) none g.4
+pub entered-deep : (p : HamtShape) (m : Moment) (v : Walker) (c : Child) → NextIs (enter c.id.0 c.index) v → trie_levels p ≤ suc (length (walker_path v)) → NothingTold p m v
+entered-deep p m v c next deep = λ h held es told a.
+    let g = subst (λ ts. StillGives h p held ts (walker_path v) v.given es) next.is a.gives in
+    let none : trie_levels p - suc (length (walker_path v)) ≡ 0 = omega arith in
+    subst (λ left. TreeGives h p held left (suc (length (walker_path v))) c.id.0 g.0) none g.4
 
 -- a child that is refused
-refused : (m n : Moment) (held : List (List ℕ)) (id block : List ℕ) (why : BlockWhy) (slots : List TrieSlot) → m.blocks ≡ Some held → block_at held id ≡ Some block → IsNodeOf usual block slots → IsRefused m id why n → ⊥
-refused m n held id block Missing slots told here node r = let none : None ≡ Some block = sym (told-none m held id r.0 told) ∙ here in cc
+refused : (p : HamtShape) (m n : Moment) (held : List (List ℕ)) (id block : List ℕ) (why : BlockWhy) (slots : List TrieSlot) → m.blocks ≡ Some held → block_at held id ≡ Some block → IsNodeOf p block slots → IsRefused p m id why n → ⊥
+refused p m n held id block Missing slots told here node r = let none : None ≡ Some block = sym (told-none m held id r.0 told) ∙ here in cc
   where
     told-none : (m : Moment) (held : List (List ℕ)) (id : List ℕ) → IfTold m.blocks (λ bs. block_at bs id ≡ None) → m.blocks ≡ Some held → block_at held id ≡ None
     told-none m held id gone is = subst (λ o. IfTold o (λ bs. block_at bs id ≡ None)) is gone
-refused m n held id block (Cbor fault) slots told here node r =
+refused p m n held id block (Cbor fault) slots told here node r =
     let same : r.block ≡ block = same_Some r.block block (sym (told-held m held id r.block r.at.held told) ∙ here) in
     let none : Some fault ≡ None = sym r.wrong ∙ ap fault_of same ∙ block_again block (node_data slots) node.is in cc
-refused m n held id block (NoNode why) slots told here node r =
+refused p m n held id block (NoNode why) slots told here node r =
     let same : r.block ≡ block = same_Some r.block block (sym (told-held m held id r.block r.at.held told) ∙ here) in
-    r.wrong.1 slots (subst (λ b. IsNodeOf usual b slots) (sym same) node)
+    r.wrong.1 slots (subst (λ b. IsNodeOf p b slots) (sym same) node)
 
-pub entered-refused : (m n : Moment) (v : Walker) (c : Child) (why : BlockWhy) → NextIs (enter c.id.0 c.index) v → suc (length (walker_path v)) < trie_levels usual → IsRefused m c.id.0 why n → NothingTold m v
-entered-refused m n v c why next short r = λ h held es told a.
-    let g = subst (λ ts. StillGives h usual held ts (walker_path v) v.given es) next.is a.gives in
-    let t = subst (λ left. TreeGives h usual held left (suc (length (walker_path v))) c.id.0 g.0) (one-left (walker_path v) short) g.4 in
-    refused m n held c.id.0 t.block why t.slots told t.here t.node r
+pub entered-refused : (p : HamtShape) (m n : Moment) (v : Walker) (c : Child) (why : BlockWhy) → NextIs (enter c.id.0 c.index) v → suc (length (walker_path v)) < trie_levels p → IsRefused p m c.id.0 why n → NothingTold p m v
+entered-refused p m n v c why next short r = λ h held es told a.
+    let g = subst (λ ts. StillGives h p held ts (walker_path v) v.given es) next.is a.gives in
+    let t = subst (λ left. TreeGives h p held left (suc (length (walker_path v))) c.id.0 g.0) (one-left p (walker_path v) short) g.4 in
+    refused p m n held c.id.0 t.block why t.slots told t.here t.node r
 
-pub entered-past : (m : Moment) (v w : Walker) (c : Child) (steps : List Step) → GotSteps m c.id.0 steps → IsEntered v c steps w → IsPast w.given (walker_todo w)
-entered-past m v w c steps got e =
+pub entered-past : (p : HamtShape) (m : Moment) (v w : Walker) (c : Child) (steps : List Step) → GotSteps p m c.id.0 steps → IsEntered v c steps w → IsPast w.given (walker_todo w)
+entered-past p m v w c steps got e =
     subst (IsPast w.given) (sym (e.todo ∙ ap (λ ts. ts ++ leave v.given ∷ e.rest) got.has.todo))
     (node-past w.given 0 got.has.slots (leave v.given ∷ e.rest) (let same = e.given in omega arith))
 
@@ -348,20 +348,20 @@ opened v w c steps at next is place path given same-at =
 
 -- ---- how entering ends
 
-pub enter-stopped : (m n : Moment) (v : Walker) (c : Child) (e : HamtFault) → NextIs (enter c.id.0 c.index) v → suc (length (walker_path v)) < trie_levels usual → Fetches m c.id.0 (Err e) n → Enters 1 m v (Err e) v n
-enter-stopped m n v c e next short f = record {
+pub enter-stopped : (p : HamtShape) (m n : Moment) (v : Walker) (c : Child) (e : HamtFault) → NextIs (enter c.id.0 c.index) v → suc (length (walker_path v)) < trie_levels p → Fetches p m c.id.0 (Err e) n → Enters p 1 m v (Err e) v n
+enter-stopped p m n v c e next short f = record {
   answer = by e f.answer;
   same = λ h held es told. (λ a. a, λ a. a);
   given = refl;
   short = omega arith;
   only = f.only;
   on = λ h. keeps h e f.answer;
-  reads = λ held told. enter-spends held m.gets n.gets v c next (let seen = length-map v.path.items (λ (d : Child). d.index) in omega arith) f.only.gets;
-  read = read-nothing (λ blocks. SameWhere blocks v v) 1 m n v v f.only.gets (λ held n l. l) (where-itself v);
+  reads = λ held told. enter-spends p held m.gets n.gets v c next (let seen = length-map v.path.items (λ (d : Child). d.index) in omega arith) f.only.gets;
+  read = read-nothing p (λ blocks. SameWhere p blocks v v) 1 m n v v f.only.gets (λ held n l. l) (where-itself p v);
 }
   where
-    keeps : (h : List ℕ → List ℕ) (e : HamtFault) → FetchAnswer m c.id.0 (Err e) n → FaultOn h m.blocks m.lacks n.lacks v e v
-    keeps h (F.Block i why) r = fetch-keeps h m n v c i why next r.0 r.1
+    keeps : (h : List ℕ → List ℕ) (e : HamtFault) → FetchAnswer p m c.id.0 (Err e) n → FaultOn p h m.blocks m.lacks n.lacks v e v
+    keeps h (F.Block i why) r = fetch-keeps p h m n v c i why next r.0 r.1
     keeps h F.Exhausted r = absurd r
     keeps h F.Store r = λ root at on. (on, tt)
     keeps h (F.Clash i kept new) r = absurd r
@@ -369,8 +369,8 @@ enter-stopped m n v c e next short f = record {
     keeps h F.NoKey r = absurd r
     keeps h F.Memory r = λ root at on. (on, tt)
 
-    by : (e : HamtFault) → FetchAnswer m c.id.0 (Err e) n → EnterAnswer m v (Err e) v n
-    by (F.Block i why) r = (inl (subst (λ (x : List ℕ). IsRefused m x why n) (sym r.0) r.1), entered-refused m n v c why next short r.1)
+    by : (e : HamtFault) → FetchAnswer p m c.id.0 (Err e) n → EnterAnswer p m v (Err e) v n
+    by (F.Block i why) r = (inl (subst (λ (x : List ℕ). IsRefused p m x why n) (sym r.0) r.1), entered-refused p m n v c why next short r.1)
     by F.Exhausted r = absurd r
     by F.Store r = r
     by (F.Clash i kept new) r = absurd r
@@ -381,58 +381,58 @@ enter-stopped m n v c e next short f = record {
 path-longer : (v w : Walker) (c : Child) → walker_path w ≡ walker_path v ++ c.index ∷ [] → length (walker_path w) ≡ length (walker_path v) + 1
 path-longer v w c is = ap (λ (q : List ℕ). length q) is ∙ length-append (walker_path v) (c.index ∷ [])
 
-pub enter-done : (m n : Moment) (v w : Walker) (c : Child) (steps : Vec Step) (r : Result (Unit {0}) HamtFault) → NextIs (enter c.id.0 c.index) v → suc (length (walker_path v)) < trie_levels usual → Fetches m c.id.0 (Ok steps) n → Opens v c steps.items r w → Enters 1 m v r w n
-enter-done m n v w c steps (Ok u) next short f o = record {
-  answer = entered-past m v w c steps.items f.answer o;
-  same = entered-same m v w c steps.items short f.answer o;
+pub enter-done : (p : HamtShape) (m n : Moment) (v w : Walker) (c : Child) (steps : Vec Step) (r : Result (Unit {0}) HamtFault) → NextIs (enter c.id.0 c.index) v → suc (length (walker_path v)) < trie_levels p → Fetches p m c.id.0 (Ok steps) n → Opens v c steps.items r w → Enters p 1 m v r w n
+enter-done p m n v w c steps (Ok u) next short f o = record {
+  answer = entered-past p m v w c steps.items f.answer o;
+  same = entered-same p m v w c steps.items short f.answer o;
   given = o.given;
   short = let long = path-longer v w c o.path in omega arith;
   only = f.only;
-  on = λ h root at on. (entered-keeps m v w c steps.items (let seen = length-map v.path.items (λ (d : Child). d.index) in omega arith) f.answer o root at on, tt);
-  reads = λ held told. entered-passes m held m.gets n.gets v w c steps.items told (let seen = length-map v.path.items (λ (d : Child). d.index) in omega arith) f.only.gets f.answer o;
+  on = λ h root at on. (entered-keeps p m v w c steps.items (let seen = length-map v.path.items (λ (d : Child). d.index) in omega arith) f.answer o root at on, tt);
+  reads = λ held told. entered-passes p m held m.gets n.gets v w c steps.items told (let seen = length-map v.path.items (λ (d : Child). d.index) in omega arith) f.only.gets f.answer o;
   read = record {
     blocks = f.answer.block ∷ [];
     nodes = ((f.answer.has.slots, f.answer.has.node), tt);
     held = told-one m.blocks c.id.0 f.answer.block f.answer.at.named f.answer.at.held;
     gets = let one = f.only.gets in omega arith;
-    left = λ held k all l. entered-nodes m held v w c steps.items (let seen = length-map v.path.items (λ (d : Child). d.index) in omega arith) f.answer (holds-one held c.id.0 f.answer.block f.answer.at.named all) o k l;
-    says = entered-where m v w c steps.items short f.answer o;
+    left = λ held k all l. entered-nodes p m held v w c steps.items (let seen = length-map v.path.items (λ (d : Child). d.index) in omega arith) f.answer (holds-one held c.id.0 f.answer.block f.answer.at.named all) o k l;
+    says = entered-where p m v w c steps.items short f.answer o;
   };
 }
-enter-done m n v w c steps (Err F.Memory) next short f o = record {
+enter-done p m n v w c steps (Err F.Memory) next short f o = record {
   answer = tt;
-  same = unchanged-same m v w o;
+  same = unchanged-same p m v w o;
   given = o.given;
   short = let long = ap (λ (q : List ℕ). length q) o.path in omega arith;
   only = f.only;
-  on = λ h. memory-keeps h m.blocks m.lacks n.lacks v w o;
-  reads = λ held told. enter-spends held m.gets n.gets v c next (let seen = length-map v.path.items (λ (d : Child). d.index) in omega arith) f.only.gets;
-  read = read-nothing (λ blocks. SameWhere blocks v w) 1 m n v w f.only.gets (unchanged-nodes v w o) (λ h held es all. unchanged-still v w o h held es);
+  on = λ h. memory-keeps p h m.blocks m.lacks n.lacks v w o;
+  reads = λ held told. enter-spends p held m.gets n.gets v c next (let seen = length-map v.path.items (λ (d : Child). d.index) in omega arith) f.only.gets;
+  read = read-nothing p (λ blocks. SameWhere p blocks v w) 1 m n v w f.only.gets (unchanged-nodes p v w o) (λ h held es all. unchanged-still p v w o h held es);
 }
-enter-done m n v w c steps (Err F.Exhausted) next short f o = absurd o
-enter-done m n v w c steps (Err (F.Block i why)) next short f o = absurd o
-enter-done m n v w c steps (Err F.Store) next short f o = absurd o
-enter-done m n v w c steps (Err (F.Clash i kept new)) next short f o = absurd o
-enter-done m n v w c steps (Err F.Size) next short f o = absurd o
-enter-done m n v w c steps (Err F.NoKey) next short f o = absurd o
+enter-done p m n v w c steps (Err F.Exhausted) next short f o = absurd o
+enter-done p m n v w c steps (Err (F.Block i why)) next short f o = absurd o
+enter-done p m n v w c steps (Err F.Store) next short f o = absurd o
+enter-done p m n v w c steps (Err (F.Clash i kept new)) next short f o = absurd o
+enter-done p m n v w c steps (Err F.Size) next short f o = absurd o
+enter-done p m n v w c steps (Err F.NoKey) next short f o = absurd o
 
 -- no level is left
-pub enter-deep : (m : Moment) (v : Walker) (c : Child) (e : HamtFault) → NextIs (enter c.id.0 c.index) v → length (walker_path v) < trie_levels usual → trie_levels usual ≤ suc (length v.path.items) → IsTrieFault e → IsFaultAt (walker_here v) e → Enters 1 m v (Err e) v m
-enter-deep m v c e next short deep trie here = record {
+pub enter-deep : (p : HamtShape) (m : Moment) (v : Walker) (c : Child) (e : HamtFault) → NextIs (enter c.id.0 c.index) v → length (walker_path v) < trie_levels p → trie_levels p ≤ suc (length v.path.items) → IsTrieFault e → IsFaultAt (walker_here v) e → Enters p 1 m v (Err e) v m
+enter-deep p m v c e next short deep trie here = record {
   answer = by e trie;
   same = λ h held es told. (λ a. a, λ a. a);
   given = refl;
   short = short;
   only = record { later = Later-refl m; blocks = refl; given = refl; puts = refl; gets = omega arith };
-  on = λ h. deep-keeps h m.blocks m.lacks v c e next deep trie here;
-  reads = λ held told. spends-none held m.gets v;
-  read = read-nothing (λ blocks. SameWhere blocks v v) 1 m m v v (omega arith) (λ held n l. l) (where-itself v);
+  on = λ h. deep-keeps p h m.blocks m.lacks v c e next deep trie here;
+  reads = λ held told. spends-none p held m.gets v;
+  read = read-nothing p (λ blocks. SameWhere p blocks v v) 1 m m v v (omega arith) (λ held n l. l) (where-itself p v);
 }
   where
-    nothing : NothingTold m v
-    nothing = entered-deep m v c next (let seen = length-map v.path.items (λ (d : Child). d.index) in omega arith)
+    nothing : NothingTold p m v
+    nothing = entered-deep p m v c next (let seen = length-map v.path.items (λ (d : Child). d.index) in omega arith)
 
-    by : (e : HamtFault) → IsTrieFault e → EnterAnswer m v (Err e) v m
+    by : (e : HamtFault) → IsTrieFault e → EnterAnswer p m v (Err e) v m
     by (F.Block i why) t = (inr t, nothing)
     by F.Exhausted t = absurd t
     by F.Store t = absurd t

@@ -3,12 +3,12 @@ use Rattle.std.specs.Prelude.{Bool, true, false, ◌≡◌, ◌↔◌, ◌⊎◌
 use Rattle.ild_data.specs.Data.{Data}
 use Rattle.ild_data.specs.Spell.{spell}
 use Rattle.ild_data.specs.Trie.{TrieSlot}
+use Rattle.ild_data.specs.declared.hamt_shape.HamtShape.{HamtShape}
 use Rattle.ild_data.specs.TrieShape.{trie_levels}
 use Rattle.ild_cbor.specs.declared.why.BlockWhy.TheVariants.{Shape as NoNode}
 use Rattle.ild_cbor.specs.declared.why.Why.TheVariants.{Trie}
 use Rattle.ild_edges.specs.Count.{Rose}
 use Rattle.ild_edges.specs.Store.{Moment}
-use Rattle.ild_typed.specs.Composed.{usual}
 use Rattle.ild_node_slots.specs.declared.fault.HamtFault.{HamtFault}
 use Rattle.ild_node_slots.specs.declared.fault.HamtFault.TheVariants.{Block, Store, Memory}
 use Rattle.ild_bulk_walker.specs.Fetching.{IsRefused, OnlyGets}
@@ -30,26 +30,29 @@ walker_todo w = steps_todo w.steps.items
 abbrev pub walker_path : Walker → List ℕ
 walker_path w = path_of w.path.items
 
+abbrev pub walker_shape : Walker → HamtShape
+walker_shape w = w.shape
+
 -- these entries are what the walker has still to give, where the store holds these blocks
-pub record StillAhead (h : List ℕ → List ℕ) (held : List (List ℕ)) (w : Walker) (es : List (List ℕ × Data)) : Type 0 where
-  pub gives : StillGives h usual held (walker_todo w) (walker_path w) w.given es
+pub record StillAhead (h : List ℕ → List ℕ) (p : HamtShape) (held : List (List ℕ)) (w : Walker) (es : List (List ℕ × Data)) : Type 0 where
+  pub gives : StillGives h p held (walker_todo w) (walker_path w) w.given es
 
 -- the same, of a walker whose path is one of a trie's levels
-pub record Ahead (h : List ℕ → List ℕ) (held : List (List ℕ)) (w : Walker) (es : List (List ℕ × Data)) : Type 0 where
-  pub short : length (walker_path w) < trie_levels usual
-  pub still : StillAhead h held w es
+pub record Ahead (h : List ℕ → List ℕ) (p : HamtShape) (held : List (List ℕ)) (w : Walker) (es : List (List ℕ × Data)) : Type 0 where
+  pub short : length (walker_path w) < trie_levels p
+  pub still : StillAhead h p held w es
 
 -- exactly what the tree beneath a root of these slots gives is ahead
-abbrev pub IsNew : List TrieSlot → Walker → Type 0
-IsNew slots w = (h : List ℕ → List ℕ) (held : List (List ℕ)) (es : List (List ℕ × Data)) → Ahead h held w es ↔ RootGives h usual held (trie_levels usual - 1) slots es
+abbrev pub IsNew : HamtShape → List TrieSlot → Walker → Type 0
+IsNew p slots w = (h : List ℕ → List ℕ) (held : List (List ℕ)) (es : List (List ℕ × Data)) → Ahead h p held w es ↔ RootGives h p held (trie_levels p - 1) slots es
 
 -- the walker stands before all steps of the root, which is in the block `at`
-abbrev pub IsNewOn : List TrieSlot → List ℕ → Walker → Type 0
-IsNewOn slots at w = (told : Option (List (List ℕ))) → IsOn told slots at w
+abbrev pub IsNewOn : HamtShape → List TrieSlot → List ℕ → Walker → Type 0
+IsNewOn p slots at w = (told : Option (List (List ℕ))) → IsOn p told slots at w
 
 -- of a told store, all blocks beneath the root are to be read
-abbrev pub IsNewLeft : List TrieSlot → Walker → Type 0
-IsNewLeft slots w = (held : List (List ℕ)) (n : ℕ) → NodesBeneath held slots n → LeftNodes held w n
+abbrev pub IsNewLeft : HamtShape → List TrieSlot → Walker → Type 0
+IsNewLeft p slots w = (held : List (List ℕ)) (n : ℕ) → NodesBeneath p held slots n → LeftNodes p held w n
 
 -- ---- the next step
 
@@ -81,19 +84,19 @@ IsPast given (leave before ∷ todo) = given ≤ before
 -- ---- what calls do
 
 -- the same entries are ahead, whatever is held
-abbrev pub SameAhead : Walker → Walker → Type 0
-SameAhead v w = (h : List ℕ → List ℕ) (held : List (List ℕ)) (es : List (List ℕ × Data)) → StillAhead h held v es ↔ StillAhead h held w es
+abbrev pub SameAhead : HamtShape → Walker → Walker → Type 0
+SameAhead p v w = (h : List ℕ → List ℕ) (held : List (List ℕ)) (es : List (List ℕ × Data)) → StillAhead h p held v es ↔ StillAhead h p held w es
 
 -- so many nodes are to be read as before, whatever is held
-abbrev pub SameNodes : Walker → Walker → Type 0
-SameNodes v w = (held : List (List ℕ)) (n : ℕ) → LeftNodes held v n → LeftNodes held w n
+abbrev pub SameNodes : HamtShape → Walker → Walker → Type 0
+SameNodes p v w = (held : List (List ℕ)) (n : ℕ) → LeftNodes p held v n → LeftNodes p held w n
 
 -- the same entries are ahead, wherever these blocks are held
-abbrev pub SameWhere : List (List ℕ) → Walker → Walker → Type 0
-SameWhere blocks v w = (h : List ℕ → List ℕ) (held : List (List ℕ)) (es : List (List ℕ × Data)) → HoldsAll held blocks → StillAhead h held v es ↔ StillAhead h held w es
+abbrev pub SameWhere : HamtShape → List (List ℕ) → Walker → Walker → Type 0
+SameWhere p blocks v w = (h : List ℕ → List ℕ) (held : List (List ℕ)) (es : List (List ℕ × Data)) → HoldsAll held blocks → StillAhead h p held v es ↔ StillAhead h p held w es
 
-abbrev pub NothingAhead : Walker → Type 0
-NothingAhead w = (h : List ℕ → List ℕ) (held : List (List ℕ)) (es : List (List ℕ × Data)) → StillAhead h held w es → ⊥
+abbrev pub NothingAhead : HamtShape → Walker → Type 0
+NothingAhead p w = (h : List ℕ → List ℕ) (held : List (List ℕ)) (es : List (List ℕ × Data)) → StillAhead h p held w es → ⊥
 
 -- a node isn't one of a trie
 abbrev pub IsTrieFault : HamtFault → Type 0
@@ -108,19 +111,19 @@ abbrev pub IsFaultAt : List ℕ → HamtFault → Type 0
 IsFaultAt here (Block id why) = id.0 ≡ here
 IsFaultAt here e = ⊥
 
-abbrev pub LeaveAnswer : Walker → Result (Unit {0}) HamtFault → Type 0
-LeaveAnswer w (Ok u) = Unit {0}
-LeaveAnswer w (Err e) = IsTrieFault e × NothingAhead w
+abbrev pub LeaveAnswer : HamtShape → Walker → Result (Unit {0}) HamtFault → Type 0
+LeaveAnswer p w (Ok u) = Unit {0}
+LeaveAnswer p w (Err e) = IsTrieFault e × NothingAhead p w
 
 -- nodes are left, or the tree isn't a trie
-pub record Leaves (v : Walker) (result : Result (Unit {0}) HamtFault) (w : Walker) : Type 0 where
-  pub answer : LeaveAnswer v result
-  pub same : SameAhead v w
+pub record Leaves (p : HamtShape) (v : Walker) (result : Result (Unit {0}) HamtFault) (w : Walker) : Type 0 where
+  pub answer : LeaveAnswer p v result
+  pub same : SameAhead p v w
   pub given : w.given ≡ v.given
   pub path : length (walker_path w) ≤ length (walker_path v)
-  pub on : (h : List ℕ → List ℕ) (told : Option (List (List ℕ))) (lacks : ℕ) → KeepsOn h told lacks lacks v result w
-  pub reads : (held : List (List ℕ)) (gets : ℕ) → Spends held gets gets v result w
-  pub nodes : SameNodes v w
+  pub on : (h : List ℕ → List ℕ) (told : Option (List (List ℕ))) (lacks : ℕ) → KeepsOn p h told lacks lacks v result w
+  pub reads : (held : List (List ℕ)) (gets : ℕ) → Spends p held gets gets v result w
+  pub nodes : SameNodes p v w
 
 -- a child is entered: its steps stand before the leaving of its node, and the others behind
 pub record IsEntered (v : Walker) (c : Child) (steps : List Step) (w : Walker) : Type 0 where
@@ -145,33 +148,33 @@ Opens v c steps (Err Memory) w = IsUnchanged v w
 Opens v c steps (Err e) w = ⊥
 
 -- the same, where the store tells what it holds
-abbrev pub SameTold : Moment → Walker → Walker → Type 0
-SameTold m v w = (h : List ℕ → List ℕ) (held : List (List ℕ)) (es : List (List ℕ × Data)) → m.blocks ≡ Some held → StillAhead h held v es ↔ StillAhead h held w es
+abbrev pub SameTold : HamtShape → Moment → Walker → Walker → Type 0
+SameTold p m v w = (h : List ℕ → List ℕ) (held : List (List ℕ)) (es : List (List ℕ × Data)) → m.blocks ≡ Some held → StillAhead h p held v es ↔ StillAhead h p held w es
 
-abbrev pub NothingTold : Moment → Walker → Type 0
-NothingTold m w = (h : List ℕ → List ℕ) (held : List (List ℕ)) (es : List (List ℕ × Data)) → m.blocks ≡ Some held → StillAhead h held w es → ⊥
+abbrev pub NothingTold : HamtShape → Moment → Walker → Type 0
+NothingTold p m w = (h : List ℕ → List ℕ) (held : List (List ℕ)) (es : List (List ℕ × Data)) → m.blocks ≡ Some held → StillAhead h p held w es → ⊥
 
 -- why a block is refused: it isn't there, it isn't a node, or the nodes aren't a trie
-abbrev pub IsCause : Moment → HamtFault → Moment → Type 0
-IsCause m (Block id why) n = IsRefused m id.0 why n ⊎ (why ≡ NoNode Trie)
-IsCause m e n = ⊥
+abbrev pub IsCause : HamtShape → Moment → HamtFault → Moment → Type 0
+IsCause p m (Block id why) n = IsRefused p m id.0 why n ⊎ (why ≡ NoNode Trie)
+IsCause p m e n = ⊥
 
-abbrev pub EnterAnswer : Moment → Walker → Result (Unit {0}) HamtFault → Walker → Moment → Type 0
-EnterAnswer m v (Ok u) w n = IsPast w.given (walker_todo w)
-EnterAnswer m v (Err Store) w n = Rose m.faults n.faults
-EnterAnswer m v (Err Memory) w n = Unit {0}
-EnterAnswer m v (Err e) w n = IsCause m e n × NothingTold m v
+abbrev pub EnterAnswer : HamtShape → Moment → Walker → Result (Unit {0}) HamtFault → Walker → Moment → Type 0
+EnterAnswer p m v (Ok u) w n = IsPast w.given (walker_todo w)
+EnterAnswer p m v (Err Store) w n = Rose m.faults n.faults
+EnterAnswer p m v (Err Memory) w n = Unit {0}
+EnterAnswer p m v (Err e) w n = IsCause p m e n × NothingTold p m v
 
 -- children are entered, or why not; the path is one of a trie's levels
-pub record Enters (most : ℕ) (m : Moment) (v : Walker) (result : Result (Unit {0}) HamtFault) (w : Walker) (n : Moment) : Type 0 where
-  pub answer : EnterAnswer m v result w n
-  pub same : SameTold m v w
+pub record Enters (p : HamtShape) (most : ℕ) (m : Moment) (v : Walker) (result : Result (Unit {0}) HamtFault) (w : Walker) (n : Moment) : Type 0 where
+  pub answer : EnterAnswer p m v result w n
+  pub same : SameTold p m v w
   pub given : w.given ≡ v.given
-  pub short : length (walker_path w) < trie_levels usual
+  pub short : length (walker_path w) < trie_levels p
   pub only : OnlyGets most m n
-  pub on : (h : List ℕ → List ℕ) → KeepsOn h m.blocks m.lacks n.lacks v result w
-  pub reads : (held : List (List ℕ)) → m.blocks ≡ Some held → Spends held m.gets n.gets v result w
-  pub read : HasRead (λ blocks. SameWhere blocks v w) (fails_of result) m v w n
+  pub on : (h : List ℕ → List ℕ) → KeepsOn p h m.blocks m.lacks n.lacks v result w
+  pub reads : (held : List (List ℕ)) → m.blocks ≡ Some held → Spends p held m.gets n.gets v result w
+  pub read : HasRead p (λ blocks. SameWhere p blocks v w) (fails_of result) m v w n
 
 -- an entry is to be given, or nothing, or a node is to be left of which nothing is given
 abbrev pub IsReady : ℕ → List Todo → Type 0
@@ -228,21 +231,21 @@ PassesStep v (Err Memory) w = IsUnchanged v w
 PassesStep v (Err e) w = ⊥
 
 -- the entries begin with this pair, and the others are what is still to be given
-pub record Begins (h : List ℕ → List ℕ) (held : List (List ℕ)) (key : List ℕ) (value : Data) (w : Walker) (es : List (List ℕ × Data)) : Type 0 where
+pub record Begins (h : List ℕ → List ℕ) (p : HamtShape) (held : List (List ℕ)) (key : List ℕ) (value : Data) (w : Walker) (es : List (List ℕ × Data)) : Type 0 where
   pub rest : List (List ℕ × Data)
   pub is : es ≡ (key, value) ∷ rest
-  pub still : StillAhead h held w rest
+  pub still : StillAhead h p held w rest
 
-pub record GivesStill (h : List ℕ → List ℕ) (v : Walker) (row : Row) (w : Walker) : Type 0 where
+pub record GivesStill (h : List ℕ → List ℕ) (p : HamtShape) (v : Walker) (row : Row) (w : Walker) : Type 0 where
   pub value : Data
   pub spelled : row.value ≡ spell value
-  pub still : (held : List (List ℕ)) (es : List (List ℕ × Data)) → StillAhead h held v es ↔ Begins h held row.key value w es
+  pub still : (held : List (List ℕ)) (es : List (List ℕ × Data)) → StillAhead h p held v es ↔ Begins h p held row.key value w es
 
-abbrev pub GiveAnswer : (List ℕ → List ℕ) → Walker → Result (Option Row) HamtFault → Walker → Type 0
-GiveAnswer h v (Ok (Some row)) w = GivesStill h v row w
-GiveAnswer h v (Ok None) w = (held : List (List ℕ)) (es : List (List ℕ × Data)) → StillAhead h held v es ↔ (es ≡ [])
-GiveAnswer h v (Err Memory) w = IsUnchanged v w
-GiveAnswer h v (Err e) w = IsTrieFault e × ((held : List (List ℕ)) (es : List (List ℕ × Data)) → StillAhead h held v es → ⊥) × IsUnchanged v w
+abbrev pub GiveAnswer : (List ℕ → List ℕ) → HamtShape → Walker → Result (Option Row) HamtFault → Walker → Type 0
+GiveAnswer h p v (Ok (Some row)) w = GivesStill h p v row w
+GiveAnswer h p v (Ok None) w = (held : List (List ℕ)) (es : List (List ℕ × Data)) → StillAhead h p held v es ↔ (es ≡ [])
+GiveAnswer h p v (Err Memory) w = IsUnchanged v w
+GiveAnswer h p v (Err e) w = IsTrieFault e × ((held : List (List ℕ)) (es : List (List ℕ × Data)) → StillAhead h p held v es → ⊥) × IsUnchanged v w
 
 -- one more is given, and the count doesn't wrap; or no more
 abbrev pub Counts : Walker → Result (Option Row) HamtFault → Walker → Type 0
@@ -250,14 +253,14 @@ Counts v (Ok (Some row)) w = (w.given ≡ v.given + 1) × (w.given < 2 ^ 64)
 Counts v (Ok None) w = w.given ≡ v.given
 Counts v (Err e) w = w.given ≡ v.given
 
-pub record Gives (h : List ℕ → List ℕ) (v : Walker) (result : Result (Option Row) HamtFault) (w : Walker) : Type 0 where
-  pub answer : GiveAnswer h v result w
+pub record Gives (h : List ℕ → List ℕ) (p : HamtShape) (v : Walker) (result : Result (Option Row) HamtFault) (w : Walker) : Type 0 where
+  pub answer : GiveAnswer h p v result w
   pub counts : Counts v result w
   pub path : walker_path w ≡ walker_path v
-  pub on : (told : Option (List (List ℕ))) (lacks : ℕ) → KeepsOn h told lacks lacks v result w
-  pub row : (told : Option (List (List ℕ))) → RowStands told v result
-  pub reads : (held : List (List ℕ)) (gets : ℕ) → Spends held gets gets v result w
-  pub nodes : SameNodes v w
+  pub on : (told : Option (List (List ℕ))) (lacks : ℕ) → KeepsOn p h told lacks lacks v result w
+  pub row : (told : Option (List (List ℕ))) → RowStands p told v result
+  pub reads : (held : List (List ℕ)) (gets : ℕ) → Spends p held gets gets v result w
+  pub nodes : SameNodes p v w
 
 -- what a call that gives rows says, of one that only tells whether there was one
 abbrev pub AnyRow : (Result (Option Row) HamtFault → Type 0) → Result Bool HamtFault → Type 0
@@ -266,62 +269,62 @@ AnyRow Says (Ok false) = Says (Ok None)
 AnyRow Says (Err e) = Says (Err e)
 
 -- an entry is next, and fits its place
-pub record FitsNext (h : List ℕ → List ℕ) (v : Walker) : Type 0 where
+pub record FitsNext (h : List ℕ → List ℕ) (p : HamtShape) (v : Walker) : Type 0 where
   pub next : GivesNext v
-  pub fit : fits h usual (walker_path v) next.index next.key ≡ true
+  pub fit : fits h p (walker_path v) next.index next.key ≡ true
 
 -- whether an entry is next, or why none is to be given
-abbrev pub Judges : (List ℕ → List ℕ) → Walker → Result Bool HamtFault → Type 0
-Judges h v (Ok true) = FitsNext h v
-Judges h v (Ok false) = walker_todo v ≡ []
-Judges h v (Err e) = Gives h v (Err e) v
+abbrev pub Judges : (List ℕ → List ℕ) → HamtShape → Walker → Result Bool HamtFault → Type 0
+Judges h p v (Ok true) = FitsNext h p v
+Judges h p v (Ok false) = walker_todo v ≡ []
+Judges h p v (Err e) = Gives h p v (Err e) v
 
 -- ---- one call of next
 
 -- the same entries are ahead, where the store tells what it holds
-abbrev pub KeepsAhead : (List ℕ → List ℕ) → Moment → Walker → Walker → Type 0
-KeepsAhead h m v w = (held : List (List ℕ)) (es : List (List ℕ × Data)) → m.blocks ≡ Some held → Ahead h held v es ↔ Ahead h held w es
+abbrev pub KeepsAhead : (List ℕ → List ℕ) → HamtShape → Moment → Walker → Walker → Type 0
+KeepsAhead h p m v w = (held : List (List ℕ)) (es : List (List ℕ × Data)) → m.blocks ≡ Some held → Ahead h p held v es ↔ Ahead h p held w es
 
 -- the same, wherever these blocks are held
-abbrev pub KeepsWhere : (List ℕ → List ℕ) → List (List ℕ) → Walker → Walker → Type 0
-KeepsWhere h blocks v w = (held : List (List ℕ)) (es : List (List ℕ × Data)) → HoldsAll held blocks → Ahead h held v es ↔ Ahead h held w es
+abbrev pub KeepsWhere : (List ℕ → List ℕ) → HamtShape → List (List ℕ) → Walker → Walker → Type 0
+KeepsWhere h p blocks v w = (held : List (List ℕ)) (es : List (List ℕ × Data)) → HoldsAll held blocks → Ahead h p held v es ↔ Ahead h p held w es
 
 -- the entries begin with this pair, and the others are ahead
-pub record BeginsWith (h : List ℕ → List ℕ) (held : List (List ℕ)) (key : List ℕ) (value : Data) (w : Walker) (es : List (List ℕ × Data)) : Type 0 where
+pub record BeginsWith (h : List ℕ → List ℕ) (p : HamtShape) (held : List (List ℕ)) (key : List ℕ) (value : Data) (w : Walker) (es : List (List ℕ × Data)) : Type 0 where
   pub rest : List (List ℕ × Data)
   pub is : es ≡ (key, value) ∷ rest
-  pub ahead : Ahead h held w rest
+  pub ahead : Ahead h p held w rest
 
 -- what was ahead were exactly the entries that begin with the row's pair and of whose rest it is ahead now
-pub record GivesRow (h : List ℕ → List ℕ) (m : Moment) (v : Walker) (row : Row) (w : Walker) : Type 0 where
+pub record GivesRow (h : List ℕ → List ℕ) (p : HamtShape) (m : Moment) (v : Walker) (row : Row) (w : Walker) : Type 0 where
   pub value : Data
   pub spelled : row.value ≡ spell value
-  pub ahead : (held : List (List ℕ)) (es : List (List ℕ × Data)) → m.blocks ≡ Some held → Ahead h held v es ↔ BeginsWith h held row.key value w es
+  pub ahead : (held : List (List ℕ)) (es : List (List ℕ × Data)) → m.blocks ≡ Some held → Ahead h p held v es ↔ BeginsWith h p held row.key value w es
 
 -- a row is given where what was ahead begins with it, and nothing where nothing was ahead; a block is refused only where no entries were
-abbrev pub NextAnswer : (List ℕ → List ℕ) → Moment → Walker → Result (Option Row) HamtFault → Walker → Moment → Type 0
-NextAnswer h m v (Ok (Some row)) w n = GivesRow h m v row w
-NextAnswer h m v (Ok None) w n = (held : List (List ℕ)) (es : List (List ℕ × Data)) → m.blocks ≡ Some held → Ahead h held v es ↔ (es ≡ [])
-NextAnswer h m v (Err Store) w n = Rose m.faults n.faults × KeepsAhead h m v w
-NextAnswer h m v (Err Memory) w n = KeepsAhead h m v w
-NextAnswer h m v (Err e) w n = IsCause m e n × ((held : List (List ℕ)) (es : List (List ℕ × Data)) → m.blocks ≡ Some held → Ahead h held v es → ⊥) × KeepsAhead h m v w
+abbrev pub NextAnswer : (List ℕ → List ℕ) → HamtShape → Moment → Walker → Result (Option Row) HamtFault → Walker → Moment → Type 0
+NextAnswer h p m v (Ok (Some row)) w n = GivesRow h p m v row w
+NextAnswer h p m v (Ok None) w n = (held : List (List ℕ)) (es : List (List ℕ × Data)) → m.blocks ≡ Some held → Ahead h p held v es ↔ (es ≡ [])
+NextAnswer h p m v (Err Store) w n = Rose m.faults n.faults × KeepsAhead h p m v w
+NextAnswer h p m v (Err Memory) w n = KeepsAhead h p m v w
+NextAnswer h p m v (Err e) w n = IsCause p m e n × ((held : List (List ℕ)) (es : List (List ℕ × Data)) → m.blocks ≡ Some held → Ahead h p held v es → ⊥) × KeepsAhead h p m v w
 
-pub record Nexts (h : List ℕ → List ℕ) (m : Moment) (v : Walker) (result : Result (Option Row) HamtFault) (w : Walker) (n : Moment) : Type 0 where
-  pub answer : NextAnswer h m v result w n
+pub record Nexts (h : List ℕ → List ℕ) (p : HamtShape) (m : Moment) (v : Walker) (result : Result (Option Row) HamtFault) (w : Walker) (n : Moment) : Type 0 where
+  pub answer : NextAnswer h p m v result w n
   pub counts : Counts v result w
-  pub only : OnlyGets (trie_levels usual) m n
-  pub on : KeepsOn h m.blocks m.lacks n.lacks v result w
-  pub row : RowStands m.blocks v result
-  pub reads : (held : List (List ℕ)) → m.blocks ≡ Some held → Spends held m.gets n.gets v result w
-  pub read : HasRead (λ blocks. IfErr result (λ e. KeepsWhere h blocks v w)) (fails_of result) m v w n
+  pub only : OnlyGets (trie_levels p) m n
+  pub on : KeepsOn p h m.blocks m.lacks n.lacks v result w
+  pub row : RowStands p m.blocks v result
+  pub reads : (held : List (List ℕ)) → m.blocks ≡ Some held → Spends p held m.gets n.gets v result w
+  pub read : HasRead p (λ blocks. IfErr result (λ e. KeepsWhere h p blocks v w)) (fails_of result) m v w n
 
 -- nodes are left and children entered, and an entry is to be given, or nothing
-pub record ComesNext (m : Moment) (v w : Walker) (n : Moment) : Type 0 where
+pub record ComesNext (p : HamtShape) (m : Moment) (v w : Walker) (n : Moment) : Type 0 where
   pub between : Walker
-  pub short : length (walker_path v) < trie_levels usual
-  pub left : Leaves v (Ok (tt {0})) between
-  pub entered : Enters (trie_levels usual) m between (Ok (tt {0})) w n
+  pub short : length (walker_path v) < trie_levels p
+  pub left : Leaves p v (Ok (tt {0})) between
+  pub entered : Enters p (trie_levels p) m between (Ok (tt {0})) w n
 
-abbrev pub Readies : Moment → Walker → Result (Unit {0}) HamtFault → Walker → Moment → Type 0
-Readies m v (Ok u) w n = ComesNext m v w n
-Readies m v (Err e) w n = (h : List ℕ → List ℕ) → Nexts h m v (Err e) w n
+abbrev pub Readies : HamtShape → Moment → Walker → Result (Unit {0}) HamtFault → Walker → Moment → Type 0
+Readies p m v (Ok u) w n = ComesNext p m v w n
+Readies p m v (Err e) w n = (h : List ℕ → List ℕ) → Nexts h p m v (Err e) w n

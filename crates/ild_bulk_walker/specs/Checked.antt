@@ -3,6 +3,7 @@ use Rattle.std.specs.Prelude.{◌≡◌, ◌↔◌, ℕ, ◌+◌, ◌-◌, ◌�
 use Rattle.std.specs.Global.{Vec}
 use Rattle.std.specs.List.{All}
 use Rattle.std.specs.List.Sorted.{IsPermutation, IsSortedBy}
+use Rattle.ild_data.specs.declared.hamt_shape.HamtShape.{HamtShape}
 use Rattle.ild_data.specs.Data.{Data}
 use Rattle.ild_data.specs.Key.{key_less, Rises}
 use Rattle.ild_data.specs.Spell.{spell}
@@ -10,7 +11,6 @@ use Rattle.ild_data.specs.Trie.{TrieSlot}
 use Rattle.ild_data.specs.TrieShape.{trie_levels}
 use Rattle.ild_edges.specs.Count.{Rose}
 use Rattle.ild_edges.specs.Store.{Moment, Later}
-use Rattle.ild_typed.specs.Composed.{usual}
 use Rattle.ild_node_slots.specs.declared.fault.HamtFault.{HamtFault}
 use Rattle.ild_node_slots.specs.declared.fault.HamtFault.TheVariants.{Store, Memory}
 use Rattle.ild_bulk_walker.specs.Ahead.{Ahead, IsCause}
@@ -21,40 +21,40 @@ use Rattle.ild_bulk_walker.specs.declared.row.Row.{Row}
 use Rattle.ild_bulk_walker.specs.declared.walker.Walker.{Walker}
 
 -- a store is left as it was, but for gets: where it tells what it holds, at most one for each block of a node beneath the root
-pub record ReadsTree (slots : List TrieSlot) (m n : Moment) : Type 0 where
+pub record ReadsTree (p : HamtShape) (slots : List TrieSlot) (m n : Moment) : Type 0 where
   pub later : Later m n
   pub blocks : n.blocks ≡ m.blocks
   pub given : n.given ≡ m.given
   pub puts : n.puts ≡ m.puts
-  pub gets : (held : List (List ℕ)) (many : ℕ) → m.blocks ≡ Some held → NodesBeneath held slots many → n.gets ≤ m.gets + many
+  pub gets : (held : List (List ℕ)) (many : ℕ) → m.blocks ≡ Some held → NodesBeneath p held slots many → n.gets ≤ m.gets + many
 
 -- the blocks give no entries
-abbrev pub GivesNone : (List ℕ → List ℕ) → List TrieSlot → Moment → Type 0
-GivesNone h slots m = (held : List (List ℕ)) (es : List (List ℕ × Data)) → m.blocks ≡ Some held → RootGives h usual held (trie_levels usual - 1) slots es → ⊥
+abbrev pub GivesNone : (List ℕ → List ℕ) → HamtShape → List TrieSlot → Moment → Type 0
+GivesNone h p slots m = (held : List (List ℕ)) (es : List (List ℕ × Data)) → m.blocks ≡ Some held → RootGives h p held (trie_levels p - 1) slots es → ⊥
 
 -- why a walk doesn't come to its end
-abbrev pub StopsWith : (List ℕ → List ℕ) → List TrieSlot → Moment → HamtFault → Moment → Type 0
-StopsWith h slots m Store n = Rose m.faults n.faults
-StopsWith h slots m Memory n = Unit {0}
-StopsWith h slots m e n = IsCause m e n × GivesNone h slots m
+abbrev pub StopsWith : (List ℕ → List ℕ) → HamtShape → List TrieSlot → Moment → HamtFault → Moment → Type 0
+StopsWith h p slots m Store n = Rose m.faults n.faults
+StopsWith h p slots m Memory n = Unit {0}
+StopsWith h p slots m e n = IsCause p m e n × GivesNone h p slots m
 
 -- ---- counting
 
 -- the tree gives so many entries
-pub record GivesMany (h : List ℕ → List ℕ) (held : List (List ℕ)) (slots : List TrieSlot) (count : ℕ) : Type 0 where
+pub record GivesMany (h : List ℕ → List ℕ) (p : HamtShape) (held : List (List ℕ)) (slots : List TrieSlot) (count : ℕ) : Type 0 where
   pub entries : List (List ℕ × Data)
   pub many : length entries ≡ count
-  pub gives : RootGives h usual held (trie_levels usual - 1) slots entries
+  pub gives : RootGives h p held (trie_levels p - 1) slots entries
 
-abbrev pub CheckAnswer : (List ℕ → List ℕ) → List TrieSlot → Moment → Result ℕ HamtFault → Moment → Type 0
-CheckAnswer h slots m (Ok count) n = (held : List (List ℕ)) → m.blocks ≡ Some held → GivesMany h held slots count
-CheckAnswer h slots m (Err e) n = StopsWith h slots m e n
+abbrev pub CheckAnswer : (List ℕ → List ℕ) → HamtShape → List TrieSlot → Moment → Result ℕ HamtFault → Moment → Type 0
+CheckAnswer h p slots m (Ok count) n = (held : List (List ℕ)) → m.blocks ≡ Some held → GivesMany h p held slots count
+CheckAnswer h p slots m (Err e) n = StopsWith h p slots m e n
 
 -- a HAMT beneath a root of these slots, which stands in the block `at`, was checked
-pub record Checks (h : List ℕ → List ℕ) (slots : List TrieSlot) (at : List ℕ) (m : Moment) (result : Result ℕ HamtFault) (n : Moment) : Type 0 where
-  pub answer : CheckAnswer h slots m result n
-  pub broken : IfErr result (IsBroken h m.blocks slots at m.lacks n.lacks)
-  pub reads : ReadsTree slots m n
+pub record Checks (h : List ℕ → List ℕ) (p : HamtShape) (slots : List TrieSlot) (at : List ℕ) (m : Moment) (result : Result ℕ HamtFault) (n : Moment) : Type 0 where
+  pub answer : CheckAnswer h p slots m result n
+  pub broken : IfErr result (IsBroken h p m.blocks slots at m.lacks n.lacks)
+  pub reads : ReadsTree p slots m n
 
 -- ---- listing
 
@@ -65,9 +65,9 @@ abbrev pub spelled_pair : List ℕ × Data → List ℕ × List ℕ
 spelled_pair e = (e.0, spell e.1)
 
 -- the rows are the entries that the tree gives, with their values spelled, in another order: their keys rise, so that none stands twice
-pub record GivesRows (h : List ℕ → List ℕ) (held : List (List ℕ)) (slots : List TrieSlot) (rows : List Row) : Type 0 where
+pub record GivesRows (h : List ℕ → List ℕ) (p : HamtShape) (held : List (List ℕ)) (slots : List TrieSlot) (rows : List Row) : Type 0 where
   pub entries : List (List ℕ × Data)
-  pub gives : RootGives h usual held (trie_levels usual - 1) slots entries
+  pub gives : RootGives h p held (trie_levels p - 1) slots entries
   pub same : IsPermutation (map spelled_pair entries) (map row_pair rows)
   pub rise : Rises (map row_pair rows)
 
@@ -75,43 +75,43 @@ pub record GivesRows (h : List ℕ → List ℕ) (held : List (List ℕ)) (slots
 abbrev pub InKeyOrder : List Row → Type 0
 InKeyOrder rows = IsSortedBy (λ a b. key_less a.key b.key) rows
 
-abbrev pub WalkAnswer : (List ℕ → List ℕ) → List TrieSlot → Moment → Result (Vec Row) HamtFault → Moment → Type 0
-WalkAnswer h slots m (Ok rows) n = (held : List (List ℕ)) → m.blocks ≡ Some held → GivesRows h held slots rows.items
-WalkAnswer h slots m (Err e) n = StopsWith h slots m e n
+abbrev pub WalkAnswer : (List ℕ → List ℕ) → HamtShape → List TrieSlot → Moment → Result (Vec Row) HamtFault → Moment → Type 0
+WalkAnswer h p slots m (Ok rows) n = (held : List (List ℕ)) → m.blocks ≡ Some held → GivesRows h p held slots rows.items
+WalkAnswer h p slots m (Err e) n = StopsWith h p slots m e n
 
 -- the rows of a HAMT beneath a root of these slots, which stands in the block `at`, were listed
-pub record Walks (h : List ℕ → List ℕ) (slots : List TrieSlot) (at : List ℕ) (m : Moment) (result : Result (Vec Row) HamtFault) (n : Moment) : Type 0 where
-  pub answer : WalkAnswer h slots m result n
+pub record Walks (h : List ℕ → List ℕ) (p : HamtShape) (slots : List TrieSlot) (at : List ℕ) (m : Moment) (result : Result (Vec Row) HamtFault) (n : Moment) : Type 0 where
+  pub answer : WalkAnswer h p slots m result n
   pub order : IfOk result (λ rows. InKeyOrder rows.items)
-  pub stand : IfOk result (λ rows. All (StandsThere m.blocks slots at) rows.items)
-  pub broken : IfErr result (IsBroken h m.blocks slots at m.lacks n.lacks)
-  pub reads : ReadsTree slots m n
+  pub stand : IfOk result (λ rows. All (StandsThere p m.blocks slots at) rows.items)
+  pub broken : IfErr result (IsBroken h p m.blocks slots at m.lacks n.lacks)
+  pub reads : ReadsTree p slots m n
 
 -- ---- halfway
 
 -- the entries are these, and behind them what is ahead
-pub record Behind (h : List ℕ → List ℕ) (held : List (List ℕ)) (done : List (List ℕ × Data)) (w : Walker) (es : List (List ℕ × Data)) : Type 0 where
+pub record Behind (h : List ℕ → List ℕ) (p : HamtShape) (held : List (List ℕ)) (done : List (List ℕ × Data)) (w : Walker) (es : List (List ℕ × Data)) : Type 0 where
   pub rest : List (List ℕ × Data)
   pub is : es ≡ done ++ rest
-  pub ahead : Ahead h held w rest
+  pub ahead : Ahead h p held w rest
 
 -- so far these entries were given, and with what is ahead they are what the tree gives
-pub record Walked (h : List ℕ → List ℕ) (held : List (List ℕ)) (slots : List TrieSlot) (AreDone : List (List ℕ × Data) → Type 0) (w : Walker) : Type 0 where
+pub record Walked (h : List ℕ → List ℕ) (p : HamtShape) (held : List (List ℕ)) (slots : List TrieSlot) (AreDone : List (List ℕ × Data) → Type 0) (w : Walker) : Type 0 where
   pub done : List (List ℕ × Data)
   pub are : AreDone done
   pub many : length done ≡ w.given
-  pub ahead : (es : List (List ℕ × Data)) → RootGives h usual held (trie_levels usual - 1) slots es ↔ Behind h held done w es
+  pub ahead : (es : List (List ℕ × Data)) → RootGives h p held (trie_levels p - 1) slots es ↔ Behind h p held done w es
 
-pub record HasWalked (h : List ℕ → List ℕ) (slots : List TrieSlot) (at : List ℕ) (AreDone : List (List ℕ × Data) → Type 0) (m : Moment) (w : Walker) (n : Moment) : Type 0 where
-  pub walked : (held : List (List ℕ)) → m.blocks ≡ Some held → Walked h held slots AreDone w
-  pub on : IsOn m.blocks slots at w
-  pub spent : (held : List (List ℕ)) (many : ℕ) → m.blocks ≡ Some held → NodesBeneath held slots many → Spent held m.gets n.gets many w
+pub record HasWalked (h : List ℕ → List ℕ) (p : HamtShape) (slots : List TrieSlot) (at : List ℕ) (AreDone : List (List ℕ × Data) → Type 0) (m : Moment) (w : Walker) (n : Moment) : Type 0 where
+  pub walked : (held : List (List ℕ)) → m.blocks ≡ Some held → Walked h p held slots AreDone w
+  pub on : IsOn p m.blocks slots at w
+  pub spent : (held : List (List ℕ)) (many : ℕ) → m.blocks ≡ Some held → NodesBeneath p held slots many → Spent p held m.gets n.gets many w
   pub later : Later m n
   pub blocks : n.blocks ≡ m.blocks
   pub given : n.given ≡ m.given
   pub puts : n.puts ≡ m.puts
 
 -- the rows so far are the entries that were given, and each stands in its block
-pub record HasListed (h : List ℕ → List ℕ) (slots : List TrieSlot) (at : List ℕ) (rows : List Row) (m : Moment) (w : Walker) (n : Moment) : Type 0 where
-  pub walk : HasWalked h slots at (λ done. map spelled_pair done ≡ map row_pair rows) m w n
-  pub stand : All (StandsThere m.blocks slots at) rows
+pub record HasListed (h : List ℕ → List ℕ) (p : HamtShape) (slots : List TrieSlot) (at : List ℕ) (rows : List Row) (m : Moment) (w : Walker) (n : Moment) : Type 0 where
+  pub walk : HasWalked h p slots at (λ done. map spelled_pair done ≡ map row_pair rows) m w n
+  pub stand : All (StandsThere p m.blocks slots at) rows

@@ -3,7 +3,8 @@ use Rattle.std.specs.Prelude.{◌≡◌, ℕ, suc, ◌+◌, ◌-◌, ◌<◌, �
 use Rattle.std.specs.List.{AllByRecursion}
 use Rattle.ild_data.specs.Data.{Data}
 use Rattle.ild_data.specs.Trie.{TrieSlot, empty, bucket, child}
-use Rattle.ild_data.specs.TrieShape.{TrieShape, index, trie_levels}
+use Rattle.ild_data.specs.declared.hamt_shape.HamtShape.{HamtShape}
+use Rattle.ild_data.specs.TrieShape.{index, trie_levels}
 use Rattle.ild_bulk_walker.specs.Gives.{TreeGives}
 
 -- give an entry that stands at an index, enter the child at an index, or leave a node that was entered when so many were given
@@ -23,19 +24,19 @@ node_todo i [] = []
 node_todo i (s ∷ slots) = slot_todo i s ++ node_todo (i + 1) slots
 
 -- the hash has these indices from a depth on
-abbrev pub agrees : TrieShape → List ℕ → ℕ → List ℕ → Bool
+abbrev pub agrees : HamtShape → List ℕ → ℕ → List ℕ → Bool
 agrees p hash depth [] = true
 agrees p hash depth (i ∷ path) = (index p hash depth == i) && agrees p hash (depth + 1) path
 
 -- the key belongs to an index of the node at the end of a path of indices
-abbrev pub fits : (List ℕ → List ℕ) → TrieShape → List ℕ → ℕ → List ℕ → Bool
+abbrev pub fits : (List ℕ → List ℕ) → HamtShape → List ℕ → ℕ → List ℕ → Bool
 fits h p path i k = agrees p (h k) 0 path && (index p (h k) (length path) == i)
 
-abbrev pub AllFit : (List ℕ → List ℕ) → TrieShape → List ℕ → ℕ → List (List ℕ × Data) → Type 0
+abbrev pub AllFit : (List ℕ → List ℕ) → HamtShape → List ℕ → ℕ → List (List ℕ × Data) → Type 0
 AllFit h p path i es = AllByRecursion (λ e. fits h p path i e.0 ≡ true) es
 
 -- these entries are what is still to be given, where so many were given: each fits its place, and each child gives more than a bucket takes
-abbrev pub StillGives : (List ℕ → List ℕ) → TrieShape → List (List ℕ) → List Todo → List ℕ → ℕ → List (List ℕ × Data) → Type 0
+abbrev pub StillGives : (List ℕ → List ℕ) → HamtShape → List (List ℕ) → List Todo → List ℕ → ℕ → List (List ℕ × Data) → Type 0
 StillGives h p held [] path given es = es ≡ []
 StillGives h p held (give k v i ∷ todo) path given es =
     (rest : List (List ℕ × Data)) × (es ≡ (k, v) ∷ rest) × (fits h p path i k ≡ true) × StillGives h p held todo path (given + 1) rest

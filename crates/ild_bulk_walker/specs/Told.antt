@@ -1,16 +1,16 @@
 -- What is read of a node, item by item, while it is told that it is one: the steps of its entries and children.
-use Rattle.std.specs.Prelude.{◌≡◌, ℕ, ◌+◌, List, [], ◌∷◌, ◌++◌, length, map, Bool, true, false, Option, Some, None, IsUtf8}
+use Rattle.std.specs.Prelude.{◌≡◌, ℕ, ◌+◌, List, [], ◌∷◌, ◌++◌, ◌^◌, length, map, Bool, true, false, Option, Some, None, IsUtf8}
 use Rattle.std.specs.Borrow.{Bor}
 use Rattle.std.specs.Global.{Vec}
 use Rattle.ild_data.specs.Data.{Data, bytes, list, Items, no_items, item, items_list}
 use Rattle.ild_data.specs.Spell.{spell}
 use Rattle.ild_data.specs.Trie.{TrieSlot, node_data}
+use Rattle.ild_data.specs.declared.hamt_shape.HamtShape.{HamtShape}
 use Rattle.ild_cbor.specs.Chain.{chain}
 use Rattle.ild_cbor.specs.Nodes.{Stands, block_of, start_of}
 use Rattle.ild_cbor.specs.Steps.{HasItems, items_of}
 use Rattle.ild_cbor.specs.declared.items.Items.{Items as ItemsLeft}
 use Rattle.ild_cbor.specs.declared.node.Node.{Node}
-use Rattle.ild_typed.specs.Composed.{usual}
 use Rattle.ild_typed.specs.NodeReading.{child_in, entry_in, element_fits, elements_fit, map_bits, node_fits, pair_in}
 use Rattle.ild_node_slots.specs.Form.{IsNode}
 use Rattle.ild_bulk_walker.specs.Steps.{step_todo, steps_todo}
@@ -96,18 +96,18 @@ ChildAdds None i old r new = r ≡ false
 ChildAdds (Some id) i old r new = (r ≡ true) × (map step_todo new ≡ map step_todo old ++ enter id i ∷ [])
 
 -- whether the next item is there, and is an element of a node
-abbrev pub ElementAdds : ℕ → List ℕ → Items → List Step → Bool → ItemsLeft → List Step → Type 0
-ElementAdds i block no_items old r t new = r ≡ false
-ElementAdds i block (item d ds) old r t new = Adds (element_fits usual.bucket d) (element_todo i d) block ds old r t new
+abbrev pub ElementAdds : HamtShape → ℕ → List ℕ → Items → List Step → Bool → ItemsLeft → List Step → Type 0
+ElementAdds p i block no_items old r t new = r ≡ false
+ElementAdds p i block (item d ds) old r t new = Adds (element_fits p.bucket d) (element_todo i d) block ds old r t new
 
 -- the same, where the bit of the slot is set
-abbrev pub SlotAdds : Bool → ℕ → List ℕ → Items → ItemsLeft → List Step → Bool → ItemsLeft → List Step → Type 0
-SlotAdds true i block ds s old r t new = ElementAdds i block ds old r t new
-SlotAdds false i block ds s old r t new = (r ≡ true) × (t ≡ s) × (new ≡ old)
+abbrev pub SlotAdds : HamtShape → Bool → ℕ → List ℕ → Items → ItemsLeft → List Step → Bool → ItemsLeft → List Step → Type 0
+SlotAdds p true i block ds s old r t new = ElementAdds p i block ds old r t new
+SlotAdds p false i block ds s old r t new = (r ≡ true) × (t ≡ s) × (new ≡ old)
 
-pub record ReadsElements (ones : List ℕ) (ds : Items) (old : List Step) (r : Bool) (new : List Step) : Type 0 where
-  pub same : r ≡ elements_fit usual.bucket (map_bits ones 0 256) ds
-  pub added : r ≡ true → map step_todo new ≡ map step_todo old ++ elements_todo 0 (map_bits ones 0 256) ds
+pub record ReadsElements (p : HamtShape) (ones : List ℕ) (ds : Items) (old : List Step) (r : Bool) (new : List Step) : Type 0 where
+  pub same : r ≡ elements_fit p.bucket (map_bits ones 0 (2 ^ p.width)) ds
+  pub added : r ≡ true → map step_todo new ≡ map step_todo old ++ elements_todo 0 (map_bits ones 0 (2 ^ p.width)) ds
 
 -- ---- whole nodes
 
@@ -119,10 +119,10 @@ pub record PartsIn (n : Node) (t : Data) (r : Bor (List ℕ) × ItemsLeft) : Typ
   pub here : r.1.block.now ≡ block_of n
 
 abbrev pub PartsRead : Node → Data → Option (Bor (List ℕ) × ItemsLeft) → Type 0
-PartsRead n t None = node_fits usual t ≡ false
+PartsRead n t None = (p : HamtShape) → node_fits p t ≡ false
 PartsRead n t (Some r) = PartsIn n t r
 
 -- the steps of a node, or it is none
-abbrev pub ReadsNode : Data → Option (Vec Step) → Type 0
-ReadsNode t None = node_fits usual t ≡ false
-ReadsNode t (Some steps) = (node_fits usual t ≡ true) × ((slots : List TrieSlot) → t ≡ node_data slots → IsNode usual slots → steps_todo steps.items ≡ node_todo 0 slots)
+abbrev pub ReadsNode : HamtShape → Data → Option (Vec Step) → Type 0
+ReadsNode p t None = node_fits p t ≡ false
+ReadsNode p t (Some steps) = (node_fits p t ≡ true) × ((slots : List TrieSlot) → t ≡ node_data slots → IsNode p slots → steps_todo steps.items ≡ node_todo 0 slots)

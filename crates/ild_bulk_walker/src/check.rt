@@ -1,7 +1,7 @@
 //! Checking a whole HAMT.
 ghost use Rattle.std.specs.Prelude.{◌≡◌, ◌+◌, List, IfOk};
 ghost use Rattle.ild_data.specs.Trie.{TrieSlot};
-ghost use Rattle.ild_typed.specs.Composed.{usual};
+ghost use Rattle.ild_data.specs.declared.hamt_shape.HamtShape.{HamtShape};
 ghost use Rattle.ild_node_slots.specs.Views.{HasSlots};
 ghost use Rattle.ild_bulk_walker.specs.Checked.{Checks};
 
@@ -20,7 +20,7 @@ pub fn check_tree<K: Store, H: KeyHash>(
     keys: &H,
     store: &mut K,
 ) -> Result<u64, HamtFault>
-    ensures { (slots : List TrieSlot) → HasSlots usual root.entry slots → Checks H.hash_of slots at.0 (K.moment store.old) result (K.moment store.new) }
+    ensures { (p : HamtShape) (slots : List TrieSlot) → HasSlots p root.entry slots → Checks H.hash_of p slots at.0 (K.moment store.old) result (K.moment store.new) }
 {
     let mut walker = Walker::new(alloc, root, at)?;
     while walker.advance(keys, store)? {}

@@ -2,7 +2,7 @@
 ghost use Rattle.std.specs.Prelude.{◌≡◌, ◌+◌, List, IfOk};
 ghost use Rattle.std.specs.List.Sorted.{IsPermutation};
 ghost use Rattle.ild_data.specs.Trie.{TrieSlot};
-ghost use Rattle.ild_typed.specs.Composed.{usual};
+ghost use Rattle.ild_data.specs.declared.hamt_shape.HamtShape.{HamtShape};
 ghost use Rattle.ild_node_slots.specs.Views.{HasSlots};
 ghost use Rattle.ild_bulk_walker.specs.Checked.{InKeyOrder, Walks};
 
@@ -32,7 +32,7 @@ pub fn walk<K: Store, H: KeyHash>(
     keys: &H,
     store: &mut K,
 ) -> Result<Vec<Row>, HamtFault>
-    ensures { (slots : List TrieSlot) → HasSlots usual root.entry slots → Walks H.hash_of slots at.0 (K.moment store.old) result (K.moment store.new) }
+    ensures { (p : HamtShape) (slots : List TrieSlot) → HasSlots p root.entry slots → Walks H.hash_of p slots at.0 (K.moment store.old) result (K.moment store.new) }
 {
     let mut walker = Walker::new(alloc, root, at)?;
     let mut rows = Vec::new(alloc);

@@ -11,8 +11,8 @@ ghost use Rattle.ild_bulk_walker.specs.Told.{Adds, ChildAdds, ElementAdds, HasEn
 
 use crate::step::{Child, Entry, Step};
 use ild_cbor::{Items, Node};
-use ild_data::Octets;
-use ild_node_slots::{BUCKET_SIZE, SLOTS, child_in, map_bit, next_entry, rises};
+use ild_data::{HamtShape, Octets};
+use ild_node_slots::{child_in, map_bit, next_entry, rises};
 use std::alloc::{AllocError, Global};
 use std::rc::Rc;
 
@@ -83,17 +83,18 @@ fn add_child(steps: &mut Vec<Step>, element: &Node<'_>, index: u8) -> Result<boo
 
 // Appends the steps of the next item, where it is an element of a node: whether it is.
 fn add_element(
+    shape: HamtShape,
     held: &Rc<Octets>,
     steps: &mut Vec<Step>,
     items: &mut Items<'_>,
     index: u8,
 ) -> Result<bool, AllocError>
     requires { HasItemsIn held.now.value items.old }
-    ensures { (ds : DataItems) → HasItems items.old ds → IfOk result (λ r. ElementAdds index held.now.value ds steps.old.items r items.new steps.new.items) }
+    ensures { (ds : DataItems) → HasItems items.old ds → IfOk result (λ r. ElementAdds shape index held.now.value ds steps.old.items r items.new steps.new.items) }
 {
     match items.unfold() {
         Some(count) => {
-            if count == 0 || count > BUCKET_SIZE as u64 {
+            if count == 0 || count > shape.bucket as u64 {
                 return Ok(false);
             }
             add_entries(held, steps, items, count, index)
@@ -107,6 +108,7 @@ fn add_element(
 
 // The same of a slot, which has an element where its bit is set.
 fn add_slot(
+    shape: HamtShape,
     held: &Rc<Octets>,
     steps: &mut Vec<Step>,
     map: &[u8],
@@ -115,27 +117,28 @@ fn add_slot(
 ) -> Result<bool, AllocError>
     requires items { HasItemsIn held.now.value items.old }
     requires slot { i < 256 }
-    ensures { (ds : DataItems) → HasItems items.old ds → IfOk result (λ r. SlotAdds (map_bit map.now i) i held.now.value ds items.old steps.old.items r items.new steps.new.items) }
+    ensures { (ds : DataItems) → HasItems items.old ds → IfOk result (λ r. SlotAdds shape (map_bit map.now i) i held.now.value ds items.old steps.old.items r items.new steps.new.items) }
 {
     if map_bit(map, i) {
-        return add_element(held, steps, items, i as u8);
+        return add_element(shape, held, steps, items, i as u8);
     }
     Ok(true)
 }
 
 // Appends the steps of all elements, where there is one for each bit that is set: whether there is.
 fn add_elements(
+    shape: HamtShape,
     held: &Rc<Octets>,
     steps: &mut Vec<Step>,
     map: &[u8],
     elements: Items<'_>,
 ) -> Result<bool, AllocError>
     requires { HasItemsIn held.now.value elements }
-    ensures { (ds : DataItems) → HasItems elements.entry ds → IfOk result (λ r. ReadsElements map.now ds steps.old.items r steps.new.items) }
+    ensures { (ds : DataItems) → HasItems elements.entry ds → IfOk result (λ r. ReadsElements shape map.now ds steps.old.items r steps.new.items) }
 {
     let mut items = elements;
-    for i in 0..SLOTS {
-        if !add_slot(held, steps, map, &mut items, i)? {
+    for i in 0..shape.slots() {
+        if !add_slot(shape, held, steps, map, &mut items, i)? {
             return Ok(false);
         }
     }
@@ -152,23 +155,24 @@ fn parts_of<'b>(node: &Node<'b>) -> Option<(&'b [u8], Items<'b>)>
     Some((map, elements))
 }
 
-/// The steps of a node in this block, the first behind the others, or `None` where the item is no node.
+/// The steps of a node of this shape in this block, the first behind the others, or `None` where the item is no node.
 pub(crate) fn steps_in(
     alloc: Global,
+    shape: HamtShape,
     held: &Rc<Octets>,
     node: Node<'_>,
 ) -> Result<Option<Vec<Step>>, AllocError>
     requires { IsNodeIn held.now.value node }
-    ensures { (t : Data) → Stands node.entry t → IfOk result (ReadsNode t) }
+    ensures { (t : Data) → Stands node.entry t → IfOk result (ReadsNode shape t) }
 {
     let Some((map, elements)) = parts_of(&node) else {
         return Ok(None);
     };
-    if map.len() != SLOTS / 8 {
+    if map.len() != shape.slots() / 8 {
         return Ok(None);
     }
     let mut steps = Vec::new(alloc);
-    if !add_elements(held, &mut steps, map, elements)? {
+    if !add_elements(shape, held, &mut steps, map, elements)? {
         return Ok(None);
     }
     steps.reverse();

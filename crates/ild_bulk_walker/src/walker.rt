@@ -1,7 +1,6 @@
 //! Walking over the entries of a HAMT, one at a time.
 ghost use Rattle.std.specs.Prelude.{◌≡◌, ◌+◌, ◌≤◌, length};
 ghost use Rattle.ild_data.specs.TrieShape.{trie_levels};
-ghost use Rattle.ild_typed.specs.Composed.{usual};
 ghost use Rattle.ild_bulk_walker.specs.Steps.{path_of};
 ghost use Rattle.ild_bulk_walker.specs.Todo.{agrees};
 
@@ -10,9 +9,9 @@ use crate::fetch::{fetch, root_steps};
 use crate::row::Row;
 use crate::step::{Child, Entry, Step};
 use ild_cbor::{BlockWhy, Why};
-use ild_data::{BlockId, KeyHash};
+use ild_data::{BlockId, HamtShape, KeyHash};
 use ild_edges::Store;
-use ild_node_slots::{BUCKET_SIZE, HamtFault, LEVELS, NodeView, index_of};
+use ild_node_slots::{HamtFault, NodeView, has_level, index_of};
 use std::alloc::{AllocError, Global};
 
 /// A walk over the entries of a HAMT in the order of its trie: by index, and bytewise by key inside a bucket. It keeps what is
@@ -21,45 +20,48 @@ use std::alloc::{AllocError, Global};
 pub struct Walker {
     pub(crate) alloc: Global,
     pub(crate) at: BlockId,
+    pub(crate) shape: HamtShape,
     pub(crate) steps: Vec<Step>,
     pub(crate) path: Vec<Child>,
     pub(crate) given: u64,
 }
 
 // Whether a hash has the indices of a path, the first of them at a depth.
-fn agrees(hash: &[u8; 32], depth: u32, path: &[Child]) -> bool
-    requires { depth + length path.now ≤ trie_levels usual }
-    ensures { result ≡ agrees usual hash.now depth (path_of path.now) }
+fn agrees(shape: HamtShape, hash: &[u8; 32], depth: u32, path: &[Child]) -> bool
+    requires { depth + length path.now ≤ trie_levels shape }
+    ensures { result ≡ agrees shape hash.now depth (path_of path.now) }
 {
     match path {
         [] => true,
         [first, rest @ ..] => {
-            index_of(hash, depth) == first.index && agrees(hash, depth + 1, rest)
+            index_of(hash, depth, shape) == first.index && agrees(shape, hash, depth + 1, rest)
         }
     }
 }
 
 impl Walker {
     ghost use Rattle.std.specs.Prelude.{◌≡◌, ◌+◌, ◌<◌, List, length, IfOk, OnOk};
+    ghost use Rattle.ild_data.specs.declared.hamt_shape.HamtShape.{HamtShape};
     ghost use Rattle.ild_data.specs.TrieShape.{trie_levels};
     ghost use Rattle.ild_data.specs.Trie.{TrieSlot};
-    ghost use Rattle.ild_typed.specs.Composed.{usual};
-    ghost use Rattle.ild_node_slots.specs.Views.{HasSlots};
+    ghost use Rattle.ild_node_slots.specs.Views.{HasSlots, view_shape};
     ghost use Rattle.ild_bulk_walker.specs.Todo.{enter, fits, leave};
     ghost use Rattle.ild_bulk_walker.specs.Steps.{entry_key};
-    ghost use Rattle.ild_bulk_walker.specs.Ahead.{AnyRow, Enters, Gives, GivesNext, IsDue, IsFaultAt, IsNew, IsNewLeft, IsNewOn, IsNextRow, IsPast, IsReady, Judges, IsTrieFault, Leaves, NextIs, Nexts, Opens, PassesStep, Readies, Takes, walker_here, walker_path, walker_todo};
+    ghost use Rattle.ild_bulk_walker.specs.Ahead.{AnyRow, Enters, Gives, GivesNext, IsDue, IsFaultAt, IsNew, IsNewLeft, IsNewOn, IsNextRow, IsPast, IsReady, Judges, IsTrieFault, Leaves, NextIs, Nexts, Opens, PassesStep, Readies, Takes, walker_here, walker_path, walker_shape, walker_todo};
 
     /// A walk beneath a root, which stands in the block of this id.
     pub fn new(alloc: Global, root: NodeView<'_>, at: BlockId) -> Result<Walker, AllocError>
-        ensures ahead { (slots : List TrieSlot) → HasSlots usual root.entry slots → IfOk result (IsNew slots) }
+        ensures ahead { (p : HamtShape) (slots : List TrieSlot) → HasSlots p root.entry slots → IfOk result (IsNew p slots) }
+        ensures shape { IfOk result (λ w. walker_shape w ≡ view_shape root.entry) }
         ensures given { IfOk result (λ w. w.given ≡ 0) }
-        ensures on { (slots : List TrieSlot) → HasSlots usual root.entry slots → IfOk result (IsNewOn slots at.0) }
-        ensures reads { (slots : List TrieSlot) → HasSlots usual root.entry slots → IfOk result (IsNewLeft slots) }
+        ensures on { (p : HamtShape) (slots : List TrieSlot) → HasSlots p root.entry slots → IfOk result (IsNewOn p slots at.0) }
+        ensures reads { (p : HamtShape) (slots : List TrieSlot) → HasSlots p root.entry slots → IfOk result (IsNewLeft p slots) }
     {
         let steps = root_steps(alloc, root)?;
         Ok(Walker {
             alloc,
             at,
+            shape: root.shape(),
             steps,
             path: Vec::new(alloc),
             given: 0,
@@ -109,10 +111,11 @@ impl Walker {
     // Leaves a node, of which all is given. It has to have more entries than a bucket takes.
     fn leave(&mut self, before: u64) -> Result<(), HamtFault>
         requires { NextIs (leave before) self.old }
-        ensures leaves { Leaves self.old result self.new }
+        ensures leaves { Leaves (walker_shape self.old) self.old result self.new }
+        ensures shape { walker_shape self.new ≡ walker_shape self.old }
         ensures shorter { OnOk result (length self.new.path.items < length self.old.path.items) }
     {
-        if self.given.saturating_sub(before) <= BUCKET_SIZE as u64 {
+        if self.given.saturating_sub(before) <= self.shape.bucket as u64 {
             return Err(self.fault());
         }
         if self.path.is_empty() {
@@ -125,7 +128,8 @@ impl Walker {
 
     // Leaves the nodes of which all is given.
     fn leave_done(&mut self) -> Result<(), HamtFault>
-        ensures left { Leaves self.old result self.new }
+        ensures left { Leaves (walker_shape self.old) self.old result self.new }
+        ensures shape { walker_shape self.new ≡ walker_shape self.old }
         ensures past { OnOk result (IsPast self.new.given (walker_todo self.new)) }
     {
         while let Due::Leave(before) = self.due() {
@@ -137,7 +141,8 @@ impl Walker {
     // Puts the steps of a child in the place of entering it.
     fn open(&mut self, child: Child, steps: Vec<Step>) -> Result<(), HamtFault>
         requires { NextIs (enter child.id.0 child.index) self.old }
-        ensures { Opens self.old child steps.items result self.new }
+        ensures opens { Opens self.old child steps.items result self.new }
+        ensures shape { walker_shape self.new ≡ walker_shape self.old }
     {
         let mut steps = steps;
         self.path.push(child)?;
@@ -153,22 +158,24 @@ impl Walker {
     // Enters a child, for which a level has to be left.
     fn enter<K: Store>(&mut self, child: Child, store: &mut K) -> Result<(), HamtFault>
         requires next { NextIs (enter child.id.0 child.index) self.old }
-        requires short { length (walker_path self.old) < trie_levels usual }
-        ensures enters { Enters 1 (K.moment store.old) self.old result self.new (K.moment store.new) }
+        requires short { length (walker_path self.old) < trie_levels (walker_shape self.old) }
+        ensures enters { Enters (walker_shape self.old) 1 (K.moment store.old) self.old result self.new (K.moment store.new) }
+        ensures shape { walker_shape self.new ≡ walker_shape self.old }
         ensures longer { OnOk result (length (walker_path self.new) ≡ length (walker_path self.old) + 1) }
     {
-        if self.path.len() + 1 >= LEVELS as usize {
+        if !has_level(self.shape, self.path.len() + 1) {
             return Err(self.fault());
         }
-        let steps = fetch(self.alloc, &child.id, store)?;
+        let steps = fetch(self.alloc, self.shape, &child.id, store)?;
         self.open(child, steps)
     }
 
     // Enters children until an entry is to be given.
     fn enter_all<K: Store>(&mut self, store: &mut K) -> Result<(), HamtFault>
         requires past { IsPast self.old.given (walker_todo self.old) }
-        requires short { length (walker_path self.old) < trie_levels usual }
-        ensures enters { Enters (trie_levels usual) (K.moment store.old) self.old result self.new (K.moment store.new) }
+        requires short { length (walker_path self.old) < trie_levels (walker_shape self.old) }
+        ensures enters { Enters (walker_shape self.old) (trie_levels (walker_shape self.old)) (K.moment store.old) self.old result self.new (K.moment store.new) }
+        ensures shape { walker_shape self.new ≡ walker_shape self.old }
         ensures ready { OnOk result (IsReady self.new.given (walker_todo self.new)) }
     {
         while let Due::Enter(child) = self.due() {
@@ -179,18 +186,19 @@ impl Walker {
 
     // Whether an entry fits its place.
     fn fits<H: KeyHash>(&self, entry: &Entry, keys: &H) -> bool
-        requires { length (walker_path self.now) < trie_levels usual }
-        ensures { result ≡ fits H.hash_of usual (walker_path self.now) entry.now.index (entry_key entry.now) }
+        requires { length (walker_path self.now) < trie_levels (walker_shape self.now) }
+        ensures { result ≡ fits H.hash_of (walker_shape self.now) (walker_path self.now) entry.now.index (entry_key entry.now) }
     {
         let hash = keys.hash(entry.key());
-        agrees(&hash, 0, &self.path) && index_of(&hash, self.path.len() as u32) == entry.index
+        agrees(self.shape, &hash, 0, &self.path)
+            && index_of(&hash, self.path.len() as u32, self.shape) == entry.index
     }
 
     // Whether an entry is next, which fits its place. None is next where all are given.
     fn is_next<H: KeyHash>(&self, keys: &H) -> Result<bool, HamtFault>
         requires ready { IsReady self.now.given (walker_todo self.now) }
-        requires short { length (walker_path self.now) < trie_levels usual }
-        ensures { Judges H.hash_of self.now result }
+        requires short { length (walker_path self.now) < trie_levels (walker_shape self.now) }
+        ensures { Judges H.hash_of (walker_shape self.now) self.now result }
     {
         match self.steps.last() {
             None => Ok(false),
@@ -217,7 +225,8 @@ impl Walker {
     // Passes over the next step, which gives an entry.
     fn pass_step(&mut self) -> Result<(), HamtFault>
         requires { GivesNext self.old }
-        ensures { PassesStep self.old result self.new }
+        ensures passes { PassesStep self.old result self.new }
+        ensures shape { walker_shape self.new ≡ walker_shape self.old }
     {
         let Some(given) = self.given.checked_add(1) else {
             return Err(HamtFault::Memory);
@@ -230,7 +239,8 @@ impl Walker {
     // Takes the next step, which gives an entry.
     fn take_row(&mut self) -> Result<Option<Row>, HamtFault>
         requires { GivesNext self.old }
-        ensures { Takes self.old result self.new }
+        ensures takes { Takes self.old result self.new }
+        ensures shape { walker_shape self.new ≡ walker_shape self.old }
     {
         let row = self.next_row()?;
         self.pass_step()?;
@@ -240,8 +250,9 @@ impl Walker {
     // Gives the next entry, where it fits its place.
     fn give<H: KeyHash>(&mut self, keys: &H) -> Result<Option<Row>, HamtFault>
         requires ready { IsReady self.old.given (walker_todo self.old) }
-        requires short { length (walker_path self.old) < trie_levels usual }
-        ensures { Gives H.hash_of self.old result self.new }
+        requires short { length (walker_path self.old) < trie_levels (walker_shape self.old) }
+        ensures gives { Gives H.hash_of (walker_shape self.old) self.old result self.new }
+        ensures shape { walker_shape self.new ≡ walker_shape self.old }
     {
         if self.is_next(keys)? {
             return self.take_row();
@@ -252,8 +263,9 @@ impl Walker {
     // The same without its row: whether there was one.
     fn pass<H: KeyHash>(&mut self, keys: &H) -> Result<bool, HamtFault>
         requires ready { IsReady self.old.given (walker_todo self.old) }
-        requires short { length (walker_path self.old) < trie_levels usual }
-        ensures { AnyRow (λ r. Gives H.hash_of self.old r self.new) result }
+        requires short { length (walker_path self.old) < trie_levels (walker_shape self.old) }
+        ensures gives { AnyRow (λ r. Gives H.hash_of (walker_shape self.old) self.old r self.new) result }
+        ensures shape { walker_shape self.new ≡ walker_shape self.old }
     {
         if self.is_next(keys)? {
             self.pass_step()?;
@@ -264,11 +276,12 @@ impl Walker {
 
     // Leaves nodes and enters children until an entry is to be given, or nothing.
     fn ready<K: Store>(&mut self, store: &mut K) -> Result<(), HamtFault>
-        ensures readies { Readies (K.moment store.old) self.old result self.new (K.moment store.new) }
+        ensures shape { walker_shape self.new ≡ walker_shape self.old }
+        ensures readies { Readies (walker_shape self.old) (K.moment store.old) self.old result self.new (K.moment store.new) }
         ensures ready { OnOk result (IsReady self.new.given (walker_todo self.new)) }
-        ensures short { OnOk result (length (walker_path self.new) < trie_levels usual) }
+        ensures short { OnOk result (length (walker_path self.new) < trie_levels (walker_shape self.new)) }
     {
-        if self.path.len() >= LEVELS as usize {
+        if !has_level(self.shape, self.path.len()) {
             return Err(self.fault());
         }
         self.leave_done()?;
@@ -283,7 +296,9 @@ impl Walker {
         keys: &H,
         store: &mut K,
     ) -> Result<Option<Row>, HamtFault>
-        ensures { Nexts H.hash_of (K.moment store.old) self.old result self.new (K.moment store.new) }
+        ensures nexts { Nexts H.hash_of (walker_shape self.old) (K.moment store.old) self.old result self.new (K.moment store.new) }
+        // It stays a walk of this shape.
+        ensures shape { walker_shape self.new ≡ walker_shape self.old }
     {
         self.ready(store)?;
         self.give(keys)
@@ -295,7 +310,8 @@ impl Walker {
         keys: &H,
         store: &mut K,
     ) -> Result<bool, HamtFault>
-        ensures { AnyRow (λ r. Nexts H.hash_of (K.moment store.old) self.old r self.new (K.moment store.new)) result }
+        ensures nexts { AnyRow (λ r. Nexts H.hash_of (walker_shape self.old) (K.moment store.old) self.old r self.new (K.moment store.new)) result }
+        ensures shape { walker_shape self.new ≡ walker_shape self.old }
     {
         self.ready(store)?;
         self.pass(keys)

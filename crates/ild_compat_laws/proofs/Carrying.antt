@@ -8,6 +8,7 @@ use Rattle.std.proofs.lemmas.Option.{same_Some, none-some, slice_get_within}
 use Rattle.ild_data.specs.Data as T
 use Rattle.ild_data.specs.Data.{Data, depth}
 use Rattle.ild_data.specs.Key.{IsBelow, Rises, key_cmp}
+use Rattle.ild_data.specs.declared.hamt_shape.HamtShape.{HamtShape}
 use Rattle.ild_schema.specs.declared.number.Slot.{Slot}
 use Rattle.ild_schema.specs.declared.number.TypeNo.{TypeNo}
 use Rattle.ild_schema.specs.declared.def.TypeDef.{TypeDef}
@@ -25,7 +26,7 @@ use Rattle.ild_schema.specs.Slots.{form_of, plainly}
 use Rattle.ild_typed.specs.Layer as L
 use Rattle.ild_typed.specs.Layer.{Layer, as_any, as_map}
 use Rattle.ild_typed.specs.Blocks.{hamt_nodes, nodes, nodes_of_values, nodes_of_pairs}
-use Rattle.ild_typed.specs.Composed.{Hamts, usual, composed, any_data, map_form, member_form, enum_form}
+use Rattle.ild_typed.specs.Composed.{Hamts, composed, any_data, map_form, member_form, enum_form}
 use Rattle.ild_typed.specs.Fits.{FormFits, ValueFits}
 use Rattle.ild_typed.specs.Hamt.{whole, alone}
 use Rattle.ild_typed.specs.Layers.{IsNotNull, AreKeysApart, AreKeys, Shows, EntriesFit, RootFits}
@@ -39,7 +40,7 @@ use Rattle.ild_typed.specs.Strings.{cons_both, in_key_order, map_data}
 use Rattle.ild_typed.proofs.Basics.{then_from, map_from}
 use Rattle.ild_typed.proofs.Entries.{both_from, value_sorted}
 use Rattle.ild_typed.proofs.Rising.{rising_same, rises_sorted}
-use Rattle.ild_typed.proofs.FormOf.{boolean_form, integer_form, text_form, bytes_form, link_form, any_form, unit_form, enum_form as enum_type, list_form, union_form as union_type, map_form as map_type, hamt_form, hamt_there, entries_there, there_entries}
+use Rattle.ild_typed.proofs.FormOf.{boolean_form, integer_form, text_form, bytes_form, link_form, any_form, unit_form, enum_form as enum_type, list_form, union_form as union_type, map_form as map_type, hamt_form, root_there, entries_there, there_entries}
 use Rattle.ild_typed.proofs.OneValue.{Way, as_null, as_layer, way_of, layer_data}
 use Rattle.ild_typed.proofs.Rooms.{all_more}
 use Rattle.ild_typed.proofs.TreeBlocks.{formed}
@@ -191,14 +192,14 @@ same_keys : (f : MapForm) (ps qs : List (List ℕ × Value)) → map (λ q. q.0)
 same_keys MF.Map ps qs e h = rises_keys ps qs e h
 same_keys MF.ListPairs ps qs e h = apart_keys ps qs e h
 same_keys (MF.StringPairs inner entry) ps qs e h = apart_keys ps qs e h
-same_keys MF.Hamt ps qs e h = rises_keys ps qs e h
+same_keys (MF.Hamt p) ps qs e h = rises_keys ps qs e h
 
 -- the nodes of a map are those of its form and its entries
 same_nodes : (h : List ℕ → List ℕ) (k l : TypeNo) (ka la : ℕ) (v w : Slot) (vp wp : ℕ) (f : MapForm) (es : List (List ℕ × Data)) → hamt_nodes h (Some (D.Map k ka v vp f)) (Some es) ≡ hamt_nodes h (Some (D.Map l la w wp f)) (Some es)
 same_nodes h k l ka la v w vp wp MF.Map es = refl
 same_nodes h k l ka la v w vp wp MF.ListPairs es = refl
 same_nodes h k l ka la v w vp wp (MF.StringPairs inner entry) es = refl
-same_nodes h k l ka la v w vp wp MF.Hamt es = refl
+same_nodes h k l ka la v w vp wp (MF.Hamt p) es = refl
 
 -- rising pairs stand in the key order
 sorted_itself : (es : List (List ℕ × Data)) → Rises es → in_key_order es ≡ es
@@ -559,24 +560,25 @@ module _ (rows others : List Row) (set : Slot → Slot → Bool) (closed : IsClo
       let d = hamt_form rows (before (levels_of m.form (V.hamt x) - 1)) m.form x m.holds.1 in
       let key : TypeNo = d.0 in
       let u : Slot = d.2 in
-      let is : form_of rows a ≡ Some (D.Map key d.1 u d.3 MF.Hamt) = m.is ∙ ap Some d.4 in
-      let k = meets rows others set closed a b (D.Map key d.1 u d.3 MF.Hamt) s is in
-      let holds : FormFits rows room before (V.hamt x) (D.Map key d.1 u d.3 MF.Hamt) = subst (FormFits rows room before (V.hamt x)) d.4 m.holds in
-      let root : RootFits (before 4) rows key u x = (hamt_there rows (before 4) key u MF.Hamt x holds.1).1 in
-      let made : at usual (L.hamt x) ≡ Some t = sym (ap (λ c. layered at c (Some (L.hamt x))) is) ∙ e in
-      elim (with_map key d.1 u d.3 MF.Hamt k.form k.agree) [
+      let shape : HamtShape = d.4 in
+      let is : form_of rows a ≡ Some (D.Map key d.1 u d.3 (MF.Hamt shape)) = m.is ∙ ap Some d.5 in
+      let k = meets rows others set closed a b (D.Map key d.1 u d.3 (MF.Hamt shape)) s is in
+      let holds : FormFits rows room before (V.hamt x) (D.Map key d.1 u d.3 (MF.Hamt shape)) = subst (FormFits rows room before (V.hamt x)) d.5 m.holds in
+      let root : RootFits (before 4) rows shape key u x = root_there rows (before 4) shape key u x holds.1 in
+      let made : at shape (L.hamt x) ≡ Some t = sym (ap (λ c. layered at c (Some (L.hamt x))) is) ∙ e in
+      elim (with_map key d.1 u d.3 (MF.Hamt shape) k.form k.agree) [
         | inl o ↦
             let w : Slot = o.value in
-            let form : MF.Hamt ≡ o.form = same_map MF.Hamt o.form (sym (ap (λ c. types_agree R.Strategy (Some (D.Map key d.1 u d.3 MF.Hamt)) (Some c)) o.is) ∙ k.rules R.Strategy) in
-            let other : k.form ≡ D.Map o.key o.key_at w o.place MF.Hamt = o.is ∙ ap (λ q. D.Map o.key o.key_at w o.place q) (sym form) in
-            let there : form_of others b ≡ Some (D.Map o.key o.key_at w o.place MF.Hamt) = k.is ∙ ap Some other in
-            let asks : AllIn set ((plainly key, plainly o.key) ∷ (u, w) ∷ []) = subst (λ c. AllIn set (asked_of (D.Map key d.1 u d.3 MF.Hamt) c)) other k.asks in
-            let inside : RootFits (after 4) others o.key w x = (
+            let form : (MF.Hamt shape) ≡ o.form = same_map (MF.Hamt shape) o.form (sym (ap (λ c. types_agree R.Strategy (Some (D.Map key d.1 u d.3 (MF.Hamt shape))) (Some c)) o.is) ∙ k.rules R.Strategy) in
+            let other : k.form ≡ D.Map o.key o.key_at w o.place (MF.Hamt shape) = o.is ∙ ap (λ q. D.Map o.key o.key_at w o.place q) (sym form) in
+            let there : form_of others b ≡ Some (D.Map o.key o.key_at w o.place (MF.Hamt shape)) = k.is ∙ ap Some other in
+            let asks : AllIn set ((plainly key, plainly o.key) ∷ (u, w) ∷ []) = subst (λ c. AllIn set (asked_of (D.Map key d.1 u d.3 (MF.Hamt shape)) c)) other k.asks in
+            let inside : RootFits (after 4) others shape o.key w x = (
               root.0,
               root.1,
               all_more (λ r. Shows (before 4) rows (plainly key) (T.text r.0) × Shows (before 4) rows u r.1) (λ r. Shows (after 4) others (plainly o.key) (T.text r.0) × Shows (after 4) others w r.1)
                   (λ r y. (shows_carried 4 (plainly key) (plainly o.key) (T.text r.0) asks.0 y.0, shows_carried 4 u w r.1 asks.1.0 y.1)) (N.entries_in root.0) root.2,
             ) in
-            keep at a b (V.hamt x) t (L.hamt x) (D.Map o.key o.key_at w o.place MF.Hamt) (λ h. h) refl there (holds.0, inr inside) made refl (λ h n i. i)
+            keep at a b (V.hamt x) t (L.hamt x) (D.Map o.key o.key_at w o.place (MF.Hamt shape)) (λ h. h) refl there (holds.0, inr inside) made refl (λ h n i. i)
         | inr any ↦ absurd (false≢true any.1)
       ]

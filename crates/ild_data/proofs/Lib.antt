@@ -12,3 +12,4 @@ pub mod Varints
 pub mod Cids
 pub mod TextBits
 pub mod Texts
+pub mod HamtShapes

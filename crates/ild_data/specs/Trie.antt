@@ -4,7 +4,8 @@ use Rattle.std.specs.List.{filter, flat_map, range_with_len}
 use Rattle.ild_data.specs.ByteOrder.{in_byte_order, no_key_twice}
 use Rattle.ild_data.specs.Data.{Data, bytes, list, link, items_of}
 use Rattle.ild_data.specs.Spell.{spell, id_of, cid_of}
-use Rattle.ild_data.specs.TrieShape.{TrieShape, trie_levels, index}
+use Rattle.ild_data.specs.declared.hamt_shape.HamtShape.{HamtShape}
+use Rattle.ild_data.specs.TrieShape.{trie_levels, index}
 
 -- what stands at an index: nothing, a bucket, or the link to the block of this id
 pub data TrieSlot : Type 0 where
@@ -73,23 +74,23 @@ slot_of most below [] = Some empty
 slot_of most below (e ∷ es) = bucket_or (nat_le (length (e ∷ es)) most) below (e ∷ es)
 
 -- the slots of a node, where each has one
-abbrev pub slots_of : TrieShape → (List ℕ → ℕ) → (List (List ℕ × Data) → Option Data) → List (List ℕ × Data) → Option (List TrieSlot)
+abbrev pub slots_of : HamtShape → (List ℕ → ℕ) → (List (List ℕ × Data) → Option Data) → List (List ℕ × Data) → Option (List TrieSlot)
 slots_of p at below es = all_some (map (λ i. slot_of p.bucket below (part at es i)) (range_with_len 0 (2 ^ p.width)))
 
 -- ---- the node of entries in bytewise order at a depth, where so many levels are left
 
-unfoldable pub node_of : (List ℕ → List ℕ) → TrieShape → ℕ → ℕ → List (List ℕ × Data) → Option Data
+unfoldable pub node_of : (List ℕ → List ℕ) → HamtShape → ℕ → ℕ → List (List ℕ × Data) → Option Data
 node_of h p zero depth es = None
 node_of h p (suc left) depth es = option_map node_data (slots_of p (λ k. index p (h k) depth) (node_of h p left (depth + 1)) es)
 
 -- the index of a key at a depth
-abbrev pub at_depth : (List ℕ → List ℕ) → TrieShape → ℕ → List ℕ → ℕ
+abbrev pub at_depth : (List ℕ → List ℕ) → HamtShape → ℕ → List ℕ → ℕ
 at_depth h p depth k = index p (h k) depth
 
 -- the slots of that node, where so many levels are left below it
-abbrev pub slots_at : (List ℕ → List ℕ) → TrieShape → ℕ → ℕ → List (List ℕ × Data) → Option (List TrieSlot)
+abbrev pub slots_at : (List ℕ → List ℕ) → HamtShape → ℕ → ℕ → List (List ℕ × Data) → Option (List TrieSlot)
 slots_at h p left depth es = slots_of p (at_depth h p depth) (node_of h p left (depth + 1)) es
 
 -- the trie of entries in any order; of a list in which a key stands twice there is none
-unfoldable pub trie : (List ℕ → List ℕ) → TrieShape → List (List ℕ × Data) → ℕ → Option Data
+unfoldable pub trie : (List ℕ → List ℕ) → HamtShape → List (List ℕ × Data) → ℕ → Option Data
 trie h p es depth = cond (no_key_twice es) (node_of h p (trie_levels p - depth) depth (in_byte_order es)) None

@@ -4,7 +4,7 @@ use Rattle.std.specs.List.{flat_map, range_with_len}
 use Rattle.ild_data.specs.Data.{Data}
 use Rattle.ild_data.specs.Spell.{spell}
 use Rattle.ild_data.specs.Trie.{part, node_of, at_depth}
-use Rattle.ild_data.specs.TrieShape.{TrieShape}
+use Rattle.ild_data.specs.declared.hamt_shape.HamtShape.{HamtShape}
 
 abbrev pub block_of : Option Data → List (List ℕ)
 block_of None = []
@@ -19,7 +19,7 @@ abbrev pub node_and_beneath : ℕ → (List (List ℕ × Data) → Option Data) 
 node_and_beneath most below beneath es = none_or (nat_le (length es) most) (λ fs. block_of (below fs) ++ beneath fs) es
 
 -- the blocks of the nodes beneath a node of entries, where so many levels are left
-unfoldable pub nodes_beneath : (List ℕ → List ℕ) → TrieShape → ℕ → ℕ → List (List ℕ × Data) → List (List ℕ)
+unfoldable pub nodes_beneath : (List ℕ → List ℕ) → HamtShape → ℕ → ℕ → List (List ℕ × Data) → List (List ℕ)
 nodes_beneath h p zero depth es = []
 nodes_beneath h p (suc left) depth es = flat_map
     (λ i. node_and_beneath p.bucket (node_of h p left (depth + 1)) (nodes_beneath h p left (depth + 1)) (part (at_depth h p depth) es i))

@@ -6,6 +6,7 @@ use Rattle.ild_data.specs.Data as T
 use Rattle.ild_data.specs.Integer.{IsInt}
 use Rattle.ild_data.specs.Key.{IsBelow, Rises}
 use Rattle.ild_data.specs.Spell.{id_of}
+use Rattle.ild_data.specs.TrieShape.{usual}
 use Rattle.ild_path_edits.specs.Judged.{Tests, AreTests, judged, are_sized}
 use Rattle.ild_script_meaning.specs.PlainValue.{Value as Entries}
 use Rattle.ild_schema.specs.Prelude.{number}
@@ -53,7 +54,7 @@ pub map_fits : (es : Entries) → IsPlain es → Fits generator_rows 96 (plainly
 unfolding FitsPast
 map_fits es plain = (
   omega arith,
-  inl (subst (EntriesFit (FitsPast generator_rows 95 4) generator_rows (number 7) int_slot MF.Hamt) (sym (pairs_list-pairs_of (map int_entry es))) (rises_entries es plain.rises, each_fits es plain.each)),
+  inl (subst (EntriesFit (FitsPast generator_rows 95 4) generator_rows (number 7) int_slot (MF.Hamt usual)) (sym (pairs_list-pairs_of (map int_entry es))) (rises_entries es plain.rises, each_fits es plain.each)),
 )
 
 by_two : (a b c d z : Bool) → a ≡ false → b ≡ false → c ≡ true

@@ -5,7 +5,7 @@ use Rattle.std.specs.List.{range_with_len, list_any}
 use Rattle.std.proofs.lemmas.Bool.{eqb-true, or_cases}
 use Rattle.std.proofs.lemmas.List.{reverse-append}
 use Rattle.ild_data.specs.Data.{Data}
-use Rattle.ild_data.specs.TrieShape.{TrieShape}
+use Rattle.ild_data.specs.declared.hamt_shape.HamtShape.{HamtShape}
 use Rattle.ild_data.specs.Trie.{part, node_of, at_depth}
 use Rattle.ild_data.specs.TrieBlocks.{nodes_beneath, node_and_beneath, none_or, block_of}
 use Rattle.ild_hamt_trie.specs.Way.{way}
@@ -37,11 +37,11 @@ among-piece b f i (j ∷ js) member is =
     ⊎_elim (λ same. among-left b (f j) (flat_map f js) (subst (λ (n : ℕ). IsAmong b (f n)) (eqb-true i j same) is))
     (λ later. among-right b (f j) (flat_map f js) (among-piece b f i js later is)) (or_cases (i == j) (list_any (λ n. i == n) js) member)
 
-no-way : (h : List ℕ → List ℕ) (p : TrieShape) (k : List ℕ) (depth : ℕ) (es : List (List ℕ × Data)) (b : List ℕ) → IsAmong b (way h p k zero depth es) → IsAmong b (nodes_beneath h p zero depth es)
+no-way : (h : List ℕ → List ℕ) (p : HamtShape) (k : List ℕ) (depth : ℕ) (es : List (List ℕ × Data)) (b : List ℕ) → IsAmong b (way h p k zero depth es) → IsAmong b (nodes_beneath h p zero depth es)
 unfolding way nodes_beneath
 no-way h p k depth es b is = is
 
-beneath_is : (h : List ℕ → List ℕ) (p : TrieShape) (left depth : ℕ) (es : List (List ℕ × Data))
+beneath_is : (h : List ℕ → List ℕ) (p : HamtShape) (left depth : ℕ) (es : List (List ℕ × Data))
     → nodes_beneath h p (suc left) depth es ≡ flat_map (λ i. node_and_beneath p.bucket (node_of h p left (depth + 1)) (nodes_beneath h p left (depth + 1)) (part (at_depth h p depth) es i)) (range_with_len 0 (2 ^ p.width))
 unfolding nodes_beneath
 beneath_is h p left depth es = refl
@@ -56,7 +56,7 @@ one-piece : (c : Bool) (below : List (List ℕ × Data) → Option Data) (beneat
 one-piece true below beneath fs = refl
 one-piece false below beneath fs = refl
 
-pub way-beneath : (h : List ℕ → List ℕ) (p : TrieShape) (k : List ℕ) (left depth : ℕ) (es : List (List ℕ × Data)) (b : List ℕ) → IsAmong b (way h p k left depth es) → IsAmong b (nodes_beneath h p left depth es)
+pub way-beneath : (h : List ℕ → List ℕ) (p : HamtShape) (k : List ℕ) (left depth : ℕ) (es : List (List ℕ × Data)) (b : List ℕ) → IsAmong b (way h p k left depth es) → IsAmong b (nodes_beneath h p left depth es)
 way-beneath h p k zero depth es b is = no-way h p k depth es b is
 way-beneath h p k (suc left) depth es b is =
     let fs : List (List ℕ × Data) = part (at_depth h p depth) es (at_depth h p depth k) in

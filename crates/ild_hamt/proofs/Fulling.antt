@@ -4,7 +4,8 @@ use Rattle.std.proofs.lemmas.Bool.{le-leb, lt-leb, cases_lt}
 use Rattle.std.specs.FinMap.{find, put}
 use Rattle.std.specs.FinMap.Entries.{length-put}
 use Rattle.ild_data.specs.Data.{Data}
-use Rattle.ild_data.specs.TrieShape.{TrieShape, trie_levels, index}
+use Rattle.ild_data.specs.declared.hamt_shape.HamtShape.{HamtShape}
+use Rattle.ild_data.specs.TrieShape.{trie_levels, index}
 use Rattle.ild_data.specs.Trie.{TrieSlot, empty, bucket, part, node_of, at_depth, slots_at}
 use Rattle.ild_hamt_trie.specs.Collapse.{sized}
 use Rattle.ild_data.specs.ByteOrder.{bytewise}
@@ -27,7 +28,6 @@ use Rattle.ild_node_slots.specs.Views.{HasSlots, HasEntries, ValueIn, bucket_nod
 use Rattle.ild_hamt_climb.proofs.Shown.{value-found}
 use Rattle.ild_hamt_climb.proofs.Upward.{next-part}
 use Rattle.ild_hamt.specs.declared.trail.Trail.{Trail}
-use Rattle.ild_typed.specs.Composed.{usual}
 use Rattle.ild_hamt_climb.specs.Seen.{Shows, ValueIs}
 use Rattle.ild_hamt.specs.Ends.{EndsAt, agree, agreeing}
 use Rattle.ild_bulk_walker.specs.Gives.{IsNodeOf}
@@ -46,13 +46,13 @@ twice : {X : Type 0} (f g : X → Bool) (xs : List X) → filter g (filter f xs)
 twice f g [] = refl
 twice f g (x ∷ xs) = first_twice (f x) g x (filter f xs) ∙ ap (λ ys. cond (f x && g x) (x ∷ ys) ys) (twice f g xs)
 
-pub along-agree : (h : List ℕ → List ℕ) (p : TrieShape) (k : List ℕ) (n depth : ℕ) (es : List (List ℕ × Data)) → along h p k n depth es ≡ filter (λ e. agree p (h e.0) (h k) n depth) es
+pub along-agree : (h : List ℕ → List ℕ) (p : HamtShape) (k : List ℕ) (n depth : ℕ) (es : List (List ℕ × Data)) → along h p k n depth es ≡ filter (λ e. agree p (h e.0) (h k) n depth) es
 along-agree h p k zero depth es = sym (all_pass es)
 along-agree h p k (suc n) depth es =
     along-agree h p k n (depth + 1) (part (at_depth h p depth) es (at_depth h p depth k))
     ∙ twice (λ e. at_depth h p depth e.0 == at_depth h p depth k) (λ e. agree p (h e.0) (h k) n (depth + 1)) es
 
-pub along-split : (h : List ℕ → List ℕ) (p : TrieShape) (k : List ℕ) (a b depth : ℕ) (es : List (List ℕ × Data))
+pub along-split : (h : List ℕ → List ℕ) (p : HamtShape) (k : List ℕ) (a b depth : ℕ) (es : List (List ℕ × Data))
     → along h p k (a + b) depth es ≡ along h p k b (depth + a) (along h p k a depth es)
 along-split h p k zero b depth es = let e : depth + 0 ≡ depth = omega arith in let f : 0 + b ≡ b = omega arith in rw (e, f) refl
 along-split h p k (suc a) b depth es =
@@ -68,13 +68,12 @@ full-cond None a most le =
     (λ more. le-leb most a more ∙ ap not (sym (lt-leb (a + 1) most (omega arith))))
     (cases_lt a most)
 
-node_there : (h : List ℕ → List ℕ) (p : TrieShape) (left : ℕ) (es : List (List ℕ × Data)) (slots : List TrieSlot) → slots_at h p left 0 es ≡ Some slots → is_some (node_of h p (suc left) 0 es) ≡ true
+node_there : (h : List ℕ → List ℕ) (p : HamtShape) (left : ℕ) (es : List (List ℕ × Data)) (slots : List TrieSlot) → slots_at h p left 0 es ≡ Some slots → is_some (node_of h p (suc left) 0 es) ≡ true
 node_there h p left es slots is = rw (node-slots h p left 0 es, is) refl
 
-pub full-is : (h : List ℕ → List ℕ) (p : TrieShape) (k : List ℕ) (slots : List TrieSlot) (es : List (List ℕ × Data)) (v : Data) (t : Trail) → IsTrailOf h p k slots es t
+pub full-is : (h : List ℕ → List ℕ) (p : HamtShape) (k : List ℕ) (slots : List TrieSlot) (es : List (List ℕ × Data)) (v : Data) (t : Trail) → IsTrailOf h p k slots es t
     → t.exhausted ≡ not (is_some (node_of h p (trie_levels p) 0 (put bytewise k v es)))
 full-is h p k slots es v t trail =
-    let p : TrieShape = p in
     let n : ℕ = length (trail_blocks t) + 1 in
     let rest : ℕ = trie_levels p - n in
     let fs : List (List ℕ × Data) = along h p k n 0 es in
@@ -102,15 +101,15 @@ get-any [] i d e lt = absurd (omega arith)
 get-any (x ∷ xs) zero d e lt = refl
 get-any (x ∷ xs) (suc i) d e lt = get-any xs i d e (omega arith)
 
-pub node-last : (blocks : List (List ℕ)) (b piece : List ℕ) (slots last : List TrieSlot) (count : ℕ)
-    → piece ≡ b → b ≡ get_or blocks (count - 1) b → count ≡ length blocks → 0 < count → EndsAt usual slots blocks last → IsNodeOf usual piece last
-node-last blocks b piece slots last count read is many some ends =
-    let at : IsNodeOf usual (get_or blocks (count - 1) []) last = ends.node (count - 1) (omega (arith, many)) in
+pub node-last : (p : HamtShape) (blocks : List (List ℕ)) (b piece : List ℕ) (slots last : List TrieSlot) (count : ℕ)
+    → piece ≡ b → b ≡ get_or blocks (count - 1) b → count ≡ length blocks → 0 < count → EndsAt p slots blocks last → IsNodeOf p piece last
+node-last p blocks b piece slots last count read is many some ends =
+    let at : IsNodeOf p (get_or blocks (count - 1) []) last = ends.node (count - 1) (omega (arith, many)) in
     let here : get_or blocks (count - 1) [] ≡ piece = get-any blocks (count - 1) [] b (omega (arith, many)) ∙ sym is ∙ sym read in
-    subst (λ (x : List ℕ). IsNodeOf usual x last) here at
+    subst (λ (x : List ℕ). IsNodeOf p x last) here at
 
 -- the slots of the node in which a trail ends, and what the key's slot there holds
-pub record TrailEnd (h : List ℕ → List ℕ) (p : TrieShape) (k : List ℕ) (slots : List TrieSlot) (es : List (List ℕ × Data)) (bs : List (List ℕ)) : Type 0 where
+pub record TrailEnd (h : List ℕ → List ℕ) (p : HamtShape) (k : List ℕ) (slots : List TrieSlot) (es : List (List ℕ × Data)) (bs : List (List ℕ)) : Type 0 where
   pub last : List TrieSlot
   pub ends : EndsAt p slots bs last
   pub less : ℕ
@@ -118,7 +117,7 @@ pub record TrailEnd (h : List ℕ → List ℕ) (p : TrieShape) (k : List ℕ) (
   pub stands : slots_at h p less (length bs) (along h p k (length bs) 0 es) ≡ Some last
   pub slot : slot_for p (h k) (length bs) last ≡ sized p.bucket empty (along h p k (length bs + 1) 0 es)
 
-end-slot : (h : List ℕ → List ℕ) (p : TrieShape) (k : List ℕ) (n less : ℕ) (es : List (List ℕ × Data)) (last : List TrieSlot)
+end-slot : (h : List ℕ → List ℕ) (p : HamtShape) (k : List ℕ) (n less : ℕ) (es : List (List ℕ × Data)) (last : List TrieSlot)
     → slots_at h p less n (along h p k n 0 es) ≡ Some last → length (along h p k (n + 1) 0 es) ≤ p.bucket → slot_for p (h k) n last ≡ sized p.bucket empty (along h p k (n + 1) 0 es)
 end-slot h p k n less es last is few =
     let fs : List (List ℕ × Data) = part (at_depth h p n) (along h p k n 0 es) (at_depth h p n k) in
@@ -129,7 +128,7 @@ end-slot h p k n less es last is few =
     ∙ slot-few p.bucket (node_of h p less (n + 1)) fs empty le in
     same_Some (slot_for p (h k) n last) (sized p.bucket empty fs) e ∙ ap (sized p.bucket empty) (sym more)
 
-pub trail-end : (h : List ℕ → List ℕ) (p : TrieShape) (k : List ℕ) (slots : List TrieSlot) (es : List (List ℕ × Data)) (t : Trail) → IsTrailOf h p k slots es t → TrailEnd h p k slots es (trail_blocks t)
+pub trail-end : (h : List ℕ → List ℕ) (p : HamtShape) (k : List ℕ) (slots : List TrieSlot) (es : List (List ℕ × Data)) (t : Trail) → IsTrailOf h p k slots es t → TrailEnd h p k slots es (trail_blocks t)
 trail-end h p k slots es t trail = by_many (length (trail_blocks t)) refl
   where
     by_many : (n : ℕ) → n ≡ length (trail_blocks t) → TrailEnd h p k slots es (trail_blocks t)
@@ -176,45 +175,44 @@ not-child most [] id le is = refl
 not-child most (e ∷ es) id le is = absurd (subst (λ (c : Bool). Shows (S.Child id) (cond c (bucket (e ∷ es)) empty)) (le-leb (length (e ∷ es)) most le) is)
 
 -- the slot that a trail's end reads
-pub end-read : (h : List ℕ → List ℕ) (root : NodeView) (k : List ℕ) (slots : List TrieSlot) (es : List (List ℕ × Data)) (t : Trail) (blocks : List (List ℕ)) (x : NodeSlot)
-    → HasSlots usual root slots → IsTrailOf h usual k slots es t → blocks ≡ trail_blocks t
-    → ((ss last : List TrieSlot) → HasSlots usual root ss → EndsAt usual ss blocks last → t.depth ≡ length blocks → t.depth < trie_levels usual
-    → Shows x (slot_for usual t.hash t.depth last))
-    → Shows x (sized usual.bucket empty (along h usual k (length (trail_blocks t) + 1) 0 es))
-end-read h root k slots es t blocks x has trail same reads =
-    let p : TrieShape = usual in
-    let end = trail-end h usual k slots es t trail in
+pub end-read : (p : HamtShape) (h : List ℕ → List ℕ) (root : NodeView) (k : List ℕ) (slots : List TrieSlot) (es : List (List ℕ × Data)) (t : Trail) (blocks : List (List ℕ)) (x : NodeSlot)
+    → HasSlots p root slots → IsTrailOf h p k slots es t → blocks ≡ trail_blocks t
+    → ((ss last : List TrieSlot) → HasSlots p root ss → EndsAt p ss blocks last → t.depth ≡ length blocks → t.depth < trie_levels p
+    → Shows x (slot_for p t.hash t.depth last))
+    → Shows x (sized p.bucket empty (along h p k (length (trail_blocks t) + 1) 0 es))
+end-read p h root k slots es t blocks x has trail same reads =
+    let end = trail-end h p k slots es t trail in
     let at = reads slots end.last has (subst (λ (bs : List (List ℕ)). EndsAt p slots bs end.last) (sym same) end.ends) (trail.depth ∙ ap length (sym same)) (let lt = trail.short in omega (arith, trail.depth)) in
     subst (λ (s : TrieSlot). Shows x s) ((λ i. slot_for p (trail.hash i) (trail.depth i) end.last) ∙ end.slot) at
 
-pub found-bucket : (h : List ℕ → List ℕ) (p : TrieShape) (k key : List ℕ) (slots : List TrieSlot) (es : List (List ℕ × Data)) (t : Trail) (b : Bucket) (r : Option Node)
+pub found-bucket : (h : List ℕ → List ℕ) (p : HamtShape) (k key : List ℕ) (slots : List TrieSlot) (es : List (List ℕ × Data)) (t : Trail) (b : Bucket) (r : Option Node)
     → IsTrailOf h p k slots es t → key ≡ k → Shows (S.Bucket b) (sized p.bucket empty (along h p k (length (trail_blocks t) + 1) 0 es))
     → ((fs : List (List ℕ × Data)) → HasEntries b fs → ValueIn (bucket_node b) fs key (find bytewise key fs) r) → ValueIs (find bytewise k es) r
 found-bucket h p k key slots es t b r trail named is finds =
     let fs : List (List ℕ × Data) = along h p k (length (trail_blocks t) + 1) 0 es in
     subst (λ (o : Option Data). ValueIs o r) (ap (λ q. find bytewise q fs) named ∙ find-along h p k (length (trail_blocks t) + 1) 0 es) (value-found (bucket_node b) fs key (find bytewise key fs) r (finds fs (end-bucket p.bucket fs b trail.ends is)))
 
-found-no : (h : List ℕ → List ℕ) (p : TrieShape) (k : List ℕ) (n : ℕ) (es : List (List ℕ × Data)) → along h p k n 0 es ≡ [] → ValueIs (find bytewise k es) None
+found-no : (h : List ℕ → List ℕ) (p : HamtShape) (k : List ℕ) (n : ℕ) (es : List (List ℕ × Data)) → along h p k n 0 es ≡ [] → ValueIs (find bytewise k es) None
 found-no h p k n es is = subst (λ (o : Option Data). ValueIs o None) (ap (find bytewise k) (sym is) ∙ find-along h p k n 0 es) tt
 
-pub found-empty : (h : List ℕ → List ℕ) (p : TrieShape) (k : List ℕ) (slots : List TrieSlot) (es : List (List ℕ × Data)) (t : Trail)
+pub found-empty : (h : List ℕ → List ℕ) (p : HamtShape) (k : List ℕ) (slots : List TrieSlot) (es : List (List ℕ × Data)) (t : Trail)
     → IsTrailOf h p k slots es t → Shows S.Empty (sized p.bucket empty (along h p k (length (trail_blocks t) + 1) 0 es)) → ValueIs (find bytewise k es) None
 found-empty h p k slots es t trail is = found-no h p k (length (trail_blocks t) + 1) es (not-empty p.bucket _ trail.ends is)
 
-pub found-child : (h : List ℕ → List ℕ) (p : TrieShape) (k : List ℕ) (slots : List TrieSlot) (es : List (List ℕ × Data)) (t : Trail) (id : BlockId)
+pub found-child : (h : List ℕ → List ℕ) (p : HamtShape) (k : List ℕ) (slots : List TrieSlot) (es : List (List ℕ × Data)) (t : Trail) (id : BlockId)
     → IsTrailOf h p k slots es t → Shows (S.Child id) (sized p.bucket empty (along h p k (length (trail_blocks t) + 1) 0 es)) → ValueIs (find bytewise k es) None
 found-child h p k slots es t id trail is = found-no h p k (length (trail_blocks t) + 1) es (not-child p.bucket _ id trail.ends is)
 
 -- the test of two hashes, level by level
-pub agree-step : (p : TrieShape) (a b : List ℕ) (n depth : ℕ) → depth < n → ((index p a depth == index p b depth) && agree p a b (n - (depth + 1)) (depth + 1)) ≡ agree p a b (n - depth) depth
+pub agree-step : (p : HamtShape) (a b : List ℕ) (n depth : ℕ) → depth < n → ((index p a depth == index p b depth) && agree p a b (n - (depth + 1)) (depth + 1)) ≡ agree p a b (n - depth) depth
 agree-step p a b n depth lt = let e : n - depth ≡ suc (n - (depth + 1)) = omega arith in rw e refl
 
-pub agree-end : (p : TrieShape) (a b : List ℕ) (n depth : ℕ) → n ≤ depth → true ≡ agree p a b (n - depth) depth
+pub agree-end : (p : HamtShape) (a b : List ℕ) (n depth : ℕ) → n ≤ depth → true ≡ agree p a b (n - depth) depth
 agree-end p a b n depth le = let e : n - depth ≡ 0 = omega arith in rw e refl
 
-pub agree-then : (p : TrieShape) (a b : List ℕ) (n depth : ℕ) (t r : Bool) → depth < n → t ≡ (index p a depth == index p b depth) → t ≡ true
+pub agree-then : (p : HamtShape) (a b : List ℕ) (n depth : ℕ) (t r : Bool) → depth < n → t ≡ (index p a depth == index p b depth) → t ≡ true
     → r ≡ agree p a b (n - (depth + 1)) (depth + 1) → r ≡ agree p a b (n - depth) depth
 agree-then p a b n depth t r lt is same rest = rest ∙ ap (λ c. c && agree p a b (n - (depth + 1)) (depth + 1)) (sym same ∙ is) ∙ agree-step p a b n depth lt
 
-pub agree-else : (p : TrieShape) (a b : List ℕ) (n depth : ℕ) (t : Bool) → depth < n → t ≡ (index p a depth == index p b depth) → t ≡ false → t ≡ agree p a b (n - depth) depth
+pub agree-else : (p : HamtShape) (a b : List ℕ) (n depth : ℕ) (t : Bool) → depth < n → t ≡ (index p a depth == index p b depth) → t ≡ false → t ≡ agree p a b (n - depth) depth
 agree-else p a b n depth t lt is no-one = no-one ∙ ap (λ c. c && agree p a b (n - (depth + 1)) (depth + 1)) (sym no-one ∙ is) ∙ agree-step p a b n depth lt

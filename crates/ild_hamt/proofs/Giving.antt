@@ -2,6 +2,8 @@
 use Rattle.std.proofs.Common.{inl, inr, ⊎_elim, ℕ, List, [], ◌∷◌, Option, Some, None, refl, sym, ap, subst, map}
 use Rattle.std.specs.Prelude.{Result, Ok, Err, Contains, reverse}
 use Rattle.std.proofs.lemmas.List.{reverse-append}
+use Rattle.ild_edges.specs.Gained.{AreIdsGiven}
+use Rattle.ild_data.specs.declared.hamt_shape.HamtShape.{HamtShape}
 use Rattle.ild_data.specs.ByteOrder.{without}
 use Rattle.ild_data.specs.Data.{Data}
 use Rattle.ild_data.specs.Spell.{id_of}
@@ -9,12 +11,11 @@ use Rattle.ild_data.specs.TrieShape.{trie_levels}
 use Rattle.ild_edges.specs.Store.{Moment}
 use Rattle.ild_edges.specs.Told.{IfTold, BothTold}
 use Rattle.ild_hamt_trie.specs.Way.{way}
-use Rattle.ild_typed.specs.Composed.{usual}
 use Rattle.ild_node_slots.specs.declared.fault.HamtFault.{HamtFault}
 use Rattle.ild_bulk.specs.Putting.{GivesAll, IsAmong}
 use Rattle.ild_bulk.proofs.Puts.{among-left, among-right}
 use Rattle.ild_hamt_climb.specs.Rewriting.{Rewrites}
-use Rattle.ild_hamt.specs.Given.{AreIdsGiven, GivesWay}
+use Rattle.ild_hamt.specs.Given.{GivesWay}
 use Rattle.ild_hamt.specs.Removing.{Removes}
 
 among-mapped : (b : List ℕ) (xs : List (List ℕ)) → IsAmong b xs → IsAmong (id_of b) (map id_of xs)
@@ -36,10 +37,10 @@ told-given o None bs t = tt
 told-given None (Some now) bs t = absurd t
 told-given (Some was) (Some now) bs t = all-given bs now (λ b is. (t (id_of b)).1 (inr (among-mapped b (reverse bs) (among-back b bs is))))
 
-pub way-given : (h : List ℕ → List ℕ) (k : List ℕ) (fs : List (List ℕ × Data)) (m n : Moment) (r : Result (List ℕ) HamtFault) → Rewrites h usual k fs m r n → GivesWay h k fs r n
-way-given h k fs m n (Ok root) is = told-given m.given n.given (way h usual k (trie_levels usual) 0 fs) is.2.answer.1
-way-given h k fs m n (Err e) is = tt
+pub way-given : (p : HamtShape) (h : List ℕ → List ℕ) (k : List ℕ) (fs : List (List ℕ × Data)) (m n : Moment) (r : Result (List ℕ) HamtFault) → Rewrites h p k fs m r n → GivesWay h p k fs r n
+way-given p h k fs m n (Ok root) is = told-given m.given n.given (way h p k (trie_levels p) 0 fs) is.2.answer.1
+way-given p h k fs m n (Err e) is = tt
 
-pub removal-given : (h : List ℕ → List ℕ) (k : List ℕ) (es : List (List ℕ × Data)) (m n : Moment) (r : Result (List ℕ) HamtFault) → Removes h usual k es m r n → GivesWay h k (without k es) r n
-removal-given h k es m n (Ok root) is = way-given h k (without k es) m n (Ok root) is.1
-removal-given h k es m n (Err e) is = tt
+pub removal-given : (p : HamtShape) (h : List ℕ → List ℕ) (k : List ℕ) (es : List (List ℕ × Data)) (m n : Moment) (r : Result (List ℕ) HamtFault) → Removes h p k es m r n → GivesWay h p k (without k es) r n
+removal-given p h k es m n (Ok root) is = way-given p h k (without k es) m n (Ok root) is.1
+removal-given p h k es m n (Err e) is = tt

@@ -10,7 +10,8 @@ use Rattle.ild_cbor.proofs.Blocks.{one_spelling_within, block_again}
 use Rattle.ild_edges.specs.Store.{Moment, Later, block_at}
 use Rattle.ild_edges.specs.Told.{IfTold}
 use Rattle.ild_edges.proofs.Later.{Later-refl, Later-trans}
-use Rattle.ild_data.specs.TrieShape.{TrieShape, trie_levels}
+use Rattle.ild_data.specs.declared.hamt_shape.HamtShape.{HamtShape}
+use Rattle.ild_data.specs.TrieShape.{trie_levels}
 use Rattle.ild_data.specs.Trie.{TrieSlot, empty, bucket, child, is_child, bucket_entries, node_data, part, at_depth, slots_at}
 use Rattle.ild_hamt_trie.specs.Way.{along, way}
 use Rattle.ild_hamt_trie.proofs.Way.{way-ends, along-more}
@@ -20,7 +21,6 @@ use Rattle.ild_data.specs.declared.id.BlockId.{BlockId}
 use Rattle.ild_node_slots.specs.Views.{HasSlots}
 use Rattle.ild_node_slots.specs.declared.view.NodeView.{NodeView}
 use Rattle.ild_node_slots.specs.declared.view.NodeSlot.{NodeSlot}
-use Rattle.ild_typed.specs.Composed.{usual}
 use Rattle.ild_hamt_climb.specs.Seen.{Shows}
 use Rattle.ild_hamt.specs.Ends.{EndsAt, hashes_of, is_full}
 use Rattle.ild_cbor.specs.declared.why.BlockWhy.{BlockWhy}
@@ -47,7 +47,7 @@ no-missing : (o : Option (List ℕ)) (b : List ℕ) → o ≡ Some b → o ≡ N
 no-missing o b one none = let e : Some b ≡ None = sym one ∙ none in absurd cc
 
 -- a block that is held under its id is refused by no cause
-no-cause : (p : TrieShape) (m : Moment) (held : List (List ℕ)) (id : List ℕ) (slots : List TrieSlot) (why : BlockWhy) (n : Moment)
+no-cause : (p : HamtShape) (m : Moment) (held : List (List ℕ)) (id : List ℕ) (slots : List TrieSlot) (why : BlockWhy) (n : Moment)
     → m.blocks ≡ Some held → IsNodeOf p (spell (node_data slots)) slots → block_at held id ≡ Some (spell (node_data slots)) → BlockCause p m id why n → ⊥
 no-cause p m held id slots Missing n tells node here cause =
     no-missing (block_at held id) (spell (node_data slots)) here (told m.blocks held (λ blocks. block_at blocks id ≡ None) tells cause.0)
@@ -62,14 +62,14 @@ no-cause p m held id slots (NoNode why) n tells node here cause =
     cause.wrong.1.other slots node.form ((one_spelling_within cause.wrong.1.data_in (node_data slots) [] [] cause.wrong.1.is.within node.is.within
     (append-nil (spell cause.wrong.1.data_in) ∙ sym cause.wrong.1.is.spelled ∙ same ∙ sym (append-nil (spell (node_data slots))))).0)
 
-pub record OnTrie (h : List ℕ → List ℕ) (p : TrieShape) (k : List ℕ) (held : List (List ℕ)) (es : List (List ℕ × Data)) (bs : List (List ℕ)) (last : List TrieSlot) : Type 0 where
+pub record OnTrie (h : List ℕ → List ℕ) (p : HamtShape) (k : List ℕ) (held : List (List ℕ)) (es : List (List ℕ × Data)) (bs : List (List ℕ)) (last : List TrieSlot) : Type 0 where
   pub less : ℕ
   pub many : trie_levels p ≡ suc (length bs + less)
   pub slots : slots_at h p less (length bs) (along h p k (length bs) 0 es) ≡ Some last
   pub way_is : way h p k (trie_levels p) 0 es ≡ bs ++ way h p k (suc less) (length bs) (along h p k (length bs) 0 es)
   pub below : HoldsBelow h p held (suc less) (length bs) (along h p k (length bs) 0 es)
 
-pub on-trie : (h : List ℕ → List ℕ) (p : TrieShape) (k : List ℕ) (held : List (List ℕ)) (es : List (List ℕ × Data)) (slots : List TrieSlot) (bs : List (List ℕ)) (last : List TrieSlot)
+pub on-trie : (h : List ℕ → List ℕ) (p : HamtShape) (k : List ℕ) (held : List (List ℕ)) (es : List (List ℕ × Data)) (slots : List TrieSlot) (bs : List (List ℕ)) (last : List TrieSlot)
     → 3 ≤ p.width → IsRootOf h p es slots → HoldsBelow h p held (trie_levels p) 0 es → Leads p (h k) 0 slots bs last → AreHeld bs held → OnTrie h p k held es bs last
 on-trie h p k held es slots bs last wide root below leads all =
     let r = leads-way h p k held root.left 0 es slots bs last wide root.node (subst (λ (n : ℕ). HoldsBelow h p held n 0 es) root.all below) leads all in
@@ -83,16 +83,16 @@ on-trie h p k held es slots bs last wide root below leads all =
     }
 
 -- the way ends where no child stands
-pub way-done : (h : List ℕ → List ℕ) (p : TrieShape) (k : List ℕ) (held : List (List ℕ)) (es : List (List ℕ × Data)) (bs : List (List ℕ)) (last : List TrieSlot)
+pub way-done : (h : List ℕ → List ℕ) (p : HamtShape) (k : List ℕ) (held : List (List ℕ)) (es : List (List ℕ × Data)) (bs : List (List ℕ)) (last : List TrieSlot)
     → OnTrie h p k held es bs last → is_child (slot_for p (h k) (length bs) last) ≡ false → way h p k (trie_levels p) 0 es ≡ bs
 way-done h p k held es bs last on ends =
     on.way_is ∙ ap (λ xs. bs ++ xs) (way-ends h p k on.less (length bs) (along h p k (length bs) 0 es) last on.slots ends) ∙ append-nil bs
 
-pub next-child : (h : List ℕ → List ℕ) (p : TrieShape) (k : List ℕ) (held : List (List ℕ)) (es : List (List ℕ × Data)) (bs : List (List ℕ)) (last : List TrieSlot) (id : List ℕ)
+pub next-child : (h : List ℕ → List ℕ) (p : HamtShape) (k : List ℕ) (held : List (List ℕ)) (es : List (List ℕ × Data)) (bs : List (List ℕ)) (last : List TrieSlot) (id : List ℕ)
     → (on : OnTrie h p k held es bs last) → slot_for p (h k) (length bs) last ≡ child id → Child h p k held on.less (length bs) (along h p k (length bs) 0 es) id
 next-child h p k held es bs last id on is = child-node h p k held on.less (length bs) (along h p k (length bs) 0 es) last id on.slots on.below is
 
-count : (h : List ℕ → List ℕ) (p : TrieShape) (k : List ℕ) (held : List (List ℕ)) (es : List (List ℕ × Data)) (bs : List (List ℕ)) (last : List TrieSlot) (s : TrieSlot)
+count : (h : List ℕ → List ℕ) (p : HamtShape) (k : List ℕ) (held : List (List ℕ)) (es : List (List ℕ × Data)) (bs : List (List ℕ)) (last : List TrieSlot) (s : TrieSlot)
     → OnTrie h p k held es bs last → s ≡ slot_for p (h k) (length bs) last → length bs + cond (is_child s) 1 0 ≤ length (way h p k (trie_levels p) 0 es)
 count h p k held es bs last empty on is = omega (arith, ap length (way-done h p k held es bs last on (ap is_child (sym is))))
 count h p k held es bs last (bucket fs) on is = omega (arith, ap length (way-done h p k held es bs last on (ap is_child (sym is))))
@@ -106,14 +106,14 @@ child-there empty is = absurd cc
 child-there (bucket es) is = absurd cc
 child-there (child id) is = (id, refl)
 
-refused : (h : List ℕ → List ℕ) (p : TrieShape) (k : List ℕ) (held : List (List ℕ)) (es : List (List ℕ × Data)) (m : Moment) (bs : List (List ℕ)) (last : List TrieSlot) (id : List ℕ) (why : BlockWhy) (n : Moment)
+refused : (h : List ℕ → List ℕ) (p : HamtShape) (k : List ℕ) (held : List (List ℕ)) (es : List (List ℕ × Data)) (m : Moment) (bs : List (List ℕ)) (last : List TrieSlot) (id : List ℕ) (why : BlockWhy) (n : Moment)
     → 3 ≤ p.width → m.blocks ≡ Some held → OnTrie h p k held es bs last → IsBadChild p (h k) m bs last id why n → ⊥
 refused h p k held es m bs last id why n wide tells on bad =
     let fs : List (List ℕ × Data) = part (at_depth h p (length bs)) (along h p k (length bs) 0 es) (at_depth h p (length bs) k) in
     let c = next-child h p k held es bs last id on bad.link in
     no-cause p m held id c.slots why n tells (held-node h p held c.deeper (length bs + 1) fs c.slots wide c.stands c.node) (ap (block_at held) c.named ∙ c.node.here) bad.cause
 
-none-beyond : (h : List ℕ → List ℕ) (p : TrieShape) (k : List ℕ) (held : List (List ℕ)) (es : List (List ℕ × Data)) (bs : List (List ℕ)) (last : List TrieSlot) (id : List ℕ)
+none-beyond : (h : List ℕ → List ℕ) (p : HamtShape) (k : List ℕ) (held : List (List ℕ)) (es : List (List ℕ × Data)) (bs : List (List ℕ)) (last : List TrieSlot) (id : List ℕ)
     → OnTrie h p k held es bs last → LinksBeyond p (h k) bs last id → ⊥
 none-beyond h p k held es bs last id on beyond =
     let there = child-there (slot_for p (h k) (length bs) last) beyond.link in
@@ -121,7 +121,7 @@ none-beyond h p k held es bs last id on beyond =
     absurd (let le = beyond.none_left in omega (arith, on.many, c.left_is))
 
 -- the slot in which the way ends holds the entries that agree with the key so far
-end-held : (h : List ℕ → List ℕ) (p : TrieShape) (k : List ℕ) (held_blocks : List (List ℕ)) (es : List (List ℕ × Data)) (bs : List (List ℕ)) (last : List TrieSlot)
+end-held : (h : List ℕ → List ℕ) (p : HamtShape) (k : List ℕ) (held_blocks : List (List ℕ)) (es : List (List ℕ × Data)) (bs : List (List ℕ)) (last : List TrieSlot)
     → OnTrie h p k held_blocks es bs last → is_child (slot_for p (h k) (length bs) last) ≡ false
     → (along h p k (length bs + 1) 0 es ≡ bucket_entries (slot_for p (h k) (length bs) last)) × (length (along h p k (length bs + 1) 0 es) ≤ p.bucket)
 end-held h p k held_blocks es bs last on ends =
@@ -133,7 +133,7 @@ end-held h p k held_blocks es bs last on ends =
       subst (λ (gs : List (List ℕ × Data)). length gs ≤ p.bucket) (sym more) (few-held h p on.less (length bs) fs k last on.slots ends),
     )
 
-trail-is : (h : List ℕ → List ℕ) (p : TrieShape) (k : List ℕ) (held_blocks : List (List ℕ)) (slots : List TrieSlot) (es : List (List ℕ × Data)) (m : Moment) (bs : List (List ℕ)) (last : List TrieSlot) (result : Result Trail HamtFault) (n : Moment)
+trail-is : (h : List ℕ → List ℕ) (p : HamtShape) (k : List ℕ) (held_blocks : List (List ℕ)) (slots : List TrieSlot) (es : List (List ℕ × Data)) (m : Moment) (bs : List (List ℕ)) (last : List TrieSlot) (result : Result Trail HamtFault) (n : Moment)
     → 3 ≤ p.width → m.blocks ≡ Some held_blocks → IsRootOf h p es slots → length bs < trie_levels p
     → ((j : ℕ) → j < length bs → NodeAt h p k (trie_levels p) es j (get_or bs j []))
     → OnTrie h p k held_blocks es bs last → DescendAnswer h p k m bs last result n → TrailIs h p k slots es result
@@ -141,6 +141,7 @@ trail-is h p k held_blocks slots es m bs last (Ok t) n wide tells root short nod
     let e : length bs ≡ length (trail_blocks t) = ap length (sym answer.blocks) in
     let ended = end-held h p k held_blocks es bs last on answer.ends in
     record {
+      shape = answer.shape;
       root = root;
       key = answer.key;
       hash = answer.hash;
@@ -162,7 +163,7 @@ trail-is h p k held_blocks slots es m bs last (Err (Clash id kept new)) n wide t
 trail-is h p k held_blocks slots es m bs last (Err Size) n wide tells root short nodes on answer = absurd answer
 trail-is h p k held_blocks slots es m bs last (Err NoKey) n wide tells root short nodes on answer = absurd answer
 
-nodes-on : (h : List ℕ → List ℕ) (p : TrieShape) (k : List ℕ) (held_blocks : List (List ℕ)) (es : List (List ℕ × Data)) (slots : List TrieSlot) (bs : List (List ℕ)) (last : List TrieSlot)
+nodes-on : (h : List ℕ → List ℕ) (p : HamtShape) (k : List ℕ) (held_blocks : List (List ℕ)) (es : List (List ℕ × Data)) (slots : List TrieSlot) (bs : List (List ℕ)) (last : List TrieSlot)
     → 3 ≤ p.width → IsRootOf h p es slots → HoldsBelow h p held_blocks (trie_levels p) 0 es → Leads p (h k) 0 slots bs last → AreHeld bs held_blocks
     → (j : ℕ) → j < length bs → NodeAt h p k (trie_levels p) es j (get_or bs j [])
 nodes-on h p k held_blocks es slots bs last wide root below leads all j lt =
@@ -177,7 +178,7 @@ nodes-on h p k held_blocks es slots bs last wide root below leads all j lt =
       many = r.many;
     }
 
-pub descends : (h : List ℕ → List ℕ) (p : TrieShape) (k : List ℕ) (slots : List TrieSlot) (m : Moment) (bs : List (List ℕ)) (last : List TrieSlot) (result : Result Trail HamtFault) (n : Moment)
+pub descends : (h : List ℕ → List ℕ) (p : HamtShape) (k : List ℕ) (slots : List TrieSlot) (m : Moment) (bs : List (List ℕ)) (last : List TrieSlot) (result : Result Trail HamtFault) (n : Moment)
     → 3 ≤ p.width → Reads p (h k) slots m bs last n → DescendAnswer h p k m bs last result n → Descends h p k slots m result n
 descends h p k slots m bs last result n wide reads answer = record {
   bs = bs;
@@ -196,7 +197,7 @@ descends h p k slots m bs last result n wide reads answer = record {
 -- ---- the loop
 
 -- what was read so far, and where it leads
-pub record Going (p : TrieShape) (hash : List ℕ) (slots : List TrieSlot) (m : Moment) (bs : List (List ℕ)) (depth : ℕ) (next : Option (List ℕ)) (n : Moment) : Type 0 where
+pub record Going (p : HamtShape) (hash : List ℕ) (slots : List TrieSlot) (m : Moment) (bs : List (List ℕ)) (depth : ℕ) (next : Option (List ℕ)) (n : Moment) : Type 0 where
   pub last : List TrieSlot
   pub reads : Reads p hash slots m bs last n
   pub exact : n.gets ≤ m.gets + length bs
@@ -217,7 +218,7 @@ told-all : (o : Option (List (List ℕ))) → IfTold o (AreHeld [])
 told-all None = tt
 told-all (Some a) = tt
 
-pub going-start : (p : TrieShape) (hash : List ℕ) (slots : List TrieSlot) (m : Moment) (bs : List (List ℕ)) (depth : ℕ) (next : Option (List ℕ))
+pub going-start : (p : HamtShape) (hash : List ℕ) (slots : List TrieSlot) (m : Moment) (bs : List (List ℕ)) (depth : ℕ) (next : Option (List ℕ))
     → 0 < trie_levels p → bs ≡ [] → depth ≡ 0 → next ≡ child_id (slot_for p hash 0 slots) → Going p hash slots m bs depth next m
 going-start p hash slots m bs depth next some none at is =
     let long : length bs ≡ 0 = ap length none in
@@ -247,14 +248,14 @@ told-push (Some a) bs b all is = held-more bs a b all is
 block-back : (m k : Moment) (id b : List ℕ) → k.blocks ≡ m.blocks → IsBlockAt k id b → IsBlockAt m id b
 block-back m k id b same at = record { named = at.named; held = subst (λ (o : Option (List (List ℕ))). IfTold o (λ blocks. block_at blocks id ≡ Some b)) same at.held }
 
-cause-back : (p : TrieShape) (m k : Moment) (id : List ℕ) (why : BlockWhy) (n : Moment) → k.blocks ≡ m.blocks → m.lacks ≤ k.lacks → BlockCause p k id why n → BlockCause p m id why n
+cause-back : (p : HamtShape) (m k : Moment) (id : List ℕ) (why : BlockWhy) (n : Moment) → k.blocks ≡ m.blocks → m.lacks ≤ k.lacks → BlockCause p k id why n → BlockCause p m id why n
 cause-back p m k id Missing n same le cause =
     (subst (λ (o : Option (List (List ℕ))). IfTold o (λ blocks. block_at blocks id ≡ None)) same cause.0, let rose = cause.1 in omega (arith, rose))
 cause-back p m k id (Cbor fault) n same le cause = record { block = cause.block; at = block-back m k id cause.block same cause.at; wrong = cause.wrong }
 cause-back p m k id (NoNode why) n same le cause = record { block = cause.block; at = block-back m k id cause.block same cause.at; wrong = cause.wrong }
 
 -- the child that is read next
-going-child : (p : TrieShape) (hash : List ℕ) (slots : List TrieSlot) (m : Moment) (bs : List (List ℕ)) (depth : ℕ) (id : List ℕ) (k : Moment)
+going-child : (p : HamtShape) (hash : List ℕ) (slots : List TrieSlot) (m : Moment) (bs : List (List ℕ)) (depth : ℕ) (id : List ℕ) (k : Moment)
     → (g : Going p hash slots m bs depth (Some id) k) → slot_for p hash (length bs) g.last ≡ child id
 going-child p hash slots m bs depth id k g = child-of (slot_for p hash (length bs) g.last) id g.next_is
 
@@ -264,7 +265,7 @@ one-more (bucket es) id a is = absurd cc
 one-more (child i) id a is = omega arith
 
 -- a get of it, whatever it answers
-going-read : (p : TrieShape) (hash : List ℕ) (slots : List TrieSlot) (m : Moment) (bs : List (List ℕ)) (depth : ℕ) (id : List ℕ) (k : Moment) (r : Result (List ℕ) HamtFault) (n : Moment)
+going-read : (p : HamtShape) (hash : List ℕ) (slots : List TrieSlot) (m : Moment) (bs : List (List ℕ)) (depth : ℕ) (id : List ℕ) (k : Moment) (r : Result (List ℕ) HamtFault) (n : Moment)
     → (g : Going p hash slots m bs depth (Some id) k) → depth + 1 < trie_levels p → Fetches p k id r n → Reads p hash slots m bs g.last n
 going-read p hash slots m bs depth id k r n g room f =
     let one = one-more (slot_for p hash (length bs) g.last) id (m.gets + length bs) (going-child p hash slots m bs depth id k g) in
@@ -280,7 +281,7 @@ going-read p hash slots m bs depth id k r n g room f =
       puts = f.puts ∙ g.reads.puts;
     }
 
-pub going-more : (p : TrieShape) (hash : List ℕ) (slots : List TrieSlot) (m : Moment) (bs : List (List ℕ)) (depth : ℕ) (id : List ℕ) (k : Moment) (b : List ℕ) (n : Moment)
+pub going-more : (p : HamtShape) (hash : List ℕ) (slots : List TrieSlot) (m : Moment) (bs : List (List ℕ)) (depth : ℕ) (id : List ℕ) (k : Moment) (b : List ℕ) (n : Moment)
     (cs : List (List ℕ)) (deeper : ℕ) (next : Option (List ℕ))
     → Going p hash slots m bs depth (Some id) k → Fetches p k id (Ok b) n → deeper ≡ depth + 1 → deeper < trie_levels p
     → ((ss : List TrieSlot) → IsNodeOf p b ss → next ≡ child_id (slot_for p hash deeper ss)) → cs ≡ bs ++ b ∷ [] → Going p hash slots m cs deeper next n
@@ -313,7 +314,7 @@ going-more p hash slots m bs depth id k b n cs deeper next g f up lt looks pushe
       depth_is = here;
     }
 
-stopped : (h : List ℕ → List ℕ) (p : TrieShape) (key : List ℕ) (m k : Moment) (bs : List (List ℕ)) (last : List TrieSlot) (id : List ℕ) (e : HamtFault) (n : Moment)
+stopped : (h : List ℕ → List ℕ) (p : HamtShape) (key : List ℕ) (m k : Moment) (bs : List (List ℕ)) (last : List TrieSlot) (id : List ℕ) (e : HamtFault) (n : Moment)
     → slot_for p (h key) (length bs) last ≡ child id → length bs + 1 < trie_levels p → k.blocks ≡ m.blocks → Later m k → Fetches p k id (Err e) n → DescendAnswer h p key m bs last (Err e) n
 stopped h p key m k bs last id (Block i why) n is room same later f =
     let at : id ≡ i.0 = sym f.answer.0 in
@@ -330,7 +331,7 @@ stopped h p key m k bs last id Size n is room same later f = absurd f.answer
 stopped h p key m k bs last id NoKey n is room same later f = absurd f.answer
 
 -- how it ends
-pub going-stopped : (h : List ℕ → List ℕ) (p : TrieShape) (key hash : List ℕ) (slots : List TrieSlot) (m : Moment) (bs : List (List ℕ)) (depth : ℕ) (id : List ℕ) (k : Moment) (e : HamtFault) (n : Moment)
+pub going-stopped : (h : List ℕ → List ℕ) (p : HamtShape) (key hash : List ℕ) (slots : List TrieSlot) (m : Moment) (bs : List (List ℕ)) (depth : ℕ) (id : List ℕ) (k : Moment) (e : HamtFault) (n : Moment)
     → 3 ≤ p.width → hash ≡ h key → Going p hash slots m bs depth (Some id) k → depth + 1 < trie_levels p → Fetches p k id (Err e) n → Descends h p key slots m (Err e) n
 going-stopped h p key hash slots m bs depth id k e n wide same going room f =
     let g = subst (λ (x : List ℕ). Going p x slots m bs depth (Some id) k) same going in
@@ -355,14 +356,14 @@ some-child (Some id) (bucket es) is some = absurd cc
 some-child (Some id) (child c) is some = refl
 
 -- a level is left for the child that is read next
-pub room-next : (p : TrieShape) (o : Option BlockId) (depth : ℕ) → (is_some o && nat_le (trie_levels p) (depth + 1)) ≡ false → is_some o ≡ true → depth + 1 < trie_levels p
+pub room-next : (p : HamtShape) (o : Option BlockId) (depth : ℕ) → (is_some o && nat_le (trie_levels p) (depth + 1)) ≡ false → is_some o ≡ true → depth + 1 < trie_levels p
 room-next p None depth not some = absurd cc
 room-next p (Some id) depth not some = lt_of (cases_lt (depth + 1) (trie_levels p))
   where
     lt_of : (depth + 1 < trie_levels p) ⊎ (trie_levels p ≤ depth + 1) → depth + 1 < trie_levels p
     lt_of c = ⊎_elim (λ lt. lt) (λ le. absurd (false≢true (sym not ∙ le-leb (trie_levels p) (depth + 1) le))) c
 
-pub going-beyond : (h : List ℕ → List ℕ) (p : TrieShape) (key hash : List ℕ) (slots : List TrieSlot) (m : Moment) (bs : List (List ℕ)) (depth : ℕ) (id : BlockId) (k : Moment) (b : List ℕ) (n : Moment)
+pub going-beyond : (h : List ℕ → List ℕ) (p : HamtShape) (key hash : List ℕ) (slots : List TrieSlot) (m : Moment) (bs : List (List ℕ)) (depth : ℕ) (id : BlockId) (k : Moment) (b : List ℕ) (n : Moment)
     (next : Option BlockId) (deeper : ℕ) → 3 ≤ p.width → hash ≡ h key → Going p hash slots m bs depth (Some id.0) k → Fetches p k id.0 (Ok b) n → deeper ≡ depth + 1 → deeper < trie_levels p
     → ((ss : List TrieSlot) → IsNodeOf p b ss → option_map (λ (i : BlockId). i.0) next ≡ child_id (slot_for p hash deeper ss))
     → (is_some next && nat_le (trie_levels p) (deeper + 1)) ≡ true → Descends h p key slots m (Err (Block id (NoNode Trie))) n
@@ -385,29 +386,30 @@ going-beyond h p key hash slots m bs depth id k b n next deeper wide same going 
     ))
 
 -- no memory for a block that was read
-pub going-full : (h : List ℕ → List ℕ) (p : TrieShape) (key hash : List ℕ) (slots : List TrieSlot) (m : Moment) (bs : List (List ℕ)) (depth : ℕ) (id : List ℕ) (k : Moment) (b : List ℕ) (n : Moment)
+pub going-full : (h : List ℕ → List ℕ) (p : HamtShape) (key hash : List ℕ) (slots : List TrieSlot) (m : Moment) (bs : List (List ℕ)) (depth : ℕ) (id : List ℕ) (k : Moment) (b : List ℕ) (n : Moment)
     → 3 ≤ p.width → hash ≡ h key → Going p hash slots m bs depth (Some id) k → depth + 1 < trie_levels p → Fetches p k id (Ok b) n → Descends h p key slots m (Err Memory) n
 going-full h p key hash slots m bs depth id k b n wide same going room f =
     let g = subst (λ (x : List ℕ). Going p x slots m bs depth (Some id) k) same going in
     descends h p key slots m bs g.last (Err Memory) n wide (going-read p (h key) slots m bs depth id k (Ok b) n g room f) tt
 
-pub going-unnamed : (h : List ℕ → List ℕ) (p : TrieShape) (key hash : List ℕ) (slots : List TrieSlot) (m : Moment) (bs : List (List ℕ)) (depth : ℕ) (n : Moment)
+pub going-unnamed : (h : List ℕ → List ℕ) (p : HamtShape) (key hash : List ℕ) (slots : List TrieSlot) (m : Moment) (bs : List (List ℕ)) (depth : ℕ) (n : Moment)
     → 3 ≤ p.width → hash ≡ h key → Going p hash slots m bs depth None n → Descends h p key slots m (Err Memory) n
 going-unnamed h p key hash slots m bs depth n wide same going =
     let g = subst (λ (x : List ℕ). Going p x slots m bs depth None n) same going in
     descends h p key slots m bs g.last (Err Memory) n wide g.reads tt
 
-pub going-done : (h : List ℕ → List ℕ) (p : TrieShape) (key hash : List ℕ) (slots : List TrieSlot) (m : Moment) (depth : ℕ) (t : Trail) (n : Moment) (x : NodeSlot)
-    → 3 ≤ p.width → hash ≡ h key → Going p hash slots m (trail_blocks t) depth None n → t.key ≡ key → t.hash ≡ hash → t.depth ≡ depth
+pub going-done : (h : List ℕ → List ℕ) (p : HamtShape) (key hash : List ℕ) (slots : List TrieSlot) (m : Moment) (depth : ℕ) (t : Trail) (n : Moment) (x : NodeSlot)
+    → 3 ≤ p.width → hash ≡ h key → Going p hash slots m (trail_blocks t) depth None n → t.shape ≡ p → t.key ≡ key → t.hash ≡ hash → t.depth ≡ depth
     → ((last : List TrieSlot) → EndsAt p slots (trail_blocks t) last → depth ≡ length (trail_blocks t) → depth < trie_levels p → Shows x (slot_for p hash depth last))
     → ((y : TrieSlot) → Shows x y → t.exhausted ≡ is_full h p key hash (depth + 1) (bucket_entries y))
     → ((y : TrieSlot) → Shows x y → t.others.items ≡ hashes_of h (without key (bucket_entries y)))
     → Descends h p key slots m (Ok t) n
-going-done h p key hash slots m depth t n x wide same going named hashed deep stands full others =
+going-done h p key hash slots m depth t n x wide same going shaped named hashed deep stands full others =
     let g = subst (λ (x : List ℕ). Going p x slots m (trail_blocks t) depth None n) same going in
     let at = stands g.last (leads-end p (h key) 0 slots (trail_blocks t) g.last g.reads.leads) g.depth_is (let lt = g.reads.short in omega (arith, g.depth_is)) in
     descends h p key slots m (trail_blocks t) g.last (Ok t) n wide g.reads
     (record {
+      shape = shaped;
       blocks = refl;
       key = named;
       hash = hashed ∙ same;
@@ -418,9 +420,9 @@ going-done h p key hash slots m depth t n x wide same going named hashed deep st
       others = others (slot_for p hash depth g.last) at ∙ (λ i. hashes_of h (without key (bucket_entries (slot_for p (same i) (g.depth_is i) g.last))));
     })
 
-pub stands-at : (root : NodeView) (x : NodeSlot) (hash : List ℕ) (depth : ℕ) (slots : List TrieSlot) (cs bs : List (List ℕ))
-    → cs ≡ bs → HasSlots usual root slots
-    → ((ss last : List TrieSlot) → HasSlots usual root ss → EndsAt usual ss cs last → depth ≡ length cs → depth < trie_levels usual → Shows x (slot_for usual hash depth last))
-    → (last : List TrieSlot) → EndsAt usual slots bs last → depth ≡ length bs → depth < trie_levels usual → Shows x (slot_for usual hash depth last)
-stands-at root x hash depth slots cs bs read has reads =
-    subst (λ (ds : List (List ℕ)). (last : List TrieSlot) → EndsAt usual slots ds last → depth ≡ length ds → depth < trie_levels usual → Shows x (slot_for usual hash depth last)) read (λ last. reads slots last has)
+pub stands-at : (p : HamtShape) (root : NodeView) (x : NodeSlot) (hash : List ℕ) (depth : ℕ) (slots : List TrieSlot) (cs bs : List (List ℕ))
+    → cs ≡ bs → HasSlots p root slots
+    → ((ss last : List TrieSlot) → HasSlots p root ss → EndsAt p ss cs last → depth ≡ length cs → depth < trie_levels p → Shows x (slot_for p hash depth last))
+    → (last : List TrieSlot) → EndsAt p slots bs last → depth ≡ length bs → depth < trie_levels p → Shows x (slot_for p hash depth last)
+stands-at p root x hash depth slots cs bs read has reads =
+    subst (λ (ds : List (List ℕ)). (last : List TrieSlot) → EndsAt p slots ds last → depth ≡ length ds → depth < trie_levels p → Shows x (slot_for p hash depth last)) read (λ last. reads slots last has)

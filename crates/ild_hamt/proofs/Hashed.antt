@@ -9,7 +9,8 @@ use Rattle.std.proofs.lemmas.List.{take_more, map-append}
 use Rattle.std.proofs.lemmas.List.Filters.{length-filter_more}
 use Rattle.ild_data.specs.ByteOrder.{bytewise, without, IsInOrder}
 use Rattle.ild_data.specs.Data.{Data}
-use Rattle.ild_data.specs.TrieShape.{TrieShape, trie_levels}
+use Rattle.ild_data.specs.declared.hamt_shape.HamtShape.{HamtShape}
+use Rattle.ild_data.specs.TrieShape.{trie_levels}
 use Rattle.ild_hamt_trie.proofs.Parts.{same_by_find, same_key, key_itself, in_order-put, in_order-without, find-put_at, find-without}
 use Rattle.ild_cbor.specs.declared.node.Node.{Node}
 use Rattle.ild_node.specs.Keyed.{keyed_rows, keyed_seen}
@@ -77,11 +78,11 @@ hash-none h b es i (Some e) k hashes is = absurd is
 
 -- ---- hashes counted
 
-pub record CountedTo (p : TrieShape) (hash : List ℕ) (depth : ℕ) (hashes : List (List ℕ)) (i count : ℕ) : Type 0 where
+pub record CountedTo (p : HamtShape) (hash : List ℕ) (depth : ℕ) (hashes : List (List ℕ)) (i count : ℕ) : Type 0 where
   pub few : count ≤ i
   pub is : count ≡ length (agreeing_hashes p hash depth (take i hashes))
 
-pub count-hash : (p : TrieShape) (hash : List ℕ) (depth : ℕ) (hashes : List (List ℕ)) (i count one new : ℕ) (d : List ℕ) → i < length hashes → one ≤ 1
+pub count-hash : (p : HamtShape) (hash : List ℕ) (depth : ℕ) (hashes : List (List ℕ)) (i count one new : ℕ) (d : List ℕ) → i < length hashes → one ≤ 1
     → one ≡ cond (agree p (get_or hashes i d) hash (trie_levels p - depth) depth) 1 0 → new ≡ count + one → CountedTo p hash depth hashes i count → CountedTo p hash depth hashes (i + 1) new
 count-hash p hash depth hashes i count one new d lt le is sum was =
     let f : List ℕ → Bool = λ a. agree p a hash (trie_levels p - depth) depth in
@@ -91,7 +92,7 @@ count-hash p hash depth hashes i count one new d lt le is sum was =
       is = sum ∙ (λ j. was.is j + is j) ∙ sym (length-filter_more f hashes i d lt);
     }
 
-pub length-agreeing : (h : List ℕ → List ℕ) (p : TrieShape) (hash : List ℕ) (depth : ℕ) (es : List (List ℕ × Data)) → length (agreeing_hashes p hash depth (hashes_of h es)) ≡ length (agreeing h p hash depth es)
+pub length-agreeing : (h : List ℕ → List ℕ) (p : HamtShape) (hash : List ℕ) (depth : ℕ) (es : List (List ℕ × Data)) → length (agreeing_hashes p hash depth (hashes_of h es)) ≡ length (agreeing h p hash depth es)
 length-agreeing h p hash depth [] = refl
 length-agreeing h p hash depth (e ∷ es) = by (agree p (h e.0) hash (trie_levels p - depth) depth) (length-agreeing h p hash depth es)
   where
@@ -101,7 +102,7 @@ length-agreeing h p hash depth (e ∷ es) = by (agree p (h e.0) hash (trie_level
     by false is = is
 
 -- where the key is missing, the others are all
-pub full-others : (h : List ℕ → List ℕ) (p : TrieShape) (k hash : List ℕ) (depth : ℕ) (es : List (List ℕ × Data)) (others : List (List ℕ)) → others ≡ hashes_of h (without k es)
+pub full-others : (h : List ℕ → List ℕ) (p : HamtShape) (k hash : List ℕ) (depth : ℕ) (es : List (List ℕ × Data)) (others : List (List ℕ)) → others ≡ hashes_of h (without k es)
     → (not (is_some (find bytewise k es)) && nat_le p.bucket (length (agreeing_hashes p hash depth others))) ≡ is_full h p k hash depth es
 full-others h p k hash depth es others are = by (find bytewise k es) refl
   where

@@ -3,7 +3,8 @@ use Rattle.std.proofs.Common.{◌≡◌, ◌≢◌, ◌⊎◌, inl, inr, ⊎_eli
 use Rattle.std.proofs.lemmas.Bool.{cases_eq, cases_lt}
 use Rattle.ild_data.specs.Data.{Data}
 use Rattle.ild_data.specs.Trie.{TrieSlot, empty, part, link_to, node_of, at_depth, slots_at}
-use Rattle.ild_data.specs.TrieShape.{TrieShape, trie_levels}
+use Rattle.ild_data.specs.declared.hamt_shape.HamtShape.{HamtShape}
+use Rattle.ild_data.specs.TrieShape.{trie_levels}
 use Rattle.ild_hamt_trie.proofs.Fold.{slot-many, length-part}
 use Rattle.ild_hamt_trie.proofs.Index.{index_below}
 use Rattle.ild_hamt_trie.proofs.Node.{slots-node, no_node}
@@ -17,7 +18,7 @@ use Rattle.ild_hamt_climb.specs.Rewriting.{DiffersAt}
 use Rattle.ild_hamt_climb.proofs.Differing.{part-differs, part-others}
 
 -- entries that a bucket takes have no node beneath
-holds-few : (h : List ℕ → List ℕ) (p : TrieShape) (held : List (List ℕ)) (left depth : ℕ) (es : List (List ℕ × Data)) → length es ≤ p.bucket → HoldsBelow h p held left depth es
+holds-few : (h : List ℕ → List ℕ) (p : HamtShape) (held : List (List ℕ)) (left depth : ℕ) (es : List (List ℕ × Data)) → length es ≤ p.bucket → HoldsBelow h p held left depth es
 holds-few h p held zero depth es few = tt
 holds-few h p held (suc left) depth es few = λ i node many is. absurd (let le = length-part (at_depth h p depth) es i in omega (arith, le, few, many))
 
@@ -26,7 +27,7 @@ linked None s is = absurd cc
 linked (Some node) s is = (node, refl)
 
 -- many entries at the key's index have a node
-pub part-there : (h : List ℕ → List ℕ) (p : TrieShape) (k : List ℕ) (left depth : ℕ) (es : List (List ℕ × Data)) (slots : List TrieSlot) → slots_at h p left depth es ≡ Some slots
+pub part-there : (h : List ℕ → List ℕ) (p : HamtShape) (k : List ℕ) (left depth : ℕ) (es : List (List ℕ × Data)) (slots : List TrieSlot) → slots_at h p left depth es ≡ Some slots
     → p.bucket < length (part (at_depth h p depth) es (at_depth h p depth k))
     → (node : Data) × (node_of h p left (depth + 1) (part (at_depth h p depth) es (at_depth h p depth k)) ≡ Some node)
 part-there h p k left depth es slots is many =
@@ -35,7 +36,7 @@ part-there h p k left depth es slots is many =
     ∙ slot_at p (at_depth h p depth) (node_of h p left (depth + 1)) es (at_depth h p depth k) slots empty (index_below p (h k) depth) is)
 
 -- the entries have slots at a depth, or a bucket takes them
-abbrev pub Had : (List ℕ → List ℕ) → TrieShape → ℕ → ℕ → List (List ℕ × Data) → Type 0
+abbrev pub Had : (List ℕ → List ℕ) → HamtShape → ℕ → ℕ → List (List ℕ × Data) → Type 0
 Had h p left depth es = ((slots : List TrieSlot) × (slots_at h p left depth es ≡ Some slots)) ⊎ (length es ≤ p.bucket)
 
 -- what holds of each part, told of the part at the key's index and of the others
@@ -43,7 +44,7 @@ each-part : (P : ℕ → Type 0) (j : ℕ) → P j → ((i : ℕ) → j ≢ i �
 each-part P j here others i = ⊎_elim (λ same. subst P same here) (λ apart. others i apart) (cases_eq j i)
 
 -- the part at the key's index has slots too, or is few, and the trie beneath it is held
-pub had-below : (h : List ℕ → List ℕ) (p : TrieShape) (k : List ℕ) (held : List (List ℕ)) (left depth : ℕ) (es : List (List ℕ × Data)) → Had h p (suc left) depth es → HoldsBelow h p held (suc (suc left)) depth es
+pub had-below : (h : List ℕ → List ℕ) (p : HamtShape) (k : List ℕ) (held : List (List ℕ)) (left depth : ℕ) (es : List (List ℕ × Data)) → Had h p (suc left) depth es → HoldsBelow h p held (suc (suc left)) depth es
     → Had h p left (depth + 1) (part (at_depth h p depth) es (at_depth h p depth k)) × HoldsBelow h p held (suc left) (depth + 1) (part (at_depth h p depth) es (at_depth h p depth k))
 had-below h p k held left depth es had below =
     let old : List (List ℕ × Data) = part (at_depth h p depth) es (at_depth h p depth k) in
@@ -62,7 +63,7 @@ had-below h p k held left depth es had below =
         (λ few. absurd (let le = length-part (at_depth h p depth) es (at_depth h p depth k) in omega (arith, le, few, many)))
         was
 
-pub holds-differ : (h : List ℕ → List ℕ) (p : TrieShape) (k : List ℕ) (held : List (List ℕ)) (left depth : ℕ) (es fs : List (List ℕ × Data))
+pub holds-differ : (h : List ℕ → List ℕ) (p : HamtShape) (k : List ℕ) (held : List (List ℕ)) (left depth : ℕ) (es fs : List (List ℕ × Data))
     → DiffersAt k es fs → Had h p left depth es → HoldsBelow h p held (suc left) depth es → HoldsWay h p k held (suc left) depth fs → HoldsBelow h p held (suc left) depth fs
 holds-differ h p k held zero depth es fs d had below way =
     λ i node many is. absurd (let none : None ≡ Some node = sym (no_node h p (depth + 1) (part (at_depth h p depth) fs i)) ∙ is in cc)
@@ -83,7 +84,7 @@ holds-differ h p k held (suc left) depth es fs d had below way =
     (sym (part-others at k i es fs d apart)) (below i node))
 
 -- what was held is held
-pub holds-later : (h : List ℕ → List ℕ) (p : TrieShape) (was now : List (List ℕ)) (left depth : ℕ) (es : List (List ℕ × Data)) → Keeps was now
+pub holds-later : (h : List ℕ → List ℕ) (p : HamtShape) (was now : List (List ℕ)) (left depth : ℕ) (es : List (List ℕ × Data)) → Keeps was now
     → HoldsBelow h p was left depth es → HoldsBelow h p now left depth es
 holds-later h p was now zero depth es keeps below = tt
 holds-later h p was now (suc left) depth es keeps below = λ i node many is.
@@ -93,7 +94,7 @@ holds-later h p was now (suc left) depth es keeps below = λ i node many is.
     )
 
 -- the whole trie: held before, with the nodes on the new way held now
-pub all-holds : (h : List ℕ → List ℕ) (p : TrieShape) (k : List ℕ) (was now : List (List ℕ)) (es fs : List (List ℕ × Data)) (slots : List TrieSlot)
+pub all-holds : (h : List ℕ → List ℕ) (p : HamtShape) (k : List ℕ) (was now : List (List ℕ)) (es fs : List (List ℕ × Data)) (slots : List TrieSlot)
     → Keeps was now → IsRootOf h p es slots → DiffersAt k es fs → HoldsBelow h p was (trie_levels p) 0 es → HoldsWay h p k now (trie_levels p) 0 fs → HoldsBelow h p now (trie_levels p) 0 fs
 all-holds h p k was now es fs slots keeps root d below way =
     subst (λ (n : ℕ). HoldsBelow h p now n 0 fs) (sym root.all)

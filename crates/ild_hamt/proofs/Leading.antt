@@ -5,7 +5,7 @@ use Rattle.ild_data.specs.Data.{Data}
 use Rattle.ild_data.specs.Spell.{spell, id_of}
 use Rattle.ild_cbor.proofs.Blocks.{one_spelling_within}
 use Rattle.ild_edges.specs.Store.{block_at}
-use Rattle.ild_data.specs.TrieShape.{TrieShape}
+use Rattle.ild_data.specs.declared.hamt_shape.HamtShape.{HamtShape}
 use Rattle.ild_data.specs.Trie.{TrieSlot, child, node_data, node_of, slot_of, part, at_depth, slots_at}
 use Rattle.ild_hamt_trie.specs.Way.{along, way}
 use Rattle.std.specs.List.{range_with_len}
@@ -14,14 +14,14 @@ use Rattle.ild_hamt_trie.proofs.Bits.{same_node}
 use Rattle.ild_hamt_trie.proofs.Slots.{all_some-length}
 use Rattle.ild_hamt_trie.proofs.Node.{slot-child, slots-node, no_node}
 use Rattle.ild_hamt_trie.proofs.Way.{way-child}
-use Rattle.ild_node_slots.proofs.Fits.{whole_map}
+use Rattle.ild_node_slots.proofs.Shapes.{whole_map}
 use Rattle.ild_hamt.specs.Ends.{EndsAt}
 use Rattle.ild_bulk.specs.Putting.{AreHeld}
 use Rattle.ild_bulk_walker.specs.Gives.{IsNodeOf}
 use Rattle.ild_bulk_walker.specs.Trees.{IsHeldNode, HoldsBelow}
 use Rattle.ild_hamt_climb.specs.Way.{slot_for, Leads}
 
-pub leads-more : (p : TrieShape) (hash : List ℕ) (depth : ℕ) (slots : List TrieSlot) (bs : List (List ℕ)) (last : List TrieSlot) (b : List ℕ) (next : List TrieSlot)
+pub leads-more : (p : HamtShape) (hash : List ℕ) (depth : ℕ) (slots : List TrieSlot) (bs : List (List ℕ)) (last : List TrieSlot) (b : List ℕ) (next : List TrieSlot)
     → Leads p hash depth slots bs last → slot_for p hash (depth + length bs) last ≡ child (id_of b) → IsNodeOf p b next → Leads p hash depth slots (bs ++ b ∷ []) next
 leads-more p hash depth slots [] last b next leads is node =
     let e : depth + 0 ≡ depth = omega arith in
@@ -35,7 +35,7 @@ held-more [] held b all is = (is, tt)
 held-more (c ∷ bs) held b all is = (all.0, held-more bs held b all.1 is)
 
 -- a way through a trie that is held
-pub record Reached (h : List ℕ → List ℕ) (p : TrieShape) (k : List ℕ) (held : List (List ℕ)) (left depth : ℕ) (es : List (List ℕ × Data)) (bs : List (List ℕ)) (last : List TrieSlot) : Type 0 where
+pub record Reached (h : List ℕ → List ℕ) (p : HamtShape) (k : List ℕ) (held : List (List ℕ)) (left depth : ℕ) (es : List (List ℕ × Data)) (bs : List (List ℕ)) (last : List TrieSlot) : Type 0 where
   pub less : ℕ
   pub levels : left ≡ length bs + less
   pub slots : slots_at h p less (depth + length bs) (along h p k (length bs) depth es) ≡ Some last
@@ -43,7 +43,7 @@ pub record Reached (h : List ℕ → List ℕ) (p : TrieShape) (k : List ℕ) (h
   pub below : HoldsBelow h p held (suc less) (depth + length bs) (along h p k (length bs) depth es)
 
 -- the node that a child link leads to
-pub record Child (h : List ℕ → List ℕ) (p : TrieShape) (k : List ℕ) (held : List (List ℕ)) (left depth : ℕ) (es : List (List ℕ × Data)) (id : List ℕ) : Type 0 where
+pub record Child (h : List ℕ → List ℕ) (p : HamtShape) (k : List ℕ) (held : List (List ℕ)) (left depth : ℕ) (es : List (List ℕ × Data)) (id : List ℕ) : Type 0 where
   pub deeper : ℕ
   pub left_is : left ≡ suc deeper
   pub slots : List TrieSlot
@@ -53,7 +53,7 @@ pub record Child (h : List ℕ → List ℕ) (p : TrieShape) (k : List ℕ) (hel
   pub way : way h p k (suc left) depth es ≡ spell (node_data slots) ∷ way h p k left (depth + 1) (part (at_depth h p depth) es (at_depth h p depth k))
   pub below : HoldsBelow h p held left (depth + 1) (part (at_depth h p depth) es (at_depth h p depth k))
 
-pub child-node : (h : List ℕ → List ℕ) (p : TrieShape) (k : List ℕ) (held : List (List ℕ)) (left depth : ℕ) (es : List (List ℕ × Data)) (slots : List TrieSlot) (id : List ℕ)
+pub child-node : (h : List ℕ → List ℕ) (p : HamtShape) (k : List ℕ) (held : List (List ℕ)) (left depth : ℕ) (es : List (List ℕ × Data)) (slots : List TrieSlot) (id : List ℕ)
     → slots_at h p left depth es ≡ Some slots → HoldsBelow h p held (suc left) depth es → slot_for p (h k) depth slots ≡ child id → Child h p k held left depth es id
 child-node h p k held zero depth es slots id is below stands =
     let c = way-child h p k zero depth es slots id is stands in
@@ -79,26 +79,26 @@ pub same_held : (held : List (List ℕ)) (b c : List ℕ) → block_at held (id_
 same_held held b c one two same = let e : Some b ≡ Some c = sym one ∙ ap (block_at held) same ∙ two in cc
 
 -- one block is the node of one list of slots
-pub same_slots : (p : TrieShape) (ss ts : List TrieSlot) (b : List ℕ) → 3 ≤ p.width → IsNodeOf p b ss → IsNodeOf p b ts → ss ≡ ts
+pub same_slots : (p : HamtShape) (ss ts : List TrieSlot) (b : List ℕ) → 3 ≤ p.width → IsNodeOf p b ss → IsNodeOf p b ts → ss ≡ ts
 same_slots p ss ts b wide one two =
     let same : node_data ss ≡ node_data ts = (one_spelling_within (node_data ss) (node_data ts) [] [] one.is.within two.is.within
     (append-nil (spell (node_data ss)) ∙ sym one.is.spelled ∙ two.is.spelled ∙ sym (append-nil (spell (node_data ts))))).0 in
     same_node ss ts (whole_map p.width (length ss) wide one.form.many) (two.form.many ∙ sym one.form.many) same
 
-pub slots-many : (h : List ℕ → List ℕ) (p : TrieShape) (left depth : ℕ) (es : List (List ℕ × Data)) (slots : List TrieSlot) → slots_at h p left depth es ≡ Some slots → length slots ≡ 2 ^ p.width
+pub slots-many : (h : List ℕ → List ℕ) (p : HamtShape) (left depth : ℕ) (es : List (List ℕ × Data)) (slots : List TrieSlot) → slots_at h p left depth es ≡ Some slots → length slots ≡ 2 ^ p.width
 slots-many h p left depth es slots is =
     all_some-length (map (λ i. slot_of p.bucket (node_of h p left (depth + 1)) (part (at_depth h p depth) es i)) (range_with_len 0 (2 ^ p.width))) slots is
     ∙ length-map-range_with_len (λ i. slot_of p.bucket (node_of h p left (depth + 1)) (part (at_depth h p depth) es i)) 0 (2 ^ p.width)
 
 -- a node of the trie that is held is its block
-pub held-node : (h : List ℕ → List ℕ) (p : TrieShape) (held : List (List ℕ)) (left depth : ℕ) (es : List (List ℕ × Data)) (slots : List TrieSlot)
+pub held-node : (h : List ℕ → List ℕ) (p : HamtShape) (held : List (List ℕ)) (left depth : ℕ) (es : List (List ℕ × Data)) (slots : List TrieSlot)
     → 3 ≤ p.width → slots_at h p left depth es ≡ Some slots → IsHeldNode p held (node_data slots) → IsNodeOf p (spell (node_data slots)) slots
 held-node h p held left depth es slots wide is node =
     let many = slots-many h p left depth es slots is in
     let same : node.slots ≡ slots = same_node node.slots slots (whole_map p.width (length node.slots) wide node.block.form.many) (many ∙ sym node.block.form.many) (sym node.is) in
     subst (λ (ss : List TrieSlot). IsNodeOf p (spell (node_data slots)) ss) same node.block
 
-pub leads-way : (h : List ℕ → List ℕ) (p : TrieShape) (k : List ℕ) (held : List (List ℕ)) (left depth : ℕ) (es : List (List ℕ × Data)) (slots : List TrieSlot) (bs : List (List ℕ)) (last : List TrieSlot)
+pub leads-way : (h : List ℕ → List ℕ) (p : HamtShape) (k : List ℕ) (held : List (List ℕ)) (left depth : ℕ) (es : List (List ℕ × Data)) (slots : List TrieSlot) (bs : List (List ℕ)) (last : List TrieSlot)
     → 3 ≤ p.width → slots_at h p left depth es ≡ Some slots → HoldsBelow h p held (suc left) depth es → Leads p (h k) depth slots bs last → AreHeld bs held
     → Reached h p k held left depth es bs last
 leads-way h p k held left depth es slots [] last wide is below leads all =
@@ -129,7 +129,7 @@ leads-way h p k held left depth es slots (b ∷ bs) last wide is below leads all
     }
 
 -- a node among those on the way
-pub record Among (h : List ℕ → List ℕ) (p : TrieShape) (k : List ℕ) (left depth : ℕ) (es : List (List ℕ × Data)) (j : ℕ) (b : List ℕ) : Type 0 where
+pub record Among (h : List ℕ → List ℕ) (p : HamtShape) (k : List ℕ) (left depth : ℕ) (es : List (List ℕ × Data)) (j : ℕ) (b : List ℕ) : Type 0 where
   pub slots : List TrieSlot
   pub node : IsNodeOf p b slots
   pub less : ℕ
@@ -137,7 +137,7 @@ pub record Among (h : List ℕ → List ℕ) (p : TrieShape) (k : List ℕ) (lef
   pub stands : slots_at h p less (depth + (j + 1)) (along h p k (j + 1) depth es) ≡ Some slots
   pub many : p.bucket < length (along h p k (j + 1) depth es)
 
-pub leads-node : (h : List ℕ → List ℕ) (p : TrieShape) (k : List ℕ) (held : List (List ℕ)) (left depth : ℕ) (es : List (List ℕ × Data)) (slots : List TrieSlot) (bs : List (List ℕ)) (last : List TrieSlot) (j : ℕ)
+pub leads-node : (h : List ℕ → List ℕ) (p : HamtShape) (k : List ℕ) (held : List (List ℕ)) (left depth : ℕ) (es : List (List ℕ × Data)) (slots : List TrieSlot) (bs : List (List ℕ)) (last : List TrieSlot) (j : ℕ)
     → 3 ≤ p.width → slots_at h p left depth es ≡ Some slots → HoldsBelow h p held (suc left) depth es → Leads p (h k) depth slots bs last → AreHeld bs held → j < length bs
     → Among h p k left depth es j (get_or bs j [])
 leads-node h p k held left depth es slots [] last j wide is below leads all lt = absurd (omega arith)
@@ -177,7 +177,7 @@ leads-node h p k held left depth es slots (b ∷ bs) last j wide is below leads 
           many = subst (λ (a : ℕ). p.bucket < length (along h p k a depth es)) f r.many;
         }
 
-pub leads-end : (p : TrieShape) (hash : List ℕ) (depth : ℕ) (slots : List TrieSlot) (bs : List (List ℕ)) (last : List TrieSlot) → Leads p hash depth slots bs last → EndsAt p slots bs last
+pub leads-end : (p : HamtShape) (hash : List ℕ) (depth : ℕ) (slots : List TrieSlot) (bs : List (List ℕ)) (last : List TrieSlot) → Leads p hash depth slots bs last → EndsAt p slots bs last
 leads-end p hash depth slots [] last leads = record { root = λ e. leads; node = λ j e. absurd (omega arith) }
 leads-end p hash depth slots (b ∷ []) last leads = record {
   root = λ e. absurd (omega arith);

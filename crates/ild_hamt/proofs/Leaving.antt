@@ -8,13 +8,13 @@ use Rattle.ild_data.specs.ByteOrder.{bytewise, without, IsInOrder}
 use Rattle.ild_data.specs.Data.{Data}
 use Rattle.ild_data.specs.Trie.{TrieSlot, empty, slot_of, node_of}
 use Rattle.ild_data.specs.TrieBlocks.{none_or, block_of}
-use Rattle.ild_data.specs.TrieShape.{TrieShape, trie_levels}
+use Rattle.ild_data.specs.declared.hamt_shape.HamtShape.{HamtShape}
+use Rattle.ild_data.specs.TrieShape.{trie_levels}
 use Rattle.ild_hamt_trie.specs.Collapse.{sized}
 use Rattle.ild_hamt_trie.specs.Way.{along}
 use Rattle.ild_hamt_trie.proofs.Climb.{in_order-along}
 use Rattle.ild_hamt_trie.proofs.Fold.{slot-few}
 use Rattle.ild_hamt_trie.proofs.Parts.{same_by_find, same_key, key_itself, in_order-put, in_order-without, find-put_at, find-without}
-use Rattle.ild_typed.specs.Composed.{usual}
 use Rattle.ild_cbor.specs.declared.node.Node.{Node}
 use Rattle.ild_edges.specs.Store.{Moment}
 use Rattle.ild_bulk.specs.Planned.{PlansSlot, planned, slot_plan}
@@ -39,7 +39,7 @@ use Rattle.ild_hamt_climb.proofs.Upward.{start-put, start-few}
 
 -- ---- the bottom
 
-pub plans-few : (h : List ℕ → List ℕ) (p : TrieShape) (left depth : ℕ) (rows : List (List ℕ × Data)) (o : Option NewHold) (plan : List (List ℕ)) → length rows ≤ p.bucket → slot_seen o ≡ sized p.bucket empty rows
+pub plans-few : (h : List ℕ → List ℕ) (p : HamtShape) (left depth : ℕ) (rows : List (List ℕ × Data)) (o : Option NewHold) (plan : List (List ℕ)) → length rows ≤ p.bucket → slot_seen o ≡ sized p.bucket empty rows
     → PlansSlot h p left depth rows (Ok o) plan plan
 plans-few h p left depth rows o plan few is = (
   ap Some is ∙ sym (slot-few p.bucket (node_of h p left depth) rows empty few),
@@ -59,60 +59,60 @@ put-without k v es order =
     ∙ put-back q k v (eq_by_cmp bytewise q k) (eq_by_cmp bytewise k q) (find bytewise q es) refl refl ∙ sym (find-put_at q k v es))
 
 -- the rows at the end of a trail with the pair
-pub rows-put : (h : List ℕ → List ℕ) (k key : List ℕ) (v : Data) (slots : List TrieSlot) (es others rows : List (List ℕ × Data)) (t : Trail) → IsTrailOf h usual k slots es t
-    → others ≡ without k (along h usual k (length (trail_blocks t) + 1) 0 es) → key ≡ k → rows ≡ put bytewise key v others → rows ≡ put bytewise k v (along h usual k (length (trail_blocks t) + 1) 0 es)
-rows-put h k key v slots es others rows t trail is named puts =
-    puts ∙ (λ i. put bytewise (named i) v (is i)) ∙ put-without k v (along h usual k (length (trail_blocks t) + 1) 0 es) (in_order-along h usual k (length (trail_blocks t) + 1) 0 es trail.root.order)
+pub rows-put : (p : HamtShape) (h : List ℕ → List ℕ) (k key : List ℕ) (v : Data) (slots : List TrieSlot) (es others rows : List (List ℕ × Data)) (t : Trail) → IsTrailOf h p k slots es t
+    → others ≡ without k (along h p k (length (trail_blocks t) + 1) 0 es) → key ≡ k → rows ≡ put bytewise key v others → rows ≡ put bytewise k v (along h p k (length (trail_blocks t) + 1) 0 es)
+rows-put p h k key v slots es others rows t trail is named puts =
+    puts ∙ (λ i. put bytewise (named i) v (is i)) ∙ put-without k v (along h p k (length (trail_blocks t) + 1) 0 es) (in_order-along h p k (length (trail_blocks t) + 1) 0 es trail.root.order)
 
 -- the hashes that the trail keeps are those of the other rows
-pub others-end : (h : List ℕ → List ℕ) (k : List ℕ) (v : Data) (slots : List TrieSlot) (es : List (List ℕ × Data)) (t : Trail) (rows : List (List ℕ × Data)) → IsTrailOf h usual k slots es t
-    → rows ≡ put bytewise k v (along h usual k (length (trail_blocks t) + 1) 0 es) → t.others.items ≡ hashes_of h (without t.key rows)
-others-end h k v slots es t rows trail puts =
-    let gs : List (List ℕ × Data) = along h usual k (length (trail_blocks t) + 1) 0 es in
-    others-put h k t.key v gs rows t.others.items (in_order-along h usual k (length (trail_blocks t) + 1) 0 es trail.root.order) trail.others trail.key puts
+pub others-end : (p : HamtShape) (h : List ℕ → List ℕ) (k : List ℕ) (v : Data) (slots : List TrieSlot) (es : List (List ℕ × Data)) (t : Trail) (rows : List (List ℕ × Data)) → IsTrailOf h p k slots es t
+    → rows ≡ put bytewise k v (along h p k (length (trail_blocks t) + 1) 0 es) → t.others.items ≡ hashes_of h (without t.key rows)
+others-end p h k v slots es t rows trail puts =
+    let gs : List (List ℕ × Data) = along h p k (length (trail_blocks t) + 1) 0 es in
+    others-put h k t.key v gs rows t.others.items (in_order-along h p k (length (trail_blocks t) + 1) 0 es trail.root.order) trail.others trail.key puts
 
 -- what a plan of the end's slot gives
-pub end-state : (h : List ℕ → List ℕ) (k : List ℕ) (v : Data) (slots : List TrieSlot) (es rows : List (List ℕ × Data)) (t : Trail) (o : Option NewHold) (depth : ℕ) (old plan : List (List ℕ)) → IsTrailOf h usual k slots es t
-    → rows ≡ put bytewise k v (along h usual k (length (trail_blocks t) + 1) 0 es) → depth ≡ length (trail_blocks t) + 1 → old ≡ [] → PlansSlot h usual (trie_levels usual - depth) depth rows (Ok o) old plan
-    → ClimbState h usual k es (put bytewise k v es) (trail_blocks t) t.depth (slot_seen o) plan
-end-state h k v slots es rows t o depth old plan trail is deep none plans =
+pub end-state : (p : HamtShape) (h : List ℕ → List ℕ) (k : List ℕ) (v : Data) (slots : List TrieSlot) (es rows : List (List ℕ × Data)) (t : Trail) (o : Option NewHold) (depth : ℕ) (old plan : List (List ℕ)) → IsTrailOf h p k slots es t
+    → rows ≡ put bytewise k v (along h p k (length (trail_blocks t) + 1) 0 es) → depth ≡ length (trail_blocks t) + 1 → old ≡ [] → PlansSlot h p (trie_levels p - depth) depth rows (Ok o) old plan
+    → ClimbState h p k es (put bytewise k v es) (trail_blocks t) t.depth (slot_seen o) plan
+end-state p h k v slots es rows t o depth old plan trail is deep none plans =
     let n : ℕ = length (trail_blocks t) in
-    let there = subst (λ (d : ℕ). PlansSlot h usual (trie_levels usual - d) d rows (Ok o) old plan) deep plans in
+    let there = subst (λ (d : ℕ). PlansSlot h p (trie_levels p - d) d rows (Ok o) old plan) deep plans in
     record {
       deep = trail.depth;
       nodes = trail.nodes;
-      climbed = start-put h usual k v es rows n (slot_seen o) plan trail.root.order trail.ends is there.0 (there.1 ∙ ap (λ xs. xs ++ slot_plan usual.bucket (node_of h usual (trie_levels usual - (n + 1)) (n + 1)) (planned h usual (trie_levels usual - (n + 1)) (n + 1)) rows) none);
+      climbed = start-put h p k v es rows n (slot_seen o) plan trail.root.order trail.ends is there.0 (there.1 ∙ ap (λ xs. xs ++ slot_plan p.bucket (node_of h p (trie_levels p - (n + 1)) (n + 1)) (planned h p (trie_levels p - (n + 1)) (n + 1)) rows) none);
     }
 
 -- and where it has none
-pub end-stopped : (h : List ℕ → List ℕ) (k : List ℕ) (v : Data) (slots : List TrieSlot) (es rows fs : List (List ℕ × Data)) (t : Trail) (e : HamtFault) (depth : ℕ) (old plan : List (List ℕ)) (m : Moment) → IsTrailOf h usual k slots es t
-    → rows ≡ put bytewise k v (along h usual k (length (trail_blocks t) + 1) 0 es) → depth ≡ length (trail_blocks t) + 1 → is_some (node_of h usual (trie_levels usual) 0 (put bytewise k v es)) ≡ true
-    → PlansSlot h usual (trie_levels usual - depth) depth rows (Err e) old plan → Rewrites h usual k fs m (Err e) m
-end-stopped h k v slots es rows fs t F.Exhausted depth old plan m trail is deep room plans =
+pub end-stopped : (p : HamtShape) (h : List ℕ → List ℕ) (k : List ℕ) (v : Data) (slots : List TrieSlot) (es rows fs : List (List ℕ × Data)) (t : Trail) (e : HamtFault) (depth : ℕ) (old plan : List (List ℕ)) (m : Moment) → IsTrailOf h p k slots es t
+    → rows ≡ put bytewise k v (along h p k (length (trail_blocks t) + 1) 0 es) → depth ≡ length (trail_blocks t) + 1 → is_some (node_of h p (trie_levels p) 0 (put bytewise k v es)) ≡ true
+    → PlansSlot h p (trie_levels p - depth) depth rows (Err e) old plan → Rewrites h p k fs m (Err e) m
+end-stopped p h k v slots es rows fs t F.Exhausted depth old plan m trail is deep room plans =
     let n : ℕ = length (trail_blocks t) in
-    let none : slot_of usual.bucket (node_of h usual (trie_levels usual - (n + 1)) (n + 1)) (put bytewise k v (along h usual k (n + 1) 0 es)) ≡ None =
-    (λ i. slot_of usual.bucket (node_of h usual (trie_levels usual - (sym deep i)) (sym deep i)) (sym is i)) ∙ plans in
-    let full : t.exhausted ≡ false = full-is h usual k slots es v t trail ∙ ap not room in
-    absurd (false≢true (sym (ap is_some none) ∙ has-room h usual k slots es v t trail full))
-end-stopped h k v slots es rows fs t F.Memory depth old plan m trail is deep room plans = inl refl
-end-stopped h k v slots es rows fs t F.NoKey depth old plan m trail is deep room plans = absurd plans
-end-stopped h k v slots es rows fs t F.Size depth old plan m trail is deep room plans = absurd plans
-end-stopped h k v slots es rows fs t (F.Block id why) depth old plan m trail is deep room plans = absurd plans
-end-stopped h k v slots es rows fs t F.Store depth old plan m trail is deep room plans = absurd plans
-end-stopped h k v slots es rows fs t (F.Clash id kept new) depth old plan m trail is deep room plans = absurd plans
+    let none : slot_of p.bucket (node_of h p (trie_levels p - (n + 1)) (n + 1)) (put bytewise k v (along h p k (n + 1) 0 es)) ≡ None =
+    (λ i. slot_of p.bucket (node_of h p (trie_levels p - (sym deep i)) (sym deep i)) (sym is i)) ∙ plans in
+    let full : t.exhausted ≡ false = full-is h p k slots es v t trail ∙ ap not room in
+    absurd (false≢true (sym (ap is_some none) ∙ has-room h p k slots es v t trail full))
+end-stopped p h k v slots es rows fs t F.Memory depth old plan m trail is deep room plans = inl refl
+end-stopped p h k v slots es rows fs t F.NoKey depth old plan m trail is deep room plans = absurd plans
+end-stopped p h k v slots es rows fs t F.Size depth old plan m trail is deep room plans = absurd plans
+end-stopped p h k v slots es rows fs t (F.Block id why) depth old plan m trail is deep room plans = absurd plans
+end-stopped p h k v slots es rows fs t F.Store depth old plan m trail is deep room plans = absurd plans
+end-stopped p h k v slots es rows fs t (F.Clash id kept new) depth old plan m trail is deep room plans = absurd plans
 
 -- the bottom of a removal
-pub rest-state : (h : List ℕ → List ℕ) (k : List ℕ) (slots : List TrieSlot) (es rows : List (List ℕ × Data)) (t : Trail) (s : TrieSlot) (plan : List (List ℕ)) → IsTrailOf h usual k slots es t
-    → rows ≡ without k (along h usual k (length (trail_blocks t) + 1) 0 es) → (length rows ≤ usual.bucket → s ≡ sized usual.bucket empty rows) → plan ≡ []
-    → ClimbState h usual k es (without k es) (trail_blocks t) t.depth s plan
-rest-state h k slots es rows t s plan trail is slot none =
+pub rest-state : (p : HamtShape) (h : List ℕ → List ℕ) (k : List ℕ) (slots : List TrieSlot) (es rows : List (List ℕ × Data)) (t : Trail) (s : TrieSlot) (plan : List (List ℕ)) → IsTrailOf h p k slots es t
+    → rows ≡ without k (along h p k (length (trail_blocks t) + 1) 0 es) → (length rows ≤ p.bucket → s ≡ sized p.bucket empty rows) → plan ≡ []
+    → ClimbState h p k es (without k es) (trail_blocks t) t.depth s plan
+rest-state p h k slots es rows t s plan trail is slot none =
     let n : ℕ = length (trail_blocks t) in
-    let gs : List (List ℕ × Data) = along h usual k (n + 1) 0 es in
-    let few : length rows ≤ usual.bucket = (let le = without-few k gs in omega (arith, ap length is, le, trail.ends)) in
+    let gs : List (List ℕ × Data) = along h p k (n + 1) 0 es in
+    let few : length rows ≤ p.bucket = (let le = without-few k gs in omega (arith, ap length is, le, trail.ends)) in
     record {
       deep = trail.depth;
       nodes = trail.nodes;
-      climbed = start-few h usual k (without k es) rows n s plan (is ∙ sym (along-without h usual k (n + 1) 0 es trail.root.order)) few (slot few) none;
+      climbed = start-few h p k (without k es) rows n s plan (is ∙ sym (along-without h p k (n + 1) 0 es trail.root.order)) few (slot few) none;
     }
   where
     without-few : (k : List ℕ) (es : List (List ℕ × Data)) → length (without k es) ≤ length es
@@ -123,12 +123,12 @@ rest-state h k slots es rows t s plan trail is slot none =
 
 -- ---- what was read at the end
 
-pub others-bucket : {E : Type 0} (r : Result (List (List ℕ × Data)) E) (h : List ℕ → List ℕ) (k key : List ℕ) (slots : List TrieSlot) (es : List (List ℕ × Data)) (t : Trail) (b : Bucket) → IsTrailOf h usual k slots es t → key ≡ k
-    → Shows (S.Bucket b) (sized usual.bucket empty (along h usual k (length (trail_blocks t) + 1) 0 es)) → ((gs : List (List ℕ × Data)) → HasEntries b gs → IsInOrder gs → IfOk r (λ rows. rows ≡ without key gs))
-    → IfOk r (λ rows. rows ≡ without k (along h usual k (length (trail_blocks t) + 1) 0 es))
-others-bucket r h k key slots es t b trail named shows reads =
-    let gs : List (List ℕ × Data) = along h usual k (length (trail_blocks t) + 1) 0 es in
-    subst (λ (q : List ℕ). IfOk r (λ rows. rows ≡ without q gs)) named (reads gs (end-bucket usual.bucket gs b trail.ends shows) (in_order-along h usual k (length (trail_blocks t) + 1) 0 es trail.root.order))
+pub others-bucket : {E : Type 0} (p : HamtShape) (r : Result (List (List ℕ × Data)) E) (h : List ℕ → List ℕ) (k key : List ℕ) (slots : List TrieSlot) (es : List (List ℕ × Data)) (t : Trail) (b : Bucket) → IsTrailOf h p k slots es t → key ≡ k
+    → Shows (S.Bucket b) (sized p.bucket empty (along h p k (length (trail_blocks t) + 1) 0 es)) → ((gs : List (List ℕ × Data)) → HasEntries b gs → IsInOrder gs → IfOk r (λ rows. rows ≡ without key gs))
+    → IfOk r (λ rows. rows ≡ without k (along h p k (length (trail_blocks t) + 1) 0 es))
+others-bucket p r h k key slots es t b trail named shows reads =
+    let gs : List (List ℕ × Data) = along h p k (length (trail_blocks t) + 1) 0 es in
+    subst (λ (q : List ℕ). IfOk r (λ rows. rows ≡ without q gs)) named (reads gs (end-bucket p.bucket gs b trail.ends shows) (in_order-along h p k (length (trail_blocks t) + 1) 0 es trail.root.order))
 
 pub none-without : (k : List ℕ) (es : List (List ℕ × Data)) → es ≡ [] → [] ≡ without k es
 none-without k es none = ap (without k) (sym none)
@@ -144,23 +144,23 @@ pub value-none : (whole : Node) (es : List (List ℕ × Data)) (key : List ℕ) 
 value-none whole es key None is = refl
 value-none whole es key (Some d) is = absurd is
 
-pub bucket-found : (h : List ℕ → List ℕ) (k key : List ℕ) (slots : List TrieSlot) (es : List (List ℕ × Data)) (t : Trail) (b : Bucket) (n : Node) → IsTrailOf h usual k slots es t → key ≡ k
-    → Shows (S.Bucket b) (sized usual.bucket empty (along h usual k (length (trail_blocks t) + 1) 0 es)) → ((gs : List (List ℕ × Data)) → HasEntries b gs → ValueIn (bucket_node b) gs key (find bytewise key gs) (Some n))
-    → IsSome (find bytewise k (along h usual k (length (trail_blocks t) + 1) 0 es))
-bucket-found h k key slots es t b n trail named shows finds =
-    let gs : List (List ℕ × Data) = along h usual k (length (trail_blocks t) + 1) 0 es in
-    subst (λ (q : List ℕ). IsSome (find bytewise q gs)) named (value-some (bucket_node b) gs key (find bytewise key gs) n (finds gs (end-bucket usual.bucket gs b trail.ends shows)))
+pub bucket-found : (p : HamtShape) (h : List ℕ → List ℕ) (k key : List ℕ) (slots : List TrieSlot) (es : List (List ℕ × Data)) (t : Trail) (b : Bucket) (n : Node) → IsTrailOf h p k slots es t → key ≡ k
+    → Shows (S.Bucket b) (sized p.bucket empty (along h p k (length (trail_blocks t) + 1) 0 es)) → ((gs : List (List ℕ × Data)) → HasEntries b gs → ValueIn (bucket_node b) gs key (find bytewise key gs) (Some n))
+    → IsSome (find bytewise k (along h p k (length (trail_blocks t) + 1) 0 es))
+bucket-found p h k key slots es t b n trail named shows finds =
+    let gs : List (List ℕ × Data) = along h p k (length (trail_blocks t) + 1) 0 es in
+    subst (λ (q : List ℕ). IsSome (find bytewise q gs)) named (value-some (bucket_node b) gs key (find bytewise key gs) n (finds gs (end-bucket p.bucket gs b trail.ends shows)))
 
-pub bucket-missing : (h : List ℕ → List ℕ) (k key : List ℕ) (slots : List TrieSlot) (es : List (List ℕ × Data)) (t : Trail) (b : Bucket) → IsTrailOf h usual k slots es t → key ≡ k
-    → Shows (S.Bucket b) (sized usual.bucket empty (along h usual k (length (trail_blocks t) + 1) 0 es)) → ((gs : List (List ℕ × Data)) → HasEntries b gs → ValueIn (bucket_node b) gs key (find bytewise key gs) None)
-    → find bytewise k (along h usual k (length (trail_blocks t) + 1) 0 es) ≡ None
-bucket-missing h k key slots es t b trail named shows finds =
-    let gs : List (List ℕ × Data) = along h usual k (length (trail_blocks t) + 1) 0 es in
-    subst (λ (q : List ℕ). find bytewise q gs ≡ None) named (value-none (bucket_node b) gs key (find bytewise key gs) (finds gs (end-bucket usual.bucket gs b trail.ends shows)))
+pub bucket-missing : (p : HamtShape) (h : List ℕ → List ℕ) (k key : List ℕ) (slots : List TrieSlot) (es : List (List ℕ × Data)) (t : Trail) (b : Bucket) → IsTrailOf h p k slots es t → key ≡ k
+    → Shows (S.Bucket b) (sized p.bucket empty (along h p k (length (trail_blocks t) + 1) 0 es)) → ((gs : List (List ℕ × Data)) → HasEntries b gs → ValueIn (bucket_node b) gs key (find bytewise key gs) None)
+    → find bytewise k (along h p k (length (trail_blocks t) + 1) 0 es) ≡ None
+bucket-missing p h k key slots es t b trail named shows finds =
+    let gs : List (List ℕ × Data) = along h p k (length (trail_blocks t) + 1) 0 es in
+    subst (λ (q : List ℕ). find bytewise q gs ≡ None) named (value-none (bucket_node b) gs key (find bytewise key gs) (finds gs (end-bucket p.bucket gs b trail.ends shows)))
 
 -- ---- the answer of a removal
 
-pub removes-some : (h : List ℕ → List ℕ) (p : TrieShape) (k : List ℕ) (es : List (List ℕ × Data)) (m : Moment) (r : Result (List ℕ) HamtFault) (n : Moment) → IsSome (find bytewise k es) → Rewrites h p k (without k es) m r n → Removes h p k es m r n
+pub removes-some : (h : List ℕ → List ℕ) (p : HamtShape) (k : List ℕ) (es : List (List ℕ × Data)) (m : Moment) (r : Result (List ℕ) HamtFault) (n : Moment) → IsSome (find bytewise k es) → Rewrites h p k (without k es) m r n → Removes h p k es m r n
 removes-some h p k es m (Ok root) n some is = (some, is)
 removes-some h p k es m (Err F.NoKey) n some is = absurd is
 removes-some h p k es m (Err F.Exhausted) n some is = (some, is)

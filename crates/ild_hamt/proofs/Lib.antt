@@ -10,6 +10,7 @@ pub mod Leading
 pub mod Leaving
 pub mod Planned
 pub mod Roomy
+pub mod Shaped
 pub mod Sound
 pub mod Sounded
 pub mod Sparing

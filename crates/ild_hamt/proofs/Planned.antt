@@ -8,7 +8,8 @@ use Rattle.std.proofs.lemmas.Bool.{or_parts}
 use Rattle.std.proofs.lemmas.List.{length-reverse}
 use Rattle.ild_data.specs.ByteOrder.{bytewise, without, IsInOrder}
 use Rattle.ild_data.specs.Data.{Data}
-use Rattle.ild_data.specs.TrieShape.{TrieShape, index, trie_levels}
+use Rattle.ild_data.specs.declared.hamt_shape.HamtShape.{HamtShape}
+use Rattle.ild_data.specs.TrieShape.{index, trie_levels}
 use Rattle.ild_data.specs.Trie.{TrieSlot, empty, bucket, child, bucket_entries, part, slot_of, node_of, at_depth}
 use Rattle.ild_data.specs.TrieBlocks.{none_or, block_of, node_and_beneath}
 use Rattle.ild_edges.specs.Store.{Moment}
@@ -18,7 +19,6 @@ use Rattle.ild_hamt_trie.proofs.Node.{few-node, is_some-slot, no_node, set-exhau
 use Rattle.ild_hamt_trie.proofs.Parts.{total}
 use Rattle.ild_hamt_trie.proofs.Way.{way_is, find-along}
 use Rattle.ild_typed.proofs.TrieTells.{slot_way}
-use Rattle.ild_typed.specs.Composed.{usual}
 use Rattle.ild_typed.specs.Node.{IsSlot}
 use Rattle.ild_cbor.specs.declared.node.Node.{Node}
 use Rattle.ild_node.specs.NewSlots.{slot_seen}
@@ -53,63 +53,63 @@ all-get P [] i all is = is
 all-get P (s ∷ slots) zero all is = all.0
 all-get P (s ∷ slots) (suc i) all is = all-get P slots i all.1 is
 
-leads-node : (p : TrieShape) (hash : List ℕ) (depth : ℕ) (slots : List TrieSlot) (bs : List (List ℕ)) (last : List TrieSlot) → IsNode p slots → Leads p hash depth slots bs last → IsNode p last
+leads-node : (p : HamtShape) (hash : List ℕ) (depth : ℕ) (slots : List TrieSlot) (bs : List (List ℕ)) (last : List TrieSlot) → IsNode p slots → Leads p hash depth slots bs last → IsNode p last
 leads-node p hash depth slots [] last form leads = subst (λ (ss : List TrieSlot). IsNode p ss) leads form
 leads-node p hash depth slots (b ∷ bs) last form leads = leads-node p hash (depth + 1) leads.0 bs last leads.2.form leads.3
 
-end-form : (root : NodeView) (t : Trail) (h : List ℕ → List ℕ) (k : List ℕ) (slots last : List TrieSlot) → IsTrailAlong root t h k slots last → IsSlot usual (slot_for usual (h k) (length (trail_blocks t)) last)
-end-form root t h k slots last along =
-    all-get (IsSlot usual) last (index usual (h k) (length (trail_blocks t))) (leads-node usual (h k) 0 slots (trail_blocks t) last along.has.form along.leads).each tt
+end-form : (p : HamtShape) (root : NodeView) (t : Trail) (h : List ℕ → List ℕ) (k : List ℕ) (slots last : List TrieSlot) → IsTrailAlong p root t h k slots last → IsSlot p (slot_for p (h k) (length (trail_blocks t)) last)
+end-form p root t h k slots last along =
+    all-get (IsSlot p) last (index p (h k) (length (trail_blocks t))) (leads-node p (h k) 0 slots (trail_blocks t) last along.has.form along.leads).each tt
 
-ordered : (s : TrieSlot) → IsSlot usual s → IsInOrder (bucket_entries s)
-ordered empty form = tt
-ordered (bucket es) form = form.0
-ordered (child id) form = tt
+ordered : (p : HamtShape) (s : TrieSlot) → IsSlot p s → IsInOrder (bucket_entries s)
+ordered p empty form = tt
+ordered p (bucket es) form = form.0
+ordered p (child id) form = tt
 
-small : (s : TrieSlot) → IsSlot usual s → length (bucket_entries s) ≤ usual.bucket
-small empty form = omega arith
-small (bucket es) form = form.2
-small (child id) form = omega arith
+small : (p : HamtShape) (s : TrieSlot) → IsSlot p s → length (bucket_entries s) ≤ p.bucket
+small p empty form = omega arith
+small p (bucket es) form = form.2
+small p (child id) form = omega arith
 
-pub end-order : (root : NodeView) (t : Trail) (h : List ℕ → List ℕ) (k : List ℕ) (slots last : List TrieSlot) → IsTrailAlong root t h k slots last → IsInOrder (entries_at_end h k (trail_blocks t) last)
-end-order root t h k slots last along = ordered _ (end-form root t h k slots last along)
+pub end-order : (p : HamtShape) (root : NodeView) (t : Trail) (h : List ℕ → List ℕ) (k : List ℕ) (slots last : List TrieSlot) → IsTrailAlong p root t h k slots last → IsInOrder (entries_at_end h p k (trail_blocks t) last)
+end-order p root t h k slots last along = ordered p _ (end-form p root t h k slots last along)
 
-pub end-small : (root : NodeView) (t : Trail) (h : List ℕ → List ℕ) (k : List ℕ) (slots last : List TrieSlot) → IsTrailAlong root t h k slots last → length (entries_at_end h k (trail_blocks t) last) ≤ usual.bucket
-end-small root t h k slots last along = small _ (end-form root t h k slots last along)
+pub end-small : (p : HamtShape) (root : NodeView) (t : Trail) (h : List ℕ → List ℕ) (k : List ℕ) (slots last : List TrieSlot) → IsTrailAlong p root t h k slots last → length (entries_at_end h p k (trail_blocks t) last) ≤ p.bucket
+end-small p root t h k slots last along = small p _ (end-form p root t h k slots last along)
 
 -- a descent gives such a trail
-pub descended-along : (root : NodeView) (h : List ℕ → List ℕ) (k : List ℕ) (slots : List TrieSlot) (m : Moment) (t : Trail) (n : Moment) → HasSlots usual root slots → Descends h usual k slots m (Ok t) n
-    → (last : List TrieSlot) × IsTrailAlong root t h k slots last
-descended-along root h k slots m t n has descends =
+pub descended-along : (p : HamtShape) (root : NodeView) (h : List ℕ → List ℕ) (k : List ℕ) (slots : List TrieSlot) (m : Moment) (t : Trail) (n : Moment) → HasSlots p root slots → Descends h p k slots m (Ok t) n
+    → (last : List TrieSlot) × IsTrailAlong p root t h k slots last
+descended-along p root h k slots m t n has descends =
     let same : trail_blocks t ≡ descends.bs = descends.answer.blocks in (
       descends.last,
       record {
         has = has;
-        leads = subst (λ (bs : List (List ℕ)). Leads usual (h k) 0 slots bs descends.last) (sym same) descends.reads.leads;
-        short = subst (λ (bs : List (List ℕ)). length bs < trie_levels usual) (sym same) descends.reads.short;
-        trail = subst (λ (bs : List (List ℕ)). IsTrail h usual k bs descends.last t) (sym same) descends.answer;
+        leads = subst (λ (bs : List (List ℕ)). Leads p (h k) 0 slots bs descends.last) (sym same) descends.reads.leads;
+        short = subst (λ (bs : List (List ℕ)). length bs < trie_levels p) (sym same) descends.reads.short;
+        trail = subst (λ (bs : List (List ℕ)). IsTrail h p k bs descends.last t) (sym same) descends.answer;
       },
     )
 
 -- what was read there
-pub along-read : (root : NodeView) (t : Trail) (h : List ℕ → List ℕ) (k : List ℕ) (slots last : List TrieSlot) (blocks : List (List ℕ)) (x : NodeSlot) → IsTrailAlong root t h k slots last → blocks ≡ trail_blocks t
-    → ((ss there : List TrieSlot) → HasSlots usual root ss → EndsAt usual ss blocks there → t.depth ≡ length blocks → t.depth < trie_levels usual → Shows x (slot_for usual t.hash t.depth there))
-    → Shows x (slot_for usual (h k) (length (trail_blocks t)) last)
-along-read root t h k slots last blocks x along same reads =
-    let at = reads slots last along.has (subst (λ (bs : List (List ℕ)). EndsAt usual slots bs last) (sym same) (leads-end usual (h k) 0 slots (trail_blocks t) last along.leads)) (along.trail.depth ∙ ap length (sym same))
+pub along-read : (p : HamtShape) (root : NodeView) (t : Trail) (h : List ℕ → List ℕ) (k : List ℕ) (slots last : List TrieSlot) (blocks : List (List ℕ)) (x : NodeSlot) → IsTrailAlong p root t h k slots last → blocks ≡ trail_blocks t
+    → ((ss there : List TrieSlot) → HasSlots p root ss → EndsAt p ss blocks there → t.depth ≡ length blocks → t.depth < trie_levels p → Shows x (slot_for p t.hash t.depth there))
+    → Shows x (slot_for p (h k) (length (trail_blocks t)) last)
+along-read p root t h k slots last blocks x along same reads =
+    let at = reads slots last along.has (subst (λ (bs : List (List ℕ)). EndsAt p slots bs last) (sym same) (leads-end p (h k) 0 slots (trail_blocks t) last along.leads)) (along.trail.depth ∙ ap length (sym same))
     (let lt = along.short in omega (arith, along.trail.depth)) in
-    subst (λ (s : TrieSlot). Shows x s) (λ i. slot_for usual (along.trail.hash i) (along.trail.depth i) last) at
+    subst (λ (s : TrieSlot). Shows x s) (λ i. slot_for p (along.trail.hash i) (along.trail.depth i) last) at
 
-pub others-read : {E : Type 0} (r : Result (List (List ℕ × Data)) E) (k key : List ℕ) (b : Bucket) (s : TrieSlot) → IsSlot usual s → key ≡ k → Shows (S.Bucket b) s
+pub others-read : {E : Type 0} (p : HamtShape) (r : Result (List (List ℕ × Data)) E) (k key : List ℕ) (b : Bucket) (s : TrieSlot) → IsSlot p s → key ≡ k → Shows (S.Bucket b) s
     → ((gs : List (List ℕ × Data)) → HasEntries b gs → IsInOrder gs → IfOk r (λ rows. rows ≡ without key gs)) → IfOk r (λ rows. rows ≡ without k (bucket_entries s))
-others-read r k key b empty form named shows reads = absurd shows
-others-read r k key b (bucket es) form named shows reads = subst (λ (q : List ℕ). IfOk r (λ rows. rows ≡ without q es)) named (reads es shows form.0)
-others-read r k key b (child id) form named shows reads = absurd shows
+others-read p r k key b empty form named shows reads = absurd shows
+others-read p r k key b (bucket es) form named shows reads = subst (λ (q : List ℕ). IfOk r (λ rows. rows ≡ without q es)) named (reads es shows form.0)
+others-read p r k key b (child id) form named shows reads = absurd shows
 
-pub along-others : {E : Type 0} (r : Result (List (List ℕ × Data)) E) (root : NodeView) (t : Trail) (h : List ℕ → List ℕ) (k key : List ℕ) (slots last : List TrieSlot) (b : Bucket) → IsTrailAlong root t h k slots last → key ≡ k
-    → Shows (S.Bucket b) (slot_for usual (h k) (length (trail_blocks t)) last) → ((gs : List (List ℕ × Data)) → HasEntries b gs → IsInOrder gs → IfOk r (λ rows. rows ≡ without key gs))
-    → IfOk r (λ rows. rows ≡ without k (entries_at_end h k (trail_blocks t) last))
-along-others r root t h k key slots last b along named shows reads = others-read r k key b _ (end-form root t h k slots last along) named shows reads
+pub along-others : {E : Type 0} (p : HamtShape) (r : Result (List (List ℕ × Data)) E) (root : NodeView) (t : Trail) (h : List ℕ → List ℕ) (k key : List ℕ) (slots last : List TrieSlot) (b : Bucket) → IsTrailAlong p root t h k slots last → key ≡ k
+    → Shows (S.Bucket b) (slot_for p (h k) (length (trail_blocks t)) last) → ((gs : List (List ℕ × Data)) → HasEntries b gs → IsInOrder gs → IfOk r (λ rows. rows ≡ without key gs))
+    → IfOk r (λ rows. rows ≡ without k (entries_at_end h p k (trail_blocks t) last))
+along-others p r root t h k key slots last b along named shows reads = others-read p r k key b _ (end-form p root t h k slots last along) named shows reads
 
 pub empty-entries : (s : TrieSlot) → Shows S.Empty s → [] ≡ bucket_entries s
 empty-entries empty shows = refl
@@ -147,7 +147,7 @@ nodes-of : (before bs : List (List ℕ)) → Follows before bs → AllByRecursio
 nodes-of before [] follows = tt
 nodes-of before (b ∷ bs) follows = (record { slots = follows.0.slots; spelled = follows.0.is }, nodes-of (before ++ b ∷ []) bs follows.1)
 
-none-at : (h : List ℕ → List ℕ) (p : TrieShape) (k : List ℕ) (depth : ℕ) (es : List (List ℕ × Data)) → way h p k zero depth es ≡ []
+none-at : (h : List ℕ → List ℕ) (p : HamtShape) (k : List ℕ) (depth : ℕ) (es : List (List ℕ × Data)) → way h p k zero depth es ≡ []
 unfolding way
 none-at h p k depth es = refl
 
@@ -155,7 +155,7 @@ one-more : (o : Option Data) (ws : List (List ℕ)) (n : ℕ) → length ws ≤ 
 one-more None ws n le = omega (arith, le)
 one-more (Some d) ws n le = omega (arith, le)
 
-chain-length : (h : List ℕ → List ℕ) (p : TrieShape) (k : List ℕ) (left depth : ℕ) (gs : List (List ℕ × Data)) → length (node_and_beneath p.bucket (node_of h p left depth) (way h p k left depth) gs) ≤ left
+chain-length : (h : List ℕ → List ℕ) (p : HamtShape) (k : List ℕ) (left depth : ℕ) (gs : List (List ℕ × Data)) → length (node_and_beneath p.bucket (node_of h p left depth) (way h p k left depth) gs) ≤ left
 chain-length h p k zero depth gs = by (nat_le (length gs) p.bucket)
   where
     by : (b : Bool) → length (none_or b (λ fs. block_of (node_of h p zero depth fs) ++ way h p k zero depth fs) gs) ≤ zero
@@ -174,47 +174,47 @@ pub record BegunAt (left : ℕ) (s : TrieSlot) (plan : List (List ℕ)) : Type 0
   pub few : length plan ≤ left
   pub planned : (held : List (List ℕ)) → IsPlanned held s plan
 
-pub begun-at : (h : List ℕ → List ℕ) (k : List ℕ) (v : Data) (left depth : ℕ) (gs rows : List (List ℕ × Data)) (o : Option NewHold) (old plan : List (List ℕ)) → IsInOrder gs → length gs ≤ usual.bucket
-    → rows ≡ put bytewise k v gs → old ≡ [] → PlansSlot h usual left depth rows (Ok o) old plan → BegunAt left (slot_seen o) plan
-begun-at h k v left depth gs rows o old plan order small same none plans =
-    let below = node_of h usual left depth in
-    let beneath = planned h usual left depth in
-    let is : plan ≡ slot_plan usual.bucket below beneath rows = plans.1 ∙ ap (λ xs. xs ++ slot_plan usual.bucket below beneath rows) none in
-    let follows : Follows [] (slot_plan usual.bucket below beneath rows) =
-    follows_slot (nat_le (length rows) usual.bucket) below beneath rows [] (plan-follows h usual left depth rows []) (λ node there. node-over h usual left depth rows node [] there) in
-    let chain : slot_plan usual.bucket below beneath (put bytewise k v gs) ≡ reverse (node_and_beneath usual.bucket below (way h usual k left depth) (put bytewise k v gs)) =
-    slot-chain h usual k left depth (put bytewise k v gs) (let le = put_few k v gs order in omega (arith, le, small)) (put_found k v gs) in
-    let long = chain-length h usual k left depth (put bytewise k v gs) in
+pub begun-at : (p : HamtShape) (h : List ℕ → List ℕ) (k : List ℕ) (v : Data) (left depth : ℕ) (gs rows : List (List ℕ × Data)) (o : Option NewHold) (old plan : List (List ℕ)) → IsInOrder gs → length gs ≤ p.bucket
+    → rows ≡ put bytewise k v gs → old ≡ [] → PlansSlot h p left depth rows (Ok o) old plan → BegunAt left (slot_seen o) plan
+begun-at p h k v left depth gs rows o old plan order small same none plans =
+    let below = node_of h p left depth in
+    let beneath = planned h p left depth in
+    let is : plan ≡ slot_plan p.bucket below beneath rows = plans.1 ∙ ap (λ xs. xs ++ slot_plan p.bucket below beneath rows) none in
+    let follows : Follows [] (slot_plan p.bucket below beneath rows) =
+    follows_slot (nat_le (length rows) p.bucket) below beneath rows [] (plan-follows h p left depth rows []) (λ node there. node-over h p left depth rows node [] there) in
+    let chain : slot_plan p.bucket below beneath (put bytewise k v gs) ≡ reverse (node_and_beneath p.bucket below (way h p k left depth) (put bytewise k v gs)) =
+    slot-chain h p k left depth (put bytewise k v gs) (let le = put_few k v gs order in omega (arith, le, small)) (put_found k v gs) in
+    let long = chain-length h p k left depth (put bytewise k v gs) in
     subst (λ (bs : List (List ℕ)). BegunAt left (slot_seen o) bs) (sym is) (record {
       nodes = nodes-of [] _ follows;
-      few = omega (arith, long, ap length (ap (slot_plan usual.bucket below beneath) same ∙ chain) ∙ length-reverse (node_and_beneath usual.bucket below (way h usual k left depth) (put bytewise k v gs)));
+      few = omega (arith, long, ap length (ap (slot_plan p.bucket below beneath) same ∙ chain) ∙ length-reverse (node_and_beneath p.bucket below (way h p k left depth) (put bytewise k v gs)));
       planned = λ held. record {
         rises = rising-of held [] _ follows;
         link = child-more _ _ (slot_seen o) (λ id among. inr among)
-            (child_of usual.bucket below beneath rows (slot_seen o) (slot_plan usual.bucket below beneath rows) (λ b among. among) (slot_way usual.bucket below rows (slot_seen o) (sym plans.0)));
+            (child_of p.bucket below beneath rows (slot_seen o) (slot_plan p.bucket below beneath rows) (λ b among. among) (slot_way p.bucket below rows (slot_seen o) (sym plans.0)));
       };
     })
 
 -- ---- no place
 
-full-most : (h : List ℕ → List ℕ) (k : List ℕ) (v : Data) (left depth : ℕ) (gs rows : List (List ℕ × Data)) → IsInOrder gs → length gs ≤ usual.bucket → rows ≡ put bytewise k v gs
-    → slot_of usual.bucket (node_of h usual left depth) rows ≡ None → nat_le (length (put bytewise k v (along h usual k left depth gs))) usual.bucket ≡ false
-full-most h k v zero depth gs rows order small same none =
-    let parts = or_parts (nat_le (length rows) usual.bucket) (is_some (node_of h usual zero depth rows)) (sym (is_some-slot usual.bucket (node_of h usual zero depth) rows) ∙ ap is_some none) in
-    ap (λ xs. nat_le (length xs) usual.bucket) (sym same) ∙ parts.0
-full-most h k v (suc left) depth gs rows order small same none =
-    let parts = or_parts (nat_le (length rows) usual.bucket) (is_some (node_of h usual (suc left) depth rows)) (sym (is_some-slot usual.bucket (node_of h usual (suc left) depth) rows) ∙ ap is_some none) in
-    sym (set-exhausts h usual left depth gs k v order (few-node h usual left depth gs small)) ∙ ap (λ xs. is_some (node_of h usual (suc left) depth xs)) (sym same) ∙ parts.1
+full-most : (p : HamtShape) (h : List ℕ → List ℕ) (k : List ℕ) (v : Data) (left depth : ℕ) (gs rows : List (List ℕ × Data)) → IsInOrder gs → length gs ≤ p.bucket → rows ≡ put bytewise k v gs
+    → slot_of p.bucket (node_of h p left depth) rows ≡ None → nat_le (length (put bytewise k v (along h p k left depth gs))) p.bucket ≡ false
+full-most p h k v zero depth gs rows order small same none =
+    let parts = or_parts (nat_le (length rows) p.bucket) (is_some (node_of h p zero depth rows)) (sym (is_some-slot p.bucket (node_of h p zero depth) rows) ∙ ap is_some none) in
+    ap (λ xs. nat_le (length xs) p.bucket) (sym same) ∙ parts.0
+full-most p h k v (suc left) depth gs rows order small same none =
+    let parts = or_parts (nat_le (length rows) p.bucket) (is_some (node_of h p (suc left) depth rows)) (sym (is_some-slot p.bucket (node_of h p (suc left) depth) rows) ∙ ap is_some none) in
+    sym (set-exhausts h p left depth gs k v order (few-node h p left depth gs small)) ∙ ap (λ xs. is_some (node_of h p (suc left) depth xs)) (sym same) ∙ parts.1
 
-pub full-at-end : (h : List ℕ → List ℕ) (k : List ℕ) (v : Data) (bs : List (List ℕ)) (last : List TrieSlot) (depth : ℕ) (rows : List (List ℕ × Data)) → IsInOrder (entries_at_end h k bs last) → length (entries_at_end h k bs last) ≤ usual.bucket
-    → depth ≡ length bs + 1 → rows ≡ put bytewise k v (entries_at_end h k bs last) → slot_of usual.bucket (node_of h usual (trie_levels usual - depth) depth) rows ≡ None → is_full_at_end h k bs last ≡ true
-full-at-end h k v bs last depth rows order small deep same none =
+pub full-at-end : (p : HamtShape) (h : List ℕ → List ℕ) (k : List ℕ) (v : Data) (bs : List (List ℕ)) (last : List TrieSlot) (depth : ℕ) (rows : List (List ℕ × Data)) → IsInOrder (entries_at_end h p k bs last) → length (entries_at_end h p k bs last) ≤ p.bucket
+    → depth ≡ length bs + 1 → rows ≡ put bytewise k v (entries_at_end h p k bs last) → slot_of p.bucket (node_of h p (trie_levels p - depth) depth) rows ≡ None → is_full_at_end h p k bs last ≡ true
+full-at-end p h k v bs last depth rows order small deep same none =
     let d : ℕ = length bs + 1 in
-    let gs : List (List ℕ × Data) = entries_at_end h k bs last in
-    let ends : List (List ℕ × Data) = along h usual k (trie_levels usual - d) d gs in
-    let most = full-most h k v (trie_levels usual - d) d gs rows order small same (ap (λ n. slot_of usual.bucket (node_of h usual (trie_levels usual - n) n) rows) (sym deep) ∙ none) in
-    let few : length ends ≤ usual.bucket = (let a = length-along h usual k (trie_levels usual - d) d gs in omega (arith, a, small)) in
-    (λ i. not (is_some (sym (find-along h usual k (trie_levels usual - d) d gs) i)) && nat_le usual.bucket (length (sym (along-agree h usual k (trie_levels usual - d) d gs) i)))
-    ∙ full-cond (find bytewise k ends) (length ends) usual.bucket few
-    ∙ ap (λ m. not (nat_le m usual.bucket)) (sym (length-put bytewise total k v ends (in_order-along h usual k (trie_levels usual - d) d gs order)))
+    let gs : List (List ℕ × Data) = entries_at_end h p k bs last in
+    let ends : List (List ℕ × Data) = along h p k (trie_levels p - d) d gs in
+    let most = full-most p h k v (trie_levels p - d) d gs rows order small same (ap (λ n. slot_of p.bucket (node_of h p (trie_levels p - n) n) rows) (sym deep) ∙ none) in
+    let few : length ends ≤ p.bucket = (let a = length-along h p k (trie_levels p - d) d gs in omega (arith, a, small)) in
+    (λ i. not (is_some (sym (find-along h p k (trie_levels p - d) d gs) i)) && nat_le p.bucket (length (sym (along-agree h p k (trie_levels p - d) d gs) i)))
+    ∙ full-cond (find bytewise k ends) (length ends) p.bucket few
+    ∙ ap (λ m. not (nat_le m p.bucket)) (sym (length-put bytewise total k v ends (in_order-along h p k (trie_levels p - d) d gs order)))
     ∙ ap not most

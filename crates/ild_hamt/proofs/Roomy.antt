@@ -5,7 +5,8 @@ use Rattle.std.proofs.lemmas.Bool.{cases_lt}
 use Rattle.ild_data.specs.Data.{Data}
 use Rattle.ild_data.specs.ByteOrder.{bytewise}
 use Rattle.ild_data.specs.Trie.{TrieSlot, empty, part, slot_of, node_of, at_depth}
-use Rattle.ild_data.specs.TrieShape.{TrieShape, trie_levels}
+use Rattle.ild_data.specs.declared.hamt_shape.HamtShape.{HamtShape}
+use Rattle.ild_data.specs.TrieShape.{trie_levels}
 use Rattle.ild_hamt_trie.specs.Way.{along}
 use Rattle.ild_hamt_trie.proofs.Fold.{slot-few}
 use Rattle.ild_hamt_trie.proofs.Index.{index_below}
@@ -21,7 +22,7 @@ some-of None is = absurd cc
 some-of (Some node) is = (node, refl)
 
 -- a node has a slot at each place of a key's way through it
-slot-down : (h : List ℕ → List ℕ) (p : TrieShape) (k : List ℕ) (n left depth : ℕ) (es : List (List ℕ × Data)) → n ≤ left → is_some (node_of h p (suc left) depth es) ≡ true
+slot-down : (h : List ℕ → List ℕ) (p : HamtShape) (k : List ℕ) (n left depth : ℕ) (es : List (List ℕ × Data)) → n ≤ left → is_some (node_of h p (suc left) depth es) ≡ true
     → is_some (slot_of p.bucket (node_of h p (left - n) (depth + suc n)) (along h p k (suc n) depth es)) ≡ true
 slot-down h p k zero left depth es le some =
     let node = some-of (node_of h p (suc left) depth es) some in
@@ -48,7 +49,7 @@ not-false : (b : Bool) → not b ≡ false → b ≡ true
 not-false true is = refl
 not-false false is = absurd cc
 
-pub has-room : (h : List ℕ → List ℕ) (p : TrieShape) (k : List ℕ) (slots : List TrieSlot) (es : List (List ℕ × Data)) (v : Data) (t : Trail) → IsTrailOf h p k slots es t → t.exhausted ≡ false
+pub has-room : (h : List ℕ → List ℕ) (p : HamtShape) (k : List ℕ) (slots : List TrieSlot) (es : List (List ℕ × Data)) (v : Data) (t : Trail) → IsTrailOf h p k slots es t → t.exhausted ≡ false
     → is_some (slot_of p.bucket (node_of h p (trie_levels p - (length (trail_blocks t) + 1)) (length (trail_blocks t) + 1)) (put bytewise k v (along h p k (length (trail_blocks t) + 1) 0 es))) ≡ true
 has-room h p k slots es v t trail room =
     let n : ℕ = length (trail_blocks t) in

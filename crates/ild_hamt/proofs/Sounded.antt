@@ -1,9 +1,10 @@
 -- The entries of a trie that is held are such as blocks hold.
-use Rattle.std.proofs.Common.{◌≡◌, ⊎_elim, ℕ, zero, suc, ◌+◌, ◌<◌, ◌==◌, Bool, true, false, cond, List, [], ◌∷◌, ◌++◌, length, get_or, Some, None, refl, sym, ◌∙◌, subst, arith}
+use Rattle.std.proofs.Common.{◌≡◌, ⊎_elim, ℕ, zero, suc, ◌+◌, ◌<◌, ◌^◌, ◌==◌, Bool, true, false, cond, List, [], ◌∷◌, ◌++◌, length, get_or, Some, None, refl, sym, ◌∙◌, subst, arith}
 use Rattle.std.specs.Prelude.{IsUtf8, reverse, ◌||◌}
 use Rattle.std.specs.List.{AllByRecursion}
 use Rattle.std.proofs.lemmas.Bool.{eq-eqb, cases_lt, leb-false}
 use Rattle.std.proofs.lemmas.List.{reverse-append}
+use Rattle.ild_data.specs.declared.hamt_shape.HamtShape.{HamtShape}
 use Rattle.ild_data.specs.Data.{Data}
 use Rattle.ild_data.specs.Limits.{IsWithin, longest_block}
 use Rattle.ild_data.specs.Trie.{TrieSlot, empty, bucket, child, bucket_entries, node_data, part, node_of, at_depth, slots_at}
@@ -11,7 +12,6 @@ use Rattle.ild_hamt_trie.proofs.Fold.{slot-many}
 use Rattle.ild_hamt_trie.proofs.Index.{index_below}
 use Rattle.ild_hamt_trie.proofs.Node.{slots-node, no_node}
 use Rattle.ild_hamt_trie.proofs.Slots.{slot_at}
-use Rattle.ild_typed.specs.Composed.{usual}
 use Rattle.ild_typed.specs.Node.{IsSlot}
 use Rattle.ild_typed.proofs.Treed.{EntryIn}
 use Rattle.ild_node.specs.Rows.{AreShallow}
@@ -41,47 +41,47 @@ all-parts P at n (e ∷ es) within each = (
   all-parts P at n es within (λ i lt. rest-part P (at e.0 == i) e (part at es i) (each i lt)),
 )
 
-all-get : (slots : List TrieSlot) (i : ℕ) → AllByRecursion (IsSlot usual) slots → IsSlot usual (get_or slots i empty)
-all-get [] i all = tt
-all-get (s ∷ slots) zero all = all.0
-all-get (s ∷ slots) (suc i) all = all-get slots i all.1
+all-get : (p : HamtShape) (slots : List TrieSlot) (i : ℕ) → AllByRecursion (IsSlot p) slots → IsSlot p (get_or slots i empty)
+all-get p [] i all = tt
+all-get p (s ∷ slots) zero all = all.0
+all-get p (s ∷ slots) (suc i) all = all-get p slots i all.1
 
 entries-join : (es : List (List ℕ × Data)) → AllByRecursion (λ e. IsUtf8 e.0) es → AreShallow es → AllByRecursion (EntryIn 92) es
 entries-join [] texts values = tt
 entries-join (e ∷ es) texts values = ((texts.0, values.0), entries-join es texts.1 values.1)
 
-slot-entries : (slots : List TrieSlot) (i : ℕ) (z : TrieSlot) → get_or slots i empty ≡ z → IsWithin (node_data slots) → IsSlot usual z → AllByRecursion (EntryIn 92) (bucket_entries z)
-slot-entries slots i empty is w form = tt
-slot-entries slots i (bucket es) is w form = entries-join es form.3 (shallow-slot slots i es w is)
-slot-entries slots i (child id) is w form = tt
+slot-entries : (p : HamtShape) (slots : List TrieSlot) (i : ℕ) (z : TrieSlot) → get_or slots i empty ≡ z → IsWithin (node_data slots) → IsSlot p z → AllByRecursion (EntryIn 92) (bucket_entries z)
+slot-entries p slots i empty is w form = tt
+slot-entries p slots i (bucket es) is w form = entries-join es form.3 (shallow-slot slots i es w is)
+slot-entries p slots i (child id) is w form = tt
 
-pub entries-sound : (h : List ℕ → List ℕ) (held : List (List ℕ)) (left depth : ℕ) (es : List (List ℕ × Data)) (slots : List TrieSlot) → slots_at h usual left depth es ≡ Some slots → IsWithin (node_data slots)
-    → AllByRecursion (IsSlot usual) slots → HoldsBelow h usual held (suc left) depth es → AllByRecursion (EntryIn 92) es
-entries-sound h held zero depth es slots is w form below =
-    all-parts (EntryIn 92) (at_depth h usual depth) 256 es (λ q. index_below usual (h q) depth)
+pub entries-sound : (p : HamtShape) (h : List ℕ → List ℕ) (held : List (List ℕ)) (left depth : ℕ) (es : List (List ℕ × Data)) (slots : List TrieSlot) → slots_at h p left depth es ≡ Some slots → IsWithin (node_data slots)
+    → AllByRecursion (IsSlot p) slots → HoldsBelow h p held (suc left) depth es → AllByRecursion (EntryIn 92) es
+entries-sound p h held zero depth es slots is w form below =
+    all-parts (EntryIn 92) (at_depth h p depth) (2 ^ p.width) es (λ q. index_below p (h q) depth)
     (λ i lt.
-    let there = slot_at usual (at_depth h usual depth) (node_of h usual zero (depth + 1)) es i slots empty lt is in
+    let there = slot_at p (at_depth h p depth) (node_of h p zero (depth + 1)) es i slots empty lt is in
     ⊎_elim
-    (λ many. absurd (let node = linked _ (get_or slots i empty) (sym (slot-many usual.bucket (node_of h usual zero (depth + 1)) (part (at_depth h usual depth) es i) many) ∙ there) in
-    let none : None ≡ Some node.0 = sym (no_node h usual (depth + 1) (part (at_depth h usual depth) es i)) ∙ node.1 in cc))
-    (λ few. subst (λ (gs : List (List ℕ × Data)). AllByRecursion (EntryIn 92) gs) (few-held usual.bucket (node_of h usual zero (depth + 1)) (part (at_depth h usual depth) es i) (get_or slots i empty) there few)
-    (slot-entries slots i (get_or slots i empty) refl w (all-get slots i form)))
-    (cases_lt usual.bucket (length (part (at_depth h usual depth) es i))))
-entries-sound h held (suc left) depth es slots is w form below =
-    all-parts (EntryIn 92) (at_depth h usual depth) 256 es (λ q. index_below usual (h q) depth)
+    (λ many. absurd (let node = linked _ (get_or slots i empty) (sym (slot-many p.bucket (node_of h p zero (depth + 1)) (part (at_depth h p depth) es i) many) ∙ there) in
+    let none : None ≡ Some node.0 = sym (no_node h p (depth + 1) (part (at_depth h p depth) es i)) ∙ node.1 in cc))
+    (λ few. subst (λ (gs : List (List ℕ × Data)). AllByRecursion (EntryIn 92) gs) (few-held p.bucket (node_of h p zero (depth + 1)) (part (at_depth h p depth) es i) (get_or slots i empty) there few)
+    (slot-entries p slots i (get_or slots i empty) refl w (all-get p slots i form)))
+    (cases_lt p.bucket (length (part (at_depth h p depth) es i))))
+entries-sound p h held (suc left) depth es slots is w form below =
+    all-parts (EntryIn 92) (at_depth h p depth) (2 ^ p.width) es (λ q. index_below p (h q) depth)
     (λ i lt.
-    let fs : List (List ℕ × Data) = part (at_depth h usual depth) es i in
-    let there = slot_at usual (at_depth h usual depth) (node_of h usual (suc left) (depth + 1)) es i slots empty lt is in
+    let fs : List (List ℕ × Data) = part (at_depth h p depth) es i in
+    let there = slot_at p (at_depth h p depth) (node_of h p (suc left) (depth + 1)) es i slots empty lt is in
     ⊎_elim
     (λ many.
-    let node = linked _ (get_or slots i empty) (sym (slot-many usual.bucket (node_of h usual (suc left) (depth + 1)) fs many) ∙ there) in
-    let ss = slots-node h usual left (depth + 1) fs node.0 node.1 in
+    let node = linked _ (get_or slots i empty) (sym (slot-many p.bucket (node_of h p (suc left) (depth + 1)) fs many) ∙ there) in
+    let ss = slots-node h p left (depth + 1) fs node.0 node.1 in
     let beneath = below i node.0 many node.1 in
-    let own = held-node h usual held left (depth + 1) fs ss.0 (omega arith) ss.1 (subst (λ (d : Data). IsHeldNode usual held d) ss.2 beneath.0) in
-    entries-sound h held left (depth + 1) fs ss.0 ss.1 own.is.within own.form.each beneath.1)
-    (λ few. subst (λ (gs : List (List ℕ × Data)). AllByRecursion (EntryIn 92) gs) (few-held usual.bucket (node_of h usual (suc left) (depth + 1)) fs (get_or slots i empty) there few)
-    (slot-entries slots i (get_or slots i empty) refl w (all-get slots i form)))
-    (cases_lt usual.bucket (length fs)))
+    let own = held-node h p held left (depth + 1) fs ss.0 p.wide ss.1 (subst (λ (d : Data). IsHeldNode p held d) ss.2 beneath.0) in
+    entries-sound p h held left (depth + 1) fs ss.0 ss.1 own.is.within own.form.each beneath.1)
+    (λ few. subst (λ (gs : List (List ℕ × Data)). AllByRecursion (EntryIn 92) gs) (few-held p.bucket (node_of h p (suc left) (depth + 1)) fs (get_or slots i empty) there few)
+    (slot-entries p slots i (get_or slots i empty) refl w (all-get p slots i form)))
+    (cases_lt p.bucket (length fs)))
 
 -- ---- blocks that are short and held
 

@@ -6,7 +6,7 @@ use Rattle.std.proofs.lemmas.Bool.{lt-leb, le-leb, cases_eq, cases_lt}
 use Rattle.std.proofs.lemmas.List.{reverse-append}
 use Rattle.ild_data.specs.Data.{Data}
 use Rattle.ild_data.specs.Spell.{spell, id_of}
-use Rattle.ild_data.specs.TrieShape.{TrieShape}
+use Rattle.ild_data.specs.declared.hamt_shape.HamtShape.{HamtShape}
 use Rattle.ild_data.specs.Trie.{TrieSlot, empty, node_data, part, node_of, at_depth, slots_at}
 use Rattle.ild_data.specs.TrieBlocks.{none_or, block_of}
 use Rattle.ild_edges.specs.Store.{block_at, Keeps}
@@ -51,7 +51,7 @@ slot-child holds most below es z (few is) each = subst (λ (s : TrieSlot). Child
 slot-child holds most below es z (many node lots there is) each = subst (λ (s : TrieSlot). ChildIn holds s) (sym is) (each node lots there)
 
 -- the first block of a way that goes on
-way-first : (h : List ℕ → List ℕ) (p : TrieShape) (k : List ℕ) (left depth : ℕ) (es : List (List ℕ × Data)) (node : Data) → p.bucket < length (part (at_depth h p depth) es (at_depth h p depth k))
+way-first : (h : List ℕ → List ℕ) (p : HamtShape) (k : List ℕ) (left depth : ℕ) (es : List (List ℕ × Data)) (node : Data) → p.bucket < length (part (at_depth h p depth) es (at_depth h p depth k))
     → node_of h p left (depth + 1) (part (at_depth h p depth) es (at_depth h p depth k)) ≡ Some node
     → way h p k (suc left) depth es ≡ spell node ∷ way h p k left (depth + 1) (part (at_depth h p depth) es (at_depth h p depth k))
 way-first h p k left depth es node lots is =
@@ -60,7 +60,7 @@ way-first h p k left depth es node lots is =
     ∙ ap (λ b. none_or b (λ gs. block_of (node_of h p left (depth + 1) gs) ++ way h p k left (depth + 1) gs) fs) (lt-leb (length fs) p.bucket lots)
     ∙ ap (λ o. block_of o ++ way h p k left (depth + 1) fs) is
 
-node-near : (h : List ℕ → List ℕ) (p : TrieShape) (k : List ℕ) (was : List (List ℕ)) (left depth : ℕ) (es fs : List (List ℕ × Data)) (ss : List TrieSlot) → DiffersAt k es fs → slots_at h p left depth fs ≡ Some ss
+node-near : (h : List ℕ → List ℕ) (p : HamtShape) (k : List ℕ) (was : List (List ℕ)) (left depth : ℕ) (es fs : List (List ℕ × Data)) (ss : List TrieSlot) → DiffersAt k es fs → slots_at h p left depth fs ≡ Some ss
     → HoldsBelow h p was (suc left) depth es → IsNodeOver (IsNear was (way h p k (suc left) depth fs)) (spell (node_data ss))
 node-near h p k was left depth es fs ss d is below = record {
   slots = ss;
@@ -88,11 +88,11 @@ node-near h p k was left depth es fs ss d is below = record {
 
 -- ---- the way
 
-no-way : (h : List ℕ → List ℕ) (p : TrieShape) (k : List ℕ) (depth : ℕ) (es : List (List ℕ × Data)) → way h p k zero depth es ≡ []
+no-way : (h : List ℕ → List ℕ) (p : HamtShape) (k : List ℕ) (depth : ℕ) (es : List (List ℕ × Data)) → way h p k zero depth es ≡ []
 unfolding way
 no-way h p k depth es = refl
 
-pub way-over : (h : List ℕ → List ℕ) (p : TrieShape) (k : List ℕ) (was : List (List ℕ)) (left depth : ℕ) (es fs : List (List ℕ × Data)) (ss : List TrieSlot) → DiffersAt k es fs → Had h p left depth es
+pub way-over : (h : List ℕ → List ℕ) (p : HamtShape) (k : List ℕ) (was : List (List ℕ)) (left depth : ℕ) (es fs : List (List ℕ × Data)) (ss : List TrieSlot) → DiffersAt k es fs → Had h p left depth es
     → slots_at h p left depth fs ≡ Some ss → HoldsBelow h p was (suc left) depth es → WayOver was (way h p k (suc left) depth fs)
 way-over h p k was zero depth es fs ss d had is below =
     let gs : List (List ℕ × Data) = part (at_depth h p depth) fs (at_depth h p depth k) in

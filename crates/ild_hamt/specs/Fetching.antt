@@ -7,7 +7,7 @@ use Rattle.ild_cbor.specs.Reading.{fault_of}
 use Rattle.ild_edges.specs.Count.{Rose, bumped}
 use Rattle.ild_edges.specs.Store.{Moment, Later, block_at}
 use Rattle.ild_edges.specs.Told.{IfTold}
-use Rattle.ild_data.specs.TrieShape.{TrieShape}
+use Rattle.ild_data.specs.declared.hamt_shape.HamtShape.{HamtShape}
 use Rattle.ild_data.specs.Trie.{TrieSlot, node_data}
 use Rattle.ild_node_slots.specs.Form.{IsNode}
 use Rattle.ild_cbor.specs.declared.why.BlockWhy.{BlockWhy}
@@ -18,13 +18,13 @@ use Rattle.ild_node_slots.specs.declared.fault.HamtFault.TheVariants.{Block, Sto
 use Rattle.ild_hamt_climb.specs.NodeBytes.{IsNodeBlock}
 
 -- the block is the spelling of other data
-pub record IsOtherBlock (p : TrieShape) (b : List ℕ) : Type 0 where
+pub record IsOtherBlock (p : HamtShape) (b : List ℕ) : Type 0 where
   pub data_in : Data
   pub is : IsBlockOf b data_in
   pub other : (slots : List TrieSlot) → IsNode p slots → data_in ≡ node_data slots → ⊥
 
 -- a block is a node, or what is wrong with it
-abbrev pub Judges : TrieShape → List ℕ → Option BlockWhy → Type 0
+abbrev pub Judges : HamtShape → List ℕ → Option BlockWhy → Type 0
 Judges p b None = IsNodeBlock p b
 Judges p b (Some Missing) = ⊥
 Judges p b (Some (Cbor fault)) = fault_of b ≡ Some fault
@@ -36,17 +36,17 @@ pub record IsBlockAt (m : Moment) (id b : List ℕ) : Type 0 where
   pub held : IfTold m.blocks (λ blocks. block_at blocks id ≡ Some b)
 
 -- a block under the id, with this wrong in it
-pub record IsWrong (p : TrieShape) (m : Moment) (id : List ℕ) (why : BlockWhy) : Type 0 where
+pub record IsWrong (p : HamtShape) (m : Moment) (id : List ℕ) (why : BlockWhy) : Type 0 where
   pub block : List ℕ
   pub at : IsBlockAt m id block
   pub wrong : Judges p block (Some why)
 
-abbrev pub BlockCause : TrieShape → Moment → List ℕ → BlockWhy → Moment → Type 0
+abbrev pub BlockCause : HamtShape → Moment → List ℕ → BlockWhy → Moment → Type 0
 BlockCause p m id Missing n = IfTold m.blocks (λ blocks. block_at blocks id ≡ None) × Rose m.lacks n.lacks
 BlockCause p m id (Cbor fault) n = IsWrong p m id (Cbor fault)
 BlockCause p m id (NoNode why) n = IsWrong p m id (NoNode why)
 
-abbrev pub FetchAnswer : TrieShape → Moment → List ℕ → Result (List ℕ) HamtFault → Moment → Type 0
+abbrev pub FetchAnswer : HamtShape → Moment → List ℕ → Result (List ℕ) HamtFault → Moment → Type 0
 FetchAnswer p m id (Ok b) n = IsBlockAt m id b × IsNodeBlock p b
 FetchAnswer p m id (Err (Block i why)) n = (i.0 ≡ id) × BlockCause p m id why n
 FetchAnswer p m id (Err Store) n = Rose m.faults n.faults
@@ -54,7 +54,7 @@ FetchAnswer p m id (Err Memory) n = Unit {0}
 FetchAnswer p m id (Err e) n = ⊥
 
 -- one get of a node
-pub record Fetches (p : TrieShape) (m : Moment) (id : List ℕ) (result : Result (List ℕ) HamtFault) (n : Moment) : Type 0 where
+pub record Fetches (p : HamtShape) (m : Moment) (id : List ℕ) (result : Result (List ℕ) HamtFault) (n : Moment) : Type 0 where
   pub answer : FetchAnswer p m id result n
   pub later : Later m n
   pub blocks : n.blocks ≡ m.blocks

@@ -2,7 +2,6 @@
 ghost use Rattle.std.specs.Prelude.{◌≡◌, ◌<◌, List, IfOk, option_map};
 ghost use Rattle.ild_data.specs.Trie.{TrieSlot};
 ghost use Rattle.ild_data.specs.TrieShape.{trie_levels};
-ghost use Rattle.ild_typed.specs.Composed.{usual};
 ghost use Rattle.ild_node_slots.specs.Views.{HasSlots};
 ghost use Rattle.ild_hamt.specs.Fetching.{Fetches};
 ghost use Rattle.ild_hamt_climb.specs.NodeBytes.{IsNodeBytes};
@@ -13,7 +12,7 @@ ghost use Rattle.ild_hamt_climb.specs.Way.{slot_for, child_id};
 use crate::ending::slot_at;
 use crate::reading::refusal;
 use ild_cbor::BlockWhy;
-use ild_data::{BlockId, Octets};
+use ild_data::{BlockId, HamtShape, Octets};
 use ild_edges::{EdgeErr, Store};
 use ild_hamt_climb::view_in;
 use ild_node::{HamtFault, NodeSlot, NodeView};
@@ -26,11 +25,16 @@ pub(crate) struct Reached {
 }
 
 /// The id of the child on the way of a hash.
-pub(crate) fn child_at(view: NodeView<'_>, hash: &[u8; 32], depth: u32) -> Option<BlockId>
-    requires { depth < trie_levels usual }
-    ensures { (slots : List TrieSlot) → HasSlots usual view.entry slots → option_map (λ id. id.0) result ≡ child_id (slot_for usual hash.now depth slots) }
+pub(crate) fn child_at(
+    shape: HamtShape,
+    view: NodeView<'_>,
+    hash: &[u8; 32],
+    depth: u32,
+) -> Option<BlockId>
+    requires { depth < trie_levels shape }
+    ensures { (slots : List TrieSlot) → HasSlots shape view.entry slots → option_map (λ id. id.0) result ≡ child_id (slot_for shape hash.now depth slots) }
 {
-    match slot_at(view, hash, depth) {
+    match slot_at(shape, view, hash, depth) {
         NodeSlot::Child(id) => Some(id),
         NodeSlot::Empty => None,
         NodeSlot::Bucket(_) => None,
@@ -38,33 +42,34 @@ pub(crate) fn child_at(view: NodeView<'_>, hash: &[u8; 32], depth: u32) -> Optio
 }
 
 // The same of the block of a node.
-fn child_in(block: &Octets, hash: &[u8; 32], depth: u32) -> Option<BlockId>
-    requires low { depth < trie_levels usual }
-    requires known { IsNodeBytes block.now }
-    ensures { (slots : List TrieSlot) → IsNodeOf usual block.now slots → option_map (λ id. id.0) result ≡ child_id (slot_for usual hash.now depth slots) }
+fn child_in(shape: HamtShape, block: &Octets, hash: &[u8; 32], depth: u32) -> Option<BlockId>
+    requires low { depth < trie_levels shape }
+    requires known { IsNodeBytes shape block.now }
+    ensures { (slots : List TrieSlot) → IsNodeOf shape block.now slots → option_map (λ id. id.0) result ≡ child_id (slot_for shape hash.now depth slots) }
 {
-    match view_in(block) {
-        Some(view) => child_at(view, hash, depth),
+    match view_in(shape, block) {
+        Some(view) => child_at(shape, view, hash, depth),
         None => None,
     }
 }
 
-/// The node with an id, which stands at a depth, by one get of the store; or why it isn't to be had.
+/// The node of this shape with an id, which stands at a depth, by one get of the store; or why it isn't to be had.
 pub(crate) fn reach<K: Store>(
+    shape: HamtShape,
     id: &BlockId,
     hash: &[u8; 32],
     depth: u32,
     store: &mut K,
 ) -> Result<Reached, HamtFault>
-    requires { depth < trie_levels usual }
-    ensures fetched { Fetches usual (K.moment store.old) id.now.0 (reached_block result) (K.moment store.new) }
-    ensures known { IfOk result (λ r. IsNodeBytes r.block) }
-    ensures child { IfOk result (λ r. (slots : List TrieSlot) → IsNodeOf usual r.block slots → option_map (λ id. id.0) r.child ≡ child_id (slot_for usual hash.now depth slots)) }
+    requires { depth < trie_levels shape }
+    ensures fetched { Fetches shape (K.moment store.old) id.now.0 (reached_block result) (K.moment store.new) }
+    ensures known { IfOk result (λ r. IsNodeBytes shape r.block) }
+    ensures child { IfOk result (λ r. (slots : List TrieSlot) → IsNodeOf shape r.block slots → option_map (λ id. id.0) r.child ≡ child_id (slot_for shape hash.now depth slots)) }
 {
     match store.get(id) {
-        Ok(Some(block)) => match refusal(block.as_slice()) {
+        Ok(Some(block)) => match refusal(shape, block.as_slice()) {
             None => {
-                let child = child_in(&block, hash, depth);
+                let child = child_in(shape, &block, hash, depth);
                 Ok(Reached { block, child })
             }
             Some(why) => Err(HamtFault::Block { id: *id, why }),

@@ -5,23 +5,24 @@ ghost use Rattle.ild_hamt_climb.specs.NodeBytes.{IsNodeBytes};
 use crate::ending::end_slot;
 use crate::rewriting::{end_again, rewrite, slot_of};
 use ild_cbor::Node;
-use ild_data::{KeyHash, Octets, Txt};
+use ild_data::{HamtShape, KeyHash, Octets, Txt};
 use ild_edges::Store;
 use ild_hamt_climb::{few_slot, rows_without};
 use ild_node::{HamtFault, NodeSlot, NodeView, Rows};
 use std::alloc::{AllocError, Global};
 
-/// The nodes on a key's way beneath a root, as they were read, with the hash of the key and those of the other keys in the bucket
-/// in which the way ends. It borrows nothing.
+/// The nodes on a key's way beneath a root of this shape, as they were read, with the hash of the key and those of the other keys
+/// in the bucket in which the way ends. It borrows nothing.
 #[derive(Drop)]
 pub struct Trail {
+    pub(crate) shape: HamtShape,
     pub(crate) key: Txt,
     pub(crate) hash: [u8; 32],
     pub(crate) depth: u32,
     pub(crate) blocks: Vec<Octets>,
     pub(crate) others: Vec<[u8; 32]>,
     pub(crate) exhausted: bool,
-    ghost known: { All IsNodeBytes blocks.items },
+    ghost known: { All (IsNodeBytes shape) blocks.items },
 }
 
 impl Trail {
@@ -30,13 +31,13 @@ impl Trail {
     ghost use Rattle.ild_data.specs.Data.{Data};
     ghost use Rattle.ild_data.specs.ByteOrder.{bytewise, without};
     ghost use Rattle.ild_data.specs.Trie.{TrieSlot, node_of};
+    ghost use Rattle.ild_data.specs.declared.hamt_shape.HamtShape.{HamtShape};
     ghost use Rattle.ild_data.specs.TrieShape.{trie_levels};
     ghost use Rattle.ild_hamt_trie.specs.Way.{along};
-    ghost use Rattle.ild_typed.specs.Composed.{usual};
     ghost use Rattle.ild_cbor.specs.Nodes.{Stands};
     ghost use Rattle.ild_node.specs.Rows.{NestsIn, deepest_value};
     ghost use Rattle.ild_node_slots.specs.Views.{HasSlots};
-    ghost use Rattle.ild_hamt.specs.Descending.{IsTrail, IsTrailOf, trail_blocks};
+    ghost use Rattle.ild_hamt.specs.Descending.{IsTrail, IsTrailOf, trail_blocks, trail_shape};
     ghost use Rattle.ild_hamt.specs.Given.{GivesWay};
     ghost use Rattle.ild_hamt.specs.Edits.{CausedBy, Edits, IsTrailAlong, RemovesAlong, entries_at_end, is_full_at_end};
     ghost use Rattle.ild_hamt.specs.Removing.{Removes, RestIs};
@@ -54,10 +55,10 @@ impl Trail {
 
     /// The value at the key, or `None` where there is none. The root has to be the one whose children were read.
     pub fn found<'a>(&'a self, root: NodeView<'a>) -> Option<Node<'a>>
-        ensures { (h : List ℕ → List ℕ) (k : List ℕ) (slots : List TrieSlot) (es : List (List ℕ × Data)) → HasSlots usual root.entry slots
-            → IsTrailOf h usual k slots es self.now → ValueIs (find bytewise k es) result }
+        ensures { (h : List ℕ → List ℕ) (p : HamtShape) (k : List ℕ) (slots : List TrieSlot) (es : List (List ℕ × Data)) → HasSlots p root.entry slots
+            → IsTrailOf h p k slots es self.now → ValueIs (find bytewise k es) result }
     {
-        match end_slot(root, &self.blocks, &self.hash, self.depth) {
+        match end_slot(self.shape, root, &self.blocks, &self.hash, self.depth) {
             NodeSlot::Bucket(bucket) => bucket.find(self.key.as_str()),
             NodeSlot::Empty => None,
             NodeSlot::Child(_) => None,
@@ -66,22 +67,22 @@ impl Trail {
 
     /// Whether the key is absent, and the entries with it have no HAMT: too many keys agree with it in all bits of their hashes.
     pub fn exhausted(&self) -> bool
-        ensures trie { (h : List ℕ → List ℕ) (k : List ℕ) (slots : List TrieSlot) (es : List (List ℕ × Data)) (v : Data) → IsTrailOf h usual k slots es self.now
-            → result ≡ not (is_some (node_of h usual (trie_levels usual) 0 (put bytewise k v es))) }
+        ensures trie { (h : List ℕ → List ℕ) (p : HamtShape) (k : List ℕ) (slots : List TrieSlot) (es : List (List ℕ × Data)) (v : Data) → IsTrailOf h p k slots es self.now
+            → result ≡ not (is_some (node_of h p (trie_levels p) 0 (put bytewise k v es))) }
         // Whatever trie the nodes on the way are of: the bucket in which it ends has no place for the key.
-        ensures at_end { (h : List ℕ → List ℕ) (k : List ℕ) (bs : List (List ℕ)) (last : List TrieSlot) → IsTrail h usual k bs last self.now → result ≡ is_full_at_end h k bs last }
+        ensures at_end { (h : List ℕ → List ℕ) (p : HamtShape) (k : List ℕ) (bs : List (List ℕ)) (last : List TrieSlot) → IsTrail h p k bs last self.now → result ≡ is_full_at_end h p k bs last }
     {
         self.exhausted
     }
 
     // The entries of the bucket in which the way ends, without the key's.
     fn others(&self, alloc: Global, root: NodeView<'_>) -> Result<Rows, AllocError>
-        ensures at_end { (h : List ℕ → List ℕ) (k : List ℕ) (slots last : List TrieSlot) → IsTrailAlong root.entry self.now h k slots last
-            → IfOk result (λ rows. rows ≡ without k (entries_at_end h k (trail_blocks self.now) last)) }
-        ensures trie { (h : List ℕ → List ℕ) (k : List ℕ) (slots : List TrieSlot) (es : List (List ℕ × Data)) → HasSlots usual root.entry slots → IsTrailOf h usual k slots es self.now
-            → IfOk result (λ rows. rows ≡ without k (along h usual k (length (trail_blocks self.now) + 1) 0 es)) }
+        ensures at_end { (h : List ℕ → List ℕ) (k : List ℕ) (slots last : List TrieSlot) → IsTrailAlong (trail_shape self.now) root.entry self.now h k slots last
+            → IfOk result (λ rows. rows ≡ without k (entries_at_end h (trail_shape self.now) k (trail_blocks self.now) last)) }
+        ensures trie { (h : List ℕ → List ℕ) (k : List ℕ) (slots : List TrieSlot) (es : List (List ℕ × Data)) → HasSlots (trail_shape self.now) root.entry slots → IsTrailOf h (trail_shape self.now) k slots es self.now
+            → IfOk result (λ rows. rows ≡ without k (along h (trail_shape self.now) k (length (trail_blocks self.now) + 1) 0 es)) }
     {
-        match end_again(root, &self.blocks, &self.hash, self.depth) {
+        match end_again(self.shape, root, &self.blocks, &self.hash, self.depth) {
             NodeSlot::Bucket(bucket) => rows_without(alloc, bucket, self.key.as_str()),
             NodeSlot::Empty => Ok(Rows::new(alloc)),
             NodeSlot::Child(_) => Ok(Rows::new(alloc)),
@@ -90,12 +91,12 @@ impl Trail {
 
     // The same where the key is there, or `None` where it isn't.
     fn rest(&self, alloc: Global, root: NodeView<'_>) -> Result<Option<Rows>, AllocError>
-        ensures at_end { (h : List ℕ → List ℕ) (k : List ℕ) (slots last : List TrieSlot) → IsTrailAlong root.entry self.now h k slots last
-            → RestIs k (entries_at_end h k (trail_blocks self.now) last) result }
-        ensures trie { (h : List ℕ → List ℕ) (k : List ℕ) (slots : List TrieSlot) (es : List (List ℕ × Data)) → HasSlots usual root.entry slots → IsTrailOf h usual k slots es self.now
-            → RestIs k (along h usual k (length (trail_blocks self.now) + 1) 0 es) result }
+        ensures at_end { (h : List ℕ → List ℕ) (k : List ℕ) (slots last : List TrieSlot) → IsTrailAlong (trail_shape self.now) root.entry self.now h k slots last
+            → RestIs k (entries_at_end h (trail_shape self.now) k (trail_blocks self.now) last) result }
+        ensures trie { (h : List ℕ → List ℕ) (k : List ℕ) (slots : List TrieSlot) (es : List (List ℕ × Data)) → HasSlots (trail_shape self.now) root.entry slots → IsTrailOf h (trail_shape self.now) k slots es self.now
+            → RestIs k (along h (trail_shape self.now) k (length (trail_blocks self.now) + 1) 0 es) result }
     {
-        match end_again(root, &self.blocks, &self.hash, self.depth) {
+        match end_again(self.shape, root, &self.blocks, &self.hash, self.depth) {
             NodeSlot::Bucket(bucket) => match bucket.find(self.key.as_str()) {
                 Some(_) => Ok(Some(rows_without(alloc, bucket, self.key.as_str())?)),
                 None => Ok(None),
@@ -114,10 +115,10 @@ impl Trail {
         store: &mut K,
     ) -> Result<Octets, HamtFault>
         requires { NestsIn deepest_value val.now }
-        ensures sets { (h : List ℕ → List ℕ) (k : List ℕ) (v : Data) (slots : List TrieSlot) (es : List (List ℕ × Data)) → IsTrailFrom root.entry self h k slots es → Stands val.now v
-            → is_some (node_of h usual (trie_levels usual) 0 (put bytewise k v es)) ≡ true → Sets h usual k v es (K.moment store.old) result (K.moment store.new) }
-        ensures edits { (h : List ℕ → List ℕ) (k : List ℕ) (v : Data) (slots last : List TrieSlot) → IsTrailAlong root.entry self h k slots last → Stands val.now v
-            → Edits (trail_blocks self) (is_full_at_end h k (trail_blocks self) last) (K.moment store.old) result (K.moment store.new) }
+        ensures sets { (h : List ℕ → List ℕ) (k : List ℕ) (v : Data) (slots : List TrieSlot) (es : List (List ℕ × Data)) → IsTrailFrom (trail_shape self) root.entry self h k slots es → Stands val.now v
+            → is_some (node_of h (trail_shape self) (trie_levels (trail_shape self)) 0 (put bytewise k v es)) ≡ true → Sets h (trail_shape self) k v es (K.moment store.old) result (K.moment store.new) }
+        ensures edits { (h : List ℕ → List ℕ) (k : List ℕ) (v : Data) (slots last : List TrieSlot) → IsTrailAlong (trail_shape self) root.entry self h k slots last → Stands val.now v
+            → Edits (trail_shape self) (trail_blocks self) (is_full_at_end h (trail_shape self) k (trail_blocks self) last) (K.moment store.old) result (K.moment store.new) }
         ensures caused { CausedBy (K.moment store.old) result (K.moment store.new) }
         ensures gets { (K.moment store.new).gets ≡ (K.moment store.old).gets }
     {
@@ -136,10 +137,10 @@ impl Trail {
         root: NodeView<'_>,
         store: &mut K,
     ) -> Result<Octets, HamtFault>
-        ensures removes { (h : List ℕ → List ℕ) (k : List ℕ) (slots : List TrieSlot) (es : List (List ℕ × Data)) → IsTrailFrom root.entry self h k slots es
-            → Removes h usual k es (K.moment store.old) result (K.moment store.new) }
-        ensures edits { (h : List ℕ → List ℕ) (k : List ℕ) (slots last : List TrieSlot) → IsTrailAlong root.entry self h k slots last
-            → RemovesAlong k (entries_at_end h k (trail_blocks self) last) (trail_blocks self) (K.moment store.old) result (K.moment store.new) }
+        ensures removes { (h : List ℕ → List ℕ) (k : List ℕ) (slots : List TrieSlot) (es : List (List ℕ × Data)) → IsTrailFrom (trail_shape self) root.entry self h k slots es
+            → Removes h (trail_shape self) k es (K.moment store.old) result (K.moment store.new) }
+        ensures edits { (h : List ℕ → List ℕ) (k : List ℕ) (slots last : List TrieSlot) → IsTrailAlong (trail_shape self) root.entry self h k slots last
+            → RemovesAlong (trail_shape self) k (entries_at_end h (trail_shape self) k (trail_blocks self) last) (trail_blocks self) (K.moment store.old) result (K.moment store.new) }
         ensures caused { CausedBy (K.moment store.old) result (K.moment store.new) }
         ensures gets { (K.moment store.new).gets ≡ (K.moment store.old).gets }
     {
@@ -147,7 +148,15 @@ impl Trail {
             Some(rows) => rows,
             None => return Err(HamtFault::NoKey),
         };
-        rewrite(alloc, root, self, few_slot(rows), Vec::new(alloc), store)
+        let shape = self.shape;
+        rewrite(
+            alloc,
+            root,
+            self,
+            few_slot(shape, rows),
+            Vec::new(alloc),
+            store,
+        )
     }
 
     /// Sets the value at the key: the answer is the new root node, and the other new nodes on the key's way are put, each
@@ -163,18 +172,18 @@ impl Trail {
         store: &mut K,
     ) -> Result<Octets, HamtFault>
         requires { NestsIn deepest_value val.now }
-        ensures sets { (k : List ℕ) (v : Data) (slots : List TrieSlot) (es : List (List ℕ × Data)) → IsTrailFrom root.entry self H.hash_of k slots es → Stands val.now v
-            → is_some (node_of H.hash_of usual (trie_levels usual) 0 (put bytewise k v es)) ≡ true → Sets H.hash_of usual k v es (K.moment store.old) result (K.moment store.new) }
+        ensures sets { (p : HamtShape) (k : List ℕ) (v : Data) (slots : List TrieSlot) (es : List (List ℕ × Data)) → IsTrailFrom p root.entry self H.hash_of k slots es → Stands val.now v
+            → is_some (node_of H.hash_of p (trie_levels p) 0 (put bytewise k v es)) ≡ true → Sets H.hash_of p k v es (K.moment store.old) result (K.moment store.new) }
         // Where the trie beneath the root was held, so is that beneath the answer; and each block that was added has its children held.
-        ensures held { (k : List ℕ) (v : Data) (slots : List TrieSlot) (es : List (List ℕ × Data)) → IsTrailFrom root.entry self H.hash_of k slots es → Stands val.now v
-            → is_some (node_of H.hash_of usual (trie_levels usual) 0 (put bytewise k v es)) ≡ true
-            → BothTold (K.moment store.old).blocks (K.moment store.new).blocks (HoldsAfter H.hash_of es (put bytewise k v es) result) }
+        ensures held { (p : HamtShape) (k : List ℕ) (v : Data) (slots : List TrieSlot) (es : List (List ℕ × Data)) → IsTrailFrom p root.entry self H.hash_of k slots es → Stands val.now v
+            → is_some (node_of H.hash_of p (trie_levels p) 0 (put bytewise k v es)) ≡ true
+            → BothTold (K.moment store.old).blocks (K.moment store.new).blocks (HoldsAfter H.hash_of p es (put bytewise k v es) result) }
         // Each of the new nodes on the key's way was put, also one that was there before.
-        ensures gives { (k : List ℕ) (v : Data) (slots : List TrieSlot) (es : List (List ℕ × Data)) → IsTrailFrom root.entry self H.hash_of k slots es → Stands val.now v
-            → is_some (node_of H.hash_of usual (trie_levels usual) 0 (put bytewise k v es)) ≡ true → GivesWay H.hash_of k (put bytewise k v es) result (K.moment store.new) }
+        ensures gives { (p : HamtShape) (k : List ℕ) (v : Data) (slots : List TrieSlot) (es : List (List ℕ × Data)) → IsTrailFrom p root.entry self H.hash_of k slots es → Stands val.now v
+            → is_some (node_of H.hash_of p (trie_levels p) 0 (put bytewise k v es)) ≡ true → GivesWay H.hash_of p k (put bytewise k v es) result (K.moment store.new) }
         // Over every store, of whatever trie the nodes on the way are.
-        ensures edits { (k : List ℕ) (v : Data) (slots last : List TrieSlot) → IsTrailAlong root.entry self H.hash_of k slots last → Stands val.now v
-            → Edits (trail_blocks self) (is_full_at_end H.hash_of k (trail_blocks self) last) (K.moment store.old) result (K.moment store.new) }
+        ensures edits { (p : HamtShape) (k : List ℕ) (v : Data) (slots last : List TrieSlot) → IsTrailAlong p root.entry self H.hash_of k slots last → Stands val.now v
+            → Edits p (trail_blocks self) (is_full_at_end H.hash_of p k (trail_blocks self) last) (K.moment store.old) result (K.moment store.new) }
         ensures caused { CausedBy (K.moment store.old) result (K.moment store.new) }
         ensures gets { (K.moment store.new).gets ≡ (K.moment store.old).gets }
     {
@@ -192,17 +201,17 @@ impl Trail {
         _keys: &H,
         store: &mut K,
     ) -> Result<Octets, HamtFault>
-        ensures removes { (k : List ℕ) (slots : List TrieSlot) (es : List (List ℕ × Data)) → IsTrailFrom root.entry self H.hash_of k slots es
-            → Removes H.hash_of usual k es (K.moment store.old) result (K.moment store.new) }
+        ensures removes { (p : HamtShape) (k : List ℕ) (slots : List TrieSlot) (es : List (List ℕ × Data)) → IsTrailFrom p root.entry self H.hash_of k slots es
+            → Removes H.hash_of p k es (K.moment store.old) result (K.moment store.new) }
         // Where the trie beneath the root was held, so is that beneath the answer; and each block that was added has its children held.
-        ensures held { (k : List ℕ) (slots : List TrieSlot) (es : List (List ℕ × Data)) → IsTrailFrom root.entry self H.hash_of k slots es
-            → BothTold (K.moment store.old).blocks (K.moment store.new).blocks (HoldsAfter H.hash_of es (without k es) result) }
+        ensures held { (p : HamtShape) (k : List ℕ) (slots : List TrieSlot) (es : List (List ℕ × Data)) → IsTrailFrom p root.entry self H.hash_of k slots es
+            → BothTold (K.moment store.old).blocks (K.moment store.new).blocks (HoldsAfter H.hash_of p es (without k es) result) }
         // Each of the nodes on the key's way then was put, also one that was there before.
-        ensures gives { (k : List ℕ) (slots : List TrieSlot) (es : List (List ℕ × Data)) → IsTrailFrom root.entry self H.hash_of k slots es
-            → GivesWay H.hash_of k (without k es) result (K.moment store.new) }
+        ensures gives { (p : HamtShape) (k : List ℕ) (slots : List TrieSlot) (es : List (List ℕ × Data)) → IsTrailFrom p root.entry self H.hash_of k slots es
+            → GivesWay H.hash_of p k (without k es) result (K.moment store.new) }
         // Over every store, of whatever trie the nodes on the way are.
-        ensures edits { (k : List ℕ) (slots last : List TrieSlot) → IsTrailAlong root.entry self H.hash_of k slots last
-            → RemovesAlong k (entries_at_end H.hash_of k (trail_blocks self) last) (trail_blocks self) (K.moment store.old) result (K.moment store.new) }
+        ensures edits { (p : HamtShape) (k : List ℕ) (slots last : List TrieSlot) → IsTrailAlong p root.entry self H.hash_of k slots last
+            → RemovesAlong p k (entries_at_end H.hash_of p k (trail_blocks self) last) (trail_blocks self) (K.moment store.old) result (K.moment store.new) }
         ensures caused { CausedBy (K.moment store.old) result (K.moment store.new) }
         ensures gets { (K.moment store.new).gets ≡ (K.moment store.old).gets }
     {

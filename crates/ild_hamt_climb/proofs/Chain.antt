@@ -7,7 +7,7 @@ use Rattle.std.specs.FinMap.{find}
 use Rattle.std.proofs.lemmas.Bool.{le-leb, eq-eqb, ne_eqb, cases_eq}
 use Rattle.std.proofs.lemmas.List.{append-nil, reverse-append}
 use Rattle.ild_data.specs.Data.{Data}
-use Rattle.ild_data.specs.TrieShape.{TrieShape}
+use Rattle.ild_data.specs.declared.hamt_shape.HamtShape.{HamtShape}
 use Rattle.ild_data.specs.ByteOrder.{bytewise}
 use Rattle.ild_data.specs.Trie.{part, node_of, at_depth}
 use Rattle.ild_data.specs.TrieBlocks.{node_and_beneath, none_or, block_of}
@@ -57,11 +57,11 @@ slot-reversed : (b : Bool) (below : List (List ℕ × Data) → Option Data) (pl
 slot-reversed true below pl wy fs is = refl
 slot-reversed false below pl wy fs is = (λ i. is i ++ one-reversed (below fs) i) ∙ sym (reverse-append (block_of (below fs)) (wy fs))
 
-none-left : (h : List ℕ → List ℕ) (p : TrieShape) (k : List ℕ) (depth : ℕ) (gs : List (List ℕ × Data)) → planned h p zero depth gs ≡ reverse (way h p k zero depth gs)
+none-left : (h : List ℕ → List ℕ) (p : HamtShape) (k : List ℕ) (depth : ℕ) (gs : List (List ℕ × Data)) → planned h p zero depth gs ≡ reverse (way h p k zero depth gs)
 unfolding planned way
 none-left h p k depth gs = refl
 
-pub chain-way : (h : List ℕ → List ℕ) (p : TrieShape) (k : List ℕ) (left depth : ℕ) (gs : List (List ℕ × Data))
+pub chain-way : (h : List ℕ → List ℕ) (p : HamtShape) (k : List ℕ) (left depth : ℕ) (gs : List (List ℕ × Data))
     → length gs ≤ p.bucket + 1 → is_some (find bytewise k gs) ≡ true → planned h p left depth gs ≡ reverse (way h p k left depth gs)
 chain-way h p k zero depth gs few some = none-left h p k depth gs
 chain-way h p k (suc left) depth gs few some =
@@ -79,7 +79,7 @@ chain-way h p k (suc left) depth gs few some =
     ∙ ap reverse (sym (way_is h p k left depth gs))
 
 -- the blocks of the slot of a bucket with the pair, split where it is one too many
-pub slot-chain : (h : List ℕ → List ℕ) (p : TrieShape) (k : List ℕ) (left depth : ℕ) (gs : List (List ℕ × Data))
+pub slot-chain : (h : List ℕ → List ℕ) (p : HamtShape) (k : List ℕ) (left depth : ℕ) (gs : List (List ℕ × Data))
     → length gs ≤ p.bucket + 1 → is_some (find bytewise k gs) ≡ true
     → slot_plan p.bucket (node_of h p left depth) (planned h p left depth) gs ≡ reverse (node_and_beneath p.bucket (node_of h p left depth) (way h p k left depth) gs)
 slot-chain h p k left depth gs few some =

@@ -4,7 +4,7 @@ use Rattle.std.specs.Ordering.{eq_by_cmp}
 use Rattle.std.specs.FinMap.{find, put}
 use Rattle.std.proofs.lemmas.Bool.{eqb-true}
 use Rattle.ild_data.specs.Data.{Data}
-use Rattle.ild_data.specs.TrieShape.{TrieShape}
+use Rattle.ild_data.specs.declared.hamt_shape.HamtShape.{HamtShape}
 use Rattle.ild_data.specs.ByteOrder.{bytewise, without, IsInOrder}
 use Rattle.ild_data.specs.Trie.{TrieSlot, part, slot_of, node_of, at_depth, slots_at}
 use Rattle.ild_hamt_trie.specs.Way.{along}
@@ -48,12 +48,12 @@ part-others at k i es fs d apart =
     by q true is = d.others q (λ same. apart (ap at (sym same) ∙ eqb-true (at q) i is))
     by q false is = refl
 
-pub along-differs : (h : List ℕ → List ℕ) (p : TrieShape) (k : List ℕ) (n depth : ℕ) (es fs : List (List ℕ × Data)) → DiffersAt k es fs → DiffersAt k (along h p k n depth es) (along h p k n depth fs)
+pub along-differs : (h : List ℕ → List ℕ) (p : HamtShape) (k : List ℕ) (n depth : ℕ) (es fs : List (List ℕ × Data)) → DiffersAt k es fs → DiffersAt k (along h p k n depth es) (along h p k n depth fs)
 along-differs h p k zero depth es fs d = d
 along-differs h p k (suc n) depth es fs d = along-differs h p k n (depth + 1) _ _ (part-differs (at_depth h p depth) k (at_depth h p depth k) es fs d)
 
 -- the slots of the node change at the key's index alone
-pub slots-differ : (h : List ℕ → List ℕ) (p : TrieShape) (k : List ℕ) (left depth : ℕ) (es fs : List (List ℕ × Data)) (slots : List TrieSlot) (s : TrieSlot)
+pub slots-differ : (h : List ℕ → List ℕ) (p : HamtShape) (k : List ℕ) (left depth : ℕ) (es fs : List (List ℕ × Data)) (slots : List TrieSlot) (s : TrieSlot)
     → DiffersAt k es fs → slots_at h p left depth es ≡ Some slots → slot_of p.bucket (node_of h p left (depth + 1)) (part (at_depth h p depth) fs (at_depth h p depth k)) ≡ Some s
     → slots_at h p left depth fs ≡ Some (set slots (at_depth h p depth k) s)
 slots-differ h p k left depth es fs slots s d is new =
@@ -61,7 +61,7 @@ slots-differ h p k left depth es fs slots s d is new =
     (λ j apart. part-others (at_depth h p depth) k j es fs d (λ e. apart (sym e))) is
     ∙ ap (option_map (λ t. set slots (at_depth h p depth k) t)) new
 
-pub along-without : (h : List ℕ → List ℕ) (p : TrieShape) (k : List ℕ) (n depth : ℕ) (es : List (List ℕ × Data)) → IsInOrder es → along h p k n depth (without k es) ≡ without k (along h p k n depth es)
+pub along-without : (h : List ℕ → List ℕ) (p : HamtShape) (k : List ℕ) (n depth : ℕ) (es : List (List ℕ × Data)) → IsInOrder es → along h p k n depth (without k es) ≡ without k (along h p k n depth es)
 along-without h p k zero depth es order = refl
 along-without h p k (suc n) depth es order =
     ap (along h p k n (depth + 1)) (part-without_same (at_depth h p depth) k es (at_depth h p depth k) order)

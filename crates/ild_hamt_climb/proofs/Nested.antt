@@ -3,13 +3,13 @@ use Rattle.std.proofs.Common.{◌≡◌, ℕ, zero, suc, ◌≤◌, List, [], �
 use Rattle.std.specs.Prelude.{slice_get}
 use Rattle.std.specs.Borrow.{Bor}
 use Rattle.std.specs.List.{AllByRecursion}
+use Rattle.ild_data.specs.declared.hamt_shape.HamtShape.{HamtShape}
 use Rattle.ild_data.specs.Data.{Data, depth}
 use Rattle.ild_data.specs.Limits.{IsWithin}
 use Rattle.ild_data.specs.Trie.{TrieSlot, empty, bucket, child, elements_of, node_data}
 use Rattle.ild_cbor.specs.Nodes.{Stands}
 use Rattle.ild_cbor.specs.declared.node.Node.{Node}
 use Rattle.ild_cbor.proofs.Blocks.{one_tree_lem}
-use Rattle.ild_typed.specs.Composed.{usual}
 use Rattle.ild_typed.specs.Nested.{TreeIn}
 use Rattle.ild_node.specs.Rows.{AreShallow, deepest_value}
 use Rattle.ild_node_slots.specs.Views.{HasSlots, EntryIs, SlotIs}
@@ -39,11 +39,11 @@ slot-known slots i (S.Bucket b) (bucket es) w is shows = record { es = es; has =
 slot-known slots i (S.Bucket b) (child c) w is shows = absurd shows
 slot-known slots i (S.Child id) s w is shows = tt
 
-pub some-slot : (v : NodeView) (slots : List TrieSlot) (i : ℕ) (r : NodeSlot) → HasSlots usual v slots → Shows r (get_or slots i empty) → SomeSlot r
-some-slot v slots i r has shows = slot-known slots i r (get_or slots i empty) has.stands.within refl shows
+pub some-slot : (p : HamtShape) (v : NodeView) (slots : List TrieSlot) (i : ℕ) (r : NodeSlot) → HasSlots p v slots → Shows r (get_or slots i empty) → SomeSlot r
+some-slot p v slots i r has shows = slot-known slots i r (get_or slots i empty) has.stands.within refl shows
 
-pub some-next : (v : NodeView) (slots : List TrieSlot) (i : ℕ) (r : NodeSlot) → HasSlots usual v slots → SlotIs v slots i r → SomeSlot r
-some-next v slots i r has is = some-slot v slots i r has (slot-shows v slots i i r refl is)
+pub some-next : (p : HamtShape) (v : NodeView) (slots : List TrieSlot) (i : ℕ) (r : NodeSlot) → HasSlots p v slots → SlotIs v slots i r → SomeSlot r
+some-next p v slots i r has is = some-slot p v slots i r has (slot-shows v slots i i r refl is)
 
 -- ---- a value
 

@@ -4,10 +4,10 @@ use Rattle.std.specs.Prelude.{All, IsSome, Result, Ok, Err, IfOk}
 use Rattle.std.specs.List.{AllByRecursion}
 use Rattle.std.proofs.lemmas.List.{length-append}
 use Rattle.std.proofs.lemmas.List.Elements.{All-pop}
+use Rattle.ild_data.specs.declared.hamt_shape.HamtShape.{HamtShape}
 use Rattle.ild_data.specs.Spell.{spell, id_of}
 use Rattle.ild_data.specs.Trie.{TrieSlot, empty, bucket, child, is_child, node_data}
 use Rattle.ild_edges.specs.Store.{block_at}
-use Rattle.ild_typed.specs.Composed.{usual}
 use Rattle.ild_node.specs.NewSlots.{slot_seen}
 use Rattle.ild_node.specs.Written.{IsNodeBlock}
 use Rattle.ild_node.specs.declared.hold.NewHold.{NewHold}
@@ -85,42 +85,42 @@ lifts-block slots i s block id old new spells named adds = record {
 -- ---- the loop
 
 -- what a climb has planned when these blocks of those at the beginning are left
-pub record ClimbedOver (bs : List (List ℕ)) (s : TrieSlot) (old : List (List ℕ)) (left : List (List ℕ)) (now : TrieSlot) (plan : List (List ℕ)) : Type 0 where
+pub record ClimbedOver (p : HamtShape) (bs : List (List ℕ)) (s : TrieSlot) (old : List (List ℕ)) (left : List (List ℕ)) (now : TrieSlot) (plan : List (List ℕ)) : Type 0 where
   pub few : length plan + length left ≤ length old + length bs
   pub nodes : AllByRecursion SpellsNode old → AllByRecursion SpellsNode plan
-  pub links : (held : List (List ℕ)) → All (HoldsLinksOf held) bs → All (HoldsLinksOf held) left
-  pub planned : (held : List (List ℕ)) → All (HoldsLinksOf held) bs → IsPlanned held s old → IsPlanned held now plan
+  pub links : (held : List (List ℕ)) → All (HoldsLinksOf p held) bs → All (HoldsLinksOf p held) left
+  pub planned : (held : List (List ℕ)) → All (HoldsLinksOf p held) bs → IsPlanned held s old → IsPlanned held now plan
 
-pub climbed-first : (bs : List (List ℕ)) (s : TrieSlot) (old : List (List ℕ)) → ClimbedOver bs s old bs s old
-climbed-first bs s old = record { few = omega arith; nodes = λ all. all; links = λ held all. all; planned = λ held all was. was }
+pub climbed-first : (p : HamtShape) (bs : List (List ℕ)) (s : TrieSlot) (old : List (List ℕ)) → ClimbedOver p bs s old bs s old
+climbed-first p bs s old = record { few = omega arith; nodes = λ all. all; links = λ held all. all; planned = λ held all was. was }
 
-pub climbed-more : (bs : List (List ℕ)) (s : TrieSlot) (old left rest : List (List ℕ)) (b : List ℕ) (slots : List TrieSlot) (now above : TrieSlot) (plan new : List (List ℕ)) → ClimbedOver bs s old left now plan
-    → left ≡ rest ++ b ∷ [] → IsNodeOf usual b slots → LiftsOver slots now above plan new → ClimbedOver bs s old rest above new
-climbed-more bs s old left rest b slots now above plan new was pops node lifts = record {
+pub climbed-more : (p : HamtShape) (bs : List (List ℕ)) (s : TrieSlot) (old left rest : List (List ℕ)) (b : List ℕ) (slots : List TrieSlot) (now above : TrieSlot) (plan new : List (List ℕ)) → ClimbedOver p bs s old left now plan
+    → left ≡ rest ++ b ∷ [] → IsNodeOf p b slots → LiftsOver slots now above plan new → ClimbedOver p bs s old rest above new
+climbed-more p bs s old left rest b slots now above plan new was pops node lifts = record {
   few = let a = was.few in let l = lifts.few in omega (arith, a, l, ap length pops ∙ length-append rest (b ∷ []));
   nodes = λ all. lifts.nodes (was.nodes all);
-  links = λ held all. (All-pop (HoldsLinksOf held) left rest (Some b) pops (was.links held all)).0;
-  planned = λ held all start. lifts.planned held ((All-pop (HoldsLinksOf held) left rest (Some b) pops (was.links held all)).1 slots node) (was.planned held all start);
+  links = λ held all. (All-pop (HoldsLinksOf p held) left rest (Some b) pops (was.links held all)).0;
+  planned = λ held all start. lifts.planned held ((All-pop (HoldsLinksOf p held) left rest (Some b) pops (was.links held all)).1 slots node) (was.planned held all start);
 }
 
-pub climbed-last : (bs : List (List ℕ)) (s : TrieSlot) (old left : List (List ℕ)) (now : TrieSlot) (plan : List (List ℕ)) → ClimbedOver bs s old left now plan → ClimbsOver bs s old plan
-climbed-last bs s old left now plan was = record {
+pub climbed-last : (p : HamtShape) (bs : List (List ℕ)) (s : TrieSlot) (old left : List (List ℕ)) (now : TrieSlot) (plan : List (List ℕ)) → ClimbedOver p bs s old left now plan → ClimbsOver p bs s old plan
+climbed-last p bs s old left now plan was = record {
   few = let a = was.few in omega (arith, a);
   nodes = was.nodes;
   rises = λ held all start. (was.planned held all start).rises;
 }
 
-pub climbs-none : (bs : List (List ℕ)) (s : TrieSlot) (plan : List (List ℕ)) → ClimbsOver bs s plan plan
-climbs-none bs s plan = record { few = omega arith; nodes = λ all. all; rises = λ held all start. start.rises }
+pub climbs-none : (p : HamtShape) (bs : List (List ℕ)) (s : TrieSlot) (plan : List (List ℕ)) → ClimbsOver p bs s plan plan
+climbs-none p bs s plan = record { few = omega arith; nodes = λ all. all; rises = λ held all start. start.rises }
 
 pub ok-all : {E : Type 0} (r : Result (List ℕ) E) (Q : Type 0) → Q → IfOk r (λ b. Q)
 ok-all (Ok b) Q q = q
 ok-all (Err e) Q q = tt
 
-pub ok-spelled : {E : Type 0} (r : Result (List ℕ) E) (slots : List TrieSlot) → IfOk r (λ b. IsNodeBlock usual slots b) → IfOk r (λ b. b ≡ spell (node_data slots))
-ok-spelled (Ok b) slots is = is.spelled
-ok-spelled (Err e) slots is = tt
+pub ok-spelled : {E : Type 0} (p : HamtShape) (r : Result (List ℕ) E) (slots : List TrieSlot) → IfOk r (λ b. IsNodeBlock p slots b) → IfOk r (λ b. b ≡ spell (node_data slots))
+ok-spelled p (Ok b) slots is = is.spelled
+ok-spelled p (Err e) slots is = tt
 
-pub ok-written : {E : Type 0} (r : Result (List ℕ) E) (slots : List TrieSlot) → IfOk r (λ b. IsNodeBlock usual slots b) → IfOk r IsWritten
-ok-written (Ok b) slots is = record { slots = slots; block = is }
-ok-written (Err e) slots is = tt
+pub ok-written : {E : Type 0} (p : HamtShape) (r : Result (List ℕ) E) (slots : List TrieSlot) → IfOk r (λ b. IsNodeBlock p slots b) → IfOk r (IsWritten p)
+ok-written p (Ok b) slots is = record { slots = slots; block = is }
+ok-written p (Err e) slots is = tt

@@ -4,6 +4,7 @@ use Rattle.std.specs.Prelude.{IfOk, IfSome, Result, Ok, Err}
 use Rattle.std.specs.List.{AllByRecursion}
 use Rattle.std.specs.Option.{option_map_or}
 use Rattle.std.proofs.lemmas.List.{length-append, length-set}
+use Rattle.ild_data.specs.declared.hamt_shape.HamtShape.{HamtShape}
 use Rattle.ild_data.specs.Bytes.{AreBytes}
 use Rattle.ild_data.specs.Data.{Data, bytes, list, link, item, no_items, items_of}
 use Rattle.ild_data.specs.Limits.{deepest, longest_block}
@@ -14,7 +15,6 @@ use Rattle.ild_cbor.specs.Block.{IsBlockOf}
 use Rattle.ild_cbor.specs.Nodes.{IsRoot, Stands}
 use Rattle.ild_cbor.specs.Span.{item_of}
 use Rattle.ild_cbor.specs.declared.node.Node.{Node}
-use Rattle.ild_typed.specs.Composed.{usual}
 use Rattle.ild_typed.specs.Nested.{BlockIn, TreeIn}
 use Rattle.ild_typed.proofs.TreeNodes.{SlotIn, node_in}
 use Rattle.ild_typed.proofs.Treed.{EntryIn}
@@ -38,21 +38,21 @@ entries_fit : (es : List (List ℕ × Data)) → AreTexts es → AllByRecursion 
 entries_fit [] texts values = tt
 entries_fit (e ∷ es) texts values = ((texts.0, values.0), entries_fit es texts.1 values.1)
 
-slot_fits : (s : TrieSlot) → IsSound usual s → SlotIn deepest_value s
-slot_fits empty sound = tt
-slot_fits (bucket es) sound = entries_fit es sound.form.3 sound.values
-slot_fits (child id) sound = link_fits id sound.form.0 sound.form.1
+slot_fits : (p : HamtShape) (s : TrieSlot) → IsSound p s → SlotIn deepest_value s
+slot_fits p empty sound = tt
+slot_fits p (bucket es) sound = entries_fit es sound.form.3 sound.values
+slot_fits p (child id) sound = link_fits id sound.form.0 sound.form.1
 
-pub element_fits : (s : TrieSlot) (e : Data) → IsSound usual s → elements_of s ≡ e ∷ [] → TreeIn deepest e
-element_fits s e sound is =
-    let whole : TreeIn deepest (list (item (bytes (map_of (s ∷ []))) (item (list (items_of (elements_of s ++ []))) no_items))) = node_in deepest_value (s ∷ []) (slot_fits s sound, tt) in
+pub element_fits : (p : HamtShape) (s : TrieSlot) (e : Data) → IsSound p s → elements_of s ≡ e ∷ [] → TreeIn deepest e
+element_fits p s e sound is =
+    let whole : TreeIn deepest (list (item (bytes (map_of (s ∷ []))) (item (list (items_of (elements_of s ++ []))) no_items))) = node_in deepest_value (s ∷ []) (slot_fits p s sound, tt) in
     let one : TreeIn deepest (list (item (bytes (map_of (s ∷ []))) (item (list (item e no_items)) no_items))) =
     subst (λ (ds : List Data). TreeIn deepest (list (item (bytes (map_of (s ∷ []))) (item (list (items_of (ds ++ []))) no_items)))) is whole in
     let le = one.nested in
     record { tree = one.tree.1.0.0; nested = omega arith }
 
-pub element_block : (s : TrieSlot) (b : List ℕ) → SpellsElement s b → BlockIn deepest b
-element_block s b e = record { of = e.tree; is = e.spelled; fits = element_fits s e.tree e.sound e.is }
+pub element_block : (p : HamtShape) (s : TrieSlot) (b : List ℕ) → SpellsElement p s b → BlockIn deepest b
+element_block p s b e = record { of = e.tree; is = e.spelled; fits = element_fits p s e.tree e.sound e.is }
 
 -- ---- the elements and the map
 
@@ -106,39 +106,39 @@ tree_changed slots i s e part lt used is here =
     (list_changed slots (elements_before slots i) e part here ∙ ap (λ ds. list (items_of ds)) (elements_set slots i s e lt used is))
     ∙ ap (λ m. list (item (bytes m) (item (elements_data (set slots i s)) no_items))) (map_set slots i s (used ∙ used_by s e is) lt)
 
-node_of_bytes : (v : NodeView) (slots : List TrieSlot) (i : ℕ) (s : TrieSlot) (r : Option (List ℕ)) → HasSlots usual v slots → IsSound usual s → (t : Data) → t ≡ node_data (set slots i s)
-    → IfSome r (λ b. b ≡ spell t) → IfSome r (IsNodeBlock usual (set slots i s))
-node_of_bytes v slots i s None has sound t same made = tt
-node_of_bytes v slots i s (Some b) has sound t same made =
-    node-block (set slots i s) b (length-set slots i s ∙ has.form.many) (all-set (IsSound usual) slots i s (slots-sound v slots has) sound) (made ∙ ap spell same)
+node_of_bytes : (p : HamtShape) (v : NodeView) (slots : List TrieSlot) (i : ℕ) (s : TrieSlot) (r : Option (List ℕ)) → HasSlots p v slots → IsSound p s → (t : Data) → t ≡ node_data (set slots i s)
+    → IfSome r (λ b. b ≡ spell t) → IfSome r (IsNodeBlock p (set slots i s))
+node_of_bytes p v slots i s None has sound t same made = tt
+node_of_bytes p v slots i s (Some b) has sound t same made =
+    node-block p (set slots i s) b (length-set slots i s ∙ has.form.many) (all-set (IsSound p) slots i s (slots-sound p v slots has) sound) (made ∙ ap spell same)
 
-node_of_result : {E : Type 0} (v : NodeView) (slots : List TrieSlot) (i : ℕ) (s : TrieSlot) (r : Result (Option (List ℕ)) E) → HasSlots usual v slots → IsSound usual s → (t : Data) → t ≡ node_data (set slots i s)
-    → IfOk r (λ o. IfSome o (λ b. b ≡ spell t)) → IfOk r (λ o. IfSome o (IsNodeBlock usual (set slots i s)))
-node_of_result v slots i s (Ok o) has sound t same made = node_of_bytes v slots i s o has sound t same made
-node_of_result v slots i s (Err x) has sound t same made = tt
+node_of_result : {E : Type 0} (p : HamtShape) (v : NodeView) (slots : List TrieSlot) (i : ℕ) (s : TrieSlot) (r : Result (Option (List ℕ)) E) → HasSlots p v slots → IsSound p s → (t : Data) → t ≡ node_data (set slots i s)
+    → IfOk r (λ o. IfSome o (λ b. b ≡ spell t)) → IfOk r (λ o. IfSome o (IsNodeBlock p (set slots i s)))
+node_of_result p v slots i s (Ok o) has sound t same made = node_of_bytes p v slots i s o has sound t same made
+node_of_result p v slots i s (Err x) has sound t same made = tt
 
 -- the node with another element at a used slot
-pub node_spliced : {E : Type 0} (v : NodeView) (slots : List TrieSlot) (i : ℕ) (s : TrieSlot) (old : Node) (new : List ℕ) (r : Result (Option (List ℕ)) E) → HasSlots usual v slots → i < 256
-    → IsElementAt slots i old → SpellsElement s new
+pub node_spliced : {E : Type 0} (p : HamtShape) (v : NodeView) (slots : List TrieSlot) (i : ℕ) (s : TrieSlot) (old : Node) (new : List ℕ) (r : Result (Option (List ℕ)) E) → HasSlots p v slots → i < length slots
+    → IsElementAt slots i old → SpellsElement p s new
     → ((t d e : Data) (q : List TreeStep) → IsAt old t q d → TreeIn deepest e → new ≡ spell e → IfOk r (λ o. IfSome o (λ b. b ≡ spell (changed q (replace e) t))))
-    → IfOk r (λ o. IfSome o (IsNodeBlock usual (set slots i s)))
-node_spliced v slots i s old new r has lt there spells made =
+    → IfOk r (λ o. IfSome o (IsNodeBlock p (set slots i s)))
+node_spliced p v slots i s old new r has lt there spells made =
     let q : List TreeStep = nth 1 ∷ nth (elements_before slots i) ∷ [] in
     let many = has.form.many in
-    node_of_result v slots i s r has spells.sound (changed q (replace spells.tree) (node_data slots))
+    node_of_result p v slots i s r has spells.sound (changed q (replace spells.tree) (node_data slots))
     (tree_changed slots i s spells.tree there.part (omega (arith, lt, many)) there.used spells.is there.is)
-    (made (node_data slots) there.part spells.tree q there.at (element_fits s spells.tree spells.sound spells.is) spells.spelled)
+    (made (node_data slots) there.part spells.tree q there.at (element_fits p s spells.tree spells.sound spells.is) spells.spelled)
 
 -- ---- spellings of elements
 
-pub spells_same : (s : TrieSlot) (b c : List ℕ) → c ≡ b → SpellsElement s b → SpellsElement s c
-spells_same s b c same e = record { tree = e.tree; is = e.is; spelled = same ∙ e.spelled; sound = e.sound }
+pub spells_same : (p : HamtShape) (s : TrieSlot) (b c : List ℕ) → c ≡ b → SpellsElement p s b → SpellsElement p s c
+spells_same p s b c same e = record { tree = e.tree; is = e.is; spelled = same ∙ e.spelled; sound = e.sound }
 
-pub bucket_spelled : (es : List (List ℕ × Data)) (b : List ℕ) → AreRows es → 1 ≤ length es → length es ≤ usual.bucket → b ≡ spell (bucket_data es) → SpellsElement (bucket es) b
-bucket_spelled es b rows some few is = record { tree = bucket_data es; is = refl; spelled = is; sound = record { form = (rows.0, some, few, rows.1); values = rows.2 } }
+pub bucket_spelled : (p : HamtShape) (es : List (List ℕ × Data)) (b : List ℕ) → AreRows es → 1 ≤ length es → length es ≤ p.bucket → b ≡ spell (bucket_data es) → SpellsElement p (bucket es) b
+bucket_spelled p es b rows some few is = record { tree = bucket_data es; is = refl; spelled = is; sound = record { form = (rows.0, some, few, rows.1); values = rows.2 } }
 
-pub link_spelled : (id b : List ℕ) → length id ≡ 32 → AreBytes id → b ≡ spell_link (cid_of id) → SpellsElement (child id) b
-link_spelled id b long all is = record { tree = link (cid_of id); is = refl; spelled = is; sound = child-sound id long all }
+pub link_spelled : (p : HamtShape) (id b : List ℕ) → length id ≡ 32 → AreBytes id → b ≡ spell_link (cid_of id) → SpellsElement p (child id) b
+link_spelled p id b long all is = record { tree = link (cid_of id); is = refl; spelled = is; sound = child-sound p id long all }
 
 -- ---- one item in place of another
 

@@ -8,7 +8,7 @@ use Rattle.ild_node.specs.declared.hold.NewHold.{NewHold}
 use Rattle.ild_data.specs.Data.{Data}
 use Rattle.ild_data.specs.Spell.{spell, id_of}
 use Rattle.ild_data.specs.ByteOrder.{IsInOrder}
-use Rattle.ild_data.specs.TrieShape.{TrieShape}
+use Rattle.ild_data.specs.declared.hamt_shape.HamtShape.{HamtShape}
 use Rattle.ild_data.specs.Trie.{TrieSlot, empty, bucket, child, is_child, bucket_entries, link_to, node_data, part, slot_of, node_of, at_depth, slots_at}
 use Rattle.ild_data.specs.TrieBlocks.{none_or, block_of}
 use Rattle.ild_hamt_trie.specs.Collapse.{sized}
@@ -44,7 +44,7 @@ pub record Exchanged (most : ℕ) (at : List ℕ → ℕ) (below : List (List �
   pub others : (j : ℕ) → j < n → j ≢ i → slot_of most below (part at gs j) ≡ Some (get_or ss j empty)
   pub within : (q : List ℕ) → at q < n
 
-pub exchanged : (h : List ℕ → List ℕ) (p : TrieShape) (left depth i : ℕ) (ss : List TrieSlot) (s : TrieSlot) (gs : List (List ℕ × Data)) → length ss ≡ 2 ^ p.width → i < 2 ^ p.width
+pub exchanged : (h : List ℕ → List ℕ) (p : HamtShape) (left depth i : ℕ) (ss : List TrieSlot) (s : TrieSlot) (gs : List (List ℕ × Data)) → length ss ≡ 2 ^ p.width → i < 2 ^ p.width
     → slots_at h p left depth gs ≡ Some (set ss i s) → Exchanged p.bucket (at_depth h p depth) (node_of h p left (depth + 1)) (2 ^ p.width) i ss s gs
 exchanged h p left depth i ss s gs many lt is = record {
   here = slot_at p (at_depth h p depth) (node_of h p left (depth + 1)) gs i (set ss i s) empty lt is ∙ ap Some (get_or-set_same ss i s empty (let e : i < length ss = omega (arith, many, lt) in e));
@@ -138,13 +138,13 @@ gather-done most at below n i j ss s gs rows z x few was le is =
 
 -- ---- the slot in the node above
 
-pub lifts-few : (h : List ℕ → List ℕ) (p : TrieShape) (left depth : ℕ) (gs : List (List ℕ × Data)) (z : TrieSlot) (plan : List (List ℕ)) → length gs ≤ p.bucket → z ≡ sized p.bucket empty gs → Lifts h p left depth gs z plan plan
+pub lifts-few : (h : List ℕ → List ℕ) (p : HamtShape) (left depth : ℕ) (gs : List (List ℕ × Data)) (z : TrieSlot) (plan : List (List ℕ)) → length gs ≤ p.bucket → z ≡ sized p.bucket empty gs → Lifts h p left depth gs z plan plan
 lifts-few h p left depth gs z plan few is = record {
   slot_is = slot-few p.bucket (node_of h p left depth) gs empty few ∙ ap Some (sym is);
   plan_is = sym (ap (λ b. plan ++ none_or b (λ xs. block_of (node_of h p left depth xs)) gs) (le-leb (length gs) p.bucket few) ∙ append-nil plan);
 }
 
-pub lifts-link : (h : List ℕ → List ℕ) (p : TrieShape) (left depth : ℕ) (ss : List TrieSlot) (gs : List (List ℕ × Data)) (block id : List ℕ) (plan now : List (List ℕ)) → nat_le (length gs) p.bucket ≡ false
+pub lifts-link : (h : List ℕ → List ℕ) (p : HamtShape) (left depth : ℕ) (ss : List TrieSlot) (gs : List (List ℕ × Data)) (block id : List ℕ) (plan now : List (List ℕ)) → nat_le (length gs) p.bucket ≡ false
     → slots_at h p left depth gs ≡ Some ss → block ≡ spell (node_data ss) → id ≡ id_of block → now ≡ plan ++ block ∷ [] → Lifts h p (suc left) depth gs (child id) plan now
 lifts-link h p left depth ss gs block id plan now many is written named pushes =
     let node : node_of h p (suc left) depth gs ≡ Some (node_data ss) = node-slots h p left depth gs ∙ ap (option_map node_data) is in
@@ -154,7 +154,7 @@ lifts-link h p left depth ss gs block id plan now many is written named pushes =
           ∙ sym (ap (λ b. plan ++ none_or b (λ xs. block_of (node_of h p (suc left) depth xs)) gs) many ∙ ap (λ o. plan ++ block_of o) node);
     }
 
-pub ok-lifts : {E : Type 0} (r : Result (Option NewHold) E) (h : List ℕ → List ℕ) (p : TrieShape) (left depth : ℕ) (gs : List (List ℕ × Data)) (plan : List (List ℕ)) → length gs ≤ p.bucket
+pub ok-lifts : {E : Type 0} (r : Result (Option NewHold) E) (h : List ℕ → List ℕ) (p : HamtShape) (left depth : ℕ) (gs : List (List ℕ × Data)) (plan : List (List ℕ)) → length gs ≤ p.bucket
     → IfOk r (λ s. slot_seen s ≡ sized p.bucket empty gs) → IfOk r (λ s. Lifts h p left depth gs (slot_seen s) plan plan)
 ok-lifts (Ok s) h p left depth gs plan few is = lifts-few h p left depth gs (slot_seen s) plan few is
 ok-lifts (Err e) h p left depth gs plan few is = tt

@@ -1,9 +1,9 @@
 -- What is known of a node and a bucket that were read, whichever they are: a view is that of a node, and the values of a bucket leave
 -- room for the node around them.
 use Rattle.std.specs.Prelude.{ℕ, List}
+use Rattle.ild_data.specs.declared.hamt_shape.HamtShape.{HamtShape}
 use Rattle.ild_data.specs.Data.{Data}
 use Rattle.ild_data.specs.Trie.{TrieSlot}
-use Rattle.ild_typed.specs.Composed.{usual}
 use Rattle.ild_node.specs.Rows.{AreShallow}
 use Rattle.ild_node_slots.specs.Steps.{IsAtSlot}
 use Rattle.ild_node_slots.specs.Views.{HasSlots, HasEntries}
@@ -14,15 +14,16 @@ use Rattle.ild_node_slots.specs.declared.view.NodeSlot.{NodeSlot}
 use Rattle.ild_node_slots.specs.declared.view.NodeSlot.TheVariants as S
 
 -- the view of a node
-pub record SomeNode (v : NodeView) : Type 0 where
+pub record SomeNode (p : HamtShape) (v : NodeView) : Type 0 where
   pub slots : List TrieSlot
-  pub has : HasSlots usual v slots
+  pub has : HasSlots p v slots
 
 -- a walk over the slots of a node, before the slot of this number
 pub record SomeWalk (j : ℕ) (walk : Slots) : Type 0 where
   pub view : NodeView
   pub slots : List TrieSlot
-  pub has : HasSlots usual view slots
+  pub shape : HamtShape
+  pub has : HasSlots shape view slots
   pub at : IsAtSlot view slots j walk
 
 -- a bucket whose values leave room

@@ -1,10 +1,10 @@
 -- A new way planned and put, of whatever trie its nodes are.
 use Rattle.std.specs.Prelude.{◌≡◌, ◌⊎◌, ℕ, ◌+◌, ◌≤◌, true, false, All, IsSome, List, [], ◌∷◌, ◌++◌, length, Result, Ok, Err}
 use Rattle.std.specs.List.{AllByRecursion}
+use Rattle.ild_data.specs.declared.hamt_shape.HamtShape.{HamtShape}
 use Rattle.ild_data.specs.Spell.{spell}
 use Rattle.ild_data.specs.Trie.{TrieSlot, node_data}
 use Rattle.ild_edges.specs.Store.{Moment, block_at}
-use Rattle.ild_typed.specs.Composed.{usual}
 use Rattle.ild_node.specs.Written.{IsNodeBlock}
 use Rattle.ild_node_slots.specs.declared.fault.HamtFault.{HamtFault}
 use Rattle.ild_node_slots.specs.declared.fault.HamtFault.TheVariants.{Size}
@@ -18,8 +18,8 @@ abbrev pub HoldsLinks : List (List ℕ) → List TrieSlot → Type 0
 HoldsLinks held slots = AllByRecursion (ChildIn (λ c. IsSome (block_at held c))) slots
 
 -- the children of the node that a block is are held
-abbrev pub HoldsLinksOf : List (List ℕ) → List ℕ → Type 0
-HoldsLinksOf held b = (slots : List TrieSlot) → IsNodeOf usual b slots → HoldsLinks held slots
+abbrev pub HoldsLinksOf : HamtShape → List (List ℕ) → List ℕ → Type 0
+HoldsLinksOf p held b = (slots : List TrieSlot) → IsNodeOf p b slots → HoldsLinks held slots
 
 -- the block spells a node of any slots
 pub record SpellsNode (b : List ℕ) : Type 0 where
@@ -27,9 +27,9 @@ pub record SpellsNode (b : List ℕ) : Type 0 where
   pub spelled : b ≡ spell (node_data slots)
 
 -- the block is written as a node that may stand in a HAMT
-pub record IsWritten (b : List ℕ) : Type 0 where
+pub record IsWritten (p : HamtShape) (b : List ℕ) : Type 0 where
   pub slots : List TrieSlot
-  pub block : IsNodeBlock usual slots b
+  pub block : IsNodeBlock p slots b
 
 -- each block's children are held, or are among those before it
 abbrev pub Rising : List (List ℕ) → List (List ℕ) → List (List ℕ) → Type 0
@@ -48,10 +48,10 @@ pub record LiftsOver (slots : List TrieSlot) (s above : TrieSlot) (old new : Lis
   pub planned : (held : List (List ℕ)) → HoldsLinks held slots → IsPlanned held s old → IsPlanned held above new
 
 -- the way up from a slot through nodes in these blocks: at most one node more is planned for each, behind those that were
-pub record ClimbsOver (bs : List (List ℕ)) (s : TrieSlot) (old new : List (List ℕ)) : Type 0 where
+pub record ClimbsOver (p : HamtShape) (bs : List (List ℕ)) (s : TrieSlot) (old new : List (List ℕ)) : Type 0 where
   pub few : length new ≤ length old + length bs
   pub nodes : AllByRecursion SpellsNode old → AllByRecursion SpellsNode new
-  pub rises : (held : List (List ℕ)) → All (HoldsLinksOf held) bs → IsPlanned held s old → Rising held [] new
+  pub rises : (held : List (List ℕ)) → All (HoldsLinksOf p held) bs → IsPlanned held s old → Rising held [] new
 
 -- the root, and the planned nodes put; or nothing was put, since one of them or the root is too long; or why a put of them ended
 abbrev pub PutsWay : List ℕ → List (List ℕ) → Moment → Result (List ℕ) HamtFault → Moment → Type 0

@@ -1,10 +1,10 @@
 //! The elements of a node's slots: where one stands in the node, and the spelling of one that is to take its place.
-ghost use Rattle.std.specs.Prelude.{◌≡◌, ◌≤◌, [], List, length, IfOk, IfSome};
+ghost use Rattle.std.specs.Prelude.{◌≡◌, ◌<◌, ◌≤◌, [], List, length, IfOk, IfSome};
 ghost use Rattle.ild_data.specs.Bytes.{AreBytes};
 ghost use Rattle.ild_data.specs.Data.{Data};
 ghost use Rattle.ild_data.specs.Trie.{TrieSlot, bucket, child};
+ghost use Rattle.ild_data.specs.declared.hamt_shape.HamtShape.{HamtShape};
 ghost use Rattle.ild_cbor.specs.Nodes.{Stands};
-ghost use Rattle.ild_typed.specs.Composed.{usual};
 ghost use Rattle.ild_node.specs.NewSlots.{IsFilled, hold_seen};
 ghost use Rattle.ild_node_slots.specs.Places.{elements_before};
 ghost use Rattle.ild_node_slots.specs.Views.{HasSlots};
@@ -32,7 +32,7 @@ fn apart<'b>(node: &Node<'b>) -> Node<'b>
 
 // How many elements stand before that of a slot.
 fn count_before(view: NodeView<'_>, i: u8) -> u64
-    ensures { (slots : List TrieSlot) → HasSlots usual view.entry slots → result ≡ elements_before slots i }
+    ensures { (p : HamtShape) (slots : List TrieSlot) → HasSlots p view.entry slots → i < length slots → result ≡ elements_before slots i }
 {
     let mut count: u64 = 0;
     for j in 0..i as usize {
@@ -43,7 +43,7 @@ fn count_before(view: NodeView<'_>, i: u8) -> u64
 
 /// The element of a slot, in the node as a block by itself, or `None` where the slot is empty.
 pub(crate) fn element_at<'b>(view: NodeView<'b>, i: u8) -> Option<Node<'b>>
-    ensures { (slots : List TrieSlot) → HasSlots usual view.entry slots → IfSome result (IsElementAt slots i) }
+    ensures { (p : HamtShape) (slots : List TrieSlot) → HasSlots p view.entry slots → i < length slots → IfSome result (IsElementAt slots i) }
 {
     if !view.is_used(i as usize) {
         return None;
@@ -62,7 +62,7 @@ fn are_bytes(bytes: &[u8])
 
 // The link of a child.
 fn link_element(alloc: Global, id: &BlockId) -> Result<Octets, AllocError>
-    ensures { IfOk result (SpellsElement (child id.now.0)) }
+    ensures { (p : HamtShape) → IfOk result (SpellsElement p (child id.now.0)) }
 {
     are_bytes(&id.0);
     let mut out = Emit::with_room(alloc, LINK_ROOM)?;
@@ -72,9 +72,7 @@ fn link_element(alloc: Global, id: &BlockId) -> Result<Octets, AllocError>
 
 // The bucket of rows.
 fn bucket_element(alloc: Global, rows: &Rows) -> Result<Octets, AllocError>
-    requires some { 1 ≤ length rows.now }
-    requires few { length rows.now ≤ usual.bucket }
-    ensures { IfOk result (SpellsElement (bucket rows.now)) }
+    ensures { (p : HamtShape) → 1 ≤ length rows.now → length rows.now ≤ p.bucket → IfOk result (SpellsElement p (bucket rows.now)) }
 {
     let rows = rows.as_slice();
     let mut out = Emit::new(alloc);
@@ -87,8 +85,7 @@ fn bucket_element(alloc: Global, rows: &Rows) -> Result<Octets, AllocError>
 
 /// The element of a used slot, spelled.
 pub(crate) fn element_of(alloc: Global, hold: &NewHold) -> Result<Octets, AllocError>
-    requires { IsFilled usual hold.now }
-    ensures { IfOk result (SpellsElement (hold_seen hold.now)) }
+    ensures { (p : HamtShape) → IsFilled p hold.now → IfOk result (SpellsElement p (hold_seen hold.now)) }
 {
     match hold {
         NewHold::Child(id) => link_element(alloc, id),

@@ -3,7 +3,7 @@ ghost use Rattle.std.specs.Prelude.{◌≡◌, ◌≢◌, ◌<◌, ◌+◌, ℕ,
 ghost use Rattle.ild_data.specs.ByteOrder.{IsInOrder, without};
 ghost use Rattle.ild_data.specs.Data.{Data};
 ghost use Rattle.ild_data.specs.Trie.{TrieSlot, empty, bucket_entries};
-ghost use Rattle.ild_typed.specs.Composed.{usual};
+ghost use Rattle.ild_data.specs.declared.hamt_shape.HamtShape.{HamtShape};
 ghost use Rattle.ild_node.specs.NewSlots.{slot_seen};
 ghost use Rattle.ild_node_slots.specs.Steps.{IsAtSlot};
 ghost use Rattle.ild_node_slots.specs.Views.{HasEntries, HasSlots};
@@ -91,8 +91,8 @@ pub(crate) fn put_next(
     rows: &mut Rows,
 ) -> Result<(), AllocError>
     requires { ∥ SomeWalk j slots.old ∥₁ }
-    ensures walks { (v : NodeView) (ss : List TrieSlot) → HasSlots usual v ss → IsAtSlot v ss j slots.old → j < length ss → IsAtSlot v ss (j + 1) slots.new }
-    ensures puts { (v : NodeView) (ss : List TrieSlot) → HasSlots usual v ss → IsAtSlot v ss j slots.old → j < length ss → j ≢ i
+    ensures walks { (p : HamtShape) (v : NodeView) (ss : List TrieSlot) → HasSlots p v ss → IsAtSlot v ss j slots.old → j < length ss → IsAtSlot v ss (j + 1) slots.new }
+    ensures puts { (p : HamtShape) (v : NodeView) (ss : List TrieSlot) → HasSlots p v ss → IsAtSlot v ss j slots.old → j < length ss → j ≢ i
         → OnOk result (rows.new ≡ put_each (bucket_entries (slice_index_or ss j empty)) rows.old) }
     ensures stays { j ≡ i → OnOk result (rows.new ≡ rows.old) }
 {

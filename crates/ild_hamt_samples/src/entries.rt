@@ -1,12 +1,11 @@
 //! Entries, and the nodes of their HAMTs. The blocks are those of tests/hamt/trie.py, a plain trie in Python.
 ghost use Rattle.std.specs.Prelude.{◌≡◌, ◌+◌, length, IfOk, OnOk};
-ghost use Rattle.ild_typed.specs.Composed.{usual};
 ghost use Rattle.ild_bulk.specs.Build.{HasShortTrie};
 ghost use Rattle.ild_hamt_samples.specs.Pairs.{entries_of};
 
 use crate::rows::{push, rows_of};
 use ild_bulk::from_entries;
-use ild_data::{KeyHash, Octets};
+use ild_data::{HamtShape, KeyHash, Octets};
 use ild_edges::MemStore;
 use ild_node::Rows;
 use std::alloc::Global;
@@ -38,17 +37,18 @@ pub const CHILD_OF_FOUR: &[u8] =
 pub const ROOT_OF_THREE: &[u8] =
     b"\x82\x58\x20\x01\x00\x00\x00\x00\x00\x00\x00\x00\x00\x00\x00\x00\x00\x00\x00\x00\x00\x00\x00\x00\x00\x00\x00\x00\x00\x00\x00\x00\x00\x00\x00\x81\x83\x82\x42\x00\x01\x01\x82\x42\x00\x02\x02\x82\x42\x00\x03\x03";
 
-/// The root node of these entries.
+/// The root node of the HAMT of this shape of these entries.
 pub fn built<H: KeyHash>(
     alloc: Global,
+    shape: HamtShape,
     pairs: &[(&str, u8)],
     keys: &H,
     store: &mut MemStore,
 ) -> Result<Octets, Fail>
-    ensures { IfOk result (HasShortTrie H.hash_of usual (entries_of pairs.now)) }
+    ensures { IfOk result (HasShortTrie H.hash_of shape (entries_of pairs.now)) }
 {
     let rows = rows_of(alloc, pairs)?;
-    match from_entries(alloc, &rows, keys, store) {
+    match from_entries(alloc, shape, &rows, keys, store) {
         Ok(root) => Ok(root),
         Err(_) => Err("a root".into()),
     }

@@ -3,7 +3,7 @@ use crate::edited::{Edit, edit, ending};
 use ild_bulk::from_entries;
 use ild_bulk_walker::check_tree;
 use ild_cbor::check;
-use ild_data::{KeyHash, Octets, PadKeys, Sha256Keys, block_id};
+use ild_data::{HamtShape, KeyHash, Octets, PadKeys, Sha256Keys, block_id};
 use ild_edges::{MemStore, Store};
 use ild_hamt::descend;
 use ild_hamt_samples::{push, rows_of};
@@ -34,7 +34,7 @@ fn key_of(alloc: Global, n: u32) -> Result<String, Fail> {
 fn root_of<H: KeyHash>(alloc: Global, rows: &Rows, keys: &H) -> Result<Octets, Fail> {
     let mut store = MemStore::new(alloc, &[], &[])?;
     Ok(
-        from_entries(alloc, rows, keys, &mut store)
+        from_entries(alloc, HamtShape::usual(), rows, keys, &mut store)
             .ok()
             .ok_or("a root")?,
     )
@@ -84,7 +84,7 @@ fn step<H: KeyHash>(
 /// Whether so many edits, each of a linear congruential generator, leave what the plain map holds; after each of the last hundred.
 fn agree<H: KeyHash>(alloc: Global, count: u32, keys: &H) -> Result<bool, Fail> {
     let mut store = MemStore::new(alloc, &[], &[])?;
-    let mut root = write_node(alloc, &[])?;
+    let mut root = write_node(alloc, HamtShape::usual(), &[])?;
     let mut plain: Plain = [None; PLACES];
     let mut state: u32 = 1;
     let mut same = true;
@@ -150,11 +150,11 @@ const COLLAPSE: Failing<'static> = Failing {
 fn held(alloc: Global, case: &Failing<'_>, store: &mut MemStore) -> Result<u64, Fail> {
     let mut whole = MemStore::new(alloc, &[], &[])?;
     let rows = rows_of(alloc, case.after)?;
-    let root = from_entries(alloc, &rows, &PadKeys, &mut whole)
+    let root = from_entries(alloc, HamtShape::usual(), &rows, &PadKeys, &mut whole)
         .ok()
         .ok_or("a root")?;
     let node = check(root.as_slice()).ok().ok_or("a block")?;
-    let view = node_of(node).ok().ok_or("a node")?;
+    let view = node_of(node, HamtShape::usual()).ok().ok_or("a node")?;
     let (key, _) = case.edit;
     let trail = descend(alloc, view, key, &PadKeys, &mut whole)
         .ok()
@@ -175,7 +175,7 @@ fn held(alloc: Global, case: &Failing<'_>, store: &mut MemStore) -> Result<u64, 
 fn fails_at(alloc: Global, case: &Failing<'_>, k: u64) -> Result<bool, Fail> {
     let mut store = MemStore::new(alloc, &[], &[case.built.wrapping_add(k)])?;
     let rows = rows_of(alloc, case.before)?;
-    let root = from_entries(alloc, &rows, &PadKeys, &mut store)
+    let root = from_entries(alloc, HamtShape::usual(), &rows, &PadKeys, &mut store)
         .ok()
         .ok_or("a root")?;
     let first = edit(alloc, &root, case.edit, &PadKeys, &mut store);
@@ -184,7 +184,7 @@ fn fails_at(alloc: Global, case: &Failing<'_>, k: u64) -> Result<bool, Fail> {
     let second = edit(alloc, &root, case.edit, &PadKeys, &mut store)?;
     let wanted = root_of(alloc, &rows_of(alloc, case.after)?, &PadKeys)?;
     let node = check(second.as_slice()).ok().ok_or("a block")?;
-    let view = node_of(node).ok().ok_or("a node")?;
+    let view = node_of(node, HamtShape::usual()).ok().ok_or("a node")?;
     let count = check_tree(
         alloc,
         view,

@@ -1,6 +1,6 @@
 //! Whole HAMTs from their entries. The blocks and the CIDs are those of tests/hamt/trie.py, a plain trie in Python.
 use ild_bulk::from_entries;
-use ild_data::{KeyHash, PadKeys, Sha256Keys, block_id};
+use ild_data::{HamtShape, KeyHash, PadKeys, Sha256Keys, block_id};
 use ild_edges::{MemStore, Store};
 use ild_hamt_samples::{
     ABC, CHILD_OF_FOUR, FOUR, ROOT_OF_FOUR, ROOT_OF_THREE, TWO_CHILDREN, built, pseudo_random,
@@ -39,20 +39,34 @@ fn ending<H: KeyHash>(
 ) -> Result<&'static str, Fail> {
     let mut store = MemStore::new(alloc, &[], &[k])?;
     let rows = rows_of(alloc, pairs)?;
-    Ok(match from_entries(alloc, &rows, keys, &mut store) {
-        Ok(_) => "root",
-        Err(HamtFault::Exhausted) => "exhausted",
-        Err(HamtFault::Store) => "store",
-        Err(_) => "another fault",
-    })
+    Ok(
+        match from_entries(alloc, HamtShape::usual(), &rows, keys, &mut store) {
+            Ok(_) => "root",
+            Err(HamtFault::Exhausted) => "exhausted",
+            Err(HamtFault::Store) => "store",
+            Err(_) => "another fault",
+        },
+    )
 }
 
 #[test]
 fn one_entry(rt: HostRuntime) -> Result<(), Fail> {
     let mut store = MemStore::new(rt.alloc(), &[], &[])?;
-    let root = built(rt.alloc(), &[("abc", 1)], &Sha256Keys, &mut store)?;
+    let root = built(
+        rt.alloc(),
+        HamtShape::usual(),
+        &[("abc", 1)],
+        &Sha256Keys,
+        &mut store,
+    )?;
     assert_eq!(rt; root.as_slice(), ABC);
-    let root = built(rt.alloc(), &FOUR[..3], &PadKeys, &mut store)?;
+    let root = built(
+        rt.alloc(),
+        HamtShape::usual(),
+        &FOUR[..3],
+        &PadKeys,
+        &mut store,
+    )?;
     assert_eq!(rt; root.as_slice(), ROOT_OF_THREE);
     Ok(())
 }
@@ -60,7 +74,7 @@ fn one_entry(rt: HostRuntime) -> Result<(), Fail> {
 #[test]
 fn a_child_is_put(rt: HostRuntime) -> Result<(), Fail> {
     let mut store = MemStore::new(rt.alloc(), &[], &[])?;
-    let root = built(rt.alloc(), &FOUR, &PadKeys, &mut store)?;
+    let root = built(rt.alloc(), HamtShape::usual(), &FOUR, &PadKeys, &mut store)?;
     assert_eq!(rt; root.as_slice(), ROOT_OF_FOUR);
     let child = store
         .get(&block_id(CHILD_OF_FOUR))
@@ -100,9 +114,15 @@ fn many_keys(rt: HostRuntime) -> Result<(), Fail> {
     for (count, cid) in MANY {
         let mut store = MemStore::new(rt.alloc(), &[], &[])?;
         let rows = pseudo_random(rt.alloc(), count)?;
-        let root = from_entries(rt.alloc(), &rows, &Sha256Keys, &mut store)
-            .ok()
-            .ok_or("a root")?;
+        let root = from_entries(
+            rt.alloc(),
+            HamtShape::usual(),
+            &rows,
+            &Sha256Keys,
+            &mut store,
+        )
+        .ok()
+        .ok_or("a root")?;
         let text = block_id(root.as_slice()).text(rt.alloc())?;
         assert_eq!(rt; text.as_str(), cid);
     }

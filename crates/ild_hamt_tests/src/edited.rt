@@ -1,7 +1,7 @@
 //! HAMTs under edits, key by key. The blocks and the CIDs are those of tests/hamt/trie.py, a plain trie in Python.
 use crate::nodes::EMPTY;
 use ild_cbor::check;
-use ild_data::{KeyHash, Octets, PadKeys, Sha256Keys, block_id};
+use ild_data::{HamtShape, KeyHash, Octets, PadKeys, Sha256Keys, block_id};
 use ild_edges::{MemStore, Store};
 use ild_hamt::descend;
 use ild_hamt_samples::{ABC, CHILD_OF_FOUR, ROOT_OF_FOUR, ROOT_OF_THREE, is_scalar};
@@ -20,8 +20,20 @@ pub(crate) fn edit<H: KeyHash>(
     keys: &H,
     store: &mut MemStore,
 ) -> Result<Octets, &'static str> {
+    edit_of(alloc, HamtShape::usual(), root, edit, keys, store)
+}
+
+/// The same of a HAMT of any shape.
+pub(crate) fn edit_of<H: KeyHash>(
+    alloc: Global,
+    shape: HamtShape,
+    root: &Octets,
+    edit: Edit<'_>,
+    keys: &H,
+    store: &mut MemStore,
+) -> Result<Octets, &'static str> {
     let node = check(root.as_slice()).ok().ok_or("a block")?;
-    let view = node_of(node).ok().ok_or("a node")?;
+    let view = node_of(node, shape).ok().ok_or("a node")?;
     let (key, value) = edit;
     let trail = descend(alloc, view, key, keys, store)
         .ok()
@@ -55,7 +67,7 @@ fn edited<H: KeyHash>(
     keys: &H,
     store: &mut MemStore,
 ) -> Result<Octets, Fail> {
-    let mut root = write_node(alloc, &[])?;
+    let mut root = write_node(alloc, HamtShape::usual(), &[])?;
     for step in edits {
         root = edit(alloc, &root, *step, keys, store)?;
     }
@@ -150,7 +162,7 @@ fn shuffled<H: KeyHash>(
     keys: &H,
     store: &mut MemStore,
 ) -> Result<Octets, Fail> {
-    let mut root = write_node(alloc, &[])?;
+    let mut root = write_node(alloc, HamtShape::usual(), &[])?;
     let mut state: u32 = 1;
     for _ in 0..count {
         state = state.wrapping_mul(1_103_515_245).wrapping_add(12345) % 0x8000_0000;

@@ -8,6 +8,8 @@ mod built;
 #[cfg(test)]
 mod edited;
 #[cfg(test)]
+mod narrow;
+#[cfg(test)]
 mod nodes;
 #[cfg(test)]
 mod whys;

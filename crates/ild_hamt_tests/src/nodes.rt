@@ -1,6 +1,6 @@
 //! Nodes that are written and read again.
 use ild_cbor::check;
-use ild_data::{BlockId, Octets};
+use ild_data::{BlockId, HamtShape, Octets};
 use ild_emit::Emit;
 use ild_node::{NodeSlot, NodeView, node_of, root_of, write_node, write_root};
 use std::alloc::Global;
@@ -32,12 +32,15 @@ fn count(view: NodeView<'_>) -> u64 {
 
 #[test]
 fn no_entries(rt: HostRuntime) -> Result<(), Fail> {
-    let block = write_node(rt.alloc(), &[])?;
+    let block = write_node(rt.alloc(), HamtShape::usual(), &[])?;
     assert_eq!(rt; block.as_slice(), EMPTY);
     let node = check(block.as_slice()).ok().ok_or("a block")?;
-    assert_eq!(rt; write_root(rt.alloc(), &node)?.as_slice(), EMPTY_ROOT);
+    assert_eq!(rt;
+        write_root(rt.alloc(), HamtShape::usual(), &node)?.as_slice(),
+        EMPTY_ROOT
+    );
     let root = check(EMPTY_ROOT).ok().ok_or("a block")?;
-    let view = root_of(root).ok().ok_or("a root")?;
+    let view = root_of(root, HamtShape::usual()).ok().ok_or("a root")?;
     assert_eq!(rt; held(view.slot(255)), 1000);
     assert_eq!(rt; count(view), 256);
     Ok(())
@@ -71,7 +74,7 @@ fn is_full(view: NodeView<'_>) -> bool {
 fn all_bits(rt: HostRuntime) -> Result<(), Fail> {
     let block = full(rt.alloc())?;
     let node = check(block.as_slice()).ok().ok_or("a block")?;
-    let view = node_of(node).ok().ok_or("a node")?;
+    let view = node_of(node, HamtShape::usual()).ok().ok_or("a node")?;
     assert_eq!(rt; is_full(view), true);
     assert_eq!(rt; held(view.slot(0)), 0);
     assert_eq!(rt; held(view.slot(8)), 8);
@@ -84,7 +87,7 @@ fn all_bits(rt: HostRuntime) -> Result<(), Fail> {
 fn found_in_a_bucket(rt: HostRuntime) -> Result<(), Fail> {
     let block = full(rt.alloc())?;
     let node = check(block.as_slice()).ok().ok_or("a block")?;
-    let view = node_of(node).ok().ok_or("a node")?;
+    let view = node_of(node, HamtShape::usual()).ok().ok_or("a node")?;
     let bucket = match view.slot(255) {
         NodeSlot::Bucket(bucket) => bucket,
         _ => return Err("a bucket".into()),

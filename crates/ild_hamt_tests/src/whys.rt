@@ -1,5 +1,6 @@
 //! Why an item isn't read as the root of a HAMT.
 use ild_cbor::{Why, check};
+use ild_data::HamtShape;
 use ild_node::root_of;
 use std::test::Fail;
 
@@ -88,7 +89,7 @@ const CASES: [(&str, &[u8], Option<Why>); 17] = [
 
 fn why_of(block: &[u8]) -> Result<Option<Why>, Fail> {
     let node = check(block).ok().ok_or("a block")?;
-    Ok(root_of(node).err())
+    Ok(root_of(node, HamtShape::usual()).err())
 }
 
 #[test]

@@ -5,7 +5,7 @@ use Rattle.std.proofs.lemmas.List.Elements.{All-nil, All-cons, All-head, All-tai
 use Rattle.std.proofs.lemmas.Bool.{lt-leb, eqb-true, cases_eq, or_cases}
 use Rattle.std.specs.FinMap.{put}
 use Rattle.ild_data.specs.Data.{Data}
-use Rattle.ild_data.specs.TrieShape.{TrieShape}
+use Rattle.ild_data.specs.declared.hamt_shape.HamtShape.{HamtShape}
 use Rattle.ild_data.specs.ByteOrder.{bytewise, without, IsInOrder}
 use Rattle.ild_data.specs.Trie.{part, node_of}
 use Rattle.ild_data.specs.TrieBlocks.{nodes_beneath, node_and_beneath, block_of, none_or}
@@ -35,15 +35,15 @@ all-changed {X = X} P f g (j ∷ js) i same here h =
     (all-changed P f g js i same here parts.1)
 
 -- the blocks at an index: the child's, and those beneath it
-abbrev pub blocks_at : (List ℕ → List ℕ) → TrieShape → ℕ → ℕ → List (List ℕ × Data) → ℕ → List (List ℕ)
+abbrev pub blocks_at : (List ℕ → List ℕ) → HamtShape → ℕ → ℕ → List (List ℕ × Data) → ℕ → List (List ℕ)
 blocks_at h p left depth es i = node_and_beneath p.bucket (node_of h p left (depth + 1)) (nodes_beneath h p left (depth + 1)) (part (at_depth h p depth) es i)
 
-beneath_is : (h : List ℕ → List ℕ) (p : TrieShape) (left depth : ℕ) (es : List (List ℕ × Data)) → nodes_beneath h p (suc left) depth es ≡ flat_map (blocks_at h p left depth es) (range_with_len 0 (2 ^ p.width))
+beneath_is : (h : List ℕ → List ℕ) (p : HamtShape) (left depth : ℕ) (es : List (List ℕ × Data)) → nodes_beneath h p (suc left) depth es ≡ flat_map (blocks_at h p left depth es) (range_with_len 0 (2 ^ p.width))
 unfolding nodes_beneath
 beneath_is h p left depth es = refl
 
 -- what holds of each block beneath holds of the key's child and of each block beneath that
-pub beneath-child : (P : List ℕ → Type 0) (h : List ℕ → List ℕ) (p : TrieShape) (left depth : ℕ) (es : List (List ℕ × Data)) (k : List ℕ)
+pub beneath-child : (P : List ℕ → Type 0) (h : List ℕ → List ℕ) (p : HamtShape) (left depth : ℕ) (es : List (List ℕ × Data)) (k : List ℕ)
     → All P (nodes_beneath h p (suc left) depth es) → p.bucket < length (part (at_depth h p depth) es (at_depth h p depth k))
     → All P (block_of (node_of h p left (depth + 1) (part (at_depth h p depth) es (at_depth h p depth k)))
     ++ nodes_beneath h p left (depth + 1) (part (at_depth h p depth) es (at_depth h p depth k)))
@@ -54,7 +54,7 @@ beneath-child P h p left depth es k all many =
     subst (λ (b : Bool). All P (none_or b (λ gs. block_of (node_of h p left (depth + 1) gs) ++ nodes_beneath h p left (depth + 1) gs) fs)) (lt-leb (length fs) p.bucket many) here
 
 -- after a set and a removal: of the blocks at other indices it holds as before
-pub beneath-put : (P : List ℕ → Type 0) (h : List ℕ → List ℕ) (p : TrieShape) (left depth : ℕ) (es : List (List ℕ × Data)) (k : List ℕ) (v : Data) → IsInOrder es
+pub beneath-put : (P : List ℕ → Type 0) (h : List ℕ → List ℕ) (p : HamtShape) (left depth : ℕ) (es : List (List ℕ × Data)) (k : List ℕ) (v : Data) → IsInOrder es
     → All P (nodes_beneath h p (suc left) depth es)
     → All P (node_and_beneath p.bucket (node_of h p left (depth + 1)) (nodes_beneath h p left (depth + 1)) (put bytewise k v (part (at_depth h p depth) es (at_depth h p depth k))))
     → All P (nodes_beneath h p (suc left) depth (put bytewise k v es))
@@ -67,7 +67,7 @@ beneath-put P h p left depth es k v order all here =
     (subst (λ (fs : List (List ℕ × Data)). All P (blocks fs)) (sym (part-put_same at k v es (at_depth h p depth k) order refl)) here)
     (subst (λ (bs : List (List ℕ)). All P bs) (beneath_is h p left depth es) all))
 
-pub beneath-without : (P : List ℕ → Type 0) (h : List ℕ → List ℕ) (p : TrieShape) (left depth : ℕ) (es : List (List ℕ × Data)) (k : List ℕ) → IsInOrder es
+pub beneath-without : (P : List ℕ → Type 0) (h : List ℕ → List ℕ) (p : HamtShape) (left depth : ℕ) (es : List (List ℕ × Data)) (k : List ℕ) → IsInOrder es
     → All P (nodes_beneath h p (suc left) depth es)
     → All P (node_and_beneath p.bucket (node_of h p left (depth + 1)) (nodes_beneath h p left (depth + 1)) (without k (part (at_depth h p depth) es (at_depth h p depth k))))
     → All P (nodes_beneath h p (suc left) depth (without k es))

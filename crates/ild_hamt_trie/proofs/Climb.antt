@@ -3,7 +3,7 @@ use Rattle.std.proofs.Common.{◌≡◌, ℕ, zero, suc, ◌+◌, ◌-◌, ◌<�
 use Rattle.std.specs.FinMap.{find, put}
 use Rattle.std.specs.FinMap.Entries.{length-put}
 use Rattle.ild_data.specs.Data.{Data}
-use Rattle.ild_data.specs.TrieShape.{TrieShape}
+use Rattle.ild_data.specs.declared.hamt_shape.HamtShape.{HamtShape}
 use Rattle.ild_data.specs.ByteOrder.{bytewise, without, IsInOrder}
 use Rattle.ild_data.specs.Trie.{part, TrieSlot, link_to, node_data, slot_of, node_of, at_depth, slots_at}
 use Rattle.ild_hamt_trie.specs.Collapse.{folded}
@@ -23,7 +23,7 @@ length-put_le k v es order =
     by_case false n m e = omega arith
 
 -- one level up: the node is a link still
-pub set-link : (h : List ℕ → List ℕ) (p : TrieShape) (left depth : ℕ) (es : List (List ℕ × Data)) (k : List ℕ) (v : Data) (slots : List TrieSlot) (s : TrieSlot)
+pub set-link : (h : List ℕ → List ℕ) (p : HamtShape) (left depth : ℕ) (es : List (List ℕ × Data)) (k : List ℕ) (v : Data) (slots : List TrieSlot) (s : TrieSlot)
     → IsInOrder es → slots_at h p left depth es ≡ Some slots → p.bucket < length es
     → slot_of p.bucket (node_of h p left (depth + 1)) (put bytewise k v (part (at_depth h p depth) es (at_depth h p depth k))) ≡ Some s
     → slot_of p.bucket (node_of h p (suc left) depth) (put bytewise k v es) ≡ Some (link_to (node_data (set slots (at_depth h p depth k) s)))
@@ -31,19 +31,19 @@ set-link h p left depth es k v slots s order is many new =
     slot-many p.bucket (node_of h p (suc left) depth) (put bytewise k v es) (let le = length-put_le k v es order in omega arith)
     ∙ ap (option_map link_to) (node-slots h p left depth (put bytewise k v es) ∙ ap (option_map node_data) (set-step h p left depth es k v slots order is ∙ ap (option_map (λ t. set slots (at_depth h p depth k) t)) new))
 
-pub set-top : (h : List ℕ → List ℕ) (p : TrieShape) (left depth : ℕ) (es : List (List ℕ × Data)) (k : List ℕ) (v : Data) (slots : List TrieSlot) (s : TrieSlot)
+pub set-top : (h : List ℕ → List ℕ) (p : HamtShape) (left depth : ℕ) (es : List (List ℕ × Data)) (k : List ℕ) (v : Data) (slots : List TrieSlot) (s : TrieSlot)
     → IsInOrder es → slots_at h p left depth es ≡ Some slots
     → slot_of p.bucket (node_of h p left (depth + 1)) (put bytewise k v (part (at_depth h p depth) es (at_depth h p depth k))) ≡ Some s
     → node_of h p (suc left) depth (put bytewise k v es) ≡ Some (node_data (set slots (at_depth h p depth k) s))
 set-top h p left depth es k v slots s order is new =
     node-slots h p left depth (put bytewise k v es) ∙ ap (option_map node_data) (set-step h p left depth es k v slots order is ∙ ap (option_map (λ t. set slots (at_depth h p depth k) t)) new)
 
-pub in_order-along : (h : List ℕ → List ℕ) (p : TrieShape) (k : List ℕ) (n depth : ℕ) (es : List (List ℕ × Data)) → IsInOrder es → IsInOrder (along h p k n depth es)
+pub in_order-along : (h : List ℕ → List ℕ) (p : HamtShape) (k : List ℕ) (n depth : ℕ) (es : List (List ℕ × Data)) → IsInOrder es → IsInOrder (along h p k n depth es)
 in_order-along h p k zero depth es order = order
 in_order-along h p k (suc n) depth es order = in_order-along h p k n (depth + 1) (part (at_depth h p depth) es (at_depth h p depth k)) (in_order-part (at_depth h p depth) es (at_depth h p depth k) order)
 
 -- the node at a place of the way beneath a node
-pub beneath-at : (h : List ℕ → List ℕ) (p : TrieShape) (k : List ℕ) (left depth : ℕ) (es : List (List ℕ × Data)) (way : List (List TrieSlot)) (j : ℕ) (z : List TrieSlot)
+pub beneath-at : (h : List ℕ → List ℕ) (p : HamtShape) (k : List ℕ) (left depth : ℕ) (es : List (List ℕ × Data)) (way : List (List TrieSlot)) (j : ℕ) (z : List TrieSlot)
     → IsBeneath h p k left depth es way → j < length way
     → (less : ℕ) × (left ≡ j + suc less) × (slots_at h p less (depth + j) (along h p k j depth es) ≡ Some (get_or way j z)) × (p.bucket < length (along h p k j depth es))
 beneath-at h p k left depth es [] j z on lt = absurd (omega arith)
@@ -57,7 +57,7 @@ beneath-at h p k (suc left) depth es (slots ∷ more) (suc j) z on lt =
     (rest.0, omega (arith, rest.1), subst (λ (d : ℕ). slots_at h p rest.0 d (along h p k j (depth + 1) (part (at_depth h p depth) es (at_depth h p depth k))) ≡ Some (get_or more j z)) e rest.2, rest.3)
 
 -- and of the way from a root down
-pub on_way-at : (h : List ℕ → List ℕ) (p : TrieShape) (k : List ℕ) (left depth : ℕ) (es : List (List ℕ × Data)) (way : List (List TrieSlot)) (j : ℕ) (z : List TrieSlot)
+pub on_way-at : (h : List ℕ → List ℕ) (p : HamtShape) (k : List ℕ) (left depth : ℕ) (es : List (List ℕ × Data)) (way : List (List TrieSlot)) (j : ℕ) (z : List TrieSlot)
     → IsOnWay h p k left depth es way → j < length way
     → (less : ℕ) × (left ≡ j + suc less) × (slots_at h p less (depth + j) (along h p k j depth es) ≡ Some (get_or way j z)) × (0 < j → p.bucket < length (along h p k j depth es))
 on_way-at h p k left depth es [] j z on lt = absurd (omega arith)
@@ -71,7 +71,7 @@ on_way-at h p k (suc left) depth es (slots ∷ more) (suc j) z on lt =
     (rest.0, omega (arith, rest.1), subst (λ (d : ℕ). slots_at h p rest.0 d (along h p k j (depth + 1) (part (at_depth h p depth) es (at_depth h p depth k))) ≡ Some (get_or more j z)) e rest.2, λ below. rest.3)
 
 -- a loop's step, from level j + 1 to level j, which is not the root's
-pub climb-step : (h : List ℕ → List ℕ) (p : TrieShape) (k : List ℕ) (v : Data) (left : ℕ) (es : List (List ℕ × Data)) (way : List (List TrieSlot)) (j : ℕ) (z : List TrieSlot) (s : TrieSlot)
+pub climb-step : (h : List ℕ → List ℕ) (p : HamtShape) (k : List ℕ) (v : Data) (left : ℕ) (es : List (List ℕ × Data)) (way : List (List TrieSlot)) (j : ℕ) (z : List TrieSlot) (s : TrieSlot)
     → IsInOrder es → IsOnWay h p k left 0 es way → 0 < j → j < length way
     → slot_of p.bucket (node_of h p (left - (j + 1)) (j + 1)) (put bytewise k v (along h p k (j + 1) 0 es)) ≡ Some s
     → slot_of p.bucket (node_of h p (left - j) j) (put bytewise k v (along h p k j 0 es)) ≡ Some (link_to (node_data (set (get_or way j z) (at_depth h p j k) s)))
@@ -89,7 +89,7 @@ climb-step h p k v left es way j z s order on below lt new =
     (subst (λ (n : ℕ). slot_of p.bucket (node_of h p n (j + 1)) (put bytewise k v (along h p k (j + 1) 0 es)) ≡ Some s) less new)))
 
 -- the same for a removal, where a node may collapse on the way
-pub remove-climb-step : (h : List ℕ → List ℕ) (p : TrieShape) (k : List ℕ) (left : ℕ) (es : List (List ℕ × Data)) (way : List (List TrieSlot)) (j : ℕ) (z : List TrieSlot) (s : TrieSlot)
+pub remove-climb-step : (h : List ℕ → List ℕ) (p : HamtShape) (k : List ℕ) (left : ℕ) (es : List (List ℕ × Data)) (way : List (List TrieSlot)) (j : ℕ) (z : List TrieSlot) (s : TrieSlot)
     → IsInOrder es → IsOnWay h p k left 0 es way → j < length way
     → slot_of p.bucket (node_of h p (left - (j + 1)) (j + 1)) (without k (along h p k (j + 1) 0 es)) ≡ Some s
     → (slots_at h p (left - (j + 1)) j (without k (along h p k j 0 es)) ≡ Some (set (get_or way j z) (at_depth h p j k) s))

@@ -1,18 +1,19 @@
 -- Small tries, as bytes: keys that are their own hashes, and keys whose hash begins as it says.
-use Rattle.std.proofs.Common.{◌≡◌, ℕ, List, [], ◌∷◌, ◌++◌, refl, None, replicate}
+use Rattle.std.proofs.Common.{◌≡◌, ℕ, List, [], ◌∷◌, ◌++◌, refl, None, replicate, arith}
 use Rattle.std.specs.Prelude.{pos}
 use Rattle.ild_data.specs.Data.{Data, integer}
 use Rattle.ild_data.specs.Padded.{padded}
-use Rattle.ild_data.specs.TrieShape.{TrieShape, index}
+use Rattle.ild_data.specs.declared.hamt_shape.HamtShape.{HamtShape}
+use Rattle.ild_data.specs.TrieShape.{index}
 use Rattle.ild_data.specs.ByteOrder.{in_byte_order}
 use Rattle.ild_data.specs.Trie.{trie, node_of}
 use Rattle.ild_data.specs.TrieBlocks.{nodes_beneath, block_of}
 
-abbrev w8 : TrieShape
-w8 = record { width = 8; bucket = 3 }
+abbrev w8 : HamtShape
+w8 = record { width = 8; bucket = 3; wide = omega arith; narrow = omega arith; filled = omega arith; small = omega arith }
 
-abbrev w3 : TrieShape
-w3 = record { width = 3; bucket = 1 }
+abbrev w3 : HamtShape
+w3 = record { width = 3; bucket = 1; wide = omega arith; narrow = omega arith; filled = omega arith; small = omega arith }
 
 first_bits : index w3 (0xba ∷ []) 0 ≡ 5
 first_bits = refl

@@ -3,7 +3,7 @@ use Rattle.std.proofs.Common.{◌≡◌, ℕ, zero, suc, ◌+◌, ◌^◌, Bool,
 use Rattle.std.specs.List.{range_with_len, list_all, list_any}
 use Rattle.std.proofs.lemmas.Bool.{eq-eqb, ne_eqb, cases_eq, leb-true, le-leb}
 use Rattle.ild_data.specs.Data.{Data}
-use Rattle.ild_data.specs.TrieShape.{TrieShape}
+use Rattle.ild_data.specs.declared.hamt_shape.HamtShape.{HamtShape}
 use Rattle.ild_data.specs.Trie.{part, slot_of, all_some, node_of, node_data, at_depth, slots_at}
 use Rattle.ild_hamt_trie.specs.Way.{along, few_agree}
 use Rattle.ild_hamt_trie.proofs.Fold.{any-range}
@@ -64,7 +64,7 @@ same_test : (a b : Bool) → (a ≡ true → b ≡ true) → (a || b) ≡ b
 same_test true b is = sym (is refl)
 same_test false b is = refl
 
-few_all : (h : List ℕ → List ℕ) (p : TrieShape) (left depth : ℕ) (es : List (List ℕ × Data)) → nat_le (length es) p.bucket ≡ true → few_agree h p left depth es ≡ true
+few_all : (h : List ℕ → List ℕ) (p : HamtShape) (left depth : ℕ) (es : List (List ℕ × Data)) → nat_le (length es) p.bucket ≡ true → few_agree h p left depth es ≡ true
 few_all h p left depth es few =
     all_true (λ e. nat_le (length (along h p e.0 left depth es)) p.bucket) es
     (λ e. le-leb (length (along h p e.0 left depth es)) p.bucket (let a = length-along h p e.0 left depth es in let b = leb-true (length es) p.bucket few in omega arith))
@@ -78,7 +78,7 @@ none_left most (e ∷ es) = constant (nat_le (length (e ∷ es)) most) es
     constant true es = sym (all_true (λ f. true) es (λ f. refl))
     constant false es = refl
 
-step : (h : List ℕ → List ℕ) (p : TrieShape) (left depth : ℕ) (es : List (List ℕ × Data))
+step : (h : List ℕ → List ℕ) (p : HamtShape) (left depth : ℕ) (es : List (List ℕ × Data))
     → ((fs : List (List ℕ × Data)) → is_some (slot_of p.bucket (node_of h p left (depth + 1)) fs) ≡ few_agree h p left (depth + 1) fs)
     → is_some (node_of h p (suc left) depth es) ≡ few_agree h p (suc left) depth es
 step h p left depth es slots =
@@ -88,7 +88,7 @@ step h p left depth es slots =
     ∙ by_parts (at_depth h p depth) (λ j e. nat_le (length (along h p e.0 left (depth + 1) (part (at_depth h p depth) es j))) p.bucket) es (range_with_len 0 (2 ^ p.width))
     (λ q. any-range (at_depth h p depth q) 0 (2 ^ p.width) (omega arith) (omega (arith, index_below p (h q) depth)))
 
-has_slot : (h : List ℕ → List ℕ) (p : TrieShape) (left depth : ℕ) (fs : List (List ℕ × Data)) → is_some (slot_of p.bucket (node_of h p left depth) fs) ≡ few_agree h p left depth fs
+has_slot : (h : List ℕ → List ℕ) (p : HamtShape) (left depth : ℕ) (fs : List (List ℕ × Data)) → is_some (slot_of p.bucket (node_of h p left depth) fs) ≡ few_agree h p left depth fs
 has_slot h p zero depth fs =
     is_some-slot p.bucket (node_of h p zero depth) fs ∙ ap (λ o. nat_le (length fs) p.bucket || is_some o) (no_node h p depth fs) ∙ or_false _ ∙ none_left p.bucket fs
 has_slot h p (suc left) depth fs =
@@ -97,5 +97,5 @@ has_slot h p (suc left) depth fs =
     ∙ same_test (nat_le (length fs) p.bucket) (few_agree h p (suc left) depth fs) (few_all h p (suc left) depth fs)
 
 -- entries have a node exactly where of each key few entries agree with it at each level
-pub has_node : (h : List ℕ → List ℕ) (p : TrieShape) (left depth : ℕ) (es : List (List ℕ × Data)) → is_some (node_of h p (suc left) depth es) ≡ few_agree h p (suc left) depth es
+pub has_node : (h : List ℕ → List ℕ) (p : HamtShape) (left depth : ℕ) (es : List (List ℕ × Data)) → is_some (node_of h p (suc left) depth es) ≡ few_agree h p (suc left) depth es
 has_node h p left depth es = step h p left depth es (has_slot h p left (depth + 1))

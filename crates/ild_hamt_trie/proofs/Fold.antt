@@ -5,7 +5,7 @@ use Rattle.std.specs.Ordering.{eq_by_cmp}
 use Rattle.std.specs.FinMap.{find}
 use Rattle.std.proofs.lemmas.Bool.{lt-leb, le-leb, eq-eqb, cases_eq, cases_lt, cases_Bool, or_cases, or_parts}
 use Rattle.ild_data.specs.Data.{Data}
-use Rattle.ild_data.specs.TrieShape.{TrieShape}
+use Rattle.ild_data.specs.declared.hamt_shape.HamtShape.{HamtShape}
 use Rattle.ild_data.specs.ByteOrder.{bytewise, in_byte_order, IsInOrder}
 use Rattle.ild_data.specs.Trie.{part, TrieSlot, empty, bucket, is_child, bucket_entries, link_to, node_data, slot_of, slots_of, all_some}
 use Rattle.ild_hamt_trie.specs.Collapse.{sized, folded}
@@ -115,7 +115,7 @@ any-range x a (suc n) le lt =
     or_right_true false c e = e
 
 -- the entries of a node without children stand in its buckets
-pub entries_held : (p : TrieShape) (at : List ℕ → ℕ) (below : List (List ℕ × Data) → Option Data) (es : List (List ℕ × Data)) (slots : List TrieSlot)
+pub entries_held : (p : HamtShape) (at : List ℕ → ℕ) (below : List (List ℕ × Data) → Option Data) (es : List (List ℕ × Data)) (slots : List TrieSlot)
     → ((q : List ℕ) → at q < 2 ^ p.width) → IsInOrder es → slots_of p at below es ≡ Some slots → list_any is_child slots ≡ false
     → in_byte_order (flat_map bucket_entries slots) ≡ es
 entries_held p at below es slots within h is childless =
@@ -124,7 +124,7 @@ entries_held p at below es slots within h is childless =
     ∙ find-parts at es q (range_with_len 0 (2 ^ p.width))
     ∙ ap (λ b. cond b (find bytewise q es) None) (any-range (at q) 0 (2 ^ p.width) (omega arith) (omega (arith, within q))))
 
-pub children_many : (p : TrieShape) (at : List ℕ → ℕ) (below : List (List ℕ × Data) → Option Data) (es : List (List ℕ × Data)) (slots : List TrieSlot)
+pub children_many : (p : HamtShape) (at : List ℕ → ℕ) (below : List (List ℕ × Data) → Option Data) (es : List (List ℕ × Data)) (slots : List TrieSlot)
     → slots_of p at below es ≡ Some slots → list_any is_child slots ≡ true → p.bucket < length es
 children_many p at below es slots is some = any_child-many p.bucket at below es (range_with_len 0 (2 ^ p.width)) slots is some
 
@@ -135,7 +135,7 @@ sized-slot most node es below is =
     (λ le. slot-few most below es (link_to node) le) (cases_lt most (length es))
 
 -- the slot that a node of these slots has in the node above
-pub slot-folded : (p : TrieShape) (at : List ℕ → ℕ) (below above : List (List ℕ × Data) → Option Data) (es : List (List ℕ × Data)) (slots : List TrieSlot)
+pub slot-folded : (p : HamtShape) (at : List ℕ → ℕ) (below above : List (List ℕ × Data) → Option Data) (es : List (List ℕ × Data)) (slots : List TrieSlot)
     → ((q : List ℕ) → at q < 2 ^ p.width) → IsInOrder es → slots_of p at below es ≡ Some slots → above es ≡ Some (node_data slots)
     → slot_of p.bucket above es ≡ Some (folded p.bucket slots)
 slot-folded p at below above es slots within h is node =

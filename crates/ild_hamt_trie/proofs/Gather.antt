@@ -5,7 +5,7 @@ use Rattle.std.proofs.lemmas.Bool.{eq-eqb, ne_eqb, cases_eq}
 use Rattle.std.proofs.lemmas.List.{same_lists, length-map, get_or-map}
 use Rattle.std.proofs.lemmas.List.FromFn.{get_or-map-range_with_len, length-map-range_with_len}
 use Rattle.ild_data.specs.Data.{Data}
-use Rattle.ild_data.specs.TrieShape.{TrieShape}
+use Rattle.ild_data.specs.declared.hamt_shape.HamtShape.{HamtShape}
 use Rattle.ild_data.specs.ByteOrder.{bytewise, in_byte_order, IsInOrder}
 use Rattle.ild_data.specs.Trie.{part, slot_of, slots_of, all_some}
 use Rattle.ild_hamt_trie.proofs.Parts.{same_by_find, in_order-sorted, in_order-part, find-sorted, find-part}
@@ -70,7 +70,7 @@ part-gathered at i ess apart lt =
     zero_add i = omega arith
 
 -- so the slots of the given parts are the slots of all of them
-pub slots-gathered : (p : TrieShape) (at : List ℕ → ℕ) (below : List (List ℕ × Data) → Option Data) (ess : List (List (List ℕ × Data))) → StandApart at 0 ess → length ess ≡ 2 ^ p.width
+pub slots-gathered : (p : HamtShape) (at : List ℕ → ℕ) (below : List (List ℕ × Data) → Option Data) (ess : List (List (List ℕ × Data))) → StandApart at 0 ess → length ess ≡ 2 ^ p.width
     → slots_of p at below (in_byte_order (flat_map (λ es. es) ess)) ≡ all_some (map (slot_of p.bucket below) ess)
 slots-gathered p at below ess apart long =
     let all : List (List ℕ × Data) = in_byte_order (flat_map (λ es. es) ess) in

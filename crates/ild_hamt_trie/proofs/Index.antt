@@ -3,7 +3,8 @@ use Rattle.std.proofs.Common.{◌≡◌, ℕ, zero, suc, ◌+◌, ◌-◌, ◌*�
 use Rattle.std.proofs.lemmas.Nat.{mod_below}
 use Rattle.std.proofs.lemmas.Bool.{agree_below_at, eqb-true}
 use native.Mathlib.Numerals.{unary_clauses}
-use Rattle.ild_data.specs.TrieShape.{TrieShape, bit_at, bits_at, index}
+use Rattle.ild_data.specs.declared.hamt_shape.HamtShape.{HamtShape}
+use Rattle.ild_data.specs.TrieShape.{bit_at, bits_at, index}
 
 step_below : (m b r : ℕ) → b < 2 → r < m → m * b + r < 2 * m
 step_below m zero r b_lt r_lt = omega arith
@@ -14,7 +15,7 @@ pub bits_below : (bytes : List ℕ) (from count : ℕ) → bits_at bytes from co
 bits_below bytes from zero = omega arith
 bits_below bytes from (suc count) = let e : 2 ^ suc count ≡ 2 * 2 ^ count = simp unary_clauses (omega arith) in rw e (step_below (2 ^ count) (bit_at bytes from) (bits_at bytes (from + 1) count) (mod_below _ 2 (omega arith)) (bits_below bytes (from + 1) count))
 
-pub index_below : (p : TrieShape) (hash : List ℕ) (depth : ℕ) → index p hash depth < 2 ^ p.width
+pub index_below : (p : HamtShape) (hash : List ℕ) (depth : ℕ) → index p hash depth < 2 ^ p.width
 index_below p hash depth = bits_below hash (depth * p.width) p.width
 
 -- one bit more, at the end
@@ -45,7 +46,7 @@ bit_of hash d n j e lt =
     let place : n % 8 ≡ j = omega (arith, e) in
     rw (row, place) refl
 
-pub index-byte : (p : TrieShape) (hash : List ℕ) (depth : ℕ) → p.width ≡ 8 → slice_index hash depth < 256 → index p hash depth ≡ slice_index hash depth
+pub index-byte : (p : HamtShape) (hash : List ℕ) (depth : ℕ) → p.width ≡ 8 → slice_index hash depth < 256 → index p hash depth ≡ slice_index hash depth
 unfolding eight
 index-byte p hash depth w lt =
     let n : ℕ = depth * 8 in

@@ -13,3 +13,4 @@ pub mod Walk
 pub mod Climb
 pub mod Pairs
 mod Examples
+pub mod Levels

@@ -6,7 +6,8 @@ use Rattle.std.specs.FinMap.{find, put}
 use Rattle.std.proofs.lemmas.Bool.{le-leb, leb-true, cases_lt, cases_Bool, or_cases}
 use Rattle.ild_data.specs.Data.{Data}
 use Rattle.ild_data.specs.Spell.{spell, id_of}
-use Rattle.ild_data.specs.TrieShape.{TrieShape, trie_levels}
+use Rattle.ild_data.specs.declared.hamt_shape.HamtShape.{HamtShape}
+use Rattle.ild_data.specs.TrieShape.{trie_levels}
 use Rattle.ild_data.specs.ByteOrder.{bytewise, in_byte_order, without, IsInOrder, no_key_twice}
 use Rattle.ild_data.specs.Trie.{part, TrieSlot, empty, child, link_to, node_data, bucket_or, is_child, bucket_entries, slot_of, all_some, node_of, at_depth, slots_at, trie}
 use Rattle.ild_hamt_trie.specs.Collapse.{folded}
@@ -16,7 +17,7 @@ use Rattle.ild_hamt_trie.proofs.Slots.{slots-put, slots-without, slot_at}
 use Rattle.ild_hamt_trie.proofs.Index.{index_below}
 use Rattle.ild_hamt_trie.proofs.Fold.{slot-few, slot-many, slot-folded, child-many, other-held, children_many, length-part}
 
-pub node-slots : (h : List ℕ → List ℕ) (p : TrieShape) (left depth : ℕ) (es : List (List ℕ × Data)) → node_of h p (suc left) depth es ≡ option_map node_data (slots_at h p left depth es)
+pub node-slots : (h : List ℕ → List ℕ) (p : HamtShape) (left depth : ℕ) (es : List (List ℕ × Data)) → node_of h p (suc left) depth es ≡ option_map node_data (slots_at h p left depth es)
 unfolding node_of
 node-slots h p left depth es = refl
 
@@ -24,25 +25,25 @@ some_map : {X Y : Type 0} (f : X → Y) (o : Option X) (y : Y) → option_map f 
 some_map f None y is = absurd cc
 some_map f (Some x) y is = (x, refl, cc)
 
-pub slots-node : (h : List ℕ → List ℕ) (p : TrieShape) (left depth : ℕ) (es : List (List ℕ × Data)) (node : Data) → node_of h p (suc left) depth es ≡ Some node
+pub slots-node : (h : List ℕ → List ℕ) (p : HamtShape) (left depth : ℕ) (es : List (List ℕ × Data)) (node : Data) → node_of h p (suc left) depth es ≡ Some node
     → (slots : List TrieSlot) × (slots_at h p left depth es ≡ Some slots) × (node ≡ node_data slots)
 slots-node h p left depth es node is = some_map node_data (slots_at h p left depth es) node (sym (node-slots h p left depth es) ∙ is)
 
 -- one step of a set: the slot at the key's index is that of the part with the pair
-pub set-step : (h : List ℕ → List ℕ) (p : TrieShape) (left depth : ℕ) (es : List (List ℕ × Data)) (k : List ℕ) (v : Data) (slots : List TrieSlot)
+pub set-step : (h : List ℕ → List ℕ) (p : HamtShape) (left depth : ℕ) (es : List (List ℕ × Data)) (k : List ℕ) (v : Data) (slots : List TrieSlot)
     → IsInOrder es → slots_at h p left depth es ≡ Some slots
     → slots_at h p left depth (put bytewise k v es)
     ≡ option_map (λ s. set slots (at_depth h p depth k) s) (slot_of p.bucket (node_of h p left (depth + 1)) (put bytewise k v (part (at_depth h p depth) es (at_depth h p depth k))))
 set-step h p left depth es k v slots order is = slots-put p (at_depth h p depth) (node_of h p left (depth + 1)) es k v slots (index_below p (h k) depth) order is
 
-pub remove-step : (h : List ℕ → List ℕ) (p : TrieShape) (left depth : ℕ) (es : List (List ℕ × Data)) (k : List ℕ) (slots : List TrieSlot)
+pub remove-step : (h : List ℕ → List ℕ) (p : HamtShape) (left depth : ℕ) (es : List (List ℕ × Data)) (k : List ℕ) (slots : List TrieSlot)
     → IsInOrder es → slots_at h p left depth es ≡ Some slots
     → slots_at h p left depth (without k es)
     ≡ option_map (λ s. set slots (at_depth h p depth k) s) (slot_of p.bucket (node_of h p left (depth + 1)) (without k (part (at_depth h p depth) es (at_depth h p depth k))))
 remove-step h p left depth es k slots order is = slots-without p (at_depth h p depth) (node_of h p left (depth + 1)) es k slots (index_below p (h k) depth) order is
 
 -- the slot in the node above, by the slots of the node
-pub fold-step : (h : List ℕ → List ℕ) (p : TrieShape) (left depth : ℕ) (es : List (List ℕ × Data)) (slots : List TrieSlot)
+pub fold-step : (h : List ℕ → List ℕ) (p : HamtShape) (left depth : ℕ) (es : List (List ℕ × Data)) (slots : List TrieSlot)
     → IsInOrder es → slots_at h p left depth es ≡ Some slots → slot_of p.bucket (node_of h p (suc left) depth) es ≡ Some (folded p.bucket slots)
 fold-step h p left depth es slots order is =
     slot-folded p (at_depth h p depth) (node_of h p left (depth + 1)) (node_of h p (suc left) depth) es slots (λ q. index_below p (h q) depth) order is
@@ -65,7 +66,7 @@ pub is_some-map : {X Y : Type 0} (f : X → Y) (o : Option X) → is_some (optio
 is_some-map f None = refl
 is_some-map f (Some x) = refl
 
-pub few-node : (h : List ℕ → List ℕ) (p : TrieShape) (left depth : ℕ) (es : List (List ℕ × Data)) → length es ≤ p.bucket → is_some (node_of h p (suc left) depth es) ≡ true
+pub few-node : (h : List ℕ → List ℕ) (p : HamtShape) (left depth : ℕ) (es : List (List ℕ × Data)) → length es ≤ p.bucket → is_some (node_of h p (suc left) depth es) ≡ true
 few-node h p left depth es le = ap is_some (node-slots h p left depth es) ∙ is_some-map node_data (slots_at h p left depth es) ∙ few-parts p.bucket (at_depth h p depth) (node_of h p left (depth + 1)) es (range_with_len 0 (2 ^ p.width)) le
 
 is_some-bucket_or : (b : Bool) (below : List (List ℕ × Data) → Option Data) (es : List (List ℕ × Data)) → is_some (bucket_or b below es) ≡ (b || is_some (below es))
@@ -76,7 +77,7 @@ pub is_some-slot : (most : ℕ) (below : List (List ℕ × Data) → Option Data
 is_some-slot most below [] = sym (rw (le-leb zero most (omega arith)) refl)
 is_some-slot most below (e ∷ es) = is_some-bucket_or (nat_le (length (e ∷ es)) most) below (e ∷ es)
 
-pub no_node : (h : List ℕ → List ℕ) (p : TrieShape) (depth : ℕ) (es : List (List ℕ × Data)) → node_of h p zero depth es ≡ None
+pub no_node : (h : List ℕ → List ℕ) (p : HamtShape) (depth : ℕ) (es : List (List ℕ × Data)) → node_of h p zero depth es ≡ None
 unfolding node_of
 no_node h p depth es = refl
 
@@ -94,13 +95,13 @@ le_or a c most le =
     ⊎_elim (λ few. let lesser : c ≤ most = (let le_a = leb-true a most few in omega arith) in rw (le-leb c most lesser) (or_true (nat_le a most)))
     (λ many. ap (λ b. b || nat_le c most) many) (cases_Bool (nat_le a most))
 
-pub length-along : (h : List ℕ → List ℕ) (p : TrieShape) (k : List ℕ) (left depth : ℕ) (es : List (List ℕ × Data)) → length (along h p k left depth es) ≤ length es
+pub length-along : (h : List ℕ → List ℕ) (p : HamtShape) (k : List ℕ) (left depth : ℕ) (es : List (List ℕ × Data)) → length (along h p k left depth es) ≤ length es
 length-along h p k zero depth es = omega arith
 length-along h p k (suc left) depth es =
     let one = length-part (at_depth h p depth) es (at_depth h p depth k) in
     let rest = length-along h p k left (depth + 1) (part (at_depth h p depth) es (at_depth h p depth k)) in omega arith
 
-pub along-put : (h : List ℕ → List ℕ) (p : TrieShape) (k : List ℕ) (v : Data) (left depth : ℕ) (es : List (List ℕ × Data)) → IsInOrder es
+pub along-put : (h : List ℕ → List ℕ) (p : HamtShape) (k : List ℕ) (v : Data) (left depth : ℕ) (es : List (List ℕ × Data)) → IsInOrder es
     → along h p k left depth (put bytewise k v es) ≡ put bytewise k v (along h p k left depth es)
 along-put h p k v zero depth es order = refl
 along-put h p k v (suc left) depth es order =
@@ -112,7 +113,7 @@ is_some-from None is = absurd cc
 is_some-from (Some x) is = (x, refl)
 
 -- of entries with a node, the part at an index has one too where a level is left
-pub part-node : (h : List ℕ → List ℕ) (p : TrieShape) (left depth : ℕ) (es : List (List ℕ × Data)) (k : List ℕ) (slots : List TrieSlot) → slots_at h p (suc left) depth es ≡ Some slots
+pub part-node : (h : List ℕ → List ℕ) (p : HamtShape) (left depth : ℕ) (es : List (List ℕ × Data)) (k : List ℕ) (slots : List TrieSlot) → slots_at h p (suc left) depth es ≡ Some slots
     → is_some (node_of h p (suc left) (depth + 1) (part (at_depth h p depth) es (at_depth h p depth k))) ≡ true
 part-node h p left depth es k slots is =
     let fs : List (List ℕ × Data) = part (at_depth h p depth) es (at_depth h p depth k) in
@@ -122,7 +123,7 @@ part-node h p left depth es k slots is =
     ⊎_elim (λ few. few-node h p left (depth + 1) fs (leb-true (length fs) p.bucket few)) (λ one. one) (or_cases _ _ stands)
 
 -- the node of entries with the pair stands or falls with the slot at the key's index
-set-some : (h : List ℕ → List ℕ) (p : TrieShape) (left depth : ℕ) (es : List (List ℕ × Data)) (k : List ℕ) (v : Data) (slots : List TrieSlot) → IsInOrder es → slots_at h p left depth es ≡ Some slots
+set-some : (h : List ℕ → List ℕ) (p : HamtShape) (left depth : ℕ) (es : List (List ℕ × Data)) (k : List ℕ) (v : Data) (slots : List TrieSlot) → IsInOrder es → slots_at h p left depth es ≡ Some slots
     → is_some (node_of h p (suc left) depth (put bytewise k v es))
     ≡ (nat_le (length (put bytewise k v (part (at_depth h p depth) es (at_depth h p depth k)))) p.bucket
     || is_some (node_of h p left (depth + 1) (put bytewise k v (part (at_depth h p depth) es (at_depth h p depth k)))))
@@ -133,7 +134,7 @@ set-some h p left depth es k v slots order is =
     ∙ is_some-map (λ s. set slots (at_depth h p depth k) s) (slot_of p.bucket (node_of h p left (depth + 1)) (put bytewise k v fs))
     ∙ is_some-slot p.bucket (node_of h p left (depth + 1)) (put bytewise k v fs)
 
-remove-some : (h : List ℕ → List ℕ) (p : TrieShape) (left depth : ℕ) (es : List (List ℕ × Data)) (k : List ℕ) (slots : List TrieSlot) → IsInOrder es → slots_at h p left depth es ≡ Some slots
+remove-some : (h : List ℕ → List ℕ) (p : HamtShape) (left depth : ℕ) (es : List (List ℕ × Data)) (k : List ℕ) (slots : List TrieSlot) → IsInOrder es → slots_at h p left depth es ≡ Some slots
     → is_some (node_of h p (suc left) depth (without k es))
     ≡ (nat_le (length (without k (part (at_depth h p depth) es (at_depth h p depth k)))) p.bucket
     || is_some (node_of h p left (depth + 1) (without k (part (at_depth h p depth) es (at_depth h p depth k)))))
@@ -145,7 +146,7 @@ remove-some h p left depth es k slots order is =
     ∙ is_some-slot p.bucket (node_of h p left (depth + 1)) (without k fs)
 
 -- a set exhausts the levels exactly where too many entries agree with the key at each
-pub set-exhausts : (h : List ℕ → List ℕ) (p : TrieShape) (left depth : ℕ) (es : List (List ℕ × Data)) (k : List ℕ) (v : Data) → IsInOrder es
+pub set-exhausts : (h : List ℕ → List ℕ) (p : HamtShape) (left depth : ℕ) (es : List (List ℕ × Data)) (k : List ℕ) (v : Data) → IsInOrder es
     → is_some (node_of h p (suc left) depth es) ≡ true
     → is_some (node_of h p (suc left) depth (put bytewise k v es)) ≡ nat_le (length (put bytewise k v (along h p k (suc left) depth es))) p.bucket
 set-exhausts h p zero depth es k v order some =
@@ -173,7 +174,7 @@ length-without k (e ∷ es) =
     elim (eq_by_cmp bytewise k e.0) as (λ b. length (cond (not b) (e ∷ without k es) (without k es)) ≤ suc (length es)) [ true ↦ omega arith | false ↦ omega arith ]
 
 -- a removal never does
-pub remove-stands : (h : List ℕ → List ℕ) (p : TrieShape) (left depth : ℕ) (es : List (List ℕ × Data)) (k : List ℕ) → IsInOrder es
+pub remove-stands : (h : List ℕ → List ℕ) (p : HamtShape) (left depth : ℕ) (es : List (List ℕ × Data)) (k : List ℕ) → IsInOrder es
     → is_some (node_of h p (suc left) depth es) ≡ true → is_some (node_of h p (suc left) depth (without k es)) ≡ true
 remove-stands h p zero depth es k order some =
     let node = is_some-from (node_of h p 1 depth es) some in
@@ -195,18 +196,18 @@ remove-stands h p (suc left) depth es k order some =
     ∙ or_true (nat_le (length (without k fs)) p.bucket)
 
 -- the trie of a list is that of any list with the same pairs
-pub trie-alike : (h : List ℕ → List ℕ) (p : TrieShape) (es fs : List (List ℕ × Data)) (depth : ℕ) → no_key_twice es ≡ true → no_key_twice fs ≡ true
+pub trie-alike : (h : List ℕ → List ℕ) (p : HamtShape) (es fs : List (List ℕ × Data)) (depth : ℕ) → no_key_twice es ≡ true → no_key_twice fs ≡ true
     → ((q : List ℕ) → find bytewise q es ≡ find bytewise q fs) → trie h p es depth ≡ trie h p fs depth
 unfolding trie
 trie-alike h p es fs depth one two is =
     rw (one, two) (ap (node_of h p (trie_levels p - depth) depth) (sorted_alike es fs is))
 
-pub trie-sorted : (h : List ℕ → List ℕ) (p : TrieShape) (es : List (List ℕ × Data)) (depth : ℕ) → no_key_twice es ≡ true → trie h p es depth ≡ node_of h p (trie_levels p - depth) depth (in_byte_order es)
+pub trie-sorted : (h : List ℕ → List ℕ) (p : HamtShape) (es : List (List ℕ × Data)) (depth : ℕ) → no_key_twice es ≡ true → trie h p es depth ≡ node_of h p (trie_levels p - depth) depth (in_byte_order es)
 unfolding trie
 trie-sorted h p es depth one = rw one refl
 
 -- one level up on the key's way: what stands in the slot after a set, where the node holds many entries
-pub set-up : (h : List ℕ → List ℕ) (p : TrieShape) (left depth : ℕ) (es : List (List ℕ × Data)) (k : List ℕ) (v : Data) (slots : List TrieSlot) (s : TrieSlot)
+pub set-up : (h : List ℕ → List ℕ) (p : HamtShape) (left depth : ℕ) (es : List (List ℕ × Data)) (k : List ℕ) (v : Data) (slots : List TrieSlot) (s : TrieSlot)
     → IsInOrder es → slots_at h p left depth es ≡ Some slots
     → slot_of p.bucket (node_of h p left (depth + 1)) (put bytewise k v (part (at_depth h p depth) es (at_depth h p depth k))) ≡ Some s
     → (slots_at h p left depth (put bytewise k v es) ≡ Some (set slots (at_depth h p depth k) s))
@@ -216,7 +217,7 @@ set-up h p left depth es k v slots s order is new =
     set-step h p left depth es k v slots order is ∙ ap (option_map (λ t. set slots (at_depth h p depth k) t)) new in
     (here, fold-step h p left depth (put bytewise k v es) (set slots (at_depth h p depth k) s) (in_order-put k v es order) here)
 
-pub remove-up : (h : List ℕ → List ℕ) (p : TrieShape) (left depth : ℕ) (es : List (List ℕ × Data)) (k : List ℕ) (slots : List TrieSlot) (s : TrieSlot)
+pub remove-up : (h : List ℕ → List ℕ) (p : HamtShape) (left depth : ℕ) (es : List (List ℕ × Data)) (k : List ℕ) (slots : List TrieSlot) (s : TrieSlot)
     → IsInOrder es → slots_at h p left depth es ≡ Some slots
     → slot_of p.bucket (node_of h p left (depth + 1)) (without k (part (at_depth h p depth) es (at_depth h p depth k))) ≡ Some s
     → (slots_at h p left depth (without k es) ≡ Some (set slots (at_depth h p depth k) s))
@@ -234,7 +235,7 @@ link-many below most es id is =
     let node = some_map link_to (below es) (child id) (sym (slot-many most below es lt) ∙ is) in
     (lt, (node.0, node.1, cc))
 
-pub slot-child : (h : List ℕ → List ℕ) (p : TrieShape) (left depth : ℕ) (es : List (List ℕ × Data)) (k : List ℕ) (slots : List TrieSlot) (id : List ℕ)
+pub slot-child : (h : List ℕ → List ℕ) (p : HamtShape) (left depth : ℕ) (es : List (List ℕ × Data)) (k : List ℕ) (slots : List TrieSlot) (id : List ℕ)
     → slots_at h p left depth es ≡ Some slots → get_or slots (at_depth h p depth k) empty ≡ child id
     → (p.bucket < length (part (at_depth h p depth) es (at_depth h p depth k)))
     × ((node : Data) × (node_of h p left (depth + 1) (part (at_depth h p depth) es (at_depth h p depth k)) ≡ Some node) × (id ≡ id_of (spell node)))
@@ -242,14 +243,14 @@ slot-child h p left depth es k slots id is stands =
     link-many (node_of h p left (depth + 1)) p.bucket (part (at_depth h p depth) es (at_depth h p depth k)) id
     (slot_at p (at_depth h p depth) (node_of h p left (depth + 1)) es (at_depth h p depth k) slots empty (index_below p (h k) depth) is ∙ ap Some stands)
 
-pub slot-held : (h : List ℕ → List ℕ) (p : TrieShape) (left depth : ℕ) (es : List (List ℕ × Data)) (k : List ℕ) (slots : List TrieSlot)
+pub slot-held : (h : List ℕ → List ℕ) (p : HamtShape) (left depth : ℕ) (es : List (List ℕ × Data)) (k : List ℕ) (slots : List TrieSlot)
     → slots_at h p left depth es ≡ Some slots → is_child (get_or slots (at_depth h p depth k) empty) ≡ false
     → part (at_depth h p depth) es (at_depth h p depth k) ≡ bucket_entries (get_or slots (at_depth h p depth k) empty)
 slot-held h p left depth es k slots is stands =
     sym (other-held p.bucket (node_of h p left (depth + 1)) (part (at_depth h p depth) es (at_depth h p depth k)) (get_or slots (at_depth h p depth k) empty)
     (slot_at p (at_depth h p depth) (node_of h p left (depth + 1)) es (at_depth h p depth k) slots empty (index_below p (h k) depth) is) stands)
 
-pub many-children : (h : List ℕ → List ℕ) (p : TrieShape) (left depth : ℕ) (es : List (List ℕ × Data)) (slots : List TrieSlot)
+pub many-children : (h : List ℕ → List ℕ) (p : HamtShape) (left depth : ℕ) (es : List (List ℕ × Data)) (slots : List TrieSlot)
     → slots_at h p left depth es ≡ Some slots → list_any is_child slots ≡ true → p.bucket < length es
 many-children h p left depth es slots is some = children_many p (at_depth h p depth) (node_of h p left (depth + 1)) es slots is some
 
@@ -258,7 +259,7 @@ held_few most below es s is other =
     ⊎_elim (λ lt. let node = some_map link_to (below es) s (sym (slot-many most below es lt) ∙ is) in
     let linked : is_child s ≡ true = ap is_child node.2 in absurd cc) (λ le. le) (cases_lt most (length es))
 
-pub few-held : (h : List ℕ → List ℕ) (p : TrieShape) (left depth : ℕ) (es : List (List ℕ × Data)) (k : List ℕ) (slots : List TrieSlot)
+pub few-held : (h : List ℕ → List ℕ) (p : HamtShape) (left depth : ℕ) (es : List (List ℕ × Data)) (k : List ℕ) (slots : List TrieSlot)
     → slots_at h p left depth es ≡ Some slots → is_child (get_or slots (at_depth h p depth k) empty) ≡ false
     → length (part (at_depth h p depth) es (at_depth h p depth k)) ≤ p.bucket
 few-held h p left depth es k slots is stands =

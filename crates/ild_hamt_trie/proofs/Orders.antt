@@ -10,7 +10,8 @@ use Rattle.std.proofs.lemmas.Cmp.{tied_itself}
 use Rattle.ild_data.specs.Data.{Data}
 use Rattle.ild_data.specs.ByteOrder.{bytewise, in_byte_order, no_key_twice, without}
 use Rattle.ild_data.specs.Trie.{trie, node_of}
-use Rattle.ild_data.specs.TrieShape.{TrieShape, trie_levels}
+use Rattle.ild_data.specs.declared.hamt_shape.HamtShape.{HamtShape}
+use Rattle.ild_data.specs.TrieShape.{trie_levels}
 use Rattle.ild_hamt_trie.proofs.Node.{trie-sorted}
 use Rattle.ild_hamt_trie.proofs.Parts.{same_key, key_itself, equal_if, same_by_find, in_order-put, in_order-sorted, find-put_at, find-sorted, in_order-without, find-without}
 
@@ -62,7 +63,7 @@ module _ (R : List ℕ → List ℕ → Ordering) (o : IsTotalOrder R) (anti : I
       ∙ (λ i. cond (same_test q k i) (Some v) (find_same q es i)) ∙ ap (λ x. cond (eq_by_cmp bytewise q k) (Some v) x) (sym (find-sorted q es)) ∙ sym (find-put_at q k v (in_byte_order es)))
 
 -- the trie of entries with a pair set, and without a key, whatever list has these pairs
-pub trie-set : (h : List ℕ → List ℕ) (p : TrieShape) (k : List ℕ) (v : Data) (es fs : List (List ℕ × Data)) (depth : ℕ) → no_key_twice fs ≡ true
+pub trie-set : (h : List ℕ → List ℕ) (p : HamtShape) (k : List ℕ) (v : Data) (es fs : List (List ℕ × Data)) (depth : ℕ) → no_key_twice fs ≡ true
     → ((q : List ℕ) → find bytewise q fs ≡ cond (eq_by_cmp bytewise q k) (Some v) (find bytewise q es))
     → trie h p fs depth ≡ node_of h p (trie_levels p - depth) depth (put bytewise k v (in_byte_order es))
 trie-set h p k v es fs depth one is =
@@ -71,7 +72,7 @@ trie-set h p k v es fs depth one is =
     (same_by_find _ _ (in_order-sorted fs) (in_order-put k v (in_byte_order es) (in_order-sorted es))
     (λ q. find-sorted q fs ∙ is q ∙ ap (λ o. cond (eq_by_cmp bytewise q k) (Some v) o) (sym (find-sorted q es)) ∙ sym (find-put_at q k v (in_byte_order es))))
 
-pub trie-removed : (h : List ℕ → List ℕ) (p : TrieShape) (k : List ℕ) (es fs : List (List ℕ × Data)) (depth : ℕ) → no_key_twice fs ≡ true
+pub trie-removed : (h : List ℕ → List ℕ) (p : HamtShape) (k : List ℕ) (es fs : List (List ℕ × Data)) (depth : ℕ) → no_key_twice fs ≡ true
     → ((q : List ℕ) → find bytewise q fs ≡ cond (not (eq_by_cmp bytewise k q)) (find bytewise q es) None)
     → trie h p fs depth ≡ node_of h p (trie_levels p - depth) depth (without k (in_byte_order es))
 trie-removed h p k es fs depth one is =

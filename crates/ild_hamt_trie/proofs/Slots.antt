@@ -6,7 +6,7 @@ use Rattle.std.proofs.lemmas.List.{same_lists, length-set, get_or-set_same, get_
 use Rattle.std.proofs.lemmas.List.FromFn.{get_or-map-range_with_len, length-map-range_with_len}
 use Rattle.std.proofs.lemmas.Bool.{cases_eq}
 use Rattle.ild_data.specs.Data.{Data}
-use Rattle.ild_data.specs.TrieShape.{TrieShape}
+use Rattle.ild_data.specs.declared.hamt_shape.HamtShape.{HamtShape}
 use Rattle.ild_data.specs.ByteOrder.{bytewise, without, IsInOrder}
 use Rattle.ild_data.specs.Trie.{part, TrieSlot, slot_of, slots_of, all_some}
 use Rattle.ild_hamt_trie.proofs.Parts.{part-put_same, part-put_other, part-without_same, part-without_other}
@@ -76,11 +76,11 @@ all_some-cons None os xs is = absurd cc
 all_some-cons (Some x) os xs is = let parts = some_cons x (all_some os) xs is in (x, parts.0, refl, parts.1, parts.2)
 
 -- the slot of each part
-abbrev pub pieces : TrieShape → (List ℕ → ℕ) → (List (List ℕ × Data) → Option Data) → List (List ℕ × Data) → List (Option TrieSlot)
+abbrev pub pieces : HamtShape → (List ℕ → ℕ) → (List (List ℕ × Data) → Option Data) → List (List ℕ × Data) → List (Option TrieSlot)
 pieces p at below es = map (λ i. slot_of p.bucket below (part at es i)) (range_with_len 0 (2 ^ p.width))
 
 -- the change of the slots where the part at one index alone changes
-pub slots-changed : (p : TrieShape) (at : List ℕ → ℕ) (below : List (List ℕ × Data) → Option Data) (es fs : List (List ℕ × Data)) (i : ℕ) (slots : List TrieSlot)
+pub slots-changed : (p : HamtShape) (at : List ℕ → ℕ) (below : List (List ℕ × Data) → Option Data) (es fs : List (List ℕ × Data)) (i : ℕ) (slots : List TrieSlot)
     → i < 2 ^ p.width → ((j : ℕ) → j ≢ i → part at fs j ≡ part at es j) → slots_of p at below es ≡ Some slots
     → slots_of p at below fs ≡ option_map (λ s. set slots i s) (slot_of p.bucket below (part at fs i))
 slots-changed p at below es fs i slots lt other is =
@@ -90,7 +90,7 @@ slots-changed p at below es fs i slots lt other is =
     (omega (arith, length-map-range_with_len (λ j. slot_of p.bucket below (part at es j)) 0 (2 ^ p.width))) is
 
 -- set: the slot at the key's index is the slot of the part with the pair
-pub slots-put : (p : TrieShape) (at : List ℕ → ℕ) (below : List (List ℕ × Data) → Option Data) (es : List (List ℕ × Data)) (k : List ℕ) (v : Data) (slots : List TrieSlot)
+pub slots-put : (p : HamtShape) (at : List ℕ → ℕ) (below : List (List ℕ × Data) → Option Data) (es : List (List ℕ × Data)) (k : List ℕ) (v : Data) (slots : List TrieSlot)
     → at k < 2 ^ p.width → IsInOrder es → slots_of p at below es ≡ Some slots
     → slots_of p at below (put bytewise k v es) ≡ option_map (λ s. set slots (at k) s) (slot_of p.bucket below (put bytewise k v (part at es (at k))))
 slots-put p at below es k v slots lt h is =
@@ -98,7 +98,7 @@ slots-put p at below es k v slots lt h is =
     ∙ ap (λ fs. option_map (λ s. set slots (at k) s) (slot_of p.bucket below fs)) (part-put_same at k v es (at k) h refl)
 
 -- remove: the slot at the key's index is the slot of the part without the key
-pub slots-without : (p : TrieShape) (at : List ℕ → ℕ) (below : List (List ℕ × Data) → Option Data) (es : List (List ℕ × Data)) (k : List ℕ) (slots : List TrieSlot)
+pub slots-without : (p : HamtShape) (at : List ℕ → ℕ) (below : List (List ℕ × Data) → Option Data) (es : List (List ℕ × Data)) (k : List ℕ) (slots : List TrieSlot)
     → at k < 2 ^ p.width → IsInOrder es → slots_of p at below es ≡ Some slots
     → slots_of p at below (without k es) ≡ option_map (λ s. set slots (at k) s) (slot_of p.bucket below (without k (part at es (at k))))
 slots-without p at below es k slots lt h is =
@@ -106,7 +106,7 @@ slots-without p at below es k slots lt h is =
     ∙ ap (λ fs. option_map (λ s. set slots (at k) s) (slot_of p.bucket below fs)) (part-without_same at k es (at k) h)
 
 -- what stands in the slot is the slot of the part
-pub slot_at : (p : TrieShape) (at : List ℕ → ℕ) (below : List (List ℕ × Data) → Option Data) (es : List (List ℕ × Data)) (i : ℕ) (slots : List TrieSlot) (z : TrieSlot)
+pub slot_at : (p : HamtShape) (at : List ℕ → ℕ) (below : List (List ℕ × Data) → Option Data) (es : List (List ℕ × Data)) (i : ℕ) (slots : List TrieSlot) (z : TrieSlot)
     → i < 2 ^ p.width → slots_of p at below es ≡ Some slots → slot_of p.bucket below (part at es i) ≡ Some (get_or slots i z)
 slot_at p at below es i slots z lt is =
     sym (get_or-map-range_with_len (λ j. slot_of p.bucket below (part at es j)) 0 (2 ^ p.width) i i None lt (omega arith))

@@ -3,7 +3,7 @@ use Rattle.std.proofs.Common.{◌≡◌, ℕ, zero, suc, ◌+◌, ◌^◌, Bool,
 use Rattle.std.specs.List.{range_with_len, list_any}
 use Rattle.std.specs.FinMap.{find}
 use Rattle.ild_data.specs.Data.{Data}
-use Rattle.ild_data.specs.TrieShape.{TrieShape}
+use Rattle.ild_data.specs.declared.hamt_shape.HamtShape.{HamtShape}
 use Rattle.ild_data.specs.ByteOrder.{bytewise, in_byte_order, IsInOrder}
 use Rattle.ild_data.specs.Trie.{part, at_depth}
 use Rattle.ild_hamt_trie.specs.Walk.{part_or, in_trie_order}
@@ -25,12 +25,12 @@ either_way : (g : List (List ℕ × Data) → List (List ℕ × Data)) (q : List
 either_way g q true fs same = refl
 either_way g q false fs same = same
 
-walk_step : (h : List ℕ → List ℕ) (p : TrieShape) (left depth : ℕ) (es : List (List ℕ × Data))
+walk_step : (h : List ℕ → List ℕ) (p : HamtShape) (left depth : ℕ) (es : List (List ℕ × Data))
     → in_trie_order h p (suc left) depth es ≡ flat_map (λ i. part_or (nat_le (length (part (at_depth h p depth) es i)) p.bucket) (in_trie_order h p left (depth + 1)) (part (at_depth h p depth) es i)) (range_with_len 0 (2 ^ p.width))
 unfolding in_trie_order
 walk_step h p left depth es = refl
 
-pub find-walk : (h : List ℕ → List ℕ) (p : TrieShape) (left depth : ℕ) (es : List (List ℕ × Data)) (q : List ℕ) → find bytewise q (in_trie_order h p left depth es) ≡ find bytewise q es
+pub find-walk : (h : List ℕ → List ℕ) (p : HamtShape) (left depth : ℕ) (es : List (List ℕ × Data)) (q : List ℕ) → find bytewise q (in_trie_order h p left depth es) ≡ find bytewise q es
 unfolding in_trie_order
 find-walk h p zero depth es q = refl
 find-walk h p (suc left) depth es q =
@@ -38,6 +38,6 @@ find-walk h p (suc left) depth es q =
     (λ fs. either_way (in_trie_order h p left (depth + 1)) q (nat_le (length fs) p.bucket) fs (find-walk h p left (depth + 1) fs q))
     ∙ ap (λ b. cond b (find bytewise q es) None) (any-range (at_depth h p depth q) 0 (2 ^ p.width) (omega arith) (omega (arith, index_below p (h q) depth)))
 
-pub sorted-walk : (h : List ℕ → List ℕ) (p : TrieShape) (left depth : ℕ) (es : List (List ℕ × Data)) → IsInOrder es → in_byte_order (in_trie_order h p left depth es) ≡ es
+pub sorted-walk : (h : List ℕ → List ℕ) (p : HamtShape) (left depth : ℕ) (es : List (List ℕ × Data)) → IsInOrder es → in_byte_order (in_trie_order h p left depth es) ≡ es
 sorted-walk h p left depth es order =
     same_by_find _ _ (in_order-sorted (in_trie_order h p left depth es)) order (λ q. find-sorted q (in_trie_order h p left depth es) ∙ find-walk h p left depth es q)

@@ -4,7 +4,7 @@ use Rattle.std.specs.FinMap.{find, put}
 use Rattle.std.proofs.lemmas.Bool.{lt-leb, le-leb, eq-eqb, eqb-true}
 use Rattle.ild_data.specs.Data.{Data}
 use Rattle.ild_data.specs.Spell.{spell, id_of}
-use Rattle.ild_data.specs.TrieShape.{TrieShape}
+use Rattle.ild_data.specs.declared.hamt_shape.HamtShape.{HamtShape}
 use Rattle.ild_data.specs.ByteOrder.{bytewise, without, IsInOrder}
 use Rattle.ild_data.specs.Trie.{part, slot_of, TrieSlot, empty, bucket, child, is_child, bucket_entries, node_of, at_depth, slots_at}
 use Rattle.ild_data.specs.TrieBlocks.{node_and_beneath, none_or, block_of}
@@ -15,13 +15,13 @@ use Rattle.ild_hamt_trie.proofs.Index.{index_below}
 use Rattle.std.proofs.lemmas.List.Elements.{All-weaker, filter_passes}
 use Rattle.ild_hamt_trie.proofs.Node.{slot-child, slot-held, few-held}
 
-pub way_is : (h : List ℕ → List ℕ) (p : TrieShape) (k : List ℕ) (left depth : ℕ) (es : List (List ℕ × Data))
+pub way_is : (h : List ℕ → List ℕ) (p : HamtShape) (k : List ℕ) (left depth : ℕ) (es : List (List ℕ × Data))
     → way h p k (suc left) depth es ≡ node_and_beneath p.bucket (node_of h p left (depth + 1)) (way h p k left (depth + 1)) (part (at_depth h p depth) es (at_depth h p depth k))
 unfolding way
 way_is h p k left depth es = refl
 
 -- a child link at the key's index: its block is the next on the way
-pub way-child : (h : List ℕ → List ℕ) (p : TrieShape) (k : List ℕ) (left depth : ℕ) (es : List (List ℕ × Data)) (slots : List TrieSlot) (id : List ℕ)
+pub way-child : (h : List ℕ → List ℕ) (p : HamtShape) (k : List ℕ) (left depth : ℕ) (es : List (List ℕ × Data)) (slots : List TrieSlot) (id : List ℕ)
     → slots_at h p left depth es ≡ Some slots → get_or slots (at_depth h p depth k) empty ≡ child id
     → (node : Data) × (node_of h p left (depth + 1) (part (at_depth h p depth) es (at_depth h p depth k)) ≡ Some node) × (id ≡ id_of (spell node))
     × (way h p k (suc left) depth es ≡ spell node ∷ way h p k left (depth + 1) (part (at_depth h p depth) es (at_depth h p depth k)))
@@ -37,7 +37,7 @@ way-child h p k left depth es slots id is stands =
     )
 
 -- no link: the way ends, and the slot holds the entries that agree with the key so far
-pub way-ends : (h : List ℕ → List ℕ) (p : TrieShape) (k : List ℕ) (left depth : ℕ) (es : List (List ℕ × Data)) (slots : List TrieSlot)
+pub way-ends : (h : List ℕ → List ℕ) (p : HamtShape) (k : List ℕ) (left depth : ℕ) (es : List (List ℕ × Data)) (slots : List TrieSlot)
     → slots_at h p left depth es ≡ Some slots → is_child (get_or slots (at_depth h p depth k) empty) ≡ false → way h p k (suc left) depth es ≡ []
 way-ends h p k left depth es slots is stands =
     let fs : List (List ℕ × Data) = part (at_depth h p depth) es (at_depth h p depth k) in
@@ -45,7 +45,7 @@ way-ends h p k left depth es slots is stands =
     way_is h p k left depth es ∙ ap (λ b. none_or b next fs) (le-leb (length fs) p.bucket (few-held h p left depth es k slots is stands))
 
 -- what a look-up of the key finds, it finds in the part
-pub find-along : (h : List ℕ → List ℕ) (p : TrieShape) (k : List ℕ) (left depth : ℕ) (es : List (List ℕ × Data)) → find bytewise k (along h p k left depth es) ≡ find bytewise k es
+pub find-along : (h : List ℕ → List ℕ) (p : HamtShape) (k : List ℕ) (left depth : ℕ) (es : List (List ℕ × Data)) → find bytewise k (along h p k left depth es) ≡ find bytewise k es
 find-along h p k zero depth es = refl
 find-along h p k (suc left) depth es =
     find-along h p k left (depth + 1) (part (at_depth h p depth) es (at_depth h p depth k))
@@ -53,7 +53,7 @@ find-along h p k (suc left) depth es =
     ∙ ap (λ b. cond b (find bytewise k es) None) (eq-eqb (at_depth h p depth k) (at_depth h p depth k) refl)
 
 -- one level further along the key
-pub along-more : (h : List ℕ → List ℕ) (p : TrieShape) (k : List ℕ) (n depth : ℕ) (es : List (List ℕ × Data))
+pub along-more : (h : List ℕ → List ℕ) (p : HamtShape) (k : List ℕ) (n depth : ℕ) (es : List (List ℕ × Data))
     → along h p k (n + 1) depth es ≡ part (at_depth h p (depth + n)) (along h p k n depth es) (at_depth h p (depth + n) k)
 along-more h p k zero depth es = let e : depth + 0 ≡ depth = omega arith in rw e refl
 along-more h p k (suc n) depth es =
@@ -62,13 +62,13 @@ along-more h p k (suc n) depth es =
     rw (e, f) (along-more h p k n (depth + 1) (part (at_depth h p depth) es (at_depth h p depth k)))
 
 -- the way in the changed trie
-pub way-put : (h : List ℕ → List ℕ) (p : TrieShape) (k : List ℕ) (v : Data) (left depth : ℕ) (es : List (List ℕ × Data)) → IsInOrder es
+pub way-put : (h : List ℕ → List ℕ) (p : HamtShape) (k : List ℕ) (v : Data) (left depth : ℕ) (es : List (List ℕ × Data)) → IsInOrder es
     → way h p k (suc left) depth (put bytewise k v es) ≡ node_and_beneath p.bucket (node_of h p left (depth + 1)) (way h p k left (depth + 1)) (put bytewise k v (part (at_depth h p depth) es (at_depth h p depth k)))
 way-put h p k v left depth es order =
     way_is h p k left depth (put bytewise k v es)
     ∙ ap (node_and_beneath p.bucket (node_of h p left (depth + 1)) (way h p k left (depth + 1))) (part-put_same (at_depth h p depth) k v es (at_depth h p depth k) order refl)
 
-pub way-without : (h : List ℕ → List ℕ) (p : TrieShape) (k : List ℕ) (left depth : ℕ) (es : List (List ℕ × Data)) → IsInOrder es
+pub way-without : (h : List ℕ → List ℕ) (p : HamtShape) (k : List ℕ) (left depth : ℕ) (es : List (List ℕ × Data)) → IsInOrder es
     → way h p k (suc left) depth (without k es) ≡ node_and_beneath p.bucket (node_of h p left (depth + 1)) (way h p k left (depth + 1)) (without k (part (at_depth h p depth) es (at_depth h p depth k)))
 way-without h p k left depth es order =
     way_is h p k left depth (without k es)
@@ -82,7 +82,7 @@ bucket-full : (most : ℕ) (below : List (List ℕ × Data) → Option Data) (es
 bucket-full most below [] fs is = absurd cc
 bucket-full most below (e ∷ es) fs is = omega arith
 
-pub slot-bucket : (h : List ℕ → List ℕ) (p : TrieShape) (left depth : ℕ) (es : List (List ℕ × Data)) (k : List ℕ) (slots : List TrieSlot) (fs : List (List ℕ × Data))
+pub slot-bucket : (h : List ℕ → List ℕ) (p : HamtShape) (left depth : ℕ) (es : List (List ℕ × Data)) (k : List ℕ) (slots : List TrieSlot) (fs : List (List ℕ × Data))
     → IsInOrder es → slots_at h p left depth es ≡ Some slots → get_or slots (at_depth h p depth k) empty ≡ bucket fs
     → (part (at_depth h p depth) es (at_depth h p depth k) ≡ fs) × IsInOrder fs × (0 < length fs) × (length fs ≤ p.bucket) × All (λ e. at_depth h p depth e.0 ≡ at_depth h p depth k) fs
 slot-bucket h p left depth es k slots fs order is stands =

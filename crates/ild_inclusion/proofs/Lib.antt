@@ -4,5 +4,5 @@ mod Single
 mod Ways
 mod Stepping
 mod Onward
-mod Slots
 mod Rooted
+mod Copied

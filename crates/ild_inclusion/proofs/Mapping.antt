@@ -6,12 +6,12 @@ use Rattle.ild_data.specs.Data.{Data}
 use Rattle.ild_data.specs.Spell.{spell}
 use Rattle.ild_data.specs.Trie.{TrieSlot, empty, bucket, child}
 use Rattle.ild_data.specs.TrieShape.{index}
+use Rattle.ild_data.specs.declared.hamt_shape.HamtShape.{HamtShape}
 use Rattle.ild_path_edits.specs.Along.{room_below}
 use Rattle.ild_schema.specs.declared.number.Slot.{Slot}
 use Rattle.ild_schema.specs.declared.number.TypeNo.{TypeNo}
 use Rattle.ild_schema.specs.declared.row.Row.{Row}
 use Rattle.ild_typed.specs.At.{InSlot, seen}
-use Rattle.ild_typed.specs.Composed.{usual}
 use Rattle.ild_typed.specs.Segment.{part}
 use Rattle.ild_view.specs.Roots.{root_in}
 use Rattle.ild_inclusion.specs.Branches.{Whether, so, not_so, Finds, found, not_found}
@@ -31,26 +31,26 @@ finds_map Is B C N M f g (found x is b) = found x is (f x b)
 finds_map Is B C N M f g (not_found never n) = not_found never (g n)
 
 module _ (W V : Reject → Type 0) (wrong : (r : Reject) → W r → V r) where
-  pub node_map : (id : List ℕ) (i : ℕ) (b : List ℕ) (B C : List TrieSlot → Type 0) → ((slots : List TrieSlot) → B slots → C slots) → NodeIn id i b B W → NodeIn id i b C V
-  node_map id i b B C f n =
+  pub node_map : (p : HamtShape) (id : List ℕ) (i : ℕ) (b : List ℕ) (B C : List TrieSlot → Type 0) → ((slots : List TrieSlot) → B slots → C slots) → NodeIn p id i b B W → NodeIn p id i b C V
+  node_map p id i b B C f n =
       whether_map (finds_map (IsBlockOf b) _ _ _ _ (λ t. finds_map _ B C _ _ f (wrong (R.Shape i))) (wrong (R.Cbor i))) (wrong (R.Missing i)) n
 
-  pub next_map : (id : List ℕ) (i : ℕ) (bs : List (List ℕ)) (B C : List TrieSlot → List (List ℕ) → Type 0) → ((slots : List TrieSlot) (cs : List (List ℕ)) → B slots cs → C slots cs) → NextNode id i bs B W → NextNode id i bs C V
-  next_map id i [] B C f n = wrong (R.Missing (i + 1)) n
-  next_map id i (b ∷ bs) B C f n = node_map id (i + 1) b _ _ (λ slots. f slots bs) n
+  pub next_map : (p : HamtShape) (id : List ℕ) (i : ℕ) (bs : List (List ℕ)) (B C : List TrieSlot → List (List ℕ) → Type 0) → ((slots : List TrieSlot) (cs : List (List ℕ)) → B slots cs → C slots cs) → NextNode p id i bs B W → NextNode p id i bs C V
+  next_map p id i [] B C f n = wrong (R.Missing (i + 1)) n
+  next_map p id i (b ∷ bs) B C f n = node_map p id (i + 1) b _ _ (λ slots. f slots bs) n
 
   slot_map : (key : List ℕ) (E F : Option Data → Type 0) (O P : List ℕ → Type 0) → ((o : Option Data) → E o → F o) → ((id : List ℕ) → O id → P id) → (s : TrieSlot) → AtSlot key E O s → AtSlot key F P s
   slot_map key E F O P f g empty a = f _ a
   slot_map key E F O P f g (bucket es) a = f _ a
   slot_map key E F O P f g (child id) a = g id a
 
-  pub way_map : (hash key : List ℕ) (E F : ℕ → List (List ℕ) → Option Data → Type 0) → ((i : ℕ) (bs : List (List ℕ)) (o : Option Data) → E i bs o → F i bs o)
-      → (depth i : ℕ) (slots : List TrieSlot) (bs : List (List ℕ)) → OnWay hash key E W depth i slots bs → OnWay hash key F V depth i slots bs
-  way_map hash key E F f depth i slots [] n =
-      slot_map key (E i []) (F i []) _ _ (f i []) (λ id. whether_map (wrong (R.Missing (i + 1))) (wrong (R.Shape i))) (get_or slots (index usual hash depth) empty) n
-  way_map hash key E F f depth i slots (b ∷ bs) n =
+  pub way_map : (p : HamtShape) (hash key : List ℕ) (E F : ℕ → List (List ℕ) → Option Data → Type 0) → ((i : ℕ) (bs : List (List ℕ)) (o : Option Data) → E i bs o → F i bs o)
+      → (depth i : ℕ) (slots : List TrieSlot) (bs : List (List ℕ)) → OnWay p hash key E W depth i slots bs → OnWay p hash key F V depth i slots bs
+  way_map p hash key E F f depth i slots [] n =
+      slot_map key (E i []) (F i []) _ _ (f i []) (λ id. whether_map (wrong (R.Missing (i + 1))) (wrong (R.Shape i))) (get_or slots (index p hash depth) empty) n
+  way_map p hash key E F f depth i slots (b ∷ bs) n =
       slot_map key (E i (b ∷ bs)) (F i (b ∷ bs)) _ _ (f i (b ∷ bs))
-      (λ id. whether_map (node_map id (i + 1) b _ _ (λ below. way_map hash key E F f (depth + 1) (i + 1) below bs)) (wrong (R.Shape i))) (get_or slots (index usual hash depth) empty) n
+      (λ id. whether_map (node_map p id (i + 1) b _ _ (λ below. way_map p hash key E F f (depth + 1) (i + 1) below bs)) (wrong (R.Shape i))) (get_or slots (index p hash depth) empty) n
 
   module _ (On Onto : ℕ → InSlot → List (List ℕ) → Type 0) (on : (j : ℕ) (q : InSlot) (cs : List (List ℕ)) → On j q cs → Onto j q cs)
       (Off Offto : ℕ → List (List ℕ) → Type 0) (off : (j : ℕ) (cs : List (List ℕ)) → Off j cs → Offto j cs) (rows : List Row) where
@@ -63,7 +63,7 @@ module _ (W V : Reject → Type 0) (wrong : (r : Reject) → W r → V r) where
 
     enters_map : (hash key : List ℕ) (room : ℕ) (s : Slot) (i : ℕ) (bs : List (List ℕ)) (o : Option Data) → Enters rows hash key room s i bs On Off W o → Enters rows hash key room s i bs Onto Offto V o
     enters_map hash key room s i bs None e = off i bs e
-    enters_map hash key room s i bs (Some d) e = record { slots = e.slots; root = e.root; way = way_map hash key _ _ (at_key_map room s) 0 i e.slots bs e.way }
+    enters_map hash key room s i bs (Some d) e = record { shape = e.shape; named = e.named; slots = e.slots; root = e.root; way = way_map e.shape hash key _ _ (at_key_map room s) 0 i e.slots bs e.way }
 
     pub goes_map : (h : List ℕ → List ℕ) (room i : ℕ) (p : InSlot) (s : List ℕ) (bs : List (List ℕ)) → Goes h rows room i p s bs On Off W → Goes h rows room i p s bs Onto Offto V
     goes_map h room i p s bs g = by (part (seen rows p) s) g where

@@ -9,8 +9,9 @@ use Rattle.ild_data.specs.Limits.{deepest}
 use Rattle.ild_data.specs.Spell.{spell}
 use Rattle.ild_data.specs.Trie.{TrieSlot, empty, bucket, child, node_data}
 use Rattle.ild_data.specs.TrieShape.{index}
+use Rattle.ild_data.specs.declared.hamt_shape.HamtShape.{HamtShape}
 use Rattle.ild_hamt_trie.proofs.Bits.{same_node}
-use Rattle.ild_node_slots.proofs.Fits.{whole_map}
+use Rattle.ild_node_slots.proofs.Shapes.{whole_map}
 use Rattle.ild_node_slots.proofs.Rooting.{root-same}
 use Rattle.ild_path_edits.specs.Along.{room_below}
 use Rattle.ild_schema.specs.Clear.{IsSafe}
@@ -20,7 +21,6 @@ use Rattle.ild_schema.specs.declared.number.TypeNo.{TypeNo}
 use Rattle.ild_schema.specs.declared.row.Row.{Row}
 use Rattle.ild_schema.specs.Value.{Value}
 use Rattle.ild_typed.specs.At.{InSlot, seen}
-use Rattle.ild_typed.specs.Composed.{usual}
 use Rattle.ild_typed.specs.Fits.{Front}
 use Rattle.ild_typed.specs.Node.{IsRoot}
 use Rattle.ild_typed.specs.Segment.{part}
@@ -41,11 +41,11 @@ one_block b t u x y =
     let small = v.sized in
     one_meaning t u v.tree w.tree (omega (arith, small)) (sym x.spelled ∙ y.spelled)
 
-pub one_node : (t : Data) (xs ys : List TrieSlot) → IsNodeOf t xs → IsNodeOf t ys → xs ≡ ys
-one_node t xs ys x y = same_node xs ys (whole_map usual.width _ (omega arith) x.form.many) (y.form.many ∙ sym x.form.many) (sym x.tree ∙ y.tree)
+pub one_node : (p : HamtShape) (t : Data) (xs ys : List TrieSlot) → IsNodeOf p t xs → IsNodeOf p t ys → xs ≡ ys
+one_node p t xs ys x y = same_node xs ys (whole_map p.width _ p.wide x.form.many) (y.form.many ∙ sym x.form.many) (sym x.tree ∙ y.tree)
 
-pub one_root : (d : Data) (xs ys : List TrieSlot) → IsRoot usual xs d → IsRoot usual ys d → xs ≡ ys
-one_root d xs ys x y = same_node xs ys (whole_map usual.width _ (omega arith) x.indices) (y.indices ∙ sym x.indices) (root-same usual (node_data xs) (node_data ys) (sym x.tree ∙ y.tree))
+pub one_root : (p : HamtShape) (d : Data) (xs ys : List TrieSlot) → IsRoot p xs d → IsRoot p ys d → xs ≡ ys
+one_root p d xs ys x y = same_node xs ys (whole_map p.width _ p.wide x.indices) (y.indices ∙ sym x.indices) (root-same p (node_data xs) (node_data ys) (sym x.tree ∙ y.tree))
 
 module _ {C : Type 0} where
   pub whether_meet : {P Y N Z M : Type 0} → Whether P Y N → Whether P Z M → (Y → Z → C) → (N → M → C) → C
@@ -66,18 +66,18 @@ module _ {C : Type 0} where
   slot_meet key E F O P (child id) a b f g = g id a b
 
   module _ (W V : Reject → Type 0) (wrong : (r : Reject) → W r → V r → C) where
-    node_meet : (id : List ℕ) (i : ℕ) (b : List ℕ) (B D : List TrieSlot → Type 0) → NodeIn id i b B W → NodeIn id i b D V → ((slots : List TrieSlot) → B slots → D slots → C) → C
-    node_meet id i b B D x y f =
-        whether_meet x y (λ s t. finds_meet (IsBlockOf b) _ _ _ _ (one_block b) s t (λ t is m n. finds_meet (IsNodeOf t) B D _ _ (one_node t) m n (λ slots node. f slots) (wrong (R.Shape i))) (wrong (R.Cbor i)))
+    node_meet : (p : HamtShape) (id : List ℕ) (i : ℕ) (b : List ℕ) (B D : List TrieSlot → Type 0) → NodeIn p id i b B W → NodeIn p id i b D V → ((slots : List TrieSlot) → B slots → D slots → C) → C
+    node_meet p id i b B D x y f =
+        whether_meet x y (λ s t. finds_meet (IsBlockOf b) _ _ _ _ (one_block b) s t (λ t is m n. finds_meet (IsNodeOf p t) B D _ _ (one_node p t) m n (λ slots node. f slots) (wrong (R.Shape i))) (wrong (R.Cbor i)))
         (wrong (R.Missing i))
 
-    way_meet : (hash key : List ℕ) (E F : ℕ → List (List ℕ) → Option Data → Type 0) → ((i : ℕ) (bs : List (List ℕ)) (o : Option Data) → E i bs o → F i bs o → C)
-        → (depth i : ℕ) (slots : List TrieSlot) (bs : List (List ℕ)) → OnWay hash key E W depth i slots bs → OnWay hash key F V depth i slots bs → C
-    way_meet hash key E F f depth i slots [] x y =
-        slot_meet key (E i []) (F i []) _ _ (get_or slots (index usual hash depth) empty) x y (f i []) (λ id m n. whether_meet m n (wrong (R.Missing (i + 1))) (wrong (R.Shape i)))
-    way_meet hash key E F f depth i slots (b ∷ bs) x y =
-        slot_meet key (E i (b ∷ bs)) (F i (b ∷ bs)) _ _ (get_or slots (index usual hash depth) empty) x y (f i (b ∷ bs))
-        (λ id m n. whether_meet m n (λ p q. node_meet id (i + 1) b _ _ p q (λ below. way_meet hash key E F f (depth + 1) (i + 1) below bs)) (wrong (R.Shape i)))
+    way_meet : (p : HamtShape) (hash key : List ℕ) (E F : ℕ → List (List ℕ) → Option Data → Type 0) → ((i : ℕ) (bs : List (List ℕ)) (o : Option Data) → E i bs o → F i bs o → C)
+        → (depth i : ℕ) (slots : List TrieSlot) (bs : List (List ℕ)) → OnWay p hash key E W depth i slots bs → OnWay p hash key F V depth i slots bs → C
+    way_meet p hash key E F f depth i slots [] x y =
+        slot_meet key (E i []) (F i []) _ _ (get_or slots (index p hash depth) empty) x y (f i []) (λ id m n. whether_meet m n (wrong (R.Missing (i + 1))) (wrong (R.Shape i)))
+    way_meet p hash key E F f depth i slots (b ∷ bs) x y =
+        slot_meet key (E i (b ∷ bs)) (F i (b ∷ bs)) _ _ (get_or slots (index p hash depth) empty) x y (f i (b ∷ bs))
+        (λ id m n. whether_meet m n (λ s t. node_meet p id (i + 1) b _ _ s t (λ below. way_meet p hash key E F f (depth + 1) (i + 1) below bs)) (wrong (R.Shape i)))
 
     module _ (rows : List Row) (one : (s : Slot) → IsSafe rows s → (room : ℕ) (t : Data) (f g : Value) → Front rows room s f t → Front rows room s g t → f ≡ g)
         (safe : (s u : Slot) → element_of (form_of rows s) ≡ Some u → IsSafe rows u)
@@ -97,8 +97,11 @@ module _ {C : Type 0} where
       enters_meet : (hash key : List ℕ) (room : ℕ) (s : Slot) (i : ℕ) (bs : List (List ℕ)) (o : Option Data) → Enters rows hash key room s i bs On Off W o → Enters rows hash key room s i bs Onto Offto V o → C
       enters_meet hash key room s i bs None x y = off i bs x y
       enters_meet hash key room s i bs (Some d) x y =
-          way_meet hash key (AtKey (λ j cs t. GoesToSlot rows room s j t (λ q. On j q cs) W) Off) (AtKey (λ j cs t. GoesToSlot rows room s j t (λ q. Onto j q cs) V) Offto) (at_key_meet room s) 0 i x.slots bs x.way
-          (subst (λ slots. OnWay hash key (AtKey (λ j cs t. GoesToSlot rows room s j t (λ q. Onto j q cs) V) Offto) V 0 i slots bs) (one_root d y.slots x.slots y.root x.root) y.way)
+          let same : y.shape ≡ x.shape = same_Some y.shape x.shape (sym y.named ∙ x.named) in
+          let root = subst (λ (p : HamtShape). IsRoot p y.slots d) same y.root in
+          way_meet x.shape hash key (AtKey (λ j cs t. GoesToSlot rows room s j t (λ q. On j q cs) W) Off) (AtKey (λ j cs t. GoesToSlot rows room s j t (λ q. Onto j q cs) V) Offto) (at_key_meet room s) 0 i x.slots bs x.way
+          (subst (λ slots. OnWay x.shape hash key (AtKey (λ j cs t. GoesToSlot rows room s j t (λ q. Onto j q cs) V) Offto) V 0 i slots bs) (one_root x.shape d y.slots x.slots root x.root)
+          (subst (λ (p : HamtShape). OnWay p hash key (AtKey (λ j cs t. GoesToSlot rows room s j t (λ q. Onto j q cs) V) Offto) V 0 i y.slots bs) same y.way))
 
       goes_meet : (h : List ℕ → List ℕ) (room i : ℕ) (p : InSlot) (s : List ℕ) (bs : List (List ℕ)) → Goes h rows room i p s bs On Off W → Goes h rows room i p s bs Onto Offto V → C
       goes_meet h room i p s bs x y = by (part (seen rows p) s) x y where

@@ -1,6 +1,8 @@
 -- One segment from a value.
-use Rattle.std.proofs.Common.{◌≡◌, ◌-◌, ℕ, List, Option, Some, None, Result, Ok, Err, refl, sym, ap, ◌∙◌, subst}
-use Rattle.std.specs.Prelude.{MatchOption}
+use Rattle.std.proofs.Common.{◌≡◌, ◌-◌, ℕ, List, true, Option, Some, None, Result, Ok, Err, refl, sym, ap, ◌∙◌, subst}
+use Rattle.std.specs.Prelude.{MatchOption, is_some}
+use Rattle.std.proofs.Math.Bool.{Bool-set}
+use Rattle.std.proofs.Math.Logic.{∥∥₁_elim}
 use Rattle.std.proofs.lemmas.Option.{none-some, same_Some}
 use Rattle.ild_cbor.specs.Nodes.{Stands}
 use Rattle.ild_cbor.specs.declared.node.Node.{Node}
@@ -8,25 +10,24 @@ use Rattle.ild_cbor.specs.declared.piece.Piece.{Piece}
 use Rattle.ild_cbor.specs.declared.piece.Piece.TheVariants as P
 use Rattle.ild_data.specs.Data.{Data}
 use Rattle.ild_data.specs.Trie.{TrieSlot}
+use Rattle.ild_data.specs.declared.hamt_shape.HamtShape.{HamtShape}
 use Rattle.ild_layer_piece.specs.Pieces.{StandsFor}
 use Rattle.ild_path_edits.specs.Along.{room_below, taken}
+use Rattle.ild_path_room.proofs.Rooting.{IsHamtType, hamt_type}
+use Rattle.ild_path_room.specs.ValueSlot.{value_in}
 use Rattle.ild_schema.specs.Slots.{form_of}
 use Rattle.ild_schema.specs.Value as V
 use Rattle.ild_schema.specs.Value.{Value}
 use Rattle.ild_schema.specs.declared.def.TypeDef.{TypeDef}
-use Rattle.ild_schema.specs.declared.def.TypeDef.TheVariants as D
+use Rattle.ild_schema.specs.declared.def.MapForm.TheVariants as MF
 use Rattle.ild_schema.specs.declared.number.Slot.{Slot}
 use Rattle.ild_schema.specs.declared.row.Row.{Row}
-use Rattle.ild_typed.proofs.OneValue.{Way, as_layer, as_null, way_of}
 use Rattle.ild_typed.specs.At.{InSlot, seen}
-use Rattle.ild_typed.specs.Composed.{composed, usual}
 use Rattle.ild_typed.specs.Fits.{Front}
-use Rattle.ild_typed.specs.Hamt.{alone}
-use Rattle.ild_typed.specs.Layer as L
-use Rattle.ild_typed.specs.Represented.{represented}
 use Rattle.ild_typed.specs.Segment.{part}
 use Rattle.ild_typed.specs.Slots.{element_of}
 use Rattle.ild_view.specs.Body.{BodyStands}
+use Rattle.ild_view.specs.Forms.{shape_in}
 use Rattle.ild_view.specs.Parts.{HandsOut, IsPartView}
 use Rattle.ild_view.specs.Roots.{RootIs, root_in}
 use Rattle.ild_view.specs.View.{IsView, IsViewAt, body_of, piece_in, slot_of, table_of}
@@ -41,6 +42,7 @@ use Rattle.ild_inclusion.specs.declared.segment.Step.{Step}
 use Rattle.ild_inclusion.specs.declared.segment.Step.TheVariants as S
 use Rattle.ild_inclusion.specs.declared.fault.Reject.TheVariants as R
 use Rattle.ild_inclusion.proofs.Mapping.{finds_map, way_map}
+use Rattle.ild_node_slots.specs.Views.{HasSlots, view_shape}
 use Rattle.ild_node_slots.specs.declared.view.NodeView.{NodeView}
 use Rattle.ild_typed.specs.Node.{IsRoot}
 use Rattle.ild_inclusion.specs.declared.fault.Reject.{Reject}
@@ -67,31 +69,24 @@ part_view rows s n t v room f at stands front = record {
 
 -- ---- the type of a HAMT
 
-map_of_root : (d : TypeDef) (x t : Data) → composed alone d (L.hamt x) ≡ Some t → (elem : Slot) × IsMapOf (Some d) elem
-map_of_root (D.Map key key_at value at form) x t e = (value, record { key = key; key_at = key_at; at = at; form = form; is = refl })
-map_of_root D.Bool x t e = absurd (none-some t e)
-map_of_root D.Text x t e = absurd (none-some t e)
-map_of_root D.Bytes x t e = absurd (none-some t e)
-map_of_root D.Int x t e = absurd (none-some t e)
-map_of_root D.Any x t e = absurd (none-some t e)
-map_of_root (D.Link target) x t e = absurd (none-some t e)
-map_of_root (D.Unit form) x t e = absurd (none-some t e)
-map_of_root (D.List elem at) x t e = absurd (none-some t e)
-map_of_root (D.Struct s) x t e = absurd (none-some t e)
-map_of_root (D.Union u) x t e = absurd (none-some t e)
-map_of_root (D.Enum n) x t e = absurd (none-some t e)
-map_of_root (D.Copy target) x t e = absurd (none-some t e)
+pub map_in : (d : Option TypeDef) (p : HamtShape) (x : IsHamtType d p) → IsMapOf d x.value
+map_in d p x = record { key = x.key; key_at = x.key_at; at = x.place; form = MF.Hamt p; is = x.form }
 
-pub root_is_map : (rows : List Row) (s : Slot) (x t : Data) → represented alone rows s (V.hamt x) ≡ Some t → (elem : Slot) × IsMapOf (form_of rows s) elem
-root_is_map rows s x t e = by (way_of alone rows s (V.hamt x) t e) where
-  by : Way alone rows s (V.hamt x) t → (elem : Slot) × IsMapOf (form_of rows s) elem
-  by (as_null is null data_is) = absurd cc
-  by (as_layer d l known layer made) =
-      let m = map_of_root d x t (ap (composed alone d) (same_Some (L.hamt x) l layer) ∙ made) in
-      (m.0, subst (λ o. IsMapOf o m.0) (sym known) m.1)
+-- a view with a root is one of a map
+pub has_map : (v : View) (n : NodeView) → ((f : Value) → IsView v f → RootIs (shape_in (form_of (table_of v) (slot_of v))) (root_in f) (Some n)) → is_some (value_in (form_of (table_of v) (slot_of v))) ≡ true
+has_map v n roots =
+    ∥∥₁_elim v.stands (Bool-set _ true)
+    (λ s. by (shape_in (form_of (table_of v) (slot_of v))) refl (root_in s.value) (roots s.value (record { room = s.room; tree = s.tree; stands = s.stands; front = s.front }))) where
+      by : (o : Option HamtShape) → shape_in (form_of (table_of v) (slot_of v)) ≡ o → (r : Option Data) → RootIs o r (Some n) → is_some (value_in (form_of (table_of v) (slot_of v))) ≡ true
+      by o e None is = absurd is
+      by None e (Some d) is = absurd is
+      by (Some p) e (Some d) is = let x = hamt_type (form_of (table_of v) (slot_of v)) p e in ap (λ (o : Option TypeDef). is_some (value_in o)) x.form
 
 pub map_element : (d : Option TypeDef) (elem : Slot) → IsMapOf d elem → element_of d ≡ Some elem
 map_element d elem m = ap element_of m.is
+
+pub slot_there : (rows rows' : List Row) (s slot elem : Slot) → rows' ≡ rows → element_of (form_of rows' s) ≡ Some slot → element_of (form_of rows s) ≡ Some elem → slot ≡ elem
+slot_there rows rows' s slot elem table is own = same_Some slot elem (sym is ∙ ap (λ (r : List Row). element_of (form_of r s)) table ∙ own)
 
 pub is_root : (f : Value) (d : Data) → root_in f ≡ Some d → f ≡ V.hamt d
 is_root (V.hamt x) d e = ap V.hamt (same_Some x d e)
@@ -153,28 +148,36 @@ module _ (rows : List Row) (room : ℕ) (s elem : Slot) (at : ℕ) (t : Data) (i
 
 -- ---- into a HAMT
 
-module _ (rows : List Row) (hash key : List ℕ) (room : ℕ) (s : Slot) (d : Data) (i : ℕ) (bs : List (List ℕ)) (slots : List TrieSlot) (root : IsRoot usual slots d) (result : Result Step VerifyErr) where
+-- the way that was read is one in the shape of the type
+pub way_of_root : (n : NodeView) (key : List ℕ) (i : ℕ) (bs : List (List ℕ)) (found : Result End Reject) (q p : HamtShape) → q ≡ view_shape n → (slots : List TrieSlot) → HasSlots p n slots → (hash own : List ℕ) → hash ≡ own
+    → ((xs : List TrieSlot) → HasSlots q n xs → OnWay q hash key (EndGiven found) (WrongGiven found) 0 i xs bs) → OnWay p own key (EndGiven found) (WrongGiven found) 0 i slots bs
+way_of_root n key i bs found q p shape slots has hash own same way =
+    let is : q ≡ p = shape ∙ has.shape in
+    let read = way slots (subst (λ (r : HamtShape). HasSlots r n slots) (sym is) has) in
+    subst (λ (xs : List ℕ). OnWay p xs key (EndGiven found) (WrongGiven found) 0 i slots bs) same (subst (λ (r : HamtShape). OnWay r hash key (EndGiven found) (WrongGiven found) 0 i slots bs) is read)
+
+module _ (rows : List Row) (hash key : List ℕ) (room : ℕ) (s : Slot) (d : Data) (i : ℕ) (bs : List (List ℕ)) (p : HamtShape) (named : shape_in (form_of rows s) ≡ Some p) (slots : List TrieSlot) (root : IsRoot p slots d) (result : Result Step VerifyErr) where
   abbrev Ends_ : ℕ → List (List ℕ) → Option Data → Type 0
   Ends_ = AtKey (λ j cs t. GoesToSlot rows room s j t (λ q. OnGiven rows room result j q cs) (RefusedGiven result)) (OffGiven result)
 
-  entered_as : (found : Result End Reject) → OnWay hash key (EndGiven found) (WrongGiven found) 0 i slots bs → ((j : ℕ) (cs : List (List ℕ)) (o : Option Data) → EndGiven found j cs o → Ends_ j cs o)
+  entered_as : (found : Result End Reject) → OnWay p hash key (EndGiven found) (WrongGiven found) 0 i slots bs → ((j : ℕ) (cs : List (List ℕ)) (o : Option Data) → EndGiven found j cs o → Ends_ j cs o)
       → ((r : Reject) → WrongGiven found r → RefusedGiven result r) → EntersRoot rows hash key room s d i bs (OnGiven rows room result) (OffGiven result) (RefusedGiven result)
-  entered_as found way ends wrong = record { slots = slots; root = root; way = way_map (WrongGiven found) (RefusedGiven result) wrong hash key (EndGiven found) Ends_ ends 0 i slots bs way }
+  entered_as found way ends wrong = record { shape = p; named = named; slots = slots; root = root; way = way_map (WrongGiven found) (RefusedGiven result) wrong p hash key (EndGiven found) Ends_ ends 0 i slots bs way }
 
-  pub enters_refused : (e : Reject) → result ≡ Err (E.Reject e) → OnWay hash key (EndGiven (Err e)) (WrongGiven {X = End} (Err e)) 0 i slots bs
+  pub enters_refused : (e : Reject) → result ≡ Err (E.Reject e) → OnWay p hash key (EndGiven (Err e)) (WrongGiven {X = End} (Err e)) 0 i slots bs
       → EntersRoot rows hash key room s d i bs (OnGiven rows room result) (OffGiven result) (RefusedGiven result)
   enters_refused e is way = entered_as (Err e) way (λ j cs o none. absurd none) wrong where
     wrong : (r : Reject) → WrongGiven {X = End} (Err e) r → RefusedGiven result r
     wrong r same = let eq : e ≡ r = cc in is ∙ ap (λ x. Err (E.Reject x)) eq
 
-  pub enters_off : (x : End) → x.value ≡ None → result ≡ Ok (S.Off x) → OnWay hash key (EndGiven (Ok x)) (WrongGiven {X = End} (Ok x)) 0 i slots bs
+  pub enters_off : (x : End) → x.value ≡ None → result ≡ Ok (S.Off x) → OnWay p hash key (EndGiven (Ok x)) (WrongGiven {X = End} (Ok x)) 0 i slots bs
       → EntersRoot rows hash key room s d i bs (OnGiven rows room result) (OffGiven result) (RefusedGiven result)
   enters_off x none is way = entered_as (Ok x) way ends (λ r e. absurd cc) where
     ends : (j : ℕ) (cs : List (List ℕ)) (o : Option Data) → IsEnd j cs o x → Ends_ j cs o
     ends j cs None e = subst (λ (r : Result Step VerifyErr). OffGiven r j cs) (sym is) (e.at, e.left)
     ends j cs (Some t) e = absurd (subst (λ (v : Option Node). ValueGiven (Some t) v) none e.value)
 
-  pub enters_on : (x : End) (n : Node) → x.value ≡ Some n → OnWay hash key (EndGiven (Ok x)) (WrongGiven {X = End} (Ok x)) 0 i slots bs
+  pub enters_on : (x : End) (n : Node) → x.value ≡ Some n → OnWay p hash key (EndGiven (Ok x)) (WrongGiven {X = End} (Ok x)) 0 i slots bs
       → ((t : Data) → Stands n t → GoesToSlot rows room s x.at t (λ q. OnGiven rows room result x.at q x.left.now) (RefusedGiven result))
       → EntersRoot rows hash key room s d i bs (OnGiven rows room result) (OffGiven result) (RefusedGiven result)
   enters_on x n some way goes = entered_as (Ok x) way ends (λ r e. absurd cc) where
@@ -199,18 +202,18 @@ module _ (h : List ℕ → List ℕ) (v : View) (f : Value) (view : IsView v f) 
   steps_on w m hands room_is on =
       goes_to_part h rows_ room i (slot_of v, f) s bs (OnGiven rows_ less result) (OffGiven result) (RefusedGiven result) w hands (λ q part. subst (λ (k : ℕ). OnGiven rows_ k result i q bs) room_is (on q part))
 
-  pub steps_off : HandsOut rows_ (part (seen rows_ (slot_of v, f)) s) None → RootIs (root_in f) None → OffGiven result i bs → Goes h rows_ room i (slot_of v, f) s bs (OnGiven rows_ less result) (OffGiven result) (RefusedGiven result)
+  pub steps_off : HandsOut rows_ (part (seen rows_ (slot_of v, f)) s) None → RootIs (shape_in (form_of rows_ (slot_of v))) (root_in f) None → OffGiven result i bs → Goes h rows_ room i (slot_of v, f) s bs (OnGiven rows_ less result) (OffGiven result) (RefusedGiven result)
   steps_off hands root off =
       goes_elsewhere h rows_ room i (slot_of v, f) s bs (OnGiven rows_ less result) (OffGiven result) (RefusedGiven result) hands (by (root_in f) root) where
-        by : (o : Option Data) → RootIs o None → Enters rows_ (h s) s less (slot_of v) i bs (OnGiven rows_ less result) (OffGiven result) (RefusedGiven result) o
+        by : (o : Option Data) → RootIs (shape_in (form_of rows_ (slot_of v))) o None → Enters rows_ (h s) s less (slot_of v) i bs (OnGiven rows_ less result) (OffGiven result) (RefusedGiven result) o
         by None r = off
         by (Some d) r = absurd r
 
-  pub steps_in : (n : NodeView) (m : ℕ) → HandsOut rows_ (part (seen rows_ (slot_of v, f)) s) None → RootIs (root_in f) (Some n) → m ≡ room - taken (form_of rows_ (slot_of v))
-      → ((d : Data) → IsView v (V.hamt d) → RootIs (Some d) (Some n) → EntersRoot rows_ (h s) s m (slot_of v) d i bs (OnGiven rows_ m result) (OffGiven result) (RefusedGiven result))
+  pub steps_in : (n : NodeView) (m : ℕ) → HandsOut rows_ (part (seen rows_ (slot_of v, f)) s) None → RootIs (shape_in (form_of rows_ (slot_of v))) (root_in f) (Some n) → m ≡ room - taken (form_of rows_ (slot_of v))
+      → ((d : Data) → IsView v (V.hamt d) → RootIs (shape_in (form_of rows_ (slot_of v))) (Some d) (Some n) → EntersRoot rows_ (h s) s m (slot_of v) d i bs (OnGiven rows_ m result) (OffGiven result) (RefusedGiven result))
       → Goes h rows_ room i (slot_of v, f) s bs (OnGiven rows_ less result) (OffGiven result) (RefusedGiven result)
   steps_in n m hands root room_is enters = goes_elsewhere h rows_ room i (slot_of v, f) s bs (OnGiven rows_ less result) (OffGiven result) (RefusedGiven result) hands (by (root_in f) refl root) where
-    by : (o : Option Data) → root_in f ≡ o → RootIs o (Some n) → Enters rows_ (h s) s less (slot_of v) i bs (OnGiven rows_ less result) (OffGiven result) (RefusedGiven result) o
+    by : (o : Option Data) → root_in f ≡ o → RootIs (shape_in (form_of rows_ (slot_of v))) o (Some n) → Enters rows_ (h s) s less (slot_of v) i bs (OnGiven rows_ less result) (OffGiven result) (RefusedGiven result) o
     by None e r = absurd r
     by (Some d) e r =
         subst (λ (k : ℕ). EntersRoot rows_ (h s) s k (slot_of v) d i bs (OnGiven rows_ k result) (OffGiven result) (RefusedGiven result)) room_is

@@ -4,6 +4,7 @@ use Rattle.ild_cbor.specs.Nodes.{Stands}
 use Rattle.ild_cbor.specs.declared.node.Node.{Node}
 use Rattle.ild_data.specs.Data.{Data}
 use Rattle.ild_data.specs.Trie.{TrieSlot}
+use Rattle.ild_data.specs.declared.hamt_shape.HamtShape.{HamtShape}
 use Rattle.ild_node_slots.specs.Views.{HasSlots}
 use Rattle.ild_node_slots.specs.declared.view.NodeView.{NodeView}
 use Rattle.ild_schema.specs.Value.{Value}
@@ -14,7 +15,6 @@ use Rattle.ild_schema.specs.declared.number.Slot.{Slot}
 use Rattle.ild_schema.specs.declared.number.TypeNo.{TypeNo}
 use Rattle.ild_schema.specs.declared.row.Row.{Row}
 use Rattle.ild_typed.specs.At.{InSlot}
-use Rattle.ild_typed.specs.Composed.{usual}
 use Rattle.ild_view.specs.Parts.{IsPartView}
 use Rattle.ild_view.specs.declared.view.View.{View}
 use Rattle.ild_inclusion.specs.Says.{Outcome}
@@ -37,13 +37,13 @@ abbrev pub SpellingGiven : Result Node Reject → Data → Type 0
 SpellingGiven (Ok n) t = Stands n t
 SpellingGiven (Err r) t = ⊥
 
-abbrev pub NodeGiven : Result NodeView Reject → List TrieSlot → Type 0
-NodeGiven (Ok v) slots = HasSlots usual v slots
-NodeGiven (Err r) slots = ⊥
+abbrev pub NodeGiven : HamtShape → Result NodeView Reject → List TrieSlot → Type 0
+NodeGiven p (Ok v) slots = HasSlots p v slots
+NodeGiven p (Err r) slots = ⊥
 
-abbrev pub BeneathGiven : Result Beneath Reject → List TrieSlot → List (List ℕ) → Type 0
-BeneathGiven (Ok x) slots bs = HasSlots usual x.node slots × (x.left.now ≡ bs)
-BeneathGiven (Err r) slots bs = ⊥
+abbrev pub BeneathGiven : HamtShape → Result Beneath Reject → List TrieSlot → List (List ℕ) → Type 0
+BeneathGiven p (Ok x) slots bs = HasSlots p x.node slots × (x.left.now ≡ bs)
+BeneathGiven p (Err r) slots bs = ⊥
 
 -- a node for the value, or neither
 abbrev pub ValueGiven : Option Data → Option Node → Type 0

@@ -4,6 +4,7 @@ use Rattle.ild_data.specs.Data.{Data}
 use Rattle.ild_data.specs.Limits.{deepest}
 use Rattle.ild_data.specs.Spell.{id_of, spell}
 use Rattle.ild_data.specs.Trie.{TrieSlot}
+use Rattle.ild_data.specs.declared.hamt_shape.HamtShape.{HamtShape}
 use Rattle.ild_path_edits.specs.Along.{room_below}
 use Rattle.ild_schema.specs.Slots.{form_of, plainly}
 use Rattle.ild_schema.specs.Value.{Value}
@@ -11,13 +12,13 @@ use Rattle.ild_schema.specs.declared.number.Slot.{Slot}
 use Rattle.ild_schema.specs.declared.number.TypeNo.{TypeNo}
 use Rattle.ild_schema.specs.declared.row.Row.{Row}
 use Rattle.ild_typed.specs.At.{InSlot, seen}
-use Rattle.ild_typed.specs.Composed.{usual}
 use Rattle.ild_typed.specs.Fits.{Front}
 use Rattle.ild_typed.specs.Hamt.{alone}
 use Rattle.ild_typed.specs.Node.{IsRoot}
 use Rattle.ild_typed.specs.Represented.{represented}
 use Rattle.ild_typed.specs.Segment.{part}
 use Rattle.ild_typed.specs.Slots.{element_of}
+use Rattle.ild_view.specs.Forms.{shape_in}
 use Rattle.ild_view.specs.Roots.{root_in}
 use Rattle.ild_inclusion.specs.Branches.{Whether, Finds}
 use Rattle.ild_inclusion.specs.Way.{OnWay, Spelling}
@@ -44,11 +45,13 @@ abbrev pub AtKey : (ℕ → List (List ℕ) → Data → Type 0) → (ℕ → Li
 AtKey On Off i bs None = Off i bs
 AtKey On Off i bs (Some t) = On i bs t
 
--- a HAMT by its root node, which stands in block i
+-- a HAMT by its root node, which stands in block i: its nodes are those of the shape of its type
 pub record EntersRoot (rows : List Row) (hash key : List ℕ) (room : ℕ) (hamt_slot : Slot) (d : Data) (i : ℕ) (bs : List (List ℕ)) (On : ℕ → InSlot → List (List ℕ) → Type 0) (Off : ℕ → List (List ℕ) → Type 0) (Wrong : Reject → Type 0) : Type 0 where
+  pub shape : HamtShape
+  pub named : shape_in (form_of rows hamt_slot) ≡ Some shape
   pub slots : List TrieSlot
-  pub root : IsRoot usual slots d
-  pub way : OnWay hash key (AtKey (λ j cs t. GoesToSlot rows room hamt_slot j t (λ q. On j q cs) Wrong) Off) Wrong 0 i slots bs
+  pub root : IsRoot shape slots d
+  pub way : OnWay shape hash key (AtKey (λ j cs t. GoesToSlot rows room hamt_slot j t (λ q. On j q cs) Wrong) Off) Wrong 0 i slots bs
 
 -- a segment that leads to no part of a value in its block is the key of a HAMT, or leads nowhere
 abbrev pub Enters : List Row → List ℕ → List ℕ → ℕ → Slot → ℕ → List (List ℕ) → (ℕ → InSlot → List (List ℕ) → Type 0) → (ℕ → List (List ℕ) → Type 0) → (Reject → Type 0) → Option Data → Type 0

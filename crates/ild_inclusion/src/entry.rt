@@ -1,18 +1,14 @@
-//! The value at a key of a HAMT.
-ghost use Rattle.std.specs.Prelude.{◌≡◌, ◌<◌, Some, length, true};
+//! An item that is to have a front.
+ghost use Rattle.std.specs.Prelude.{◌≡◌, ◌<◌, length, true};
 ghost use Rattle.ild_cbor.specs.Nodes.{Stands};
 ghost use Rattle.ild_data.specs.Data.{Data};
-ghost use Rattle.ild_inclusion.specs.Given.{FrontGiven, HasMemory, IsMapOf, RefusedGiven};
+ghost use Rattle.ild_inclusion.specs.Given.{FrontGiven, HasMemory, RefusedGiven};
 ghost use Rattle.ild_inclusion.specs.Says.{Fronted};
-ghost use Rattle.ild_schema.specs.Slots.{form_of};
-ghost use Rattle.ild_schema.specs.declared.number.Slot.{Slot as Place};
-ghost use Rattle.ild_schema.specs.Table.{IsWithin};
 ghost use Rattle.ild_view.specs.Safe.{is_safe};
-ghost use Rattle.ild_view.specs.View.{slot_of, table_of};
 
 use crate::fault::{Reject, VerifyErr};
 use ild_cbor::Node;
-use ild_schema::{Accepted, Slot, TypeDef};
+use ild_schema::{Accepted, Slot};
 use ild_typed::refused_have_no_front;
 use ild_view::{View, ViewErr};
 use std::alloc::Global;
@@ -37,28 +33,5 @@ pub(crate) fn fronted<'b>(
         Ok(view) => Ok(view),
         Err(ViewErr::Shape { .. }) => Err(VerifyErr::Reject(Reject::Shape(at))),
         Err(ViewErr::Memory) => Err(VerifyErr::Memory),
-    }
-}
-
-// What the schema says of a view's type, copies followed.
-fn form<'b>(view: &View<'b>) -> &'b TypeDef
-    ensures same { form_of (table_of view.now) (slot_of view.now) ≡ Some result.now }
-    ensures within { IsWithin (length (table_of view.now)) result.now }
-{
-    let acc = view.schema();
-    acc.def(acc.base(view.slot().ty))
-}
-
-/// The slot of the values of a map; of what is no map its own.
-pub(crate) fn value_slot(view: &View<'_>) -> Slot
-    ensures element { (elem : Place) → IsMapOf (form_of (table_of view.now) (slot_of view.now)) elem → result ≡ elem }
-    ensures within { result.ty.0 < length (table_of view.now) }
-    ensures safe { is_safe (table_of view.now) result ≡ true }
-{
-    // It does no work: its clauses say what acceptance says of the table.
-    let _types = view.schema().types();
-    match form(view) {
-        TypeDef::Map { value, .. } => *value,
-        _ => view.slot(),
     }
 }

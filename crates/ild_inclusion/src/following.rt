@@ -10,19 +10,31 @@ use crate::answer::Answer;
 use crate::fault::{Reject, VerifyErr};
 use crate::segment::{Step, go_on};
 use crate::stand::Stand;
+use ild_cbor::Piece;
 use ild_data::{KeyHash, Octets, Path};
 use ild_emit::Emit;
 use ild_view::View;
 use std::alloc::{AllocError, Global};
 
-// The spelling of the representation at a view.
-fn spelling(alloc: Global, view: &View<'_>) -> Result<Octets, AllocError>
+// The spelling of the representation at a view, written out.
+fn written(alloc: Global, view: &View<'_>) -> Result<Octets, AllocError>
     ensures { (f : Value) → IsView view.now f → IfOk result (IsShown (table_of view.now) (slot_of view.now) f) }
 {
     let tree = view.rep(alloc)?;
     let mut out = Emit::new(alloc);
     out.tree(&tree)?;
     Ok(out.finish())
+}
+
+// The spelling of the representation at a view: an item of the block is copied as it stands there.
+fn spelling(alloc: Global, view: &View<'_>) -> Result<Octets, AllocError>
+    ensures { (f : Value) → IsView view.now f → IfOk result (IsShown (table_of view.now) (slot_of view.now) f) }
+{
+    match view.piece() {
+        Some(Piece::Node(node)) => Octets::of(alloc, node.spelling()),
+        Some(Piece::Text(_) | Piece::Bytes(_) | Piece::Inline(_, _)) => written(alloc, view),
+        None => written(alloc, view),
+    }
 }
 
 // The answer at the end of the way, in block `at`: a block that is left over proves nothing.

@@ -1,28 +1,30 @@
 //! One segment of a path.
-ghost use Rattle.std.specs.Prelude.{◌<◌, ◌+◌, ◌^◌, List, Some, length};
+ghost use Rattle.std.specs.Prelude.{◌≡◌, ◌<◌, ◌+◌, ◌^◌, List, Some, is_some, length, true};
 ghost use Rattle.ild_cbor.specs.Nodes.{Stands};
 ghost use Rattle.ild_data.specs.Data.{Data};
 ghost use Rattle.ild_inclusion.specs.Given.{HasMemory, IsMapOf, OffGiven, OnGiven, RefusedGiven};
 ghost use Rattle.ild_inclusion.specs.Says.{EntersRoot, Goes, GoesToSlot};
 ghost use Rattle.ild_path_edits.specs.Along.{room_below};
+ghost use Rattle.ild_path_room.specs.ValueSlot.{value_in};
 ghost use Rattle.ild_schema.specs.Slots.{form_of};
 ghost use Rattle.ild_schema.specs.Value.{Value, hamt};
 ghost use Rattle.ild_schema.specs.declared.number.Slot.{Slot};
 ghost use Rattle.ild_schema.specs.declared.row.Row.{Row};
 ghost use Rattle.ild_typed.specs.At.{InSlot};
+ghost use Rattle.ild_view.specs.Forms.{shape_in};
 ghost use Rattle.ild_view.specs.Parts.{IsPartView};
 ghost use Rattle.ild_view.specs.Roots.{RootIs};
 ghost use Rattle.ild_view.specs.View.{IsView, slot_of, table_of};
 
 use crate::end::End;
-use crate::entry::{fronted, value_slot};
+use crate::entry::fronted;
 use crate::fault::VerifyErr;
 use crate::stand::Stand;
 use crate::way::find_end;
 use ild_cbor::Node;
 use ild_data::{KeyHash, Octets};
 use ild_node_slots::NodeView;
-use ild_path_room::levels;
+use ild_path_room::{levels, value_slot};
 use ild_view::View;
 use std::alloc::Global;
 
@@ -74,13 +76,18 @@ fn go_to<'b>(
     at: usize,
     left: &'b [Octets],
 ) -> Result<Step<'b>, VerifyErr>
-    requires { at + length left.now + 1 < 2 ^ 64 }
+    requires few { at + length left.now + 1 < 2 ^ 64 }
+    requires map { is_some (value_in (form_of (table_of map.now) (slot_of map.now))) ≡ true }
     ensures { (elem : Slot) → IsMapOf (form_of (table_of map.now) (slot_of map.now)) elem → (t : Data) → Stands node.entry t → HasMemory result
         → GoesToSlot (table_of map.now) room (slot_of map.now) at t (λ q. OnGiven (table_of map.now) room result at q left.now) (RefusedGiven result) }
 {
-    match fronted(alloc, map.schema(), value_slot(map), node, room, at) {
-        Ok(view) => on_to(view, room, at, left),
-        Err(fault) => Err(fault),
+    let acc = map.schema();
+    match value_slot(acc, map) {
+        Some(slot) => match fronted(alloc, acc, slot, node, room, at) {
+            Ok(view) => on_to(view, room, at, left),
+            Err(fault) => Err(fault),
+        },
+        None => unreachable!(),
     }
 }
 
@@ -95,12 +102,13 @@ fn enter<'b, H: KeyHash>(
     left: &'b [Octets],
     keys: &H,
 ) -> Result<Step<'b>, VerifyErr>
-    requires { at + length left.now + 1 < 2 ^ 64 }
-    ensures { (d : Data) → IsView map.now (hamt d) → RootIs (Some d) (Some root.entry) → HasMemory result
+    requires few { at + length left.now + 1 < 2 ^ 64 }
+    requires map { is_some (value_in (form_of (table_of map.now) (slot_of map.now))) ≡ true }
+    ensures { (d : Data) → IsView map.now (hamt d) → RootIs (shape_in (form_of (table_of map.now) (slot_of map.now))) (Some d) (Some root.entry) → HasMemory result
         → EntersRoot (table_of map.now) (H.hash_of key.now) key.now room (slot_of map.now) d at left.now (OnGiven (table_of map.now) room result) (OffGiven result) (RefusedGiven result) }
 {
     let hash = keys.hash(key.as_bytes());
-    let end = match find_end(root, key, &hash, 0, at, left) {
+    let end = match find_end(root.shape(), root, key, &hash, 0, at, left) {
         Ok(end) => end,
         Err(reject) => return Err(VerifyErr::Reject(reject)),
     };

@@ -1,6 +1,7 @@
 //! What proofs say, and what is wrong first, worked out by hand.
 use crate::blocks::{
-    ABC, FOUR, FOUR_CHILD, NESTED, NESTED_CHILD, TO_LIST, TO_LONG_HEAD, WRONG, WRONG_CHILD,
+    ABC, FOUR, FOUR_CHILD, NARROW, NARROW_CHILD, NARROW_LAST, NESTED, NESTED_CHILD, TO_LIST,
+    TO_LONG_HEAD, TO_WIDE, WRONG, WRONG_CHILD,
 };
 use crate::told::{Row, is_answered, proof_of, schema};
 use ild_data::{KeyHash, PadKeys, Sha256Keys};
@@ -179,6 +180,54 @@ const HASHED: [Row; 2] = [
     ("H", ABC, &["x"], &[ABC], ("absent", 0, b"")),
 ];
 
+// HAMTs of three bits a level: the keys 00 and 01 part at the third.
+const NARROW_ONES: [Row; 8] = [
+    (
+        "N",
+        NARROW,
+        &["\0"],
+        &[NARROW, NARROW_CHILD, NARROW_LAST],
+        ("here", 0, b"\x01"),
+    ),
+    (
+        "N",
+        NARROW,
+        &["\x01"],
+        &[NARROW, NARROW_CHILD, NARROW_LAST],
+        ("here", 0, b"\x02"),
+    ),
+    (
+        "N",
+        NARROW,
+        &["\x02"],
+        &[NARROW, NARROW_CHILD, NARROW_LAST],
+        ("absent", 0, b""),
+    ),
+    ("N", NARROW, &["@"], &[NARROW], ("absent", 0, b"")),
+    (
+        "N",
+        NARROW,
+        &["\0"],
+        &[NARROW, NARROW_CHILD],
+        ("missing", 2, b""),
+    ),
+    (
+        "H",
+        NARROW,
+        &["\0"],
+        &[NARROW, NARROW_CHILD, NARROW_LAST],
+        ("shape", 0, b""),
+    ),
+    ("N", FOUR, &["\0"], &[FOUR, FOUR_CHILD], ("shape", 0, b"")),
+    (
+        "N",
+        TO_WIDE,
+        &["\0"],
+        &[TO_WIDE, FOUR_CHILD],
+        ("shape", 1, b""),
+    ),
+];
+
 fn all_so<H: KeyHash>(rt: &impl Abort, alloc: Global, table: &[Row], keys: &H) -> Result<(), Fail> {
     let acc = schema(alloc)?;
     for row in table {
@@ -208,4 +257,9 @@ fn blocks_out_of_form(rt: HostRuntime) -> Result<(), Fail> {
 #[test]
 fn keys_hashed_by_sha2(rt: HostRuntime) -> Result<(), Fail> {
     all_so(&rt, rt.alloc(), &HASHED, &Sha256Keys)
+}
+
+#[test]
+fn keys_in_hamts_of_another_shape(rt: HostRuntime) -> Result<(), Fail> {
+    all_so(&rt, rt.alloc(), &NARROW_ONES, &PadKeys)
 }

@@ -7,7 +7,8 @@ use std::alloc::Global;
 use std::test::Fail;
 
 pub const SRC: &str =
-    "type H {String:Int} representation advanced HAMT type G {String:H} representation advanced HAMT type W struct { h H n Int } type I [Int]";
+    "type H {String:Int} representation advanced HAMT type G {String:H} representation advanced HAMT type W struct { h H n Int } type I [Int] \
+     type N {String:Int} representation advanced HAMT_w3_b1";
 
 /// A declared type, the block of the root, a path, the blocks of a proof; then what is told, a number, and the bytes of a part.
 pub type Row = (

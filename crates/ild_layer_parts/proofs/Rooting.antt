@@ -9,9 +9,11 @@ use Rattle.ild_data.specs.Data.{Data}
 use Rattle.ild_data.specs.Trie as Trie
 use Rattle.ild_data.specs.Trie.{TrieSlot}
 use Rattle.ild_data.specs.declared.id.BlockId.{BlockId}
+use Rattle.ild_data.specs.declared.hamt_shape.HamtShape.{HamtShape}
 use Rattle.ild_cbor.specs.declared.node.Node.{Node}
 use Rattle.ild_cbor.specs.declared.piece.Piece.TheVariants as Q
 use Rattle.ild_node_slots.specs.Steps.{IsAtSlot, SlotStep}
+use Rattle.ild_node_slots.proofs.Shapes.{pow_few}
 use Rattle.ild_node_slots.specs.Views.{EntryIs, HasEntries, HasSlots, SlotHolds}
 use Rattle.ild_node_slots.specs.declared.bucket.Bucket.{Bucket}
 use Rattle.ild_node_slots.specs.declared.slots.Slots.{Slots}
@@ -22,7 +24,6 @@ use Rattle.ild_schema.specs.Slots.{plainly}
 use Rattle.ild_schema.specs.declared.number.Slot.{Slot}
 use Rattle.ild_schema.specs.declared.number.TypeNo.{TypeNo}
 use Rattle.ild_schema.specs.declared.row.Row.{Row}
-use Rattle.ild_typed.specs.Composed.{usual}
 use Rattle.ild_typed.specs.Node.{IsSlot}
 use Rattle.ild_typed.specs.RootSpots.{bucket_spots, in_node, root_spots}
 use Rattle.ild_typed.specs.Spots.{Spot, key_spot, value_spot}
@@ -48,10 +49,10 @@ got_or [] i d h = absurd (omega (arith, h))
 got_or (x ∷ xs) zero d h = refl
 got_or (x ∷ xs) (suc i) d h = got_or xs i d (omega (arith, h))
 
-slot_at : (slots : List TrieSlot) (i : ℕ) (z : TrieSlot) → AllByRecursion (IsSlot usual) slots → slice_get slots i ≡ Some z → IsSlot usual z
-slot_at [] i z all e = absurd (none-some z e)
-slot_at (y ∷ ys) zero z all e = subst (IsSlot usual) (same_Some y z e) all.0
-slot_at (y ∷ ys) (suc i) z all e = slot_at ys i z all.1 e
+slot_at : (p : HamtShape) (slots : List TrieSlot) (i : ℕ) (z : TrieSlot) → AllByRecursion (IsSlot p) slots → slice_get slots i ≡ Some z → IsSlot p z
+slot_at p [] i z all e = absurd (none-some z e)
+slot_at p (y ∷ ys) zero z all e = subst (IsSlot p) (same_Some y z e) all.0
+slot_at p (y ∷ ys) (suc i) z all e = slot_at p ys i z all.1 e
 
 module _ (s : RootEntries) (ps : List Spot) (h : HasRoot s ps) where
   -- a value whose key was handed out
@@ -65,7 +66,7 @@ module _ (s : RootEntries) (ps : List Spot) (h : HasRoot s ps) where
         others = h.rest;
         is = k.4;
         first = (spot, refl, subst (λ y. IsSpotted rows y spot) (sym same) (record { slot = refl; key = refl; stands = k.3 }));
-        left = record { view = h.view; slots = h.slots; has = h.has; at = h.at; left = h.left; within = h.within; few = h.few; rest = h.rest; held = refl; bucket = h.bucket };
+        left = record { shape = h.shape; view = h.view; slots = h.slots; has = h.has; at = h.at; left = h.left; within = h.within; few = h.few; rest = h.rest; held = refl; bucket = h.bucket };
       })
 
   pub root_value_way : (x : Bor (List ℕ) × Node) → s.held ≡ Some x → (i : ℕ) → i ≡ s.entry - 1 → (r : Part) → steps_of r.way ≡ in_node s.element i 1 → LeadsFirst r ps
@@ -75,8 +76,8 @@ module _ (s : RootEntries) (ps : List Spot) (h : HasRoot s ps) where
       let same : i ≡ k.1 = omega (arith, before, behind) in
       leads_there r ps (value_spot s.value k.0 (in_node s.element k.1 1)) h.rest k.4 (way ∙ ap (λ j. in_node s.element j 1) same)
 
-  many : length h.slots ≡ 256
-  many = h.has.form.many
+  many : length h.slots ≤ 256
+  many = let all = h.has.form.many in let few = pow_few h.shape in omega (arith, all, few)
 
   module _ (free : s.held ≡ None) where
     all_rest : ps ≡ h.rest
@@ -90,7 +91,7 @@ module _ (s : RootEntries) (ps : List Spot) (h : HasRoot s ps) where
       counted = ap held_count there
 
       pub root_key : (rows : List Row) (x : Bor (List ℕ) × Node) (r : Part) (way : Way) → r ≡ record { slot = plainly s.key; piece = Q.Text x.0; is_key = true; way = way }
-          → ((es : List (List ℕ × Data)) → HasEntries b es → length es ≤ 3 → EntryIs b es s.entry (slice_get es s.entry) (Some x)) → (rest : RootEntries)
+          → ((es : List (List ℕ × Data)) → HasEntries b es → length es ≤ 16 → EntryIs b es s.entry (slice_get es s.entry) (Some x)) → (rest : RootEntries)
           → rest ≡ record { key = s.key; value = s.value; slots = s.slots; element = s.element; bucket = s.bucket; entry = s.entry + 1; held = Some x } → SplitsRootOff rows ps (Some r) rest
       root_key rows x r way same entry rest is = by (slice_get in_it.0 s.entry) refl (entry in_it.0 in_it.1 in_it.2) where
         by : (o : Option (List ℕ × Data)) → slice_get in_it.0 s.entry ≡ o → EntryIs b in_it.0 s.entry o (Some x) → SplitsRootOff rows ps (Some r) rest
@@ -106,6 +107,7 @@ module _ (s : RootEntries) (ps : List Spot) (h : HasRoot s ps) where
               is = all_rest ∙ in_it.3 ∙ ap (λ es. bucket_spots s.key s.value s.element s.entry es ++ root_spots s.key s.value (s.element + 1) (drop h.at h.slots)) (drop_got in_it.0 s.entry e got);
               first = (spot, refl, subst (λ y. IsSpotted rows y spot) (sym same) (record { slot = refl; key = refl; stands = ap T.text (sym e_is.0) }));
               left = record {
+                shape = h.shape;
                 view = h.view;
                 slots = h.slots;
                 has = h.has;
@@ -120,7 +122,7 @@ module _ (s : RootEntries) (ps : List Spot) (h : HasRoot s ps) where
               };
             })
 
-      pub root_key_way : (x : Bor (List ℕ) × Node) → ((es : List (List ℕ × Data)) → HasEntries b es → length es ≤ 3 → EntryIs b es s.entry (slice_get es s.entry) (Some x)) → (r : Part)
+      pub root_key_way : (x : Bor (List ℕ) × Node) → ((es : List (List ℕ × Data)) → HasEntries b es → length es ≤ 16 → EntryIs b es s.entry (slice_get es s.entry) (Some x)) → (r : Part)
           → steps_of r.way ≡ in_node s.element s.entry 0 → LeadsFirst r ps
       root_key_way x entry r way = by (slice_get in_it.0 s.entry) refl (entry in_it.0 in_it.1 in_it.2) where
         by : (o : Option (List ℕ × Data)) → slice_get in_it.0 s.entry ≡ o → EntryIs b in_it.0 s.entry o (Some x) → LeadsFirst r ps
@@ -130,7 +132,7 @@ module _ (s : RootEntries) (ps : List Spot) (h : HasRoot s ps) where
             (value_spot s.value e.1 (in_node s.element s.entry 1) ∷ (bucket_spots s.key s.value s.element (s.entry + 1) (drop (s.entry + 1) in_it.0) ++ root_spots s.key s.value (s.element + 1) (drop h.at h.slots)))
             (all_rest ∙ in_it.3 ∙ ap (λ es. bucket_spots s.key s.value s.element s.entry es ++ root_spots s.key s.value (s.element + 1) (drop h.at h.slots)) (drop_got in_it.0 s.entry e got)) way
 
-      pub root_out : (rows : List Row) → ((es : List (List ℕ × Data)) → HasEntries b es → length es ≤ 3 → EntryIs b es s.entry (slice_get es s.entry) None)
+      pub root_out : (rows : List Row) → ((es : List (List ℕ × Data)) → HasEntries b es → length es ≤ 16 → EntryIs b es s.entry (slice_get es s.entry) None)
           → (next : ℕ) → (s.element < 2 ^ 64 - 1 → next ≡ s.element + 1)
           → (rest : RootEntries) → rest ≡ record { key = s.key; value = s.value; slots = s.slots; element = next; bucket = None; entry = 0; held = None } → SplitsRootOff rows ps None rest
       root_out rows entry next up rest is = by (slice_get in_it.0 s.entry) refl (entry in_it.0 in_it.1 in_it.2) where
@@ -150,6 +152,7 @@ module _ (s : RootEntries) (ps : List Spot) (h : HasRoot s ps) where
               is = all_rest ∙ in_it.3 ∙ ap (λ es. bucket_spots s.key s.value s.element s.entry es ++ root_spots s.key s.value (s.element + 1) (drop h.at h.slots)) (none_behind in_it.0 s.entry got);
               first = tt;
               left = record {
+                shape = h.shape;
                 view = h.view;
                 slots = h.slots;
                 has = h.has;
@@ -170,16 +173,16 @@ module _ (s : RootEntries) (ps : List Spot) (h : HasRoot s ps) where
       few_before : s.element ≤ h.at
       few_before = let own = h.few in let no = ap held_count none in omega (arith, own, no)
 
-      pub root_end : ((v : NodeView) (slots : List TrieSlot) (i : ℕ) → HasSlots usual v slots → IsAtSlot v slots i s.slots → length slots ≤ i) → ps ≡ []
-      root_end over = slots_left ∙ ap (root_spots s.key s.value s.element) (drop_end h.slots h.at (over h.view h.slots h.at h.has h.left))
+      pub root_end : ((p : HamtShape) (v : NodeView) (slots : List TrieSlot) (i : ℕ) → HasSlots p v slots → IsAtSlot v slots i s.slots → length slots ≤ i) → ps ≡ []
+      root_end over = slots_left ∙ ap (root_spots s.key s.value s.element) (drop_end h.slots h.at (over h.shape h.view h.slots h.at h.has h.left))
 
       abbrev Away : Slots → ℕ → Option Bucket → RootEntries
       Away after element bucket = record { key = s.key; value = s.value; slots = after; element = element; bucket = bucket; entry = 0; held = None }
 
       module _ (rows : List Row) (after : Slots) (found : NodeSlot)
-          (step : (v : NodeView) (slots : List TrieSlot) (i : ℕ) → HasSlots usual v slots → IsAtSlot v slots i s.slots → SlotStep v slots i (Some found) after) where
+          (step : (p : HamtShape) (v : NodeView) (slots : List TrieSlot) (i : ℕ) → HasSlots p v slots → IsAtSlot v slots i s.slots → SlotStep v slots i (Some found) after) where
         here : SlotStep h.view h.slots h.at (Some found) after
-        here = step h.view h.slots h.at h.has h.left
+        here = step h.shape h.view h.slots h.at h.has h.left
 
         got : slice_get h.slots h.at ≡ Some (get_or h.slots h.at Trie.empty)
         got = got_or h.slots h.at Trie.empty here.0
@@ -198,6 +201,7 @@ module _ (s : RootEntries) (ps : List Spot) (h : HasRoot s ps) where
           is = is;
           first = tt;
           left = record {
+            shape = h.shape;
             view = h.view;
             slots = h.slots;
             has = h.has;
@@ -234,9 +238,9 @@ module _ (s : RootEntries) (ps : List Spot) (h : HasRoot s ps) where
         pub root_bucket : (b : Bucket) → found ≡ S.Bucket b → (rest : RootEntries) → rest ≡ Away after s.element (Some b) → SplitsRootOff rows ps None rest
         root_bucket b is rest same =
             subst (SplitsRootOff rows ps None) (sym same)
-            (by (get_or h.slots h.at Trie.empty) now (slot_at h.slots h.at (get_or h.slots h.at Trie.empty) h.has.form.each got) (subst (λ f. SlotHolds h.view h.slots h.at f (get_or h.slots h.at Trie.empty)) is here.1))
+            (by (get_or h.slots h.at Trie.empty) now (slot_at h.shape h.slots h.at (get_or h.slots h.at Trie.empty) h.has.form.each got) (subst (λ f. SlotHolds h.view h.slots h.at f (get_or h.slots h.at Trie.empty)) is here.1))
           where
-            by : (y : TrieSlot) → ps ≡ root_spots s.key s.value s.element (y ∷ drop (h.at + 1) h.slots) → IsSlot usual y → SlotHolds h.view h.slots h.at (S.Bucket b) y
+            by : (y : TrieSlot) → ps ≡ root_spots s.key s.value s.element (y ∷ drop (h.at + 1) h.slots) → IsSlot h.shape y → SlotHolds h.view h.slots h.at (S.Bucket b) y
                 → SplitsRootOff rows ps None (Away after s.element (Some b))
             by (Trie.bucket es) e form k = record {
               taken = [];
@@ -244,6 +248,7 @@ module _ (s : RootEntries) (ps : List Spot) (h : HasRoot s ps) where
               is = e;
               first = tt;
               left = record {
+                shape = h.shape;
                 view = h.view;
                 slots = h.slots;
                 has = h.has;
@@ -253,7 +258,7 @@ module _ (s : RootEntries) (ps : List Spot) (h : HasRoot s ps) where
                 few = let few = few_before in omega (arith, few);
                 rest = bucket_spots s.key s.value s.element 0 es ++ root_spots s.key s.value (s.element + 1) (drop (h.at + 1) h.slots);
                 held = refl;
-                bucket = (es, k.entries, form.2, refl);
+                bucket = (es, k.entries, (let most = form.2 in let small = h.shape.small in omega (arith, most, small)), refl);
               };
             }
             by Trie.empty e form k = absurd k
@@ -264,9 +269,10 @@ drop_none [] = refl
 drop_none (x ∷ xs) = refl
 
 -- before the first slot
-pub root_begins : (key : TypeNo) (value : Slot) (view : NodeView) (slots : List TrieSlot) → HasSlots usual view slots → (it : Slots) → IsAtSlot view slots 0 it
+pub root_begins : (p : HamtShape) (key : TypeNo) (value : Slot) (view : NodeView) (slots : List TrieSlot) → HasSlots p view slots → (it : Slots) → IsAtSlot view slots 0 it
     → HasRoot (record { key = key; value = value; slots = it; element = 0; bucket = None; entry = 0; held = None }) (root_spots key value 0 slots)
-root_begins key value view slots has it left = record {
+root_begins p key value view slots has it left = record {
+  shape = p;
   view = view;
   slots = slots;
   has = has;

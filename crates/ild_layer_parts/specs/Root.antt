@@ -3,6 +3,7 @@ use Rattle.std.specs.Prelude.{◌≡◌, ℕ, ◌+◌, ◌*◌, ◌-◌, ◌≤�
 use Rattle.std.specs.Borrow.{Bor}
 use Rattle.ild_data.specs.Data.{Data}
 use Rattle.ild_data.specs.Trie.{TrieSlot}
+use Rattle.ild_data.specs.declared.hamt_shape.HamtShape.{HamtShape}
 use Rattle.ild_cbor.specs.declared.node.Node.{Node}
 use Rattle.ild_cbor.specs.Nodes.{Stands}
 use Rattle.ild_node_slots.specs.Steps.{IsAtSlot}
@@ -10,7 +11,6 @@ use Rattle.ild_node_slots.specs.Views.{HasEntries, HasSlots}
 use Rattle.ild_node_slots.specs.declared.bucket.Bucket.{Bucket}
 use Rattle.ild_node_slots.specs.declared.view.NodeView.{NodeView}
 use Rattle.ild_schema.specs.declared.row.Row.{Row}
-use Rattle.ild_typed.specs.Composed.{usual}
 use Rattle.ild_typed.specs.RootSpots.{bucket_spots, in_node, root_spots}
 use Rattle.ild_typed.specs.Spots.{Spot, value_spot}
 use Rattle.ild_layer_parts.specs.declared.part.Part.{Part}
@@ -20,11 +20,11 @@ use Rattle.ild_layer_parts.specs.Entries.{held_count}
 
 abbrev pub bucket_left : Option Bucket → ℕ → ℕ
 bucket_left None entry = 0
-bucket_left (Some b) entry = 1 + 2 * (3 - entry)
+bucket_left (Some b) entry = 1 + 2 * (16 - entry)
 
--- an entry counts two, the end of a bucket one, and a slot eight
+-- an entry counts two, the end of a bucket one, and a slot more than the 16 entries that a bucket has at most
 abbrev pub root_left : RootEntries → ℕ
-root_left s = 8 * (8 * length s.slots.map.now - s.slots.next) + bucket_left s.bucket s.entry + held_count s.held
+root_left s = 64 * (s.slots.count - s.slots.next) + bucket_left s.bucket s.entry + held_count s.held
 
 -- the value whose key was handed out goes first
 abbrev pub IsRootHeld : RootEntries → Option (Bor (List ℕ) × Node) → List Spot → List Spot → Type 0
@@ -35,12 +35,13 @@ IsRootHeld s (Some x) rest ps = (d : Data) × (i : ℕ) × (s.entry ≡ i + 1) �
 abbrev pub IsBucketLeft : RootEntries → Option Bucket → List TrieSlot → List Spot → Type 0
 IsBucketLeft s None slots ps = ps ≡ root_spots s.key s.value s.element slots
 IsBucketLeft s (Some b) slots ps =
-    (es : List (List ℕ × Data)) × HasEntries b es × (length es ≤ 3) × (ps ≡ bucket_spots s.key s.value s.element s.entry (drop s.entry es) ++ root_spots s.key s.value (s.element + 1) slots)
+    (es : List (List ℕ × Data)) × HasEntries b es × (length es ≤ 16) × (ps ≡ bucket_spots s.key s.value s.element s.entry (drop s.entry es) ++ root_spots s.key s.value (s.element + 1) slots)
 
 pub record HasRoot (s : RootEntries) (ps : List Spot) : Type 0 where
+  pub shape : HamtShape
   pub view : NodeView
   pub slots : List TrieSlot
-  pub has : HasSlots usual view slots
+  pub has : HasSlots shape view slots
   pub at : ℕ
   pub left : IsAtSlot view slots at s.slots
   pub within : at ≤ length slots

@@ -5,7 +5,7 @@ ghost use Rattle.ild_data.specs.Trie.{TrieSlot};
 ghost use Rattle.ild_node_slots.specs.Views.{EntryIs, HasEntries, HasSlots};
 ghost use Rattle.ild_schema.specs.Slots.{plainly};
 ghost use Rattle.ild_schema.specs.declared.row.Row.{Row};
-ghost use Rattle.ild_typed.specs.Composed.{usual};
+ghost use Rattle.ild_data.specs.declared.hamt_shape.HamtShape.{HamtShape};
 ghost use Rattle.ild_typed.specs.RootSpots.{root_spots};
 ghost use Rattle.ild_typed.specs.Spots.{Spot};
 ghost use Rattle.ild_layer_parts.specs.Inside.{IsWhole};
@@ -20,8 +20,8 @@ use ild_layer_places::Way;
 use ild_node_slots::{Bucket, NodeSlot, NodeView, Slots};
 use ild_schema::{Slot, TypeNo};
 
-/// How many entries a bucket has at most.
-const MOST_ENTRIES: usize = 3;
+/// How many entries a bucket has at most, whatever the shape.
+const MOST_ENTRIES: usize = 16;
 
 /// The entries in the block of a HAMT's root that are left: those of a bucket from one on, where there is one, and those of
 /// the slots behind. So many elements of the node went before. Of an entry the key may have been handed out, and not its value.
@@ -38,8 +38,8 @@ pub struct RootEntries<'b> {
 
 // The entry of a bucket at a place.
 fn entry_at<'b>(bucket: &Bucket<'b>, i: usize) -> Option<(&'b str, Node<'b>)>
-    ensures entry { (es : List (List ℕ × Data)) → HasEntries bucket.now es → length es ≤ 3 → EntryIs bucket.now es i (slice_get es i) result }
-    ensures most { IfSome result (λ r. i < 3) }
+    ensures entry { (es : List (List ℕ × Data)) → HasEntries bucket.now es → length es ≤ 16 → EntryIs bucket.now es i (slice_get es i) result }
+    ensures most { IfSome result (λ r. i < 16) }
 {
     if i < MOST_ENTRIES {
         bucket.entry(i)
@@ -51,7 +51,7 @@ fn entry_at<'b>(bucket: &Bucket<'b>, i: usize) -> Option<(&'b str, Node<'b>)>
 impl<'b> RootEntries<'b> {
     /// The entries in the root of a HAMT, from the first on.
     pub fn of(key: TypeNo, value: Slot, view: &NodeView<'b>) -> RootEntries<'b>
-        ensures has { (slots : List TrieSlot) → HasSlots usual view.now slots → HasRoot result (root_spots key value 0 slots) }
+        ensures has { (p : HamtShape) (slots : List TrieSlot) → HasSlots p view.now slots → HasRoot result (root_spots key value 0 slots) }
         ensures ready { (rows : List Row) → IsIn rows (plainly key) → IsIn rows value → AreReady rows (P.Root result) }
     {
         RootEntries {

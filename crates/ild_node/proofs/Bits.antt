@@ -8,7 +8,8 @@ use Rattle.std.proofs.lemmas.Grind.{one_shifted}
 use Rattle.std.proofs.lemmas.List.{take_all, drop_all, length-drop, take-append-le, drop-append-le}
 use Rattle.std.proofs.lemmas.List.FromFn.{get_or-map-range_with_len}
 use Rattle.ild_data.specs.Trie.{byte_of}
-use Rattle.ild_typed.specs.Composed.{usual}
+use Rattle.ild_data.specs.declared.hamt_shape.HamtShape.{HamtShape}
+use Rattle.ild_node_slots.proofs.Shapes.{pow_few}
 use Rattle.ild_node.specs.Drafts.{map_so_far}
 use Rattle.ild_node.specs.Written.{bytes_of_bits}
 
@@ -95,7 +96,7 @@ all-same f g a (suc n) each = λ j. each a j ∷ all-same f g (a + 1) n each j
 abbrev so-far : ℕ → List Bool → List ℕ
 so-far n bits = map (λ j. byte_of (piece bits j)) (range_with_len 0 n)
 
-so-far-is : (bits : List Bool) → map_so_far bits ≡ so-far (2 ^ usual.width / 8) bits
+so-far-is : (bits : List Bool) → map_so_far bits ≡ so-far 32 bits
 unfolding map_so_far
 so-far-is bits = refl
 
@@ -141,14 +142,21 @@ map-none m is = is
 
 -- a bit that isn't set
 pub map-skip : (bits : List Bool) → map_so_far bits ≡ map_so_far (bits ++ false ∷ [])
-map-skip bits = so-far-is bits ∙ so-far-skip (2 ^ usual.width / 8) bits ∙ sym (so-far-is (bits ++ false ∷ []))
+map-skip bits = so-far-is bits ∙ so-far-skip 32 bits ∙ sym (so-far-is (bits ++ false ∷ []))
 
 -- a bit that is set
 pub map-set : (bits : List Bool) (i old v : ℕ) (was new : List ℕ) → length bits ≡ i → i < 256 → was ≡ map_so_far bits → old ≡ get_or was (i / 8) 0 → v ≡ bit_or old (1 * 2 ^ (i % 8) % 256) → new ≡ set was (i / 8) v
     → new ≡ map_so_far (bits ++ true ∷ [])
 map-set bits i old v was new long lt is read sets writes =
-    so-far-set (2 ^ usual.width / 8) bits i old v was new long (omega (arith, lt)) (is ∙ so-far-is bits) read sets writes ∙ sym (so-far-is (bits ++ true ∷ []))
+    so-far-set 32 bits i old v was new long (omega (arith, lt)) (is ∙ so-far-is bits) read sets writes ∙ sym (so-far-is (bits ++ true ∷ []))
+
+first-few : (f : ℕ → ℕ) (a n m : ℕ) → n ≤ m → take n (map f (range_with_len a m)) ≡ map f (range_with_len a n)
+first-few f a zero m le = refl
+first-few f a (suc n) zero le = absurd (omega (arith, le))
+first-few f a (suc n) (suc m) le = ap (λ ns. f a ∷ ns) (first-few f (a + 1) n m (omega (arith, le)))
 
 -- all bits
-pub map-whole : (bits : List Bool) → length bits ≡ 2 ^ usual.width → map_so_far bits ≡ bytes_of_bits bits
-map-whole bits many = so-far-is bits ∙ ap (λ n. so-far (n / 8) bits) (sym many)
+pub map-whole : (p : HamtShape) (bits : List Bool) → length bits ≡ 2 ^ p.width → take (2 ^ p.width / 8) (map_so_far bits) ≡ bytes_of_bits bits
+map-whole p bits many =
+    let few = pow_few p in
+    ap (take (2 ^ p.width / 8)) (so-far-is bits) ∙ first-few (λ j. byte_of (piece bits j)) 0 (2 ^ p.width / 8) 32 (omega (arith, few)) ∙ ap (λ n. so-far (n / 8) bits) (sym many)

@@ -1,13 +1,13 @@
 -- The steps of writing a node with another slot.
-use Rattle.std.proofs.Common.{◌≡◌, ◌≢◌, ℕ, ◌+◌, ◌<◌, ◌≤◌, Bool, List, [], ◌∷◌, ◌++◌, length, map, take, set, get_or, sym, ap, ◌∙◌, arith}
+use Rattle.std.proofs.Common.{◌≡◌, ◌≢◌, ℕ, ◌+◌, ◌<◌, ◌≤◌, Bool, List, [], ◌∷◌, ◌++◌, ◌^◌, length, map, take, set, get_or, sym, ap, ◌∙◌, arith}
 use Rattle.std.specs.Prelude.{Option, Some, None, is_some}
 use Rattle.std.proofs.lemmas.List.{take_more, take_all, length-map, length-set, get_or-map, get_or-set_same, get_or-set_other}
 use Rattle.ild_data.specs.Trie.{TrieSlot, empty, is_used}
-use Rattle.ild_typed.specs.Composed.{usual}
+use Rattle.ild_data.specs.declared.hamt_shape.HamtShape.{HamtShape}
 use Rattle.ild_node.specs.NewSlots.{slot_seen}
 use Rattle.ild_node.specs.declared.hold.NewHold.{NewHold}
 use Rattle.ild_node.specs.declared.hold.NewHold.TheVariants as N
-use Rattle.ild_node_slots.specs.Views.{HasSlots}
+use Rattle.ild_node_slots.specs.Views.{HasSlots, view_shape}
 use Rattle.ild_node_slots.specs.declared.view.NodeView.{NodeView}
 
 pub on-here : (slots : List TrieSlot) (i j : ℕ) (s : TrieSlot) (on : Bool) → j ≡ i → j < length slots → on ≡ is_used s → on ≡ is_used (get_or (set slots i s) j empty)
@@ -17,8 +17,8 @@ on-here slots i j s on same lt is =
 pub on-there : (slots : List TrieSlot) (i j : ℕ) (s : TrieSlot) (b : Bool) → j ≢ i → b ≡ is_used (get_or slots j empty) → b ≡ is_used (get_or (set slots i s) j empty)
 on-there slots i j s b apart is = is ∙ ap is_used (sym (get_or-set_other slots i j s empty apart))
 
-pub long-set : (v : NodeView) (slots : List TrieSlot) (i : ℕ) (s : TrieSlot) → HasSlots usual v slots → length (set slots i s) ≡ 256
-long-set v slots i s has = length-set slots i s ∙ has.form.many
+pub long-set : (p q : HamtShape) (v : NodeView) (slots : List TrieSlot) (i : ℕ) (s : TrieSlot) → HasSlots p v slots → q ≡ view_shape v → length (set slots i s) ≡ 2 ^ q.width
+long-set p q v slots i s has same = length-set slots i s ∙ has.form.many ∙ ap (λ (r : HamtShape). 2 ^ r.width) (sym (same ∙ has.shape))
 
 pub used-more : (ss : List TrieSlot) (j : ℕ) (old new : List Bool) (b : Bool) → j < length ss → old ≡ take j (map is_used ss) → b ≡ is_used (get_or ss j empty) → new ≡ old ++ b ∷ []
     → new ≡ take (j + 1) (map is_used ss)

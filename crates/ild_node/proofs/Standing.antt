@@ -2,10 +2,10 @@
 use Rattle.std.proofs.Common.{ℕ, zero, suc, ◌≤◌, List, [], ◌∷◌, ◌++◌, map, set, flat_map, arith}
 use Rattle.std.specs.List.{AllByRecursion}
 use Rattle.ild_data.specs.Data.{Data, items_of, items_depth, depth}
+use Rattle.ild_data.specs.declared.hamt_shape.HamtShape.{HamtShape}
 use Rattle.ild_data.specs.Limits.{IsWithin}
 use Rattle.ild_data.specs.Tree.{AreTrees}
 use Rattle.ild_data.specs.Trie.{TrieSlot, empty, bucket, child, entry_data, elements_of, node_data}
-use Rattle.ild_typed.specs.Composed.{usual}
 use Rattle.ild_typed.specs.Nested.{TreeIn}
 use Rattle.ild_typed.specs.Node.{IsSlot}
 use Rattle.ild_node_slots.specs.Form.{AreSlots, bucket_data}
@@ -37,18 +37,18 @@ entries_in (e ∷ es) all = (let le = all.0.nested in record { tree = all.0.tree
 pub bucket_in : (es : List (List ℕ × Data)) → TreeIn 94 (bucket_data es) → AreShallow es
 bucket_in es t = let le = t.nested in entries_in es (items_in 93 (map entry_data es) t.tree (omega arith))
 
-slot_sound : (s : TrieSlot) → IsSlot usual s → AllByRecursion (TreeIn 94) (elements_of s) → IsSound usual s
-slot_sound empty form all = record { form = tt; values = tt }
-slot_sound (bucket es) form all = record { form = form; values = bucket_in es all.0 }
-slot_sound (child id) form all = record { form = form; values = tt }
+slot_sound : (p : HamtShape) (s : TrieSlot) → IsSlot p s → AllByRecursion (TreeIn 94) (elements_of s) → IsSound p s
+slot_sound p empty form all = record { form = tt; values = tt }
+slot_sound p (bucket es) form all = record { form = form; values = bucket_in es all.0 }
+slot_sound p (child id) form all = record { form = form; values = tt }
 
-each_sound : (slots : List TrieSlot) → AreSlots usual slots → AllByRecursion (TreeIn 94) (flat_map elements_of slots) → AllByRecursion (IsSound usual) slots
-each_sound [] forms all = tt
-each_sound (s ∷ slots) forms all =
-    (slot_sound s forms.0 (all_left (TreeIn 94) (elements_of s) (flat_map elements_of slots) all), each_sound slots forms.1 (all_right (TreeIn 94) (elements_of s) (flat_map elements_of slots) all))
+each_sound : (p : HamtShape) (slots : List TrieSlot) → AreSlots p slots → AllByRecursion (TreeIn 94) (flat_map elements_of slots) → AllByRecursion (IsSound p) slots
+each_sound p [] forms all = tt
+each_sound p (s ∷ slots) forms all =
+    (slot_sound p s forms.0 (all_left (TreeIn 94) (elements_of s) (flat_map elements_of slots) all), each_sound p slots forms.1 (all_right (TreeIn 94) (elements_of s) (flat_map elements_of slots) all))
 
-pub slots-sound : (v : NodeView) (slots : List TrieSlot) → HasSlots usual v slots → AllByRecursion (IsSound usual) slots
-slots-sound v slots has = each_sound slots has.form.each (elements_in slots has.stands.within)
+pub slots-sound : (p : HamtShape) (v : NodeView) (slots : List TrieSlot) → HasSlots p v slots → AllByRecursion (IsSound p) slots
+slots-sound p v slots has = each_sound p slots has.form.each (elements_in slots has.stands.within)
 
 -- another one in its place
 pub all-set : {X : Type 0} (P : X → Type 0) (xs : List X) (i : ℕ) (x : X) → AllByRecursion P xs → P x → AllByRecursion P (set xs i x)

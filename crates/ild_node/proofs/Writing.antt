@@ -11,8 +11,7 @@ use Rattle.ild_data.specs.Data.{Data, items_of, items_list}
 use Rattle.ild_data.specs.Spell.{head, spell, spell_bytes, spell_text}
 use Rattle.ild_data.proofs.Lists.{length-items}
 use Rattle.ild_data.specs.Trie.{TrieSlot, empty, bucket, child, byte_of, is_used, map_of, entry_data, elements_of, node_data}
-use Rattle.ild_data.specs.TrieShape.{TrieShape}
-use Rattle.ild_typed.specs.Composed.{usual}
+use Rattle.ild_data.specs.declared.hamt_shape.HamtShape.{HamtShape}
 use Rattle.ild_typed.specs.Hamt.{root_map}
 use Rattle.ild_node_slots.specs.Form.{bucket_data}
 use Rattle.ild_node.specs.NewSlots.{hold_seen, slot_seen, spread, is_next, IndicesRise}
@@ -192,7 +191,7 @@ bits-done slots count i next bits l le =
     sym (l.same ∙ ap (λ n. bits ++ map is_used (spread i n (drop next slots))) none ∙ append-nil bits)
 
 -- the elements of the slots are those of the given ones, which rise
-pub elements-spread : (p : TrieShape) (i n : ℕ) (ss : List NewSlot) → IndicesRise p i ss → i + n ≡ 2 ^ p.width → flat_map elements_of (spread i n ss) ≡ flat_map hold_items ss
+pub elements-spread : (p : HamtShape) (i n : ℕ) (ss : List NewSlot) → IndicesRise p i ss → i + n ≡ 2 ^ p.width → flat_map elements_of (spread i n ss) ≡ flat_map hold_items ss
 elements-spread p i zero [] rise whole = refl
 elements-spread p i zero (s ∷ ss) rise whole = absurd (let a = rise.0 in let b = rise.1 in omega arith)
 elements-spread p i (suc n) [] rise whole = elements-spread p (i + 1) n [] tt (omega arith)
@@ -263,19 +262,20 @@ pub hold-count : (ss : List NewSlot) → length ss ≡ length (flat_map hold_ite
 hold-count [] = refl
 hold-count (s ∷ ss) = let one = hold_one s.hold in let rest = hold-count ss in let both = length-append (hold_items s) (flat_map hold_items ss) in omega arith
 
-pub root-done : (node : Data) (a b c d e f g : List ℕ) → a ≡ head 5 3 → b ≡ a ++ spell_text (codes "hamt") → c ≡ b ++ spell node → d ≡ c ++ spell_text (codes "hashAlg") → e ≡ d ++ head 0 18
-    → f ≡ e ++ spell_text (codes "bucketSize") → g ≡ f ++ head 0 3 → g ≡ spell (root_map usual node)
-root-done node a b c d e f g is_a is_b is_c is_d is_e is_f is_g =
+pub root-done : (p : HamtShape) (node : Data) (a b c d e f g : List ℕ) → a ≡ head 5 3 → b ≡ a ++ spell_text (codes "hamt") → c ≡ b ++ spell node → d ≡ c ++ spell_text (codes "hashAlg") → e ≡ d ++ head 0 18
+    → f ≡ e ++ spell_text (codes "bucketSize") → g ≡ f ++ head 0 p.bucket → g ≡ spell (root_map p node)
+root-done p node a b c d e f g is_a is_b is_c is_d is_e is_f is_g =
     let front : List ℕ = head 5 3 ++ spell_text (codes "hamt") in
     let s : List ℕ = spell node in
     let h : List ℕ = spell_text (codes "hashAlg") in
     let i : List ℕ = head 0 18 in
     let k : List ℕ = spell_text (codes "bucketSize") in
-    is_g ∙ ap (λ x. x ++ head 0 3) (is_f ∙ ap (λ x. x ++ k) (is_e ∙ ap (λ x. x ++ i) (is_d ∙ ap (λ x. x ++ h) (is_c ∙ ap (λ x. x ++ s) (is_b ∙ ap (λ x. x ++ spell_text (codes "hamt")) is_a)))))
-    ∙ ap (λ x. ((x ++ i) ++ k) ++ head 0 3) (append_assoc front s h)
-    ∙ ap (λ x. (x ++ k) ++ head 0 3) (append_assoc front (s ++ h) i ∙ ap (λ x. front ++ x) (append_assoc s h i))
-    ∙ ap (λ x. x ++ head 0 3) (append_assoc front (s ++ (h ++ i)) k ∙ ap (λ x. front ++ x) (append_assoc s (h ++ i) k))
-    ∙ append_assoc front (s ++ ((h ++ i) ++ k)) (head 0 3) ∙ ap (λ x. front ++ x) (append_assoc s ((h ++ i) ++ k) (head 0 3))
+    is_g ∙ ap (λ x. x ++ head 0 p.bucket) (is_f ∙ ap (λ x. x ++ k) (is_e ∙ ap (λ x. x ++ i) (is_d ∙ ap (λ x. x ++ h) (is_c ∙ ap (λ x. x ++ s) (is_b ∙ ap (λ x. x ++ spell_text (codes "hamt")) is_a)))))
+    ∙ ap (λ x. ((x ++ i) ++ k) ++ head 0 p.bucket) (append_assoc front s h)
+    ∙ ap (λ x. (x ++ k) ++ head 0 p.bucket) (append_assoc front (s ++ h) i ∙ ap (λ x. front ++ x) (append_assoc s h i))
+    ∙ ap (λ x. x ++ head 0 p.bucket) (append_assoc front (s ++ (h ++ i)) k ∙ ap (λ x. front ++ x) (append_assoc s (h ++ i) k))
+    ∙ append_assoc front (s ++ ((h ++ i) ++ k)) (head 0 p.bucket) ∙ ap (λ x. front ++ x) (append_assoc s ((h ++ i) ++ k) (head 0 p.bucket))
+    ∙ ap (λ x. front ++ (s ++ (((h ++ i) ++ k) ++ x))) (sym (append-nil (head 0 p.bucket)))
 
 -- ---- the whole node
 

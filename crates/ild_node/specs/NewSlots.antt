@@ -1,7 +1,7 @@
 -- The slots of a node that is written.
 use Rattle.std.specs.Prelude.{◌<◌, ◌≤◌, ℕ, zero, suc, ◌+◌, ◌^◌, ◌==◌, if◌then◌else◌, Bool, false, List, [], ◌∷◌, length, Option, Some, None}
 use Rattle.ild_data.specs.Trie.{TrieSlot, empty, bucket, child}
-use Rattle.ild_data.specs.TrieShape.{TrieShape}
+use Rattle.ild_data.specs.declared.hamt_shape.HamtShape.{HamtShape}
 use Rattle.ild_node.specs.declared.hold.NewHold.{NewHold}
 use Rattle.ild_node.specs.declared.hold.NewHold.TheVariants as N
 use Rattle.ild_node.specs.declared.hold.NewSlot.{NewSlot}
@@ -21,7 +21,7 @@ spread i zero ss = []
 spread i (suc n) [] = empty ∷ spread (i + 1) n []
 spread i (suc n) (s ∷ ss) = if s.index == i then hold_seen s.hold ∷ spread (i + 1) n ss else empty ∷ spread (i + 1) n (s ∷ ss)
 
-abbrev pub slots_seen : TrieShape → List NewSlot → List TrieSlot
+abbrev pub slots_seen : HamtShape → List NewSlot → List TrieSlot
 slots_seen p ss = spread 0 (2 ^ p.width) ss
 
 -- whether the first of some new slots has an index
@@ -30,15 +30,15 @@ is_next i [] = false
 is_next i (s ∷ ss) = s.index == i
 
 -- the indices rise from one on, and are those of a node
-abbrev pub IndicesRise : TrieShape → ℕ → List NewSlot → Type 0
+abbrev pub IndicesRise : HamtShape → ℕ → List NewSlot → Type 0
 IndicesRise p from [] = Unit {0}
 IndicesRise p from (s ∷ ss) = (from ≤ s.index) × (s.index < 2 ^ p.width) × IndicesRise p (s.index + 1) ss
 
 -- a bucket has from 1 to the shape's most entries
-abbrev pub IsFilled : TrieShape → NewHold → Type 0
+abbrev pub IsFilled : HamtShape → NewHold → Type 0
 IsFilled p (N.Child id) = Unit {0}
 IsFilled p (N.Bucket rows) = (1 ≤ length rows) × (length rows ≤ p.bucket)
 
-abbrev pub IsFilledSlot : TrieShape → Option NewHold → Type 0
+abbrev pub IsFilledSlot : HamtShape → Option NewHold → Type 0
 IsFilledSlot p None = Unit {0}
 IsFilledSlot p (Some h) = IsFilled p h

@@ -1,7 +1,7 @@
 //! Writing a node of which one slot is exchanged: the elements of the others are copied as they are spelled, in two pieces.
 ghost use Rattle.std.specs.Prelude.{◌≡◌, ◌<◌, List, length, map, slice_set, slice_index_or, IfOk};
 ghost use Rattle.ild_data.specs.Trie.{TrieSlot, empty, is_used};
-ghost use Rattle.ild_typed.specs.Composed.{usual};
+ghost use Rattle.ild_data.specs.declared.hamt_shape.HamtShape.{HamtShape};
 ghost use Rattle.ild_node_slots.specs.Views.{HasSlots};
 ghost use Rattle.ild_node.specs.NewSlots.{IsFilledSlot, slot_seen};
 ghost use Rattle.ild_node.specs.Written.{IsNodeBlock};
@@ -9,12 +9,12 @@ ghost use Rattle.ild_node.specs.Written.{IsNodeBlock};
 use crate::hold::NewHold;
 use crate::write::{add_slot, begin, count_of};
 use ild_data::Octets;
-use ild_node_slots::{NodeView, SLOTS};
+use ild_node_slots::NodeView;
 use std::alloc::{AllocError, Global};
 
 // Whether a slot is used, where slot i is exchanged for one that is used or not.
 fn is_on(view: NodeView<'_>, j: usize, i: u8, on: bool) -> bool
-    ensures { (slots : List TrieSlot) (s : TrieSlot) → HasSlots usual view.entry slots → on ≡ is_used s → j < length slots → result ≡ is_used (slice_index_or (slice_set slots i s) j empty) }
+    ensures { (p : HamtShape) (slots : List TrieSlot) (s : TrieSlot) → HasSlots p view.entry slots → on ≡ is_used s → j < length slots → result ≡ is_used (slice_index_or (slice_set slots i s) j empty) }
 {
     if j == i as usize {
         return on;
@@ -24,25 +24,24 @@ fn is_on(view: NodeView<'_>, j: usize, i: u8, on: bool) -> bool
 
 // Which slots are used then.
 fn used_after(alloc: Global, view: NodeView<'_>, i: u8, on: bool) -> Result<Vec<bool>, AllocError>
-    ensures { (slots : List TrieSlot) (s : TrieSlot) → HasSlots usual view.entry slots → on ≡ is_used s → IfOk result (λ u. u.items ≡ map is_used (slice_set slots i s)) }
+    ensures { (p : HamtShape) (slots : List TrieSlot) (s : TrieSlot) → HasSlots p view.entry slots → on ≡ is_used s → IfOk result (λ u. u.items ≡ map is_used (slice_set slots i s)) }
 {
     let mut used = Vec::new(alloc);
-    for j in 0..SLOTS {
+    for j in 0..view.shape().slots() {
         used.push(is_on(view, j, i, on))?;
     }
     Ok(used)
 }
 
-/// The block of a node with another slot at an index. A bucket there has from 1 to 3 entries. The elements of the other slots are
-/// copied in two pieces.
+/// The block of a node with another slot at an index. A bucket there has from 1 to as many entries as the node's shape says. The
+/// elements of the other slots are copied in two pieces.
 pub fn write_changed(
     alloc: Global,
     view: NodeView<'_>,
     i: u8,
     slot: &Option<NewHold>,
 ) -> Result<Octets, AllocError>
-    requires { IsFilledSlot usual slot.now }
-    ensures { (slots : List TrieSlot) → HasSlots usual view.entry slots → IfOk result (IsNodeBlock usual (slice_set slots i (slot_seen slot.now))) }
+    ensures { (p : HamtShape) (slots : List TrieSlot) → HasSlots p view.entry slots → IsFilledSlot p slot.now → i < length slots → IfOk result (IsNodeBlock p (slice_set slots i (slot_seen slot.now))) }
 {
     let used = used_after(alloc, view, i, slot.is_some())?;
     let mut out = begin(alloc, &used, count_of(&used))?;

@@ -17,8 +17,8 @@ pub use draft::Draft;
 pub use hashed::HashedEntry;
 pub use hold::{NewHold, NewSlot};
 pub use ild_node_slots::{
-    BUCKET_SIZE, Bucket, HamtFault, LEVELS, NodeSlot, NodeView, SLOTS, Slots, Spelled, child_in,
-    index, index_of, known_node, map_bit, next_entry, node_of, rises, root_of,
+    Bucket, HamtFault, NodeSlot, NodeView, Slots, Spelled, child_in, has_level, index, index_of,
+    known_node, map_bit, next_entry, node_of, rises, root_of,
 };
 pub use keyed::Keyed;
 pub use laws::{one_node, written_are_read};

@@ -4,9 +4,9 @@ ghost use Rattle.std.specs.List.{AllByRecursion, range_with_len};
 ghost use Rattle.ild_data.specs.Bytes.{AreBytes};
 ghost use Rattle.ild_data.specs.Data.{Data};
 ghost use Rattle.ild_data.specs.Spell.{head, spell, spell_bytes};
+ghost use Rattle.ild_data.specs.declared.hamt_shape.HamtShape.{HamtShape};
 ghost use Rattle.ild_data.specs.Trie.{byte_of, is_used, elements_of, entry_data};
 ghost use Rattle.ild_cbor.specs.Nodes.{Stands};
-ghost use Rattle.ild_typed.specs.Composed.{usual};
 ghost use Rattle.ild_typed.specs.Hamt.{root_map};
 ghost use Rattle.ild_node_slots.specs.Form.{bucket_data};
 ghost use Rattle.ild_node.specs.NewSlots.{IndicesRise, IsFilled, IsFilledSlot, hold_seen, slot_seen, slots_seen, spread, is_next};
@@ -18,9 +18,8 @@ use crate::hold::{NewHold, NewSlot};
 use crate::row::Row;
 use crate::rows::Rows;
 use ild_cbor::Node;
-use ild_data::Octets;
+use ild_data::{HamtShape, Octets};
 use ild_emit::Emit;
-use ild_node_slots::{BUCKET_SIZE, SLOTS};
 use std::alloc::{AllocError, Global};
 
 fn bit(on: bool) -> u8
@@ -162,9 +161,8 @@ pub(crate) fn are_bytes(bytes: &[u8])
 
 // Appends the element of a used slot.
 fn add_hold(out: &mut Emit, hold: &NewHold) -> Result<(), AllocError>
-    requires { IsFilled usual hold.now }
     ensures element { OnOk result (out.new ≡ out.old ++ spelled (elements_of (hold_seen hold.now))) }
-    ensures sound { OnOk result (IsSound usual (hold_seen hold.now)) }
+    ensures sound { (p : HamtShape) → IsFilled p hold.now → OnOk result (IsSound p (hold_seen hold.now)) }
 {
     match hold {
         NewHold::Bucket(rows) => add_bucket(out, rows),
@@ -177,9 +175,8 @@ fn add_hold(out: &mut Emit, hold: &NewHold) -> Result<(), AllocError>
 
 /// Appends the element of a slot, where it has one.
 pub(crate) fn add_slot(out: &mut Emit, slot: &Option<NewHold>) -> Result<(), AllocError>
-    requires { IsFilledSlot usual slot.now }
     ensures element { OnOk result (out.new ≡ out.old ++ spelled (elements_of (slot_seen slot.now))) }
-    ensures sound { OnOk result (IsSound usual (slot_seen slot.now)) }
+    ensures sound { (p : HamtShape) → IsFilledSlot p slot.now → OnOk result (IsSound p (slot_seen slot.now)) }
 {
     match slot {
         Some(hold) => add_hold(out, hold),
@@ -187,13 +184,14 @@ pub(crate) fn add_slot(out: &mut Emit, slot: &Option<NewHold>) -> Result<(), All
     }
 }
 
-/// The block of the node whose used slots these are. Their indices rise, and each bucket has from 1 to 3 entries.
-pub fn write_node(alloc: Global, slots: &[NewSlot]) -> Result<Octets, AllocError>
-    requires rise { IndicesRise usual 0 slots.now }
-    requires filled { AllByRecursion (λ s. IsFilled usual s.hold) slots.now }
-    ensures { IfOk result (λ out. IsNodeBlock usual (slots_seen usual slots.now) out) }
+/// The block of the node of this shape whose used slots these are. Their indices rise below the number of its slots, and each bucket
+/// has from 1 to as many entries as the shape says.
+pub fn write_node(alloc: Global, shape: HamtShape, slots: &[NewSlot]) -> Result<Octets, AllocError>
+    requires rise { IndicesRise shape 0 slots.now }
+    requires filled { AllByRecursion (λ s. IsFilled shape s.hold) slots.now }
+    ensures { IfOk result (λ out. IsNodeBlock shape (slots_seen shape slots.now) out) }
 {
-    let used = used_at(alloc, slots, SLOTS)?;
+    let used = used_at(alloc, slots, shape.slots())?;
     let mut out = begin(alloc, &used, slots.len() as u64)?;
     for slot in slots {
         add_hold(&mut out, &slot.hold)?;
@@ -201,11 +199,9 @@ pub fn write_node(alloc: Global, slots: &[NewSlot]) -> Result<Octets, AllocError
     Ok(out.finish())
 }
 
-/// The block of the node of which each index has a slot here, used or not. Each bucket has from 1 to 3 entries.
+/// The block of the node of which each index has a slot here, used or not. Each bucket has from 1 to as many entries as the shape says.
 pub fn write_slots(alloc: Global, slots: &[Option<NewHold>]) -> Result<Octets, AllocError>
-    requires many { length slots.now ≡ 2 ^ usual.width }
-    requires filled { AllByRecursion (IsFilledSlot usual) slots.now }
-    ensures { IfOk result (λ out. IsNodeBlock usual (map slot_seen slots.now) out) }
+    ensures { (p : HamtShape) → length slots.now ≡ 2 ^ p.width → AllByRecursion (IsFilledSlot p) slots.now → IfOk result (λ out. IsNodeBlock p (map slot_seen slots.now) out) }
 {
     let used = used_of(alloc, slots)?;
     let mut out = begin(alloc, &used, count_of(&used))?;
@@ -215,9 +211,9 @@ pub fn write_slots(alloc: Global, slots: &[Option<NewHold>]) -> Result<Octets, A
     Ok(out.finish())
 }
 
-/// The root map of a HAMT, whose own node this is.
-pub fn write_root(alloc: Global, node: &Node<'_>) -> Result<Octets, AllocError>
-    ensures { (t : Data) → Stands node.now t → IfOk result (λ out. out ≡ spell (root_map usual t)) }
+/// The root map of a HAMT of this shape, whose own node this is.
+pub fn write_root(alloc: Global, shape: HamtShape, node: &Node<'_>) -> Result<Octets, AllocError>
+    ensures { (t : Data) → Stands node.now t → IfOk result (λ out. out ≡ spell (root_map shape t)) }
 {
     let mut out = Emit::new(alloc);
     out.head(5, 3)?;
@@ -226,6 +222,6 @@ pub fn write_root(alloc: Global, node: &Node<'_>) -> Result<Octets, AllocError>
     out.text("hashAlg")?;
     out.head(0, 18)?;
     out.text("bucketSize")?;
-    out.head(0, BUCKET_SIZE as u64)?;
+    out.head(0, shape.bucket as u64)?;
     Ok(out.finish())
 }

@@ -1,7 +1,6 @@
 -- What is read as a node is one, and a node is read.
 use Rattle.std.proofs.Common.{◌≡◌, ℕ, zero, suc, ◌*◌, ◌/◌, ◌%◌, ◌^◌, ◌≤◌, Bool, false, List, Option, Some, None, refl, sym, ap, ◌∙◌, subst, arith, flat_map}
 use Rattle.std.specs.Prelude.{MatchOption}
-use native.Mathlib.Numerals.{unary_clauses}
 use Rattle.ild_data.specs.Data.{Data, bytes, list, Items, items_of}
 use Rattle.ild_cbor.specs.declared.node.Node.{Node}
 use Rattle.ild_cbor.specs.Nodes.{Stands, IsPart}
@@ -9,7 +8,7 @@ use Rattle.ild_cbor.specs.Span.{place_of}
 use Rattle.ild_cbor.specs.declared.items.Items.{Items as ItemsLeft}
 use Rattle.ild_cbor.specs.Scalar.{bytes_of}
 use Rattle.ild_cbor.specs.Steps.{IteratesItems, FindsItems, items_of as list_items}
-use Rattle.ild_data.specs.TrieShape.{TrieShape}
+use Rattle.ild_data.specs.declared.hamt_shape.HamtShape.{HamtShape}
 use Rattle.ild_data.specs.Trie.{TrieSlot, map_of, elements_of, node_data}
 use Rattle.ild_node_slots.specs.Form.{IsNode}
 use Rattle.ild_typed.specs.NodeReading.{pair_in, parts_fit, pair_fits, node_fits}
@@ -19,32 +18,19 @@ use Rattle.ild_node_slots.specs.declared.view.NodeView.{NodeView}
 use Rattle.ild_node_slots.proofs.Iter.{iter-first}
 use Rattle.ild_typed.proofs.NodeRoots.{node-taken}
 
--- a node of at least eight slots has whole bytes in its map
-pub whole_bytes : (w : ℕ) → 3 ≤ w → 2 ^ w ≡ 8 * (2 ^ w / 8)
-whole_bytes zero h = absurd (omega arith)
-whole_bytes (suc zero) h = absurd (omega arith)
-whole_bytes (suc (suc zero)) h = absurd (omega arith)
-whole_bytes (suc (suc (suc v))) h =
-    let a : 2 ^ suc (suc (suc v)) ≡ 2 * 2 ^ suc (suc v) = simp unary_clauses (omega arith) in
-    let b : 2 ^ suc (suc v) ≡ 2 * 2 ^ suc v = simp unary_clauses (omega arith) in
-    let c : 2 ^ suc v ≡ 2 * 2 ^ v = simp unary_clauses (omega arith) in
-    rw (a, b, c) (omega arith)
-
-pub whole_map : (w n : ℕ) → 3 ≤ w → n ≡ 2 ^ w → n % 8 ≡ 0
-whole_map w n wide is = let e = whole_bytes w wide in omega (arith, e, is)
-
 -- ---- nodes
 
 -- a node's view has these slots
-pub record SlotsIn (p : TrieShape) (v : NodeView) (t : Data) : Type 0 where
+pub record SlotsIn (p : HamtShape) (v : NodeView) (t : Data) : Type 0 where
   pub slots : List TrieSlot
   pub is : t ≡ node_data slots
   pub has : HasSlots p v slots
 
 -- a view of an item that stands for the node of slots has these slots
-has-slots : (p : TrieShape) (v : NodeView) (node : Node) (t : Data) (slots : List TrieSlot) (view : IsViewOf v node p t) → Stands node t → IsNode p slots → t ≡ node_data slots
+has-slots : (p : HamtShape) (v : NodeView) (node : Node) (t : Data) (slots : List TrieSlot) (view : IsViewOf v node p t) → Stands node t → IsNode p slots → t ≡ node_data slots
     → view.ones ≡ map_of slots → view.parts ≡ items_of (flat_map elements_of slots) → HasSlots p v slots
 has-slots p v node t slots view stands form is ones parts = record {
+  shape = view.shape_is;
   stands = subst (λ (n : Node). Stands n (node_data slots)) (sym view.node_is) (subst (λ (d : Data). Stands node d) is stands);
   map = view.map ∙ ones;
   part = subst (λ (n : Node). IsPart n v.data (place_of (node_data slots) 1) (list (items_of (flat_map elements_of slots)))) (sym view.node_is)
@@ -65,14 +51,14 @@ same_pair m n ds es is =
     same_items : (ds es : Items) → list ds ≡ list es → ds ≡ es
     same_items ds es is = cc
 
-pub view-only : (p : TrieShape) (v : NodeView) (node : Node) (slots : List TrieSlot) → IsViewOf v node p (node_data slots) → Stands node (node_data slots) → IsNode p slots → HasSlots p v slots
+pub view-only : (p : HamtShape) (v : NodeView) (node : Node) (slots : List TrieSlot) → IsViewOf v node p (node_data slots) → Stands node (node_data slots) → IsNode p slots → HasSlots p v slots
 view-only p v node slots view stands form =
     let same = same_pair (map_of slots) view.ones (items_of (flat_map elements_of slots)) view.parts view.pair in
     has-slots p v node (node_data slots) slots view stands form refl (sym same.0) (sym same.1)
 
-pub view-taken : (p : TrieShape) (v : NodeView) (node : Node) (t : Data) → 3 ≤ p.width → IsViewOf v node p t → Stands node t → SlotsIn p v t
-view-taken p v node t wide view stands =
-    let n = node-taken p t wide stands.within.tree (ap (pair_fits p) view.pair ∙ view.fits) in
+pub view-taken : (p : HamtShape) (v : NodeView) (node : Node) (t : Data) → IsViewOf v node p t → Stands node t → SlotsIn p v t
+view-taken p v node t view stands =
+    let n = node-taken p t p.wide stands.within.tree (ap (pair_fits p) view.pair ∙ view.fits) in
     record {
       slots = n.slots;
       is = n.is;
@@ -105,16 +91,16 @@ pub parts-of : (n : Node) (t : Data) (a b : Node) (ones : List ℕ) (it : ItemsL
     → ((d : Data) → Stands b d → FindsItems b (list_items d) (Some it)) → PartsOf n t ones b it
 parts-of n t a b ones it pair keys items = parts_by n t (pair_in t) a b ones it refl pair keys items
 
-pub not-fits : (p : TrieShape) (n : Node) (t : Data) (ones : List ℕ) (b : Node) (it : ItemsLeft) (parts : PartsOf n t ones b it) (r : Bool) → r ≡ parts_fit p (bytes ones, list parts.parts) → r ≡ false → node_fits p t ≡ false
+pub not-fits : (p : HamtShape) (n : Node) (t : Data) (ones : List ℕ) (b : Node) (it : ItemsLeft) (parts : PartsOf n t ones b it) (r : Bool) → r ≡ parts_fit p (bytes ones, list parts.parts) → r ≡ false → node_fits p t ≡ false
 not-fits p n t ones b it parts r is off = ap (pair_fits p) parts.pair ∙ sym is ∙ off
 
-not_listed : (p : TrieShape) (n : Node) (t d e : Data) (b : Node) → IsPart n b (place_of t 1) e → ((u : Data) → Stands b u → FindsItems b (list_items u) None) → parts_fit p (d, e) ≡ false
+not_listed : (p : HamtShape) (n : Node) (t d e : Data) (b : Node) → IsPart n b (place_of t 1) e → ((u : Data) → Stands b u → FindsItems b (list_items u) None) → parts_fit p (d, e) ≡ false
 not_listed p n t (bytes m) (list ds) b part items = absurd (items (list ds) part.stands)
 not_listed p n t (bytes m) e b part items = refl
 not_listed p n t d e b part items = refl
 
 -- an item whose second part is no list isn't read
-pub not-listed : (p : TrieShape) (n : Node) (t : Data) (a b : Node) (r : Option NodeView) (Q : NodeView → Type 0) → PairIs n t (pair_in t) (Some (a, b)) → ((u : Data) → Stands b u → FindsItems b (list_items u) None)
+pub not-listed : (p : HamtShape) (n : Node) (t : Data) (a b : Node) (r : Option NodeView) (Q : NodeView → Type 0) → PairIs n t (pair_in t) (Some (a, b)) → ((u : Data) → Stands b u → FindsItems b (list_items u) None)
     → r ≡ None → MatchOption r (node_fits p t ≡ false) Q
 not-listed p n t a b (Some v) Q pair items none = absurd cc
 not-listed p n t a b None Q pair items none = by (pair_in t) pair

@@ -16,7 +16,7 @@ use Rattle.ild_cbor.specs.declared.node.Node.{Node}
 use Rattle.ild_cbor.specs.Nodes.{Stands, Finds, IsPart}
 use Rattle.ild_cbor.specs.Scalar.{link_of, count_of}
 use Rattle.ild_cbor.specs.Span.{item_of, place_of}
-use Rattle.ild_data.specs.TrieShape.{TrieShape}
+use Rattle.ild_data.specs.declared.hamt_shape.HamtShape.{HamtShape}
 use Rattle.ild_data.specs.Trie.{TrieSlot, empty, bucket, child, is_used, byte_of, map_of, elements_of, entry_data}
 use Rattle.std.specs.Borrow.{Bor}
 use Rattle.ild_typed.specs.Node.{IsSlot}
@@ -38,7 +38,7 @@ use Rattle.ild_node_slots.specs.declared.view.NodeSlot.{NodeSlot}
 use Rattle.ild_node_slots.specs.declared.view.NodeSlot.TheVariants as S
 use Rattle.ild_typed.proofs.NodeEntries.{entry-read}
 use Rattle.ild_typed.proofs.NodeElements.{block-link, id-read}
-use Rattle.ild_node_slots.proofs.Fits.{whole_map}
+use Rattle.ild_node_slots.proofs.Shapes.{whole_map}
 use Rattle.ild_typed.proofs.NodeMaps.{bit-read}
 
 -- ---- the link of a child
@@ -122,7 +122,7 @@ is_empty empty e = refl
 is_empty (bucket es) e = absurd cc
 is_empty (child id) e = absurd cc
 
-slot-form : (p : TrieShape) (slots : List TrieSlot) (i : ℕ) → AreSlots p slots → IsSlot p (get_or slots i empty)
+slot-form : (p : HamtShape) (slots : List TrieSlot) (i : ℕ) → AreSlots p slots → IsSlot p (get_or slots i empty)
 slot-form p [] zero all = tt
 slot-form p [] (suc i) all = tt
 slot-form p (s ∷ slots) zero all = all.0
@@ -155,15 +155,15 @@ bit-past slots i whole le =
     (past_byte (map_of slots) (i / 8) (omega (arith, length-map-range_with_len (λ j. byte_of (map is_used (take 8 (drop (8 * j) slots)))) 0 (length slots / 8))))
 
 -- a slot whose bit isn't set is empty
-pub slot-off : (p : TrieShape) (v : NodeView) (slots : List TrieSlot) (i : ℕ) → 3 ≤ p.width → length slots ≡ 2 ^ p.width → v.map.now ≡ map_of slots → map_bit v.map.now i ≡ false → get_or slots i empty ≡ empty
-slot-off p v slots i wide many maps off =
-    let whole = whole_map p.width (length slots) wide many in
+pub slot-off : (p : HamtShape) (v : NodeView) (slots : List TrieSlot) (i : ℕ) → length slots ≡ 2 ^ p.width → v.map.now ≡ map_of slots → map_bit v.map.now i ≡ false → get_or slots i empty ≡ empty
+slot-off p v slots i many maps off =
+    let whole = whole_map p.width (length slots) p.wide many in
     ⊎_elim (λ lt. is_empty (get_or slots i empty) (sym (bit-read slots i whole lt) ∙ ap (λ m. map_bit m i) (sym maps) ∙ off)) (λ le. past_slot slots i le) (cases_lt i (length slots))
 
 -- a bit that is set is that of a slot
-pub slot-within : (p : TrieShape) (m : List ℕ) (slots : List TrieSlot) (i : ℕ) → 3 ≤ p.width → length slots ≡ 2 ^ p.width → m ≡ map_of slots → map_bit m i ≡ true → i < length slots
-slot-within p m slots i wide many maps on =
-    let whole = whole_map p.width (length slots) wide many in
+pub slot-within : (p : HamtShape) (m : List ℕ) (slots : List TrieSlot) (i : ℕ) → length slots ≡ 2 ^ p.width → m ≡ map_of slots → map_bit m i ≡ true → i < length slots
+slot-within p m slots i many maps on =
+    let whole = whole_map p.width (length slots) p.wide many in
     ⊎_elim (λ lt. lt) (λ le. absurd (false≢true (sym (bit-past slots i whole le) ∙ ap (λ m. map_bit m i) (sym maps) ∙ on))) (cases_lt i (length slots))
 
 used_element : (s : TrieSlot) → is_used s ≡ true → (d : Data) × (elements_of s ≡ d ∷ [])
@@ -177,14 +177,14 @@ pub record ElementOf (slots : List TrieSlot) (i : ℕ) : Type 0 where
   pub is : elements_of (get_or slots i empty) ≡ of ∷ []
   pub found : slice_get (flat_map elements_of slots) (elements_before slots i) ≡ Some of
 
-pub used-at : (p : TrieShape) (m : List ℕ) (slots : List TrieSlot) (i : ℕ) → 3 ≤ p.width → length slots ≡ 2 ^ p.width → m ≡ map_of slots → map_bit m i ≡ true → ElementOf slots i
-used-at p m slots i wide many maps on =
-    let whole = whole_map p.width (length slots) wide many in
-    let lt = slot-within p m slots i wide many maps on in
+pub used-at : (p : HamtShape) (m : List ℕ) (slots : List TrieSlot) (i : ℕ) → length slots ≡ 2 ^ p.width → m ≡ map_of slots → map_bit m i ≡ true → ElementOf slots i
+used-at p m slots i many maps on =
+    let whole = whole_map p.width (length slots) p.wide many in
+    let lt = slot-within p m slots i many maps on in
     let d = used_element (get_or slots i empty) (sym (bit-read slots i whole lt) ∙ ap (λ m. map_bit m i) (sym maps) ∙ on) in
     record { of = d.0; is = d.1; found = element-at slots i d.0 lt d.1 }
 
-slot-child : (p : TrieShape) (s : TrieSlot) (d : Data) (id : List ℕ) → elements_of s ≡ d ∷ [] → IsSlot p s → child_in d ≡ Some id → s ≡ child id
+slot-child : (p : HamtShape) (s : TrieSlot) (d : Data) (id : List ℕ) → elements_of s ≡ d ∷ [] → IsSlot p s → child_in d ≡ Some id → s ≡ child id
 slot-child p empty d id is form names = absurd cc
 slot-child p (bucket es) d id is form names =
     let same : d ≡ bucket_data es = cc in
@@ -198,7 +198,7 @@ slot-child p (child j) d id is form names =
 bucket_at : (v : NodeView) (slots : List TrieSlot) (i : ℕ) (es : List (List ℕ × Data)) (b : Bucket) → IsPart v.node b.node (slot_place slots i) (bucket_data es) → AreTexts es → IsBucketAt v slots i b es
 bucket_at v slots i es b part texts = record { entries = record { stands = part.stands; texts = texts }; part = part }
 
-slot-bucket : (p : TrieShape) (v : NodeView) (slots : List TrieSlot) (i : ℕ) (s : TrieSlot) (d : Data) (b : Bucket) → elements_of s ≡ d ∷ [] → IsSlot p s → child_in d ≡ None → IsPart v.node b.node (slot_place slots i) d
+slot-bucket : (p : HamtShape) (v : NodeView) (slots : List TrieSlot) (i : ℕ) (s : TrieSlot) (d : Data) (b : Bucket) → elements_of s ≡ d ∷ [] → IsSlot p s → child_in d ≡ None → IsPart v.node b.node (slot_place slots i) d
     → SlotHolds v slots i (S.Bucket b) s
 slot-bucket p v slots i empty d b is form names part = absurd cc
 slot-bucket p v slots i (bucket es) d b is form names part =
@@ -209,7 +209,7 @@ slot-bucket p v slots i (child j) d b is form names part =
     absurd (let e : Some j ≡ None = sym (id-read j form.0) ∙ ap child_in (sym same) ∙ names in cc)
 
 -- what is made of an element is what stands in the slot
-slot-by : (p : TrieShape) (v : NodeView) (slots : List TrieSlot) (i : ℕ) (n : Node) (d : Data) (r : NodeSlot) (o : Option (List ℕ)) → elements_of (get_or slots i empty) ≡ d ∷ [] → IsSlot p (get_or slots i empty)
+slot-by : (p : HamtShape) (v : NodeView) (slots : List TrieSlot) (i : ℕ) (n : Node) (d : Data) (r : NodeSlot) (o : Option (List ℕ)) → elements_of (get_or slots i empty) ≡ d ∷ [] → IsSlot p (get_or slots i empty)
     → child_in d ≡ o → IsPart v.node n (slot_place slots i) d → ElementIs r n o → SlotIs v slots i r
 slot-by p v slots i n d S.Empty None is form names part made = absurd made
 slot-by p v slots i n d S.Empty (Some id) is form names part made = absurd made
@@ -220,7 +220,7 @@ slot-by p v slots i n d (S.Child id) None is form names part made = absurd made
 slot-by p v slots i n d (S.Child id) (Some c) is form names part made =
     subst (λ (s : TrieSlot). SlotHolds v slots i (S.Child id) s) (sym (slot-child p (get_or slots i empty) d c is form names)) made
 
-pub slot-is : (p : TrieShape) (v : NodeView) (slots : List TrieSlot) (i : ℕ) (n : Node) (r : NodeSlot) → HasSlots p v slots → (e : ElementOf slots i)
+pub slot-is : (p : HamtShape) (v : NodeView) (slots : List TrieSlot) (i : ℕ) (n : Node) (r : NodeSlot) → HasSlots p v slots → (e : ElementOf slots i)
     → IsPart v.data n (place_of (elements_data slots) (elements_before slots i)) e.of → ElementIs r n (child_in e.of) → SlotIs v slots i r
 slot-is p v slots i n r has e part made =
     slot-by p v slots i n e.of r (child_in e.of) e.is (slot-form p slots i has.form.each) refl (part-of v.node v.data n _ _ (elements_data slots) e.of has.part part) made
@@ -238,33 +238,30 @@ found_none : (n : Node) (place : ℕ) (o : Option Data) (d : Data) → o ≡ Som
 found_none n place None d is finds = absurd cc
 found_none n place (Some u) d is finds = finds
 
-pub ones_of : (p : TrieShape) (slots : List TrieSlot) (m : List ℕ) (i n : ℕ) → 3 ≤ p.width → length slots ≡ 2 ^ p.width → m ≡ map_of slots → i < length slots → n ≡ ones_below m i → n ≡ elements_before slots i
-ones_of p slots m i n wide many maps lt before = before ∙ ap (λ m. ones_below m i) maps ∙ ones-read slots i (whole_map p.width (length slots) wide many) (omega arith)
+pub ones_of : (p : HamtShape) (slots : List TrieSlot) (m : List ℕ) (i n : ℕ) → length slots ≡ 2 ^ p.width → m ≡ map_of slots → i < length slots → n ≡ ones_below m i → n ≡ elements_before slots i
+ones_of p slots m i n many maps lt before = before ∙ ap (λ m. ones_below m i) maps ∙ ones-read slots i (whole_map p.width (length slots) p.wide many) (omega arith)
 
 item_is : (slots : List TrieSlot) (n : ℕ) → item_of (elements_data slots) n ≡ slice_get (flat_map elements_of slots) n
 item_is slots n = ap (λ xs. slice_get xs n) (items_list-items_of (flat_map elements_of slots))
 
-pub slot-on : (p : TrieShape) (v : NodeView) (slots : List TrieSlot) (i n : ℕ) (m : Node) (r : NodeSlot) → 3 ≤ p.width → HasSlots p v slots → map_bit v.map.now i ≡ true → n ≡ ones_below v.map.now i
+pub slot-on : (p : HamtShape) (v : NodeView) (slots : List TrieSlot) (i n : ℕ) (m : Node) (r : NodeSlot) → HasSlots p v slots → map_bit v.map.now i ≡ true → n ≡ ones_below v.map.now i
     → ((t : Data) → Stands v.data t → Finds v.data (place_of t n) (item_of t n) (Some m)) → ((t : Data) → Stands m t → ElementIs r m (child_in t)) → SlotIs v slots i r
-slot-on p v slots i n m r wide has on before finds made =
-    let lt = slot-within p v.map.now slots i wide has.form.many has.map on in
-    let e = used-at p v.map.now slots i wide has.form.many has.map on in
-    let at = ones_of p slots v.map.now i n wide has.form.many has.map lt before in
+slot-on p v slots i n m r has on before finds made =
+    let lt = slot-within p v.map.now slots i has.form.many has.map on in
+    let e = used-at p v.map.now slots i has.form.many has.map on in
+    let at = ones_of p slots v.map.now i n has.form.many has.map lt before in
     let part = found_in v.data (place_of (elements_data slots) n) (item_of (elements_data slots) n) e.of m (item_is slots n ∙ ap (slice_get (flat_map elements_of slots)) at ∙ e.found) (finds (elements_data slots) has.part.stands) in
     slot-is p v slots i m r has e (subst (λ (k : ℕ). IsPart v.data m (place_of (elements_data slots) k) e.of) at part) (made e.of part.stands)
 
-pub slot-missing : (p : TrieShape) (v : NodeView) (slots : List TrieSlot) (i n : ℕ) → 3 ≤ p.width → HasSlots p v slots → map_bit v.map.now i ≡ true → n ≡ ones_below v.map.now i
+pub slot-missing : (p : HamtShape) (v : NodeView) (slots : List TrieSlot) (i n : ℕ) → HasSlots p v slots → map_bit v.map.now i ≡ true → n ≡ ones_below v.map.now i
     → ((t : Data) → Stands v.data t → Finds v.data (place_of t n) (item_of t n) None) → ⊥
-slot-missing p v slots i n wide has on before finds =
-    let lt = slot-within p v.map.now slots i wide has.form.many has.map on in
-    let e = used-at p v.map.now slots i wide has.form.many has.map on in
-    let at = ones_of p slots v.map.now i n wide has.form.many has.map lt before in
+slot-missing p v slots i n has on before finds =
+    let lt = slot-within p v.map.now slots i has.form.many has.map on in
+    let e = used-at p v.map.now slots i has.form.many has.map on in
+    let at = ones_of p slots v.map.now i n has.form.many has.map lt before in
     found_none v.data (place_of (elements_data slots) n) (item_of (elements_data slots) n) e.of (item_is slots n ∙ ap (slice_get (flat_map elements_of slots)) at ∙ e.found) (finds (elements_data slots) has.part.stands)
 
 -- ---- all slots in turn
-
-pow_small : (k : ℕ) → k ≤ 8 → 2 ^ k ≤ 256
-pow_small k le = leb-true (2 ^ k) 256 (agree_below_at (λ n. nat_le (2 ^ n) 256) (λ n. true) 9 k refl (omega arith))
 
 next_is : (i : ℕ) → suc i ≡ i + 1
 next_is i = omega arith
@@ -281,50 +278,35 @@ before-on : (slots : List TrieSlot) (i : ℕ) (d : Data) → i < length slots �
 before-on slots i d lt is =
     ap length (elements_more slots i lt ∙ ap (λ xs. flat_map elements_of (take i slots) ++ xs) is) ∙ length-append (flat_map elements_of (take i slots)) (d ∷ [])
 
-map_long : (p : TrieShape) (slots : List TrieSlot) (m : List ℕ) → 3 ≤ p.width → length slots ≡ 2 ^ p.width → m ≡ map_of slots → 8 * length m ≡ length slots
-map_long p slots m wide many maps =
-    let whole = whole_map p.width (length slots) wide many in
-    let l : length m ≡ length slots / 8 = ap length maps ∙ length-map-range_with_len (λ j. byte_of (map is_used (take 8 (drop (8 * j) slots)))) 0 (length slots / 8) in
-    omega arith
+pub step-end : (v : NodeView) (slots : List TrieSlot) (i : ℕ) (s : Slots) → IsAtSlot v slots i s → s.next ≡ s.count → length slots ≤ i
+step-end v slots i s at is = let n = at.next in let c = at.count in omega arith
 
-pub step-past : (p : TrieShape) (v : NodeView) (slots : List TrieSlot) (i j : ℕ) (s : Slots) → 3 ≤ p.width → HasSlots p v slots → IsAtSlot v slots i s → j ≡ s.next → length s.map.now ≤ j / 8 → length slots ≤ i
-step-past p v slots i j s wide has at is le =
-    let l = map_long p slots s.map.now wide has.form.many at.map in
-    let n = at.next in
-    omega arith
-
-pub step-end : (p : TrieShape) (v : NodeView) (slots : List TrieSlot) (i : ℕ) (s : Slots) → p.width ≤ 8 → HasSlots p v slots → IsAtSlot v slots i s → s.next ≡ 256 → length slots ≤ i
-step-end p v slots i s narrow has at is =
-    let n = at.next in
-    let many = has.form.many in
-    let few = pow_small p.width narrow in
-    omega arith
-
-pub step-off : (p : TrieShape) (v : NodeView) (slots : List TrieSlot) (i : ℕ) (s t : Slots) → 3 ≤ p.width → HasSlots p v slots → IsAtSlot v slots i s → s.next / 8 < length s.map.now → map_bit s.map.now s.next ≡ false
-    → t.map.now ≡ s.map.now → t.next ≡ s.next + 1 → t.elements ≡ s.elements → (i < length slots) × SlotIs v slots i S.Empty × IsAtSlot v slots (i + 1) t
-step-off p v slots i s t wide has at lt off maps next same =
-    let l = map_long p slots s.map.now wide has.form.many at.map in
+pub step-off : (p : HamtShape) (v : NodeView) (slots : List TrieSlot) (i : ℕ) (s t : Slots) → HasSlots p v slots → IsAtSlot v slots i s → s.next < s.count → map_bit s.map.now s.next ≡ false
+    → t.map.now ≡ s.map.now → t.next ≡ s.next + 1 → t.count ≡ s.count → t.elements ≡ s.elements → (i < length slots) × SlotIs v slots i S.Empty × IsAtSlot v slots (i + 1) t
+step-off p v slots i s t has at lt off maps next counts same =
+    let l = at.count in
     let n = at.next in
     let within : i < length slots = omega arith in
-    let none = slot-off p v slots i wide has.form.many has.map (ap (λ m. map_bit m i) (has.map ∙ sym at.map) ∙ ap (map_bit s.map.now) (sym n) ∙ off) in (
+    let none = slot-off p v slots i has.form.many has.map (ap (λ m. map_bit m i) (has.map ∙ sym at.map) ∙ ap (map_bit s.map.now) (sym n) ∙ off) in (
       within,
       slot-empty v slots i none,
       record {
         map = maps ∙ at.map;
         next = next ∙ ap (λ k. k + 1) n;
+        count = counts ∙ at.count;
         elements = subst (λ (k : ℕ). IsAtItem v.data (flat_map elements_of slots) k t.elements) (sym (before-off slots i within none))
             (subst (λ (it : ItemsLeft). IsAtItem v.data (flat_map elements_of slots) (elements_before slots i) it) (sym same) at.elements);
       },
     )
 
-pub step-on : (p : TrieShape) (v : NodeView) (slots : List TrieSlot) (i : ℕ) (s t : Slots) (m : Node) (r : NodeSlot) → 3 ≤ p.width → HasSlots p v slots → IsAtSlot v slots i s → s.next < 8 * length s.map.now
-    → map_bit s.map.now s.next ≡ true → t.map.now ≡ s.map.now → t.next ≡ s.next + 1 → ItemsGive s.elements (Some m) t.elements → ((u : Data) → Stands m u → ElementIs r m (child_in u))
+pub step-on : (p : HamtShape) (v : NodeView) (slots : List TrieSlot) (i : ℕ) (s t : Slots) (m : Node) (r : NodeSlot) → HasSlots p v slots → IsAtSlot v slots i s → s.next < s.count
+    → map_bit s.map.now s.next ≡ true → t.map.now ≡ s.map.now → t.next ≡ s.next + 1 → t.count ≡ s.count → ItemsGive s.elements (Some m) t.elements → ((u : Data) → Stands m u → ElementIs r m (child_in u))
     → (i < length slots) × SlotIs v slots i r × IsAtSlot v slots (i + 1) t
-step-on p v slots i s t m r wide has at lt on maps next gives made =
-    let l = map_long p slots s.map.now wide has.form.many at.map in
+step-on p v slots i s t m r has at lt on maps next counts gives made =
+    let l = at.count in
     let n = at.next in
     let within : i < length slots = omega arith in
-    let e = used-at p s.map.now slots i wide has.form.many at.map (ap (map_bit s.map.now) (sym n) ∙ on) in
+    let e = used-at p s.map.now slots i has.form.many at.map (ap (map_bit s.map.now) (sym n) ∙ on) in
     let step = iter-step v.data (flat_map elements_of slots) (elements_before slots i) s.elements t.elements m at.elements gives in
     let same : step.of ≡ e.of = some_same step.of e.of (sym step.is ∙ e.found) in (
       within,
@@ -332,6 +314,7 @@ step-on p v slots i s t m r wide has at lt on maps next gives made =
       record {
         map = maps ∙ at.map;
         next = next ∙ ap (λ k. k + 1) n;
+        count = counts ∙ at.count;
         elements = subst (λ (k : ℕ). IsAtItem v.data (flat_map elements_of slots) k t.elements) (sym (before-on slots i e.of within e.is)) step.next;
       },
     )
@@ -347,10 +330,10 @@ past_get ds k d is le = past ds k is le
     past (e ∷ ds) zero is le = omega arith
     past (e ∷ ds) (suc k) is le = past ds k is (omega arith)
 
-pub step-missing : (p : TrieShape) (v : NodeView) (slots : List TrieSlot) (i : ℕ) (s : Slots) (it : ItemsLeft) → 3 ≤ p.width → HasSlots p v slots → IsAtSlot v slots i s → map_bit s.map.now s.next ≡ true
+pub step-missing : (p : HamtShape) (v : NodeView) (slots : List TrieSlot) (i : ℕ) (s : Slots) (it : ItemsLeft) → HasSlots p v slots → IsAtSlot v slots i s → map_bit s.map.now s.next ≡ true
     → ItemsGive s.elements None it → ⊥
-step-missing p v slots i s it wide has at on gives =
-    let e = used-at p s.map.now slots i wide has.form.many at.map (ap (map_bit s.map.now) (sym at.next) ∙ on) in
+step-missing p v slots i s it has at on gives =
+    let e = used-at p s.map.now slots i has.form.many at.map (ap (map_bit s.map.now) (sym at.next) ∙ on) in
     past_get (flat_map elements_of slots) (elements_before slots i) e.of e.found (iter-end v.data (flat_map elements_of slots) (elements_before slots i) s.elements it at.elements gives)
 
 -- ---- the entries of a bucket

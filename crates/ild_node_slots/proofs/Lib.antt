@@ -1,8 +1,10 @@
+pub mod Shapes
 pub mod Iter
 pub mod Entries
 pub mod Trees
 pub mod Fits
 pub mod Left
+pub mod Indexing
 pub mod Telling
 pub mod InSlot
 pub mod Rooting

@@ -13,7 +13,7 @@ use Rattle.ild_cbor.specs.Nodes.{Stands, Finds, IsPart}
 use Rattle.ild_cbor.specs.Scalar.{int_of}
 use Rattle.ild_cbor.specs.Span.{entry_of, place_of}
 use Rattle.ild_cbor.specs.Steps.{HasEntries, IteratesEntries, FindsEntries, EntryStep, EntriesGive, members_of as map_members}
-use Rattle.ild_data.specs.TrieShape.{TrieShape}
+use Rattle.ild_data.specs.declared.hamt_shape.HamtShape.{HamtShape}
 use Rattle.ild_typed.specs.Hamt.{root_map}
 use Rattle.ild_data.specs.Trie.{TrieSlot, node_data}
 use Rattle.ild_typed.specs.Node.{IsRoot}
@@ -52,7 +52,7 @@ other-int n place t key wanted m b finds ints tells = by (entry_of t key) refl f
 
 -- ---- the entries
 
-pub root-same : (p : TrieShape) (d e : Data) → root_map p d ≡ root_map p e → d ≡ e
+pub root-same : (p : HamtShape) (d e : Data) → root_map p d ≡ root_map p e → d ≡ e
 root-same p d e is = cc
 
 pub no-more : (s t : Pairs) (r : Option (Bor (List ℕ) × Node)) → EntryStep s no_members r t → is_some r ≡ true → ⊥
@@ -91,7 +91,7 @@ first_part n m s t k d ms it next = record {
   start_is = let a = next.start_is in let b = it.place in let c = length-append (head 5 (length (members_list (member k d ms)))) (spell_text k) in omega arith;
 }
 
-pub root-found : (p : TrieShape) (t : Data) (n : Node) (s0 s1 s2 s3 s4 : Pairs) (item hash bucket : Node) (r : Option (Bor (List ℕ) × Node)) → FindsEntries n (map_members t) (Some s0)
+pub root-found : (p : HamtShape) (t : Data) (n : Node) (s0 s1 s2 s3 s4 : Pairs) (item hash bucket : Node) (r : Option (Bor (List ℕ) × Node)) → FindsEntries n (map_members t) (Some s0)
     → ((ms : Members) → HasEntries s0 ms → NextOf s0 ms (codes "hamt") (Some item) s1) → ((ms : Members) → HasEntries s1 ms → NextOf s1 ms hash_alg (Some hash) s2)
     → ((ms : Members) → HasEntries s2 ms → NextOf s2 ms bucket_size (Some bucket) s3) → EntriesGive s3 r s4 → is_some r ≡ false
     → ((d : Data) → Stands hash d → int_of d ≡ Some (pos 18)) → ((d : Data) → Stands bucket d → int_of d ≡ Some (pos p.bucket)) → (d : Data) × (t ≡ root_map p d) × IsPart n item (place_of t 0) d
@@ -113,7 +113,7 @@ root-found p t n s0 s1 s2 s3 s4 item hash bucket r finds next0 next1 next2 gives
     )
 
 -- the view of a root's node
-pub root-parts : (p : TrieShape) (t d : Data) (n item : Node) (r : Result NodeView Why) → t ≡ root_map p d → IsPart n item (place_of t 0) d
+pub root-parts : (p : HamtShape) (t d : Data) (n item : Node) (r : Result NodeView Why) → t ≡ root_map p d → IsPart n item (place_of t 0) d
     → IfOk r (λ v. (slots : List TrieSlot) × (d ≡ node_data slots) × HasSlots p v slots) → IfOk r (λ v. view_node v ≡ item)
     → IfOk r (λ v. (slots : List TrieSlot) × IsRoot p slots t × HasSlots p v slots × IsPart n (view_node v) (place_of t 0) (node_data slots))
 root-parts p t d n item (Err e) is part found same = tt

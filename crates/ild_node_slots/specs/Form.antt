@@ -3,18 +3,18 @@ use Rattle.std.specs.Prelude.{◌≡◌, ℕ, ◌^◌, IsUtf8, codes, List, leng
 use Rattle.std.specs.List.{AllByRecursion}
 use Rattle.ild_data.specs.Data.{Data, list, items_of}
 use Rattle.ild_data.specs.Trie.{TrieSlot, entry_data}
-use Rattle.ild_data.specs.TrieShape.{TrieShape}
+use Rattle.ild_data.specs.declared.hamt_shape.HamtShape.{HamtShape}
 use Rattle.ild_typed.specs.Node.{IsSlot}
 
 -- the keys are UTF-8
 abbrev pub AreTexts : List (List ℕ × Data) → Type 0
 AreTexts es = AllByRecursion (λ e. IsUtf8 e.0) es
 
-abbrev pub AreSlots : TrieShape → List TrieSlot → Type 0
+abbrev pub AreSlots : HamtShape → List TrieSlot → Type 0
 AreSlots p slots = AllByRecursion (IsSlot p) slots
 
 -- the slots that a node may have: one for each index
-pub record IsNode (p : TrieShape) (slots : List TrieSlot) : Type 0 where
+pub record IsNode (p : HamtShape) (slots : List TrieSlot) : Type 0 where
   pub many : length slots ≡ 2 ^ p.width
   pub each : AreSlots p slots
 

@@ -3,10 +3,9 @@ use Rattle.std.specs.Prelude.{◌≡◌, ℕ, List, get_or, slice_get, Option, S
 use Rattle.std.specs.Borrow.{Bor}
 use Rattle.ild_data.specs.Data.{Data, items_of}
 use Rattle.ild_data.specs.Spell.{spell_items}
-use Rattle.ild_data.specs.TrieShape.{TrieShape}
+use Rattle.ild_data.specs.declared.hamt_shape.HamtShape.{HamtShape}
 use Rattle.std.specs.List.{flat_map}
 use Rattle.ild_data.specs.Trie.{TrieSlot, empty, bucket, child, map_of, elements_of, node_data}
-use Rattle.ild_typed.specs.Composed.{usual}
 use Rattle.ild_node_slots.specs.Items.{IsAtItem}
 use Rattle.ild_cbor.specs.Nodes.{Stands, IsPart}
 use Rattle.ild_cbor.specs.Span.{place_of}
@@ -24,6 +23,10 @@ bucket_node b = b.node
 
 abbrev pub view_node : NodeView → Node
 view_node v = v.node
+
+-- the shape of the HAMT whose node it is
+abbrev pub view_shape : NodeView → HamtShape
+view_shape v = v.shape
 
 -- the bucket has these entries
 pub record HasEntries (b : Bucket) (es : List (List ℕ × Data)) : Type 0 where
@@ -51,18 +54,19 @@ ValueIn whole es key None (Some n) = ⊥
 ValueIn whole es key (Some d) None = ⊥
 
 -- the node has these slots, of a HAMT of this shape
-pub record HasSlots (p : TrieShape) (v : NodeView) (slots : List TrieSlot) : Type 0 where
+pub record HasSlots (p : HamtShape) (v : NodeView) (slots : List TrieSlot) : Type 0 where
+  pub shape : view_shape v ≡ p
   pub stands : Stands (view_node v) (node_data slots)
   pub map : v.map.now ≡ map_of slots
   pub part : IsPart v.node v.data (place_of (node_data slots) 1) (elements_data slots)
   pub elements : IsAtItem v.data (flat_map elements_of slots) 0 v.elements
   pub form : IsNode p slots
 
--- the item is a node
-pub record IsNodeItem (n : Node) : Type 0 where
+-- the item is a node of this shape
+pub record IsNodeItem (p : HamtShape) (n : Node) : Type 0 where
   pub slots : List TrieSlot
   pub stands : Stands n (node_data slots)
-  pub form : IsNode usual slots
+  pub form : IsNode p slots
 
 -- the bucket of these entries that is the element of a slot, at its place in the node
 pub record IsBucketAt (v : NodeView) (slots : List TrieSlot) (i : ℕ) (b : Bucket) (es : List (List ℕ × Data)) : Type 0 where

@@ -2,7 +2,7 @@
 ghost use Rattle.std.specs.Prelude.{◌≡◌, ◌<◌, suc, List, length, take, drop, slice_index_or};
 ghost use Rattle.std.specs.List.{flat_map};
 ghost use Rattle.ild_data.specs.Trie.{TrieSlot, empty, is_used, elements_of};
-ghost use Rattle.ild_typed.specs.Composed.{usual};
+ghost use Rattle.ild_data.specs.declared.hamt_shape.HamtShape.{HamtShape};
 ghost use Rattle.ild_node_slots.specs.Views.{HasSlots, spelled_elements};
 
 use crate::parts::{map_bit, ones_below};
@@ -11,14 +11,14 @@ use crate::view::NodeView;
 impl<'b> NodeView<'b> {
     /// Whether a slot is used.
     pub fn is_used(&self, i: usize) -> bool
-        ensures { (slots : List TrieSlot) → HasSlots usual self.now slots → i < length slots → result ≡ is_used (slice_index_or slots i empty) }
+        ensures { (p : HamtShape) (slots : List TrieSlot) → HasSlots p self.now slots → i < length slots → result ≡ is_used (slice_index_or slots i empty) }
     {
         map_bit(self.map, i)
     }
 
     /// The elements of the slots before one and those of the slots behind it, as they are spelled.
     pub fn around(&self, i: u8) -> (&'b [u8], &'b [u8])
-        ensures { (slots : List TrieSlot) → HasSlots usual self.now slots → (result.0.now ≡ spelled_elements (take i slots)) × (result.1.now ≡ spelled_elements (drop (suc i) slots)) }
+        ensures { (p : HamtShape) (slots : List TrieSlot) → HasSlots p self.now slots → i < length slots → (result.0.now ≡ spelled_elements (take i slots)) × (result.1.now ≡ spelled_elements (drop (suc i) slots)) }
     {
         let own = map_bit(self.map, i as usize);
         self.data

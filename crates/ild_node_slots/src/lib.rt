@@ -8,7 +8,6 @@ mod level;
 mod node;
 mod parts;
 mod root;
-mod shape;
 mod slots;
 mod spelled;
 mod told;
@@ -17,7 +16,7 @@ mod walk;
 
 pub use bucket::Bucket;
 pub use fault::HamtFault;
-pub use level::{BUCKET_SIZE, LEVELS, SLOTS, index, index_of};
+pub use level::{has_level, index, index_of};
 pub use node::{known_node, node_of};
 pub use parts::{child_in, map_bit, rises};
 pub use root::root_of;

@@ -3,21 +3,20 @@ ghost use Rattle.std.specs.Prelude.{◌≡◌, ℕ, List, IsOk, IfOk, IfErr, IsS
 ghost use Rattle.ild_data.specs.Data.{Data};
 ghost use Rattle.ild_data.specs.Trie.{TrieSlot, node_data};
 ghost use Rattle.ild_cbor.specs.Nodes.{Stands};
-ghost use Rattle.ild_typed.specs.Composed.{usual};
 ghost use Rattle.ild_node_slots.specs.Form.{IsNode};
-ghost use Rattle.ild_node_slots.specs.Parts.{IsViewOf, shape_of};
+ghost use Rattle.ild_node_slots.specs.Parts.{IsViewOf};
 ghost use Rattle.ild_typed.specs.NodeReading.{node_fits};
 ghost use Rattle.ild_node_slots.specs.Views.{HasSlots, IsNodeItem, view_node};
 
 use crate::parts::{pair_in, parts_fit};
-use crate::shape::HamtShape;
 use crate::view::NodeView;
 use ild_cbor::{Node, Why};
+use ild_data::HamtShape;
 
-/// The node of a HAMT that an item is, of which is known that it is one: its elements aren't gone over.
-pub fn known_node<'b>(node: Node<'b>) -> Option<NodeView<'b>>
-    requires { ∥ IsNodeItem node ∥₁ }
-    ensures { (slots : List TrieSlot) → Stands node.entry (node_data slots) → IsNode usual slots → IsSome result × IfSome result (λ v. HasSlots usual v slots) }
+/// The node of a HAMT of this shape that an item is, of which is known that it is one: its elements aren't gone over.
+pub fn known_node<'b>(node: Node<'b>, shape: HamtShape) -> Option<NodeView<'b>>
+    requires { ∥ IsNodeItem shape node ∥₁ }
+    ensures { (slots : List TrieSlot) → Stands node.entry (node_data slots) → IsNode shape slots → IsSome result × IfSome result (λ v. HasSlots shape v slots) }
 {
     let (ones, data) = pair_in(&node)?;
     let map = ones.bytes()?;
@@ -27,13 +26,14 @@ pub fn known_node<'b>(node: Node<'b>) -> Option<NodeView<'b>>
         map,
         data,
         elements,
+        shape,
     })
 }
 
 // The view of a node of this shape, or `None` where the item is none.
 fn view_of<'b>(node: Node<'b>, shape: HamtShape) -> Option<NodeView<'b>>
     ensures node { IfSome result (λ v. view_node v ≡ node.entry) }
-    ensures view { (t : Data) → Stands node.entry t → MatchOption result (node_fits (shape_of shape) t ≡ false) (λ v. IsViewOf v node.entry (shape_of shape) t) }
+    ensures view { (t : Data) → Stands node.entry t → MatchOption result (node_fits shape t ≡ false) (λ v. IsViewOf v node.entry shape t) }
 {
     let (ones, data) = pair_in(&node)?;
     let map = ones.bytes()?;
@@ -46,13 +46,16 @@ fn view_of<'b>(node: Node<'b>, shape: HamtShape) -> Option<NodeView<'b>>
         map,
         data,
         elements,
+        shape,
     })
 }
 
 /// The node of a HAMT of this shape that an item is.
-pub(crate) fn node_in<'b>(node: Node<'b>, shape: HamtShape) -> Result<NodeView<'b>, Why>
-    ensures found { (t : Data) → Stands node.entry t → IfOk result (λ v. (slots : List TrieSlot) × (t ≡ node_data slots) × HasSlots (shape_of shape) v slots) }
-    ensures only { (slots : List TrieSlot) → Stands node.entry (node_data slots) → IsNode (shape_of shape) slots → IsOk result × IfOk result (λ v. HasSlots (shape_of shape) v slots) }
+pub fn node_of<'b>(node: Node<'b>, shape: HamtShape) -> Result<NodeView<'b>, Why>
+    // What is read is a node.
+    ensures found { (t : Data) → Stands node.entry t → IfOk result (λ v. (slots : List TrieSlot) × (t ≡ node_data slots) × HasSlots shape v slots) }
+    // A node is read, as its slots.
+    ensures only { (slots : List TrieSlot) → Stands node.entry (node_data slots) → IsNode shape slots → IsOk result × IfOk result (λ v. HasSlots shape v slots) }
     ensures item { IfOk result (λ v. view_node v ≡ node.entry) }
     ensures err { IfErr result (λ why. why ≡ Why.Trie) }
 {
@@ -60,16 +63,4 @@ pub(crate) fn node_in<'b>(node: Node<'b>, shape: HamtShape) -> Result<NodeView<'
         Some(view) => Ok(view),
         None => Err(Why::Trie),
     }
-}
-
-/// The node of a HAMT that an item is.
-pub fn node_of<'b>(node: Node<'b>) -> Result<NodeView<'b>, Why>
-    // What is read is a node.
-    ensures found { (t : Data) → Stands node.entry t → IfOk result (λ v. (slots : List TrieSlot) × (t ≡ node_data slots) × HasSlots usual v slots) }
-    // A node is read, as its slots.
-    ensures only { (slots : List TrieSlot) → Stands node.entry (node_data slots) → IsNode usual slots → IsOk result × IfOk result (λ v. HasSlots usual v slots) }
-    ensures item { IfOk result (λ v. view_node v ≡ node.entry) }
-    ensures err { IfErr result (λ why. why ≡ Why.Trie) }
-{
-    node_in(node, HamtShape::usual())
 }

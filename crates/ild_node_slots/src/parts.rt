@@ -10,13 +10,12 @@ ghost use Rattle.ild_data.specs.Trie.{entry_data};
 ghost use Rattle.ild_typed.specs.NodeReading.{text_in, pair_in, entry_in, rises, child_in, links_block, map_bit, map_bits, elements_fit, parts_fit};
 ghost use Rattle.ild_node_slots.specs.Reading.{byte_ones, ones_below};
 ghost use Rattle.ild_node_slots.specs.Items.{IsAtItem};
-ghost use Rattle.ild_node_slots.specs.Parts.{PairIs, EntryIn, shape_of};
+ghost use Rattle.ild_node_slots.specs.Parts.{PairIs, EntryIn};
 ghost use Rattle.ild_node_slots.specs.Views.{ValueIn};
 
-use crate::shape::HamtShape;
 use crate::told::next_element;
 use ild_cbor::{Items, Node};
-use ild_data::BlockId;
+use ild_data::{BlockId, HamtShape};
 
 /// How long the CID of a block is.
 const BLOCK_CID: usize = 36;
@@ -157,7 +156,7 @@ fn elements_fit(ones: &[u8], slots: usize, most: u32, elements: Items<'_>) -> bo
 
 /// Whether a map and elements are those of a node of this shape.
 pub(crate) fn parts_fit(ones: &[u8], elements: Items<'_>, shape: HamtShape) -> bool
-    ensures { (ds : DataItems) → HasItems elements.entry ds → result ≡ parts_fit (shape_of shape) (bytes ones.now, list ds) }
+    ensures { (ds : DataItems) → HasItems elements.entry ds → result ≡ parts_fit shape (bytes ones.now, list ds) }
 {
     let slots = shape.slots();
     ones.len() == slots / 8 && elements_fit(ones, slots, shape.bucket, elements)

@@ -6,18 +6,16 @@ ghost use Rattle.ild_cbor.specs.Nodes.{Stands, IsPart};
 ghost use Rattle.ild_cbor.specs.Scalar.{int_of};
 ghost use Rattle.ild_cbor.specs.Span.{place_of};
 ghost use Rattle.ild_cbor.specs.Steps.{HasEntries};
-ghost use Rattle.ild_typed.specs.Composed.{usual};
 ghost use Rattle.ild_typed.specs.Hamt.{root_map};
 ghost use Rattle.ild_typed.specs.Node.{IsRoot};
 ghost use Rattle.ild_node_slots.specs.Form.{IsNode, hash_alg, bucket_size};
-ghost use Rattle.ild_node_slots.specs.Parts.{shape_of};
 ghost use Rattle.ild_node_slots.specs.Roots.{NextOf, HasOtherInt, IsRootWhy};
 ghost use Rattle.ild_node_slots.specs.Views.{HasSlots, view_node};
 
-use crate::node::node_in;
-use crate::shape::HamtShape;
+use crate::node::node_of;
 use crate::view::NodeView;
 use ild_cbor::{Node, Pairs, Why};
+use ild_data::HamtShape;
 
 /// The code of sha2-256 (multihash).
 const SHA2_256: u32 = 18;
@@ -55,8 +53,8 @@ fn has_other_int(node: &Node<'_>, key: &str, wanted: u32) -> bool
 
 // The node's item of a root map.
 fn root_item<'b>(node: &Node<'b>, shape: HamtShape) -> Option<Node<'b>>
-    ensures found { (t : Data) → Stands node.now t → IfSome result (λ n. (d : Data) × (t ≡ root_map (shape_of shape) d) × IsPart node.now n (place_of t 0) d) }
-    ensures only { (d : Data) → Stands node.now (root_map (shape_of shape) d) → IsSome result }
+    ensures found { (t : Data) → Stands node.now t → IfSome result (λ n. (d : Data) × (t ≡ root_map shape d) × IsPart node.now n (place_of t 0) d) }
+    ensures only { (d : Data) → Stands node.now (root_map shape d) → IsSome result }
 {
     let mut entries = node.entries()?;
     let item = next_at(&mut entries, "hamt")?;
@@ -74,10 +72,13 @@ fn root_item<'b>(node: &Node<'b>, shape: HamtShape) -> Option<Node<'b>>
     Some(item)
 }
 
-// The same of a shape.
-fn root_in<'b>(node: Node<'b>, shape: HamtShape) -> Result<NodeView<'b>, Why>
-    ensures found { (t : Data) → Stands node.entry t → IfOk result (λ v. (slots : List TrieSlot) × IsRoot (shape_of shape) slots t × HasSlots (shape_of shape) v slots × IsPart node.entry (view_node v) (place_of t 0) (node_data slots)) }
-    ensures only { (slots : List TrieSlot) (t : Data) → Stands node.entry t → IsRoot (shape_of shape) slots t → IsOk result × IfOk result (λ v. HasSlots (shape_of shape) v slots) }
+/// The node of a HAMT of this shape whose root an item is.
+pub fn root_of<'b>(node: Node<'b>, shape: HamtShape) -> Result<NodeView<'b>, Why>
+    // What is read is a root, and the view is that of its node, which stands behind its name.
+    ensures found { (t : Data) → Stands node.entry t → IfOk result (λ v. (slots : List TrieSlot) × IsRoot shape slots t × HasSlots shape v slots × IsPart node.entry (view_node v) (place_of t 0) (node_data slots)) }
+    // A root is read, as the slots of its node.
+    ensures only { (slots : List TrieSlot) (t : Data) → Stands node.entry t → IsRoot shape slots t → IsOk result × IfOk result (λ v. HasSlots shape v slots) }
+    // Another hash is told first, then another size of buckets, also of a map that is no root otherwise.
     ensures hash { (t : Data) → Stands node.entry t → (result ≡ Err Why.HashAlg) ↔ HasOtherInt t hash_alg 18 }
     ensures size { (t : Data) → Stands node.entry t → (result ≡ Err Why.BucketSize) ↔ ((HasOtherInt t hash_alg 18 → ⊥) × HasOtherInt t bucket_size shape.bucket) }
     ensures err { IfErr result IsRootWhy }
@@ -89,21 +90,7 @@ fn root_in<'b>(node: Node<'b>, shape: HamtShape) -> Result<NodeView<'b>, Why>
         return Err(Why::BucketSize);
     }
     match root_item(&node, shape) {
-        Some(item) => node_in(item, shape),
+        Some(item) => node_of(item, shape),
         None => Err(Why::Trie),
     }
-}
-
-/// The node of a HAMT whose root an item is.
-pub fn root_of<'b>(node: Node<'b>) -> Result<NodeView<'b>, Why>
-    // What is read is a root, and the view is that of its node, which stands behind its name.
-    ensures found { (t : Data) → Stands node.entry t → IfOk result (λ v. (slots : List TrieSlot) × IsRoot usual slots t × HasSlots usual v slots × IsPart node.entry (view_node v) (place_of t 0) (node_data slots)) }
-    // A root is read, as the slots of its node.
-    ensures only { (slots : List TrieSlot) (t : Data) → Stands node.entry t → IsRoot usual slots t → IsOk result × IfOk result (λ v. HasSlots usual v slots) }
-    // Another hash is told first, then another size of buckets, also of a map that is no root otherwise.
-    ensures hash { (t : Data) → Stands node.entry t → (result ≡ Err Why.HashAlg) ↔ HasOtherInt t hash_alg 18 }
-    ensures size { (t : Data) → Stands node.entry t → (result ≡ Err Why.BucketSize) ↔ ((HasOtherInt t hash_alg 18 → ⊥) × HasOtherInt t bucket_size 3) }
-    ensures err { IfErr result IsRootWhy }
-{
-    root_in(node, HamtShape::usual())
 }

@@ -3,14 +3,12 @@ ghost use Rattle.std.specs.Prelude.{◌≤◌};
 
 use ild_cbor::Items;
 
-/// How many slots a node has at most.
-pub(crate) const MOST_SLOTS: usize = 256;
-
 /// An iterator over the slots of a node, one for each index, which passes over the node once.
 #[derive(Clone, Copy)]
 pub struct Slots<'b> {
     pub(crate) map: &'b [u8],
     pub(crate) next: usize,
+    pub(crate) count: usize,
     pub(crate) elements: Items<'b>,
-    ghost within: { next ≤ 256 },
+    ghost within: { next ≤ count },
 }

@@ -2,23 +2,24 @@
 ghost use Rattle.std.specs.Prelude.{◌≡◌, List};
 ghost use Rattle.ild_data.specs.Data.{Data};
 ghost use Rattle.ild_data.specs.Trie.{TrieSlot};
-ghost use Rattle.ild_typed.specs.Composed.{usual};
+ghost use Rattle.ild_data.specs.declared.hamt_shape.HamtShape.{HamtShape};
 ghost use Rattle.ild_cbor.specs.Nodes.{Stands};
 ghost use Rattle.ild_typed.specs.NodeReading.{child_in};
-ghost use Rattle.ild_node_slots.specs.Views.{HasSlots, SlotIs, ElementIs, view_node};
+ghost use Rattle.ild_node_slots.specs.Views.{HasSlots, SlotIs, ElementIs, view_node, view_shape};
 
 use crate::bucket::Bucket;
 use crate::parts::{child_in, map_bit, ones_below};
 use ild_cbor::{Items, Node};
-use ild_data::BlockId;
+use ild_data::{BlockId, HamtShape};
 
-/// A node of a HAMT: its map and its elements, in the block where they stand.
+/// A node of a HAMT of this shape: its map and its elements, in the block where they stand.
 #[derive(Clone, Copy)]
 pub struct NodeView<'b> {
     pub(crate) node: Node<'b>,
     pub(crate) map: &'b [u8],
     pub(crate) data: Node<'b>,
     pub(crate) elements: Items<'b>,
+    pub(crate) shape: HamtShape,
 }
 
 /// What a slot holds.
@@ -47,9 +48,16 @@ impl<'b> NodeView<'b> {
         self.node
     }
 
-    /// What stands in a slot. Of the elements before it only the heads are passed over.
+    /// The shape of the HAMT whose node it is.
+    pub fn shape(&self) -> HamtShape
+        ensures { result ≡ view_shape self.now }
+    {
+        self.shape
+    }
+
+    /// What stands in a slot, which is empty past the last. Of the elements before it only the heads are passed over.
     pub fn slot(&self, i: u8) -> NodeSlot<'b>
-        ensures { (slots : List TrieSlot) → HasSlots usual self.now slots → SlotIs self.now slots i result }
+        ensures { (p : HamtShape) (slots : List TrieSlot) → HasSlots p self.now slots → SlotIs self.now slots i result }
     {
         if !map_bit(self.map, i as usize) {
             return NodeSlot::Empty;

@@ -1,23 +1,24 @@
 //! Going over all slots of a node.
-ghost use Rattle.std.specs.Prelude.{◌-◌, ◌*◌, length, List};
+ghost use Rattle.std.specs.Prelude.{◌-◌, List};
 ghost use Rattle.std.specs.Iterator.{at_most};
 ghost use Rattle.ild_data.specs.Trie.{TrieSlot};
-ghost use Rattle.ild_typed.specs.Composed.{usual};
+ghost use Rattle.ild_data.specs.declared.hamt_shape.HamtShape.{HamtShape};
 ghost use Rattle.ild_node_slots.specs.Steps.{IsAtSlot, SlotsGive};
 ghost use Rattle.ild_node_slots.specs.Views.{HasSlots};
 
 use crate::parts::map_bit;
-use crate::slots::{MOST_SLOTS, Slots};
+use crate::slots::Slots;
 use crate::view::{NodeSlot, NodeView, slot_in};
 
 impl<'b> NodeView<'b> {
     /// All slots in order of their indices, those that are empty among them.
     pub fn slots(&self) -> Slots<'b>
-        ensures { (slots : List TrieSlot) → HasSlots usual self.now slots → IsAtSlot self.now slots 0 result }
+        ensures { (p : HamtShape) (slots : List TrieSlot) → HasSlots p self.now slots → IsAtSlot self.now slots 0 result }
     {
         Slots {
             map: self.map,
             next: 0,
+            count: self.shape.slots(),
             elements: self.elements,
         }
     }
@@ -28,11 +29,11 @@ impl<'b> Iterator for Slots<'b> {
 
     ghost next_gives = { SlotsGive };
 
-    ghost remaining = { λ s. at_most (8 * length s.map.now - s.next) };
+    ghost remaining = { λ s. at_most (s.count - s.next) };
 
     fn next(&mut self) -> Option<NodeSlot<'b>> {
         let i = self.next;
-        if i == MOST_SLOTS || i / 8 >= self.map.len() {
+        if i == self.count {
             return None;
         }
         self.next = i + 1;

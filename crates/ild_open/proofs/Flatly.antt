@@ -43,7 +43,7 @@ map_flat : (form : MapForm) (ps : List (List ℕ × Data)) (t : Data) → map_fo
 map_flat MF.Map ps t e flat = absurd (is_flat (map_data ps) t e flat)
 map_flat MF.ListPairs ps t e flat = absurd (is_flat (listpairs ps) t e flat)
 map_flat (MF.StringPairs inner entry) ps t e flat = stringpairs_flat inner entry ps t e
-map_flat MF.Hamt ps t e flat = absurd (none-some t e)
+map_flat (MF.Hamt p) ps t e flat = absurd (none-some t e)
 
 struct_flat : (form : StructForm) (fs : List Field) (os : List (Option Data)) (t : Data) → struct_form form fs os ≡ Some t → IsFlat t → FlatFields os
 struct_flat S.Map fs os t e flat = let x = map_from (λ es. map_data (in_key_order es)) (field_entries fs os) t e in absurd (is_flat (map_data (in_key_order x.item)) t x.made flat)

@@ -6,7 +6,7 @@ use Rattle.ild_data.specs.Data.{Data}
 use Rattle.ild_data.specs.Spell.{spell}
 use Rattle.ild_data.specs.Trie.{TrieSlot, all_some, at_depth, bucket_or, link_to, node_data, node_of, part, slot_of, slots_at}
 use Rattle.ild_data.specs.TrieBlocks.{block_of, node_and_beneath, nodes_beneath, none_or}
-use Rattle.ild_data.specs.TrieShape.{TrieShape}
+use Rattle.ild_data.specs.declared.hamt_shape.HamtShape.{HamtShape}
 use Rattle.ild_typed.specs.Known.{AreKnown}
 use Rattle.ild_typed.proofs.Basics.{map_from}
 use Rattle.ild_hamt_trie.proofs.Slots.{some_cons}
@@ -43,7 +43,7 @@ module _ (P : List ℕ → Type 0) (K : Data → Type 0) (spelled : (d : Data) �
         let x = some_cons z (all_some (map (λ i. slot_of most below (part at es i)) js)) slots h in
         all_join P (node_and_beneath most below beneath (part at es j)) (flat_map (λ i. node_and_beneath most below beneath (part at es i)) js) (one_part most below beneath (part at es j) z is (deep j)) (later x.0 x.1)
 
-  pub known_blocks : (h : List ℕ → List ℕ) (p : TrieShape) (left depth : ℕ) (es : List (List ℕ × Data)) (n : Data) → node_of h p left depth es ≡ Some n → AreKnown h p K left depth es → AllByRecursion P (nodes_beneath h p left depth es)
+  pub known_blocks : (h : List ℕ → List ℕ) (p : HamtShape) (left depth : ℕ) (es : List (List ℕ × Data)) (n : Data) → node_of h p left depth es ≡ Some n → AreKnown h p K left depth es → AllByRecursion P (nodes_beneath h p left depth es)
   unfolding nodes_beneath AreKnown node_of
   known_blocks h p zero depth es n e known = tt
   known_blocks h p (suc left) depth es n e known =

@@ -14,6 +14,7 @@ use Rattle.ild_data.specs.Tree.{IsTree}
 use Rattle.ild_data.specs.Trie.{trie}
 use Rattle.ild_data.specs.TrieBlocks.{nodes_beneath}
 use Rattle.ild_data.specs.TrieShape.{trie_levels}
+use Rattle.ild_data.specs.declared.hamt_shape.HamtShape.{HamtShape}
 use Rattle.ild_schema.specs.Clear.{IsClear}
 use Rattle.ild_schema.specs.Spelled.{IsSpelled}
 use Rattle.ild_schema.specs.declared.def.MapForm.TheVariants as MF
@@ -26,7 +27,7 @@ use Rattle.ild_schema.specs.Slots.{form_of, plainly}
 use Rattle.ild_schema.specs.Value as V
 use Rattle.ild_schema.specs.Value.{Value, Pairs, pairs_of, pairs_list}
 use Rattle.ild_typed.specs.Blocks.{hamt_nodes, nodes, nodes_of_pairs}
-use Rattle.ild_typed.specs.Composed.{Hamts, composed, usual}
+use Rattle.ild_typed.specs.Composed.{Hamts, composed}
 use Rattle.ild_typed.specs.Fits.{Fits}
 use Rattle.ild_typed.specs.Hamt.{root_map, whole}
 use Rattle.ild_typed.specs.Known as G
@@ -79,34 +80,34 @@ node_within n tree room le b block has =
     let own : IsWithin b.of = record { tree = b.fits.tree; nested = let x = b.fits.nested in omega (arith, x, le); sized = subst (λ (k : List ℕ). length k ≤ longest_block) b.is has.short } in
     subst IsWithin (one_within b.of n own tree (sym b.is)) own
 
-module _ (block : List ℕ → Option (List ℕ)) (h : List ℕ → List ℕ) (rows : List Row) (room less : ℕ) (s : Slot) (t : Data) (key : TypeNo) (key_at : ℕ) (value : Slot) (at : ℕ)
-    (is : form_of rows s ≡ Some (D.Map key key_at value at MF.Hamt)) (left : room ≡ less + 5) where
+module _ (block : List ℕ → Option (List ℕ)) (h : List ℕ → List ℕ) (p : HamtShape) (rows : List Row) (room less : ℕ) (s : Slot) (t : Data) (key : TypeNo) (key_at : ℕ) (value : Slot) (at : ℕ)
+    (is : form_of rows s ≡ Some (D.Map key key_at value at (MF.Hamt p))) (left : room ≡ less + 5) where
   abbrev Own : TypeDef
-  Own = D.Map key key_at value at MF.Hamt
+  Own = D.Map key key_at value at (MF.Hamt p)
 
   abbrev Held : List ℕ → Type 0
   Held = IsHeldBlock block
 
   abbrev pub beneath : List (List ℕ × Data) → List (List ℕ)
-  beneath fs = nodes_beneath h usual (trie_levels usual) 0 (in_byte_order fs)
+  beneath fs = nodes_beneath h p (trie_levels p) 0 (in_byte_order fs)
 
-  root_nodes : (ps : Pairs) (fs : List (List ℕ × Data)) (n : Data) → represented_pairs (whole h) rows value ps ≡ Some fs → trie h usual fs 0 ≡ Some n → nodes h rows s (V.map ps) ≡ beneath fs ++ nodes_of_pairs h rows value ps
+  root_nodes : (ps : Pairs) (fs : List (List ℕ × Data)) (n : Data) → represented_pairs (whole h) rows value ps ≡ Some fs → trie h p fs 0 ≡ Some n → nodes h rows s (V.map ps) ≡ beneath fs ++ nodes_of_pairs h rows value ps
   root_nodes ps fs n e tree =
       ap (λ o. option_map_or (λ u. hamt_nodes h o (represented_pairs (whole h) rows u ps) ++ nodes_of_pairs h rows u ps) (element_of o) []) is
       ∙ ap (λ o. hamt_nodes h (Some Own) o ++ nodes_of_pairs h rows value ps) e
       ∙ ap (λ (o : Option Data). cond (is_some o) (beneath fs) [] ++ nodes_of_pairs h rows value ps) tree
 
   -- entries in the key order, with values
-  pub hamt_up : (fs : List (List ℕ × Data)) (vs : List Value) → Rises fs → AllByRecursion (KeyFits (λ b. Some b) (λ k. k) rows less key) fs → whole h usual (L.map fs) ≡ Some t → AllByRecursion Held (beneath fs)
+  pub hamt_up : (fs : List (List ℕ × Data)) (vs : List Value) → Rises fs → AllByRecursion (KeyFits (λ b. Some b) (λ k. k) rows less key) fs → whole h p (L.map fs) ≡ Some t → AllByRecursion Held (beneath fs)
       → AreHeld block h rows less (entry_parts value fs) vs → IsHeld block h rows room s t (V.map (pairs_of (entry_values fs vs)))
   hamt_up fs vs rises keys made below all =
       let x = pairs_up block h rows less key value fs vs keys all in
       let ps = entry_values fs vs in
-      let fit : EntriesFit (Fits rows less) rows key value MF.Hamt ps = (keys_like MF.Hamt fs ps x.same rises, x.fit) in
-      let y = map_from (root_map usual) (trie h usual fs 0) t made in
+      let fit : EntriesFit (Fits rows less) rows key value (MF.Hamt p) ps = (keys_like (MF.Hamt p) fs ps x.same rises, x.fit) in
+      let y = map_from (root_map p) (trie h p fs 0) t made in
       record {
         fits = fits_up rows room less s (V.map (pairs_of ps)) Own (L.map (pairs_list (pairs_of ps))) refl is (omega arith) left
-            (inl (subst (EntriesFit (Fits rows less) rows key value MF.Hamt) (sym (pairs_list-pairs_of ps)) fit));
+            (inl (subst (EntriesFit (Fits rows less) rows key value (MF.Hamt p)) (sym (pairs_list-pairs_of ps)) fit));
         tree = ap (λ o. layered (whole h) o (option_map L.map (pairs_data (whole h) rows (element_of o) (pairs_of ps)))) is ∙ ap (λ o. option_and_then (composed (whole h) Own) (option_map L.map o)) x.there ∙ made;
         held = subst (AllByRecursion Held) (sym (root_nodes (pairs_of ps) fs y.item x.there y.there)) (all_join Held (beneath fs) (nodes_of_pairs h rows value (pairs_of ps)) below x.held);
       }
@@ -116,7 +117,7 @@ module _ (block : List ℕ → Option (List ℕ)) (h : List ℕ → List ℕ) (r
     pub entries : List (List ℕ × Data)
     pub rises : Rises entries
     pub keys : AllByRecursion (KeyFits (λ b. Some b) (λ k. k) rows less key) entries
-    pub made : whole h usual (L.map entries) ≡ Some t
+    pub made : whole h p (L.map entries) ≡ Some t
     pub below : AllByRecursion Held (beneath entries)
     pub values : List Value
     pub held : AreHeld block h rows less (entry_parts value entries) values
@@ -126,9 +127,9 @@ module _ (block : List ℕ → Option (List ℕ)) (h : List ℕ → List ℕ) (r
     pub same : v ≡ V.map pairs
     pub there : represented_pairs (whole h) rows value pairs ≡ Some entries
 
-  hamt_layer : (v : Value) → is_null_there s t ≡ false → represented (whole h) rows s v ≡ Some t → (l : Layer Data) × (layer_data (whole h) rows (Some Own) v ≡ Some l) × (whole h usual l ≡ Some t)
+  hamt_layer : (v : Value) → is_null_there s t ≡ false → represented (whole h) rows s v ≡ Some t → (l : Layer Data) × (layer_data (whole h) rows (Some Own) v ≡ Some l) × (whole h p l ≡ Some t)
   hamt_layer v some e = by (way_of (whole h) rows s v t e) where
-    by : Way (whole h) rows s v t → (l : Layer Data) × (layer_data (whole h) rows (Some Own) v ≡ Some l) × (whole h usual l ≡ Some t)
+    by : Way (whole h) rows s v t → (l : Layer Data) × (layer_data (whole h) rows (Some Own) v ≡ Some l) × (whole h p l ≡ Some t)
     by (as_null a n z) = let x : false ≡ true = sym some ∙ ap (is_null_there s) z ∙ n in absurd cc
     by (as_layer c m known there composes) =
         let same : c ≡ Own = same_Some c Own (sym known ∙ is) in
@@ -137,12 +138,12 @@ module _ (block : List ℕ → Option (List ℕ)) (h : List ℕ → List ℕ) (r
   pub hamt_parts : (v : Value) → is_null_there s t ≡ false → IsHeld block h rows room s t v → HamtParts v
   hamt_parts v some has =
       let y = hamt_layer v some has.tree in
-      let z = map_from (root_map usual) (option_and_then (λ es. trie h usual es 0) (as_map y.0)) t y.2 in
-      let w = then_from (λ es. trie h usual es 0) (as_map y.0) z.item z.there in
+      let z = map_from (root_map p) (option_and_then (λ es. trie h p es 0) (as_map y.0)) t y.2 in
+      let w = then_from (λ es. trie h p es 0) (as_map y.0) z.item z.there in
       let fs = w.item in
       let layer : y.0 ≡ L.map fs = only_map y.0 fs w.there in
       let x = map_value (whole h) rows (Some Own) v fs (ap map_in (y.1 ∙ ap Some layer)) in
-      let fit : EntriesFit (Fits rows less) rows key value MF.Hamt (pairs_list x.items) = map_fitted rows (Fits rows less) key value MF.Hamt (pairs_list x.items)
+      let fit : EntriesFit (Fits rows less) rows key value (MF.Hamt p) (pairs_list x.items) = map_fitted rows (Fits rows less) key value (MF.Hamt p) (pairs_list x.items)
       (fits_down rows room less s (V.map x.items) Own (L.map (pairs_list x.items)) refl is (omega arith) left (subst (Fits rows room s) x.is has.fits)) in
       let own = root_nodes x.items fs z.item x.there w.made in
       let all = subst (AllByRecursion Held) own (subst (λ u. AllByRecursion Held (nodes h rows s u)) x.is has.held) in
@@ -152,7 +153,7 @@ module _ (block : List ℕ → Option (List ℕ)) (h : List ℕ → List ℕ) (r
         entries = fs;
         rises = rises_pairs (whole h) rows value x.items fs fit.0 x.there;
         keys = keys_of (whole h) rows less key value x.items fs fit.1 x.there;
-        made = sym (ap (whole h usual) layer) ∙ y.2;
+        made = sym (ap (whole h p) layer) ∙ y.2;
         below = both.0;
         values = b.values;
         held = b.held;
@@ -164,7 +165,7 @@ module _ (block : List ℕ → Option (List ℕ)) (h : List ℕ → List ℕ) (r
       }
 
   -- the nodes of such a value are known
-  pub hamt_kept : IsSpelled rows → room ≤ deepest → (v : Value) (has : IsHeld block h rows room s t v) (x : HamtParts v) → Kept h (HeldNode block) x.entries
+  pub hamt_kept : IsSpelled rows → room ≤ deepest → (v : Value) (has : IsHeld block h rows room s t v) (x : HamtParts v) → Kept h (HeldNode block) p x.entries
   hamt_kept spelled le v has x =
       let nested = blocks_nested h rows spelled room s v t has.fits has.tree in
       let P : List ℕ → Type 0 = λ b. BlockIn room b × IsHeldBlock block b in
@@ -174,21 +175,21 @@ module _ (block : List ℕ → Option (List ℕ)) (h : List ℕ → List ℕ) (r
       map_good.0 Own value x.entries is refl x.there
 
   -- the entries of a trie whose nodes are held are those of the value
-  pub hamt_same : IsSpelled rows → room ≤ deepest → (v : Value) (has : IsHeld block h rows room s t v) (x : HamtParts v) (fs : List (List ℕ × Data)) → Kept h (HeldNode block) fs → whole h usual (L.map fs) ≡ Some t → x.entries ≡ fs
+  pub hamt_same : IsSpelled rows → room ≤ deepest → (v : Value) (has : IsHeld block h rows room s t v) (x : HamtParts v) (fs : List (List ℕ × Data)) → Kept h (HeldNode block) p fs → whole h p (L.map fs) ≡ Some t → x.entries ≡ fs
   hamt_same spelled le v has x fs kept made =
-      let same : L.map x.entries ≡ L.map fs = (whole_exact h (HeldNode block) (ids_tell block)).tells (L.map x.entries) (L.map fs) t (hamt_kept spelled le v has x) kept x.made made in
+      let same : L.map x.entries ≡ L.map fs = (whole_exact h (HeldNode block) (ids_tell block)).tells p (L.map x.entries) (L.map fs) t (hamt_kept spelled le v has x) kept x.made made in
       same_Some x.entries fs (ap as_map same)
 
 pub hamts_split : HamtsSplit
-hamts_split = λ block h rows schema room less le s t some key key_at value at is left.
+hamts_split = λ block h rows schema room less le s t some p key key_at value at is left.
     let spelled = schema.table.texts.spelled in
     record {
-      up = λ fs vs root keys all. hamt_up block h rows room less s t key key_at value at is left fs vs root.kept.0 keys root.made root.below all;
+      up = λ fs vs root keys all. hamt_up block h p rows room less s t key key_at value at is left fs vs root.kept.0 keys root.made root.below all;
       entries = λ v has.
-          let x = hamt_parts block h rows room less s t key key_at value at is left v some has in
-          (x.entries, record { kept = hamt_kept block h rows room less s t key key_at value at is left spelled le v has x; made = x.made; below = x.below });
+          let x = hamt_parts block h p rows room less s t key key_at value at is left v some has in
+          (x.entries, record { kept = hamt_kept block h p rows room less s t key key_at value at is left spelled le v has x; made = x.made; below = x.below });
       back = λ fs v root has.
-          let x = hamt_parts block h rows room less s t key key_at value at is left v some has in
-          let same = hamt_same block h rows room less s t key key_at value at is left spelled le v has x fs root.kept root.made in
-          subst (λ es. IsMapOf block h rows less s key value es v) same (record { keys = x.keys; values = x.values; held = x.held; made = x.is_map; many = x.many });
+          let x = hamt_parts block h p rows room less s t key key_at value at is left v some has in
+          let same = hamt_same block h p rows room less s t key key_at value at is left spelled le v has x fs root.kept root.made in
+          subst (λ es. IsMapOf block h p rows less s key value es v) same (record { keys = x.keys; values = x.values; held = x.held; made = x.is_map; many = x.many });
     }

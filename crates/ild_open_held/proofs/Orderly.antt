@@ -8,7 +8,7 @@ use Rattle.std.proofs.lemmas.Bool.{eqb-true, le-leb, leb-true, lt-leb}
 use Rattle.ild_data.specs.ByteOrder.{bytewise, in_byte_order, no_key_twice, IsInOrder}
 use Rattle.ild_data.specs.Data.{Data}
 use Rattle.ild_data.specs.Trie.{part, at_depth}
-use Rattle.ild_data.specs.TrieShape.{TrieShape}
+use Rattle.ild_data.specs.declared.hamt_shape.HamtShape.{HamtShape}
 use Rattle.ild_hamt_trie.specs.Walk.{part_or, in_trie_order}
 use Rattle.ild_hamt_trie.proofs.Parts.{total, find-sorted, in_order-sorted}
 use Rattle.ild_hamt_trie.proofs.Walk.{sorted-walk}
@@ -87,7 +87,7 @@ or_short : (b : Bool) (below : List (List ℕ × Data) → List (List ℕ × Dat
 or_short true below es le = omega arith
 or_short false below es le = le
 
-walk_short : (h : List ℕ → List ℕ) (p : TrieShape) (left depth : ℕ) (es : List (List ℕ × Data)) → length (in_trie_order h p left depth es) ≤ length es
+walk_short : (h : List ℕ → List ℕ) (p : HamtShape) (left depth : ℕ) (es : List (List ℕ × Data)) → length (in_trie_order h p left depth es) ≤ length es
 unfolding in_trie_order
 walk_short h p zero depth es = omega arith
 walk_short h p (suc left) depth es =
@@ -96,7 +96,7 @@ walk_short h p (suc left) depth es =
     let less = filter_short (λ e. nat_le 0 (at_depth h p depth e.0)) es in
     omega (arith, pieces, less)
 
-pub walk_once : (h : List ℕ → List ℕ) (p : TrieShape) (left depth : ℕ) (es : List (List ℕ × Data)) → IsInOrder es → no_key_twice (in_trie_order h p left depth es) ≡ true
+pub walk_once : (h : List ℕ → List ℕ) (p : HamtShape) (left depth : ℕ) (es : List (List ℕ × Data)) → IsInOrder es → no_key_twice (in_trie_order h p left depth es) ≡ true
 walk_once h p left depth es order =
     let same : length (in_byte_order (in_trie_order h p left depth es)) ≡ length es = ap (λ (xs : List (List ℕ × Data)). length xs) (sorted-walk h p left depth es order) in
     let short = walk_short h p left depth es in

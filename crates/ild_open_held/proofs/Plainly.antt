@@ -56,14 +56,14 @@ no_map (MF.StringPairs i k) (L.link s) t v e h = none-some t h
 no_map (MF.StringPairs i k) (L.any d) t v e h = none-some t h
 no_map (MF.StringPairs i k) L.unit t v e h = none-some t h
 no_map (MF.StringPairs i k) (L.enum n) t v e h = none-some t h
-no_map MF.Hamt (L.boolean b) t v e h = none-some t h
-no_map MF.Hamt (L.integer n) t v e h = none-some t h
-no_map MF.Hamt (L.text s) t v e h = none-some t h
-no_map MF.Hamt (L.bytes s) t v e h = none-some t h
-no_map MF.Hamt (L.link s) t v e h = none-some t h
-no_map MF.Hamt (L.any d) t v e h = none-some t h
-no_map MF.Hamt L.unit t v e h = none-some t h
-no_map MF.Hamt (L.enum n) t v e h = none-some t h
+no_map (MF.Hamt p) (L.boolean b) t v e h = none-some t h
+no_map (MF.Hamt p) (L.integer n) t v e h = none-some t h
+no_map (MF.Hamt p) (L.text s) t v e h = none-some t h
+no_map (MF.Hamt p) (L.bytes s) t v e h = none-some t h
+no_map (MF.Hamt p) (L.link s) t v e h = none-some t h
+no_map (MF.Hamt p) (L.any d) t v e h = none-some t h
+no_map (MF.Hamt p) L.unit t v e h = none-some t h
+no_map (MF.Hamt p) (L.enum n) t v e h = none-some t h
 no_map form l t v e h = absurd (none-some v e)
 
 -- so its data don't depend on what stands for a HAMT

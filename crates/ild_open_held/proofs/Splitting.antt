@@ -62,26 +62,26 @@ some_map_levels : (form : MapForm) → 1 ≤ map_levels form
 some_map_levels MF.Map = omega arith
 some_map_levels MF.ListPairs = omega arith
 some_map_levels (MF.StringPairs i e) = omega arith
-some_map_levels MF.Hamt = omega arith
+some_map_levels (MF.Hamt p) = omega arith
 
 like_map : (h : List ℕ → List ℕ) (key : TypeNo) (key_at : ℕ) (value : Slot) (at : ℕ) (form : MapForm) → is_hamt form ≡ false → (m : Layer Data)
     → composed (whole h) (D.Map key key_at value at form) m ≡ composed alone (D.Map key key_at value at form) m
 like_map h key key_at value at MF.Map plain m = refl
 like_map h key key_at value at MF.ListPairs plain m = refl
 like_map h key key_at value at (MF.StringPairs i e) plain m = refl
-like_map h key key_at value at MF.Hamt plain m = absurd cc
+like_map h key key_at value at (MF.Hamt p) plain m = absurd cc
 
 no_nodes : (h : List ℕ → List ℕ) (key : TypeNo) (key_at : ℕ) (value : Slot) (at : ℕ) (form : MapForm) → is_hamt form ≡ false → (o : Option (List (List ℕ × Data))) → hamt_nodes h (Some (D.Map key key_at value at form)) o ≡ []
 no_nodes h key key_at value at MF.Map plain o = refl
 no_nodes h key key_at value at MF.ListPairs plain o = refl
 no_nodes h key key_at value at (MF.StringPairs i e) plain o = refl
-no_nodes h key key_at value at MF.Hamt plain o = absurd cc
+no_nodes h key key_at value at (MF.Hamt p) plain o = absurd cc
 
 map_fit : (rows : List Row) (fits : Slot → Value → Type 0) (key : TypeNo) (value : Slot) (form : MapForm) (ps : List (List ℕ × Value)) → is_hamt form ≡ false → EntriesFit fits rows key value form ps → MapFits fits rows key value form (L.map ps)
 map_fit rows fits key value MF.Map ps plain f = f
 map_fit rows fits key value MF.ListPairs ps plain f = f
 map_fit rows fits key value (MF.StringPairs i e) ps plain f = f
-map_fit rows fits key value MF.Hamt ps plain f = absurd cc
+map_fit rows fits key value (MF.Hamt p) ps plain f = absurd cc
 
 -- the entries of a front
 pub record EntriesOf (rows : List Row) (less : ℕ) (key : TypeNo) (value : Slot) (ps : List (List ℕ × Value)) (es : List (List ℕ × Data)) : Type 0 where

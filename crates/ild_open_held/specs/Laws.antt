@@ -23,7 +23,7 @@ use Rattle.ild_typed.specs.Schema.{IsSchema}
 use Rattle.ild_open_held.specs.Splits.{Splits, element_parts, entry_parts, entry_values, field_parts, field_values, union_of}
 
 abbrev pub is_hamt : MapForm → Bool
-is_hamt MF.Hamt = true
+is_hamt (MF.Hamt p) = true
 is_hamt form = false
 
 -- data of a slot with a front that fits in the room

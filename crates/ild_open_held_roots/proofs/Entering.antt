@@ -13,6 +13,7 @@ use Rattle.ild_data.specs.Data.{Data}
 use Rattle.ild_data.specs.Key.{same_text, value_at}
 use Rattle.ild_data.specs.Trie.{node_data, node_of, trie}
 use Rattle.ild_data.specs.TrieShape.{trie_levels}
+use Rattle.ild_data.specs.declared.hamt_shape.HamtShape.{HamtShape}
 use Rattle.ild_edges.specs.Store.{block_at}
 use Rattle.ild_typed_fronts.proofs.Representing.{fronts_represent}
 use Rattle.ild_typed_fronts.specs.Front.{front, fronts_of_pairs, is_hamt, is_root, root_or_map}
@@ -27,7 +28,7 @@ use Rattle.ild_schema.specs.declared.row.Row.{Row}
 use Rattle.ild_schema.specs.Slots.{form_of}
 use Rattle.ild_schema.specs.Value as V
 use Rattle.ild_schema.specs.Value.{Value, Pairs, pairs_list, pairs_of}
-use Rattle.ild_node_slots.proofs.Fits.{whole_map}
+use Rattle.ild_node_slots.proofs.Shapes.{whole_map}
 use Rattle.ild_node_slots.proofs.Rooting.{root-same}
 use Rattle.ild_hamt_trie.proofs.Bits.{same_node}
 use Rattle.ild_hamt_trie.proofs.Node.{slots-node, trie-sorted}
@@ -36,10 +37,12 @@ use Rattle.ild_typed.proofs.Basics.{if_from, map_from}
 use Rattle.ild_typed.proofs.Lists.{pairs_list-pairs_of}
 use Rattle.ild_typed.proofs.Rooms.{fits_more}
 use Rattle.ild_typed.specs.At.{InSlot}
-use Rattle.ild_typed.specs.Composed.{usual}
 use Rattle.ild_typed.specs.Fits.{Fits, FitsPast, FormFits}
 use Rattle.ild_typed.specs.Hamt.{alone, a_map, root_map, whole}
 use Rattle.ild_typed.specs.Layer as L
+use Rattle.std.proofs.Math.Nat.{sub-zero}
+use Rattle.ild_hamt_trie.proofs.Levels.{levels-first}
+use Rattle.ild_typed.specs.Known.{AreKnown, HeldNode}
 use Rattle.ild_typed.specs.Levels.{levels_of}
 use Rattle.ild_typed.specs.Pieces.{is_null_there}
 use Rattle.ild_typed.specs.Represented.{layered, represented}
@@ -51,10 +54,10 @@ use Rattle.ild_open_held_roots.proofs.Tries.{known_holds, node_form, sorted_text
 -- ---- maps that stand as HAMTs
 
 abbrev IsHamtType : Option TypeDef → Type 0
-IsHamtType o = (key : TypeNo) × (key_at : ℕ) × (value : Slot) × (place : ℕ) × (o ≡ Some (T.Map key key_at value place MF.Hamt))
+IsHamtType o = (key : TypeNo) × (key_at : ℕ) × (value : Slot) × (place : ℕ) × (shape : HamtShape) × (o ≡ Some (T.Map key key_at value place (MF.Hamt shape)))
 
 hamt_type : (o : Option TypeDef) → is_hamt o ≡ true → IsHamtType o
-hamt_type (Some (T.Map key key_at value place MF.Hamt)) e = (key, key_at, value, place, refl)
+hamt_type (Some (T.Map key key_at value place (MF.Hamt shape))) e = (key, key_at, value, place, shape, refl)
 hamt_type (Some (T.Map key key_at value place MF.Map)) e = absurd cc
 hamt_type (Some (T.Map key key_at value place MF.ListPairs)) e = absurd cc
 hamt_type (Some (T.Map key key_at value place (MF.StringPairs i d))) e = absurd cc
@@ -65,7 +68,7 @@ no_root : (h : List ℕ → List ℕ) (o : Option TypeDef) (d t : Data) → laye
 no_root h (Some (T.Map key key_at value place MF.Map)) d t e = none-some t e
 no_root h (Some (T.Map key key_at value place MF.ListPairs)) d t e = none-some t e
 no_root h (Some (T.Map key key_at value place (MF.StringPairs i x))) d t e = none-some t e
-no_root h (Some (T.Map key key_at value place MF.Hamt)) d t e = none-some t e
+no_root h (Some (T.Map key key_at value place (MF.Hamt shape))) d t e = none-some t e
 no_root h o d t e = none-some t e
 
 module _ (h : List ℕ → List ℕ) (rows : List Row) where
@@ -98,9 +101,9 @@ root_front h rows s (V.map ps) t e root =
 root_front h rows s (V.hamt d) t e root = absurd (no_root h (form_of rows s) d t e)
 root_front h rows s v t e root = absurd cc
 
-not_null : (h : List ℕ → List ℕ) (rows : List Row) (s : Slot) (v : Value) (t : Data) (key : TypeNo) (key_at : ℕ) (value : Slot) (place : ℕ) → form_of rows s ≡ Some (T.Map key key_at value place MF.Hamt)
+not_null : (h : List ℕ → List ℕ) (rows : List Row) (s : Slot) (v : Value) (t : Data) (key : TypeNo) (key_at : ℕ) (value : Slot) (place : ℕ) (shape : HamtShape) → form_of rows s ≡ Some (T.Map key key_at value place (MF.Hamt shape))
     → represented (whole h) rows s v ≡ Some t → is_root rows (s, v) ≡ true → is_null_there s t ≡ false
-not_null h rows s v t key key_at value place is e root =
+not_null h rows s v t key key_at value place shape is e root =
     let d : represented alone rows s (V.hamt t) ≡ Some t = ap (represented alone rows s) (sym (root_front h rows s v t e root)) ∙ fronts_represent h rows s v ∙ e in
     map_there s t (ap (λ o. layered alone o (Some (L.hamt t))) (sym is) ∙ d)
 
@@ -140,29 +143,25 @@ same_pairs ps qs e = cc
 
 pub roots_are_entered : RootsAreEntered
 unfolding trie
-roots_are_entered = λ held h rows schema room le p t slots has root is.
+roots_are_entered = λ held h rows schema room le p t slots key key_at value place shape form has root is.
     let m = hamt_map h rows p.0 p.1 t has.tree root in
-    let key = m.type.0 in
-    let key_at = m.type.1 in
-    let value = m.type.2 in
-    let place = m.type.3 in
-    let form = m.type.4 in
     let spelled = schema.table.texts.spelled in
-    let some : is_null_there p.0 t ≡ false = not_null h rows p.0 p.1 t key key_at value place form has.tree root in
-    let five : 5 ≤ room = levels_fit rows room p.0 m.pairs (T.Map key key_at value place MF.Hamt) form (subst (Fits rows room p.0) m.is has.fits) in
+    let some : is_null_there p.0 t ≡ false = not_null h rows p.0 p.1 t key key_at value place shape form has.tree root in
+    let five : 5 ≤ room = levels_fit rows room p.0 m.pairs (T.Map key key_at value place (MF.Hamt shape)) form (subst (Fits rows room p.0) m.is has.fits) in
     let left : room ≡ (room - 5) + 5 = omega (arith, five) in
-    let x = hamt_parts (block_at held) h rows room (room - 5) p.0 t key key_at value place form left p.1 some has in
-    let kept = hamt_kept (block_at held) h rows room (room - 5) p.0 t key key_at value place form left spelled le p.1 has x in
-    let n = map_from (root_map usual) (trie h usual x.entries 0) t x.made in
-    let node : n.item ≡ node_data slots = root-same usual n.item (node_data slots) (same_Some (root_map usual n.item) t n.made ∙ is.tree) in
+    let x = hamt_parts (block_at held) h shape rows room (room - 5) p.0 t key key_at value place form left p.1 some has in
+    let kept = hamt_kept (block_at held) h shape rows room (room - 5) p.0 t key key_at value place form left spelled le p.1 has x in
+    let n = map_from (root_map shape) (trie h shape x.entries 0) t x.made in
+    let node : n.item ≡ node_data slots = root-same shape n.item (node_data slots) (same_Some (root_map shape n.item) t n.made ∙ is.tree) in
     let sorted : List (List ℕ × Data) = in_byte_order x.entries in
     let order : IsInOrder sorted = in_order-sorted x.entries in
     let texts = sorted_texts x.entries (texts_of _ x.entries x.keys) in
-    let once = (if_from _ (node_of h usual (trie_levels usual - 0) 0 sorted) n.item n.there).0 in
-    let top : node_of h usual (trie_levels usual) 0 sorted ≡ Some n.item = sym (trie-sorted h usual x.entries 0 once) ∙ n.there in
-    let s = slots-node h usual (trie_levels usual - 1) 0 sorted n.item top in
-    let own = node_form h (trie_levels usual - 1) 0 sorted s.0 order texts s.1 in
-    let same : s.0 ≡ slots = same_node s.0 slots (whole_map usual.width (length s.0) (omega arith) own.many) (is.indices ∙ sym own.many) (sym s.2 ∙ node) in
+    let once = (if_from _ (node_of h shape (trie_levels shape - 0) 0 sorted) n.item n.there).0 in
+    let first : trie_levels shape ≡ suc (trie_levels shape - 1) = sym (sub-zero (trie_levels shape)) ∙ levels-first shape in
+    let top : node_of h shape (suc (trie_levels shape - 1)) 0 sorted ≡ Some n.item = ap (λ l. node_of h shape l 0 sorted) (sym (levels-first shape)) ∙ sym (trie-sorted h shape x.entries 0 once) ∙ n.there in
+    let s = slots-node h shape (trie_levels shape - 1) 0 sorted n.item top in
+    let own = node_form h shape (trie_levels shape - 1) 0 sorted s.0 order texts s.1 in
+    let same : s.0 ≡ slots = same_node s.0 slots (whole_map shape.width (length s.0) shape.wide own.many) (is.indices ∙ sym own.many) (sym s.2 ∙ node) in
     let made = sym m.is ∙ x.is_map in
     record {
       key = key;
@@ -175,8 +174,8 @@ roots_are_entered = λ held h rows schema room le p t slots has root is.
       is = x.same;
       there = x.there;
       trie = ap is_some n.there;
-      root = record { order = order; left = trie_levels usual - 1; all = refl; node = s.1 ∙ ap Some same };
-      holds = known_holds h held (trie_levels usual) 0 sorted order texts kept.1;
+      root = record { order = order; left = trie_levels shape - 1; all = first; node = s.1 ∙ ap Some same };
+      holds = known_holds h shape held (trie_levels shape) 0 sorted order texts (subst (λ l. AreKnown h shape (HeldNode (block_at held)) l 0 sorted) (sub-zero (trie_levels shape)) kept.1);
       each = λ k.
           let pairs : pairs_list x.pairs ≡ entry_values x.entries x.values =
           ap pairs_list (same_pairs x.pairs (pairs_of (entry_values x.entries x.values)) (sym x.same ∙ x.is_map)) ∙ pairs_list-pairs_of (entry_values x.entries x.values) in

@@ -14,12 +14,12 @@ use Rattle.ild_data.specs.Data.{Data}
 use Rattle.ild_data.specs.Limits.{IsWithin}
 use Rattle.ild_data.specs.Spell.{spell}
 use Rattle.ild_data.specs.Trie.{TrieSlot, empty, bucket, all_some, at_depth, bucket_or, link_to, node_of, part, slot_of, slots_at}
+use Rattle.ild_data.specs.declared.hamt_shape.HamtShape.{HamtShape}
 use Rattle.ild_edges.specs.Store.{block_at}
 use Rattle.ild_node_slots.specs.Form.{AreTexts, IsNode}
 use Rattle.ild_hamt_trie.proofs.Node.{no_node, slots-node}
 use Rattle.ild_hamt_trie.proofs.Parts.{in_order-part}
 use Rattle.ild_hamt_trie.proofs.Slots.{all_some-length, some_cons}
-use Rattle.ild_typed.specs.Composed.{usual}
 use Rattle.ild_typed.specs.Known.{AreKnown, HeldNode}
 use Rattle.ild_typed.specs.Node.{IsSlot}
 use Rattle.ild_typed.proofs.Basics.{map_from}
@@ -29,55 +29,55 @@ use Rattle.ild_bulk_walker.specs.Trees.{HoldsBelow, IsHeldNode}
 
 -- ---- a node of entries whose keys are texts
 
-one_slot : (below : List (List ℕ × Data) → Option Data) (es : List (List ℕ × Data)) (z : TrieSlot) → IsInOrder es → AreTexts es → slot_of usual.bucket below es ≡ Some z → IsSlot usual z
-one_slot below [] z order texts e = subst (IsSlot usual) (same_Some empty z e) tt
-one_slot below (x ∷ es) z order texts e = by (nat_le (length (x ∷ es)) usual.bucket) refl e where
-  by : (b : Bool) → nat_le (length (x ∷ es)) usual.bucket ≡ b → bucket_or b below (x ∷ es) ≡ Some z → IsSlot usual z
-  by true is h = subst (IsSlot usual) (same_Some (bucket (x ∷ es)) z h) (order, omega arith, leb-true (length (x ∷ es)) usual.bucket is, texts)
+one_slot : (shape : HamtShape) (below : List (List ℕ × Data) → Option Data) (es : List (List ℕ × Data)) (z : TrieSlot) → IsInOrder es → AreTexts es → slot_of shape.bucket below es ≡ Some z → IsSlot shape z
+one_slot shape below [] z order texts e = subst (IsSlot shape) (same_Some empty z e) tt
+one_slot shape below (x ∷ es) z order texts e = by (nat_le (length (x ∷ es)) shape.bucket) refl e where
+  by : (b : Bool) → nat_le (length (x ∷ es)) shape.bucket ≡ b → bucket_or b below (x ∷ es) ≡ Some z → IsSlot shape z
+  by true is h = subst (IsSlot shape) (same_Some (bucket (x ∷ es)) z h) (order, omega arith, leb-true (length (x ∷ es)) shape.bucket is, texts)
   by false is h =
       let n = map_from link_to (below (x ∷ es)) z h in
-      subst (IsSlot usual) (same_Some (link_to n.item) z n.made) (length-sha256 (spell n.item), id_bytes (spell n.item))
+      subst (IsSlot shape) (same_Some (link_to n.item) z n.made) (length-sha256 (spell n.item), id_bytes (spell n.item))
 
-each_slot : (piece : ℕ → Option TrieSlot) → ((i : ℕ) (z : TrieSlot) → piece i ≡ Some z → IsSlot usual z) → (is : List ℕ) (slots : List TrieSlot) → all_some (map piece is) ≡ Some slots → AllByRecursion (IsSlot usual) slots
-each_slot piece each [] slots e = subst (AllByRecursion (IsSlot usual)) (same_Some [] slots e) tt
-each_slot piece each (i ∷ is) slots e = by (piece i) (each i) (each_slot piece each is) e where
-  by : (o : Option TrieSlot) → ((z : TrieSlot) → o ≡ Some z → IsSlot usual z) → ((zs : List TrieSlot) → all_some (map piece is) ≡ Some zs → AllByRecursion (IsSlot usual) zs)
-      → all_some (o ∷ map piece is) ≡ Some slots → AllByRecursion (IsSlot usual) slots
+each_slot : (shape : HamtShape) (piece : ℕ → Option TrieSlot) → ((i : ℕ) (z : TrieSlot) → piece i ≡ Some z → IsSlot shape z) → (is : List ℕ) (slots : List TrieSlot) → all_some (map piece is) ≡ Some slots → AllByRecursion (IsSlot shape) slots
+each_slot shape piece each [] slots e = subst (AllByRecursion (IsSlot shape)) (same_Some [] slots e) tt
+each_slot shape piece each (i ∷ is) slots e = by (piece i) (each i) (each_slot shape piece each is) e where
+  by : (o : Option TrieSlot) → ((z : TrieSlot) → o ≡ Some z → IsSlot shape z) → ((zs : List TrieSlot) → all_some (map piece is) ≡ Some zs → AllByRecursion (IsSlot shape) zs)
+      → all_some (o ∷ map piece is) ≡ Some slots → AllByRecursion (IsSlot shape) slots
   by None own later h = absurd (none-some slots h)
   by (Some z) own later h =
       let x = some_cons z (all_some (map piece is)) slots h in
-      subst (AllByRecursion (IsSlot usual)) (sym x.2) (own z refl, later x.0 x.1)
+      subst (AllByRecursion (IsSlot shape)) (sym x.2) (own z refl, later x.0 x.1)
 
-pub node_form : (h : List ℕ → List ℕ) (left depth : ℕ) (es : List (List ℕ × Data)) (slots : List TrieSlot) → IsInOrder es → AreTexts es → slots_at h usual left depth es ≡ Some slots → IsNode usual slots
-node_form h left depth es slots order texts is =
-    let at : List ℕ → ℕ = at_depth h usual depth in
-    let piece : ℕ → Option TrieSlot = λ i. slot_of usual.bucket (node_of h usual left (depth + 1)) (part at es i) in
+pub node_form : (h : List ℕ → List ℕ) (shape : HamtShape) (left depth : ℕ) (es : List (List ℕ × Data)) (slots : List TrieSlot) → IsInOrder es → AreTexts es → slots_at h shape left depth es ≡ Some slots → IsNode shape slots
+node_form h shape left depth es slots order texts is =
+    let at : List ℕ → ℕ = at_depth h shape depth in
+    let piece : ℕ → Option TrieSlot = λ i. slot_of shape.bucket (node_of h shape left (depth + 1)) (part at es i) in
     record {
-      many = all_some-length (map piece (range_with_len 0 (2 ^ usual.width))) slots is ∙ length-map-range_with_len piece 0 (2 ^ usual.width);
-      each = each_slot piece (λ i z made. one_slot (node_of h usual left (depth + 1)) (part at es i) z (in_order-part at es i order) (part_in (λ e. IsUtf8 e.0) (λ e. at e.0 == i) es texts) made) (range_with_len 0 (2 ^ usual.width)) slots is;
+      many = all_some-length (map piece (range_with_len 0 (2 ^ shape.width))) slots is ∙ length-map-range_with_len piece 0 (2 ^ shape.width);
+      each = each_slot shape piece (λ i z made. one_slot shape (node_of h shape left (depth + 1)) (part at es i) z (in_order-part at es i order) (part_in (λ e. IsUtf8 e.0) (λ e. at e.0 == i) es texts) made) (range_with_len 0 (2 ^ shape.width)) slots is;
     }
 
 -- ---- nodes that are known are held as blocks
 
-module _ (h : List ℕ → List ℕ) (held : List (List ℕ)) where
-  held_node : (left depth : ℕ) (es : List (List ℕ × Data)) (node : Data) → IsInOrder es → AreTexts es → node_of h usual left depth es ≡ Some node → HeldNode (block_at held) node → IsHeldNode usual held node
-  held_node zero depth es node order texts is known = absurd (none-some node (sym (no_node h usual depth es) ∙ is))
+module _ (h : List ℕ → List ℕ) (shape : HamtShape) (held : List (List ℕ)) where
+  held_node : (left depth : ℕ) (es : List (List ℕ × Data)) (node : Data) → IsInOrder es → AreTexts es → node_of h shape left depth es ≡ Some node → HeldNode (block_at held) node → IsHeldNode shape held node
+  held_node zero depth es node order texts is known = absurd (none-some node (sym (no_node h shape depth es) ∙ is))
   held_node (suc left) depth es node order texts is known =
-      let s = slots-node h usual left depth es node is in
+      let s = slots-node h shape left depth es node is in
       record {
         slots = s.0;
         is = s.2;
-        block = record { is = record { within = subst IsWithin s.2 known.within; spelled = ap spell s.2 }; form = node_form h left depth es s.0 order texts s.1 };
+        block = record { is = record { within = subst IsWithin s.2 known.within; spelled = ap spell s.2 }; form = node_form h shape left depth es s.0 order texts s.1 };
         here = known.there;
       }
 
-  pub known_holds : (left depth : ℕ) (es : List (List ℕ × Data)) → IsInOrder es → AreTexts es → AreKnown h usual (HeldNode (block_at held)) left depth es → HoldsBelow h usual held left depth es
+  pub known_holds : (left depth : ℕ) (es : List (List ℕ × Data)) → IsInOrder es → AreTexts es → AreKnown h shape (HeldNode (block_at held)) left depth es → HoldsBelow h shape held left depth es
   unfolding AreKnown
   known_holds zero depth es order texts known = tt
   known_holds (suc left) depth es order texts known = λ i node big has.
-      let fs : List (List ℕ × Data) = part (at_depth h usual depth) es i in
-      let o : IsInOrder fs = in_order-part (at_depth h usual depth) es i order in
-      let u : AreTexts fs = part_in (λ e. IsUtf8 e.0) (λ e. at_depth h usual depth e.0 == i) es texts in
+      let fs : List (List ℕ × Data) = part (at_depth h shape depth) es i in
+      let o : IsInOrder fs = in_order-part (at_depth h shape depth) es i order in
+      let u : AreTexts fs = part_in (λ e. IsUtf8 e.0) (λ e. at_depth h shape depth e.0 == i) es texts in
       let x = known i node big has in
       (held_node left (depth + 1) fs node o u has x.0, known_holds left (depth + 1) fs o u x.1)
 

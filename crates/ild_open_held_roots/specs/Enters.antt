@@ -8,6 +8,7 @@ use Rattle.ild_data.specs.Data.{Data}
 use Rattle.ild_data.specs.Key.{value_at}
 use Rattle.ild_data.specs.Trie.{TrieSlot, trie}
 use Rattle.ild_data.specs.TrieShape.{trie_levels}
+use Rattle.ild_data.specs.declared.hamt_shape.HamtShape.{HamtShape}
 use Rattle.ild_edges.specs.Store.{block_at}
 use Rattle.ild_schema.specs.declared.def.MapForm.TheVariants as MF
 use Rattle.ild_schema.specs.declared.def.TypeDef.TheVariants as D
@@ -17,7 +18,6 @@ use Rattle.ild_schema.specs.declared.row.Row.{Row}
 use Rattle.ild_schema.specs.Slots.{form_of}
 use Rattle.ild_schema.specs.Value.{Value, Pairs, map, pairs_list}
 use Rattle.ild_typed.specs.At.{InSlot}
-use Rattle.ild_typed.specs.Composed.{usual}
 use Rattle.ild_typed.specs.Hamt.{whole}
 use Rattle.ild_typed.specs.Represented.{represented_pairs}
 use Rattle.ild_open_held.specs.Held.{IsHeld}
@@ -30,17 +30,17 @@ DataOf held h rows room slot (Some d) (Some v) = IsHeld (block_at held) h rows r
 DataOf held h rows room slot None (Some v) = ⊥
 DataOf held h rows room slot (Some d) None = ⊥
 
-pub record IsEntered (held : List (List ℕ)) (h : List ℕ → List ℕ) (rows : List Row) (room : ℕ) (p : InSlot) (slots : List TrieSlot) : Type 0 where
+pub record IsEntered (held : List (List ℕ)) (h : List ℕ → List ℕ) (rows : List Row) (room : ℕ) (p : InSlot) (shape : HamtShape) (slots : List TrieSlot) : Type 0 where
   pub key : TypeNo
   pub key_at : ℕ
   pub value : Slot
   pub place : ℕ
   pub pairs : Pairs
   pub entries : List (List ℕ × Data)
-  pub form : form_of rows p.0 ≡ Some (D.Map key key_at value place MF.Hamt)
+  pub form : form_of rows p.0 ≡ Some (D.Map key key_at value place (MF.Hamt shape))
   pub is : p.1 ≡ map pairs
   pub there : represented_pairs (whole h) rows value pairs ≡ Some entries
-  pub trie : is_some (trie h usual entries 0) ≡ true
-  pub root : IsRootOf h usual (in_byte_order entries) slots
-  pub holds : HoldsBelow h usual held (trie_levels usual) 0 (in_byte_order entries)
+  pub trie : is_some (trie h shape entries 0) ≡ true
+  pub root : IsRootOf h shape (in_byte_order entries) slots
+  pub holds : HoldsBelow h shape held (trie_levels shape) 0 (in_byte_order entries)
   pub each : (k : List ℕ) → DataOf held h rows room value (find bytewise k (in_byte_order entries)) (value_at k (pairs_list pairs))

@@ -4,6 +4,7 @@ use Rattle.ild_cbor.specs.declared.why.BlockWhy.{BlockWhy}
 use Rattle.ild_cbor.specs.declared.why.BlockWhy.TheVariants as B
 use Rattle.ild_data.specs.Data.{Data}
 use Rattle.ild_data.specs.Trie.{TrieSlot}
+use Rattle.ild_data.specs.declared.hamt_shape.HamtShape.{HamtShape}
 use Rattle.ild_edges.specs.Count.{Rose}
 use Rattle.ild_edges.specs.Store.{Moment}
 use Rattle.ild_schema.specs.declared.def.TypeDef.{TypeDef}
@@ -24,19 +25,19 @@ rose_later a b c le rose = omega arith
 -- ---- from an earlier moment on
 
 module _ (h : List ℕ → List ℕ) (rows : List Row) (told : Option (List (List ℕ))) (earlier before now : ℕ) (le : earlier ≤ before) where
-  node_earlier : (root : List TrieSlot) (up id : List ℕ) (why : BlockWhy) → IsWrong h told root before now up id why → IsWrong h told root earlier now up id why
-  node_earlier root up id B.Missing w = (w.0, rose_later earlier before now le w.1)
-  node_earlier root up id (B.Cbor fault) w = w
-  node_earlier root up id (B.Shape cause) w = w
+  node_earlier : (p : HamtShape) (root : List TrieSlot) (up id : List ℕ) (why : BlockWhy) → IsWrong h p told root before now up id why → IsWrong h p told root earlier now up id why
+  node_earlier p root up id B.Missing w = (w.0, rose_later earlier before now le w.1)
+  node_earlier p root up id (B.Cbor fault) w = w
+  node_earlier p root up id (B.Shape cause) w = w
 
-  tree_earlier : (root : List TrieSlot) (at id : List ℕ) (why : BlockWhy) → IsWrongOnTree h told root at before now id why → IsWrongOnTree h told root at earlier now id why
-  tree_earlier root at id why w = record { up = w.up; on = w.on; wrong = node_earlier root w.up id why w.wrong }
+  tree_earlier : (p : HamtShape) (root : List TrieSlot) (at id : List ℕ) (why : BlockWhy) → IsWrongOnTree h p told root at before now id why → IsWrongOnTree h p told root at earlier now id why
+  tree_earlier p root at id why w = record { up = w.up; on = w.on; wrong = node_earlier p root w.up id why w.wrong }
 
   module _ (id : List ℕ) (why : BlockWhy) where
     site_earlier : (below more : Site → List ℕ → Data → Type 0) → ((z : Site) (b : List ℕ) (d : Data) → below z b d → more z b d) → (z : Site) (at : List ℕ)
-        → IsWrongOnTree h told z.slots at before now id why ⊎ IsWrongEntry rows told z id why ⊎ IsWrongBelow told z (below z)
-        → IsWrongOnTree h told z.slots at earlier now id why ⊎ IsWrongEntry rows told z id why ⊎ IsWrongBelow told z (more z)
-    site_earlier below more step z at (inl w) = inl (tree_earlier z.slots at id why w)
+        → IsWrongOnTree h z.shape told z.slots at before now id why ⊎ IsWrongEntry rows told z id why ⊎ IsWrongBelow told z (below z)
+        → IsWrongOnTree h z.shape told z.slots at earlier now id why ⊎ IsWrongEntry rows told z id why ⊎ IsWrongBelow told z (more z)
+    site_earlier below more step z at (inl w) = inl (tree_earlier z.shape z.slots at id why w)
     site_earlier below more step z at (inr (inl w)) = inr (inl w)
     site_earlier below more step z at (inr (inr w)) = inr (inr (record { block = w.block; key = w.key; value = w.value; entry = w.entry; wrong = step z w.block w.value w.wrong }))
 

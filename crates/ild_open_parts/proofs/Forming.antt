@@ -64,7 +64,7 @@ map_made : (form : MapForm) → is_hamt form ≡ false → (l : Layer Data) (t :
 map_made MF.Map plain l t e = let x = map_from map_data (as_map l) t e in record { entries = x.item; made = x.made }
 map_made MF.ListPairs plain l t e = let x = map_from listpairs (as_map l) t e in record { entries = x.item; made = x.made }
 map_made (MF.StringPairs i n) plain l t e = let x = then_from (stringpairs i n) (as_map l) t e in record { entries = x.item; made = x.made }
-map_made MF.Hamt plain l t e = absurd cc
+map_made (MF.Hamt p) plain l t e = absurd cc
 
 pub map_there : (rows : List Row) (room : ℕ) (s : Slot) (t : Data) (key : TypeNo) (key_at : ℕ) (value : Slot) (at : ℕ) (form : MapForm) → is_hamt form ≡ false
     → form_of rows s ≡ Some (D.Map key key_at value at form) → IsFronted rows room s t → MapThere form t

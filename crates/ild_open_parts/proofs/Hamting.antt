@@ -7,6 +7,7 @@ use Rattle.ild_data.specs.Data.{Data}
 use Rattle.ild_data.specs.Limits.{deepest}
 use Rattle.ild_data.specs.Tree.{IsTree}
 use Rattle.ild_data.specs.Trie.{TrieSlot}
+use Rattle.ild_data.specs.declared.hamt_shape.HamtShape.{HamtShape}
 use Rattle.ild_edges.specs.Store.{Moment, block_at}
 use Rattle.ild_node_slots.specs.Form.{AreTexts}
 use Rattle.ild_node_slots.specs.declared.fault.HamtFault.{HamtFault}
@@ -18,7 +19,6 @@ use Rattle.ild_schema.specs.declared.number.Slot.{Slot}
 use Rattle.ild_schema.specs.declared.number.TypeNo.{TypeNo}
 use Rattle.ild_schema.specs.declared.row.Row.{Row}
 use Rattle.ild_schema.specs.declared.val.Val.{Val}
-use Rattle.ild_typed.specs.Composed.{usual}
 use Rattle.ild_typed.specs.Node.{IsRoot}
 use Rattle.ild_typed.specs.Pieces.{is_null_there}
 use Rattle.ild_typed.specs.Schema.{IsSchema}
@@ -38,19 +38,19 @@ use Rattle.ild_open_parts.proofs.Wrongly.{rows_broken, tree_broken}
 
 -- ---- the rows
 
-module _ (h : List ℕ → List ℕ) (t : Data) (slots : List TrieSlot) (at : List ℕ) (m n : Moment) (tree : IsTree t) (root : IsRoot usual slots t) where
-  only_walks : (r : Result (Vec Listed) HamtFault) → Walks h slots at m r n → OnlyReads m n
+module _ (h : List ℕ → List ℕ) (p : HamtShape) (t : Data) (slots : List TrieSlot) (at : List ℕ) (m n : Moment) (tree : IsTree t) (root : IsRoot p slots t) where
+  only_walks : (r : Result (Vec Listed) HamtFault) → Walks h p slots at m r n → OnlyReads m n
   only_walks r w = record { later = w.reads.later; blocks = w.reads.blocks; given = w.reads.given; puts = w.reads.puts }
 
-  few_gets : (r : Result (Vec Listed) HamtFault) → Walks h slots at m r n → (s : Result (Vec Listed) OpenFault) → (held : List (List ℕ)) (fs : List (List ℕ × Data)) → m.blocks ≡ Some held → AreTexts fs
-      → IsRootOf (block_at held) h t fs → n.gets ≤ m.gets + length (beneath h fs)
-  few_gets r w s held fs told texts x = w.reads.gets held (length (beneath h fs)) told (entries_are_given h held t slots fs root texts x).nodes
+  few_gets : (r : Result (Vec Listed) HamtFault) → Walks h p slots at m r n → (s : Result (Vec Listed) OpenFault) → (held : List (List ℕ)) (fs : List (List ℕ × Data)) → m.blocks ≡ Some held → AreTexts fs
+      → IsRootOf (block_at held) h p t fs → n.gets ≤ m.gets + length (beneath h p fs)
+  few_gets r w s held fs told texts x = w.reads.gets held (length (beneath h p fs)) told (entries_are_given h p held t slots fs root texts x).nodes
 
-  pub rows_listed : (rows : Vec Listed) → Walks h slots at m (Ok rows) n → ListsRows h at t m (Ok rows) n
-  rows_listed rows w = record { answer = ((slots, tree, root, w.stand), λ held told. rows_are_entries h held t slots rows.items root tree (w.answer held told)); only = only_walks (Ok rows) w; gets = few_gets (Ok rows) w (Ok rows) }
+  pub rows_listed : (rows : Vec Listed) → Walks h p slots at m (Ok rows) n → ListsRows h p at t m (Ok rows) n
+  rows_listed rows w = record { answer = ((slots, tree, root, w.stand), λ held told. rows_are_entries h p held t slots rows.items root tree (w.answer held told)); only = only_walks (Ok rows) w; gets = few_gets (Ok rows) w (Ok rows) }
 
-  walk_stops : (e : HamtFault) → StopsWith h slots m e n → IsBroken h m.blocks slots at m.lacks n.lacks e → Stops (NoRoot h t m) (BrokenTree h at t m n) m (told_fault e) n
-  walk_stops (H.Block id why) w broken = (λ held fs told texts x. let g = entries_are_given h held t slots fs root texts x in w.1 held g.entries told g.gives, (slots, root, broken))
+  walk_stops : (e : HamtFault) → StopsWith h p slots m e n → IsBroken h p m.blocks slots at m.lacks n.lacks e → Stops (NoRoot h p t m) (BrokenTree h p at t m n) m (told_fault e) n
+  walk_stops (H.Block id why) w broken = (λ held fs told texts x. let g = entries_are_given h p held t slots fs root texts x in w.1 held g.entries told g.gives, (slots, root, broken))
   walk_stops H.Store w broken = w
   walk_stops H.Memory w broken = tt
   walk_stops H.Exhausted w broken = tt
@@ -58,11 +58,11 @@ module _ (h : List ℕ → List ℕ) (t : Data) (slots : List TrieSlot) (at : Li
   walk_stops H.Size w broken = tt
   walk_stops H.NoKey w broken = tt
 
-  pub rows_stop : (e : HamtFault) → Walks h slots at m (Err e) n → ListsRows h at t m (Err (told_fault e)) n
+  pub rows_stop : (e : HamtFault) → Walks h p slots at m (Err e) n → ListsRows h p at t m (Err (told_fault e)) n
   rows_stop e w = record { answer = walk_stops e w.answer w.broken; only = only_walks (Err e) w; gets = few_gets (Err e) w (Err (told_fault e)) }
 
-pub rows_want : (h : List ℕ → List ℕ) (at : List ℕ) (t : Data) (m : Moment) → ListsRows h at t m (Err F.Memory) m
-rows_want h at t m = record { answer = tt; only = only_refl m; gets = λ held fs told texts x. omega arith }
+pub rows_want : (h : List ℕ → List ℕ) (p : HamtShape) (at : List ℕ) (t : Data) (m : Moment) → ListsRows h p at t m (Err F.Memory) m
+rows_want h p at t m = record { answer = tt; only = only_refl m; gets = λ held fs told texts x. omega arith }
 
 -- ---- the whole
 
@@ -70,23 +70,23 @@ key_texts : (rows : List Row) (room : ℕ) (key : TypeNo) (es : List (List ℕ �
 key_texts rows room key [] all = tt
 key_texts rows room key (e ∷ es) all = (all.0.0, key_texts rows room key es all.1)
 
-module _ (h : List ℕ → List ℕ) (at : List ℕ) (rows : List Row) (schema : IsSchema rows) (room less : ℕ) (keep : Bool) (s : Slot) (t : Data) (key : TypeNo) (key_at : ℕ) (u : Slot) (place : ℕ)
-    (some : is_null_there s t ≡ false) (is : form_of rows s ≡ Some (D.Map key key_at u place MF.Hamt)) (left : room ≡ less + 5) (le : room ≤ deepest) where
+module _ (h : List ℕ → List ℕ) (p : HamtShape) (at : List ℕ) (rows : List Row) (schema : IsSchema rows) (room less : ℕ) (keep : Bool) (s : Slot) (t : Data) (key : TypeNo) (key_at : ℕ) (u : Slot) (place : ℕ)
+    (some : is_null_there s t ≡ false) (is : form_of rows s ≡ Some (D.Map key key_at u place (MF.Hamt p))) (left : room ≡ less + 5) (le : room ≤ deepest) where
   abbrev Split : List (List ℕ) → Type 0
-  Split held = HamtSplits (block_at held) h rows room less s t key u
+  Split held = HamtSplits (block_at held) h p rows room less s t key u
 
   split : (held : List (List ℕ)) → Split held
-  split held = hamts_split (block_at held) h rows schema room less le s t some key key_at u place is left
+  split held = hamts_split (block_at held) h rows schema room less le s t some p key key_at u place is left
 
   -- the root gives no rows
-  pub hamt_stops : (m n : Moment) (e : OpenFault) → ListsRows h at t m (Err e) n → Reads h at rows room (s, t) keep m (Err e) n
+  pub hamt_stops : (m n : Moment) (e : OpenFault) → ListsRows h p at t m (Err e) n → Reads h at rows room (s, t) keep m (Err e) n
   hamt_stops m n e x = record {
-    answer = stops_later (NoRoot h t m) (NoValue h rows room (s, t) m) (BrokenTree h at t m n) (BrokenPart h at rows room (s, t) m n) m m n e (only_refl m)
+    answer = stops_later (NoRoot h p t m) (NoValue h rows room (s, t) m) (BrokenTree h p at t m n) (BrokenPart h at rows room (s, t) m n) m m n e (only_refl m)
         (λ none held v told has.
         let y = (split held).entries v has in
         let b = (split held).back y.0 v y.1 has in
         none held y.0 told (key_texts rows less key y.0 b.keys) y.1)
-        (λ id why broken. tree_broken h at rows room less s t key key_at u place is left m n id why broken) x.answer;
+        (λ id why broken. tree_broken h p at rows room less s t key key_at u place is left m n id why broken) x.answer;
     only = x.only;
     gets = λ held v told has.
         let y = (split held).entries v has in
@@ -96,7 +96,7 @@ module _ (h : List ℕ → List ℕ) (at : List ℕ) (rows : List Row) (schema :
         omega (arith, g, e);
   }
 
-  module _ (listed : Vec Listed) (m k n : Moment) (x : ListsRows h at t m (Ok listed) k) where
+  module _ (listed : Vec Listed) (m k n : Moment) (x : ListsRows h p at t m (Ok listed) k) where
     hamt_answer : (r : Result Val OpenFault) → EntriesAnswer h rows less keep key u listed.items k r n → ReadAnswer h at rows room (s, t) keep m r n
     hamt_answer (Ok val) y = λ held told.
         let a = x.answer.1 held told in
@@ -108,7 +108,7 @@ module _ (h : List ℕ → List ℕ) (at : List ℕ) (rows : List Row) (schema :
         let a = x.answer.1 held told in
         let b = (split held).back a.entries v a.root has in
         none a.entries (record { made = a.made; trees = a.trees }) b.keys held b.values (x.only.blocks ∙ told) b.held)
-        (λ id why broken. rows_broken h at rows room less s t key key_at u place is left keep listed.items m k n id why x.only x.answer.0 broken) y
+        (λ id why broken. rows_broken h p at rows room less s t key key_at u place is left keep listed.items m k n id why x.only x.answer.0 broken) y
 
     -- the rows were read, and what they spell
     pub hamt_read : (r : Result Val OpenFault) → ReadsRows h rows less keep key u listed.items k r n → Reads h at rows room (s, t) keep m r n

@@ -45,7 +45,7 @@ pub record IsWrongAt (h : List ℕ → List ℕ) (rows : List Row) (told : Optio
   pub site : Site
   pub has : HasSite rows steps room s t site
   pub here : site.block ≡ at
-  pub wrong : IsWrongOnTree h told site.slots at before now id why ⊎ IsWrongEntry rows told site id why ⊎ IsWrongBelow told site (below site)
+  pub wrong : IsWrongOnTree h site.shape told site.slots at before now id why ⊎ IsWrongEntry rows told site id why ⊎ IsWrongBelow told site (below site)
 
 -- in data of a slot, which stand in the block `at`: the block of this id is refused for this cause, so many HAMTs deep at most
 abbrev pub IsWrongIn : ℕ → (List ℕ → List ℕ) → List Row → Option (List (List ℕ)) → ℕ → ℕ → List ℕ → ℕ → Slot → Data → List ℕ → BlockWhy → Type 0

@@ -14,6 +14,7 @@ use Rattle.ild_data.specs.Limits.{deepest}
 use Rattle.ild_data.specs.Tree.{IsTree}
 use Rattle.ild_data.specs.Trie.{TrieSlot}
 use Rattle.ild_data.specs.declared.id.BlockId.{BlockId}
+use Rattle.ild_data.specs.declared.hamt_shape.HamtShape.{HamtShape}
 use Rattle.ild_edges.specs.Store.{Moment, block_at}
 use Rattle.ild_node_slots.specs.Form.{AreTexts}
 use Rattle.ild_node_slots.specs.declared.fault.HamtFault.{HamtFault}
@@ -30,7 +31,6 @@ use Rattle.ild_schema.specs.declared.number.Slot.{Slot}
 use Rattle.ild_schema.specs.declared.number.TypeNo.{TypeNo}
 use Rattle.ild_schema.specs.declared.row.Row.{Row}
 use Rattle.ild_schema.specs.declared.val.Val.{Val}
-use Rattle.ild_typed.specs.Composed.{usual}
 use Rattle.ild_typed.specs.Node.{IsRoot}
 use Rattle.ild_bulk_walker.specs.Checked.{row_pair, spelled_pair}
 use Rattle.ild_bulk_walker.specs.Standing.{IsWrongOnTree, StandsThere}
@@ -55,29 +55,29 @@ told_fault H.Store = F.Store
 told_fault e = F.Memory
 
 -- the root splits into no entries that are held
-abbrev pub NoRoot : (List ℕ → List ℕ) → Data → Moment → Type 0
-NoRoot h t m = (held : List (List ℕ)) (fs : List (List ℕ × Data)) → m.blocks ≡ Some held → AreTexts fs → IsRootOf (block_at held) h t fs → ⊥
+abbrev pub NoRoot : (List ℕ → List ℕ) → HamtShape → Data → Moment → Type 0
+NoRoot h p t m = (held : List (List ℕ)) (fs : List (List ℕ × Data)) → m.blocks ≡ Some held → AreTexts fs → IsRootOf (block_at held) h p t fs → ⊥
 
 -- the data are a tree, the root in the block `at`, and each row stands in its block
-abbrev pub RowsStand : List ℕ → Data → Moment → List Listed → Type 0
-RowsStand at t m rows = (slots : List TrieSlot) × IsTree t × IsRoot usual slots t × All (StandsThere m.blocks slots at) rows
+abbrev pub RowsStand : HamtShape → List ℕ → Data → Moment → List Listed → Type 0
+RowsStand p at t m rows = (slots : List TrieSlot) × IsTree t × IsRoot p slots t × All (StandsThere p m.blocks slots at) rows
 
 -- they are one, and something is wrong with a block on its tree
-abbrev pub BrokenTree : (List ℕ → List ℕ) → List ℕ → Data → Moment → Moment → List ℕ → BlockWhy → Type 0
-BrokenTree h at t m n id why = (slots : List TrieSlot) × IsRoot usual slots t × IsWrongOnTree h m.blocks slots at m.lacks n.lacks id why
+abbrev pub BrokenTree : (List ℕ → List ℕ) → HamtShape → List ℕ → Data → Moment → Moment → List ℕ → BlockWhy → Type 0
+BrokenTree h p at t m n id why = (slots : List TrieSlot) × IsRoot p slots t × IsWrongOnTree h p m.blocks slots at m.lacks n.lacks id why
 
-abbrev pub RowsAnswer : (List ℕ → List ℕ) → List ℕ → Data → Moment → Result (Vec Listed) OpenFault → Moment → Type 0
-RowsAnswer h at t m (Ok rows) n = RowsStand at t m rows.items × ((held : List (List ℕ)) → m.blocks ≡ Some held → AreRows h held t rows.items)
-RowsAnswer h at t m (Err e) n = Stops (NoRoot h t m) (BrokenTree h at t m n) m e n
+abbrev pub RowsAnswer : (List ℕ → List ℕ) → HamtShape → List ℕ → Data → Moment → Result (Vec Listed) OpenFault → Moment → Type 0
+RowsAnswer h p at t m (Ok rows) n = RowsStand p at t m rows.items × ((held : List (List ℕ)) → m.blocks ≡ Some held → AreRows h p held t rows.items)
+RowsAnswer h p at t m (Err e) n = Stops (NoRoot h p t m) (BrokenTree h p at t m n) m e n
 
 -- the rows of the HAMT whose root these data are
-pub record ListsRows (h : List ℕ → List ℕ) (at : List ℕ) (t : Data) (m : Moment) (result : Result (Vec Listed) OpenFault) (n : Moment) : Type 0 where
-  pub answer : RowsAnswer h at t m result n
+pub record ListsRows (h : List ℕ → List ℕ) (p : HamtShape) (at : List ℕ) (t : Data) (m : Moment) (result : Result (Vec Listed) OpenFault) (n : Moment) : Type 0 where
+  pub answer : RowsAnswer h p at t m result n
   pub only : OnlyReads m n
-  pub gets : (held : List (List ℕ)) (fs : List (List ℕ × Data)) → m.blocks ≡ Some held → AreTexts fs → IsRootOf (block_at held) h t fs → n.gets ≤ m.gets + length (beneath h fs)
+  pub gets : (held : List (List ℕ)) (fs : List (List ℕ × Data)) → m.blocks ≡ Some held → AreTexts fs → IsRootOf (block_at held) h p t fs → n.gets ≤ m.gets + length (beneath h p fs)
 
-abbrev pub ListsRoot : (List ℕ → List ℕ) → List ℕ → Piece → Moment → Result (Vec Listed) OpenFault → Moment → Type 0
-ListsRoot h at piece m r n = (rows : List Row) (t : Data) → StandsFor rows piece t → ListsRows h at t m r n
+abbrev pub ListsRoot : (List ℕ → List ℕ) → HamtShape → List ℕ → Piece → Moment → Result (Vec Listed) OpenFault → Moment → Type 0
+ListsRoot h p at piece m r n = (rows : List Row) (t : Data) → StandsFor rows piece t → ListsRows h p at t m r n
 
 -- ---- one row
 
@@ -156,7 +156,7 @@ ReadsListed h rows room keep key u listed m r n = IsSafe rows u → ReadsRows h 
 -- ---- the whole
 
 -- the value of a slot whose data are the root of a HAMT
-abbrev pub ReadsHamt : (List ℕ → List ℕ) → List ℕ → List Row → ℕ → Bool → TypeNo → Slot → Piece → Moment → Result Val OpenFault → Moment → Type 0
-ReadsHamt h at rows room keep key value piece m r n =
-    (s : Slot) (t : Data) (key_at place whole : ℕ) → StandsFor rows piece t → form_of rows s ≡ Some (D.Map key key_at value place MF.Hamt) → whole ≡ room + 5 → whole ≤ deepest
+abbrev pub ReadsHamt : (List ℕ → List ℕ) → HamtShape → List ℕ → List Row → ℕ → Bool → TypeNo → Slot → Piece → Moment → Result Val OpenFault → Moment → Type 0
+ReadsHamt h p at rows room keep key value piece m r n =
+    (s : Slot) (t : Data) (key_at place whole : ℕ) → StandsFor rows piece t → form_of rows s ≡ Some (D.Map key key_at value place (MF.Hamt p)) → whole ≡ room + 5 → whole ≤ deepest
     → IsFronted rows whole s t → Reads h at rows whole (s, t) keep m r n

@@ -3,6 +3,7 @@
 use Rattle.std.specs.Prelude.{◌≡◌, ℕ, zero, suc, ◌+◌, ◌-◌, List, Option, Some, Contains, slice_get}
 use Rattle.ild_data.specs.Data.{Data}
 use Rattle.ild_data.specs.Trie.{TrieSlot, bucket}
+use Rattle.ild_data.specs.declared.hamt_shape.HamtShape.{HamtShape}
 use Rattle.ild_schema.specs.declared.def.Field.{Field}
 use Rattle.ild_schema.specs.declared.def.Member.{Member}
 use Rattle.ild_schema.specs.declared.def.TypeDef.{TypeDef}
@@ -12,7 +13,7 @@ use Rattle.ild_schema.specs.declared.number.Slot.{Slot}
 use Rattle.ild_schema.specs.declared.number.TypeNo.{TypeNo}
 use Rattle.ild_schema.specs.declared.row.Row.{Row}
 use Rattle.ild_schema.specs.Slots.{form_of}
-use Rattle.ild_typed.specs.Composed.{usual, composed}
+use Rattle.ild_typed.specs.Composed.{composed}
 use Rattle.ild_typed.specs.Hamt.{alone}
 use Rattle.ild_typed.specs.Layer.{Layer, list, map, struct, union}
 use Rattle.ild_typed.specs.Node.{IsRoot}
@@ -39,6 +40,7 @@ pub record IsPartOf (d : TypeDef) (t : Data) (s : Slot) (x : Data) : Type 0 wher
 -- that is left for these
 pub record Site : Type 0 where
   pub block : List ℕ
+  pub shape : HamtShape
   pub slots : List TrieSlot
   pub key : TypeNo
   pub value : Slot
@@ -48,8 +50,8 @@ pub record Site : Type 0 where
 pub record IsSite (rows : List Row) (room : ℕ) (s : Slot) (t : Data) (z : Site) : Type 0 where
   pub key_at : ℕ
   pub at : ℕ
-  pub form : form_of rows s ≡ Some (D.Map z.key key_at z.value at MF.Hamt)
-  pub root : IsRoot usual z.slots t
+  pub form : form_of rows s ≡ Some (D.Map z.key key_at z.value at (MF.Hamt z.shape))
+  pub root : IsRoot z.shape z.slots t
   pub left : room ≡ z.room + 5
 
 pub record StepsTo (rows : List Row) (room : ℕ) (s : Slot) (t : Data) (later : ℕ → Slot → Data → Type 0) : Type 0 where
@@ -68,9 +70,9 @@ HasSite rows (suc steps) room s t z = StepsTo rows room s t (λ r u x. HasSite r
 -- an entry in a bucket of a node on its tree, which is the block of this id
 pub record HasEntry (told : Option (List (List ℕ))) (z : Site) (id : List ℕ) (key : List ℕ) (value : Data) : Type 0 where
   pub up : List ℕ
-  pub on : IsOnTree told z.slots z.block up id
+  pub on : IsOnTree z.shape told z.slots z.block up id
   pub slots : List TrieSlot
-  pub node : HasNode told z.slots up id slots
+  pub node : HasNode z.shape told z.slots up id slots
   pub index : ℕ
   pub entries : List (List ℕ × Data)
   pub stands : slice_get slots index ≡ Some (bucket entries)

@@ -5,7 +5,7 @@ ghost use Rattle.ild_open_parts.specs.Hamts.{ListsRoot, RowAnswer, part_fault, t
 use crate::fault::OpenFault;
 use ild_bulk_walker::{Row, walk};
 use ild_cbor::{BlockWhy, Node, Piece, check};
-use ild_data::{BlockId, KeyHash};
+use ild_data::{BlockId, HamtShape, KeyHash};
 use ild_edges::Store;
 use ild_node_slots::{HamtFault, root_of};
 use ild_schema::{Accepted, Slot, TypeNo};
@@ -30,17 +30,18 @@ fn walk_fault(fault: &HamtFault) -> OpenFault
 /// The entries of a HAMT whose root a piece is, in the order of their keys; its nodes are read from a store.
 pub fn hamt_rows<'b, K: Store, H: KeyHash>(
     alloc: Global,
+    shape: HamtShape,
     piece: &Piece<'b>,
     at: BlockId,
     keys: &H,
     store: &mut K,
 ) -> Result<Vec<Row>, OpenFault>
-    ensures { ListsRoot H.hash_of at.0 piece.now (K.moment store.old) result (K.moment store.new) }
+    ensures { ListsRoot H.hash_of shape at.0 piece.now (K.moment store.old) result (K.moment store.new) }
 {
     let Piece::Node(node) = piece else {
         return Err(OpenFault::Memory);
     };
-    let root = match root_of(*node) {
+    let root = match root_of(*node, shape) {
         Ok(root) => root,
         Err(_) => return Err(OpenFault::Memory),
     };

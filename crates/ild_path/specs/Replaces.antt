@@ -1,6 +1,7 @@
 -- What an edit at a place answers, and what it leaves in a store.
 use Rattle.std.specs.Prelude.{◌≡◌, ◌≢◌, ℕ, ◌+◌, ◌≤◌, ◌<◌, Bool, IfErr, IfOk, List, ◌∷◌, length, Some, Result, Ok, Err, Contains}
 use Rattle.std.specs.List.{AllByRecursion}
+use Rattle.ild_edges.specs.Gained.{AreIdsGiven}
 use Rattle.ild_cbor.specs.Nodes.{Stands as StandsFor}
 use Rattle.ild_cbor.specs.declared.node.Node.{Node}
 use Rattle.ild_data.specs.Data.{Data}
@@ -11,7 +12,6 @@ use Rattle.ild_edges.specs.Store.{Moment, Later, block_at}
 use Rattle.ild_edges.specs.Told.{IfTold}
 use Rattle.ild_open_held.specs.Held.{IsHeld}
 use Rattle.ild_path_edits.specs.Edit.{Edit, change, del_at, ins_at, new_slot, set_at}
-use Rattle.ild_hamt.specs.Given.{AreIdsGiven}
 use Rattle.ild_path_way.specs.Way.{nodes_met}
 use Rattle.ild_path_place.specs.Places.{IsPlace}
 use Rattle.ild_path_place.specs.Rooted.{IsRootedAt}

@@ -25,7 +25,7 @@ use Rattle.ild_schema.specs.declared.row.Row.{Row}
 use Rattle.ild_typed.proofs.Basics.{if_from, map_from, then_from}
 use Rattle.ild_typed.proofs.Entries.{both_from}
 use Rattle.ild_typed.proofs.Flat.{FlatFields, FlatPairs, IsFlat, fields_same, flat_text, pairs_same}
-use Rattle.ild_typed.specs.Composed.{usual}
+use Rattle.ild_data.specs.declared.hamt_shape.HamtShape.{HamtShape}
 use Rattle.ild_typed.specs.EachLayer.{some_field, some_layer, some_pair, some_value}
 use Rattle.ild_typed.specs.Fields.{all_items, entries_of, field_entries, is_implicit, is_scalar}
 use Rattle.ild_typed.specs.Hamt.{a_map, alone, root_map, whole}
@@ -95,15 +95,15 @@ flat_items (f ∷ fs) (None ∷ os) ds ts e k = absurd (none-some ds e)
 is_flat : (d t : Data) → ◌≡◌ {A = Option Data} (Some d) (Some t) → IsFlat t → IsFlat d
 is_flat d t e flat = subst IsFlat (sym (same_Some d t e)) flat
 
-whole_never : (h : List ℕ → List ℕ) (l : Layer Data) (t : Data) → whole h usual l ≡ Some t → IsFlat t → ⊥
-whole_never h l t e flat = let x = map_from (root_map usual) (option_and_then (λ es. trie h usual es 0) (as_map l)) t e in is_flat (root_map usual x.item) t x.made flat
+whole_never : (h : List ℕ → List ℕ) (p : HamtShape) (l : Layer Data) (t : Data) → whole h p l ≡ Some t → IsFlat t → ⊥
+whole_never h p l t e flat = let x = map_from (root_map p) (option_and_then (λ es. trie h p es 0) (as_map l)) t e in is_flat (root_map p x.item) t x.made flat
 
 map_never : (d t : Data) → a_map d ≡ Some t → IsFlat t → ⊥
 map_never (T.map ms) t e flat = is_flat (T.map ms) t e flat
 map_never d t e flat = none-some t e
 
-alone_never : (l : Layer Data) (t : Data) → alone usual l ≡ Some t → IsFlat t → ⊥
-alone_never l t e flat = let x = then_from a_map (as_hamt l) t e in map_never x.item t x.made flat
+alone_never : (p : HamtShape) (l : Layer Data) (t : Data) → alone p l ≡ Some t → IsFlat t → ⊥
+alone_never p l t e flat = let x = then_from a_map (as_hamt l) t e in map_never x.item t x.made flat
 
 -- ---- one layer, of two lists of data that are the same where they are texts
 
@@ -147,7 +147,7 @@ map_alike MF.Map F G there back = refl
 map_alike MF.ListPairs F G there back = refl
 map_alike (MF.StringPairs inner entry) F G there back =
     ap (is_refused (join_pairs inner entry)) (same_option (option_and_then text_pairs F) (option_and_then text_pairs G) (pairs_alike F G there) (pairs_alike G F back))
-map_alike MF.Hamt F G there back = refl
+map_alike (MF.Hamt p) F G there back = refl
 
 in_each : {X : Type 0} (f g : Slot → X → Bool) (t : Slot → X → X) (o : Option Slot) (x : X) → ((u : Slot) → g u x ≡ false → f u (t u x) ≡ f u x) → option_map_or (λ u. g u x) o false ≡ false
     → option_map_or (λ u. f u (option_map_or (λ u. t u x) o x)) o false ≡ option_map_or (λ u. f u x) o false
@@ -202,7 +202,7 @@ module _ (h : List ℕ → List ℕ) (rows : List Row) where
   -- a HAMT shows nothing
   hamt_layer : (F : Option TypeDef) (ps : Pairs) → is_hamt F ≡ true → breaks_inside rows F (V.map ps) ≡ false → (breaks rows F (V.map ps) || option_map_or (λ u. some_pair (breaks rows) rows u ps) (element_of F) false) ≡ false
   hamt_layer None ps root free = absurd cc
-  hamt_layer (Some (D.Map k k_at elem at MF.Hamt)) ps root free = free
+  hamt_layer (Some (D.Map k k_at elem at (MF.Hamt p))) ps root free = free
   hamt_layer (Some (D.Map k k_at elem at MF.Map)) ps root free = absurd cc
   hamt_layer (Some (D.Map k k_at elem at MF.ListPairs)) ps root free = absurd cc
   hamt_layer (Some (D.Map k k_at elem at (MF.StringPairs i j))) ps root free = absurd cc
@@ -274,8 +274,8 @@ module _ (h : List ℕ → List ℕ) (rows : List Row) where
 module _ (rows : List Row) where
   no_hamt : (F : Option TypeDef) (v : Value) → ((ps : Pairs) → v ≡ V.map ps → ⊥) → breaks_inside rows F v ≡ false
   no_hamt None v other = refl
-  no_hamt (Some (D.Map k k_at elem at MF.Hamt)) (V.map ps) other = absurd (other ps refl)
-  no_hamt (Some (D.Map k k_at elem at MF.Hamt)) v other = refl
+  no_hamt (Some (D.Map k k_at elem at (MF.Hamt p))) (V.map ps) other = absurd (other ps refl)
+  no_hamt (Some (D.Map k k_at elem at (MF.Hamt p))) v other = refl
   no_hamt (Some (D.Map k k_at elem at MF.Map)) v other = refl
   no_hamt (Some (D.Map k k_at elem at MF.ListPairs)) v other = refl
   no_hamt (Some (D.Map k k_at elem at (MF.StringPairs i j))) v other = refl
@@ -283,7 +283,7 @@ module _ (rows : List Row) where
 
   of_map : (F : Option TypeDef) (ps : Pairs) → option_map_or (λ u. some_pair (breaks rows) rows u ps) (element_of F) false ≡ false → breaks_inside rows F (V.map ps) ≡ false
   of_map None ps free = refl
-  of_map (Some (D.Map k k_at elem at MF.Hamt)) ps free = free
+  of_map (Some (D.Map k k_at elem at (MF.Hamt p))) ps free = free
   of_map (Some (D.Map k k_at elem at MF.Map)) ps free = refl
   of_map (Some (D.Map k k_at elem at MF.ListPairs)) ps free = refl
   of_map (Some (D.Map k k_at elem at (MF.StringPairs i j))) ps free = refl

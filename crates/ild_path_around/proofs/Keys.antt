@@ -74,7 +74,7 @@ module _ (test : Option TypeDef → Value → Bool) (rows : List Row) where
 
 -- the parts of a HAMT are its entries
 hamt_breaks : (rows : List Row) (slot elem : Slot) (is : IsHamt rows slot elem) (qs : Pairs) → breaks_delimiter rows slot (V.map qs) ≡ some_pair (breaks rows) rows elem qs
-hamt_breaks rows slot elem is qs = ap (λ F. breaks rows F (V.map qs) || option_map_or (λ u. some_pair (breaks rows) rows u qs) (element_of F) false) is.3
+hamt_breaks rows slot elem is qs = ap (λ F. breaks rows F (V.map qs) || option_map_or (λ u. some_pair (breaks rows) rows u qs) (element_of F) false) is.4
 
 without_free : (rows : List Row) (slot elem : Slot) (is : IsHamt rows slot elem) (ps : Pairs) (k : List ℕ) → breaks_delimiter rows slot (V.map ps) ≡ false → breaks_delimiter rows slot (without_entry k ps) ≡ false
 without_free rows slot elem is ps k free =

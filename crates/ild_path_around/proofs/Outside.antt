@@ -58,17 +58,17 @@ bool_same false false f g = refl
 -- ---- a HAMT of entries has no data by itself
 
 module _ (rows : List Row) (slot elem : Slot) (ps : Pairs) (is : IsHamt rows slot elem) where
-  no_layer : (d : TypeDef) (l : Layer Data) (t : Data) → D.Map is.0 is.1 elem is.2 MF.Hamt ≡ d → option_map L.map (pairs_data alone rows (element_of (Some d)) ps) ≡ Some l → composed alone d l ≡ Some t → ⊥
+  no_layer : (d : TypeDef) (l : Layer Data) (t : Data) → D.Map is.0 is.1 elem is.2 (MF.Hamt is.3) ≡ d → option_map L.map (pairs_data alone rows (element_of (Some d)) ps) ≡ Some l → composed alone d l ≡ Some t → ⊥
   no_layer d l t e there made =
       let x = map_from L.map (pairs_data alone rows (element_of (Some d)) ps) l there in
-      let y : composed alone (D.Map is.0 is.1 elem is.2 MF.Hamt) (L.map x.item) ≡ Some t = ap (λ d. composed alone d (L.map x.item)) e ∙ ap (composed alone d) (same_Some (L.map x.item) l x.made) ∙ made in
+      let y : composed alone (D.Map is.0 is.1 elem is.2 (MF.Hamt is.3)) (L.map x.item) ≡ Some t = ap (λ d. composed alone d (L.map x.item)) e ∙ ap (composed alone d) (same_Some (L.map x.item) l x.made) ∙ made in
       none-some t y
 
   pub hamt_alone : (t : Data) → represented alone rows slot (V.map ps) ≡ Some t → ⊥
   hamt_alone t e = by (way_of alone rows slot (V.map ps) t e) where
     by : Way alone rows slot (V.map ps) t → ⊥
     by (as_null v_null nullable is_null) = absurd cc
-    by (as_layer d l known there made) = no_layer d l t (same_Some (D.Map is.0 is.1 elem is.2 MF.Hamt) d (sym is.3 ∙ known)) there made
+    by (as_layer d l known there made) = no_layer d l t (same_Some (D.Map is.0 is.1 elem is.2 (MF.Hamt is.3)) d (sym is.4 ∙ known)) there made
 
 -- a HAMT has no delimiter rule
 module _ (rows : List Row) where
@@ -83,15 +83,15 @@ module _ (rows : List Row) where
 
   form_quiet : (F : Option TypeDef) → is_hamt F ≡ true → (v : Value) → breaks rows F v ≡ false
   form_quiet None e v = absurd cc
-  form_quiet (Some (D.Map k k_at elem at MF.Hamt)) e (V.map ps) = refl
-  form_quiet (Some (D.Map k k_at elem at MF.Hamt)) e v = refl
+  form_quiet (Some (D.Map k k_at elem at (MF.Hamt p))) e (V.map ps) = refl
+  form_quiet (Some (D.Map k k_at elem at (MF.Hamt p))) e v = refl
   form_quiet (Some (D.Map k k_at elem at MF.Map)) e v = absurd cc
   form_quiet (Some (D.Map k k_at elem at MF.ListPairs)) e v = absurd cc
   form_quiet (Some (D.Map k k_at elem at (MF.StringPairs i j))) e v = absurd cc
   form_quiet (Some d) e v = absurd cc
 
   pub hamt_passes : (slot elem : Slot) → IsHamt rows slot elem → (k : Holder) → Passes (breaks rows) rows slot k
-  hamt_passes slot elem is k = passes_by slot (form_quiet (form_of rows slot) (ap is_hamt is.3)) k
+  hamt_passes slot elem is k = passes_by slot (form_quiet (form_of rows slot) (ap is_hamt is.4)) k
 
   no_parts : {A : Type 0} (q : InSlot) (s : List ℕ) (v : Value) → part (nothing v) s ≡ Some q → A
   no_parts q s v e = absurd (none-some q e)

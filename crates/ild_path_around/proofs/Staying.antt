@@ -39,8 +39,8 @@ module _ (rows : List Row) where
 
   plain_free : (F : Option TypeDef) (v : Value) → stands_as_root F v ≡ false → breaks_inside rows F v ≡ false
   plain_free None v e = refl
-  plain_free (Some (D.Map k k_at elem at MF.Hamt)) (V.map ps) e = let wrong : true ≡ false = e in absurd cc
-  plain_free (Some (D.Map k k_at elem at MF.Hamt)) v e = refl
+  plain_free (Some (D.Map k k_at elem at (MF.Hamt p))) (V.map ps) e = let wrong : true ≡ false = e in absurd cc
+  plain_free (Some (D.Map k k_at elem at (MF.Hamt p))) v e = refl
   plain_free (Some (D.Map k k_at elem at MF.Map)) v e = refl
   plain_free (Some (D.Map k k_at elem at MF.ListPairs)) v e = refl
   plain_free (Some (D.Map k k_at elem at (MF.StringPairs i j))) v e = refl

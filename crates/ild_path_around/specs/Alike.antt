@@ -14,7 +14,7 @@ use Rattle.ild_typed_fronts.specs.Front.{front}
 
 -- a HAMT has an entry that breaks a delimiter
 abbrev pub breaks_inside : List Row → Option TypeDef → Value → Bool
-breaks_inside rows (Some (D.Map key key_at value at MF.Hamt)) (V.map ps) = some_pair (breaks rows) rows value ps
+breaks_inside rows (Some (D.Map key key_at value at (MF.Hamt p))) (V.map ps) = some_pair (breaks rows) rows value ps
 breaks_inside rows d v = false
 
 abbrev pub FrontsBreakAlike : Type 0

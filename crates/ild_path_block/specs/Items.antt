@@ -29,7 +29,7 @@ abbrev pub is_pairs_map : MapForm → Bool
 is_pairs_map M.Map = false
 is_pairs_map M.ListPairs = false
 is_pairs_map (M.StringPairs inner entry) = true
-is_pairs_map M.Hamt = false
+is_pairs_map (M.Hamt shape) = false
 
 abbrev pub is_pairs_struct : StructForm → Bool
 is_pairs_struct S.Map = false

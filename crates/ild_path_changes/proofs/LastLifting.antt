@@ -159,7 +159,7 @@ set_entry at M.ListPairs f ps s w x t n es u all order was q now after =
     sym (same_Some _ n (sym (ap (λ o. option_and_then (λ ds. map_form at M.ListPairs (L.map ds)) o) m.0) ∙ now)) ∙ m.1
     ∙ (λ i. applied (at_pair (place_same f s ps es all i) s (each_pair-at f ps es s all i) (Some x)) (same_Some (pairs_data es) t was i))
 set_entry at (M.StringPairs inner entry) f ps s w x t n es u all order was q now after = ap (λ o. applied (whole o) t) (sym after)
-set_entry at M.Hamt f ps s w x t n es u all order was q now after = ap (λ o. applied (whole o) t) (sym after)
+set_entry at (M.Hamt shape) f ps s w x t n es u all order was q now after = ap (λ o. applied (whole o) t) (sym after)
 
 pub map_set_law : (at : Hamts) (g : MapForm) (f : Value → Option Data) (ps : List (List ℕ × Value)) (s : List ℕ) (w : Value) (t n : Data) (u : Option Data) → AreInOrder (is_paired g) ps
     → option_and_then (λ ds. map_form at g (L.map ds)) (each_pair f ps) ≡ Some t → option_and_then (λ ds. map_form at g (L.map ds)) (each_pair f (put_by (is_paired g) s w ps)) ≡ Some n → u ≡ Some n
@@ -182,7 +182,7 @@ gone_entry at M.ListPairs f ps s t n es u all order was now after =
     sym (same_Some _ n (sym (ap (λ o. option_and_then (λ ds. map_form at M.ListPairs (L.map ds)) o) m.0) ∙ now)) ∙ m.1
     ∙ (λ i. applied (at_pair (place_same f s ps es all i) s (each_pair-at f ps es s all i) None) (same_Some (pairs_data es) t was i))
 gone_entry at (M.StringPairs inner entry) f ps s t n es u all order was now after = ap (λ o. applied (whole o) t) (sym after)
-gone_entry at M.Hamt f ps s t n es u all order was now after = ap (λ o. applied (whole o) t) (sym after)
+gone_entry at (M.Hamt shape) f ps s t n es u all order was now after = ap (λ o. applied (whole o) t) (sym after)
 
 pub map_gone_law : (at : Hamts) (g : MapForm) (f : Value → Option Data) (ps : List (List ℕ × Value)) (s : List ℕ) (t n : Data) (u : Option Data) → AreInOrder (is_paired g) ps
     → option_and_then (λ ds. map_form at g (L.map ds)) (each_pair f ps) ≡ Some t → option_and_then (λ ds. map_form at g (L.map ds)) (each_pair f (without s ps)) ≡ Some n → u ≡ Some n

@@ -118,7 +118,7 @@ map_form_lift at M.ListPairs f ps s u c d t n e es w all order h was p q now aft
     placed (nth (place_of s ps) ∷ nth 1 ∷ []) t n d e (ap (part_at (nth (place_of s ps) ∷ nth 1 ∷ [])) (sym is) ∙ part_is)
     (new ∙ m.1 ∙ (λ k. applied (at_pair (i k) s (there k) (Some (applied e d))) (is k)))
 map_form_lift at (M.StringPairs inner entry) f ps s u c d t n e es w all order h was p q now after = ap (λ o. applied (whole o) t) (sym after)
-map_form_lift at M.Hamt f ps s u c d t n e es w all order h was p q now after = ap (λ o. applied (whole o) t) (sym after)
+map_form_lift at (M.Hamt shape) f ps s u c d t n e es w all order h was p q now after = ap (λ o. applied (whole o) t) (sym after)
 
 -- unions
 pub keyed_lift : (k : List ℕ) (d : Data) (e : Located) → map_data ((k, applied e d) ∷ []) ≡ applied (lift_within (key k ∷ []) e) (map_data ((k, d) ∷ []))

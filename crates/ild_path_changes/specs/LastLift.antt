@@ -41,7 +41,7 @@ abbrev pub map_last : MapForm → List ℕ → ℕ → Option Data → Option Da
 map_last M.Map s i c d u = at_key s c d
 map_last M.ListPairs s i c d u = at_pair i s c d
 map_last (M.StringPairs inner entry) s i c d u = whole u
-map_last M.Hamt s i c d u = whole u
+map_last (M.Hamt shape) s i c d u = whole u
 
 abbrev pub last_struct : Option TypeDef → (Slot → Value → Option Data) → List ℕ → List (Option Value) → (Slot → Option Data) → Option Data → Located
 last_struct (Some (T.Struct r)) f s os new u =

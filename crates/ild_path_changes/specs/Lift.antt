@@ -63,7 +63,7 @@ abbrev pub map_lift : MapForm → List ℕ → ℕ → Option Data → Located �
 map_lift M.Map s i u e = lift_within (key s ∷ []) e
 map_lift M.ListPairs s i u e = lift_within (nth i ∷ nth 1 ∷ []) e
 map_lift (M.StringPairs inner entry) s i u e = whole u
-map_lift M.Hamt s i u e = whole u
+map_lift (M.Hamt shape) s i u e = whole u
 
 -- of the field g of the name s, whose data is c and then d; the fields' data were ds, and the whole becomes u
 abbrev pub struct_lift : StructForm → List ℕ → List Field → List (Option Data) → Field → Option Data → Option Data → Option Data → Located → Located

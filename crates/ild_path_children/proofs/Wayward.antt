@@ -4,7 +4,7 @@ use Rattle.std.specs.List.{AllByRecursion, range_with_len}
 use Rattle.std.proofs.lemmas.Bool.{lt-leb, le-leb, cases_eq, cases_lt}
 use Rattle.ild_data.specs.Data.{Data}
 use Rattle.ild_data.specs.Spell.{spell, id_of}
-use Rattle.ild_data.specs.TrieShape.{TrieShape}
+use Rattle.ild_data.specs.declared.hamt_shape.HamtShape.{HamtShape}
 use Rattle.ild_data.specs.Trie.{TrieSlot, part, slot_of, all_some, node_of, at_depth, slots_at}
 use Rattle.ild_data.specs.TrieBlocks.{none_or, block_of}
 use Rattle.ild_edges.specs.Store.{block_at}
@@ -29,11 +29,11 @@ use Rattle.ild_path_children.proofs.Topping.{Tops, at_top, beneath_top, each_lie
 abbrev pub Held : List (List ℕ) → List ℕ → Type 0
 Held was c = block_at was (id_of c) ≡ Some c
 
-no_way : (h : List ℕ → List ℕ) (p : TrieShape) (k : List ℕ) (depth : ℕ) (es : List (List ℕ × Data)) → way h p k zero depth es ≡ []
+no_way : (h : List ℕ → List ℕ) (p : HamtShape) (k : List ℕ) (depth : ℕ) (es : List (List ℕ × Data)) → way h p k zero depth es ≡ []
 unfolding way
 no_way h p k depth es = refl
 
-module _ (inner : List ℕ → Places) (h : List ℕ → List ℕ) (p : TrieShape) (k : List ℕ) (was : List (List ℕ)) where
+module _ (inner : List ℕ → Places) (h : List ℕ → List ℕ) (p : HamtShape) (k : List ℕ) (was : List (List ℕ)) where
   abbrev Part : ℕ → List (List ℕ × Data) → ℕ → List (List ℕ × Data)
   Part depth es i = part (at_depth h p depth) es i
 

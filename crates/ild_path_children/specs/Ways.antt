@@ -14,7 +14,6 @@ use Rattle.ild_schema.specs.declared.row.Row.{Row}
 use Rattle.ild_schema.specs.Value.{Value, Pairs, map, pairs_of, pairs_list}
 use Rattle.ild_node_slots.specs.declared.fault.HamtFault.{HamtFault}
 use Rattle.ild_hamt_trie.specs.Way.{way}
-use Rattle.ild_typed.specs.Composed.{usual}
 use Rattle.ild_typed.specs.Hamt.{whole}
 use Rattle.ild_typed.specs.Represented.{represented}
 use Rattle.ild_typed_places.specs.Places.{Place, Places, each_place, tops, places_in, children_at}
@@ -48,16 +47,16 @@ WayIn home held (w ∷ ws) = HasPlace home (IsNear held ws) w × WayIn home held
 -- So is the way of a key at which a value is put. The map before and the value are held.
 abbrev pub WaysArePut : Type 0
 WaysArePut =
-    (h : List ℕ → List ℕ) (rows : List Row) (was : List (List ℕ)) (before less : ℕ) (s elem : Slot) (t d x : Data) (ps : Pairs) (es : List (List ℕ × Data)) (k : List ℕ) (w : Value) → IsHamt rows s elem
-    → IsHeld (block_at was) h rows before s t (map ps) → IsTrieIn h rows was elem ps t es → IsHeld (block_at was) h rows less elem d w → represented (whole h) rows s (map (pairs_of (put k w (pairs_list ps)))) ≡ Some x
-    → WayIn (places_in h rows s (map (pairs_of (put k w (pairs_list ps))))) was (way h usual k (trie_levels usual) 0 (insert bytewise k d es))
+    (h : List ℕ → List ℕ) (rows : List Row) (was : List (List ℕ)) (before less : ℕ) (s elem : Slot) (t d x : Data) (ps : Pairs) (es : List (List ℕ × Data)) (k : List ℕ) (w : Value) → (is : IsHamt rows s elem)
+    → IsHeld (block_at was) h rows before s t (map ps) → IsTrieIn h is.3 rows was elem ps t es → IsHeld (block_at was) h rows less elem d w → represented (whole h) rows s (map (pairs_of (put k w (pairs_list ps)))) ≡ Some x
+    → WayIn (places_in h rows s (map (pairs_of (put k w (pairs_list ps))))) was (way h is.3 k (trie_levels is.3) 0 (insert bytewise k d es))
 
 -- and that of a key whose entry goes
 abbrev pub WaysAreCut : Type 0
 WaysAreCut =
-    (h : List ℕ → List ℕ) (rows : List Row) (was : List (List ℕ)) (before : ℕ) (s elem : Slot) (t x : Data) (ps : Pairs) (es : List (List ℕ × Data)) (k : List ℕ) → IsHamt rows s elem
-    → IsHeld (block_at was) h rows before s t (map ps) → IsTrieIn h rows was elem ps t es → represented (whole h) rows s (map (pairs_of (without k (pairs_list ps)))) ≡ Some x
-    → WayIn (places_in h rows s (map (pairs_of (without k (pairs_list ps))))) was (way h usual k (trie_levels usual) 0 (remove k es))
+    (h : List ℕ → List ℕ) (rows : List Row) (was : List (List ℕ)) (before : ℕ) (s elem : Slot) (t x : Data) (ps : Pairs) (es : List (List ℕ × Data)) (k : List ℕ) → (is : IsHamt rows s elem)
+    → IsHeld (block_at was) h rows before s t (map ps) → IsTrieIn h is.3 rows was elem ps t es → represented (whole h) rows s (map (pairs_of (without k (pairs_list ps)))) ≡ Some x
+    → WayIn (places_in h rows s (map (pairs_of (without k (pairs_list ps))))) was (way h is.3 k (trie_levels is.3) 0 (remove k es))
 
 -- each block that is held now was held, or is one of these, and has its children held at one of its places
 abbrev pub AddsPlaced : Places → List (List ℕ) → List (List ℕ) → List (List ℕ) → Type 0

@@ -130,7 +130,7 @@ one_map : (f : MapForm) → 1 ≤ map_levels f
 one_map M.Map = omega (arith)
 one_map M.ListPairs = omega (arith)
 one_map (M.StringPairs inner e) = omega (arith)
-one_map M.Hamt = omega (arith)
+one_map (M.Hamt p) = omega (arith)
 
 one_struct : (f : StructForm) → 1 ≤ struct_levels f
 one_struct S.Map = omega (arith)

@@ -4,6 +4,7 @@ use Rattle.std.specs.Prelude.{◌≡◌, ℕ, pos, List, [], ◌∷◌, ◌++◌
 use Rattle.ild_data.specs.Data as D
 use Rattle.ild_data.specs.Data.{Data, items_of, members_of}
 use Rattle.ild_data.specs.Key.{same_text}
+use Rattle.ild_data.specs.TrieShape.{usual}
 use Rattle.ild_schema.specs.declared.def.TypeDef.{TypeDef}
 use Rattle.ild_schema.specs.declared.def.TypeDef.TheVariants as T
 use Rattle.ild_schema.specs.declared.def.MapForm.TheVariants as M
@@ -74,7 +75,7 @@ abbrev pair_map : TypeDef
 pair_map = T.Map (number 7) 0 (plainly (number 3)) 0 M.ListPairs
 
 abbrev hamt_map : TypeDef
-hamt_map = T.Map (number 7) 0 (plainly (number 3)) 0 M.Hamt
+hamt_map = T.Map (number 7) 0 (plainly (number 3)) 0 (M.Hamt usual)
 
 abbrev field : List ℕ → Bool → Option Scalar → Field
 field name optional implicit = record { name = name; at = 0; optional = optional; slot = plainly (number 3); rename = None; implicit = implicit }

@@ -373,7 +373,7 @@ module _ (rows : List Row) (is_key : ℕ → List ℕ → Bool) (apart : AreTold
   inside_of_type (union n v) h = let e = other_form (T.Union h.0) h.2 in absurd cc
   inside_of_type (enum n) h = let e = other_form (T.Enum h.0) h.2 in absurd cc
   inside_of_type unit h = let e = other_form (T.Unit h.0) h.1 in absurd cc
-  inside_of_type (hamt d) h = let e = other_form (T.Map h.0 h.1 h.2 h.3 M.Hamt) h.4 in absurd cc
+  inside_of_type (hamt d) h = let e = other_form (T.Map h.0 h.1 h.2 h.3 (M.Hamt h.4)) h.5 in absurd cc
   inside_of_type (any d) h = of_any_data d h.1
 
   -- ---- what is there may stand there

@@ -9,6 +9,7 @@ use Rattle.std.proofs.lemmas.Str.{is_utf8-from_IsUtf8, IsUtf8-from_is_utf8}
 use Rattle.ild_data.specs.Data as T
 use Rattle.ild_data.specs.Data.{Data}
 use Rattle.ild_data.specs.Tree.{IsTree}
+use Rattle.ild_data.specs.declared.hamt_shape.HamtShape.{HamtShape}
 use Rattle.ild_schema.specs.declared.number.Slot.{Slot}
 use Rattle.ild_schema.specs.declared.number.TypeNo.{TypeNo}
 use Rattle.ild_schema.specs.declared.def.TypeDef.{TypeDef}
@@ -90,25 +91,25 @@ module _ (rows : List Row) (P : Slot → Value → Type 0) (below : (s : Slot) (
       let each = each_told (EntryFits (OfType rows) key value) (EntryFits P key value) (entry_told key value) ps in
       record { is = each.is; says = λ b. ((λ e. (b.0, (each.says b.1).0 e)), (λ h. (each.says b.1).1 h.1)) }
 
-  hamt_told : (key : TypeNo) (value : Slot) (l : Layer Value) → as_hamt l ≡ None → Told (MapFits (OfType rows) rows key value MF.Hamt l) (MapFits P rows key value MF.Hamt l)
-  hamt_told key value (L.hamt d) e = absurd (none-some d (sym e))
-  hamt_told key value (L.map ps) e = told_by before (λ h. inl h) after (entries_told key value MF.Hamt ps)
+  hamt_told : (p : HamtShape) (key : TypeNo) (value : Slot) (l : Layer Value) → as_hamt l ≡ None → Told (MapFits (OfType rows) rows key value (MF.Hamt p) l) (MapFits P rows key value (MF.Hamt p) l)
+  hamt_told p key value (L.hamt d) e = absurd (none-some d (sym e))
+  hamt_told p key value (L.map ps) e = told_by before (λ h. inl h) after (entries_told key value (MF.Hamt p) ps)
     where
-      before : MapFits (OfType rows) rows key value MF.Hamt (L.map ps) → EntriesFit (OfType rows) rows key value MF.Hamt ps
+      before : MapFits (OfType rows) rows key value (MF.Hamt p) (L.map ps) → EntriesFit (OfType rows) rows key value (MF.Hamt p) ps
       before (inl h) = h
       before (inr h) = absurd h
 
-      after : MapFits P rows key value MF.Hamt (L.map ps) → EntriesFit P rows key value MF.Hamt ps
+      after : MapFits P rows key value (MF.Hamt p) (L.map ps) → EntriesFit P rows key value (MF.Hamt p) ps
       after (inl h) = h
       after (inr h) = absurd h
-  hamt_told key value l e = none_told (λ b h. either h)
+  hamt_told p key value l e = none_told (λ b h. either h)
     where
       either : ⊥ ⊎ ⊥ → ⊥
       either (inl h) = h
       either (inr h) = h
 
   map_told : (key : TypeNo) (value : Slot) (form : MapForm) (l : Layer Value) → as_hamt l ≡ None → Told (MapFits (OfType rows) rows key value form l) (MapFits P rows key value form l)
-  map_told key value MF.Hamt l e = hamt_told key value l e
+  map_told key value (MF.Hamt p) l e = hamt_told p key value l e
   map_told key value MF.Map l e = some_told (EntriesFit (OfType rows) rows key value MF.Map) (EntriesFit P rows key value MF.Map) (entries_told key value MF.Map) (as_map l)
   map_told key value MF.ListPairs l e = some_told (EntriesFit (OfType rows) rows key value MF.ListPairs) (EntriesFit P rows key value MF.ListPairs) (entries_told key value MF.ListPairs) (as_map l)
   map_told key value (MF.StringPairs i n) l e =
@@ -204,14 +205,14 @@ module _ (rows : List Row) (schema : IsSchema rows) where
   hamt_is s d b =
       let x = in_layer rows s (V.hamt d) (L.hamt d) refl b in
       let y = hamt_form rows (OfType rows) x.ty d x.holds in
-      let form : form_of rows s ≡ Some (D.Map y.0 y.1 y.2 y.3 MF.Hamt) = x.form ∙ ap Some y.4 in
-      let root = (y.5).1 in
+      let form : form_of rows s ≡ Some (D.Map y.0 y.1 y.2 y.3 (MF.Hamt y.4)) = x.form ∙ ap Some y.5 in
+      let root = (y.6).1 in
       let shows : represented alone rows s (V.hamt d) ≡ Some d = ap (λ o. layered alone o (Some (L.hamt d))) form ∙ subst (λ u. a_map u ≡ Some u) (sym root.tree) refl in
       record {
         safe = λ nullable. ap (λ o. kind_in o K.Null) form;
         tree = shows;
         whole = (alone_tree rows schema.table.texts.spelled b.0 s (V.hamt d) d b.1 shows).tree;
-        low = low (slice_get rows s.ty.0) refl (D.Map y.0 y.1 y.2 y.3 MF.Hamt) form;
+        low = low (slice_get rows s.ty.0) refl (D.Map y.0 y.1 y.2 y.3 (MF.Hamt y.4)) form;
       }
     where
       low : (o : Option Row) → slice_get rows s.ty.0 ≡ o → (f : TypeDef) → form_of rows s ≡ Some f → s.ty.0 < length rows

@@ -10,7 +10,6 @@ use Rattle.ild_data.specs.Limits.{deepest}
 use Rattle.ild_data.specs.TrieShape.{trie_levels}
 use Rattle.ild_edges.specs.Store.{Moment, block_at}
 use Rattle.ild_hamt_trie.specs.Way.{way}
-use Rattle.ild_typed.specs.Composed.{usual}
 use Rattle.ild_script_meaning.specs.Costs.{blocks_met}
 use Rattle.ild_schema.specs.declared.number.Slot.{Slot}
 use Rattle.ild_schema.specs.declared.row.Row.{Row}
@@ -129,14 +128,14 @@ module _ (h : List ℕ → List ℕ) (is_key : ℕ → List ℕ → Bool) (was :
           let z = sets_have_data h Rows is_key level.schema level.keys less q (key.slot, map key.ps) front Map Own.0 Typed key.entered.at typed_new_map Own.1 Own.2 in
           (z.0, z.1)
 
-      few : 1 + length (way h usual k (trie_levels usual) 0 (insert bytewise k y.tree key.es)) ≤ blocks_met h Rows (q.0, New) (front ++ (k ∷ []))
+      few : 1 + length (way h key.entered.hamt.3 k (trie_levels key.entered.hamt.3) 0 (insert bytewise k y.tree key.es)) ≤ blocks_met h Rows (q.0, New) (front ++ (k ∷ []))
       few =
-          met_at_key h Rows is_key level.schema level.keys q front key.slot (map key.ps) Map k (length (way h usual k (trie_levels usual) 0 (insert bytewise k y.tree key.es))) Typed key.entered.at typed_new_map
+          met_at_key h Rows is_key level.schema level.keys q front key.slot (map key.ps) Map k (length (way h key.entered.hamt.3 k (trie_levels key.entered.hamt.3) 0 (insert bytewise k y.tree key.es))) Typed key.entered.at typed_new_map
           (put_counted h Rows was key.slot key.elem key.ps key.root key.es key.entered.hamt key.trie k w y.tree map_data_is.0 y.held.tree map_data_is.1)
 
-      met_new : nodes_met h Rows (q.0, New) (front ++ (k ∷ [])) ≡ way h usual k (trie_levels usual) 0 (insert bytewise k y.tree key.es)
+      met_new : nodes_met h Rows (q.0, New) (front ++ (k ∷ [])) ≡ way h key.entered.hamt.3 k (trie_levels key.entered.hamt.3) 0 (insert bytewise k y.tree key.es)
       met_new =
-          nodes_at_key h Rows is_key level.schema level.keys q front key.slot (map key.ps) Map k (way h usual k (trie_levels usual) 0 (insert bytewise k y.tree key.es)) Typed key.entered.inside key.entered.at typed_new_map
+          nodes_at_key h Rows is_key level.schema level.keys q front key.slot (map key.ps) Map k (way h key.entered.hamt.3 k (trie_levels key.entered.hamt.3) 0 (insert bytewise k y.tree key.es)) Typed key.entered.inside key.entered.at typed_new_map
           (put_met h Rows was key.slot key.elem key.ps key.root key.es key.entered.hamt key.trie k w y.tree map_data_is.0 y.held.tree map_data_is.1)
 
       set_made : (r : Result (List ℕ) HamtFault) → SetsKey h (table_of view) (slot_of view) view front found item m r n → MakesAtKey h Rows S v hops q less (front ++ (k ∷ [])) c m r n
@@ -146,7 +145,7 @@ module _ (h : List ℕ → List ℕ) (is_key : ℕ → List ℕ → Bool) (was :
         made = made;
         tree_is = Own.1;
         fits = Own.2;
-        ends = level_end h Rows less q.0 New Own.0 Own.1 m n (front ++ (k ∷ [])) k (insert bytewise k y.tree key.es) r few met_new (sets_at h Rows q.0 view front found item m n r inner.table inner.slot is is_key was k told set inner.root);
+        ends = level_end h Rows less q.0 New Own.0 Own.1 m n key.entered.hamt.3 (front ++ (k ∷ [])) k (insert bytewise k y.tree key.es) r few met_new (sets_at h Rows q.0 view front found item m n r inner.table inner.slot is is_key was k told set inner.root);
       }
 
     pub at_key_set : (x : IsChange h Rows is_key was deepest (S, v) (path_of_hops hops ++ (front ++ (k ∷ []))) (E.Set item) w c u) (r : Result (List ℕ) HamtFault)
@@ -198,14 +197,14 @@ module _ (h : List ℕ → List ℕ) (is_key : ℕ → List ℕ → Bool) (was :
           let z = sets_have_data h Rows is_key level.schema level.keys less q (key.slot, map key.ps) front Rest OwnLess.0 Typed key.entered.at typed_rest OwnLess.1 OwnLess.2 in
           (z.0, z.1)
 
-      few_less : 1 + length (way h usual k (trie_levels usual) 0 (remove k key.es)) ≤ blocks_met h Rows (q.0, Less) (front ++ (k ∷ []))
+      few_less : 1 + length (way h key.entered.hamt.3 k (trie_levels key.entered.hamt.3) 0 (remove k key.es)) ≤ blocks_met h Rows (q.0, Less) (front ++ (k ∷ []))
       few_less =
-          met_at_key h Rows is_key level.schema level.keys q front key.slot (map key.ps) Rest k (length (way h usual k (trie_levels usual) 0 (remove k key.es))) Typed key.entered.at typed_rest
+          met_at_key h Rows is_key level.schema level.keys q front key.slot (map key.ps) Rest k (length (way h key.entered.hamt.3 k (trie_levels key.entered.hamt.3) 0 (remove k key.es))) Typed key.entered.at typed_rest
           (cut_counted h Rows was key.slot key.elem key.ps key.root key.es key.entered.hamt key.trie k rest_data_is.0 rest_data_is.1)
 
-      met_less : nodes_met h Rows (q.0, Less) (front ++ (k ∷ [])) ≡ way h usual k (trie_levels usual) 0 (remove k key.es)
+      met_less : nodes_met h Rows (q.0, Less) (front ++ (k ∷ [])) ≡ way h key.entered.hamt.3 k (trie_levels key.entered.hamt.3) 0 (remove k key.es)
       met_less =
-          nodes_at_key h Rows is_key level.schema level.keys q front key.slot (map key.ps) Rest k (way h usual k (trie_levels usual) 0 (remove k key.es)) Typed key.entered.inside key.entered.at typed_rest
+          nodes_at_key h Rows is_key level.schema level.keys q front key.slot (map key.ps) Rest k (way h key.entered.hamt.3 k (trie_levels key.entered.hamt.3) 0 (remove k key.es)) Typed key.entered.inside key.entered.at typed_rest
           (cut_met h Rows was key.slot key.elem key.ps key.root key.es key.entered.hamt key.trie k rest_data_is.0 rest_data_is.1)
 
       cut_made : (r : Result (List ℕ) HamtFault) → CutsKey h (table_of view) (slot_of view) view front found m r n → MakesAtKey h Rows S v hops q less (front ++ (k ∷ [])) c m r n
@@ -215,7 +214,7 @@ module _ (h : List ℕ → List ℕ) (is_key : ℕ → List ℕ → Bool) (was :
         made = made;
         tree_is = OwnLess.1;
         fits = OwnLess.2;
-        ends = level_end h Rows less q.0 Less OwnLess.0 OwnLess.1 m n (front ++ (k ∷ [])) k (remove k key.es) r few_less met_less (cuts_at h Rows q.0 view front found m n r inner.table inner.slot is is_key was k told cut inner.root);
+        ends = level_end h Rows less q.0 Less OwnLess.0 OwnLess.1 m n key.entered.hamt.3 (front ++ (k ∷ [])) k (remove k key.es) r few_less met_less (cuts_at h Rows q.0 view front found m n r inner.table inner.slot is is_key was k told cut inner.root);
       }
 
     pub at_key_cut : (x : IsChange h Rows is_key was deepest (S, v) (path_of_hops hops ++ (front ++ (k ∷ []))) E.Delete w c u) (r : Result (List ℕ) HamtFault)

@@ -1,6 +1,7 @@
 -- From what became of the innermost value at a key to the whole.
 use Rattle.std.proofs.Common.{◌≡◌, ◌⊎◌, inl, inr, ⊎_elim, ℕ, ◌+◌, Bool, true, List, ◌∷◌, ◌++◌, Some, sym, ap, ◌∙◌, subst, arith}
 use Rattle.std.specs.Prelude.{Result, Ok, Err, option_and_then}
+use Rattle.ild_edges.specs.Gained.{AreIdsGiven}
 use Rattle.ild_data.specs.Data.{Data}
 use Rattle.ild_data.specs.Limits.{deepest}
 use Rattle.ild_data.specs.Spell.{spell}
@@ -22,7 +23,6 @@ use Rattle.ild_typed.specs.Hamt.{whole}
 use Rattle.ild_typed.specs.Represented.{represented}
 use Rattle.ild_view.specs.View.{slot_of, table_of}
 use Rattle.ild_view.specs.declared.view.View.{View}
-use Rattle.ild_hamt.specs.Given.{AreIdsGiven}
 use Rattle.ild_open_held.specs.Held.{IsHeld}
 use Rattle.ild_path_held.proofs.Holding.{held_stays}
 use Rattle.ild_path_nodes.specs.NodeLaws.{AreAmong}

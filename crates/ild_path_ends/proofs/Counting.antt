@@ -14,7 +14,6 @@ use Rattle.ild_schema.specs.declared.number.Slot.{Slot}
 use Rattle.ild_schema.specs.declared.row.Row.{Row}
 use Rattle.ild_schema.specs.Slots.{form_of}
 use Rattle.ild_schema.specs.Value.{Value, Pairs, pairs_of, pairs_list}
-use Rattle.ild_typed.specs.Composed.{usual}
 use Rattle.ild_typed.specs.Hamt.{root_map, whole}
 use Rattle.ild_typed.specs.Represented.{represented, represented_pairs}
 use Rattle.ild_typed.specs.Strings.{cons_both}
@@ -62,22 +61,22 @@ module _ (h : List ℕ → List ℕ) (rows : List Row) (elem : Slot) where
       by false y later = joined x.0 x.1 y.own (without k xs) (without k y.rest) y.own_is later
 
 -- a map with data from which an entry has gone has for its key the nodes on the key's way in the trie of the others
-pub cut_met : (h : List ℕ → List ℕ) (rows : List Row) (held : List (List ℕ)) (s elem : Slot) (ps : Pairs) (t : Data) (es : List (List ℕ × Data)) (is : IsHamt rows s elem) → IsTrieIn h rows held elem ps t es
+pub cut_met : (h : List ℕ → List ℕ) (rows : List Row) (held : List (List ℕ)) (s elem : Slot) (ps : Pairs) (t : Data) (es : List (List ℕ × Data)) (is : IsHamt rows s elem) → IsTrieIn h is.3 rows held elem ps t es
     → (k : List ℕ) (x : Data) → represented (whole h) rows s (without_entry k ps) ≡ Some x
-    → nodes_for h rows (form_of rows s) (without_entry k ps) k ≡ way h usual k (trie_levels usual) 0 (remove k es)
+    → nodes_for h rows (form_of rows s) (without_entry k ps) k ≡ way h is.3 k (trie_levels is.3) 0 (remove k es)
 cut_met h rows held s elem ps t es is tried k x made =
     let xs = pairs_list ps in
     let pairs : List (List ℕ × Data) = without k tried.pairs in
     let e : represented_pairs (whole h) rows elem (pairs_of (without k xs)) ≡ Some pairs = cut_data h rows elem k xs tried.pairs (ap (represented_pairs (whole h) rows elem) (pairs_back ps) ∙ tried.represents) in
-    let y = map_from (root_map usual) (trie h usual pairs 0) x (sym (map_data h rows s elem is (pairs_of (without k xs)) pairs e) ∙ made) in
+    let y = map_from (root_map is.3) (trie h is.3 pairs 0) x (sym (map_data h rows s elem is (pairs_of (without k xs)) pairs e) ∙ made) in
     let order : remove k es ≡ in_byte_order pairs = ap (remove k) tried.order ∙ sorted_without k tried.pairs tried.rises in
-    ap (λ (o : Option TypeDef). nodes_for h rows o (without_entry k ps) k) is.3
-    ∙ ap (λ o. option_map_or (nodes_on h k) o []) e
-    ∙ ap (λ (o : Option Data). cond (is_some o) (way h usual k (trie_levels usual) 0 (in_byte_order pairs)) []) y.there
-    ∙ ap (λ fs. way h usual k (trie_levels usual) 0 fs) (sym order)
+    ap (λ (o : Option TypeDef). nodes_for h rows o (without_entry k ps) k) is.4
+    ∙ ap (λ o. option_map_or (nodes_on h is.3 k) o []) e
+    ∙ ap (λ (o : Option Data). cond (is_some o) (way h is.3 k (trie_levels is.3) 0 (in_byte_order pairs)) []) y.there
+    ∙ ap (λ fs. way h is.3 k (trie_levels is.3) 0 fs) (sym order)
 
-pub cut_counted : (h : List ℕ → List ℕ) (rows : List Row) (held : List (List ℕ)) (s elem : Slot) (ps : Pairs) (t : Data) (es : List (List ℕ × Data)) (is : IsHamt rows s elem) → IsTrieIn h rows held elem ps t es
+pub cut_counted : (h : List ℕ → List ℕ) (rows : List Row) (held : List (List ℕ)) (s elem : Slot) (ps : Pairs) (t : Data) (es : List (List ℕ × Data)) (is : IsHamt rows s elem) → IsTrieIn h is.3 rows held elem ps t es
     → (k : List ℕ) (x : Data) → represented (whole h) rows s (without_entry k ps) ≡ Some x
-    → met_in h rows (form_of rows s) (without_entry k ps) k ≡ length (way h usual k (trie_levels usual) 0 (remove k es))
+    → met_in h rows (form_of rows s) (without_entry k ps) k ≡ length (way h is.3 k (trie_levels is.3) 0 (remove k es))
 cut_counted h rows held s elem ps t es is tried k x made =
     met_length h rows (form_of rows s) (without_entry k ps) k ∙ ap (λ (bs : List (List ℕ)). length bs) (cut_met h rows held s elem ps t es is tried k x made)

@@ -2,6 +2,7 @@
 use Rattle.std.proofs.Common.{◌≡◌, inl, inr, ℕ, ◌≤◌, Bool, true, IsUtf8, List, [], ◌∷◌, ◌++◌, length, map, arith, Option, Some, refl, sym, ap, ◌∙◌, subst, append-nil}
 use Rattle.std.specs.Prelude.{IfOk, Result, Ok, Err}
 use Rattle.std.specs.List.{AllByRecursion}
+use Rattle.ild_edges.specs.Gained.{AreIdsGiven}
 use Rattle.ild_cbor.specs.declared.node.Node.{Node}
 use Rattle.ild_data.specs.Data.{Data}
 use Rattle.ild_data.specs.Limits.{deepest, longest_block}
@@ -25,7 +26,6 @@ use Rattle.ild_typed.specs.OfType.{OfType, TestsKeys}
 use Rattle.ild_typed.specs.Represented.{represented}
 use Rattle.ild_view.specs.View.{slot_of, table_of}
 use Rattle.ild_view.specs.declared.view.View.{View}
-use Rattle.ild_hamt.specs.Given.{AreIdsGiven}
 use Rattle.ild_open_held.specs.Held.{IsHeld}
 use Rattle.ild_path_edits.specs.Edit.{change, ins_at, new_slot, path_of, set_at}
 use Rattle.ild_path_edits.specs.EditLaws.{Brings}

@@ -2,6 +2,7 @@
 use Rattle.std.proofs.Common.{◌≡◌, inl, inr, ⊎_elim, ℕ, suc, ◌≤◌, List, [], ◌∷◌, length, Option, Some, None, ap, sym, ◌∙◌, subst, arith}
 use Rattle.std.specs.Prelude.{Contains, Result, Ok, Err}
 use Rattle.std.specs.List.{AllByRecursion}
+use Rattle.ild_edges.specs.Gained.{AreIdsGiven}
 use Rattle.ild_data.specs.Data.{Data}
 use Rattle.ild_data.specs.Limits.{deepest, longest_block}
 use Rattle.ild_data.specs.Spell.{id_of, spell}
@@ -24,7 +25,6 @@ use Rattle.ild_path_outward.specs.Outward.{EndAnswer, SetsEnd}
 use Rattle.ild_path_outward.proofs.Carrying.{caused_later, given_stay}
 use Rattle.ild_path_way.specs.Way.{nodes_met}
 use Rattle.ild_hamt.specs.Edits.{CausedBy, FaultCause}
-use Rattle.ild_hamt.specs.Given.{AreIdsGiven}
 use Rattle.ild_path_ends.specs.Ends.{AddsBlocks, Came, EditsWhole, WholeAnswer}
 use Rattle.ild_path_ends.proofs.Telling.{both_at, both_here, told_at, told_here, told_next}
 

@@ -3,6 +3,7 @@ use Rattle.std.proofs.Common.{◌≡◌, ◌⊎◌, inl, inr, ⊎_elim, ℕ, ◌
 use Rattle.std.specs.Prelude.{IfOk, Result, Ok, Err}
 use Rattle.std.specs.FinMap.{put as insert}
 use Rattle.std.specs.Option.{option_map_or}
+use Rattle.ild_edges.specs.Gained.{AreIdsGiven}
 use Rattle.ild_data.specs.ByteOrder.{bytewise}
 use Rattle.std.proofs.lemmas.Bool.{ltb-true}
 use Rattle.ild_cbor.specs.declared.node.Node.{Node}
@@ -10,6 +11,7 @@ use Rattle.ild_data.specs.Data.{Data}
 use Rattle.ild_data.specs.Limits.{longest_block}
 use Rattle.ild_data.specs.Spell.{spell}
 use Rattle.ild_data.specs.TrieShape.{trie_levels}
+use Rattle.ild_data.specs.declared.hamt_shape.HamtShape.{HamtShape}
 use Rattle.ild_edges.specs.Store.{Moment}
 use Rattle.ild_edges.specs.Told.{IfTold}
 use Rattle.ild_edges.proofs.Later.{Later-refl}
@@ -24,7 +26,6 @@ use Rattle.ild_node_slots.specs.declared.fault.HamtFault.TheVariants as F
 use Rattle.ild_hamt_trie.specs.Way.{way}
 use Rattle.ild_typed.specs.At.{InSlot, at, met, seen}
 use Rattle.ild_typed.specs.Blocks.{nodes}
-use Rattle.ild_typed.specs.Composed.{usual}
 use Rattle.ild_typed.specs.Hamt.{whole}
 use Rattle.ild_typed.specs.OfType.{OfType, TestsKeys}
 use Rattle.ild_typed.specs.Represented.{represented}
@@ -32,7 +33,6 @@ use Rattle.ild_typed.specs.Schema.{IsSchema}
 use Rattle.ild_typed.specs.Segment.{part}
 use Rattle.ild_view.specs.View.{slot_of, table_of}
 use Rattle.ild_view.specs.declared.view.View.{View}
-use Rattle.ild_hamt.specs.Given.{AreIdsGiven}
 use Rattle.ild_hamt.specs.declared.trail.Trail.{Trail}
 use Rattle.ild_path_block.specs.Edits.{IsRootView}
 use Rattle.ild_path_within.specs.Within.{with_part}
@@ -57,7 +57,7 @@ module _ (h : List ℕ → List ℕ) (is_key : ℕ → List ℕ → Bool) (was :
   pub key_level : (x : IsKeyLevel h is_key (table_of view) (slot_of view) was front k found) → IsRootView view (showing h (table_of view) (slot_of view) x.v) x.t → IsLevel h is_key was x.less x.v x.t view
   key_level x root = record { schema = x.schema; keys = x.keys; held = x.held; root = root }
 
-  pub key_set : (n : Node) (x : IsKeySet h is_key (table_of view) (slot_of view) was front k found n)
+  abbrev pub key_set : (n : Node) (x : IsKeySet h is_key (table_of view) (slot_of view) was front k found n)
       → IsSetThere h is_key was x.level.less x.level.v view front x.level.key.slot x.level.key.elem x.level.key.ps x.level.key.es k x.w x.d x.u found
   key_set n x = record {
     entered = x.level.key.entered;
@@ -73,7 +73,7 @@ module _ (h : List ℕ → List ℕ) (is_key : ℕ → List ℕ → Bool) (was :
     tree = x.tree;
   }
 
-  pub key_cut : (x : IsKeyCut h is_key (table_of view) (slot_of view) was front k found) → IsCutThere h is_key was x.level.less x.level.v view front x.level.key.slot x.level.key.elem x.level.key.ps x.level.key.es k x.u found
+  abbrev pub key_cut : (x : IsKeyCut h is_key (table_of view) (slot_of view) was front k found) → IsCutThere h is_key was x.level.less x.level.v view front x.level.key.slot x.level.key.elem x.level.key.ps x.level.key.es k x.u found
   key_cut x = record {
     entered = x.level.key.entered;
     root = x.level.key.root;
@@ -87,8 +87,8 @@ module _ (h : List ℕ → List ℕ) (is_key : ℕ → List ℕ → Bool) (was :
   }
 
 -- nothing was done
-pub level_none : (h : List ℕ → List ℕ) (rows : List Row) (room : ℕ) (s : Slot) (c : Value) (u : Data) (k : List ℕ) (es : List (List ℕ × Data)) (m : Moment) → represented (whole h) rows s c ≡ Some u → SetsLevel h rows room s c u k es m (Err F.Memory) m
-level_none h rows room s c u k es m tree = record {
+pub level_none : (h : List ℕ → List ℕ) (p : HamtShape) (rows : List Row) (room : ℕ) (s : Slot) (c : Value) (u : Data) (k : List ℕ) (es : List (List ℕ × Data)) (m : Moment) → represented (whole h) rows s c ≡ Some u → SetsLevel h p rows room s c u k es m (Err F.Memory) m
+level_none h p rows room s c u k es m tree = record {
   hamt = u;
   part = record { path = []; part = (s, c); at = refl; tree = tree };
   answer = tt;
@@ -120,9 +120,9 @@ module _ (h : List ℕ → List ℕ) (rows : List Row) (room : ℕ) (s : Slot) (
   end_answer d part (Err F.NoKey) is = absurd is
   end_answer d part (Err (F.Block id why)) is = absurd is
 
-  pub level_end : (path : List (List ℕ)) (k : List ℕ) (es : List (List ℕ × Data)) (r : Result (List ℕ) HamtFault) → 1 + length (way h usual k (trie_levels usual) 0 es) ≤ blocks_met h rows (s, c) path
-      → nodes_met h rows (s, c) path ≡ way h usual k (trie_levels usual) 0 es → SetsLevel h rows room s c u k es m r n → SetsEnd h rows room s c u path m r n
-  level_end path k es r few met x = record {
+  pub level_end : (p : HamtShape) (path : List (List ℕ)) (k : List ℕ) (es : List (List ℕ × Data)) (r : Result (List ℕ) HamtFault) → 1 + length (way h p k (trie_levels p) 0 es) ≤ blocks_met h rows (s, c) path
+      → nodes_met h rows (s, c) path ≡ way h p k (trie_levels p) 0 es → SetsLevel h p rows room s c u k es m r n → SetsEnd h rows room s c u path m r n
+  level_end p path k es r few met x = record {
     answer = end_answer x.hamt x.part r x.answer;
     later = x.later;
     adds = x.adds;
@@ -160,4 +160,4 @@ nodes_at_key h rows is_key schema keys p front slot old new k bs typed inside th
 
 pub set_none : (h : List ℕ → List ℕ) (rows : List Row) (s : Slot) (view : View) (front : List (List ℕ)) (found : Trail) (n : Node) (m : Moment) → SetsKey h rows s view front found n m (Err F.Memory) m
 set_none h rows s view front found n m = λ is_key was k told x root.
-    level_none h rows x.level.less s (with_set rows s x.level.v front x.level.key.ps k x.w) x.u k (insert bytewise k x.d x.level.key.es) m x.tree
+    level_none h x.level.key.entered.hamt.3 rows x.level.less s (with_set rows s x.level.v front x.level.key.ps k x.w) x.u k (insert bytewise k x.d x.level.key.es) m x.tree

@@ -66,7 +66,7 @@ pub record IsKeySet (h : List ℕ → List ℕ) (is_key : ℕ → List ℕ → B
 abbrev pub SetsKey : (List ℕ → List ℕ) → List Row → Slot → View → List (List ℕ) → Trail → Node → Moment → Result (List ℕ) HamtFault → Moment → Type 0
 SetsKey h rows s view front found n m result k =
     (is_key : ℕ → List ℕ → Bool) (was : List (List ℕ)) (key : List ℕ) → m.blocks ≡ Some was → (x : IsKeySet h is_key rows s was front key found n) → IsRootView view (showing h rows s x.level.v) x.level.t
-    → SetsLevel h rows x.level.less s (with_set rows s x.level.v front x.level.key.ps key x.w) x.u key (insert bytewise key x.d x.level.key.es) m result k
+    → SetsLevel h x.level.key.entered.hamt.3 rows x.level.less s (with_set rows s x.level.v front x.level.key.ps key x.w) x.u key (insert bytewise key x.d x.level.key.es) m result k
 
 -- the entry at the key goes
 pub record IsKeyCut (h : List ℕ → List ℕ) (is_key : ℕ → List ℕ → Bool) (rows : List Row) (s : Slot) (was : List (List ℕ)) (front : List (List ℕ)) (k : List ℕ) (found : Trail) : Type 0 where
@@ -79,7 +79,7 @@ pub record IsKeyCut (h : List ℕ → List ℕ) (is_key : ℕ → List ℕ → B
 abbrev pub CutsKey : (List ℕ → List ℕ) → List Row → Slot → View → List (List ℕ) → Trail → Moment → Result (List ℕ) HamtFault → Moment → Type 0
 CutsKey h rows s view front found m result k =
     (is_key : ℕ → List ℕ → Bool) (was : List (List ℕ)) (key : List ℕ) → m.blocks ≡ Some was → (x : IsKeyCut h is_key rows s was front key found) → IsRootView view (showing h rows s x.level.v) x.level.t
-    → SetsLevel h rows x.level.less s (with_cut rows s x.level.v front x.level.key.ps key) x.u key (remove key x.level.key.es) m result k
+    → SetsLevel h x.level.key.entered.hamt.3 rows x.level.less s (with_cut rows s x.level.v front x.level.key.ps key) x.u key (remove key x.level.key.es) m result k
 
 -- ---- behind the hops
 

@@ -6,7 +6,6 @@ use Rattle.ild_schema.specs.declared.number.Slot.{Slot}
 use Rattle.ild_schema.specs.declared.row.Row.{Row}
 use Rattle.ild_schema.specs.Value.{Pairs, map}
 use Rattle.ild_typed.specs.At.{InSlot}
-use Rattle.ild_typed.specs.Composed.{usual}
 use Rattle.ild_typed.specs.Hamt.{whole}
 use Rattle.ild_typed.specs.Node.{IsRoot}
 use Rattle.ild_typed.specs.Represented.{represented}
@@ -30,9 +29,9 @@ pub record IsKeyIn (h : List ℕ → List ℕ) (rows : List Row) (was : List (Li
   pub root : Data
   pub entered : IsEntered rows q front slot elem ps
   pub data_is : represented (whole h) rows slot (map ps) ≡ Some root
-  pub trie : IsTrieIn h rows was elem ps root es
+  pub trie : IsTrieIn h entered.hamt.3 rows was elem ps root es
   pub utf8 : IsUtf8 k
-  pub trail : (slots : List TrieSlot) → IsRoot usual slots root → IsTrailOf h usual k slots es found
+  pub trail : (slots : List TrieSlot) → IsRoot entered.hamt.3 slots root → IsTrailOf h entered.hamt.3 k slots es found
 
 -- the view of the block of an entry's value
 pub record IsViewOfEntry (e : Entry) (view : View) : Type 0 where

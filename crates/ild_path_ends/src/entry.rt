@@ -11,8 +11,8 @@ use ild_edges::Store;
 use ild_hamt::Trail;
 use ild_node::HamtFault;
 use ild_path_entry::Entry;
-use ild_path_inward::value_slot;
 use ild_path_outward::{remove_entry, set_entry};
+use ild_path_room::value_slot;
 use ild_view::{Step, View};
 use std::alloc::Global;
 

@@ -9,7 +9,9 @@ use Rattle.ild_cbor.specs.declared.node.Node.{Node}
 use Rattle.ild_data.specs.ByteOrder.{IsInOrder, bytewise}
 use Rattle.ild_data.specs.Data.{Data}
 use Rattle.ild_data.specs.Key.{value_at}
-use Rattle.ild_data.specs.Trie.{TrieSlot}
+use Rattle.ild_data.specs.Trie.{TrieSlot, node_of, slots_at}
+use Rattle.ild_data.specs.TrieShape.{trie_levels}
+use Rattle.ild_data.specs.declared.hamt_shape.HamtShape.{HamtShape}
 use Rattle.ild_edges.specs.Store.{Moment, block_at}
 use Rattle.ild_schema.specs.declared.def.TypeDef.{TypeDef}
 use Rattle.ild_schema.specs.declared.number.Slot.{Slot}
@@ -27,8 +29,8 @@ use Rattle.ild_node_slots.specs.declared.fault.HamtFault.{HamtFault}
 use Rattle.ild_node_slots.specs.declared.fault.HamtFault.TheVariants as F
 use Rattle.ild_hamt_trie.proofs.Node.{slots-node}
 use Rattle.ild_hamt_trie.proofs.Parts.{in_order-sorted}
+use Rattle.ild_node_slots.proofs.Shapes.{levels_suc}
 use Rattle.ild_typed.specs.At.{at, seen}
-use Rattle.ild_typed.specs.Composed.{usual}
 use Rattle.ild_typed.specs.Hamt.{root_map, whole}
 use Rattle.ild_typed.specs.Holder.{map_holder}
 use Rattle.ild_typed.specs.Node.{IsRoot}
@@ -52,6 +54,7 @@ use Rattle.ild_path_held.specs.Hamts.{IsTrieIn, IsValueOf}
 use Rattle.ild_path_held.specs.HeldEdits.{room_at}
 use Rattle.ild_path_held.proofs.Holding.{held_parts}
 use Rattle.ild_path_held.proofs.Knowing.{node_form}
+use Rattle.ild_path_held.proofs.Shapes.{root_shape}
 use Rattle.ild_path_nodes.specs.NodeLaws.{IsHamt}
 use Rattle.ild_path_enter.specs.Enters.{CanEnter, EnterAnswer, EntersHamt, EntryAnswer, EntryThere}
 use Rattle.ild_path_enter.specs.declared.lookup.Entered.{Entered}
@@ -65,33 +68,54 @@ safe_is rows s is nullable = by s.nullable (slot_has rows s K.Null) is nullable 
 
 -- ---- what is read
 
-pub slots_in : (o : Option Data) (n : NodeView) → RootIs o (Some n) → (slots : List TrieSlot) × HasSlots usual n slots
-slots_in None n is = absurd is
-slots_in (Some d) n is = (is.0, is.2)
+pub slots_in : (o : Option HamtShape) (t : Option Data) (n : NodeView) → RootIs o t (Some n) → (p : HamtShape) × (slots : List TrieSlot) × HasSlots p n slots
+slots_in o None n is = absurd is
+slots_in None (Some d) n is = absurd is
+slots_in (Some p) (Some d) n is = (p, is.0, is.2)
 
-pub only_reads : (h : List ℕ → List ℕ) (k : List ℕ) (slots : List TrieSlot) (m n : Moment) (r : Result Trail HamtFault) → Descends h usual k slots m r n → OnlyReads m n
-only_reads h k slots m n r d = record { later = d.reads.later; blocks = d.reads.blocks; given = d.reads.given; puts = d.reads.puts }
+pub only_reads : (h : List ℕ → List ℕ) (p : HamtShape) (k : List ℕ) (slots : List TrieSlot) (m n : Moment) (r : Result Trail HamtFault) → Descends h p k slots m r n → OnlyReads m n
+only_reads h p k slots m n r d = record { later = d.reads.later; blocks = d.reads.blocks; given = d.reads.given; puts = d.reads.puts }
 
 -- ---- the root
 
-pub root_of_trie : (h : List ℕ → List ℕ) (rows : List Row) (was : List (List ℕ)) (elem : Slot) (ps : Pairs) (t : Data) (es : List (List ℕ × Data)) (slots : List TrieSlot)
-    → IsTrieIn h rows was elem ps t es → IsRoot usual slots t → IsRootOf h usual es slots
-root_of_trie h rows was elem ps t es slots x root =
-    let order : IsInOrder es = subst IsInOrder (sym x.order) (in_order-sorted x.pairs) in
-    let s = slots-node h usual 31 0 es x.node x.is_node in
-    let form = node_form h 31 0 es s.0 order x.texts s.1 in
-    let mine : IsRoot usual s.0 t = record { indices = form.many; each = form.each; tree = x.root ∙ ap (root_map usual) s.2 } in
-    record { order = order; left = 31; all = refl; node = s.1 ∙ ap (λ (ss : List TrieSlot). Some ss) (one_root s.0 slots t mine root) }
+module _ (h : List ℕ → List ℕ) (p : HamtShape) (rows : List Row) (was : List (List ℕ)) (elem : Slot) (ps : Pairs) (t : Data) (es : List (List ℕ × Data)) (x : IsTrieIn h p rows was elem ps t es) where
+  in_order : IsInOrder es
+  in_order = subst IsInOrder (sym x.order) (in_order-sorted x.pairs)
+
+  pub own_root : (slots : List TrieSlot) × (slots_at h p (trie_levels p - 1) 0 es ≡ Some slots) × IsRoot p slots t
+  own_root =
+      let s = slots-node h p (trie_levels p - 1) 0 es x.node (subst (λ l. node_of h p l 0 es ≡ Some x.node) (levels_suc p) x.is_node) in
+      let form = node_form h p (trie_levels p - 1) 0 es s.0 in_order x.texts s.1 in
+      (s.0, s.1, record { indices = form.many; each = form.each; tree = x.root ∙ ap (root_map p) s.2 })
+
+  pub root_of_trie : (slots : List TrieSlot) → IsRoot p slots t → IsRootOf h p es slots
+  root_of_trie slots root = record {
+    order = in_order;
+    left = trie_levels p - 1;
+    all = levels_suc p;
+    node = own_root.1 ∙ ap (λ (ss : List TrieSlot). Some ss) (one_root p own_root.0 slots t own_root.2 root);
+  }
 
 -- ---- the value
 
 part_there : (rows : List Row) (slot elem : Slot) (ps : Pairs) (is : IsHamt rows slot elem) (k : List ℕ) (w : Value) → value_at k (pairs_list ps) ≡ Some w → part (seen rows (slot, map ps)) k ≡ Some (elem, w)
-part_there rows slot elem ps is k w e = ap (λ G. part (map_holder G ps) k) is.3 ∙ ap (option_map (λ v. (elem, v))) e
+part_there rows slot elem ps is k w e = ap (λ G. part (map_holder G ps) k) is.4 ∙ ap (option_map (λ v. (elem, v))) e
 
 module _ (h : List ℕ → List ℕ) (rows : List Row) (is_key : ℕ → List ℕ → Bool) (was : List (List ℕ)) (s elem : Slot) (room : ℕ) (t : Data) (ps : Pairs) (es : List (List ℕ × Data)) (can : CanEnter h rows is_key was s elem room t ps es) where
+  abbrev Own : HamtShape
+  Own = can.hamt.3
+
+  -- the root's node has the slots of the type's shape, whose numbers the root tells
+  abbrev pub RootHas : NodeView → Type 0
+  RootHas n = (slots : List TrieSlot) × IsRoot Own slots t × HasSlots Own n slots
+
+  pub root_slots : (o : Option HamtShape) (n : NodeView) → RootIs o (Some t) (Some n) → RootHas n
+  root_slots None n is = absurd is
+  root_slots (Some q) n is = subst (λ (z : HamtShape). (slots : List TrieSlot) × IsRoot z slots t × HasSlots z n slots) (sym (root_shape h Own q rows was elem ps t es is.0 can.trie is.1)) is
+
   room_there : (k : List ℕ) (w : Value) → value_at k (pairs_list ps) ≡ Some w → room_at rows (room + 5) (s, map ps) (k ∷ []) ≡ room
   room_there k w e =
-      let below : room_below rows (room + 5) (s, map ps) k ≡ room = ap (λ (o : Option TypeDef). (room + 5) - taken o) can.hamt.3 ∙ omega arith in
+      let below : room_below rows (room + 5) (s, map ps) k ≡ room = ap (λ (o : Option TypeDef). (room + 5) - taken o) can.hamt.4 ∙ omega arith in
       ap (λ o. option_map_or (λ q. room_at rows (room_below rows (room + 5) (s, map ps) k) q []) o (room_below rows (room + 5) (s, map ps) k)) (part_there rows s elem ps can.hamt k w e) ∙ below
 
   pub value_held : (k : List ℕ) (w : Value) → value_at k (pairs_list ps) ≡ Some w → (d : Data) × IsHeld (block_at was) h rows room elem d w
@@ -125,7 +149,7 @@ module _ (h : List ℕ → List ℕ) (rows : List Row) (is_key : ℕ → List �
 
   module _ (k : List ℕ) (m n : Moment) where
     -- the trail, or why there is none
-    failed : (bs : List (List ℕ)) (last slots : List TrieSlot) (e : HamtFault) → DescendAnswer h usual k m bs last (Err e) n → TrailIs h usual k slots es (Err e) → EnterAnswer h rows was elem room t ps es k m (Err e) n
+    failed : (bs : List (List ℕ)) (last slots : List TrieSlot) (e : HamtFault) → DescendAnswer h Own k m bs last (Err e) n → TrailIs h Own k slots es (Err e) → EnterAnswer h Own rows was elem room t ps es k m (Err e) n
     failed bs last slots F.Store why is = why
     failed bs last slots F.Memory why is = tt
     failed bs last slots (F.Block id w) why is = absurd is
@@ -134,13 +158,13 @@ module _ (h : List ℕ → List ℕ) (rows : List Row) (is_key : ℕ → List �
     failed bs last slots F.Size why is = absurd is
     failed bs last slots (F.Clash id kept new) why is = absurd is
 
-    trie_of : (root : NodeView) (r : Result Trail HamtFault) → m.blocks ≡ Some was → (x : RootIs (Some t) (Some root)) → Descends h usual k x.0 m r n → DescendsTrie h usual k x.0 es m r n
-    trie_of root r told x d = d.trie es was (root_of_trie h rows was elem ps t es x.0 can.trie x.1) told can.trie.holds
+    trie_of : (root : NodeView) (r : Result Trail HamtFault) → m.blocks ≡ Some was → (x : RootHas root) → Descends h Own k x.0 m r n → DescendsTrie h Own k x.0 es m r n
+    trie_of root r told x d = d.trie es was (root_of_trie h Own rows was elem ps t es can.trie x.0 x.1) told can.trie.holds
 
-    pub no_trail : (root : NodeView) (e : HamtFault) → m.blocks ≡ Some was → (x : RootIs (Some t) (Some root)) → Descends h usual k x.0 m (Err e) n → EntersHamt h rows was elem room t ps es k m (Err e) n
+    pub no_trail : (root : NodeView) (e : HamtFault) → m.blocks ≡ Some was → (x : RootHas root) → Descends h Own k x.0 m (Err e) n → EntersHamt h Own rows was elem room t ps es k m (Err e) n
     no_trail root e told x d = let y = trie_of root (Err e) told x d in record { answer = failed d.bs d.last x.0 e d.answer y.trail; gets = y.gets }
 
-    no_entry : (d : Data) (w : Value) → is_safe rows elem ≡ true → IsHeld (block_at was) h rows room elem d w → (e : HamtFault) → EntryAnswer rows elem room d (Err e) → EnterAnswer h rows was elem room t ps es k m (Err e) n
+    no_entry : (d : Data) (w : Value) → is_safe rows elem ≡ true → IsHeld (block_at was) h rows room elem d w → (e : HamtFault) → EntryAnswer rows elem room d (Err e) → EnterAnswer h Own rows was elem room t ps es k m (Err e) n
     no_entry d w safe has (F.Block id why) is = absurd (refused d w safe has is.0 (is.2, is.3))
     no_entry d w safe has F.Memory is = tt
     no_entry d w safe has F.Store is = absurd is
@@ -149,38 +173,38 @@ module _ (h : List ℕ → List ℕ) (rows : List Row) (is_key : ℕ → List �
     no_entry d w safe has F.Size is = absurd is
     no_entry d w safe has (F.Clash id kept new) is = absurd is
 
-    pub no_value : (root : NodeView) (trail : Trail) (node : Node) (e : HamtFault) → is_safe rows elem ≡ true → m.blocks ≡ Some was → (x : RootIs (Some t) (Some root)) → Descends h usual k x.0 m (Ok trail) n
-        → (IsTrailOf h usual k x.0 es trail → ValueIs (find bytewise k es) (Some node)) → ((d : Data) → Stands node d → EntryAnswer rows elem room d (Err e)) → EntersHamt h rows was elem room t ps es k m (Err e) n
+    pub no_value : (root : NodeView) (trail : Trail) (node : Node) (e : HamtFault) → is_safe rows elem ≡ true → m.blocks ≡ Some was → (x : RootHas root) → Descends h Own k x.0 m (Ok trail) n
+        → (IsTrailOf h Own k x.0 es trail → ValueIs (find bytewise k es) (Some node)) → ((d : Data) → Stands node d → EntryAnswer rows elem room d (Err e)) → EntersHamt h Own rows was elem room t ps es k m (Err e) n
     no_value root trail node e safe told x d search says =
         let y = trie_of root (Ok trail) told x d in
         let v = found_value k node (search y.trail) in
         record { answer = no_entry v.1 v.0 safe v.4 e (says v.1 v.3); gets = y.gets }
 
-    all_roots : (slots : List TrieSlot) (trail : Trail) → IsRoot usual slots t → IsTrailOf h usual k slots es trail → (ss : List TrieSlot) → IsRoot usual ss t → IsTrailOf h usual k ss es trail
-    all_roots slots trail root is ss other = subst (λ zs. IsTrailOf h usual k zs es trail) (one_root slots ss t root other) is
+    all_roots : (slots : List TrieSlot) (trail : Trail) → IsRoot Own slots t → IsTrailOf h Own k slots es trail → (ss : List TrieSlot) → IsRoot Own ss t → IsTrailOf h Own k ss es trail
+    all_roots slots trail root is ss other = subst (λ zs. IsTrailOf h Own k zs es trail) (one_root Own slots ss t root other) is
 
-    pub has_value : (root : NodeView) (trail : Trail) (node : Node) (e : Entry) (r : Entered) → r.trail ≡ trail → r.entry ≡ Some e → m.blocks ≡ Some was → (x : RootIs (Some t) (Some root)) → Descends h usual k x.0 m (Ok trail) n
-        → (IsTrailOf h usual k x.0 es trail → ValueIs (find bytewise k es) (Some node)) → ((d : Data) → Stands node d → IsEntry rows elem room d e) → EntersHamt h rows was elem room t ps es k m (Ok r) n
+    pub has_value : (root : NodeView) (trail : Trail) (node : Node) (e : Entry) (r : Entered) → r.trail ≡ trail → r.entry ≡ Some e → m.blocks ≡ Some was → (x : RootHas root) → Descends h Own k x.0 m (Ok trail) n
+        → (IsTrailOf h Own k x.0 es trail → ValueIs (find bytewise k es) (Some node)) → ((d : Data) → Stands node d → IsEntry rows elem room d e) → EntersHamt h Own rows was elem room t ps es k m (Ok r) n
     has_value root trail node e r same there told x d search says =
         let y = trie_of root (Ok trail) told x d in
         let v = found_value k node (search y.trail) in
         let has : EntryThere h rows was elem room (Some v.0) (Some e) = record { tree = v.1; held = v.4; entry = says v.1 v.3 } in
         record {
           answer = record {
-            found = subst (λ z. (ss : List TrieSlot) → IsRoot usual ss t → IsTrailOf h usual k ss es z) (sym same) (all_roots x.0 trail x.1 y.trail);
+            found = subst (λ z. (ss : List TrieSlot) → IsRoot Own ss t → IsTrailOf h Own k ss es z) (sym same) (all_roots x.0 trail x.1 y.trail);
             value = subst (λ o. EntryThere h rows was elem room o r.entry) (sym v.2) (subst (EntryThere h rows was elem room (Some v.0)) (sym there) has);
           };
           gets = y.gets;
         }
 
-    pub has_none : (root : NodeView) (trail : Trail) (r : Entered) → r.trail ≡ trail → r.entry ≡ None → m.blocks ≡ Some was → (x : RootIs (Some t) (Some root)) → Descends h usual k x.0 m (Ok trail) n
-        → (IsTrailOf h usual k x.0 es trail → ValueIs (find bytewise k es) None) → EntersHamt h rows was elem room t ps es k m (Ok r) n
+    pub has_none : (root : NodeView) (trail : Trail) (r : Entered) → r.trail ≡ trail → r.entry ≡ None → m.blocks ≡ Some was → (x : RootHas root) → Descends h Own k x.0 m (Ok trail) n
+        → (IsTrailOf h Own k x.0 es trail → ValueIs (find bytewise k es) None) → EntersHamt h Own rows was elem room t ps es k m (Ok r) n
     has_none root trail r same there told x d search =
         let y = trie_of root (Ok trail) told x d in
         let v = missing_by (value_at k (pairs_list ps)) (find bytewise k es) (can.trie.found k) (search y.trail) in
         record {
           answer = record {
-            found = subst (λ z. (ss : List TrieSlot) → IsRoot usual ss t → IsTrailOf h usual k ss es z) (sym same) (all_roots x.0 trail x.1 y.trail);
+            found = subst (λ z. (ss : List TrieSlot) → IsRoot Own ss t → IsTrailOf h Own k ss es z) (sym same) (all_roots x.0 trail x.1 y.trail);
             value = subst (λ o. EntryThere h rows was elem room o r.entry) (sym v) (subst (EntryThere h rows was elem room None) (sym there) tt);
           };
           gets = y.gets;

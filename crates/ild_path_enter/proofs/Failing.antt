@@ -1,5 +1,5 @@
 -- Over every store: a fault of the store comes only where it failed, and an entry is one under the schema.
-use Rattle.std.proofs.Common.{◌≡◌, ℕ, List, Option, Some, None, Result, Ok, Err, ap, sym, ◌∙◌, subst}
+use Rattle.std.proofs.Common.{◌≡◌, ℕ, List, Option, Some, None, Result, Ok, Err, ap, sym, ◌∙◌}
 use Rattle.std.specs.Option.{ForSome}
 use Rattle.std.proofs.lemmas.Option.{none-some, same_Some}
 use Rattle.std.proofs.Math.Logic.{∥∥₁_elim}
@@ -8,9 +8,9 @@ use Rattle.ild_cbor.specs.Nodes.{Stands}
 use Rattle.ild_cbor.specs.declared.node.Node.{Node}
 use Rattle.ild_data.specs.Data.{Data}
 use Rattle.ild_data.specs.Trie.{TrieSlot}
+use Rattle.ild_data.specs.declared.hamt_shape.HamtShape.{HamtShape}
 use Rattle.ild_edges.specs.Store.{Moment}
 use Rattle.ild_hamt.specs.Descending.{DescendAnswer, Descends}
-use Rattle.ild_hamt.specs.declared.trail.Trail.{Trail}
 use Rattle.ild_node_slots.specs.declared.fault.HamtFault.{HamtFault}
 use Rattle.ild_node_slots.specs.declared.fault.HamtFault.TheVariants as F
 use Rattle.ild_path_enter.specs.Enters.{EntryAnswer, FailsOnly}
@@ -20,7 +20,6 @@ use Rattle.ild_path_entry.specs.declared.entry.Entry.{Entry}
 use Rattle.ild_schema.specs.Value.{Value}
 use Rattle.ild_schema.specs.declared.number.Slot.{Slot}
 use Rattle.ild_schema.specs.declared.row.Row.{Row}
-use Rattle.ild_typed.specs.Composed.{usual}
 use Rattle.ild_view.specs.View.{IsView}
 use Rattle.ild_view.specs.declared.view.View.{View}
 
@@ -35,9 +34,9 @@ fails_viewed A v m n (Err F.NoKey) all = tt
 fails_viewed A v m n (Err F.Size) all = tt
 fails_viewed A v m n (Err (F.Clash id kept new)) all = tt
 
-pub trail_fails : (h : List ℕ → List ℕ) (k : List ℕ) (slots : List TrieSlot) (m n : Moment) (e : HamtFault) → Descends h usual k slots m (Err e) n → FailsOnly {A = Entered} m (Err e) n
-trail_fails h k slots m n e d = by e d.answer where
-  by : (f : HamtFault) → DescendAnswer h usual k m d.bs d.last (Err f) n → FailsOnly {A = Entered} m (Err f) n
+pub trail_fails : (h : List ℕ → List ℕ) (p : HamtShape) (k : List ℕ) (slots : List TrieSlot) (m n : Moment) (e : HamtFault) → Descends h p k slots m (Err e) n → FailsOnly {A = Entered} m (Err e) n
+trail_fails h p k slots m n e d = by e d.answer where
+  by : (f : HamtFault) → DescendAnswer h p k m d.bs d.last (Err f) n → FailsOnly {A = Entered} m (Err f) n
   by F.Store a = a
   by F.Memory a = tt
   by (F.Block id why) a = tt

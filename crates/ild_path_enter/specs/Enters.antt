@@ -6,6 +6,7 @@ use Rattle.ild_data.specs.Data.{Data}
 use Rattle.ild_data.specs.Key.{value_at}
 use Rattle.ild_data.specs.Trie.{TrieSlot}
 use Rattle.ild_data.specs.TrieShape.{trie_levels}
+use Rattle.ild_data.specs.declared.hamt_shape.HamtShape.{HamtShape}
 use Rattle.ild_edges.specs.Count.{Rose}
 use Rattle.ild_edges.specs.Store.{Moment, block_at}
 use Rattle.ild_schema.specs.declared.number.Slot.{Slot}
@@ -15,7 +16,6 @@ use Rattle.ild_schema.specs.Value.{Value, Pairs, map, pairs_list}
 use Rattle.ild_node_slots.specs.declared.fault.HamtFault.{HamtFault}
 use Rattle.ild_node_slots.specs.declared.fault.HamtFault.TheVariants as F
 use Rattle.ild_hamt_trie.specs.Way.{way}
-use Rattle.ild_typed.specs.Composed.{usual}
 use Rattle.ild_typed.specs.Node.{IsRoot}
 use Rattle.ild_typed.specs.OfType.{TestsKeys}
 use Rattle.ild_typed.specs.Schema.{IsSchema}
@@ -41,7 +41,7 @@ pub record CanEnter (h : List ℕ → List ℕ) (rows : List Row) (is_key : ℕ 
   pub keys : TestsKeys rows is_key
   pub hamt : IsHamt rows s elem
   pub held : IsHeld (block_at was) h rows (room + 5) s t (map ps)
-  pub trie : IsTrieIn h rows was elem ps t es
+  pub trie : IsTrieIn h hamt.3 rows was elem ps t es
 
 -- the value at a key, which is held, as one of its slot
 pub record IsValueThere (h : List ℕ → List ℕ) (rows : List Row) (was : List (List ℕ)) (elem : Slot) (room : ℕ) (w : Value) (e : Entry) : Type 0 where
@@ -55,20 +55,20 @@ EntryThere h rows was elem room (Some w) (Some e) = IsValueThere h rows was elem
 EntryThere h rows was elem room None (Some e) = ⊥
 EntryThere h rows was elem room (Some w) None = ⊥
 
-pub record IsEnteredAt (h : List ℕ → List ℕ) (rows : List Row) (was : List (List ℕ)) (elem : Slot) (room : ℕ) (t : Data) (ps : Pairs) (es : List (List ℕ × Data)) (k : List ℕ) (r : Entered) : Type 0 where
-  pub found : (slots : List TrieSlot) → IsRoot usual slots t → IsTrailOf h usual k slots es r.trail
+pub record IsEnteredAt (h : List ℕ → List ℕ) (p : HamtShape) (rows : List Row) (was : List (List ℕ)) (elem : Slot) (room : ℕ) (t : Data) (ps : Pairs) (es : List (List ℕ × Data)) (k : List ℕ) (r : Entered) : Type 0 where
+  pub found : (slots : List TrieSlot) → IsRoot p slots t → IsTrailOf h p k slots es r.trail
   pub value : EntryThere h rows was elem room (value_at k (pairs_list ps)) r.entry
 
 -- no block is refused
-abbrev pub EnterAnswer : (List ℕ → List ℕ) → List Row → List (List ℕ) → Slot → ℕ → Data → Pairs → List (List ℕ × Data) → List ℕ → Moment → Result Entered HamtFault → Moment → Type 0
-EnterAnswer h rows was elem room t ps es k m (Ok r) n = IsEnteredAt h rows was elem room t ps es k r
-EnterAnswer h rows was elem room t ps es k m (Err F.Store) n = Rose m.faults n.faults
-EnterAnswer h rows was elem room t ps es k m (Err F.Memory) n = Unit {0}
-EnterAnswer h rows was elem room t ps es k m (Err e) n = ⊥
+abbrev pub EnterAnswer : (List ℕ → List ℕ) → HamtShape → List Row → List (List ℕ) → Slot → ℕ → Data → Pairs → List (List ℕ × Data) → List ℕ → Moment → Result Entered HamtFault → Moment → Type 0
+EnterAnswer h p rows was elem room t ps es k m (Ok r) n = IsEnteredAt h p rows was elem room t ps es k r
+EnterAnswer h p rows was elem room t ps es k m (Err F.Store) n = Rose m.faults n.faults
+EnterAnswer h p rows was elem room t ps es k m (Err F.Memory) n = Unit {0}
+EnterAnswer h p rows was elem room t ps es k m (Err e) n = ⊥
 
-pub record EntersHamt (h : List ℕ → List ℕ) (rows : List Row) (was : List (List ℕ)) (elem : Slot) (room : ℕ) (t : Data) (ps : Pairs) (es : List (List ℕ × Data)) (k : List ℕ) (m : Moment) (result : Result Entered HamtFault) (n : Moment) : Type 0 where
-  pub answer : EnterAnswer h rows was elem room t ps es k m result n
-  pub gets : n.gets ≤ m.gets + length (way h usual k (trie_levels usual) 0 es)
+pub record EntersHamt (h : List ℕ → List ℕ) (p : HamtShape) (rows : List Row) (was : List (List ℕ)) (elem : Slot) (room : ℕ) (t : Data) (ps : Pairs) (es : List (List ℕ × Data)) (k : List ℕ) (m : Moment) (result : Result Entered HamtFault) (n : Moment) : Type 0 where
+  pub answer : EnterAnswer h p rows was elem room t ps es k m result n
+  pub gets : n.gets ≤ m.gets + length (way h p k (trie_levels p) 0 es)
 
 -- over every store: it failed only where faults rose
 abbrev pub FailsOnly : {A : Type 0} → Moment → Result A HamtFault → Moment → Type 0

@@ -46,7 +46,7 @@ module _ (rows : List Row) (slot elem : Slot) (ps : Pairs) (is : IsHamt rows slo
   Own = entries (is.0).0 elem false (pairs_list ps)
 
   pub hamt_seen : seen rows (slot, map ps) ≡ Own
-  hamt_seen = ap (λ G. map_holder G ps) is.3
+  hamt_seen = ap (λ G. map_holder G ps) is.4
 
   pub entry_part : (k : List ℕ) (w : Value) → value_at k (pairs_list ps) ≡ Some w → part (seen rows (slot, map ps)) k ≡ Some (elem, w)
   entry_part k w e = ap (λ h. part h k) hamt_seen ∙ ap (option_map (λ v. (elem, v))) e

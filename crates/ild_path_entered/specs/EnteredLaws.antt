@@ -13,7 +13,6 @@ use Rattle.ild_schema.specs.Value.{Value, Pairs, map, pairs_list}
 use Rattle.ild_script.specs.declared.reply.No.{No}
 use Rattle.ild_script.specs.declared.reply.No.TheVariants as N
 use Rattle.ild_typed.specs.At.{InSlot, seen, at, met}
-use Rattle.ild_typed.specs.Composed.{usual}
 use Rattle.ild_typed.specs.Fits.{Fits}
 use Rattle.ild_typed.specs.Hamt.{root_map, whole}
 use Rattle.ild_typed.specs.OfType.{OfType, TestsKeys}
@@ -87,16 +86,16 @@ abbrev pub EntriesArePut : Type 0
 EntriesArePut =
     (h : List ℕ → List ℕ) (rows : List Row) (is_key : ℕ → List ℕ → Bool) → IsSchema rows → TestsKeys rows is_key → (was now : List (List ℕ)) → Keeps was now
     → (room less : ℕ) (p : InSlot) (front : List (List ℕ)) (slot elem : Slot) (ps : Pairs) (t t' d u node : Data) (es : List (List ℕ × Data)) (k : List ℕ) (w : Value)
-    → IsHeld (block_at was) h rows room p.0 t p.1 → IsEntered rows p front slot elem ps → IsTrieIn h rows was elem ps t' es → IsUtf8 k → fits_key is_key rows slot ps k ≡ true → IsHeld (block_at now) h rows less elem d w
+    → IsHeld (block_at was) h rows room p.0 t p.1 → (entered : IsEntered rows p front slot elem ps) → IsTrieIn h entered.hamt.3 rows was elem ps t' es → IsUtf8 k → fits_key is_key rows slot ps k ≡ true → IsHeld (block_at now) h rows less elem d w
     → Fits rows room p.0 (with_part rows p front (with_entry k w ps)) → represented (whole h) rows p.0 (with_part rows p front (with_entry k w ps)) ≡ Some u
-    → node_of h usual (trie_levels usual) 0 (insert bytewise k d es) ≡ Some node → HoldsBelow h usual now (trie_levels usual) 0 (insert bytewise k d es)
-    → IsHeld (block_at now) h rows room p.0 u (with_part rows p front (with_entry k w ps)) × IsHeld (block_at now) h rows (room_at rows room p front) slot (root_map usual node) (with_entry k w ps)
+    → node_of h entered.hamt.3 (trie_levels entered.hamt.3) 0 (insert bytewise k d es) ≡ Some node → HoldsBelow h entered.hamt.3 now (trie_levels entered.hamt.3) 0 (insert bytewise k d es)
+    → IsHeld (block_at now) h rows room p.0 u (with_part rows p front (with_entry k w ps)) × IsHeld (block_at now) h rows (room_at rows room p front) slot (root_map entered.hamt.3 node) (with_entry k w ps)
 
 abbrev pub EntriesAreCut : Type 0
 EntriesAreCut =
     (h : List ℕ → List ℕ) (rows : List Row) (is_key : ℕ → List ℕ → Bool) → IsSchema rows → TestsKeys rows is_key → (was now : List (List ℕ)) → Keeps was now
     → (room : ℕ) (p : InSlot) (front : List (List ℕ)) (slot elem : Slot) (ps : Pairs) (t t' u node : Data) (es : List (List ℕ × Data)) (k : List ℕ)
-    → IsHeld (block_at was) h rows room p.0 t p.1 → IsEntered rows p front slot elem ps → IsTrieIn h rows was elem ps t' es
+    → IsHeld (block_at was) h rows room p.0 t p.1 → (entered : IsEntered rows p front slot elem ps) → IsTrieIn h entered.hamt.3 rows was elem ps t' es
     → Fits rows room p.0 (with_part rows p front (without_entry k ps)) → represented (whole h) rows p.0 (with_part rows p front (without_entry k ps)) ≡ Some u → is_some (value_at k (pairs_list ps)) ≡ true
-    → node_of h usual (trie_levels usual) 0 (remove k es) ≡ Some node → HoldsBelow h usual now (trie_levels usual) 0 (remove k es)
-    → IsHeld (block_at now) h rows room p.0 u (with_part rows p front (without_entry k ps)) × IsHeld (block_at now) h rows (room_at rows room p front) slot (root_map usual node) (without_entry k ps)
+    → node_of h entered.hamt.3 (trie_levels entered.hamt.3) 0 (remove k es) ≡ Some node → HoldsBelow h entered.hamt.3 now (trie_levels entered.hamt.3) 0 (remove k es)
+    → IsHeld (block_at now) h rows room p.0 u (with_part rows p front (without_entry k ps)) × IsHeld (block_at now) h rows (room_at rows room p front) slot (root_map entered.hamt.3 node) (without_entry k ps)

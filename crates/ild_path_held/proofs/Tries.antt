@@ -1,5 +1,5 @@
 -- The HAMT of a value that is held, and with an entry put or gone.
-use Rattle.std.proofs.Common.{◌≡◌, ℕ, cond, List, [], ◌∷◌, Bool, true, false, Option, Some, None, option_map, refl, ap, sym, subst, ◌∙◌}
+use Rattle.std.proofs.Common.{◌≡◌, ◌-◌, ℕ, cond, List, [], ◌∷◌, Bool, true, false, Option, Some, None, option_map, refl, ap, sym, subst, ◌∙◌}
 use Rattle.std.specs.Prelude.{Contains, is_some, option_and_then}
 use Rattle.std.specs.FinMap.{put as insert}
 use Rattle.std.specs.List.{AllByRecursion}
@@ -14,6 +14,7 @@ use Rattle.ild_data.specs.Trie.{node_of, trie}
 use Rattle.ild_data.specs.TrieBlocks.{nodes_beneath}
 use Rattle.ild_data.specs.TrieShape.{trie_levels}
 use Rattle.ild_data.proofs.Rising.{rises_put, rises_without}
+use Rattle.ild_data.specs.declared.hamt_shape.HamtShape.{HamtShape}
 use Rattle.ild_edges.specs.Store.{Keeps, block_at}
 use Rattle.ild_schema.specs.declared.def.MapForm.TheVariants as MF
 use Rattle.ild_schema.specs.declared.def.TypeDef.{TypeDef}
@@ -25,13 +26,14 @@ use Rattle.ild_schema.specs.Slots.{form_of}
 use Rattle.ild_schema.specs.Value as V
 use Rattle.ild_schema.specs.Value.{Value, Pairs, pairs_of, pairs_list}
 use Rattle.ild_node_slots.specs.Form.{AreTexts}
+use Rattle.std.proofs.Math.Nat.{sub-zero}
 use Rattle.ild_hamt_trie.proofs.Node.{trie-sorted}
 use Rattle.ild_hamt_trie.proofs.Parts.{in_order-sorted, find-sorted}
 use Rattle.ild_typed.specs.Blocks.{nodes, hamt_nodes}
-use Rattle.ild_typed.specs.Composed.{composed, usual}
+use Rattle.ild_typed.specs.Composed.{composed}
 use Rattle.ild_typed.specs.Fits.{Fits}
 use Rattle.ild_typed.specs.Hamt.{root_map, whole}
-use Rattle.ild_typed.specs.Known.{HeldNode}
+use Rattle.ild_typed.specs.Known.{AreKnown, HeldNode}
 use Rattle.ild_typed.specs.Layer as L
 use Rattle.ild_typed.specs.Pieces.{is_null_there}
 use Rattle.ild_typed.specs.Represented.{layered, represented, represented_pairs}
@@ -119,34 +121,34 @@ module _ (h : List ℕ → List ℕ) (rows : List Row) (elem : Slot) where
 
 module _ (h : List ℕ → List ℕ) (rows : List Row) (s elem : Slot) (is : IsHamt rows s elem) where
   abbrev Own : TypeDef
-  Own = D.Map is.0 is.1 elem is.2 MF.Hamt
+  Own = D.Map is.0 is.1 elem is.2 (MF.Hamt is.3)
 
   -- where its pairs have these data
-  pub map_data : (ps : Pairs) (es : List (List ℕ × Data)) → represented_pairs (whole h) rows elem ps ≡ Some es → represented (whole h) rows s (V.map ps) ≡ option_map (root_map usual) (trie h usual es 0)
+  pub map_data : (ps : Pairs) (es : List (List ℕ × Data)) → represented_pairs (whole h) rows elem ps ≡ Some es → represented (whole h) rows s (V.map ps) ≡ option_map (root_map is.3) (trie h is.3 es 0)
   map_data ps es e =
-      ap (λ o. layered (whole h) o (option_map L.map (option_and_then (λ u. represented_pairs (whole h) rows u ps) (element_of o)))) is.3
+      ap (λ o. layered (whole h) o (option_map L.map (option_and_then (λ u. represented_pairs (whole h) rows u ps) (element_of o)))) is.4
       ∙ ap (λ o. option_and_then (composed (whole h) Own) (option_map L.map o)) e
 
-  own_data : (ps : Pairs) (es : List (List ℕ × Data)) (node : Data) → represented_pairs (whole h) rows elem ps ≡ Some es → trie h usual es 0 ≡ Some node
-      → hamt_nodes h (form_of rows s) (represented_pairs (whole h) rows elem ps) ≡ nodes_beneath h usual (trie_levels usual) 0 (in_byte_order es)
+  own_data : (ps : Pairs) (es : List (List ℕ × Data)) (node : Data) → represented_pairs (whole h) rows elem ps ≡ Some es → trie h is.3 es 0 ≡ Some node
+      → hamt_nodes h (form_of rows s) (represented_pairs (whole h) rows elem ps) ≡ nodes_beneath h is.3 (trie_levels is.3) 0 (in_byte_order es)
   own_data ps es node e tree =
-      (λ i. hamt_nodes h (is.3 i) (e i)) ∙ ap (λ (o : Option Data). cond (is_some o) (nodes_beneath h usual (trie_levels usual) 0 (in_byte_order es)) []) tree
+      (λ i. hamt_nodes h (is.4 i) (e i)) ∙ ap (λ (o : Option Data). cond (is_some o) (nodes_beneath h is.3 (trie_levels is.3) 0 (in_byte_order es)) []) tree
 
   -- the trie of entries in the key order
-  trie_is : (es : List (List ℕ × Data)) (node : Data) → Rises es → node_of h usual (trie_levels usual) 0 (in_byte_order es) ≡ Some node → trie h usual es 0 ≡ Some node
-  trie_is es node up e = trie-sorted h usual es 0 (once es up) ∙ e
+  trie_is : (es : List (List ℕ × Data)) (node : Data) → Rises es → node_of h is.3 (trie_levels is.3) 0 (in_byte_order es) ≡ Some node → trie h is.3 es 0 ≡ Some node
+  trie_is es node up e = trie-sorted h is.3 es 0 (once es up) ∙ ap (λ l. node_of h is.3 l 0 (in_byte_order es)) (sub-zero (trie_levels is.3)) ∙ e
 
   -- held where the nodes of its trie and those of its values are
   made : (now : List (List ℕ)) (room : ℕ) (xs : List (List ℕ × Value)) (pairs : List (List ℕ × Data)) (node : Data) → data_of_pairs h rows elem xs ≡ Some pairs → Rises pairs → Fits rows room s (V.map (pairs_of xs))
-      → node_of h usual (trie_levels usual) 0 (in_byte_order pairs) ≡ Some node → HoldsBelow h usual now (trie_levels usual) 0 (in_byte_order pairs) → Each (EntryHas (IsHeldBlock (block_at now)) h rows elem) xs
-      → IsHeld (block_at now) h rows room s (root_map usual node) (V.map (pairs_of xs))
+      → node_of h is.3 (trie_levels is.3) 0 (in_byte_order pairs) ≡ Some node → HoldsBelow h is.3 now (trie_levels is.3) 0 (in_byte_order pairs) → Each (EntryHas (IsHeldBlock (block_at now)) h rows elem) xs
+      → IsHeld (block_at now) h rows room s (root_map is.3 node) (V.map (pairs_of xs))
   made now room xs pairs node e up fits tree holds values =
       let whole_trie = trie_is pairs node up tree in
       let P : List ℕ → Type 0 = IsHeldBlock (block_at now) in
-      let own = known_blocks P (HeldNode (block_at now)) (λ d k. record { short = k.within.sized; there = k.there }) h usual (trie_levels usual) 0 (in_byte_order pairs) node tree (holds_known h now (trie_levels usual) 0 (in_byte_order pairs) holds) in
+      let own = known_blocks P (HeldNode (block_at now)) (λ d k. record { short = k.within.sized; there = k.there }) h is.3 (trie_levels is.3) 0 (in_byte_order pairs) node tree (holds_known h is.3 now (trie_levels is.3) 0 (in_byte_order pairs) holds) in
       record {
         fits = fits;
-        tree = map_data (pairs_of xs) pairs e ∙ ap (option_map (root_map usual)) whole_trie;
+        tree = map_data (pairs_of xs) pairs e ∙ ap (option_map (root_map is.3)) whole_trie;
         held = from_entries P h rows s elem is xs (subst (AllByRecursion P) (sym (own_data (pairs_of xs) pairs node e whole_trie)) own) values;
       }
 
@@ -160,22 +162,23 @@ abbrev pairs_in : Value → Pairs
 pairs_in (V.map ps) = ps
 pairs_in v = V.no_pairs
 
-root_there : (s : Slot) (t node : Data) → t ≡ root_map usual node → is_null_there s t ≡ false
-root_there s t node e = ap (is_null_there s) e
+root_there : (p : HamtShape) (s : Slot) (t node : Data) → t ≡ root_map p node → is_null_there s t ≡ false
+root_there p s t node e = ap (is_null_there s) e
 
 pub hamts_are_tries : HamtsAreTries
 hamts_are_tries = λ h rows schema held room less le s elem t ps is left has.
     let e : layered (whole h) (Some (Own h rows s elem is)) (option_map L.map (represented_pairs (whole h) rows elem ps)) ≡ Some t =
-    sym (ap (λ o. layered (whole h) o (option_map L.map (option_and_then (λ u. represented_pairs (whole h) rows u ps) (element_of o)))) is.3) ∙ has.tree in
+    sym (ap (λ o. layered (whole h) o (option_map L.map (option_and_then (λ u. represented_pairs (whole h) rows u ps) (element_of o)))) is.4) ∙ has.tree in
     let l = then_from (composed (whole h) (Own h rows s elem is)) (option_map L.map (represented_pairs (whole h) rows elem ps)) t e in
     let m = map_from L.map (represented_pairs (whole h) rows elem ps) l.item l.there in
-    let n = map_from (root_map usual) (trie h usual m.item 0) t (ap (composed (whole h) (Own h rows s elem is)) (same_Some (L.map m.item) l.item m.made) ∙ l.made) in
-    let root : t ≡ root_map usual n.item = sym (same_Some (root_map usual n.item) t n.made) in
-    let x = hamt_parts (block_at held) h rows room less s t is.0 is.1 elem is.2 is.3 left (V.map ps) (root_there s t n.item root) has in
-    let kept = hamt_kept (block_at held) h rows room less s t is.0 is.1 elem is.2 is.3 left schema.table.texts.spelled le (V.map ps) has x in
+    let n = map_from (root_map is.3) (trie h is.3 m.item 0) t (ap (composed (whole h) (Own h rows s elem is)) (same_Some (L.map m.item) l.item m.made) ∙ l.made) in
+    let root : t ≡ root_map is.3 n.item = sym (same_Some (root_map is.3 n.item) t n.made) in
+    let x = hamt_parts (block_at held) h is.3 rows room less s t is.0 is.1 elem is.2 is.4 left (V.map ps) (root_there is.3 s t n.item root) has in
+    let kept = hamt_kept (block_at held) h is.3 rows room less s t is.0 is.1 elem is.2 is.4 left schema.table.texts.spelled le (V.map ps) has x in
     let pairs : represented_pairs (whole h) rows elem ps ≡ Some x.entries = ap (λ v. represented_pairs (whole h) rows elem (pairs_in v)) x.same ∙ x.there in
-    let y = map_from (root_map usual) (trie h usual x.entries 0) t x.made in
+    let y = map_from (root_map is.3) (trie h is.3 x.entries 0) t x.made in
     let es : List (List ℕ × Data) = in_byte_order x.entries in
+    let all : trie_levels is.3 - 0 ≡ trie_levels is.3 = sub-zero (trie_levels is.3) in
     let texts : AreTexts es = sorted_texts x.entries (key_texts rows less is.0 x.entries x.keys) in (
       es,
       record {
@@ -185,9 +188,9 @@ hamts_are_tries = λ h rows schema held room less le s elem t ps is left has.
         order = refl;
         texts = texts;
         node = y.item;
-        is_node = trie_node h usual x.entries y.item y.there;
-        root = sym (same_Some (root_map usual y.item) t y.made);
-        holds = known_holds h held (trie_levels usual) 0 es (in_order-sorted x.entries) texts kept.1;
+        is_node = ap (λ l. node_of h is.3 l 0 es) (sym all) ∙ trie_node h is.3 x.entries y.item y.there;
+        root = sym (same_Some (root_map is.3 y.item) t y.made);
+        holds = known_holds h is.3 held (trie_levels is.3) 0 es (in_order-sorted x.entries) texts (subst (λ l. AreKnown h is.3 (HeldNode (block_at held)) l 0 es) all kept.1);
         found = λ k. subst (IsValueOf h rows elem (value_at k (pairs_list ps))) (sym (find-sorted k x.entries ∙ same_find k x.entries)) (found_data h rows elem k (pairs_list ps) x.entries (ap (represented_pairs (whole h) rows elem) (pairs_back ps) ∙ pairs));
       },
     )
@@ -204,7 +207,7 @@ hamts_are_put = λ h rows was now keeps before room less s elem t t' d node ps e
     let order : insert bytewise k d es ≡ in_byte_order (put k d x.pairs) = ap (insert bytewise k d) x.order ∙ sorted_put k d x.pairs in
     made h rows s elem is now room (put k w xs) (put k d x.pairs) node
     (put_data h rows elem k w d xs x.pairs new.tree (ap (represented_pairs (whole h) rows elem) (pairs_back ps) ∙ x.represents))
-    (rises_put k d x.pairs x.rises) fits (ap (node_of h usual (trie_levels usual) 0) (sym order) ∙ tree) (subst (HoldsBelow h usual now (trie_levels usual) 0) order holds)
+    (rises_put k d x.pairs x.rises) fits (ap (node_of h is.3 (trie_levels is.3) 0) (sym order) ∙ tree) (subst (HoldsBelow h is.3 now (trie_levels is.3) 0) order holds)
     (each_put (EntryHas (IsHeldBlock (block_at now)) h rows elem) k w xs (others_held h rows was now keeps before s elem t ps is has) new.held)
 
 pub hamts_are_cut : HamtsAreCut
@@ -213,20 +216,20 @@ hamts_are_cut = λ h rows was now keeps before room s elem t t' node ps es k is 
     let order : remove k es ≡ in_byte_order (without k x.pairs) = ap (remove k) x.order ∙ sorted_without k x.pairs x.rises in
     made h rows s elem is now room (without k xs) (without k x.pairs) node
     (cut_data h rows elem k xs x.pairs (ap (represented_pairs (whole h) rows elem) (pairs_back ps) ∙ x.represents))
-    (rises_without k x.pairs x.rises) fits (ap (node_of h usual (trie_levels usual) 0) (sym order) ∙ tree) (subst (HoldsBelow h usual now (trie_levels usual) 0) order holds)
+    (rises_without k x.pairs x.rises) fits (ap (node_of h is.3 (trie_levels is.3) 0) (sym order) ∙ tree) (subst (HoldsBelow h is.3 now (trie_levels is.3) 0) order holds)
     (each_without (EntryHas (IsHeldBlock (block_at now)) h rows elem) k xs (others_held h rows was now keeps before s elem t ps is has))
 
 -- the pairs of a HAMT with data have a trie
 has_trie : (h : List ℕ → List ℕ) (rows : List Row) (s elem : Slot) (is : IsHamt rows s elem) (ps : Pairs) (pairs es : List (List ℕ × Data)) (x : Data) → represented_pairs (whole h) rows elem ps ≡ Some pairs → es ≡ in_byte_order pairs
-    → represented (whole h) rows s (V.map ps) ≡ Some x → HasTrie h rows s (V.map ps) x es
+    → represented (whole h) rows s (V.map ps) ≡ Some x → HasTrie h is.3 rows s (V.map ps) x es
 has_trie h rows s elem is ps pairs es x e order made =
-    let y = map_from (root_map usual) (trie h usual pairs 0) x (sym (map_data h rows s elem is ps pairs e) ∙ made) in
+    let y = map_from (root_map is.3) (trie h is.3 pairs 0) x (sym (map_data h rows s elem is ps pairs e) ∙ made) in
     let mine = all_itself (nodes h rows s (V.map ps)) in
     record {
       node = y.item;
-      is_node = ap (node_of h usual (trie_levels usual) 0) order ∙ trie_node h usual pairs y.item y.there;
-      root = sym (same_Some (root_map usual y.item) x y.made);
-      among = subst (λ fs. AreAmong (nodes_beneath h usual (trie_levels usual) 0 fs) (nodes h rows s (V.map ps))) (sym order)
+      is_node = ap (node_of h is.3 (trie_levels is.3) 0) order ∙ ap (λ l. node_of h is.3 l 0 (in_byte_order pairs)) (sym (sub-zero (trie_levels is.3))) ∙ trie_node h is.3 pairs y.item y.there;
+      root = sym (same_Some (root_map is.3 y.item) x y.made);
+      among = subst (λ fs. AreAmong (nodes_beneath h is.3 (trie_levels is.3) 0 fs) (nodes h rows s (V.map ps))) (sym order)
           (subst (λ bs. AreAmong bs (nodes h rows s (V.map ps))) (own_data h rows s elem is ps pairs y.item e y.there) (to_entries (Contains (nodes h rows s (V.map ps))) h rows s elem is ps mine).0);
     }
 

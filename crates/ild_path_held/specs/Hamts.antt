@@ -6,11 +6,11 @@ use Rattle.ild_data.specs.Data.{Data}
 use Rattle.ild_data.specs.Key.{Rises, value_at}
 use Rattle.ild_data.specs.Trie.{node_of}
 use Rattle.ild_data.specs.TrieShape.{trie_levels}
+use Rattle.ild_data.specs.declared.hamt_shape.HamtShape.{HamtShape}
 use Rattle.ild_schema.specs.declared.number.Slot.{Slot}
 use Rattle.ild_schema.specs.declared.row.Row.{Row}
 use Rattle.ild_schema.specs.Value.{Value, Pairs, pairs_list}
 use Rattle.ild_node_slots.specs.Form.{AreTexts}
-use Rattle.ild_typed.specs.Composed.{usual}
 use Rattle.ild_typed.specs.Hamt.{root_map, whole}
 use Rattle.ild_typed.specs.Represented.{represented, represented_pairs}
 use Rattle.ild_bulk_walker.specs.Trees.{HoldsBelow}
@@ -22,15 +22,15 @@ IsValueOf h rows elem (Some w) (Some d) = represented (whole h) rows elem w ≡ 
 IsValueOf h rows elem None (Some d) = ⊥
 IsValueOf h rows elem (Some w) None = ⊥
 
--- the map of these pairs is the HAMT of these entries with this root, all of whose nodes are held
-pub record IsTrieIn (h : List ℕ → List ℕ) (rows : List Row) (held : List (List ℕ)) (elem : Slot) (ps : Pairs) (t : Data) (es : List (List ℕ × Data)) : Type 0 where
+-- the map of these pairs is the HAMT of this shape and these entries with this root, all of whose nodes are held
+pub record IsTrieIn (h : List ℕ → List ℕ) (p : HamtShape) (rows : List Row) (held : List (List ℕ)) (elem : Slot) (ps : Pairs) (t : Data) (es : List (List ℕ × Data)) : Type 0 where
   pub pairs : List (List ℕ × Data)
   pub represents : represented_pairs (whole h) rows elem ps ≡ Some pairs
   pub rises : Rises pairs
   pub order : es ≡ in_byte_order pairs
   pub texts : AreTexts es
   pub node : Data
-  pub is_node : node_of h usual (trie_levels usual) 0 es ≡ Some node
-  pub root : t ≡ root_map usual node
-  pub holds : HoldsBelow h usual held (trie_levels usual) 0 es
+  pub is_node : node_of h p (trie_levels p) 0 es ≡ Some node
+  pub root : t ≡ root_map p node
+  pub holds : HoldsBelow h p held (trie_levels p) 0 es
   pub found : (k : List ℕ) → IsValueOf h rows elem (value_at k (pairs_list ps)) (find bytewise k es)

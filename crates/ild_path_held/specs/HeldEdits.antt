@@ -14,7 +14,6 @@ use Rattle.ild_schema.specs.declared.number.Slot.{Slot}
 use Rattle.ild_schema.specs.declared.row.Row.{Row}
 use Rattle.ild_schema.specs.Value.{Value, Pairs, map, pairs_of, pairs_list}
 use Rattle.ild_typed.specs.At.{InSlot, seen, at}
-use Rattle.ild_typed.specs.Composed.{usual}
 use Rattle.ild_typed.specs.Fits.{Fits}
 use Rattle.ild_typed.specs.Hamt.{root_map, whole}
 use Rattle.ild_typed.specs.OfType.{OfType, TestsKeys}
@@ -29,6 +28,7 @@ use Rattle.ild_bulk_walker.specs.Trees.{HoldsBelow}
 use Rattle.ild_path_within.specs.Within.{with_part}
 use Rattle.ild_typed_fronts.specs.Front.{in_one_block}
 use Rattle.ild_data.specs.TrieBlocks.{nodes_beneath}
+use Rattle.ild_data.specs.declared.hamt_shape.HamtShape.{HamtShape}
 use Rattle.ild_path_nodes.specs.NodeLaws.{AreAmong, IsHamt}
 use Rattle.ild_typed.specs.Blocks.{nodes}
 use Rattle.ild_path_held.specs.Hamts.{IsTrieIn}
@@ -70,35 +70,35 @@ HeldEdits =
 -- of a HAMT that is held, the trie is held
 abbrev pub HamtsAreTries : Type 0
 HamtsAreTries =
-    (h : List ℕ → List ℕ) (rows : List Row) → IsSchema rows → (held : List (List ℕ)) (room less : ℕ) → room ≤ deepest → (s elem : Slot) (t : Data) (ps : Pairs) → IsHamt rows s elem → room ≡ less + 5
-    → IsHeld (block_at held) h rows room s t (map ps) → (es : List (List ℕ × Data)) × IsTrieIn h rows held elem ps t es
+    (h : List ℕ → List ℕ) (rows : List Row) → IsSchema rows → (held : List (List ℕ)) (room less : ℕ) → room ≤ deepest → (s elem : Slot) (t : Data) (ps : Pairs) → (is : IsHamt rows s elem) → room ≡ less + 5
+    → IsHeld (block_at held) h rows room s t (map ps) → (es : List (List ℕ × Data)) × IsTrieIn h is.3 rows held elem ps t es
 
 -- and one whose entry at a key was put, or has gone, is held where the nodes of the new trie are
 abbrev pub HamtsArePut : Type 0
 HamtsArePut =
-    (h : List ℕ → List ℕ) (rows : List Row) (was now : List (List ℕ)) → Keeps was now → (before room less : ℕ) (s elem : Slot) (t t' d node : Data) (ps : Pairs) (es : List (List ℕ × Data)) (k : List ℕ) (w : Value) → IsHamt rows s elem
-    → IsHeld (block_at was) h rows before s t (map ps) → IsTrieIn h rows was elem ps t' es → IsUtf8 k → IsHeld (block_at now) h rows less elem d w → Fits rows room s (map (pairs_of (put k w (pairs_list ps))))
-    → node_of h usual (trie_levels usual) 0 (insert bytewise k d es) ≡ Some node → HoldsBelow h usual now (trie_levels usual) 0 (insert bytewise k d es)
-    → IsHeld (block_at now) h rows room s (root_map usual node) (map (pairs_of (put k w (pairs_list ps))))
+    (h : List ℕ → List ℕ) (rows : List Row) (was now : List (List ℕ)) → Keeps was now → (before room less : ℕ) (s elem : Slot) (t t' d node : Data) (ps : Pairs) (es : List (List ℕ × Data)) (k : List ℕ) (w : Value) → (is : IsHamt rows s elem)
+    → IsHeld (block_at was) h rows before s t (map ps) → IsTrieIn h is.3 rows was elem ps t' es → IsUtf8 k → IsHeld (block_at now) h rows less elem d w → Fits rows room s (map (pairs_of (put k w (pairs_list ps))))
+    → node_of h is.3 (trie_levels is.3) 0 (insert bytewise k d es) ≡ Some node → HoldsBelow h is.3 now (trie_levels is.3) 0 (insert bytewise k d es)
+    → IsHeld (block_at now) h rows room s (root_map is.3 node) (map (pairs_of (put k w (pairs_list ps))))
 
 abbrev pub HamtsAreCut : Type 0
 HamtsAreCut =
-    (h : List ℕ → List ℕ) (rows : List Row) (was now : List (List ℕ)) → Keeps was now → (before room : ℕ) (s elem : Slot) (t t' node : Data) (ps : Pairs) (es : List (List ℕ × Data)) (k : List ℕ) → IsHamt rows s elem
-    → IsHeld (block_at was) h rows before s t (map ps) → IsTrieIn h rows was elem ps t' es → Fits rows room s (map (pairs_of (without k (pairs_list ps))))
-    → node_of h usual (trie_levels usual) 0 (remove k es) ≡ Some node → HoldsBelow h usual now (trie_levels usual) 0 (remove k es)
-    → IsHeld (block_at now) h rows room s (root_map usual node) (map (pairs_of (without k (pairs_list ps))))
+    (h : List ℕ → List ℕ) (rows : List Row) (was now : List (List ℕ)) → Keeps was now → (before room : ℕ) (s elem : Slot) (t t' node : Data) (ps : Pairs) (es : List (List ℕ × Data)) (k : List ℕ) → (is : IsHamt rows s elem)
+    → IsHeld (block_at was) h rows before s t (map ps) → IsTrieIn h is.3 rows was elem ps t' es → Fits rows room s (map (pairs_of (without k (pairs_list ps))))
+    → node_of h is.3 (trie_levels is.3) 0 (remove k es) ≡ Some node → HoldsBelow h is.3 now (trie_levels is.3) 0 (remove k es)
+    → IsHeld (block_at now) h rows room s (root_map is.3 node) (map (pairs_of (without k (pairs_list ps))))
 
 -- Where a HAMT with an entry put has data, the new entries have a trie: its root node is the data's, and its other nodes are among the
 -- value's. So it is where an entry has gone.
-pub record HasTrie (h : List ℕ → List ℕ) (rows : List Row) (s : Slot) (v : Value) (x : Data) (es : List (List ℕ × Data)) : Type 0 where
+pub record HasTrie (h : List ℕ → List ℕ) (p : HamtShape) (rows : List Row) (s : Slot) (v : Value) (x : Data) (es : List (List ℕ × Data)) : Type 0 where
   pub node : Data
-  pub is_node : node_of h usual (trie_levels usual) 0 es ≡ Some node
-  pub root : x ≡ root_map usual node
-  pub among : AreAmong (nodes_beneath h usual (trie_levels usual) 0 es) (nodes h rows s v)
+  pub is_node : node_of h p (trie_levels p) 0 es ≡ Some node
+  pub root : x ≡ root_map p node
+  pub among : AreAmong (nodes_beneath h p (trie_levels p) 0 es) (nodes h rows s v)
 
 abbrev pub HamtsHaveTries : Type 0
 HamtsHaveTries =
-    (h : List ℕ → List ℕ) (rows : List Row) (held : List (List ℕ)) (s elem : Slot) (t x : Data) (ps : Pairs) (es : List (List ℕ × Data)) (k : List ℕ) → IsHamt rows s elem → IsTrieIn h rows held elem ps t es
+    (h : List ℕ → List ℕ) (rows : List Row) (held : List (List ℕ)) (s elem : Slot) (t x : Data) (ps : Pairs) (es : List (List ℕ × Data)) (k : List ℕ) → (is : IsHamt rows s elem) → IsTrieIn h is.3 rows held elem ps t es
     → ((w : Value) (d : Data) → represented (whole h) rows elem w ≡ Some d → represented (whole h) rows s (map (pairs_of (put k w (pairs_list ps)))) ≡ Some x
-    → HasTrie h rows s (map (pairs_of (put k w (pairs_list ps)))) x (insert bytewise k d es))
-    × (represented (whole h) rows s (map (pairs_of (without k (pairs_list ps)))) ≡ Some x → HasTrie h rows s (map (pairs_of (without k (pairs_list ps)))) x (remove k es))
+    → HasTrie h is.3 rows s (map (pairs_of (put k w (pairs_list ps)))) x (insert bytewise k d es))
+    × (represented (whole h) rows s (map (pairs_of (without k (pairs_list ps)))) ≡ Some x → HasTrie h is.3 rows s (map (pairs_of (without k (pairs_list ps)))) x (remove k es))

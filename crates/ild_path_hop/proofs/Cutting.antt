@@ -95,7 +95,7 @@ module _ (h : List ℕ → List ℕ) (is_key : ℕ → List ℕ → Bool) (was :
   abbrev pub X : Data
   X = own.0
 
-  pub hamt_held : IsHamtHeld h Rows was slot elem set.root ps es k found
+  abbrev pub hamt_held : IsHamtHeld h Rows was slot elem set.root ps es k found
   hamt_held = record { schema = level.schema; hamt = set.entered.hamt; before = Less; held = old_held; trie = set.trie; utf8 = set.utf8; trail = set.trail }
 
   pub hamt_cut : IsCut h Rows slot Less ps k X
@@ -110,7 +110,7 @@ module _ (h : List ℕ → List ℕ) (is_key : ℕ → List ℕ → Bool) (was :
 
   front_hamt : front h Rows slot (map ps) ≡ hamt set.root
   front_hamt =
-      ap (λ o. root_or_map (is_hamt o) (represented (whole h) Rows slot (map ps)) (option_map_or (λ r. fronts_of_pairs h Rows r ps) (element_of (form_of Rows slot)) ps)) set.entered.hamt.3
+      ap (λ o. root_or_map (is_hamt o) (represented (whole h) Rows slot (map ps)) (option_map_or (λ r. fronts_of_pairs h Rows r ps) (element_of (form_of Rows slot)) ps)) set.entered.hamt.4
       ∙ ap root_of set.data_is
 
   pub reached_hamt : reached Rows 0 (S, front h Rows S v) path ≡ here (slot, hamt set.root)
@@ -130,7 +130,7 @@ module _ (h : List ℕ → List ℕ) (is_key : ℕ → List ℕ → Bool) (was :
   not_lost e is = subst (λ r. Reaches Rows r (Err e)) reached_hamt is
 
   safe_hamt : IsSafe Rows slot
-  safe_hamt = λ nullable. ap (λ o. kind_in o K.Null) set.entered.hamt.3
+  safe_hamt = λ nullable. ap (λ o. kind_in o K.Null) set.entered.hamt.4
 
   pub edits : (n : Node) → Stands n X → Edits is_key view path (E.Set n) (front h Rows S v) (front h Rows slot M) (front h Rows S C) t u
   edits n stands =
@@ -179,10 +179,10 @@ module _ (h : List ℕ → List ℕ) (is_key : ℕ → List ℕ → Bool) (was :
     failed (F.Block id why) is = absurd is
     failed (F.Clash id kept new) is = (among_of new (nodes h Rows slot M) (nodes h Rows S C) among is.0, is.1, is.2, is.3, is.4, is.5)
 
-    pub level_failed : (e : HamtFault) → EditsHamt h Rows slot Less k (remove k es) M X m (Err e) n → SetsLevel h Rows room S C u k (remove k es) m (Err e) n
+    pub level_failed : (e : HamtFault) → EditsHamt h set.entered.hamt.3 Rows slot Less k (remove k es) M X m (Err e) n → SetsLevel h set.entered.hamt.3 Rows room S C u k (remove k es) m (Err e) n
     level_failed e x = record { hamt = X; part = part; answer = failed e x.answer; later = x.later; adds = added x.adds; puts = x.puts; given = tt }
 
-    done : (root : List ℕ) → EditsHamt h Rows slot Less k (remove k es) M X m (Ok root) n → (r : Result (List ℕ) HamtFault) → MakesRoot (spell u) r → LevelAnswer h Rows room S C u X m r n
+    done : (root : List ℕ) → EditsHamt h set.entered.hamt.3 Rows slot Less k (remove k es) M X m (Ok root) n → (r : Result (List ℕ) HamtFault) → MakesRoot (spell u) r → LevelAnswer h Rows room S C u X m r n
     done root x (Ok b) makes = (
       makes.0,
       makes.1,
@@ -198,5 +198,5 @@ module _ (h : List ℕ → List ℕ) (is_key : ℕ → List ℕ → Bool) (was :
     done root x (Err (F.Block id why)) makes = absurd makes
     done root x (Err (F.Clash id kept new)) makes = absurd makes
 
-    pub level_done : (root : List ℕ) → EditsHamt h Rows slot Less k (remove k es) M X m (Ok root) n → (r : Result (List ℕ) HamtFault) → MakesRoot (spell u) r → SetsLevel h Rows room S C u k (remove k es) m r n
-    level_done root x r makes = record { hamt = X; part = part; answer = done root x r makes; later = x.later; adds = added x.adds; puts = x.puts; given = still_given h k (remove k es) root r n x.given }
+    pub level_done : (root : List ℕ) → EditsHamt h set.entered.hamt.3 Rows slot Less k (remove k es) M X m (Ok root) n → (r : Result (List ℕ) HamtFault) → MakesRoot (spell u) r → SetsLevel h set.entered.hamt.3 Rows room S C u k (remove k es) m r n
+    level_done root x r makes = record { hamt = X; part = part; answer = done root x r makes; later = x.later; adds = added x.adds; puts = x.puts; given = still_given h set.entered.hamt.3 k (remove k es) root r n x.given }

@@ -12,6 +12,7 @@ use Rattle.ild_data.specs.Data.{Data}
 use Rattle.ild_data.specs.Limits.{longest_block}
 use Rattle.ild_data.specs.Spell.{spell}
 use Rattle.ild_data.specs.Tree.{IsTree}
+use Rattle.ild_data.specs.declared.hamt_shape.HamtShape.{HamtShape}
 use Rattle.ild_edges.specs.Store.{Moment, Keeps, block_at}
 use Rattle.ild_edges.specs.Told.{IfTold, BothTold}
 use Rattle.ild_bulk.proofs.Puts.{told-map}
@@ -98,9 +99,9 @@ told_here (Some a) None was P Q R is f t u = absurd t
 told_here (Some a) (Some b) was P Q R is f t u = let same : was ≡ a = cc in f b (subst (λ c. P c b) (sym same) t) u
 
 -- what was given by the setting of an entry is given whatever was made of the block then
-pub still_given : (h : List ℕ → List ℕ) (k : List ℕ) (es : List (List ℕ × Data)) (root : List ℕ) (r : Result (List ℕ) HamtFault) (n : Moment) → GivesWay h k es (Ok root) n → GivesWay h k es r n
-still_given h k es root (Ok b) n all = all
-still_given h k es root (Err e) n all = tt
+pub still_given : (h : List ℕ → List ℕ) (p : HamtShape) (k : List ℕ) (es : List (List ℕ × Data)) (root : List ℕ) (r : Result (List ℕ) HamtFault) (n : Moment) → GivesWay h p k es (Ok root) n → GivesWay h p k es r n
+still_given h p k es root (Ok b) n all = all
+still_given h p k es root (Err e) n all = tt
 
 pub item_stands : (b : List ℕ) (n : Node) (d x : Data) → IsBlockOf b d → IsRoot n b d → b ≡ spell x → IsTree x → Stands n x
 item_stands b n d x block root e tree = subst (Stands n) (one_within d x block.within tree (sym block.spelled ∙ e)) root.stands
@@ -148,7 +149,7 @@ module _ (h : List ℕ → List ℕ) (is_key : ℕ → List ℕ → Bool) (was :
   abbrev pub X : Data
   X = own.0
 
-  pub hamt_held : IsHamtHeld h Rows was slot elem set.root ps es k found
+  abbrev pub hamt_held : IsHamtHeld h Rows was slot elem set.root ps es k found
   hamt_held = record { schema = level.schema; hamt = set.entered.hamt; before = Less; held = old_held; trie = set.trie; utf8 = set.utf8; trail = set.trail }
 
   pub hamt_put : IsPut h Rows was slot elem Less ps k w d X
@@ -163,7 +164,7 @@ module _ (h : List ℕ → List ℕ) (is_key : ℕ → List ℕ → Bool) (was :
 
   front_hamt : front h Rows slot (map ps) ≡ hamt set.root
   front_hamt =
-      ap (λ o. root_or_map (is_hamt o) (represented (whole h) Rows slot (map ps)) (option_map_or (λ r. fronts_of_pairs h Rows r ps) (element_of (form_of Rows slot)) ps)) set.entered.hamt.3
+      ap (λ o. root_or_map (is_hamt o) (represented (whole h) Rows slot (map ps)) (option_map_or (λ r. fronts_of_pairs h Rows r ps) (element_of (form_of Rows slot)) ps)) set.entered.hamt.4
       ∙ ap root_of set.data_is
 
   pub reached_hamt : reached Rows 0 (S, front h Rows S v) path ≡ here (slot, hamt set.root)
@@ -183,7 +184,7 @@ module _ (h : List ℕ → List ℕ) (is_key : ℕ → List ℕ → Bool) (was :
   not_lost e is = subst (λ r. Reaches Rows r (Err e)) reached_hamt is
 
   safe_hamt : IsSafe Rows slot
-  safe_hamt = λ nullable. ap (λ o. kind_in o K.Null) set.entered.hamt.3
+  safe_hamt = λ nullable. ap (λ o. kind_in o K.Null) set.entered.hamt.4
 
   pub edits : (n : Node) → Stands n X → Edits is_key view path (E.Set n) (front h Rows S v) (front h Rows slot M) (front h Rows S C) t u
   edits n stands =
@@ -232,10 +233,10 @@ module _ (h : List ℕ → List ℕ) (is_key : ℕ → List ℕ → Bool) (was :
     failed (F.Block id why) is = absurd is
     failed (F.Clash id kept new) is = (among_of new (nodes h Rows slot M) (nodes h Rows S C) among is.0, is.1, is.2, is.3, is.4, is.5)
 
-    pub level_failed : (e : HamtFault) → EditsHamt h Rows slot Less k (insert bytewise k d es) M X m (Err e) n → SetsLevel h Rows room S C u k (insert bytewise k d es) m (Err e) n
+    pub level_failed : (e : HamtFault) → EditsHamt h set.entered.hamt.3 Rows slot Less k (insert bytewise k d es) M X m (Err e) n → SetsLevel h set.entered.hamt.3 Rows room S C u k (insert bytewise k d es) m (Err e) n
     level_failed e x = record { hamt = X; part = part; answer = failed e x.answer; later = x.later; adds = added x.adds; puts = x.puts; given = tt }
 
-    done : (root : List ℕ) → EditsHamt h Rows slot Less k (insert bytewise k d es) M X m (Ok root) n → (r : Result (List ℕ) HamtFault) → MakesRoot (spell u) r → LevelAnswer h Rows room S C u X m r n
+    done : (root : List ℕ) → EditsHamt h set.entered.hamt.3 Rows slot Less k (insert bytewise k d es) M X m (Ok root) n → (r : Result (List ℕ) HamtFault) → MakesRoot (spell u) r → LevelAnswer h Rows room S C u X m r n
     done root x (Ok b) makes = (
       makes.0,
       makes.1,
@@ -251,5 +252,5 @@ module _ (h : List ℕ → List ℕ) (is_key : ℕ → List ℕ → Bool) (was :
     done root x (Err (F.Block id why)) makes = absurd makes
     done root x (Err (F.Clash id kept new)) makes = absurd makes
 
-    pub level_done : (root : List ℕ) → EditsHamt h Rows slot Less k (insert bytewise k d es) M X m (Ok root) n → (r : Result (List ℕ) HamtFault) → MakesRoot (spell u) r → SetsLevel h Rows room S C u k (insert bytewise k d es) m r n
-    level_done root x r makes = record { hamt = X; part = part; answer = done root x r makes; later = x.later; adds = added x.adds; puts = x.puts; given = still_given h k (insert bytewise k d es) root r n x.given }
+    pub level_done : (root : List ℕ) → EditsHamt h set.entered.hamt.3 Rows slot Less k (insert bytewise k d es) M X m (Ok root) n → (r : Result (List ℕ) HamtFault) → MakesRoot (spell u) r → SetsLevel h set.entered.hamt.3 Rows room S C u k (insert bytewise k d es) m r n
+    level_done root x r makes = record { hamt = X; part = part; answer = done root x r makes; later = x.later; adds = added x.adds; puts = x.puts; given = still_given h set.entered.hamt.3 k (insert bytewise k d es) root r n x.given }

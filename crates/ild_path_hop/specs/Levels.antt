@@ -8,6 +8,7 @@ use Rattle.ild_data.specs.Limits.{longest_block}
 use Rattle.ild_data.specs.Spell.{id_of, spell}
 use Rattle.ild_data.specs.Trie.{TrieSlot}
 use Rattle.ild_data.specs.TrieShape.{trie_levels}
+use Rattle.ild_data.specs.declared.hamt_shape.HamtShape.{HamtShape}
 use Rattle.ild_edges.specs.Count.{Rose}
 use Rattle.ild_edges.specs.Store.{Moment, Later, block_at}
 use Rattle.ild_edges.specs.Told.{IfTold, BothTold}
@@ -18,7 +19,6 @@ use Rattle.ild_node_slots.specs.declared.fault.HamtFault.{HamtFault}
 use Rattle.ild_node_slots.specs.declared.fault.HamtFault.TheVariants as F
 use Rattle.ild_hamt_trie.specs.Way.{way}
 use Rattle.ild_typed.specs.Blocks.{nodes}
-use Rattle.ild_typed.specs.Composed.{usual}
 use Rattle.ild_typed.specs.Fits.{Fits}
 use Rattle.ild_typed.specs.Hamt.{whole}
 use Rattle.ild_typed.specs.Node.{IsRoot}
@@ -59,8 +59,8 @@ pub record IsSetThere (h : List ℕ → List ℕ) (is_key : ℕ → List ℕ →
   pub entered : IsEntered (table_of view) (slot_of view, v) path slot elem ps
   pub root : Data
   pub data_is : represented (whole h) (table_of view) slot (map ps) ≡ Some root
-  pub trie : IsTrieIn h (table_of view) was elem ps root es
-  pub trail : (slots : List TrieSlot) → IsRoot usual slots root → IsTrailOf h usual k slots es found
+  pub trie : IsTrieIn h entered.hamt.3 (table_of view) was elem ps root es
+  pub trail : (slots : List TrieSlot) → IsRoot entered.hamt.3 slots root → IsTrailOf h entered.hamt.3 k slots es found
   pub utf8 : IsUtf8 k
   pub key : fits_key is_key (table_of view) slot ps k ≡ true
   pub less : ℕ
@@ -78,8 +78,8 @@ pub record IsCutThere (h : List ℕ → List ℕ) (is_key : ℕ → List ℕ →
   pub entered : IsEntered (table_of view) (slot_of view, v) path slot elem ps
   pub root : Data
   pub data_is : represented (whole h) (table_of view) slot (map ps) ≡ Some root
-  pub trie : IsTrieIn h (table_of view) was elem ps root es
-  pub trail : (slots : List TrieSlot) → IsRoot usual slots root → IsTrailOf h usual k slots es found
+  pub trie : IsTrieIn h entered.hamt.3 (table_of view) was elem ps root es
+  pub trail : (slots : List TrieSlot) → IsRoot entered.hamt.3 slots root → IsTrailOf h entered.hamt.3 k slots es found
   pub utf8 : IsUtf8 k
   pub there : is_some (value_at k (pairs_list ps)) ≡ true
   pub fits : Fits (table_of view) room (slot_of view) (with_cut (table_of view) (slot_of view) v path ps k)
@@ -95,19 +95,19 @@ LevelAnswer h rows room s c u x m (Err (F.Clash id kept new)) n =
 LevelAnswer h rows room s c u x m (Err F.Memory) n = Unit {0}
 LevelAnswer h rows room s c u x m (Err e) n = ⊥
 
-pub record SetsLevel (h : List ℕ → List ℕ) (rows : List Row) (room : ℕ) (s : Slot) (c : Value) (u : Data) (k : List ℕ) (es : List (List ℕ × Data)) (m : Moment) (result : Result (List ℕ) HamtFault) (n : Moment) : Type 0 where
+pub record SetsLevel (h : List ℕ → List ℕ) (p : HamtShape) (rows : List Row) (room : ℕ) (s : Slot) (c : Value) (u : Data) (k : List ℕ) (es : List (List ℕ × Data)) (m : Moment) (result : Result (List ℕ) HamtFault) (n : Moment) : Type 0 where
   pub hamt : Data
   pub part : IsDataOfPart h rows (s, c) hamt
   pub answer : LevelAnswer h rows room s c u hamt m result n
   pub later : Later m n
   pub adds : BothTold m.blocks n.blocks (AddsNodes h rows s c)
-  pub puts : n.puts ≤ m.puts + length (way h usual k (trie_levels usual) 0 es)
-  pub given : GivesWay h k es result n
+  pub puts : n.puts ≤ m.puts + length (way h p k (trie_levels p) 0 es)
+  pub given : GivesWay h p k es result n
 
-abbrev pub SetsEntry : (List ℕ → List ℕ) → ℕ → Value → List (List ℕ) → Pairs → List (List ℕ × Data) → List ℕ → Value → Data → Data → View → Moment → Result (List ℕ) HamtFault → Moment → Type 0
-SetsEntry h room v path ps es k w d u view m result n =
-    SetsLevel h (table_of view) room (slot_of view) (with_set (table_of view) (slot_of view) v path ps k w) u k (insert bytewise k d es) m result n
+abbrev pub SetsEntry : (List ℕ → List ℕ) → HamtShape → ℕ → Value → List (List ℕ) → Pairs → List (List ℕ × Data) → List ℕ → Value → Data → Data → View → Moment → Result (List ℕ) HamtFault → Moment → Type 0
+SetsEntry h p room v path ps es k w d u view m result n =
+    SetsLevel h p (table_of view) room (slot_of view) (with_set (table_of view) (slot_of view) v path ps k w) u k (insert bytewise k d es) m result n
 
-abbrev pub CutsEntry : (List ℕ → List ℕ) → ℕ → Value → List (List ℕ) → Pairs → List (List ℕ × Data) → List ℕ → Data → View → Moment → Result (List ℕ) HamtFault → Moment → Type 0
-CutsEntry h room v path ps es k u view m result n =
-    SetsLevel h (table_of view) room (slot_of view) (with_cut (table_of view) (slot_of view) v path ps k) u k (remove k es) m result n
+abbrev pub CutsEntry : (List ℕ → List ℕ) → HamtShape → ℕ → Value → List (List ℕ) → Pairs → List (List ℕ × Data) → List ℕ → Data → View → Moment → Result (List ℕ) HamtFault → Moment → Type 0
+CutsEntry h p room v path ps es k u view m result n =
+    SetsLevel h p (table_of view) room (slot_of view) (with_cut (table_of view) (slot_of view) v path ps k) u k (remove k es) m result n

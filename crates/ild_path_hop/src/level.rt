@@ -63,8 +63,8 @@ pub fn set_entry<'a, K: Store, H: KeyHash>(
     ensures gets { (K.moment store.new).gets ≡ (K.moment store.old).gets }
     ensures caused { CausedBy (K.moment store.old) result (K.moment store.new) }
     ensures sets { (is_key : ℕ → List ℕ → Bool) (was : List (List ℕ)) (room : ℕ) (v w : Value) (t d u : Data) (slot elem : Place) (ps : Pairs) (es : List (List ℕ × Data)) (k : List ℕ) → (K.moment store.old).blocks ≡ Some was
-        → IsLevel H.hash_of is_key was room v t root.now → IsSetThere H.hash_of is_key was room v root.now front.now slot elem ps es k w d u trail → Stands item.now d
-        → SetsEntry H.hash_of room v front.now ps es k w d u root.now (K.moment store.old) result (K.moment store.new) }
+        → IsLevel H.hash_of is_key was room v t root.now → (set : IsSetThere H.hash_of is_key was room v root.now front.now slot elem ps es k w d u trail) → Stands item.now d
+        → SetsEntry H.hash_of set.entered.hamt.3 room v front.now ps es k w d u root.now (K.moment store.old) result (K.moment store.new) }
 {
     let hamt = match root.at(front, 0) {
         Ok(Step::Here(view)) => view,
@@ -87,8 +87,8 @@ pub fn remove_entry<'a, K: Store, H: KeyHash>(
     ensures gets { (K.moment store.new).gets ≡ (K.moment store.old).gets }
     ensures caused { CausedBy (K.moment store.old) result (K.moment store.new) }
     ensures cuts { (is_key : ℕ → List ℕ → Bool) (was : List (List ℕ)) (room : ℕ) (v : Value) (t u : Data) (slot elem : Place) (ps : Pairs) (es : List (List ℕ × Data)) (k : List ℕ) → (K.moment store.old).blocks ≡ Some was
-        → IsLevel H.hash_of is_key was room v t root.now → IsCutThere H.hash_of is_key was room v root.now front.now slot elem ps es k u trail
-        → CutsEntry H.hash_of room v front.now ps es k u root.now (K.moment store.old) result (K.moment store.new) }
+        → IsLevel H.hash_of is_key was room v t root.now → (cut : IsCutThere H.hash_of is_key was room v root.now front.now slot elem ps es k u trail)
+        → CutsEntry H.hash_of cut.entered.hamt.3 room v front.now ps es k u root.now (K.moment store.old) result (K.moment store.new) }
 {
     let hamt = match root.at(front, 0) {
         Ok(Step::Here(view)) => view,

@@ -12,7 +12,6 @@ use Rattle.ild_schema.specs.declared.row.Row.{Row}
 use Rattle.ild_schema.specs.Value.{Value, Pairs, pairs_list}
 use Rattle.ild_schema.specs.Value as V
 use Rattle.ild_typed.specs.At.{InSlot, at}
-use Rattle.ild_typed.specs.Composed.{usual}
 use Rattle.ild_path_edits.specs.Along.{room_below, taken}
 use Rattle.ild_path_within.proofs.Splitting.{first_of_path}
 use Rattle.ild_path_held.specs.HeldEdits.{room_at}
@@ -62,7 +61,7 @@ rooms_split rows room p q (s ∷ ss) behind e =
 pub room_at_key : (rows : List Row) (slot elem : Slot) (ps : Pairs) (is : IsHamt rows slot elem) (k : List ℕ) (w : Value) (less : ℕ) (rest : List (List ℕ)) → value_at k (pairs_list ps) ≡ Some w
     → room_at rows (less + 5) (slot, V.map ps) (k ∷ rest) ≡ room_at rows less (elem, w) rest
 room_at_key rows slot elem ps is k w less rest e =
-    let below : room_below rows (less + 5) (slot, V.map ps) k ≡ less = ap (λ (o : Option TypeDef). (less + 5) - taken o) is.3 ∙ omega arith in
+    let below : room_below rows (less + 5) (slot, V.map ps) k ≡ less = ap (λ (o : Option TypeDef). (less + 5) - taken o) is.4 ∙ omega arith in
     ap (λ o. option_map_or (λ q. room_at rows (room_below rows (less + 5) (slot, V.map ps) k) q rest) o (room_below rows (less + 5) (slot, V.map ps) k)) (entry_part rows slot elem ps is k w e)
     ∙ ap (λ n. room_at rows n (elem, w) rest) below
 
@@ -96,7 +95,7 @@ hop_stays h rows was now room less p q hop keeps x = record {
     node = x.trie.node;
     is_node = x.trie.is_node;
     root = x.trie.root;
-    holds = holds-later h usual was now (trie_levels usual) 0 x.es keeps x.trie.holds;
+    holds = holds-later h x.entered.hamt.3 was now (trie_levels x.entered.hamt.3) 0 x.es keeps x.trie.holds;
     found = x.trie.found;
   };
   utf8 = x.utf8;

@@ -7,7 +7,6 @@ use Rattle.ild_schema.specs.declared.number.Slot.{Slot}
 use Rattle.ild_schema.specs.declared.row.Row.{Row}
 use Rattle.ild_schema.specs.Value.{Pairs, map, pairs_list}
 use Rattle.ild_typed.specs.At.{InSlot}
-use Rattle.ild_typed.specs.Composed.{usual}
 use Rattle.ild_typed.specs.Hamt.{whole}
 use Rattle.ild_typed.specs.Node.{IsRoot}
 use Rattle.ild_typed.specs.Represented.{represented}
@@ -38,9 +37,9 @@ pub record IsHop (h : List ℕ → List ℕ) (rows : List Row) (was : List (List
   pub entered : IsEntered rows p (front_of hop) slot q.0 ps
   pub left : room_at rows room p (front_of hop) ≡ less + 5
   pub data_is : represented (whole h) rows slot (map ps) ≡ Some root
-  pub trie : IsTrieIn h rows was q.0 ps root es
+  pub trie : IsTrieIn h entered.hamt.3 rows was q.0 ps root es
   pub utf8 : IsUtf8 (key_of hop)
-  pub trail : (slots : List TrieSlot) → IsRoot usual slots root → IsTrailOf h usual (key_of hop) slots es hop.trail
+  pub trail : (slots : List TrieSlot) → IsRoot entered.hamt.3 slots root → IsTrailOf h entered.hamt.3 (key_of hop) slots es hop.trail
   pub value : value_at (key_of hop) (pairs_list ps) ≡ Some q.1
   pub there : IsValueThere h rows was q.0 less q.1 hop.entry
 

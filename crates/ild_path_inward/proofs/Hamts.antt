@@ -3,6 +3,7 @@ use Rattle.std.proofs.Common.{◌≡◌, ℕ, ◌≤◌, List, [], ◌∷◌, tr
 use Rattle.std.specs.Option.{option_map_or}
 use Rattle.std.proofs.lemmas.Option.{none-some}
 use Rattle.ild_data.specs.Data.{Data}
+use Rattle.ild_data.specs.declared.hamt_shape.HamtShape.{HamtShape}
 use Rattle.ild_open_held_parts.specs.Leads.{CountsHamts}
 use Rattle.ild_path_edits.specs.Along.{room_below}
 use Rattle.ild_path_held.specs.HeldEdits.{room_at}
@@ -31,10 +32,10 @@ HamtOf = IsHamt
 
 record HasForm (o : Option TypeDef) : Type 0 where
   elem : Slot
-  form : (key : _) × (key_at : ℕ) × (place : ℕ) × (o ≡ Some (T.Map key key_at elem place MF.Hamt))
+  form : (key : _) × (key_at : ℕ) × (place : ℕ) × (p : HamtShape) × (o ≡ Some (T.Map key key_at elem place (MF.Hamt p)))
 
 form_there : (o : Option TypeDef) → is_hamt o ≡ true → HasForm o
-form_there (Some (T.Map key key_at elem place MF.Hamt)) e = record { elem = elem; form = (key, key_at, place, refl) }
+form_there (Some (T.Map key key_at elem place (MF.Hamt p))) e = record { elem = elem; form = (key, key_at, place, p, refl) }
 form_there (Some (T.Map key key_at elem place MF.Map)) e = absurd cc
 form_there (Some (T.Map key key_at elem place MF.ListPairs)) e = absurd cc
 form_there (Some (T.Map key key_at elem place (MF.StringPairs i x))) e = absurd cc
@@ -45,7 +46,7 @@ no_root : (h : List ℕ → List ℕ) (o : Option TypeDef) (d t : Data) → laye
 no_root h (Some (T.Map key key_at value place MF.Map)) d t e = none-some t e
 no_root h (Some (T.Map key key_at value place MF.ListPairs)) d t e = none-some t e
 no_root h (Some (T.Map key key_at value place (MF.StringPairs i x))) d t e = none-some t e
-no_root h (Some (T.Map key key_at value place MF.Hamt)) d t e = none-some t e
+no_root h (Some (T.Map key key_at value place (MF.Hamt p))) d t e = none-some t e
 no_root h o d t e = none-some t e
 
 pub record IsHamtMap (rows : List Row) (s : Slot) (v : Value) : Type 0 where
@@ -79,7 +80,7 @@ plain_root h rows s (V.hamt d) e = absurd cc
 -- ---- what is counted
 
 map_counts : (h : List ℕ → List ℕ) (rows : List Row) (o : Option TypeDef) (ps : Pairs) (k : List ℕ) → is_hamt o ≡ false → met_in h rows o (V.map ps) k ≡ 0
-map_counts h rows (Some (T.Map key key_at value place MF.Hamt)) ps k e = absurd cc
+map_counts h rows (Some (T.Map key key_at value place (MF.Hamt p))) ps k e = absurd cc
 map_counts h rows (Some (T.Map key key_at value place MF.Map)) ps k e = refl
 map_counts h rows (Some (T.Map key key_at value place MF.ListPairs)) ps k e = refl
 map_counts h rows (Some (T.Map key key_at value place (MF.StringPairs i d))) ps k e = refl

@@ -15,7 +15,7 @@ use Rattle.ild_path_entry.specs.Entry.{IsEntry}
 use Rattle.ild_path_hops.specs.Hops.{AreHops, IsHop, front_of, key_of}
 use Rattle.ild_path_hops.specs.declared.hop.Hop.{Hop}
 use Rattle.ild_path_inward.proofs.Hamts.{room_less}
-use Rattle.ild_path_inward.proofs.Slots.{safe_is}
+use Rattle.ild_view.proofs.Opening.{safe_is}
 use Rattle.ild_path_inward.specs.Inwards.{CanGoOn, GoesInward, through}
 use Rattle.ild_path_inward.specs.Levels.{CanGo, GoesIn, PassesTo, met_on}
 use Rattle.ild_path_inward.specs.declared.inward.Inward.{Inward}
@@ -59,7 +59,7 @@ module _ (h : List ℕ → List ℕ) (rows : List Row) (was : List (List ℕ)) w
   stopped_hop : (room : ℕ) (p : InSlot) (hop : Hop) (q : InSlot) (less : ℕ) (rest : List (List ℕ)) → IsHop h rows was room p hop q less → stopped rows p (front_of hop ++ (key_of hop ∷ rest)) ≡ stopped rows q rest
   stopped_hop room p hop q less rest x =
       let there : part (seen rows (x.slot, map x.ps)) (key_of hop) ≡ Some q =
-      ap (λ G. part (map_holder G x.ps) (key_of hop)) x.entered.hamt.3 ∙ ap (option_map {U = InSlot} (λ w. (q.0, w))) x.value in
+      ap (λ G. part (map_holder G x.ps) (key_of hop)) x.entered.hamt.4 ∙ ap (option_map {U = InSlot} (λ w. (q.0, w))) x.value in
       stopped_front rows (front_of hop) (key_of hop ∷ rest) p (x.slot, map x.ps) x.entered.at
       ∙ ap (λ o. option_map_or (λ r. stopped rows r rest) o (record { part = (x.slot, map x.ps); left = key_of hop ∷ rest })) there
 

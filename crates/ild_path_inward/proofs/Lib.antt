@@ -1,6 +1,5 @@
 pub mod Halting
 pub mod InBlock
-pub mod Slots
 pub mod Keys
 pub mod Passing
 pub mod Reading

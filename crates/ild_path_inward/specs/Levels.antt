@@ -18,7 +18,6 @@ use Rattle.ild_path_inward.specs.declared.halt.Halt.{Halt}
 use Rattle.ild_path_inward.specs.declared.level.Level.{Level}
 use Rattle.ild_path_inward.specs.declared.level.Level.TheVariants as L
 use Rattle.ild_path_inward.specs.declared.level.Stand.{Stand}
-use Rattle.ild_schema.specs.declared.def.TypeDef.{TypeDef}
 use Rattle.ild_schema.specs.declared.number.Slot.{Slot}
 use Rattle.ild_schema.specs.declared.row.Row.{Row}
 use Rattle.ild_schema.specs.Slots.{form_of}
@@ -26,17 +25,10 @@ use Rattle.ild_schema.specs.Value.{Pairs, hamt, map}
 use Rattle.ild_script_meaning.specs.Costs.{met_in}
 use Rattle.ild_typed.specs.At.{InSlot, at, met}
 use Rattle.ild_typed.specs.Schema.{IsSchema}
-use Rattle.ild_typed.specs.Slots.{element_of}
 use Rattle.ild_typed_fronts.specs.Front.{front_in, in_one_block}
 use Rattle.ild_view.specs.Parts.{IsPartView}
-use Rattle.ild_view.specs.Safe.{is_safe}
 use Rattle.ild_view.specs.View.{IsView, slot_of}
 use Rattle.ild_view.specs.declared.view.View.{View}
-
--- a slot of values, with null and the table as views ask it
-abbrev pub IsValueSlot : List Row → Option TypeDef → Option Slot → Type 0
-IsValueSlot rows d (Some slot) = (element_of d ≡ Some slot) × (slot.ty.0 < length rows) × (is_safe rows slot ≡ true)
-IsValueSlot rows d None = Unit {0}
 
 -- ---- where a path stops at a HAMT
 

@@ -11,12 +11,12 @@ ghost use Rattle.ild_view.specs.View.{IsView, table_of};
 
 use crate::copy::path_of;
 use crate::halt::{Halt, halt_in};
-use crate::slot::value_slot;
 use ild_data::{KeyHash, Path, Txt};
 use ild_edges::Store;
 use ild_node::HamtFault;
 use ild_path_enter::{Entered, enter};
 use ild_path_hops::Hop;
+use ild_path_room::value_slot;
 use ild_schema::Accepted;
 use ild_view::View;
 use std::alloc::Global;

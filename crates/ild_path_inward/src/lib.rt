@@ -5,8 +5,6 @@ mod copy;
 mod halt;
 mod inward;
 mod level;
-mod slot;
 
 pub use halt::{Halt, halt_in};
 pub use inward::{Inward, go_inward};
-pub use slot::value_slot;

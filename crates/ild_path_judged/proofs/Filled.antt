@@ -17,7 +17,7 @@ use Rattle.ild_schema.specs.Slots.{form_of}
 use Rattle.ild_schema.specs.Value as V
 use Rattle.ild_schema.specs.Value.{Value, pairs_of, optionals_of, values_of}
 use Rattle.ild_typed.specs.At.{InSlot}
-use Rattle.ild_typed.specs.Composed.{usual}
+use Rattle.ild_data.specs.declared.hamt_shape.HamtShape.{HamtShape}
 use Rattle.ild_typed.specs.Hamt.{whole}
 use Rattle.ild_typed.specs.Holder.{Holder, fields, member, entries, elements, any_entries, any_elements, nothing, is_paired, holder_of, value_of}
 use Rattle.ild_typed.specs.Judged.{map_exhausts, is_exhausted}
@@ -69,23 +69,23 @@ module _ (h : List ℕ → List ℕ) (rows : List Row) where
   abbrev exhausts_by : MapForm → Option (List (List ℕ × Data)) → Bool
   exhausts_by = map_exhausts h
 
-  put_stays : (form : MapForm) (elem : Slot) (s : List ℕ) (v c : Value) (xs : List (List ℕ × Value)) (es : List (List ℕ × Data)) → each_pair (rep elem) xs ≡ Some es → Rises es → value_at s xs ≡ Some v
-      → exhausts_by MF.Hamt (Some es) ≡ false → (o : Option (List (List ℕ × Data))) → each_pair (rep elem) (put s c xs) ≡ o → exhausts_by MF.Hamt o ≡ false
-  put_stays form elem s v c xs es e up there is None g = refl
-  put_stays form elem s v c xs es e up there is (Some new) g =
+  put_stays : (p : HamtShape) (elem : Slot) (s : List ℕ) (v c : Value) (xs : List (List ℕ × Value)) (es : List (List ℕ × Data)) → each_pair (rep elem) xs ≡ Some es → Rises es → value_at s xs ≡ Some v
+      → exhausts_by (MF.Hamt p) (Some es) ≡ false → (o : Option (List (List ℕ × Data))) → each_pair (rep elem) (put s c xs) ≡ o → exhausts_by (MF.Hamt p) o ≡ false
+  put_stays p elem s v c xs es e up there is None g = refl
+  put_stays p elem s v c xs es e up there is (Some new) g =
       let d = each_pair-some (rep elem) s (put s c xs) new c g (put_by-there false s c xs) in
       let same : put s d.0 es ≡ new = same_some (sym (each_pair-put (rep elem) s c d.0 xs es e d.1) ∙ g) in
       let old = each_pair-some (rep elem) s xs es v e there in
       let found : value_at s es ≡ Some old.0 = each_pair-at (rep elem) xs es s e ∙ ap (option_and_then (rep elem)) there ∙ old.1 in
-      subst (λ new. is_none (trie h usual new 0) ≡ false) same (some_is (trie h usual (put s d.0 es) 0) (trie_put h es up (none_is (trie h usual es 0) is) s d.0 old.0 found))
+      subst (λ new. is_none (trie h p new 0) ≡ false) same (some_is (trie h p (put s d.0 es) 0) (trie_put h p es up (none_is (trie h p es 0) is) s d.0 old.0 found))
     where
       same_some : {X : Type 0} {x y : X} → ◌≡◌ {A = Option X} (Some x) (Some y) → x ≡ y
       same_some e = cc
 
-  cut_stays : (elem : Slot) (s : List ℕ) (xs : List (List ℕ × Value)) (es : List (List ℕ × Data)) → each_pair (rep elem) xs ≡ Some es → Rises es
-      → exhausts_by MF.Hamt (Some es) ≡ false → exhausts_by MF.Hamt (each_pair (rep elem) (without s xs)) ≡ false
-  cut_stays elem s xs es e up is =
-      ap (exhausts_by MF.Hamt) (each_pair-without (rep elem) s xs es e) ∙ some_is (trie h usual (without s es) 0) (trie_without h es up (none_is (trie h usual es 0) is) s)
+  cut_stays : (p : HamtShape) (elem : Slot) (s : List ℕ) (xs : List (List ℕ × Value)) (es : List (List ℕ × Data)) → each_pair (rep elem) xs ≡ Some es → Rises es
+      → exhausts_by (MF.Hamt p) (Some es) ≡ false → exhausts_by (MF.Hamt p) (each_pair (rep elem) (without s xs)) ≡ false
+  cut_stays p elem s xs es e up is =
+      ap (exhausts_by (MF.Hamt p)) (each_pair-without (rep elem) s xs es e) ∙ some_is (trie h p (without s es) 0) (trie_without h p es up (none_is (trie h p es 0) is) s)
 
   module _ (is_key : ℕ → List ℕ → Bool) (schema : IsSchema rows) (keys : TestsKeys rows is_key) where
     -- the data of the pairs that a holder of data has
@@ -108,16 +108,16 @@ module _ (h : List ℕ → List ℕ) (rows : List Row) where
     set_in_form MF.Map paired elem s v c ps es p up e there is = refl
     set_in_form MF.ListPairs paired elem s v c ps es p up e there is = refl
     set_in_form (MF.StringPairs inner entry) paired elem s v c ps es p up e there is = refl
-    set_in_form MF.Hamt paired elem s v c ps es p up e there is =
-        subst (λ b. exhausts_by MF.Hamt (each_pair (rep elem) (put_by b s c ps)) ≡ false) (sym p)
-        (put_stays MF.Hamt elem s v c ps es e (rises_each (rep elem) ps es e (up refl)) there (ap (exhausts_by MF.Hamt) (sym e) ∙ is) (each_pair (rep elem) (put s c ps)) refl)
+    set_in_form (MF.Hamt shape) paired elem s v c ps es p up e there is =
+        subst (λ b. exhausts_by (MF.Hamt shape) (each_pair (rep elem) (put_by b s c ps)) ≡ false) (sym p)
+        (put_stays shape elem s v c ps es e (rises_each (rep elem) ps es e (up refl)) there (ap (exhausts_by (MF.Hamt shape)) (sym e) ∙ is) (each_pair (rep elem) (put s c ps)) refl)
 
     cut_in_form : (f : MapForm) (elem : Slot) (s : List ℕ) (ps : List (List ℕ × Value)) (es : List (List ℕ × Data)) → (is_paired f ≡ false → Rises ps) → each_pair (rep elem) ps ≡ Some es
         → exhausts_by f (each_pair (rep elem) ps) ≡ false → exhausts_by f (each_pair (rep elem) (without s ps)) ≡ false
     cut_in_form MF.Map elem s ps es up e is = refl
     cut_in_form MF.ListPairs elem s ps es up e is = refl
     cut_in_form (MF.StringPairs inner entry) elem s ps es up e is = refl
-    cut_in_form MF.Hamt elem s ps es up e is = cut_stays elem s ps es e (rises_each (rep elem) ps es e (up refl)) (ap (exhausts_by MF.Hamt) (sym e) ∙ is)
+    cut_in_form (MF.Hamt shape) elem s ps es up e is = cut_stays shape elem s ps es e (rises_each (rep elem) ps es e (up refl)) (ap (exhausts_by (MF.Hamt shape)) (sym e) ∙ is)
 
     other_member : (slot : Slot) (ms : List Member) (n : ℕ) (v c : Value) (o : Option (ℕ × Member)) → Passes test rows slot (option_map_or (λ (p : ℕ × Member). member ms p.0 c) o (member ms n v))
     other_member slot ms n v c None = no_map (form_of rows slot) (V.union n v) tt

@@ -37,14 +37,14 @@ module _ (Holds : Data → Type 0) (s : List ℕ) (es : List (List ℕ × Data))
   map_entry M.Map is made given = ap (λ o. at_key s o d) (sym (in_map s es)) ∙ given (map_data es) (subst Holds (sym (same_Some (map_data es) t made)) holds)
   map_entry M.ListPairs is made given = absurd cc
   map_entry (M.StringPairs inner entry) is made given = absurd cc
-  map_entry M.Hamt is made given = absurd cc
+  map_entry (M.Hamt shape) is made given = absurd cc
 
   pub map_pair : (form : MapForm) → M.ListPairs ≡ form → map_form alone form (L.map es) ≡ Some t → (Holds (listpairs es) → at_pair (place_of s es) s (value_at s es) d ≡ located r x u)
       → map_last form s (place_of s es) (value_at s es) d u ≡ located r x u
   map_pair M.ListPairs is made given = given (subst Holds (sym (same_Some (listpairs es) t made)) holds)
   map_pair M.Map is made given = absurd cc
   map_pair (M.StringPairs inner entry) is made given = absurd cc
-  map_pair M.Hamt is made given = absurd cc
+  map_pair (M.Hamt shape) is made given = absurd cc
 
 -- ---- structs
 

@@ -22,6 +22,6 @@ pub(crate) fn map_change<'a>(
     match form {
         MapForm::Map => key_change(acc, piece, segment, after),
         MapForm::ListPairs => key_pair_change(piece, segment, after),
-        MapForm::StringPairs(_, _) | MapForm::Hamt => LastChange::Whole,
+        MapForm::StringPairs(_, _) | MapForm::Hamt(_) => LastChange::Whole,
     }
 }

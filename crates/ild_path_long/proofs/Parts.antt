@@ -14,6 +14,7 @@ use Rattle.ild_data.specs.Spell.{spell}
 use Rattle.ild_data.specs.Trie.{trie}
 use Rattle.ild_data.specs.TrieBlocks.{nodes_beneath}
 use Rattle.ild_data.specs.TrieShape.{trie_levels}
+use Rattle.ild_data.specs.declared.hamt_shape.HamtShape.{HamtShape}
 use Rattle.ild_path_changes.proofs.Datas.{each_pair}
 use Rattle.ild_path_changes.proofs.Each.{each_pair-at}
 use Rattle.ild_path_changes.proofs.HaveTrees.{has_trees}
@@ -37,7 +38,6 @@ use Rattle.ild_typed.proofs.Basics.{map_from}
 use Rattle.ild_typed.proofs.TreeNodes.{all_split}
 use Rattle.ild_typed.specs.At.{InSlot, at, seen}
 use Rattle.ild_typed.specs.Blocks.{hamt_nodes, nodes, nodes_of_pairs}
-use Rattle.ild_typed.specs.Composed.{usual}
 use Rattle.ild_typed.specs.Hamt.{root_map, whole}
 use Rattle.ild_typed.specs.Holder.{map_holder}
 use Rattle.ild_typed.specs.Layer as L
@@ -62,10 +62,11 @@ record IsHamtType (o : Option TypeDef) : Type 0 where
   key_at : ℕ
   elem : Slot
   place : ℕ
-  is : o ≡ Some (D.Map key key_at elem place MF.Hamt)
+  shape : HamtShape
+  is : o ≡ Some (D.Map key key_at elem place (MF.Hamt shape))
 
 by_type : (d : TypeDef) → is_hamt (Some d) ≡ true → IsHamtType (Some d)
-by_type (D.Map key key_at elem place MF.Hamt) e = record { key = key; key_at = key_at; elem = elem; place = place; is = refl }
+by_type (D.Map key key_at elem place (MF.Hamt shape)) e = record { key = key; key_at = key_at; elem = elem; place = place; shape = shape; is = refl }
 by_type (D.Map key key_at elem place MF.Map) e = absurd cc
 by_type (D.Map key key_at elem place MF.ListPairs) e = absurd cc
 by_type (D.Map key key_at elem place (MF.StringPairs inner entry)) e = absurd cc
@@ -97,18 +98,18 @@ module _ (h : List ℕ → List ℕ) (rows : List Row) where
 
   -- ---- a HAMT
 
-  module _ (key : TypeNo) (key_at : ℕ) (elem : Slot) (place : ℕ) where
+  module _ (key : TypeNo) (key_at : ℕ) (elem : Slot) (place : ℕ) (shape : HamtShape) where
     abbrev Hamt : Option TypeDef
-    Hamt = Some (D.Map key key_at elem place MF.Hamt)
+    Hamt = Some (D.Map key key_at elem place (MF.Hamt shape))
 
     entries_short : (o : Option (List (List ℕ × Data))) (u : Data) → layered (whole h) Hamt (option_map L.map o) ≡ Some u → Short u → On (hamt_nodes h Hamt o)
         → (es : List (List ℕ × Data)) × (o ≡ Some es) × AllByRecursion (HasShort longest_block) es
     entries_short None u made short on = absurd (none-some u made)
     entries_short (Some es) u made short on =
-        let x = map_from (root_map usual) (trie h usual es 0) u made in
-        let root : Short (root_map usual x.item) = subst Short (sym (same_Some (root_map usual x.item) u x.made)) short in
-        let beneath : On (nodes_beneath h usual (trie_levels usual) 0 (in_byte_order es)) = subst (λ o. On (cond (is_some o) (nodes_beneath h usual (trie_levels usual) 0 (in_byte_order es)) [])) x.there on in
-        (es, refl, entries_of_trie longest_block h es x.item x.there root beneath)
+        let x = map_from (root_map shape) (trie h shape es 0) u made in
+        let root : Short (root_map shape x.item) = subst Short (sym (same_Some (root_map shape x.item) u x.made)) short in
+        let beneath : On (nodes_beneath h shape (trie_levels shape) 0 (in_byte_order es)) = subst (λ o. On (cond (is_some o) (nodes_beneath h shape (trie_levels shape) 0 (in_byte_order es)) [])) x.there on in
+        (es, refl, entries_of_trie longest_block h shape es x.item x.there root beneath)
 
     in_hamt : (G : Option TypeDef) (ps : Pairs) (q : InSlot) (s : List ℕ) (t u : Data) → G ≡ Hamt
         → layered (whole h) G (option_map L.map (option_and_then (λ e. represented_pairs (whole h) rows e ps) (element_of G))) ≡ Some u → Short u
@@ -131,7 +132,7 @@ module _ (h : List ℕ → List ℕ) (rows : List Row) where
       → part (seen rows (slot, v)) s ≡ Some q → represented (whole h) rows q.0 q.1 ≡ Some t → Short t
   of_root slot (V.map ps) q s t u root made short on there partly =
       let x = hamt_type (form_of rows slot) root in
-      in_hamt x.key x.key_at x.elem x.place (form_of rows slot) ps q s t u x.is made short on there partly
+      in_hamt x.key x.key_at x.elem x.place x.shape (form_of rows slot) ps q s t u x.is made short on there partly
   of_root slot (V.hamt d) q s t u root made short on there partly = absurd (none-some q there)
   of_root slot V.null q s t u root made short on there partly = absurd cc
   of_root slot (V.boolean b) q s t u root made short on there partly = absurd cc

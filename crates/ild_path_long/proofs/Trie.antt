@@ -1,5 +1,6 @@
 -- Where the blocks of a HAMT's nodes are short, so are the data of its entries.
-use Rattle.std.proofs.Common.{◌≡◌, ℕ, zero, suc, ◌+◌, ◌^◌, ◌≤◌, nat_le, Bool, true, false, cond, List, [], ◌∷◌, ◌++◌, length, length-append, map, flat_map, Option, Some, None, refl, sym, subst, arith}
+use Rattle.std.proofs.Common.{◌≡◌, ℕ, zero, suc, ◌+◌, ◌-◌, ◌^◌, ◌≤◌, nat_le, Bool, true, false, cond, List, [], ◌∷◌, ◌++◌, length, length-append, map, flat_map, Option, Some, None, refl, sym, ap, ◌∙◌, subst, arith}
+use Rattle.std.proofs.Math.Nat.{sub-zero}
 use Rattle.std.specs.List.{AllByRecursion, range_with_len}
 use Rattle.std.proofs.lemmas.Option.{none-some, same_Some}
 use Rattle.ild_data.specs.ByteOrder.{in_byte_order, no_key_twice}
@@ -8,14 +9,14 @@ use Rattle.ild_data.specs.Data.{Data, items_list, items_of}
 use Rattle.ild_data.specs.Spell.{head, spell, spell_items}
 use Rattle.ild_data.specs.Trie.{TrieSlot, empty, bucket, child, all_some, at_depth, bucket_entries, bucket_or, elements_of, entry_data, link_to, map_of, node_data, node_of, part, slot_of, slots_at, trie}
 use Rattle.ild_data.specs.TrieBlocks.{block_of, node_and_beneath, nodes_beneath, none_or}
-use Rattle.ild_data.specs.TrieShape.{TrieShape, trie_levels}
+use Rattle.ild_data.specs.declared.hamt_shape.HamtShape.{HamtShape}
+use Rattle.ild_data.specs.TrieShape.{trie_levels}
 use Rattle.ild_hamt_trie.proofs.Index.{index_below}
 use Rattle.ild_hamt_trie.proofs.Slots.{some_cons}
 use Rattle.ild_path_sizes.proofs.Sizes.{in_list}
 use Rattle.ild_path_reroot.proofs.Among.{root_longer}
 use Rattle.ild_typed.proofs.Basics.{map_from}
 use Rattle.ild_typed.proofs.TreeNodes.{all_split}
-use Rattle.ild_typed.specs.Composed.{usual}
 use Rattle.ild_typed.specs.Hamt.{root_map}
 use Rattle.ild_typed_places.proofs.Listing.{in_range}
 use Rattle.ild_typed_places.proofs.Ordered.{from_order, from_parts}
@@ -98,7 +99,7 @@ module _ (n : ℕ) where
             let both : AllByRecursion InSlotShort (z ∷ x.0) = subst (AllByRecursion InSlotShort) x.2 short in
             (one_part most below beneath (part at es j) z is both.0 (deep j) parts.0, later x.0 x.1 both.1)
 
-  pub entries_of_node : (h : List ℕ → List ℕ) (p : TrieShape) (left depth : ℕ) (es : List (List ℕ × Data)) (d : Data) → node_of h p left depth es ≡ Some d → SpellsShort d
+  pub entries_of_node : (h : List ℕ → List ℕ) (p : HamtShape) (left depth : ℕ) (es : List (List ℕ × Data)) (d : Data) → node_of h p left depth es ≡ Some d → SpellsShort d
       → AllByRecursion IsShort (nodes_beneath h p left depth es) → AllByRecursion HasShort es
   unfolding nodes_beneath node_of
   entries_of_node h p zero depth es d e short on = absurd (none-some d e)
@@ -116,10 +117,11 @@ module _ (n : ℕ) where
   with_trie true o d e = (refl, e)
   with_trie false o d e = absurd (none-some d e)
 
-  pub entries_of_trie : (h : List ℕ → List ℕ) (es : List (List ℕ × Data)) (d : Data) → trie h usual es 0 ≡ Some d → SpellsShort (root_map usual d)
-      → AllByRecursion IsShort (nodes_beneath h usual (trie_levels usual) 0 (in_byte_order es)) → AllByRecursion HasShort es
+  pub entries_of_trie : (h : List ℕ → List ℕ) (p : HamtShape) (es : List (List ℕ × Data)) (d : Data) → trie h p es 0 ≡ Some d → SpellsShort (root_map p d)
+      → AllByRecursion IsShort (nodes_beneath h p (trie_levels p) 0 (in_byte_order es)) → AllByRecursion HasShort es
   unfolding trie
-  entries_of_trie h es d e short on =
-      let x = with_trie (no_key_twice es) (node_of h usual (trie_levels usual) 0 (in_byte_order es)) d e in
-      let less = root_longer d in
-      from_order HasShort es x.0 (entries_of_node h usual (trie_levels usual) 0 (in_byte_order es) d x.1 (omega (arith, less, short)) on)
+  entries_of_trie h p es d e short on =
+      let x = with_trie (no_key_twice es) (node_of h p (trie_levels p - 0) 0 (in_byte_order es)) d e in
+      let node : node_of h p (trie_levels p) 0 (in_byte_order es) ≡ Some d = ap (λ l. node_of h p l 0 (in_byte_order es)) (sym (sub-zero (trie_levels p))) ∙ x.1 in
+      let less = root_longer p d in
+      from_order HasShort es x.0 (entries_of_node h p (trie_levels p) 0 (in_byte_order es) d node (omega (arith, less, short)) on)

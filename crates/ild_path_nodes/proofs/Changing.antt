@@ -196,20 +196,20 @@ module _ (P : List ℕ → Type 0) (h : List ℕ → List ℕ) (rows : List Row)
 
 module _ (P : List ℕ → Type 0) (h : List ℕ → List ℕ) (rows : List Row) (s elem : Slot) (is : IsHamt rows s elem) where
   abbrev Hamt : Option TypeDef
-  Hamt = Some (D.Map is.0 is.1 elem is.2 MF.Hamt)
+  Hamt = Some (D.Map is.0 is.1 elem is.2 (MF.Hamt is.3))
 
   -- its own nodes and those of its values
   pub to_entries : (ps : Pairs) → AllByRecursion P (nodes h rows s (V.map ps)) → AllByRecursion P (hamt_nodes h (form_of rows s) (represented_pairs (whole h) rows elem ps)) × Each (EntryHas P h rows elem) (pairs_list ps)
   to_entries ps a =
-      let x = all_split P (hamt_nodes h Hamt (represented_pairs (whole h) rows elem ps)) (nodes_of_pairs h rows elem ps) (subst (λ G. AllByRecursion P (of_map P h rows G ps)) is.3 a) in
-      (subst (λ G. AllByRecursion P (hamt_nodes h G (represented_pairs (whole h) rows elem ps))) (sym is.3) x.0, pairs_each P h rows elem ps x.1)
+      let x = all_split P (hamt_nodes h Hamt (represented_pairs (whole h) rows elem ps)) (nodes_of_pairs h rows elem ps) (subst (λ G. AllByRecursion P (of_map P h rows G ps)) is.4 a) in
+      (subst (λ G. AllByRecursion P (hamt_nodes h G (represented_pairs (whole h) rows elem ps))) (sym is.4) x.0, pairs_each P h rows elem ps x.1)
 
   pub from_entries : (xs : List (List ℕ × Value)) → AllByRecursion P (hamt_nodes h (form_of rows s) (represented_pairs (whole h) rows elem (pairs_of xs))) → Each (EntryHas P h rows elem) xs
       → AllByRecursion P (nodes h rows s (V.map (pairs_of xs)))
   from_entries xs a b =
-      subst (λ G. AllByRecursion P (of_map P h rows G (pairs_of xs))) (sym is.3)
+      subst (λ G. AllByRecursion P (of_map P h rows G (pairs_of xs))) (sym is.4)
       (all_append P (hamt_nodes h Hamt (represented_pairs (whole h) rows elem (pairs_of xs))) (nodes_of_pairs h rows elem (pairs_of xs))
-      (subst (λ G. AllByRecursion P (hamt_nodes h G (represented_pairs (whole h) rows elem (pairs_of xs)))) is.3 a) (each_pairs P h rows elem xs b))
+      (subst (λ G. AllByRecursion P (hamt_nodes h G (represented_pairs (whole h) rows elem (pairs_of xs)))) is.4 a) (each_pairs P h rows elem xs b))
 
 -- ---- the laws
 

@@ -193,7 +193,7 @@ module _ (P : List ℕ → Type 0) (h : List ℕ → List ℕ) (rows : List Row)
     by (D.Map key key_at elem place MF.Map) o e = refl
     by (D.Map key key_at elem place MF.ListPairs) o e = refl
     by (D.Map key key_at elem place (MF.StringPairs inner entry)) o e = refl
-    by (D.Map key key_at elem place MF.Hamt) o e = absurd cc
+    by (D.Map key key_at elem place (MF.Hamt p)) o e = absurd cc
     by d o e = refl
 
   pub own_plain : (slot : Slot) (k : Holder) → stands_as_root (form_of rows slot) (value_of k) ≡ false → Own slot k

@@ -3,6 +3,7 @@ use Rattle.std.specs.Prelude.{◌≡◌, ℕ, Bool, true, List, [], ◌++◌, Co
 use Rattle.std.specs.List.{AllByRecursion}
 use Rattle.std.specs.Option.{option_map_or}
 use Rattle.ild_data.specs.Key.{put, without}
+use Rattle.ild_data.specs.declared.hamt_shape.HamtShape.{HamtShape}
 use Rattle.ild_schema.specs.declared.def.MapForm.TheVariants as MF
 use Rattle.ild_schema.specs.declared.def.TypeDef.TheVariants as D
 use Rattle.ild_schema.specs.declared.number.Slot.{Slot}
@@ -61,7 +62,7 @@ abbrev pub own_nodes : (List ℕ → List ℕ) → List Row → Slot → Slot �
 own_nodes h rows s elem ps = hamt_nodes h (form_of rows s) (represented_pairs (whole h) rows elem (pairs_of ps))
 
 abbrev pub IsHamt : List Row → Slot → Slot → Type 0
-IsHamt rows s elem = (key : TypeNo) × (key_at : ℕ) × (place : ℕ) × (form_of rows s ≡ Some (D.Map key key_at elem place MF.Hamt))
+IsHamt rows s elem = (key : TypeNo) × (key_at : ℕ) × (place : ℕ) × (p : HamtShape) × (form_of rows s ≡ Some (D.Map key key_at elem place (MF.Hamt p)))
 
 -- its nodes are its own, those of the other entries and those of the new value
 abbrev pub NodesOfHamts : Type 0

@@ -6,6 +6,7 @@ use Rattle.std.specs.FinMap.{put as insert}
 use Rattle.std.specs.List.{AllByRecursion}
 use Rattle.std.proofs.lemmas.Bool.{ltb-true}
 use Rattle.std.proofs.lemmas.Option.{same_Some}
+use Rattle.ild_edges.specs.Gained.{AreIdsGiven}
 use Rattle.ild_data.specs.ByteOrder.{bytewise}
 use Rattle.ild_data.specs.Data.{Data}
 use Rattle.ild_data.specs.Limits.{longest_block}
@@ -55,7 +56,6 @@ use Rattle.ild_path_outward.specs.Steps.{IsStep, SetsBelow, SetsIn, SetsStep}
 use Rattle.std.proofs.Common.{arith}
 use Rattle.ild_path_entered.specs.Entered.{with_entry}
 use Rattle.ild_hamt.specs.Edits.{CausedBy, FaultCause}
-use Rattle.ild_hamt.specs.Given.{AreIdsGiven}
 use Rattle.ild_path_outward.proofs.Counting.{one_met, put_counted, put_met}
 use Rattle.ild_path_way.specs.Way.{nodes_met}
 use Rattle.ild_path_way.proofs.Splitting.{nodes_split, none_in_one_block}
@@ -64,7 +64,6 @@ use Rattle.ild_script_meaning.specs.Costs.{blocks_met, met_in}
 use Rattle.std.specs.Option.{option_map_or}
 use Rattle.ild_schema.specs.Slots.{form_of}
 use Rattle.ild_typed.specs.Segment.{part}
-use Rattle.ild_typed.specs.Composed.{usual}
 use Rattle.ild_hamt_trie.specs.Way.{way}
 use Rattle.ild_data.specs.TrieShape.{trie_levels}
 use Rattle.ild_path_outward.proofs.Stepping.{key_stays, sets_at}
@@ -336,7 +335,7 @@ module _ (h : List ℕ → List ℕ) (is_key : ℕ → List ℕ → Bool) (was :
         let z = sets_have_data h Rows is_key x.level.schema x.level.keys Last.between Mid (Last.last.slot, V.map Last.last.ps) (front_of hop) Map own.0 typed_mid Last.last.entered.at typed_map own.1 own.2 in
         (z.0, z.1)
 
-    met_more : blocks_met h Rows (S, C) Path + length (way h usual (key_of hop) (trie_levels usual) 0 (insert bytewise (key_of hop) y.d Last.last.es)) ≤ blocks_met h Rows (S, C) (path_of_hops (hs ++ hop ∷ []))
+    met_more : blocks_met h Rows (S, C) Path + length (way h Last.last.entered.hamt.3 (key_of hop) (trie_levels Last.last.entered.hamt.3) 0 (insert bytewise (key_of hop) y.d Last.last.es)) ≤ blocks_met h Rows (S, C) (path_of_hops (hs ++ hop ∷ []))
     met_more =
         let count : InSlot → List ℕ → ℕ = λ q s. met_in h Rows (form_of Rows q.0) q.1 s in
         let here = (sets_stand Rows is_key x.level.schema x.level.keys Mid (Last.last.slot, V.map Last.last.ps) (front_of hop) Map typed_mid Last.last.entered.at typed_map).0 in
@@ -348,7 +347,7 @@ module _ (h : List ℕ → List ℕ) (is_key : ℕ → List ℕ → Bool) (was :
         omega (arith, all, outer, inner, last, own_count)
 
     abbrev OwnWay : List (List ℕ)
-    OwnWay = way h usual (key_of hop) (trie_levels usual) 0 (insert bytewise (key_of hop) y.d Last.last.es)
+    OwnWay = way h Last.last.entered.hamt.3 (key_of hop) (trie_levels Last.last.entered.hamt.3) 0 (insert bytewise (key_of hop) y.d Last.last.es)
 
     level_nodes : nodes_met h Rows (Mid.0, Level) (front_of hop ++ (key_of hop ∷ [])) ≡ OwnWay
     level_nodes =

@@ -82,7 +82,7 @@ module _ (h : List ℕ → List ℕ) (is_key : ℕ → List ℕ → Bool) (was :
   pub step_level : IsLevel h is_key was x.room x.v x.t view
   step_level = record { schema = x.schema; keys = x.keys; held = x.held; root = root }
 
-  pub step_set : IsSetThere h is_key was x.room x.v view path x.slot x.elem x.ps x.es k x.w x.d x.u trail
+  abbrev pub step_set : IsSetThere h is_key was x.room x.v view path x.slot x.elem x.ps x.es k x.w x.d x.u trail
   step_set = record {
     entered = x.entered;
     root = x.root;
@@ -100,7 +100,7 @@ module _ (h : List ℕ → List ℕ) (is_key : ℕ → List ℕ → Bool) (was :
 -- as the setting of an entry says it
 pub sets_in : (h : List ℕ → List ℕ) (view : View) (path : List (List ℕ)) (trail : Trail) (item : Node) (m n : Moment) (r : Result (List ℕ) HamtFault)
     → ((is_key : ℕ → List ℕ → Bool) (was : List (List ℕ)) (room : ℕ) (v w : Value) (t d u : Data) (slot elem : Slot) (ps : Pairs) (es : List (List ℕ × Data)) (k : List ℕ) → m.blocks ≡ Some was → IsLevel h is_key was room v t view
-    → IsSetThere h is_key was room v view path slot elem ps es k w d u trail → Stands item d → SetsEntry h room v path ps es k w d u view m r n)
+    → (set : IsSetThere h is_key was room v view path slot elem ps es k w d u trail) → Stands item d → SetsEntry h set.entered.hamt.3 room v path ps es k w d u view m r n)
     → SetsIn h (table_of view) (slot_of view) view path trail (λ d. Stands item d) m r n
 sets_in h view path trail item m n r sets = λ is_key was k told x root stands.
     sets is_key was x.room x.v x.w x.t x.d x.u x.slot x.elem x.ps x.es k told (step_level h is_key was path k trail view x root) (step_set h is_key was path k trail view x root) stands

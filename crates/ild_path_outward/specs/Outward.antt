@@ -1,5 +1,6 @@
 -- An edit beneath HAMTs: from the new block of the innermost value outward to that of the whole.
 use Rattle.std.specs.Prelude.{◌≡◌, ◌≢◌, ◌⊎◌, ℕ, ◌+◌, ◌≤◌, Bool, true, IfOk, List, length, Some, Result, Ok, Err}
+use Rattle.ild_edges.specs.Gained.{AreIdsGiven}
 use Rattle.ild_data.specs.Data.{Data}
 use Rattle.ild_data.specs.Limits.{longest_block}
 use Rattle.ild_data.specs.Spell.{id_of, spell}
@@ -20,7 +21,6 @@ use Rattle.ild_view.specs.View.{slot_of, table_of}
 use Rattle.ild_view.specs.declared.view.View.{View}
 use Rattle.ild_bulk.specs.Build.{any_long}
 use Rattle.ild_bulk.specs.Putting.{IsAmong}
-use Rattle.ild_hamt.specs.Given.{AreIdsGiven}
 use Rattle.ild_open_held.specs.Held.{IsHeld}
 use Rattle.ild_path_way.specs.Way.{nodes_met}
 use Rattle.ild_path_within.specs.Within.{with_part}

@@ -9,7 +9,6 @@ use Rattle.ild_schema.specs.declared.number.Slot.{Slot}
 use Rattle.ild_schema.specs.declared.row.Row.{Row}
 use Rattle.ild_schema.specs.Value.{Value, Pairs, map}
 use Rattle.ild_node_slots.specs.declared.fault.HamtFault.{HamtFault}
-use Rattle.ild_typed.specs.Composed.{usual}
 use Rattle.ild_typed.specs.Fits.{Fits}
 use Rattle.ild_typed.specs.Hamt.{whole}
 use Rattle.ild_typed.specs.Node.{IsRoot}
@@ -44,8 +43,8 @@ pub record IsStep (h : List ℕ → List ℕ) (is_key : ℕ → List ℕ → Boo
   pub root : Data
   pub entered : IsEntered rows (s, v) path slot elem ps
   pub data_is : represented (whole h) rows slot (map ps) ≡ Some root
-  pub trie : IsTrieIn h rows was elem ps root es
-  pub found : (slots : List TrieSlot) → IsRoot usual slots root → IsTrailOf h usual k slots es trail
+  pub trie : IsTrieIn h entered.hamt.3 rows was elem ps root es
+  pub found : (slots : List TrieSlot) → IsRoot entered.hamt.3 slots root → IsTrailOf h entered.hamt.3 k slots es trail
   pub utf8 : IsUtf8 k
   pub key : fits_key is_key rows slot ps k ≡ true
   pub around : ℕ
@@ -59,7 +58,7 @@ pub record IsStep (h : List ℕ → List ℕ) (is_key : ℕ → List ℕ → Boo
 -- so the level becomes v with w at the key
 abbrev pub SetsStep : (h : List ℕ → List ℕ) (is_key : ℕ → List ℕ → Bool) (rows : List Row) (s : Slot) (was : List (List ℕ)) (path : List (List ℕ)) (k : List ℕ) (trail : Trail) → IsStep h is_key rows s was path k trail
     → Moment → Result (List ℕ) HamtFault → Moment → Type 0
-SetsStep h is_key rows s was path k trail x m result n = SetsLevel h rows x.room s (with_set rows s x.v path x.ps k x.w) x.u k (insert bytewise k x.d x.es) m result n
+SetsStep h is_key rows s was path k trail x m result n = SetsLevel h x.entered.hamt.3 rows x.room s (with_set rows s x.v path x.ps k x.w) x.u k (insert bytewise k x.d x.es) m result n
 
 -- in the block of a view of v, where w is given by its data
 abbrev pub SetsIn : (List ℕ → List ℕ) → List Row → Slot → View → List (List ℕ) → Trail → (Data → Type 0) → Moment → Result (List ℕ) HamtFault → Moment → Type 0

@@ -128,7 +128,7 @@ module _ (Q : Place → Type 0) (Given : List ℕ → Type 0) (gives : (b : List
     by (D.Map key key_at elem place MF.Map) o e = refl
     by (D.Map key key_at elem place MF.ListPairs) o e = refl
     by (D.Map key key_at elem place (MF.StringPairs inner entry)) o e = refl
-    by (D.Map key key_at elem place MF.Hamt) o e = absurd cc
+    by (D.Map key key_at elem place (MF.Hamt p)) o e = absurd cc
     by d o e = refl
 
   map_whole : (G : Option TypeDef) (key : _) (key_at : ℕ) (elem : Slot) (place : ℕ) (form : MapForm) (ps : List (List ℕ × Value)) → G ≡ Some (D.Map key key_at elem place form) → is_hamt G ≡ false → EachOf (EntryHas N elem) ps

@@ -20,7 +20,7 @@ use Rattle.ild_schema.specs.Value.{Value, Pairs, pairs_of, pairs_list}
 use Rattle.ild_splice_changes.proofs.Maps.{put-other, without-other}
 use Rattle.ild_hamt_trie.specs.Way.{way}
 use Rattle.ild_hamt_trie.proofs.Parts.{in_order-sorted, find-sorted}
-use Rattle.ild_typed.specs.Composed.{composed, usual}
+use Rattle.ild_typed.specs.Composed.{composed}
 use Rattle.ild_typed.specs.Hamt.{root_map, whole}
 use Rattle.ild_typed.specs.Layer as L
 use Rattle.ild_typed.specs.Represented.{layered, represented, represented_pairs}
@@ -57,7 +57,7 @@ module _ (Q : Place → Type 0) (Given : List ℕ → Type 0) (gives : (b : List
 
   module _ (is : IsHamt rows s elem) where
     abbrev Own : TypeDef
-    Own = D.Map is.0 is.1 elem is.2 MF.Hamt
+    Own = D.Map is.0 is.1 elem is.2 (MF.Hamt is.3)
 
     -- ---- the parts of a HAMT that has data
 
@@ -65,33 +65,33 @@ module _ (Q : Place → Type 0) (Given : List ℕ → Type 0) (gives : (b : List
       entries : List (List ℕ × Data)
       are : data_of h rows elem xs ≡ Some entries
       node : Data
-      tree : trie h usual entries 0 ≡ Some node
+      tree : trie h is.3 entries 0 ≡ Some node
 
     has_data : (xs : List (List ℕ × Value)) (t : Data) → represented (whole h) rows s (V.map (pairs_of xs)) ≡ Some t → HasData xs
     has_data xs t made =
         let e : layered (whole h) (Some Own) (option_map L.map (data_of h rows elem xs)) ≡ Some t =
-        sym (ap (λ o. layered (whole h) o (option_map L.map (option_and_then (λ u. represented_pairs (whole h) rows u (pairs_of xs)) (element_of o)))) is.3) ∙ made in
+        sym (ap (λ o. layered (whole h) o (option_map L.map (option_and_then (λ u. represented_pairs (whole h) rows u (pairs_of xs)) (element_of o)))) is.4) ∙ made in
         let l = then_from (composed (whole h) Own) (option_map L.map (data_of h rows elem xs)) t e in
         let m = map_from L.map (data_of h rows elem xs) l.item l.there in
-        let n = map_from (root_map usual) (trie h usual m.item 0) t (ap (composed (whole h) Own) (same_Some (L.map m.item) l.item m.made) ∙ l.made) in
+        let n = map_from (root_map is.3) (trie h is.3 m.item 0) t (ap (composed (whole h) Own) (same_Some (L.map m.item) l.item m.made) ∙ l.made) in
         record { entries = m.item; are = m.there; node = n.item; tree = n.there }
 
     places_at : (xs : List (List ℕ × Value)) (o : Option (List (List ℕ × Data))) → data_of h rows elem xs ≡ o → In xs ≡ map_places h (Some Own) o (keyed h rows elem xs)
     places_at xs o e =
-        ap (λ d. option_map_or (λ u. map_places h d (represented_pairs (whole h) rows u (pairs_of xs)) (places_in_pairs h rows u (pairs_of xs))) (element_of d) nowhere) is.3
+        ap (λ d. option_map_or (λ u. map_places h d (represented_pairs (whole h) rows u (pairs_of xs)) (places_in_pairs h rows u (pairs_of xs))) (element_of d) nowhere) is.4
         ∙ ap (λ o. map_places h (Some Own) o (keyed h rows elem xs)) e
 
-    in_trie : (xs : List (List ℕ × Value)) (es : List (List ℕ × Data)) (o : Option Data) → data_of h rows elem xs ≡ Some es → trie h usual es 0 ≡ o
-        → In xs ≡ cond (is_some o) (places_beneath (at_key (keyed h rows elem xs)) h usual (trie_levels usual) 0 (in_byte_order es)) (places_over (λ t. t.1) (keyed h rows elem xs))
+    in_trie : (xs : List (List ℕ × Value)) (es : List (List ℕ × Data)) (o : Option Data) → data_of h rows elem xs ≡ Some es → trie h is.3 es 0 ≡ o
+        → In xs ≡ cond (is_some o) (places_beneath (at_key (keyed h rows elem xs)) h is.3 (trie_levels is.3) 0 (in_byte_order es)) (places_over (λ t. t.1) (keyed h rows elem xs))
     in_trie xs es o e tree =
         places_at xs (Some es) e
-        ∙ ap (λ (o : Option Data). cond (is_some o) (places_beneath (at_key (keyed h rows elem xs)) h usual (trie_levels usual) 0 (in_byte_order es)) (places_over (λ t. t.1) (keyed h rows elem xs))) tree
+        ∙ ap (λ (o : Option Data). cond (is_some o) (places_beneath (at_key (keyed h rows elem xs)) h is.3 (trie_levels is.3) 0 (in_byte_order es)) (places_over (λ t. t.1) (keyed h rows elem xs))) tree
 
-    way_at : (k : List ℕ) (xs : List (List ℕ × Value)) (es : List (List ℕ × Data)) (o : Option Data) → data_of h rows elem xs ≡ Some es → trie h usual es 0 ≡ o
-        → nodes_for h rows (form_of rows s) (V.map (pairs_of xs)) k ≡ cond (is_some o) (way h usual k (trie_levels usual) 0 (in_byte_order es)) []
+    way_at : (k : List ℕ) (xs : List (List ℕ × Value)) (es : List (List ℕ × Data)) (o : Option Data) → data_of h rows elem xs ≡ Some es → trie h is.3 es 0 ≡ o
+        → nodes_for h rows (form_of rows s) (V.map (pairs_of xs)) k ≡ cond (is_some o) (way h is.3 k (trie_levels is.3) 0 (in_byte_order es)) []
     way_at k xs es o e tree =
-        ap (λ d. nodes_for h rows d (V.map (pairs_of xs)) k) is.3 ∙ ap (λ o. option_map_or (nodes_on h k) o []) e
-        ∙ ap (λ (o : Option Data). cond (is_some o) (way h usual k (trie_levels usual) 0 (in_byte_order es)) []) tree
+        ap (λ d. nodes_for h rows d (V.map (pairs_of xs)) k) is.4 ∙ ap (λ o. option_map_or (nodes_on h is.3 k) o []) e
+        ∙ ap (λ (o : Option Data). cond (is_some o) (way h is.3 k (trie_levels is.3) 0 (in_byte_order es)) []) tree
 
     -- ---- entries that differ at a key
 
@@ -115,18 +115,18 @@ module _ (Q : Place → Type 0) (Given : List ℕ → Type 0) (gives : (b : List
         flat : Each Q (places_over (λ t. t.1) (keyed h rows elem ys))
         flat = over_each Q (λ t. t.1) (keyed h rows elem ys) (keyed_each h rows elem Q ys now)
 
-        in_tries : (fs : List (List ℕ × Data)) → data_of h rows elem ys ≡ Some fs → (o : Option Data) → trie h usual fs 0 ≡ o → Each Q (In ys)
+        in_tries : (fs : List (List ℕ × Data)) → data_of h rows elem ys ≡ Some fs → (o : Option Data) → trie h is.3 fs 0 ≡ o → Each Q (In ys)
         in_tries fs f None g = subst (Each Q) (sym (in_trie ys fs None f g)) flat
         in_tries fs f (Some node) g =
             subst (Each Q) (sym (in_trie ys fs (Some node) f g))
-            (passes Q h usual (at_key (keyed h rows elem xs)) (at_key (keyed h rows elem ys)) (at_keys Q (keyed h rows elem xs) (keyed_each h rows elem Q xs was))
-            (at_keys Q (keyed h rows elem ys) (keyed_each h rows elem Q ys now)) k (λ q apart. keys q (λ same. apart (sym same))) Given gives (trie_levels usual) 0
+            (passes Q h is.3 (at_key (keyed h rows elem xs)) (at_key (keyed h rows elem ys)) (at_keys Q (keyed h rows elem xs) (keyed_each h rows elem Q xs was))
+            (at_keys Q (keyed h rows elem ys) (keyed_each h rows elem Q ys now)) k (λ q apart. keys q (λ same. apart (sym same))) Given gives (trie_levels is.3) 0
             (in_byte_order old.entries) (in_byte_order fs) (differs old.entries fs old.are f) (subst (Each Q) (in_trie xs old.entries (Some old.node) old.are old.tree) all)
             (subst (AllByRecursion Given) (way_at k ys fs (Some node) f g) given))
 
         by : (o : Option (List (List ℕ × Data))) → data_of h rows elem ys ≡ o → Each Q (In ys)
         by None f = subst (Each Q) (sym (places_at ys None f)) flat
-        by (Some fs) f = in_tries fs f (trie h usual fs 0) refl
+        by (Some fs) f = in_tries fs f (trie h is.3 fs 0) refl
 
     -- ---- an entry put, or gone
 
@@ -135,7 +135,7 @@ module _ (Q : Place → Type 0) (Given : List ℕ → Type 0) (gives : (b : List
       xs = pairs_list ps
 
       was : AllByRecursion EntryPasses xs
-      was = entries_pass ps (ap element_of is.3) all
+      was = entries_pass ps (ap element_of is.4) all
 
       back : pairs_of xs ≡ ps
       back = pairs_back ps

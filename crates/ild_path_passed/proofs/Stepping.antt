@@ -4,6 +4,7 @@ use Rattle.std.specs.Prelude.{option_and_then}
 use Rattle.std.specs.List.{AllByRecursion}
 use Rattle.std.proofs.lemmas.Option.{same_Some, none-some}
 use Rattle.ild_data.specs.Data.{Data}
+use Rattle.ild_data.specs.declared.hamt_shape.HamtShape.{HamtShape}
 use Rattle.ild_schema.specs.declared.def.MapForm.TheVariants as MF
 use Rattle.ild_schema.specs.declared.def.TypeDef.{TypeDef}
 use Rattle.ild_schema.specs.declared.def.TypeDef.TheVariants as D
@@ -38,11 +39,11 @@ use Rattle.ild_path_passed.proofs.Mapping.{entry_put, entry_gone}
 use Rattle.ild_path_passed.proofs.Parting.{set_has, insert_has, delete_has}
 use Rattle.ild_path_passed.proofs.Holding.{N, Parts, to_holder, from_holder}
 
-hamt_is : (G : Option TypeDef) → is_hamt G ≡ true → (elem : Slot) × (key : TypeNo) × (key_at : ℕ) × (place : ℕ) × (G ≡ Some (D.Map key key_at elem place MF.Hamt))
+hamt_is : (G : Option TypeDef) → is_hamt G ≡ true → (elem : Slot) × (key : TypeNo) × (key_at : ℕ) × (place : ℕ) × (p : HamtShape) × (G ≡ Some (D.Map key key_at elem place (MF.Hamt p)))
 hamt_is None e = absurd cc
 hamt_is (Some d) e = by d e where
-  by : (d : TypeDef) → is_hamt (Some d) ≡ true → (elem : Slot) × (key : TypeNo) × (key_at : ℕ) × (place : ℕ) × (Some d ≡ Some (D.Map key key_at elem place MF.Hamt))
-  by (D.Map key key_at elem place MF.Hamt) e = (elem, key, key_at, place, refl)
+  by : (d : TypeDef) → is_hamt (Some d) ≡ true → (elem : Slot) × (key : TypeNo) × (key_at : ℕ) × (place : ℕ) × (p : HamtShape) × (Some d ≡ Some (D.Map key key_at elem place (MF.Hamt p)))
+  by (D.Map key key_at elem place (MF.Hamt p)) e = (elem, key, key_at, place, p, refl)
   by (D.Map key key_at elem place MF.Map) e = absurd cc
   by (D.Map key key_at elem place MF.ListPairs) e = absurd cc
   by (D.Map key key_at elem place (MF.StringPairs inner entry)) e = absurd cc
@@ -104,7 +105,7 @@ module _ (Q : Place → Type 0) (Given : List ℕ → Type 0) (gives : (b : List
     Held = map_holder (form_of rows slot) ps
 
     held_is : Held ≡ entries is.0.0 elem false (pairs_list ps)
-    held_is = ap (λ G. map_holder G ps) is.3
+    held_is = ap (λ G. map_holder G ps) is.4
 
     hamt_set : (s : List ℕ) (u : Slot) (w : Value) → slot_to_set Held s ≡ Some u → Has u w → OnWay slot (value_of (set_part Held s w)) s → Has slot (value_of (set_part Held s w))
     hamt_set s u w slot_is b given =
@@ -130,19 +131,19 @@ module _ (Q : Place → Type 0) (Given : List ℕ → Type 0) (gives : (b : List
 
   root_set : (slot : Slot) (v : Value) (s : List ℕ) (u : Slot) (w : Value) (t : Data) → is_root rows (slot, v) ≡ true → Rep slot v t → slot_to_set (seen rows (slot, v)) s ≡ Some u → Has slot v → Has u w
       → OnWay slot (value_of (set_part (seen rows (slot, v)) s w)) s → Has slot (value_of (set_part (seen rows (slot, v)) s w))
-  root_set slot (V.map ps) s u w t root made slot_is a b given = let k = hamt_is (form_of rows slot) root in hamt_set slot k.0 ps (k.1, k.2, k.3, k.4) t made a s u w slot_is b given
+  root_set slot (V.map ps) s u w t root made slot_is a b given = let k = hamt_is (form_of rows slot) root in hamt_set slot k.0 ps (k.1, k.2, k.3, k.4, k.5) t made a s u w slot_is b given
   root_set slot (V.hamt d) s u w t root made slot_is a b given = absurd (none-some u slot_is)
   root_set slot v s u w t root made slot_is a b given = let wrong : false ≡ true = root in absurd cc
 
   root_insert : (slot : Slot) (v : Value) (s : List ℕ) (u : Slot) (w : Value) (t : Data) → is_root rows (slot, v) ≡ true → Rep slot v t → slot_to_insert (seen rows (slot, v)) s ≡ Some u → Has slot v → Has u w
       → OnWay slot (value_of (insert_part (seen rows (slot, v)) s w)) s → Has slot (value_of (insert_part (seen rows (slot, v)) s w))
-  root_insert slot (V.map ps) s u w t root made slot_is a b given = let k = hamt_is (form_of rows slot) root in hamt_insert slot k.0 ps (k.1, k.2, k.3, k.4) t made a s u w slot_is b given
+  root_insert slot (V.map ps) s u w t root made slot_is a b given = let k = hamt_is (form_of rows slot) root in hamt_insert slot k.0 ps (k.1, k.2, k.3, k.4, k.5) t made a s u w slot_is b given
   root_insert slot (V.hamt d) s u w t root made slot_is a b given = absurd (none-some u slot_is)
   root_insert slot v s u w t root made slot_is a b given = let wrong : false ≡ true = root in absurd cc
 
   root_delete : (slot : Slot) (v : Value) (s : List ℕ) (t : Data) → is_root rows (slot, v) ≡ true → Rep slot v t → refusal_to_delete (seen rows (slot, v)) s ≡ None → Has slot v
       → OnWay slot (value_of (delete_part (seen rows (slot, v)) s)) s → Has slot (value_of (delete_part (seen rows (slot, v)) s))
-  root_delete slot (V.map ps) s t root made free a given = let k = hamt_is (form_of rows slot) root in hamt_delete slot k.0 ps (k.1, k.2, k.3, k.4) t made a s given
+  root_delete slot (V.map ps) s t root made free a given = let k = hamt_is (form_of rows slot) root in hamt_delete slot k.0 ps (k.1, k.2, k.3, k.4, k.5) t made a s given
   root_delete slot (V.hamt d) s t root made free a given = absurd cc
   root_delete slot v s t root made free a given = let wrong : false ≡ true = root in absurd cc
 

@@ -4,7 +4,7 @@ use Rattle.std.specs.List.{AllByRecursion, range_with_len}
 use Rattle.std.proofs.lemmas.Bool.{lt-leb, le-leb, cases_eq, cases_lt, eqb-true}
 use Rattle.ild_data.specs.Data.{Data}
 use Rattle.ild_data.specs.Spell.{spell}
-use Rattle.ild_data.specs.TrieShape.{TrieShape}
+use Rattle.ild_data.specs.declared.hamt_shape.HamtShape.{HamtShape}
 use Rattle.ild_data.specs.Trie.{part, node_of, at_depth}
 use Rattle.ild_data.specs.TrieBlocks.{none_or, block_of}
 use Rattle.ild_hamt_trie.specs.Way.{way}
@@ -18,7 +18,7 @@ use Rattle.ild_hamt_climb.specs.Rewriting.{DiffersAt}
 use Rattle.ild_hamt_climb.proofs.Differing.{part-differs, part-others}
 use Rattle.ild_path_passed.proofs.Joined.{Each, over_each, each_over, of_node, to_node}
 
-module _ (Q : Place → Type 0) (h : List ℕ → List ℕ) (p : TrieShape) where
+module _ (Q : Place → Type 0) (h : List ℕ → List ℕ) (p : HamtShape) where
   abbrev Part : ℕ → List (List ℕ × Data) → ℕ → List (List ℕ × Data)
   Part depth es i = part (at_depth h p depth) es i
 

@@ -1,5 +1,6 @@
 -- The laws of places that an edit passes on (IPLD HashMap, "Element").
 use Rattle.std.specs.Prelude.{◌≡◌, ℕ, List, Bool, Contains, Some, Ok}
+use Rattle.ild_edges.specs.Gained.{AreIdsGiven}
 use Rattle.ild_data.specs.Data.{Data}
 use Rattle.ild_schema.specs.declared.number.TypeNo.{TypeNo}
 use Rattle.ild_schema.specs.declared.row.Row.{Row}
@@ -11,7 +12,6 @@ use Rattle.ild_typed.specs.OfType.{OfType, TestsKeys}
 use Rattle.ild_typed.specs.Represented.{represented}
 use Rattle.ild_typed.specs.Schema.{IsSchema}
 use Rattle.ild_typed.specs.Stands.{Frame, root_id}
-use Rattle.ild_hamt.specs.Given.{AreIdsGiven}
 use Rattle.ild_typed_places.specs.Carried.{Passed}
 use Rattle.ild_typed_places.specs.Places.{places_in, value_places}
 use Rattle.ild_path_edits.specs.Edit.{Edit, HasTextPath, new_slot, path_of, change}

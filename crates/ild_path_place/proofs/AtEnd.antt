@@ -4,6 +4,7 @@ use Rattle.std.specs.Prelude.{◌&&◌, IfOk, not, option_and_then}
 use Rattle.std.specs.Option.{option_map_or}
 use Rattle.std.proofs.lemmas.Option.{none-some, same_Some}
 use Rattle.ild_data.specs.Data.{Data}
+use Rattle.ild_data.specs.declared.hamt_shape.HamtShape.{HamtShape}
 use Rattle.ild_edges.specs.Store.{Moment, block_at}
 use Rattle.ild_node_slots.specs.declared.view.NodeView.{NodeView}
 use Rattle.ild_open_held.specs.Held.{IsHeld}
@@ -120,13 +121,13 @@ module _ (h : List ℕ → List ℕ) (rows : List Row) (was : List (List ℕ)) (
 
   -- ---- at a HAMT
 
-  is_hamt : (n : NodeView) (b : Bool) → is_root rows holder ≡ b → RootIs (root_in (front_of h rows holder.0 holder.1)) (Some n) → is_root rows holder ≡ true
-  is_hamt n true e root = e
-  is_hamt n false e root = absurd (subst (λ o. RootIs o (Some n)) (plain_root h rows holder.0 holder.1 e) root)
+  is_hamt : (w : Option HamtShape) (n : NodeView) (b : Bool) → is_root rows holder ≡ b → RootIs w (root_in (front_of h rows holder.0 holder.1)) (Some n) → is_root rows holder ≡ true
+  is_hamt w n true e root = e
+  is_hamt w n false e root = absurd (subst (λ o. RootIs w o (Some n)) (plain_root h rows holder.0 holder.1 e) root)
 
-  module _ (n : NodeView) (roots : (f : Value) → IsView halt.view f → RootIs (root_in f) (Some n)) where
+  module _ (w : Option HamtShape) (n : NodeView) (roots : (f : Value) → IsView halt.view f → RootIs w (root_in f) (Some n)) where
     root : is_root rows holder ≡ true
-    root = is_hamt n (is_root rows holder) refl (roots (front_of h rows holder.0 holder.1) holder_view.view)
+    root = is_hamt w n (is_root rows holder) refl (roots (front_of h rows holder.0 holder.1) holder_view.view)
 
     slot : holder.0 ≡ slot_of halt.view
     slot = sym holder_view.slot
@@ -173,13 +174,13 @@ module _ (h : List ℕ → List ℕ) (rows : List Row) (was : List (List ℕ)) (
 
   -- ---- at another holder
 
-  no_hamt : (b : Bool) → is_root rows holder ≡ b → RootIs (root_in (front_of h rows holder.0 holder.1)) None → is_root rows holder ≡ false
-  no_hamt false e none = e
-  no_hamt true e none = absurd (subst (λ (f : Value). RootIs (root_in f) None) (root_front h rows holder.0 holder.1 held.0 held.1.tree e) none)
+  no_hamt : (w : Option HamtShape) (b : Bool) → is_root rows holder ≡ b → RootIs w (root_in (front_of h rows holder.0 holder.1)) None → is_root rows holder ≡ false
+  no_hamt w false e none = e
+  no_hamt w true e none = absurd (subst (λ (f : Value). RootIs w (root_in f) None) (root_front h rows holder.0 holder.1 held.0 held.1.tree e) none)
 
-  module _ (roots : (f : Value) → IsView halt.view f → RootIs (root_in f) None) where
+  module _ (w : Option HamtShape) (roots : (f : Value) → IsView halt.view f → RootIs w (root_in f) None) where
     plain : is_root rows holder ≡ false
-    plain = no_hamt (is_root rows holder) refl (roots (front_of h rows holder.0 holder.1) holder_view.view)
+    plain = no_hamt w (is_root rows holder) refl (roots (front_of h rows holder.0 holder.1) holder_view.view)
 
     module _ (s : List ℕ) where
       alike : AllowsAlike Key rows holder (front_in h rows holder) s

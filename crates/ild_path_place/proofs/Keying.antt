@@ -6,6 +6,7 @@ use Rattle.ild_data.specs.Data.{Data}
 use Rattle.ild_data.specs.Key.{value_at}
 use Rattle.ild_data.specs.Trie.{TrieSlot}
 use Rattle.ild_data.specs.TrieShape.{trie_levels}
+use Rattle.ild_data.specs.declared.hamt_shape.HamtShape.{HamtShape}
 use Rattle.ild_edges.specs.Store.{Moment, block_at}
 use Rattle.ild_hamt.specs.Descending.{IsTrailOf}
 use Rattle.ild_hamt.specs.declared.trail.Trail.{Trail}
@@ -21,7 +22,8 @@ use Rattle.ild_path_entry.specs.declared.entry.Entry.{Entry}
 use Rattle.ild_path_held.proofs.Tries.{hamts_are_tries}
 use Rattle.ild_path_held.specs.Hamts.{IsTrieIn}
 use Rattle.ild_path_inward.proofs.Passing.{counts_way, levels_fit, some_slots}
-use Rattle.ild_path_inward.specs.Levels.{IsValueSlot, counts}
+use Rattle.ild_path_inward.specs.Levels.{counts}
+use Rattle.ild_path_room.specs.ValueSlot.{IsValueSlot}
 use Rattle.ild_path_place.specs.Endings.{CanEndAt, KeyAnswer, fault_at}
 use Rattle.ild_path_place.specs.Faults.{hamt_fault}
 use Rattle.ild_path_place.specs.Keys.{FitsAs, key_in}
@@ -39,7 +41,6 @@ use Rattle.ild_schema.specs.declared.row.Row.{Row}
 use Rattle.ild_schema.specs.Slots.{form_of}
 use Rattle.ild_schema.specs.Value.{Value, map, pairs_list}
 use Rattle.ild_typed.specs.At.{InSlot, seen}
-use Rattle.ild_typed.specs.Composed.{usual}
 use Rattle.ild_typed.specs.Holder.{entries, is_paired, map_holder}
 use Rattle.ild_typed.specs.Node.{IsRoot}
 use Rattle.ild_typed.specs.Segment.{part}
@@ -66,15 +67,19 @@ module _ (h : List ℕ → List ℕ) (rows : List Row) (was : List (List ℕ)) (
   holder = (s, map x.ps)
 
   same : x.elem ≡ slot
-  same = same_Some x.elem slot (sym (ap element_of x.entered.hamt.3) ∙ is.0)
+  same = same_Some x.elem slot (sym (ap element_of x.entered.hamt.4) ∙ is.0)
 
-  entered : IsEntered rows q front s slot x.ps
+  pub entered : IsEntered rows q front s slot x.ps
   entered = subst (λ e. IsEntered rows q front s e x.ps) same x.entered
 
-  left : room ≡ less + 5
-  left = let five : 5 ≤ room = levels_fit rows room s x.ps (T.Map entered.hamt.0 entered.hamt.1 slot entered.hamt.2 MF.Hamt) entered.hamt.3 x.held.fits in omega (arith, five, lower)
+  -- the shape of the HAMT
+  abbrev pub shape : HamtShape
+  shape = entered.hamt.3
 
-  pub tries : (es : List (List ℕ × Data)) × IsTrieIn h rows was slot x.ps x.tree es
+  pub left : room ≡ less + 5
+  left = let five : 5 ≤ room = levels_fit rows room s x.ps (T.Map entered.hamt.0 entered.hamt.1 slot entered.hamt.2 (MF.Hamt shape)) entered.hamt.4 x.held.fits in omega (arith, five, lower)
+
+  pub tries : (es : List (List ℕ × Data)) × IsTrieIn h shape rows was slot x.ps x.tree es
   tries = hamts_are_tries h rows x.schema was room less x.low s slot x.tree x.ps entered.hamt left x.held
 
   abbrev pub es : List (List ℕ × Data)
@@ -83,11 +88,11 @@ module _ (h : List ℕ → List ℕ) (rows : List Row) (was : List (List ℕ)) (
   abbrev pub is_key : ℕ → List ℕ → Bool
   is_key = (schemas_have_tests rows x.schema).0.is_key
 
-  pub can : CanEnter h rows is_key was s slot less x.tree x.ps es
+  abbrev pub can : CanEnter h rows is_key was s slot less x.tree x.ps es
   can = record { schema = x.schema; keys = (schemas_have_tests rows x.schema).1.keys; hamt = entered.hamt; held = subst (λ n. IsHeld (block_at was) h rows n s x.tree (map x.ps)) left x.held; trie = tries.1 }
 
-  holder_is : seen rows holder ≡ entries (entered.hamt.0).0 slot (is_paired MF.Hamt) (pairs_list x.ps)
-  holder_is = ap (λ G. map_holder G x.ps) entered.hamt.3
+  holder_is : seen rows holder ≡ entries (entered.hamt.0).0 slot (is_paired (MF.Hamt shape)) (pairs_list x.ps)
+  holder_is = ap (λ G. map_holder G x.ps) entered.hamt.4
 
   module _ (key : List ℕ) where
     abbrev There : Option Value
@@ -113,14 +118,14 @@ module _ (h : List ℕ → List ℕ) (rows : List Row) (was : List (List ℕ)) (
 
     pub fitted : (entry : Option Entry) → EntryThere h rows was slot less There entry → (there : Bool) → there ≡ is_some entry → IsUtf8 key → (b : Bool) → FitsAs rows (form_of rows s) there key b → FitsKey rows holder key b
     fitted entry a there t utf8 b fits is_key tests =
-        fits entered.hamt.0 is_key (ap key_in entered.hamt.3) tests utf8 ∙ ap (λ c. c || is_key (entered.hamt.0).0 key) (t ∙ there_is h rows was slot less There entry a)
+        fits entered.hamt.0 is_key (ap key_in entered.hamt.4) tests utf8 ∙ ap (λ c. c || is_key (entered.hamt.0).0 key) (t ∙ there_is h rows was slot less There entry a)
         ∙ sym (ap (λ K. key_fits is_key K key) holder_is)
 
-    module _ (m n : Moment) (gets : n.gets ≤ m.gets + length (way h usual key (trie_levels usual) 0 es)) where
+    module _ (m n : Moment) (gets : n.gets ≤ m.gets + length (way h shape key (trie_levels shape) 0 es)) where
       within : n.gets ≤ m.gets + counts h rows holder key
       within = let own = counts_way h rows was s slot x.ps x.tree es entered.hamt tries.1 key in omega (arith, gets, own)
 
-      pub ends_wrong : (k : ℕ) (verb : Verb) (e : HamtFault) → EnterAnswer h rows was slot less x.tree x.ps es key m (Err e) n → KeyAnswer h rows was limit q front key k verb holder m (Err (hamt_fault e)) n × (n.gets ≤ m.gets + counts h rows holder key)
+      pub ends_wrong : (k : ℕ) (verb : Verb) (e : HamtFault) → EnterAnswer h shape rows was slot less x.tree x.ps es key m (Err e) n → KeyAnswer h rows was limit q front key k verb holder m (Err (hamt_fault e)) n × (n.gets ≤ m.gets + counts h rows holder key)
       ends_wrong k verb H.Store a = (a, within)
       ends_wrong k verb H.Memory a = (tt, within)
       ends_wrong k verb (H.Block id why) a = absurd a
@@ -134,10 +139,10 @@ module _ (h : List ℕ → List ℕ) (rows : List Row) (was : List (List ℕ)) (
       ends_refused k verb R.Mismatch a = (a, within)
 
       pub ends_there : (k : ℕ) (verb : Verb) (found : Found) (trail : Trail) (entry : Option Entry) → found.end ≡ D.AtKey front trail entry → IsUtf8 key
-          → ((slots : List TrieSlot) → IsRoot usual slots x.tree → IsTrailOf h usual key slots es trail) → EntryThere h rows was slot less There entry → SlotAnswer rows holder key verb (Ok found.slot) → FitsKey rows holder key found.key_fits
+          → ((slots : List TrieSlot) → IsRoot shape slots x.tree → IsTrailOf h shape key slots es trail) → EntryThere h rows was slot less There entry → SlotAnswer rows holder key verb (Ok found.slot) → FitsKey rows holder key found.key_fits
           → KeyAnswer h rows was limit q front key k verb holder m (Ok found) n × (n.gets ≤ m.gets + counts h rows holder key)
       ends_there k verb found trail entry e utf8 search there answer fits =
-          let roots = some_slots h rows was slot x.ps x.tree es tries.1 in
+          let roots = some_slots h shape rows was slot x.ps x.tree es tries.1 in
           let same_key : trail.key ≡ key = (search roots.0 roots.1).key in (
             (
               answer,
@@ -158,7 +163,7 @@ module _ (h : List ℕ → List ℕ) (rows : List Row) (was : List (List ℕ)) (
                   data_is = x.held.tree;
                   trie = tries.1;
                   utf8 = subst IsUtf8 (sym same_key) utf8;
-                  found = subst (λ i. (slots : List TrieSlot) → IsRoot usual slots x.tree → IsTrailOf h usual i slots es trail) (sym same_key) search;
+                  found = subst (λ i. (slots : List TrieSlot) → IsRoot shape slots x.tree → IsTrailOf h shape i slots es trail) (sym same_key) search;
                   there = subst (λ i. EntryThere h rows was slot less (value_at i (pairs_list x.ps)) entry) (sym same_key) there;
                 },
               ),

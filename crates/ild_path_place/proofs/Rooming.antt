@@ -58,13 +58,13 @@ module _ (rows : List Row) where
   -- ---- through a HAMT
 
   part_there : (slot elem : Slot) (ps : Pairs) (is : IsHamt rows slot elem) (k : List ℕ) (w : Value) → value_at k (pairs_list ps) ≡ Some w → part (seen rows (slot, map ps)) k ≡ Some (elem, w)
-  part_there slot elem ps is k w e = ap (λ G. part (map_holder G ps) k) is.3 ∙ ap (option_map (λ v. (elem, v))) e
+  part_there slot elem ps is k w e = ap (λ G. part (map_holder G ps) k) is.4 ∙ ap (option_map (λ v. (elem, v))) e
 
   entry_room : (slot elem : Slot) (ps : Pairs) (is : IsHamt rows slot elem) (k : List ℕ) (w : Value) → value_at k (pairs_list ps) ≡ Some w → (room : ℕ) (rest : List (List ℕ))
       → room_at rows (room + 5) (slot, map ps) (k ∷ rest) ≡ room_at rows room (elem, w) rest
   entry_room slot elem ps is k w e room rest =
       let n = room_below rows (room + 5) (slot, map ps) k in
-      let below : n ≡ room = ap (λ (o : Option TypeDef). (room + 5) - taken o) is.3 ∙ omega arith in
+      let below : n ≡ room = ap (λ (o : Option TypeDef). (room + 5) - taken o) is.4 ∙ omega arith in
       ap (λ o. option_map_or (λ q. room_at rows n q rest) o n) (part_there slot elem ps is k w e) ∙ ap (λ i. room_at rows i (elem, w) rest) below
 
   module _ (h : List ℕ → List ℕ) (was : List (List ℕ)) where

@@ -2,6 +2,7 @@
 use Rattle.std.proofs.Common.{◌≡◌, ℕ, List, Option, Some, None}
 use Rattle.ild_data.specs.Data.{Data}
 use Rattle.ild_data.specs.TrieShape.{trie_levels}
+use Rattle.ild_data.specs.declared.hamt_shape.HamtShape.{HamtShape}
 use Rattle.ild_edges.specs.Store.{Keeps}
 use Rattle.ild_hamt.proofs.Holding.{holds-later}
 use Rattle.ild_hamt.specs.declared.trail.Trail.{Trail}
@@ -22,11 +23,10 @@ use Rattle.ild_schema.specs.Value.{Pairs, Value}
 use Rattle.ild_schema.specs.declared.number.Slot.{Slot}
 use Rattle.ild_schema.specs.declared.row.Row.{Row}
 use Rattle.ild_typed.specs.At.{InSlot}
-use Rattle.ild_typed.specs.Composed.{usual}
 
 module _ (h : List ℕ → List ℕ) (rows : List Row) (was now : List (List ℕ)) (keeps : Keeps was now) where
-  trie_stays : (elem : Slot) (ps : Pairs) (t : Data) (es : List (List ℕ × Data)) → IsTrieIn h rows was elem ps t es → IsTrieIn h rows now elem ps t es
-  trie_stays elem ps t es x = record {
+  trie_stays : (p : HamtShape) (elem : Slot) (ps : Pairs) (t : Data) (es : List (List ℕ × Data)) → IsTrieIn h p rows was elem ps t es → IsTrieIn h p rows now elem ps t es
+  trie_stays p elem ps t es x = record {
     pairs = x.pairs;
     represents = x.represents;
     rises = x.rises;
@@ -35,7 +35,7 @@ module _ (h : List ℕ → List ℕ) (rows : List Row) (was now : List (List ℕ
     node = x.node;
     is_node = x.is_node;
     root = x.root;
-    holds = holds-later h usual was now (trie_levels usual) 0 es keeps x.holds;
+    holds = holds-later h p was now (trie_levels p) 0 es keeps x.holds;
     found = x.found;
   }
 
@@ -56,7 +56,7 @@ module _ (h : List ℕ → List ℕ) (rows : List Row) (was now : List (List ℕ
     entered = x.entered;
     left = x.left;
     data_is = x.data_is;
-    trie = trie_stays x.elem x.ps x.root x.es x.trie;
+    trie = trie_stays x.entered.hamt.3 x.elem x.ps x.root x.es x.trie;
     utf8 = x.utf8;
     found = x.found;
     there = entry_stays x.elem x.less _ entry x.there;

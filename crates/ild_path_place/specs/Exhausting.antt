@@ -12,7 +12,6 @@ use Rattle.ild_path_place.specs.declared.place.End.TheVariants as D
 use Rattle.ild_path_place.specs.declared.verb.Verb.{Verb}
 use Rattle.ild_schema.specs.declared.row.Row.{Row}
 use Rattle.ild_typed.specs.At.{InSlot}
-use Rattle.ild_typed.specs.Composed.{usual}
 
 -- whatever comes to the key
 abbrev pub Exhausts : Verb → End → Bool → Type 0
@@ -20,4 +19,4 @@ Exhausts verb D.Whole b = b ≡ false
 Exhausts verb (D.InBlock path) b = b ≡ false
 Exhausts verb (D.AtKey front trail entry) b =
     (h : List ℕ → List ℕ) (rows : List Row) (was : List (List ℕ)) (room : ℕ) (q : InSlot) (x : IsAtKey h rows was room q front trail entry) (d : Data)
-    → b ≡ (not (is_some (node_of h usual (trie_levels usual) 0 (put bytewise trail.key d x.es))) && comes verb)
+    → b ≡ (not (is_some (node_of h x.entered.hamt.3 (trie_levels x.entered.hamt.3) 0 (put bytewise trail.key d x.es))) && comes verb)

@@ -26,7 +26,6 @@ use Rattle.ild_typed.specs.OfType.{TestsKeys}
 use Rattle.ild_path_edits.specs.Table.{key_fits}
 use Rattle.std.specs.Option.{option_map_or}
 use Rattle.ild_typed.specs.At.{InSlot, at, last_holder}
-use Rattle.ild_typed.specs.Composed.{usual}
 use Rattle.ild_typed.specs.Hamt.{whole}
 use Rattle.ild_typed.specs.Holder.{Holder}
 use Rattle.ild_typed.specs.Node.{IsRoot}
@@ -75,9 +74,9 @@ pub record IsAtKey (h : List ℕ → List ℕ) (rows : List Row) (was : List (Li
   pub entered : IsEntered rows q front slot elem ps
   pub left : room_at rows room q front ≡ less + 5
   pub data_is : represented (whole h) rows slot (map ps) ≡ Some root
-  pub trie : IsTrieIn h rows was elem ps root es
+  pub trie : IsTrieIn h entered.hamt.3 rows was elem ps root es
   pub utf8 : IsUtf8 trail.key
-  pub found : (slots : List TrieSlot) → IsRoot usual slots root → IsTrailOf h usual trail.key slots es trail
+  pub found : (slots : List TrieSlot) → IsRoot entered.hamt.3 slots root → IsTrailOf h entered.hamt.3 trail.key slots es trail
   pub there : EntryThere h rows was elem less (value_at trail.key (pairs_list ps)) entry
 
 -- of the value q of the innermost block

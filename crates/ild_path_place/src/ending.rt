@@ -16,7 +16,7 @@ use crate::verb::Verb;
 use ild_data::{KeyHash, Path, Txt};
 use ild_edges::Store;
 use ild_path_enter::{Entered, enter};
-use ild_path_inward::value_slot;
+use ild_path_room::value_slot;
 use ild_path_rules::key_fits;
 use ild_schema::{Accepted, Slot};
 use ild_view::View;

@@ -8,6 +8,7 @@ use Rattle.ild_data.specs.Limits.{longest_block}
 use Rattle.ild_data.specs.Spell.{id_of, spell}
 use Rattle.ild_data.specs.Trie.{TrieSlot}
 use Rattle.ild_data.specs.TrieShape.{trie_levels}
+use Rattle.ild_data.specs.declared.hamt_shape.HamtShape.{HamtShape}
 use Rattle.ild_edges.specs.Count.{Rose}
 use Rattle.ild_edges.specs.Store.{Moment, Later, block_at}
 use Rattle.ild_edges.specs.Told.{IfTold, BothTold}
@@ -18,7 +19,6 @@ use Rattle.ild_node_slots.specs.declared.fault.HamtFault.{HamtFault}
 use Rattle.ild_node_slots.specs.declared.fault.HamtFault.TheVariants as F
 use Rattle.ild_hamt_trie.specs.Way.{way}
 use Rattle.ild_typed.specs.Blocks.{nodes}
-use Rattle.ild_typed.specs.Composed.{usual}
 use Rattle.ild_typed.specs.Fits.{Fits}
 use Rattle.ild_typed.specs.Hamt.{whole}
 use Rattle.ild_typed.specs.Node.{IsRoot}
@@ -55,9 +55,9 @@ pub record IsHamtHeld (h : List ℕ → List ℕ) (rows : List Row) (was : List 
   pub hamt : IsHamt rows s elem
   pub before : ℕ
   pub held : IsHeld (block_at was) h rows before s t (map ps)
-  pub trie : IsTrieIn h rows was elem ps t es
+  pub trie : IsTrieIn h hamt.3 rows was elem ps t es
   pub utf8 : IsUtf8 k
-  pub trail : (slots : List TrieSlot) → IsRoot usual slots t → IsTrailOf h usual k slots es found
+  pub trail : (slots : List TrieSlot) → IsRoot hamt.3 slots t → IsTrailOf h hamt.3 k slots es found
 
 -- a held value with the data d comes to the key, and the map has the data x then
 pub record IsPut (h : List ℕ → List ℕ) (rows : List Row) (was : List (List ℕ)) (s elem : Slot) (room : ℕ) (ps : Pairs) (k : List ℕ) (w : Value) (d x : Data) : Type 0 where
@@ -95,16 +95,16 @@ pub record NodeCame (h : List ℕ → List ℕ) (rows : List Row) (s : Slot) (v 
 pub record AddsNodes (h : List ℕ → List ℕ) (rows : List Row) (s : Slot) (v : Value) (was now : List (List ℕ)) : Type 0 where
   pub came : (id b : List ℕ) → block_at now id ≡ Some b → (block_at was id ≡ Some b) ⊎ NodeCame h rows s v now b
 
--- the HAMT becomes v, by puts of no more blocks than it has on the way of the key, each of which was put where it did
-pub record EditsHamt (h : List ℕ → List ℕ) (rows : List Row) (s : Slot) (room : ℕ) (k : List ℕ) (es : List (List ℕ × Data)) (v : Value) (x : Data) (m : Moment) (result : Result (List ℕ) HamtFault) (n : Moment) : Type 0 where
+-- the HAMT of a shape becomes v, by puts of no more blocks than it has on the way of the key, each of which was put where it did
+pub record EditsHamt (h : List ℕ → List ℕ) (p : HamtShape) (rows : List Row) (s : Slot) (room : ℕ) (k : List ℕ) (es : List (List ℕ × Data)) (v : Value) (x : Data) (m : Moment) (result : Result (List ℕ) HamtFault) (n : Moment) : Type 0 where
   pub answer : EditAnswer h rows room s v x m result n
   pub later : Later m n
   pub adds : BothTold m.blocks n.blocks (AddsNodes h rows s v)
-  pub puts : n.puts ≤ m.puts + length (way h usual k (trie_levels usual) 0 es)
-  pub given : GivesWay h k es result n
+  pub puts : n.puts ≤ m.puts + length (way h p k (trie_levels p) 0 es)
+  pub given : GivesWay h p k es result n
 
-abbrev pub Puts : (List ℕ → List ℕ) → List Row → Slot → ℕ → Pairs → List (List ℕ × Data) → List ℕ → Value → Data → Data → Moment → Result (List ℕ) HamtFault → Moment → Type 0
-Puts h rows s room ps es k w d x m result n = EditsHamt h rows s room k (insert bytewise k d es) (with_entry k w ps) x m result n
+abbrev pub Puts : (List ℕ → List ℕ) → HamtShape → List Row → Slot → ℕ → Pairs → List (List ℕ × Data) → List ℕ → Value → Data → Data → Moment → Result (List ℕ) HamtFault → Moment → Type 0
+Puts h p rows s room ps es k w d x m result n = EditsHamt h p rows s room k (insert bytewise k d es) (with_entry k w ps) x m result n
 
-abbrev pub Cuts : (List ℕ → List ℕ) → List Row → Slot → ℕ → Pairs → List (List ℕ × Data) → List ℕ → Data → Moment → Result (List ℕ) HamtFault → Moment → Type 0
-Cuts h rows s room ps es k x m result n = EditsHamt h rows s room k (remove k es) (without_entry k ps) x m result n
+abbrev pub Cuts : (List ℕ → List ℕ) → HamtShape → List Row → Slot → ℕ → Pairs → List (List ℕ × Data) → List ℕ → Data → Moment → Result (List ℕ) HamtFault → Moment → Type 0
+Cuts h p rows s room ps es k x m result n = EditsHamt h p rows s room k (remove k es) (without_entry k ps) x m result n

@@ -34,15 +34,16 @@ pub fn put_entry<K: Store, H: KeyHash>(
     ensures gets { (K.moment store.new).gets ≡ (K.moment store.old).gets }
     ensures caused { CausedBy (K.moment store.old) result (K.moment store.new) }
     ensures puts { (rows : List Row) (was : List (List ℕ)) (s elem : Place) (t d x : Data) (ps : Pairs) (es : List (List ℕ × Data)) (k : List ℕ) (room : ℕ) (w : Value) → IsView view.now (hamt t)
-        → (K.moment store.old).blocks ≡ Some was → IsHamtHeld H.hash_of rows was s elem t ps es k trail → IsPut H.hash_of rows was s elem room ps k w d x → Stands item.now d
-        → Puts H.hash_of rows s room ps es k w d x (K.moment store.old) result (K.moment store.new) }
+        → (K.moment store.old).blocks ≡ Some was → (at : IsHamtHeld H.hash_of rows was s elem t ps es k trail) → IsPut H.hash_of rows was s elem room ps k w d x → Stands item.now d
+        → Puts H.hash_of at.hamt.3 rows s room ps es k w d x (K.moment store.old) result (K.moment store.new) }
 {
     let root = match view.hamt() {
         Some(root) => root,
         None => return Err(HamtFault::Memory),
     };
+    let shape = root.shape();
     let node = trail.set(alloc, root, item, keys, store)?;
-    root_around(alloc, &node)
+    root_around(alloc, shape, &node)
 }
 
 /// The same without the entry at the trail's key. Where the key isn't there, nothing is done.
@@ -56,13 +57,14 @@ pub fn cut_entry<K: Store, H: KeyHash>(
     ensures gets { (K.moment store.new).gets ≡ (K.moment store.old).gets }
     ensures caused { CausedBy (K.moment store.old) result (K.moment store.new) }
     ensures cuts { (rows : List Row) (was : List (List ℕ)) (s elem : Place) (t x : Data) (ps : Pairs) (es : List (List ℕ × Data)) (k : List ℕ) (room : ℕ) → IsView view.now (hamt t)
-        → (K.moment store.old).blocks ≡ Some was → IsHamtHeld H.hash_of rows was s elem t ps es k trail → IsCut H.hash_of rows s room ps k x
-        → Cuts H.hash_of rows s room ps es k x (K.moment store.old) result (K.moment store.new) }
+        → (K.moment store.old).blocks ≡ Some was → (at : IsHamtHeld H.hash_of rows was s elem t ps es k trail) → IsCut H.hash_of rows s room ps k x
+        → Cuts H.hash_of at.hamt.3 rows s room ps es k x (K.moment store.old) result (K.moment store.new) }
 {
     let root = match view.hamt() {
         Some(root) => root,
         None => return Err(HamtFault::Memory),
     };
+    let shape = root.shape();
     let node = trail.remove(alloc, root, keys, store)?;
-    root_around(alloc, &node)
+    root_around(alloc, shape, &node)
 }

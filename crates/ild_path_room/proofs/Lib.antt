@@ -4,3 +4,5 @@ pub mod Edited
 pub mod AlongPaths
 pub mod Telling
 pub mod Holes
+mod Valued
+pub mod Rooting

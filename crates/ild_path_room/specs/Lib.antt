@@ -1,3 +1,4 @@
 pub mod Room
 pub mod RoomLaws
 pub mod Hole
+pub mod ValueSlot

@@ -117,7 +117,7 @@ map_within n d key key_at value at form is within = by form low where
   low = whole.1 0 0 (omega arith)
 
   by : (g : MapForm) → key.0 < n → KeyWithin n (map_form key value g)
-  by MF.Hamt h = tt
+  by (MF.Hamt shape) h = tt
   by MF.Map h = h
   by MF.ListPairs h = h
   by (MF.StringPairs inner entry) h = h
@@ -139,7 +139,7 @@ module _ (v : View) (f : Value) (x : IsView v f) where
     list_form elem at is = let y = held (D.List elem at) is in elements_of y.0 y.1
 
     pub entries_form : (key : TypeNo) (key_at : ℕ) (value : Slot) (at : ℕ) (form : MapForm) → d ≡ D.Map key key_at value at form → Is (map_form key value form)
-    entries_form key key_at value at MF.Hamt is = held (D.Map key key_at value at MF.Hamt) is
+    entries_form key key_at value at (MF.Hamt shape) is = held (D.Map key key_at value at (MF.Hamt shape)) is
     entries_form key key_at value at MF.Map is = let y = held (D.Map key key_at value at MF.Map) is in entries_of key (is_paired MF.Map) y.0 refl y.1
     entries_form key key_at value at MF.ListPairs is = let y = held (D.Map key key_at value at MF.ListPairs) is in entries_of key (is_paired MF.ListPairs) y.0 refl y.1
     entries_form key key_at value at (MF.StringPairs inner entry) is =

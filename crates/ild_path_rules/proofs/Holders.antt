@@ -29,7 +29,7 @@ use Rattle.ild_typed.specs.Represented.{represented}
 
 -- the entries of a map that has no HAMT; of one that has, none are shown
 abbrev pub HoldsMap : TypeNo → Slot → MapForm → Holder → Type 0
-HoldsMap key value MF.Hamt h = (v : Value) × (h ≡ nothing v)
+HoldsMap key value (MF.Hamt shape) h = (v : Value) × (h ≡ nothing v)
 HoldsMap key value MF.Map h = (ps : List (List ℕ × Value)) × (h ≡ entries key.0 value (is_paired MF.Map) ps)
 HoldsMap key value MF.ListPairs h = (ps : List (List ℕ × Value)) × (h ≡ entries key.0 value (is_paired MF.ListPairs) ps)
 HoldsMap key value (MF.StringPairs inner entry) h = (ps : List (List ℕ × Value)) × (h ≡ entries key.0 value (is_paired (MF.StringPairs inner entry)) ps)
@@ -64,13 +64,13 @@ module _ (rows : List Row) (s : Slot) (t : Data) (d : TypeDef) (known : form_of 
   map_made key key_at value at MF.Map ps is made = (pairs_list ps, refl)
   map_made key key_at value at MF.ListPairs ps is made = (pairs_list ps, refl)
   map_made key key_at value at (MF.StringPairs inner entry) ps is made = (pairs_list ps, refl)
-  map_made key key_at value at MF.Hamt ps is made = by (way_of alone rows s (V.map ps) t made) where
-    by : Way alone rows s (V.map ps) t → HoldsMap key value MF.Hamt (map_holder (Some (D.Map key key_at value at MF.Hamt)) ps)
+  map_made key key_at value at (MF.Hamt shape) ps is made = by (way_of alone rows s (V.map ps) t made) where
+    by : Way alone rows s (V.map ps) t → HoldsMap key value (MF.Hamt shape) (map_holder (Some (D.Map key key_at value at (MF.Hamt shape))) ps)
     by (as_null a n z) = absurd cc
     by (as_layer e l k there done) =
         let one = map_from L.map _ l there in
         let shown = subst (λ b. composed alone b l ≡ Some t) (same_Some e d (sym k ∙ known) ∙ is) done in
-        absurd (none-some t (subst (λ m. composed alone (D.Map key key_at value at MF.Hamt) m ≡ Some t) (sym (same_Some (L.map one.item) l one.made)) shown))
+        absurd (none-some t (subst (λ m. composed alone (D.Map key key_at value at (MF.Hamt shape)) m ≡ Some t) (sym (same_Some (L.map one.item) l one.made)) shown))
 
   any_made : (y : Data) → d ≡ D.Any → represented alone rows s (V.any y) ≡ Some t → any_holder y ≡ any_holder t
   any_made y is made = by (way_of alone rows s (V.any y) t made) where
@@ -114,4 +114,4 @@ module _ (rows : List Row) (s : Slot) (t : Data) (d : TypeDef) (known : form_of 
       as_is D.Any (any_holder y) is (any_made y is made)
   holds (V.hamt y) some made h =
       let x = hamt_form rows (OfType rows) d y (layer_fits (V.hamt y) (L.hamt y) refl h) in
-      as_is (D.Map x.0 x.1 x.2 x.3 MF.Hamt) (nothing (V.hamt y)) x.4 (V.hamt y, refl)
+      as_is (D.Map x.0 x.1 x.2 x.3 (MF.Hamt x.4)) (nothing (V.hamt y)) x.5 (V.hamt y, refl)

@@ -62,7 +62,7 @@ KeyWithin n F.Nothing = Unit {0}
 
 -- of a map; the root of a HAMT shows no entries
 abbrev pub map_form : TypeNo → Slot → MapForm → Form
-map_form key value MF.Hamt = F.Nothing
+map_form key value (MF.Hamt shape) = F.Nothing
 map_form key value MF.Map = F.Entries (Some key) value
 map_form key value MF.ListPairs = F.Entries (Some key) value
 map_form key value (MF.StringPairs inner entry) = F.Entries (Some key) value

@@ -40,7 +40,7 @@ fn map_form<'b>(key: TypeNo, value: Slot, form: &MapForm) -> Form<'b>
     ensures { result ≡ map_form key value form.now }
 {
     match form {
-        MapForm::Hamt => Form::Nothing,
+        MapForm::Hamt(_) => Form::Nothing,
         MapForm::Map => Form::Entries(Some(key), value),
         MapForm::ListPairs => Form::Entries(Some(key), value),
         MapForm::StringPairs(_, _) => Form::Entries(Some(key), value),

@@ -182,7 +182,7 @@ in_form : (form : MapForm) (k : List ℕ) (es : List (List ℕ × Data)) (t u : 
 in_form MF.Map k es t u made there = same_data t (map_data es) u (same_Some (map_data es) u made) (in_map k es t there)
 in_form MF.ListPairs k es t u made there = same_data t (listpairs es) u (same_Some (listpairs es) u made) (in_pairs k es t there)
 in_form (MF.StringPairs inner entry) k es t u made there = paired inner entry k es t u made there
-in_form MF.Hamt k es t u made there = absurd (none-some u made)
+in_form (MF.Hamt shape) k es t u made there = absurd (none-some u made)
 
 each_at : {X Y : Type 0} (f : X → Option Y) (xs : List X) (ds : List Y) (i : ℕ) (x : X) (d : Y) → each f xs ≡ Some ds → slice_get xs i ≡ Some x → f x ≡ Some d → slice_get ds i ≡ Some d
 each_at f [] ds i x d h e is = absurd (none-some x e)

@@ -81,7 +81,7 @@ module _ (rows : List Row) (slot : Slot) (t : Data) where
   no_map MF.Map y e = absurd (none-some t e)
   no_map MF.ListPairs y e = absurd (none-some t e)
   no_map (MF.StringPairs inner entry) y e = absurd (none-some t e)
-  no_map MF.Hamt y e = absurd (none-some t e)
+  no_map (MF.Hamt shape) y e = absurd (none-some t e)
 
   any_held : (d : TypeDef) (y : Data) → composed alone d (L.any y) ≡ Some t → Held rows d (any_holder y) t
   any_held D.Any y e = of_any refl (ap any_holder (any_is y e))

@@ -101,7 +101,7 @@ module _ (rows : List Row) (p : Piece) (es : List (List ℕ × Data)) (t x : Dat
   entry_leads MF.Map is made there = map_leads es t x s made there
   entry_leads MF.ListPairs is made there = absurd cc
   entry_leads (MF.StringPairs inner entry) is made there = absurd cc
-  entry_leads MF.Hamt is made there = absurd cc
+  entry_leads (MF.Hamt shape) is made there = absurd cc
 
   pub pair_leads : (form : MapForm) (r : Option PartSteps) → MF.ListPairs ≡ form → StandsFor rows p t → map_form alone form (L.map es) ≡ Some t → value_at s es ≡ Some x
       → ((es : List (List ℕ × Data)) (y : Data) → StandsFor rows p (listpairs es) → value_at s es ≡ Some y → r ≡ Some (P.Pair (place_of s es))) → FoundLead r t x
@@ -109,7 +109,7 @@ module _ (rows : List Row) (p : Piece) (es : List (List ℕ × Data)) (t x : Dat
       subst (λ o. FoundLead o t x) (sym (found es x (subst (StandsFor rows p) (sym (same_Some (listpairs es) t made)) stands) there)) (pairs_lead es t x s made there)
   pair_leads MF.Map r is stands made there found = absurd cc
   pair_leads (MF.StringPairs inner entry) r is stands made there found = absurd cc
-  pair_leads MF.Hamt r is stands made there found = absurd cc
+  pair_leads (MF.Hamt shape) r is stands made there found = absurd cc
 
 -- ---- structs
 

@@ -21,6 +21,6 @@ pub(crate) fn map_steps<'a>(
     match form {
         MapForm::Map => Some(PartSteps::Entry(segment)),
         MapForm::ListPairs => pair_steps(piece, segment),
-        MapForm::StringPairs(_, _) | MapForm::Hamt => Some(PartSteps::Whole),
+        MapForm::StringPairs(_, _) | MapForm::Hamt(_) => Some(PartSteps::Whole),
     }
 }

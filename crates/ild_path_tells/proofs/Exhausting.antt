@@ -3,11 +3,12 @@ use Rattle.std.proofs.Common.{cond, ◌≡◌, ℕ, List, [], ◌∷◌, ◌++�
 use Rattle.std.specs.Prelude.{◌&&◌, is_none, not, option_and_then}
 use Rattle.std.specs.FinMap.{find, put as insert}
 use Rattle.std.specs.Option.{option_map_or}
+use Rattle.std.proofs.Math.Nat.{sub-zero}
 use Rattle.std.proofs.lemmas.Option.{none-some, same_Some}
 use Rattle.ild_data.proofs.Rising.{rises_put}
-use Rattle.ild_data.specs.ByteOrder.{bytewise}
+use Rattle.ild_data.specs.ByteOrder.{bytewise, in_byte_order}
 use Rattle.ild_data.specs.Data.{Data}
-use Rattle.ild_data.specs.Key.{put, value_at}
+use Rattle.ild_data.specs.Key.{Rises, put, value_at}
 use Rattle.ild_data.specs.Trie.{node_of, trie}
 use Rattle.ild_data.specs.TrieShape.{trie_levels}
 use Rattle.ild_hamt_trie.proofs.Node.{trie-sorted}
@@ -48,7 +49,6 @@ use Rattle.ild_schema.specs.Slots.{form_of}
 use Rattle.ild_schema.specs.Value as W
 use Rattle.ild_schema.specs.Value.{Pairs, Value, pairs_list, pairs_of}
 use Rattle.ild_typed.specs.At.{InSlot, at, seen}
-use Rattle.ild_typed.specs.Composed.{usual}
 use Rattle.ild_typed.specs.Hamt.{whole}
 use Rattle.ild_typed.specs.Holder.{Holder, value_of}
 use Rattle.ild_typed.specs.Judged.{is_exhausted, map_exhausts}
@@ -73,7 +73,7 @@ comes_so by_insert = refl
 
 map_rootless : (h : List ℕ → List ℕ) (rows : List Row) (F : Option TypeDef) (ps : Pairs) → is_hamt F ≡ false → is_exhausted h rows F (W.map ps) ≡ false
 map_rootless h rows None ps e = refl
-map_rootless h rows (Some (T.Map key key_at elem place MF.Hamt)) ps e = absurd cc
+map_rootless h rows (Some (T.Map key key_at elem place (MF.Hamt shape))) ps e = absurd cc
 map_rootless h rows (Some (T.Map key key_at elem place f)) ps e = refl
 map_rootless h rows (Some d) ps e = refl
 
@@ -121,9 +121,12 @@ module _ (h : List ℕ → List ℕ) (rows : List Row) where
 
   -- ---- a HAMT with an entry put
 
-  module _ (was : List (List ℕ)) (slot elem : Slot) (ps : Pairs) (root : Data) (es : List (List ℕ × Data)) (is : IsHamt rows slot elem) (x : IsTrieIn h rows was elem ps root es) (k : List ℕ) where
+  module _ (was : List (List ℕ)) (slot elem : Slot) (ps : Pairs) (root : Data) (es : List (List ℕ × Data)) (is : IsHamt rows slot elem) (x : IsTrieIn h is.3 rows was elem ps root es) (k : List ℕ) where
     abbrev Own : InSlot
     Own = (slot, W.map ps)
+
+    tries : (xs : List (List ℕ × Data)) → Rises xs → trie h is.3 xs 0 ≡ node_of h is.3 (trie_levels is.3) 0 (in_byte_order xs)
+    tries xs up = trie-sorted h is.3 xs 0 (once xs up) ∙ ap (λ l. node_of h is.3 l 0 (in_byte_order xs)) (sub-zero (trie_levels is.3))
 
     -- its values' slot is that of what comes
     slot_is : (how : Coming) (u : Slot) → slot_for how (seen rows Own) k ≡ Some u → elem ≡ u
@@ -141,22 +144,22 @@ module _ (h : List ℕ → List ℕ) (rows : List Row) where
       data_put : represented_pairs (whole h) rows elem (pairs_of (put k w (pairs_list ps))) ≡ Some (put k d x.pairs)
       data_put = put_data h rows elem k w d (pairs_list ps) x.pairs new (ap (represented_pairs (whole h) rows elem) (pairs_back ps) ∙ x.represents)
 
-      by_trie : (how : Coming) → exhausted (form_of rows slot) (value_of (brought how w (seen rows Own) k)) ≡ is_none (trie h usual (put k d x.pairs) 0)
-      by_trie how = ap (exhausted (form_of rows slot)) (brought_is how w) ∙ ap (λ F. exhausted F (with_entry k w ps)) is.3 ∙ ap (map_exhausts h MF.Hamt) data_put
+      by_trie : (how : Coming) → exhausted (form_of rows slot) (value_of (brought how w (seen rows Own) k)) ≡ is_none (trie h is.3 (put k d x.pairs) 0)
+      by_trie how = ap (exhausted (form_of rows slot)) (brought_is how w) ∙ ap (λ F. exhausted F (with_entry k w ps)) is.4 ∙ ap (map_exhausts h (MF.Hamt is.3)) data_put
 
-      sorted : trie h usual (put k d x.pairs) 0 ≡ node_of h usual (trie_levels usual) 0 (insert bytewise k d es)
+      sorted : trie h is.3 (put k d x.pairs) 0 ≡ node_of h is.3 (trie_levels is.3) 0 (insert bytewise k d es)
       sorted =
-          trie-sorted h usual (put k d x.pairs) 0 (once (put k d x.pairs) (rises_put k d x.pairs x.rises))
-          ∙ ap (node_of h usual (trie_levels usual) 0) (sym (ap (insert bytewise k d) x.order ∙ sorted_put k d x.pairs))
+          tries (put k d x.pairs) (rises_put k d x.pairs x.rises)
+          ∙ ap (node_of h is.3 (trie_levels is.3) 0) (sym (ap (insert bytewise k d) x.order ∙ sorted_put k d x.pairs))
 
       -- by the entries in bytewise order
-      pub by_node : (how : Coming) → exhausted (form_of rows slot) (value_of (brought how w (seen rows Own) k)) ≡ not (is_some (node_of h usual (trie_levels usual) 0 (insert bytewise k d es)))
-      by_node how = by_trie how ∙ none_not (trie h usual (put k d x.pairs) 0) ∙ ap (λ o. not (is_some o)) sorted
+      pub by_node : (how : Coming) → exhausted (form_of rows slot) (value_of (brought how w (seen rows Own) k)) ≡ not (is_some (node_of h is.3 (trie_levels is.3) 0 (insert bytewise k d es)))
+      by_node how = by_trie how ∙ none_not (trie h is.3 (put k d x.pairs) 0) ∙ ap (λ o. not (is_some o)) sorted
 
       -- ---- an entry that was there
 
-      tried : is_some (trie h usual x.pairs 0) ≡ true
-      tried = ap is_some (trie-sorted h usual x.pairs 0 (once x.pairs x.rises) ∙ ap (node_of h usual (trie_levels usual) 0) (sym x.order) ∙ x.is_node)
+      tried : is_some (trie h is.3 x.pairs 0) ≡ true
+      tried = ap is_some (tries x.pairs x.rises ∙ ap (node_of h is.3 (trie_levels is.3) 0) (sym x.order) ∙ x.is_node)
 
       data_there : (v : Value) → value_at k (pairs_list ps) ≡ Some v → (e : Data) × (value_at k x.pairs ≡ Some e)
       data_there v there = by (find bytewise k es) (subst (λ o. IsValueOf h rows elem o (find bytewise k es)) there (x.found k)) found where
@@ -168,7 +171,7 @@ module _ (h : List ℕ → List ℕ) (rows : List Row) where
         by (Some t) is e = (t, sym e)
 
       pub replaced : (v : Value) → value_at k (pairs_list ps) ≡ Some v → (how : Coming) → exhausted (form_of rows slot) (value_of (brought how w (seen rows Own) k)) ≡ false
-      replaced v there how = let e = data_there v there in by_trie how ∙ some_is (trie h usual (put k d x.pairs) 0) (trie_put h x.pairs x.rises tried k d e.0 e.1)
+      replaced v there how = let e = data_there v there in by_trie how ∙ some_is (trie h is.3 (put k d x.pairs) 0) (trie_put h is.3 x.pairs x.rises tried k d e.0 e.1)
 
   -- ---- a path to a HAMT and its key
 
@@ -193,7 +196,7 @@ module _ (h : List ℕ → List ℕ) (rows : List Row) where
       key : List ℕ
       value : Value
       hamt : IsHamt rows slot elem
-      holds : IsTrieIn h rows was elem ps root es
+      holds : IsTrieIn h hamt.3 rows was elem ps root es
       last : last_of rows p path ≡ Some ((slot, W.map ps), key)
       there : value_at key (pairs_list ps) ≡ Some value
 
@@ -234,7 +237,7 @@ module _ (h : List ℕ → List ℕ) (rows : List Row) where
 
     module _ (p : InSlot) (path : List (List ℕ)) (u : Slot) (how : Coming) (w : Value) (d : Data) (there : new_slot rows p (bringing how path w) ≡ Some u) (new : represented (whole h) rows u w ≡ Some d) where
       -- the data of what comes, in the slot of a HAMT's values
-      module _ (slot elem : Slot) (ps : Pairs) (root : Data) (es : List (List ℕ × Data)) (is : IsHamt rows slot elem) (x : IsTrieIn h rows was elem ps root es) (k : List ℕ) (last : last_of rows p path ≡ Some ((slot, W.map ps), k)) where
+      module _ (slot elem : Slot) (ps : Pairs) (root : Data) (es : List (List ℕ × Data)) (is : IsHamt rows slot elem) (x : IsTrieIn h is.3 rows was elem ps root es) (k : List ℕ) (last : last_of rows p path ≡ Some ((slot, W.map ps), k)) where
         of_values : represented (whole h) rows elem w ≡ Some d
         of_values =
             let same = slot_is was slot elem ps root es is x k how u (sym (slot_at_last rows how p path w ((slot, W.map ps), k) last) ∙ there) in

@@ -87,7 +87,7 @@ module _ (rows : List Row) where
   map_texts MF.Map value made e = absurd cc
   map_texts MF.ListPairs value made e = absurd cc
   map_texts (MF.StringPairs inner entry) value made e = made
-  map_texts MF.Hamt value made e = absurd cc
+  map_texts (MF.Hamt shape) value made e = absurd cc
 
   text_member : (m : Member) → HasOnly rows (plainly m.ty) K.Text → IsTextSlot rows (plainly m.ty)
   text_member m only = record { plain = refl; only = only }
@@ -135,7 +135,7 @@ module _ (rows : List Row) where
   map_silent MF.Map value made none o = refl
   map_silent MF.ListPairs value made none o = refl
   map_silent (MF.StringPairs inner entry) value made none o = absurd (none made)
-  map_silent MF.Hamt value made none o = refl
+  map_silent (MF.Hamt shape) value made none o = refl
 
   silent_type : (F : Option TypeDef) → ((d : TypeDef) → F ≡ Some d → MadeType rows d) → (HasTexts rows F → ⊥) → (v : Value) → breaks rows F v ≡ false
   silent_type (Some (D.Struct s)) made none (V.struct os) = struct_silent s.form s.fields (made (D.Struct s) refl) none s.fields (represented_fields alone rows s.fields os)

@@ -67,7 +67,7 @@ no_hamt : (h : List ℕ → List ℕ) (form : MapForm) (o : _) → map_kind form
 no_hamt h MF.Map o e = refl
 no_hamt h MF.ListPairs o e = refl
 no_hamt h (MF.StringPairs inner entry) o e = refl
-no_hamt h MF.Hamt o e = absurd cc
+no_hamt h (MF.Hamt shape) o e = absurd cc
 
 no_trie : (h : List ℕ → List ℕ) (rows : List Row) (F : Option TypeDef) → IsText F → (v : Value) → is_exhausted h rows F v ≡ false
 no_trie h rows (Some (D.Map key key_at value at form)) only (V.map ps) = no_hamt h form (represented_pairs (whole h) rows value ps) (only (map_kind form) (itself (map_kind form)))
@@ -138,7 +138,7 @@ module _ (rows : List Row) (is_key : ℕ → List ℕ → Bool) (schema : IsSche
     entire (V.enum n) s text t = refl
     entire V.unit s text t = refl
     entire (V.any d) s text t = refl
-    entire (V.hamt d) s text t = let e : K.Map ≡ K.Text = text.only K.Map (ap (λ F. kind_in F K.Map) t.4) in absurd cc
+    entire (V.hamt d) s text t = let e : K.Map ≡ K.Text = text.only K.Map (ap (λ F. kind_in F K.Map) t.5) in absurd cc
 
     pairs_entire : (ps : Pairs) (key : ℕ) (s : Slot) → IsTextSlot rows s → EntriesByParts rows is_key key s ps → pairs_whole ps ≡ true
     pairs_entire V.no_pairs key s text t = refl

@@ -35,7 +35,7 @@ module _ (h : List ℕ → List ℕ) (rows : List Row) where
       ∙ sym (ap (λ o. (own ++ behind_first o ss) ++ nodes_met h rows q behind) x.there)
 
   none_in_map : (d : Option TypeDef) (ps : Pairs) (k : List ℕ) → stands_as_root d (V.map ps) ≡ false → nodes_in_map h rows d ps k ≡ []
-  none_in_map (Some (D.Map key key_at value place MF.Hamt)) ps k e = absurd cc
+  none_in_map (Some (D.Map key key_at value place (MF.Hamt shape))) ps k e = absurd cc
   none_in_map d ps k e = refl
 
   none_for : (d : Option TypeDef) (v : Value) (k : List ℕ) → stands_as_root d v ≡ false → nodes_for h rows d v k ≡ []

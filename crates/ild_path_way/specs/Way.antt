@@ -5,6 +5,7 @@ use Rattle.ild_data.specs.ByteOrder.{in_byte_order}
 use Rattle.ild_data.specs.Data.{Data}
 use Rattle.ild_data.specs.Trie.{trie}
 use Rattle.ild_data.specs.TrieShape.{trie_levels}
+use Rattle.ild_data.specs.declared.hamt_shape.HamtShape.{HamtShape}
 use Rattle.ild_hamt_trie.specs.Way.{way}
 use Rattle.ild_schema.specs.declared.def.MapForm.TheVariants as MF
 use Rattle.ild_schema.specs.declared.def.TypeDef.{TypeDef}
@@ -13,17 +14,16 @@ use Rattle.ild_schema.specs.declared.row.Row.{Row}
 use Rattle.ild_schema.specs.Slots.{form_of}
 use Rattle.ild_schema.specs.Value.{Value, Pairs, map}
 use Rattle.ild_typed.specs.At.{InSlot, seen}
-use Rattle.ild_typed.specs.Composed.{usual}
 use Rattle.ild_typed.specs.Hamt.{whole}
 use Rattle.ild_typed.specs.Represented.{represented_pairs}
 use Rattle.ild_typed.specs.Segment.{part}
 
--- of a HAMT of these entries, the nodes beneath its root on a key's way, whether the key is there or not; without a trie there are none
-abbrev pub nodes_on : (List ℕ → List ℕ) → List ℕ → List (List ℕ × Data) → List (List ℕ)
-nodes_on h k es = cond (is_some (trie h usual es 0)) (way h usual k (trie_levels usual) 0 (in_byte_order es)) []
+-- of a HAMT of this shape and these entries, the nodes beneath its root on a key's way, whether the key is there or not; without a trie there are none
+abbrev pub nodes_on : (List ℕ → List ℕ) → HamtShape → List ℕ → List (List ℕ × Data) → List (List ℕ)
+nodes_on h p k es = cond (is_some (trie h p es 0)) (way h p k (trie_levels p) 0 (in_byte_order es)) []
 
 abbrev pub nodes_in_map : (List ℕ → List ℕ) → List Row → Option TypeDef → Pairs → List ℕ → List (List ℕ)
-nodes_in_map h rows (Some (D.Map key key_at value place MF.Hamt)) ps k = option_map_or (nodes_on h k) (represented_pairs (whole h) rows value ps) []
+nodes_in_map h rows (Some (D.Map key key_at value place (MF.Hamt p))) ps k = option_map_or (nodes_on h p k) (represented_pairs (whole h) rows value ps) []
 nodes_in_map h rows d ps k = []
 
 -- those of a value for a segment that is sought in it: a HAMT alone has any

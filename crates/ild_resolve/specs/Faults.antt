@@ -5,6 +5,7 @@ use Rattle.std.specs.Option.{option_or}
 use Rattle.ild_schema.specs.Prelude.{prelude}
 use Rattle.ild_parse_grammar.specs.declared.ast.TypeName.{TypeName}
 use Rattle.ild_resolve.specs.Events.{Event, declares, begins, uses, advances, floats, part}
+use Rattle.ild_resolve.specs.Layouts.{shape_named}
 use Rattle.ild_resolve.specs.Names.{number_of}
 use Rattle.ild_resolve.specs.declared.error.ResolveErr.{ResolveErr}
 use Rattle.ild_resolve.specs.declared.error.ResolveErr.TheVariants as E
@@ -43,7 +44,7 @@ name_fault numbers t = if bytes_eq t.name (codes "Float") then Some (E.Float t.a
 
 abbrev pub event_fault : (List ℕ → Option ℕ) → Event → Option ResolveErr
 event_fault numbers (uses t) = name_fault numbers t
-event_fault numbers (advances t) = if bytes_eq t.name (codes "HAMT") then None else Some (E.Advanced t.at)
+event_fault numbers (advances t) = if is_some (shape_named t.name) then None else Some (E.Advanced t.at)
 event_fault numbers (floats at) = Some (E.Float at)
 event_fault numbers e = None
 

@@ -1,5 +1,7 @@
 -- The parts of a table that are as the text says them, without names of types.
 use Rattle.std.specs.Prelude.{ℕ, List, [], ◌∷◌, Option, Some, None, true, false, map, option_map}
+use Rattle.std.specs.Option.{unwrap_or}
+use Rattle.ild_data.specs.TrieShape.{usual}
 use Rattle.ild_parse_grammar.specs.declared.ast.MapForm.{MapForm as AstMapForm}
 use Rattle.ild_parse_grammar.specs.declared.ast.MapForm.TheVariants as AM
 use Rattle.ild_parse_grammar.specs.declared.ast.StructForm.{StructForm as AstStructForm}
@@ -19,6 +21,7 @@ use Rattle.ild_parse_grammar.specs.declared.ast.Mark.TheVariants as AK
 use Rattle.ild_parse_grammar.specs.declared.ast.KindWord.{KindWord as AstKindWord}
 use Rattle.ild_parse_grammar.specs.declared.ast.KindWord.TheVariants as AW
 use Rattle.ild_parse_grammar.specs.declared.ast.EnumMember.{EnumMember as AstEnumMember}
+use Rattle.ild_resolve.specs.Layouts.{shape_named}
 use Rattle.ild_schema.specs.declared.def.MapForm.{MapForm}
 use Rattle.ild_schema.specs.declared.def.MapForm.TheVariants as M
 use Rattle.ild_schema.specs.declared.def.StructForm.{StructForm}
@@ -36,13 +39,13 @@ use Rattle.ild_schema.specs.declared.def.Mark.TheVariants as K
 use Rattle.ild_schema.specs.declared.def.KindWord.TheVariants as W
 use Rattle.ild_schema.specs.declared.def.EnumMember.{EnumMember}
 
--- where none is given: a map, and the text of an enum
+-- where none is given: a map, and the text of an enum. Names behind `advanced` are those of layouts, where nothing is at fault
 abbrev pub map_form : Option AstMapForm → MapForm
 map_form None = M.Map
 map_form (Some AM.Map) = M.Map
 map_form (Some AM.ListPairs) = M.ListPairs
 map_form (Some (AM.StringPairs p)) = M.StringPairs p.inner.text p.entry.text
-map_form (Some (AM.Advanced t)) = M.Hamt
+map_form (Some (AM.Advanced t)) = M.Hamt (unwrap_or (shape_named t.name) usual)
 
 abbrev pub struct_form : Option AstStructForm → StructForm
 struct_form None = S.Map

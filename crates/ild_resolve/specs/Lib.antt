@@ -1,6 +1,7 @@
 pub mod Events
 pub mod Names
 pub mod Numbers
+pub mod Layouts
 pub mod Faults
 pub mod Forms
 pub mod Rows

@@ -6,7 +6,7 @@ ghost use Rattle.ild_resolve.specs.Forms.{map_form, struct_form, union_form, enu
 ghost use Rattle.ild_resolve.specs.Judged.{Judged};
 
 use crate::ResolveErr;
-use crate::word::layout;
+use crate::layout::layout;
 use ild_data::{List as AstList, Txt};
 use ild_parse_grammar::{
     EnumForm as AstEnumForm, EnumMember as AstEnumMember, Implicit, KindWord as AstKindWord,

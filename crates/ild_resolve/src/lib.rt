@@ -7,6 +7,7 @@ mod count;
 mod error;
 mod form;
 mod laws;
+mod layout;
 mod reference;
 mod resolving;
 mod survey;

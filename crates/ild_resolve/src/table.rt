@@ -12,8 +12,8 @@ ghost use Rattle.ild_resolve.specs.declared.error.ResolveErr.TheVariants as E;
 
 use crate::ResolveErr;
 use crate::body::def_of;
+use crate::layout::layout;
 use crate::reference::{begin, define};
-use crate::word::layout;
 use ild_data::List as AstList;
 use ild_parse_grammar::{Ast, Decl, TypeDecl};
 use ild_schema::{Origin, Row, prelude_rows};

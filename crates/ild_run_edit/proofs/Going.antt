@@ -5,6 +5,7 @@ use Rattle.std.specs.List.{AllByRecursion}
 use Rattle.std.specs.declared.alloc.AllocError.{AllocError}
 use Rattle.std.specs.Option.{option_map_or}
 use Rattle.std.proofs.lemmas.Option.{none-some}
+use Rattle.ild_edges.specs.Gained.{AreIdsGiven}
 use Rattle.ild_data.specs.Spell.{spell}
 use Rattle.ild_edges.proofs.Later.{Later-refl}
 use Rattle.ild_edges.specs.Store.{Moment}
@@ -34,7 +35,6 @@ use Rattle.ild_path_around.specs.Around.{TellsGoing}
 use Rattle.ild_path_place.specs.Tells.{hole_in, table_at, type_at}
 use Rattle.ild_path_place.specs.declared.place.Place.{Place}
 use Rattle.ild_path_place.specs.declared.verb.Verb.TheVariants as V
-use Rattle.ild_hamt.specs.Given.{AreIdsGiven}
 use Rattle.ild_path_way.specs.Way.{nodes_met}
 use Rattle.ild_path.specs.Replaces.{Erases, Spares}
 use Rattle.ild_path.specs.declared.fault.EditFault.{EditFault}

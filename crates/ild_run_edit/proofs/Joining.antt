@@ -3,6 +3,7 @@ use Rattle.std.proofs.Common.{◌≡◌, ◌⊎◌, inl, inr, ℕ, ◌+◌, ◌�
 use Rattle.std.specs.Prelude.{Contains, IsSome, Result, Ok, Err}
 use Rattle.std.specs.List.{AllByRecursion}
 use Rattle.std.proofs.lemmas.Option.{same_Some}
+use Rattle.ild_edges.specs.Gained.{AreIdsGiven}
 use Rattle.ild_cbor.specs.Block.{IsBlockOf}
 use Rattle.ild_cbor.specs.Nodes.{Stands as StandsFor}
 use Rattle.ild_cbor.specs.declared.node.Node.{Node}
@@ -35,7 +36,6 @@ use Rattle.ild_path_around.specs.Telling.{verb_of}
 use Rattle.ild_path_around.specs.Telling.{PlacesTellOn}
 use Rattle.ild_path_place.specs.Tells.{slot_in, table_at, type_at}
 use Rattle.ild_path_place.specs.declared.place.Place.{Place}
-use Rattle.ild_hamt.specs.Given.{AreIdsGiven}
 use Rattle.ild_path_way.specs.Way.{nodes_met}
 use Rattle.ild_path.specs.Replaces.{Brings, ComesBy, IsPart, Spares}
 use Rattle.ild_path.specs.declared.fault.EditFault.{EditFault}

@@ -4,6 +4,7 @@ use Rattle.std.specs.Prelude.{Contains, IfOk, IsUtf8, Result, Ok, Err}
 use Rattle.std.specs.List.{AllByRecursion}
 use Rattle.std.specs.Option.{option_map_or}
 use Rattle.std.proofs.lemmas.Option.{same_Some}
+use Rattle.ild_edges.specs.Gained.{AreIdsGiven}
 use Rattle.ild_bulk.specs.Putting.{GivesAll, IsAmong}
 use Rattle.ild_data.specs.Data.{Data}
 use Rattle.ild_data.specs.Spell.{id_of, spell}
@@ -31,7 +32,6 @@ use Rattle.ild_path_edits.specs.EditLaws.{Brings}
 use Rattle.ild_path_edits.specs.Judged.{Tests, AreTests}
 use Rattle.ild_path_judged.specs.Place.{bringing}
 use Rattle.ild_path_nodes.specs.NodeLaws.{nodes_brought}
-use Rattle.ild_hamt.specs.Given.{AreIdsGiven}
 use Rattle.ild_path_passed.proofs.Passing.{edits_are_passed}
 use Rattle.ild_path_passed.proofs.Whole.{values_are_passed}
 use Rattle.ild_path_room.specs.Room.{Coming, by_set, by_insert}

@@ -1,6 +1,7 @@
 -- What an edit of a value makes of a store: outside a batch, where the store tells what it holds.
 use Rattle.std.specs.Prelude.{◌≡◌, ◌⊎◌, ℕ, ◌+◌, ◌≤◌, false, IsUtf8, List, Bool, Some, Result, Ok, Err}
 use Rattle.std.specs.List.{AllByRecursion}
+use Rattle.ild_edges.specs.Gained.{AreIdsGiven}
 use Rattle.ild_build_blocks.specs.declared.fault.BuildFault.{BuildFault}
 use Rattle.ild_build_blocks.specs.declared.fault.BuildFault.TheVariants as B
 use Rattle.ild_cbor.specs.Block.{IsBlockOf}
@@ -37,7 +38,6 @@ use Rattle.ild_path_place.specs.Tells.{room_in, slot_in, table_at, type_at}
 use Rattle.ild_path_place.specs.declared.place.Place.{Place}
 use Rattle.ild_path_place.specs.declared.verb.Verb.TheVariants as V
 use Rattle.ild_path_room.specs.Room.{Coming, by_set, by_insert}
-use Rattle.ild_hamt.specs.Given.{AreIdsGiven}
 use Rattle.ild_path.specs.declared.fault.EditFault.{EditFault}
 use Rattle.ild_path.specs.declared.fault.EditFault.TheVariants as F
 use Rattle.ild_run_standing.specs.Answers.{PassesOn}

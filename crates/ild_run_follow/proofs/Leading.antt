@@ -88,7 +88,7 @@ nothing_fails T.Parts m n (Err e) is = path_fails m n e is
 
 -- HAMTs alone count anything
 map_counts : (h : List ℕ → List ℕ) (rows : List Row) (o : Option TypeDef) (ps : V.Pairs) (k : List ℕ) → is_hamt o ≡ false → met_in h rows o (V.map ps) k ≡ 0
-map_counts h rows (Some (TD.Map key key_at value place MF.Hamt)) ps k e = absurd cc
+map_counts h rows (Some (TD.Map key key_at value place (MF.Hamt shape))) ps k e = absurd cc
 map_counts h rows (Some (TD.Map key key_at value place MF.Map)) ps k e = refl
 map_counts h rows (Some (TD.Map key key_at value place MF.ListPairs)) ps k e = refl
 map_counts h rows (Some (TD.Map key key_at value place (MF.StringPairs i d))) ps k e = refl

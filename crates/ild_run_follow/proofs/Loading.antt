@@ -34,7 +34,7 @@ use Rattle.ild_run_follow.specs.declared.fault.ReadFault.TheVariants as F
 use Rattle.ild_run_follow.specs.declared.kind.Tell.{Tell}
 use Rattle.ild_run_follow.specs.declared.kind.Tell.TheVariants as T
 use Rattle.ild_run_follow.proofs.Leading.{memory_fails, only_none, same_fails}
-use Rattle.ild_run_follow.proofs.Slots.{safe_is}
+use Rattle.ild_view.proofs.Opening.{safe_is}
 use Rattle.ild_run_follow.proofs.Standing.{viewed}
 
 abbrev pub loaded_as : Result Val OpenFault → Result Val ReadFault

@@ -1,18 +1,12 @@
 -- What stands at the views to which a path leads.
-use Rattle.std.proofs.Common.{◌≡◌, ℕ, List, Option, Some, None, sym, ap, ◌∙◌, subst}
-use Rattle.std.proofs.Math.Logic.{∥∥₁_elim, ∥∥₁_map}
-use Rattle.std.proofs.Props.{props}
+use Rattle.std.proofs.Common.{◌≡◌, ℕ, List, Some, sym, ap, ◌∙◌, subst}
 use Rattle.std.proofs.lemmas.Option.{same_Some}
 use Rattle.ild_data.specs.Data.{Data}
-use Rattle.std.specs.List.{slice_get}
-use Rattle.ild_edges.specs.Store.{Keeps, Moment, asked_over, StaysGiven, block_at}
-use Rattle.ild_edges.specs.Told.{BothTold}
-use Rattle.ild_edges.proofs.Later.{below_of}
+use Rattle.ild_edges.specs.Store.{Moment, block_at}
 use Rattle.ild_typed_fronts.proofs.Representing.{fronts_are_fronts, fronts_represent}
 use Rattle.ild_typed_fronts.specs.Front.{front}
 use Rattle.ild_open_held.specs.Held.{IsHeld}
 use Rattle.ild_open_held_parts.specs.Leads.{IsFrontOf}
-use Rattle.ild_open_parts.specs.Reads.{OnlyReads}
 use Rattle.ild_schema.specs.Value.{Value}
 use Rattle.ild_schema.specs.declared.number.Slot.{Slot}
 use Rattle.ild_schema.specs.declared.row.Row.{Row}
@@ -25,7 +19,7 @@ use Rattle.ild_view.specs.Parts.{IsPartView}
 use Rattle.ild_view.specs.View.{IsView, body_of, slot_of, table_of}
 use Rattle.ild_view.specs.declared.view.View.{View}
 use Rattle.ild_run_follow.specs.Tells.{IsAt}
-use Rattle.ild_run_follow.proofs.Slots.{safe_is}
+use Rattle.ild_view.proofs.Opening.{safe_is}
 
 -- ---- values at views
 

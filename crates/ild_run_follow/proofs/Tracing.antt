@@ -16,7 +16,7 @@ use Rattle.ild_schema.specs.declared.number.TypeNo.{TypeNo}
 use Rattle.ild_schema.specs.declared.row.Row.{Row}
 use Rattle.ild_node_slots.specs.declared.fault.HamtFault.{HamtFault}
 use Rattle.ild_node_slots.specs.declared.fault.HamtFault.TheVariants as H
-use Rattle.ild_typed.specs.Composed.{usual}
+use Rattle.ild_data.specs.declared.hamt_shape.HamtShape.{HamtShape}
 use Rattle.ild_typed.specs.Fits.{Fits}
 use Rattle.ild_typed.specs.Layers.{Shows}
 use Rattle.ild_typed.specs.Schema.{IsSchema}
@@ -24,33 +24,34 @@ use Rattle.ild_typed.specs.WhyLaws.{RefusedHaveNoFront}
 use Rattle.ild_view.specs.View.{Views}
 use Rattle.ild_view.specs.declared.view.View.{View}
 use Rattle.ild_view_walk.specs.Checks.{IsRefusal}
-use Rattle.ild_run_follow.specs.Enters.{ChecksEntry, EnterAnswer, EntersTrie, IsValueSlot}
+use Rattle.ild_path_room.specs.ValueSlot.{IsValueSlot}
+use Rattle.ild_run_follow.specs.Enters.{ChecksEntry, EnterAnswer, EntersTrie}
 use Rattle.ild_run_follow.specs.Faults.{hamt_fault}
 use Rattle.ild_run_follow.specs.Tells.{FailsOnly}
 use Rattle.ild_run_follow.specs.declared.fault.ReadFault.{ReadFault}
 use Rattle.ild_run_follow.specs.declared.fault.ReadFault.TheVariants as F
-use Rattle.ild_run_follow.proofs.Slots.{safe_is}
+use Rattle.ild_view.proofs.Opening.{safe_is}
 
 abbrev pub entered_as : Result Trail HamtFault → Result Trail ReadFault
 entered_as (Ok t) = Ok t
 entered_as (Err e) = Err (hamt_fault e)
 
-module _ (h : List ℕ → List ℕ) (k : List ℕ) (slots : List TrieSlot) (m n : Moment) where
-  enter_answer : (es : List (List ℕ × Data)) (r : Result Trail HamtFault) (bs : List (List ℕ)) (last : List TrieSlot) → DescendAnswer h usual k m bs last r n → TrailIs h usual k slots es r → EnterAnswer h k slots es m (entered_as r) n
+module _ (h : List ℕ → List ℕ) (p : HamtShape) (k : List ℕ) (slots : List TrieSlot) (m n : Moment) where
+  enter_answer : (es : List (List ℕ × Data)) (r : Result Trail HamtFault) (bs : List (List ℕ)) (last : List TrieSlot) → DescendAnswer h p k m bs last r n → TrailIs h p k slots es r → EnterAnswer h p k slots es m (entered_as r) n
   enter_answer es (Ok t) bs last a is = is
   enter_answer es (Err (H.Block id why)) bs last a is = absurd is
   enter_answer es (Err H.Store) bs last a is = a
   enter_answer es (Err H.Memory) bs last a is = tt
   enter_answer es (Err e) bs last a is = absurd is
 
-  enter_failed : (r : Result Trail HamtFault) (bs : List (List ℕ)) (last : List TrieSlot) → DescendAnswer h usual k m bs last r n → FailsOnly m (entered_as r) n
+  enter_failed : (r : Result Trail HamtFault) (bs : List (List ℕ)) (last : List TrieSlot) → DescendAnswer h p k m bs last r n → FailsOnly m (entered_as r) n
   enter_failed (Ok t) bs last a = tt
   enter_failed (Err (H.Block id why)) bs last a = tt
   enter_failed (Err H.Store) bs last a = a
   enter_failed (Err H.Memory) bs last a = tt
   enter_failed (Err e) bs last a = tt
 
-  pub enters : (r : Result Trail HamtFault) → Descends h usual k slots m r n → EntersTrie h k slots m (entered_as r) n
+  pub enters : (r : Result Trail HamtFault) → Descends h p k slots m r n → EntersTrie h p k slots m (entered_as r) n
   enters r d = record {
     answer = λ es t. enter_answer es r d.bs d.last d.answer (d.trie es t.held t.root t.told t.holds).trail;
     gets = λ es t. (d.trie es t.held t.root t.told t.holds).gets;

@@ -15,6 +15,7 @@ use Rattle.ild_data.specs.Data.{Data}
 use Rattle.ild_data.specs.Key.{value_at}
 use Rattle.ild_data.specs.Trie.{TrieSlot}
 use Rattle.ild_data.specs.TrieShape.{trie_levels}
+use Rattle.ild_data.specs.declared.hamt_shape.HamtShape.{HamtShape}
 use Rattle.ild_data.specs.declared.tree.Tree.{Tree}
 use Rattle.ild_edges.specs.Count.{Rose}
 use Rattle.ild_edges.specs.Store.{Moment, block_at}
@@ -36,13 +37,14 @@ use Rattle.ild_node_slots.specs.Views.{HasSlots}
 use Rattle.ild_node_slots.specs.declared.view.NodeView.{NodeView}
 use Rattle.ild_hamt_trie.specs.Way.{way}
 use Rattle.ild_typed.specs.At.{InSlot, at, met, seen}
-use Rattle.ild_typed.specs.Composed.{usual}
 use Rattle.ild_typed.specs.Holder.{holder_of, map_holder}
 use Rattle.ild_typed.specs.Schema.{IsSchema}
 use Rattle.ild_typed.specs.Segment.{part}
 use Rattle.ild_typed.specs.Slots.{element_of}
 use Rattle.ild_typed.proofs.Fronting.{values_fronts}
+use Rattle.ild_view.specs.Forms.{shape_in}
 use Rattle.ild_view.specs.Roots.{RootIs, root_in}
+use Rattle.ild_path_room.proofs.Rooting.{hamt_of}
 use Rattle.ild_view.specs.View.{IsView, IsViewAt, body_of, slot_of, table_of}
 use Rattle.ild_view.specs.Body.{BodyStands}
 use Rattle.ild_view.specs.View.{piece_in}
@@ -66,11 +68,12 @@ drop_at (y ∷ xs) (suc k) x e = drop_at xs k x e
 
 -- what every front of the view says of its root
 abbrev pub Roots : View → Option NodeView → Type 0
-Roots view root = (f : Value) → IsView view f → RootIs (root_in f) root
+Roots view root = (f : Value) → IsView view f → RootIs (shape_in (form_of (table_of view) (slot_of view))) (root_in f) root
 
-some_slots : (o : Option Data) (root : NodeView) → RootIs o (Some root) → (slots : List TrieSlot) × HasSlots usual root slots
-some_slots None root is = absurd is
-some_slots (Some d) root is = (is.0, is.2)
+some_slots : (o : Option HamtShape) (d : Option Data) (root : NodeView) → RootIs o d (Some root) → (p : HamtShape) × (slots : List TrieSlot) × HasSlots p root slots
+some_slots o None root is = absurd is
+some_slots None (Some d) root is = absurd is
+some_slots (Some p) (Some d) root is = (p, is.0, is.2)
 
 module _ (h : List ℕ → List ℕ) (hamt : View) (schema : IsSchema (table_of hamt)) (m : Moment) where
   abbrev rows : List Row
@@ -80,32 +83,35 @@ module _ (h : List ℕ → List ℕ) (hamt : View) (schema : IsSchema (table_of 
   At v = (slot_of hamt, v)
 
   -- the root node has slots, whatever stands there
-  pub has_slots : (root : NodeView) → Roots hamt (Some root) → ∥ ((slots : List TrieSlot) × HasSlots usual root slots) ∥₁
-  has_slots root roots = ∥∥₁_map hamt.stands (λ s. some_slots (root_in s.value) root (roots s.value (record { room = s.room; tree = s.tree; stands = s.stands; front = s.front })))
+  pub has_slots : (root : NodeView) → Roots hamt (Some root) → ∥ ((p : HamtShape) × (slots : List TrieSlot) × HasSlots p root slots) ∥₁
+  has_slots root roots = ∥∥₁_map hamt.stands (λ s. some_slots (shape_in (form_of rows (slot_of hamt))) (root_in s.value) root (roots s.value (record { room = s.room; tree = s.tree; stands = s.stands; front = s.front })))
 
   pub record IsIn (root : NodeView) (held : List (List ℕ)) (v : Value) : Type 0 where
+    pub shape : HamtShape
     pub slots : List TrieSlot
-    pub has : HasSlots usual root slots
-    pub entered : IsEntered held h rows 96 (At v) slots
-    pub trie : HoldsTrie h slots (in_byte_order entered.entries) m
+    pub has : HasSlots shape root slots
+    pub entered : IsEntered held h rows 96 (At v) shape slots
+    pub trie : HoldsTrie h shape slots (in_byte_order entered.entries) m
 
   pub is_in : (root : NodeView) → Roots hamt (Some root) → (t : Data) (v : Value) (x : IsAt h hamt m t v) → is_root rows (At v) ≡ true → IsIn root x.held v
   is_in root roots t v x top =
       let is : front h rows (slot_of hamt) v ≡ V.hamt t = root_front h rows (slot_of hamt) v t x.value.tree top in
-      let r = subst (λ (f : Value). RootIs (root_in f) (Some root)) is (roots (front h rows (slot_of hamt) v) (viewed h hamt m t v schema x)) in
-      let e = roots_are_entered x.held h rows schema 96 (omega arith) (At v) t r.0 x.value top r.1 in
-      record { slots = r.0; has = r.2; entered = e; trie = record { held = x.held; told = x.told; root = e.root; holds = e.holds } }
+      let r = subst (λ (f : Value). RootIs (shape_in (form_of rows (slot_of hamt))) (root_in f) (Some root)) is (roots (front h rows (slot_of hamt) v) (viewed h hamt m t v schema x)) in
+      let y = hamt_of (form_of rows (slot_of hamt)) t root r in
+      let e = roots_are_entered x.held h rows schema 96 (omega arith) (At v) t y.slots y.type.key y.type.key_at y.type.value y.type.place y.shape y.type.form x.value top y.root in
+      record { shape = y.shape; slots = y.slots; has = y.has; entered = e; trie = record { held = x.held; told = x.told; root = e.root; holds = e.holds } }
 
   -- what the HAMT counts for a key
-  pub counts_way : (held : List (List ℕ)) (v : Value) (slots : List TrieSlot) (e : IsEntered held h rows 96 (At v) slots) (k : List ℕ) → counts h rows (At v) k ≡ length (way h usual k (trie_levels usual) 0 (in_byte_order e.entries))
-  counts_way held v slots e k =
+  pub counts_way : (held : List (List ℕ)) (v : Value) (shape : HamtShape) (slots : List TrieSlot) (e : IsEntered held h rows 96 (At v) shape slots) (k : List ℕ)
+      → counts h rows (At v) k ≡ length (way h shape k (trie_levels shape) 0 (in_byte_order e.entries))
+  counts_way held v shape slots e k =
       ap (λ (w : Value). met_in h rows (form_of rows (slot_of hamt)) w k) e.is
       ∙ ap (λ (o : Option TypeDef). met_in h rows o (V.map e.pairs) k) e.form
-      ∙ ap (λ o. option_map_or (on_way h k) o 0) e.there
-      ∙ ap (λ b. cond b (length (way h usual k (trie_levels usual) 0 (in_byte_order e.entries))) 0) e.trie
+      ∙ ap (λ o. option_map_or (on_way h shape k) o 0) e.there
+      ∙ ap (λ b. cond b (length (way h shape k (trie_levels shape) 0 (in_byte_order e.entries))) 0) e.trie
 
-  pub part_is : (held : List (List ℕ)) (v : Value) (slots : List TrieSlot) (e : IsEntered held h rows 96 (At v) slots) (k : List ℕ) → part (seen rows (At v)) k ≡ option_map {U = InSlot} (λ w. (e.value, w)) (value_at k (pairs_list e.pairs))
-  part_is held v slots e k =
+  pub part_is : (held : List (List ℕ)) (v : Value) (shape : HamtShape) (slots : List TrieSlot) (e : IsEntered held h rows 96 (At v) shape slots) (k : List ℕ) → part (seen rows (At v)) k ≡ option_map {U = InSlot} (λ w. (e.value, w)) (value_at k (pairs_list e.pairs))
+  part_is held v shape slots e k =
       ap (λ (w : Value). part (holder_of rows (slot_of hamt) w) k) e.is ∙ ap (λ (o : Option TypeDef). part (map_holder o e.pairs) k) e.form
 
   -- ---- the ways in which it ends
@@ -121,19 +127,19 @@ module _ (h : List ℕ → List ℕ) (hamt : View) (schema : IsSchema (table_of 
     }
 
     module _ (root : NodeView) (roots : Roots hamt (Some root)) (key : List ℕ) (here : Some key ≡ slice_get path j) (trail : Result Trail ReadFault) (k : Moment)
-        (enters : (slots : List TrieSlot) → HasSlots usual root slots → EntersTrie h key slots m trail k) where
+        (enters : (p : HamtShape) (slots : List TrieSlot) → HasSlots p root slots → EntersTrie h p key slots m trail k) where
       abbrev left : drop j path ≡ key ∷ drop (suc j) path
       left = drop_at path j key here
 
       pub read_only : OnlyReads m k
-      read_only = only_of m k (∥∥₁_map (has_slots root roots) (λ s. (enters s.0 s.1).only))
+      read_only = only_of m k (∥∥₁_map (has_slots root roots) (λ s. (enters s.0 s.1 s.2).only))
 
       -- the gets so far
       way_gets : (t : Data) (v : Value) (x : IsAt h hamt m t v) → is_root rows (At v) ≡ true → k.gets ≤ m.gets + counts h rows (At v) key
       way_gets t v x top =
           let y = is_in root roots t v x top in
-          let own = (enters y.slots y.has).gets (in_byte_order y.entered.entries) y.trie in
-          let is = counts_way x.held v y.slots y.entered key in
+          let own = (enters y.shape y.slots y.has).gets (in_byte_order y.entered.entries) y.trie in
+          let is = counts_way x.held v y.shape y.slots y.entered key in
           omega (arith, own, is)
 
       met_is : (v : Value) → met rows (counts h rows) (At v) (drop j path) ≡ counts h rows (At v) key + option_map_or (λ q. met rows (counts h rows) q (drop (suc j) path)) (part (seen rows (At v)) key) 0
@@ -142,16 +148,16 @@ module _ (h : List ℕ → List ℕ) (hamt : View) (schema : IsSchema (table_of 
       at_is : (v : Value) → at rows (At v) (drop j path) ≡ option_and_then (λ q. at rows q (drop (suc j) path)) (part (seen rows (At v)) key)
       at_is v = ap (at rows (At v)) left
 
-      stop_answer : (e : ReadFault) (o : Option Data) (slots : List TrieSlot) (es : List (List ℕ × Data)) → EnterAnswer h key slots es m (Err e) k → TellAnswer o m (Err e) k
-      stop_answer F.Path o slots es a = absurd a
-      stop_answer (F.Block id why) o slots es a = absurd a
-      stop_answer F.Store o slots es a = a
-      stop_answer F.Memory o slots es a = tt
+      stop_answer : (e : ReadFault) (o : Option Data) (p : HamtShape) (slots : List TrieSlot) (es : List (List ℕ × Data)) → EnterAnswer h p key slots es m (Err e) k → TellAnswer o m (Err e) k
+      stop_answer F.Path o p slots es a = absurd a
+      stop_answer (F.Block id why) o p slots es a = absurd a
+      stop_answer F.Store o p slots es a = a
+      stop_answer F.Memory o p slots es a = tt
 
       stop_failed : (e : ReadFault) → trail ≡ Err e → FailsOnly {A = Tree} m (Err e) k
       stop_failed F.Path is = tt
       stop_failed (F.Block id why) is = tt
-      stop_failed F.Store is = ∥∥₁_elim (has_slots root roots) (hlevel props) (λ s. subst (λ (r : Result Trail ReadFault). FailsOnly m r k) is (enters s.0 s.1).failed)
+      stop_failed F.Store is = ∥∥₁_elim (has_slots root roots) (hlevel props) (λ s. subst (λ (r : Result Trail ReadFault). FailsOnly m r k) is (enters s.0 s.1 s.2).failed)
       stop_failed F.Memory is = tt
 
       -- on the key's way
@@ -159,21 +165,21 @@ module _ (h : List ℕ → List ℕ) (hamt : View) (schema : IsSchema (table_of 
       tells_stopped e is = record {
         answer = λ t v x top.
             let y = is_in root roots t v x top in
-            let own = (enters y.slots y.has).answer (in_byte_order y.entered.entries) y.trie in
-            stop_answer e _ y.slots (in_byte_order y.entered.entries) (subst (λ (r : Result Trail ReadFault). EnterAnswer h key y.slots (in_byte_order y.entered.entries) m r k) is own);
+            let own = (enters y.shape y.slots y.has).answer (in_byte_order y.entered.entries) y.trie in
+            stop_answer e _ y.shape y.slots (in_byte_order y.entered.entries) (subst (λ (r : Result Trail ReadFault). EnterAnswer h y.shape key y.slots (in_byte_order y.entered.entries) m r k) is own);
         gets = λ t v x top. let own = way_gets t v x top in let all = met_is v in omega (arith, own, all);
         only = read_only;
         failed = stop_failed e is;
       }
 
       module _ (tr : Trail) (trail_is : trail ≡ Ok tr) (found : Option Node)
-          (finds : (slots : List TrieSlot) (es : List (List ℕ × Data)) → HasSlots usual root slots → IsTrailOf h usual key slots es tr → ValueIs (find bytewise key es) found) where
+          (finds : (p : HamtShape) (slots : List TrieSlot) (es : List (List ℕ × Data)) → HasSlots p root slots → IsTrailOf h p key slots es tr → ValueIs (find bytewise key es) found) where
         value_found : (t : Data) (v : Value) (x : IsAt h hamt m t v) (top : is_root rows (At v) ≡ true)
             → ValueIs (find bytewise key (in_byte_order (is_in root roots t v x top).entered.entries)) found
         value_found t v x top =
             let y = is_in root roots t v x top in
             let es = in_byte_order y.entered.entries in
-            finds y.slots es y.has (subst (λ (r : Result Trail ReadFault). EnterAnswer h key y.slots es m r k) trail_is ((enters y.slots y.has).answer es y.trie))
+            finds y.shape y.slots es y.has (subst (λ (r : Result Trail ReadFault). EnterAnswer h y.shape key y.slots es m r k) trail_is ((enters y.shape y.slots y.has).answer es y.trie))
 
         no_value : (rows' : List Row) (held : List (List ℕ)) (slot : Slot) (o : Option Data) (w : Option Value) → found ≡ None → ValueIs o found → DataOf held h rows' 96 slot o w → w ≡ None
         no_value rows' held slot None None none is data_is = refl
@@ -186,7 +192,7 @@ module _ (h : List ℕ → List ℕ) (hamt : View) (schema : IsSchema (table_of 
           answer = λ t v x top.
               let y = is_in root roots t v x top in
               let gone = no_value rows x.held y.entered.value _ _ none (value_found t v x top) (y.entered.each key) in
-              let no_part = part_is x.held v y.slots y.entered key ∙ ap (option_map {U = InSlot} (λ w. (y.entered.value, w))) gone in
+              let no_part = part_is x.held v y.shape y.slots y.entered key ∙ ap (option_map {U = InSlot} (λ w. (y.entered.value, w))) gone in
               none_answer h rows tell m k result (at rows (At v) (drop j path)) (at_is v ∙ ap (option_and_then (λ (q : InSlot). at rows q (drop (suc j) path))) no_part) nothing;
           gets = λ t v x top. let own = way_gets t v x top in let all = met_is v in omega (arith, own, all);
           only = read_only;
@@ -203,18 +209,18 @@ module _ (h : List ℕ → List ℕ) (hamt : View) (schema : IsSchema (table_of 
         abbrev SomeEntry : Node → List (List ℕ) → Value → Type 0
         SomeEntry node held v = (slot : Slot) × (d : Data) × (w : Value) × IsEntry node held v slot d w
 
-        entry_by : (node : Node) (held : List (List ℕ)) (v : Value) (slots : List TrieSlot) (e : IsEntered held h rows 96 (At v) slots) (o : Option Data) (u : Option Value) → found ≡ Some node → ValueIs o found
+        entry_by : (node : Node) (held : List (List ℕ)) (v : Value) (shape : HamtShape) (slots : List TrieSlot) (e : IsEntered held h rows 96 (At v) shape slots) (o : Option Data) (u : Option Value) → found ≡ Some node → ValueIs o found
             → value_at key (pairs_list e.pairs) ≡ u → DataOf held h rows 96 e.value o u → SomeEntry node held v
-        entry_by node held v slots e None u is val there data_is = absurd (subst (λ (f : Option Node). ValueIs None f) is val)
-        entry_by node held v slots e (Some d) None is val there data_is = absurd data_is
-        entry_by node held v slots e (Some d) (Some w) is val there data_is = (
+        entry_by node held v shape slots e None u is val there data_is = absurd (subst (λ (f : Option Node). ValueIs None f) is val)
+        entry_by node held v shape slots e (Some d) None is val there data_is = absurd data_is
+        entry_by node held v shape slots e (Some d) (Some w) is val there data_is = (
           e.value,
           d,
           w,
           record {
             stands = subst (λ (f : Option Node). ValueIs (Some d) f) is val;
             value = data_is;
-            there = part_is held v slots e key ∙ ap (option_map {U = InSlot} (λ w. (e.value, w))) there;
+            there = part_is held v shape slots e key ∙ ap (option_map {U = InSlot} (λ w. (e.value, w))) there;
             element = ap element_of e.form;
           },
         )
@@ -222,7 +228,7 @@ module _ (h : List ℕ → List ℕ) (hamt : View) (schema : IsSchema (table_of 
         pub entry_at : (node : Node) → found ≡ Some node → (t : Data) (v : Value) (x : IsAt h hamt m t v) → is_root rows (At v) ≡ true → SomeEntry node x.held v
         entry_at node is t v x top =
             let y = is_in root roots t v x top in
-            entry_by node x.held v y.slots y.entered _ _ is (value_found t v x top) refl (y.entered.each key)
+            entry_by node x.held v y.shape y.slots y.entered _ _ is (value_found t v x top) refl (y.entered.each key)
 
         entry_fault : (node : Node) (e : ReadFault) (o : Option Data) (held : List (List ℕ)) (v : Value) → ((d : Data) → Stands node d → ChecksEntry rows (form_of rows (slot_of hamt)) node d (Err e)) → SomeEntry node held v → TellAnswer o m (Err e) k
         entry_fault node F.Path o held v checks s = absurd (checks s.1 s.3.stands)

@@ -1,11 +1,12 @@
 -- A HAMT entered at a key, and the value of an entry viewed.
-use Rattle.std.specs.Prelude.{◌≡◌, ◌<◌, ℕ, ◌+◌, ◌≤◌, true, List, length, Option, Some, None, Result, Ok, Err}
+use Rattle.std.specs.Prelude.{◌≡◌, ℕ, ◌+◌, ◌≤◌, List, length, Option, Some, Result, Ok, Err}
 use Rattle.ild_cbor.specs.declared.node.Node.{Node}
 use Rattle.ild_cbor.specs.declared.piece.Piece.TheVariants as P
 use Rattle.ild_hamt_climb.specs.Way.{IsRootOf}
 use Rattle.ild_data.specs.Data.{Data}
 use Rattle.ild_data.specs.Trie.{TrieSlot}
 use Rattle.ild_data.specs.TrieShape.{trie_levels}
+use Rattle.ild_data.specs.declared.hamt_shape.HamtShape.{HamtShape}
 use Rattle.ild_edges.specs.Count.{Rose}
 use Rattle.ild_edges.specs.Store.{Moment}
 use Rattle.ild_hamt.specs.Descending.{IsTrailOf}
@@ -15,11 +16,9 @@ use Rattle.ild_schema.specs.declared.def.TypeDef.{TypeDef}
 use Rattle.ild_schema.specs.declared.number.Slot.{Slot}
 use Rattle.ild_schema.specs.declared.row.Row.{Row}
 use Rattle.ild_hamt_trie.specs.Way.{way}
-use Rattle.ild_typed.specs.Composed.{usual}
 use Rattle.ild_typed.specs.Fits.{Fits}
 use Rattle.ild_typed.specs.Layers.{Shows}
 use Rattle.ild_typed.specs.Slots.{element_of}
-use Rattle.ild_view.specs.Safe.{is_safe}
 use Rattle.ild_view.specs.View.{IsViewAt}
 use Rattle.ild_view.specs.declared.view.View.{View}
 use Rattle.ild_bulk_walker.specs.Trees.{HoldsBelow}
@@ -27,30 +26,25 @@ use Rattle.ild_run_follow.specs.Tells.{FailsOnly}
 use Rattle.ild_run_follow.specs.declared.fault.ReadFault.{ReadFault}
 use Rattle.ild_run_follow.specs.declared.fault.ReadFault.TheVariants as F
 
-abbrev pub EnterAnswer : (List ℕ → List ℕ) → List ℕ → List TrieSlot → List (List ℕ × Data) → Moment → Result Trail ReadFault → Moment → Type 0
-EnterAnswer h k slots es m (Ok t) n = IsTrailOf h usual k slots es t
-EnterAnswer h k slots es m (Err F.Path) n = ⊥
-EnterAnswer h k slots es m (Err (F.Block id why)) n = ⊥
-EnterAnswer h k slots es m (Err F.Store) n = Rose m.faults n.faults
-EnterAnswer h k slots es m (Err F.Memory) n = Unit {0}
+abbrev pub EnterAnswer : (List ℕ → List ℕ) → HamtShape → List ℕ → List TrieSlot → List (List ℕ × Data) → Moment → Result Trail ReadFault → Moment → Type 0
+EnterAnswer h p k slots es m (Ok t) n = IsTrailOf h p k slots es t
+EnterAnswer h p k slots es m (Err F.Path) n = ⊥
+EnterAnswer h p k slots es m (Err (F.Block id why)) n = ⊥
+EnterAnswer h p k slots es m (Err F.Store) n = Rose m.faults n.faults
+EnterAnswer h p k slots es m (Err F.Memory) n = Unit {0}
 
--- the trie of these entries is held
-pub record HoldsTrie (h : List ℕ → List ℕ) (slots : List TrieSlot) (es : List (List ℕ × Data)) (m : Moment) : Type 0 where
+-- the trie of this shape and these entries is held
+pub record HoldsTrie (h : List ℕ → List ℕ) (p : HamtShape) (slots : List TrieSlot) (es : List (List ℕ × Data)) (m : Moment) : Type 0 where
   pub held : List (List ℕ)
   pub told : m.blocks ≡ Some held
-  pub root : IsRootOf h usual es slots
-  pub holds : HoldsBelow h usual held (trie_levels usual) 0 es
+  pub root : IsRootOf h p es slots
+  pub holds : HoldsBelow h p held (trie_levels p) 0 es
 
-pub record EntersTrie (h : List ℕ → List ℕ) (k : List ℕ) (slots : List TrieSlot) (m : Moment) (result : Result Trail ReadFault) (n : Moment) : Type 0 where
-  pub answer : (es : List (List ℕ × Data)) → HoldsTrie h slots es m → EnterAnswer h k slots es m result n
-  pub gets : (es : List (List ℕ × Data)) → HoldsTrie h slots es m → n.gets ≤ m.gets + length (way h usual k (trie_levels usual) 0 es)
+pub record EntersTrie (h : List ℕ → List ℕ) (p : HamtShape) (k : List ℕ) (slots : List TrieSlot) (m : Moment) (result : Result Trail ReadFault) (n : Moment) : Type 0 where
+  pub answer : (es : List (List ℕ × Data)) → HoldsTrie h p slots es m → EnterAnswer h p k slots es m result n
+  pub gets : (es : List (List ℕ × Data)) → HoldsTrie h p slots es m → n.gets ≤ m.gets + length (way h p k (trie_levels p) 0 es)
   pub only : OnlyReads m n
   pub failed : FailsOnly m result n
-
--- a slot of values, with null and the table as views ask it
-abbrev pub IsValueSlot : List Row → Option TypeDef → Option Slot → Type 0
-IsValueSlot rows d (Some slot) = (element_of d ≡ Some slot) × (slot.ty.0 < length rows) × (is_safe rows slot ≡ true)
-IsValueSlot rows d None = Unit {0}
 
 -- data of an entry are viewed where they have a front
 abbrev pub ChecksEntry : List Row → Option TypeDef → Node → Data → Result View ReadFault → Type 0

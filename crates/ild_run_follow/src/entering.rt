@@ -1,14 +1,13 @@
 //! A HAMT entered at a key.
-ghost use Rattle.std.specs.Prelude.{◌≡◌, ◌<◌, List, Some, length, true};
+ghost use Rattle.std.specs.Prelude.{List};
 ghost use Rattle.ild_cbor.specs.Nodes.{Stands};
 ghost use Rattle.ild_data.specs.Data.{Data};
 ghost use Rattle.ild_data.specs.Trie.{TrieSlot};
 ghost use Rattle.ild_schema.specs.Slots.{form_of};
-ghost use Rattle.ild_schema.specs.Table.{IsWithin};
 ghost use Rattle.ild_node_slots.specs.Views.{HasSlots};
-ghost use Rattle.ild_typed.specs.Composed.{usual};
+ghost use Rattle.ild_data.specs.declared.hamt_shape.HamtShape.{HamtShape};
 ghost use Rattle.ild_view.specs.View.{slot_of, table_of};
-ghost use Rattle.ild_run_follow.specs.Enters.{ChecksEntry, EntersTrie, IsValueSlot};
+ghost use Rattle.ild_run_follow.specs.Enters.{ChecksEntry, EntersTrie};
 
 use crate::fault::{ReadFault, of_hamt};
 use ild_cbor::{BlockWhy, Node};
@@ -16,7 +15,7 @@ use ild_data::{KeyHash, block_id};
 use ild_edges::Store;
 use ild_hamt::{Trail, descend};
 use ild_node_slots::NodeView;
-use ild_schema::{Accepted, Slot, TypeDef};
+use ild_path_room::value_slot;
 use ild_typed::refused_have_no_front;
 use ild_view::{View, ViewErr};
 use std::alloc::Global;
@@ -32,33 +31,11 @@ pub(crate) fn trail_of<K: Store, H: KeyHash>(
     keys: &H,
     store: &mut K,
 ) -> Result<Trail, ReadFault>
-    ensures { (slots : List TrieSlot) → HasSlots usual root.entry slots → EntersTrie H.hash_of key.now slots (K.moment store.old) result (K.moment store.new) }
+    ensures { (p : HamtShape) (slots : List TrieSlot) → HasSlots p root.entry slots → EntersTrie H.hash_of p key.now slots (K.moment store.old) result (K.moment store.new) }
 {
     match descend(alloc, root, key, keys, store) {
         Ok(trail) => Ok(trail),
         Err(fault) => Err(of_hamt(&fault)),
-    }
-}
-
-// What the table says of a slot's type, copies followed.
-fn form(acc: &Accepted, slot: Slot) -> &TypeDef
-    requires { slot.ty.0 < length acc.now }
-    ensures form { form_of acc.now slot ≡ Some result.now }
-    ensures within { IsWithin (length acc.now) result.now }
-{
-    acc.def(acc.base(slot.ty))
-}
-
-// The slot of the values of a map.
-fn value_slot(view: &View<'_>) -> Option<Slot>
-    ensures { IsValueSlot (table_of view.now) (form_of (table_of view.now) (slot_of view.now)) result }
-{
-    let acc = view.schema();
-    // It does no work: its clauses say what acceptance says of the table.
-    let _types = acc.types();
-    match form(acc, view.slot()) {
-        TypeDef::Map { value, .. } => Some(*value),
-        _ => None,
     }
 }
 
@@ -70,13 +47,13 @@ pub(crate) fn entry_view<'b>(
 ) -> Result<View<'b>, ReadFault>
     ensures { (d : Data) → Stands node.entry d → ChecksEntry (table_of hamt.now) (form_of (table_of hamt.now) (slot_of hamt.now)) node.entry d result }
 {
-    let Some(slot) = value_slot(hamt) else {
-        return Err(ReadFault::Memory);
-    };
     let acc = hamt.schema();
-    // It does no work, as above.
+    // They do no work: their clauses say what acceptance says of the table, and that what is refused has no front.
     let _types = acc.types();
     refused_have_no_front();
+    let Some(slot) = value_slot(acc, hamt) else {
+        return Err(ReadFault::Memory);
+    };
     match View::check(alloc, acc, slot, node, ROOM) {
         Ok(view) => Ok(view),
         Err(ViewErr::Shape { ty: _, why, at: _ }) => Err(ReadFault::Block {

@@ -1,14 +1,16 @@
 -- Empty values: they fit, and have one block.
-use Rattle.std.proofs.Common.{◌≡◌, ℕ, suc, zero, ◌≤◌, List, [], ◌∷◌, ◌++◌, Bool, true, false, Option, Some, None, refl, sym, ap, ◌∙◌, subst, inl, arith}
+use Rattle.std.proofs.Common.{◌≡◌, ℕ, suc, zero, ◌≤◌, ◌+◌, ◌^◌, List, [], ◌∷◌, ◌++◌, Bool, true, false, Option, Some, None, refl, sym, ap, ◌∙◌, subst, inl, arith}
 use Rattle.std.specs.Prelude.{IsSomeAnd, is_some, cond, option_and_then}
 use Rattle.std.specs.List.{flat_map, range_with_len}
 use Rattle.std.specs.Option.{option_map_or}
+use Rattle.std.proofs.lemmas.Bool.{le-leb}
 use Rattle.std.proofs.lemmas.Option.{same_Some, none-some}
 use Rattle.ild_data.specs.Data.{Data}
 use Rattle.ild_data.specs.Spell.{spell}
-use Rattle.ild_data.specs.Trie.{trie}
-use Rattle.ild_data.specs.TrieBlocks.{nodes_beneath}
+use Rattle.ild_data.specs.Trie.{trie, node_of}
+use Rattle.ild_data.specs.TrieBlocks.{block_of, none_or, node_and_beneath, nodes_beneath}
 use Rattle.ild_data.specs.TrieShape.{trie_levels}
+use Rattle.ild_data.specs.declared.hamt_shape.HamtShape.{HamtShape}
 use Rattle.ild_schema.specs.Slots.{form_of, plainly}
 use Rattle.ild_schema.specs.Value as V
 use Rattle.ild_schema.specs.Value.{Value}
@@ -21,7 +23,6 @@ use Rattle.ild_schema.specs.declared.number.Slot.{Slot}
 use Rattle.ild_schema.specs.declared.number.TypeNo.{TypeNo}
 use Rattle.ild_schema.specs.declared.row.Row.{Row}
 use Rattle.ild_typed.specs.Blocks.{nodes, hamt_nodes}
-use Rattle.ild_typed.specs.Composed.{usual}
 use Rattle.ild_typed.specs.Fits.{Fits, FitsPast, FormFits}
 use Rattle.ild_typed.specs.Hamt.{whole}
 use Rattle.ild_typed.specs.Represented.{represented}
@@ -41,7 +42,7 @@ unfolding FitsPast
 map_fits rows r le s key key_at value at MF.Map is = subst (λ o. IsSomeAnd o (FormFits rows (suc r) (FitsPast rows r) (V.map V.no_pairs))) (sym is) (omega arith, (tt, tt))
 map_fits rows r le s key key_at value at MF.ListPairs is = subst (λ o. IsSomeAnd o (FormFits rows (suc r) (FitsPast rows r) (V.map V.no_pairs))) (sym is) (omega (arith, le), (tt, tt))
 map_fits rows r le s key key_at value at (MF.StringPairs inner entry) is = subst (λ o. IsSomeAnd o (FormFits rows (suc r) (FitsPast rows r) (V.map V.no_pairs))) (sym is) (omega arith, (tt, tt))
-map_fits rows r le s key key_at value at MF.Hamt is = subst (λ o. IsSomeAnd o (FormFits rows (suc r) (FitsPast rows r) (V.map V.no_pairs))) (sym is) (omega (arith, le), inl (tt, tt))
+map_fits rows r le s key key_at value at (MF.Hamt p) is = subst (λ o. IsSomeAnd o (FormFits rows (suc r) (FitsPast rows r) (V.map V.no_pairs))) (sym is) (omega (arith, le), inl (tt, tt))
 
 -- ---- by the form of a type
 
@@ -78,14 +79,20 @@ typed rows ty v e = (96, fits rows ty v e, is_all rows ty v e)
 
 -- ---- no node stands beneath
 
-none_in_all : {X A : Type 0} (xs : List X) → flat_map {X = X} {A = A} (λ x. []) xs ≡ []
-none_in_all [] = refl
-none_in_all (x ∷ xs) = none_in_all xs
+none_in_all : {X A : Type 0} (f : X → List A) → ((x : X) → f x ≡ []) → (xs : List X) → flat_map f xs ≡ []
+none_in_all f none [] = refl
+none_in_all f none (x ∷ xs) = ap (λ ys. ys ++ flat_map f xs) (none x) ∙ none_in_all f none xs
 
-none_beneath : (h : List ℕ → List ℕ) (left depth : ℕ) → nodes_beneath h usual left depth [] ≡ []
+-- a bucket takes no entries
+none_of_none : (most : ℕ) (below : List (List ℕ × Data) → Option Data) (beneath : List (List ℕ × Data) → List (List ℕ)) → node_and_beneath most below beneath [] ≡ []
+none_of_none most below beneath = ap (λ b. none_or b (λ fs. block_of (below fs) ++ beneath fs) []) (le-leb 0 most (omega arith))
+
+none_beneath : (h : List ℕ → List ℕ) (p : HamtShape) (left depth : ℕ) → nodes_beneath h p left depth [] ≡ []
 unfolding nodes_beneath
-none_beneath h zero depth = refl
-none_beneath h (suc left) depth = none_in_all (range_with_len 0 256)
+none_beneath h p zero depth = refl
+none_beneath h p (suc left) depth =
+    none_in_all (λ (i : ℕ). node_and_beneath p.bucket (node_of h p left (depth + 1)) (nodes_beneath h p left (depth + 1)) []) (λ i. none_of_none p.bucket (node_of h p left (depth + 1)) (nodes_beneath h p left (depth + 1)))
+    (range_with_len 0 (2 ^ p.width))
 
 abbrev no_list : List (List ℕ)
 no_list = []
@@ -102,7 +109,8 @@ map_nodes : (h : List ℕ → List ℕ) (key : TypeNo) (key_at : ℕ) (value : S
 map_nodes h key key_at value at MF.Map = refl
 map_nodes h key key_at value at MF.ListPairs = refl
 map_nodes h key key_at value at (MF.StringPairs inner entry) = refl
-map_nodes h key key_at value at MF.Hamt = cond_nothing (is_some (trie h usual [] 0)) (nodes_beneath h usual (trie_levels usual) 0 []) (none_beneath h (trie_levels usual) 0)
+map_nodes h key key_at value at (MF.Hamt p) =
+    cond_nothing (is_some (trie h p [] 0)) (nodes_beneath h p (trie_levels p) 0 []) (none_beneath h p (trie_levels p) 0)
 
 no_nodes : (h : List ℕ → List ℕ) (rows : List Row) (ty : TypeNo) (v : Value) → IsEmpty rows ty v → nodes h rows (plainly ty) v ≡ []
 no_nodes h rows ty v e = by_form (λ w. nodes h rows (plainly ty) w ≡ []) (form_of rows (plainly ty)) (λ elem at is. nothing_at (element_of (form_of rows (plainly ty))))

@@ -93,7 +93,7 @@ map_has : (form : MapForm) (w : KindWord) → has_kind w (map_kinds form) ≡ sa
 map_has M.Map w = only_has W.Map w
 map_has M.ListPairs w = only_has W.List w
 map_has (M.StringPairs inner entry) w = only_has W.Text w
-map_has M.Hamt w = only_has W.Map w
+map_has (M.Hamt p) w = only_has W.Map w
 
 struct_has : (form : StructForm) (w : KindWord) → has_kind w (struct_kinds form) ≡ same_kind (struct_kind form) w
 struct_has S.Map w = only_has W.Map w

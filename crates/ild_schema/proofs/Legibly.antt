@@ -83,7 +83,7 @@ clear_map : (at : ℕ) (form : MapForm) → place_if (is_poor_map form) at ≡ N
 clear_map at M.Map p = tt
 clear_map at M.ListPairs p = tt
 clear_map at (M.StringPairs inner entry) p = inner_given inner entry (not_placed (are_poor inner entry) at p)
-clear_map at M.Hamt p = tt
+clear_map at (M.Hamt shape) p = tt
 
 struct_delims : (at : ℕ) (form : StructForm) (fs : List Field) → place_if (is_poor_struct form) at ≡ None → is_bare_join form fs ≡ false → HasDelims form fs
 struct_delims at S.Map fs p b = tt
@@ -97,7 +97,7 @@ map_delims : (at : ℕ) (form : MapForm) → place_if (is_poor_map form) at ≡ 
 map_delims at M.Map p = tt
 map_delims at M.ListPairs p = tt
 map_delims at (M.StringPairs inner entry) p = entry_given inner entry (not_placed (are_poor inner entry) at p)
-map_delims at M.Hamt p = tt
+map_delims at (M.Hamt shape) p = tt
 
 -- ---- unions
 
@@ -209,7 +209,7 @@ made_map : (rows : List Row) (at : ℕ) (form : MapForm) (value : Slot) → plac
 made_map rows at M.Map value h = tt
 made_map rows at M.ListPairs value h = tt
 made_map rows at (M.StringPairs inner entry) value h = text_slot rows value (not_placed (is_no_text rows value) at h)
-made_map rows at M.Hamt value h = tt
+made_map rows at (M.Hamt shape) value h = tt
 
 map_form : (form : StructForm) → is_map_form form ≡ true → form ≡ S.Map
 map_form S.Map h = refl

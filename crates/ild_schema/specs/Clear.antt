@@ -52,7 +52,7 @@ abbrev pub ClearMap : MapForm → Type 0
 ClearMap MF.Map = Unit {0}
 ClearMap MF.ListPairs = Unit {0}
 ClearMap (MF.StringPairs inner entry) = IsGiven inner
-ClearMap MF.Hamt = Unit {0}
+ClearMap (MF.Hamt p) = Unit {0}
 
 -- two members that a block could not tell apart
 abbrev pub SameText : Member → Member → Type 0

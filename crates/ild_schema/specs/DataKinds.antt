@@ -46,7 +46,7 @@ abbrev pub map_kind : MapForm → KindWord
 map_kind MF.Map = K.Map
 map_kind MF.ListPairs = K.List
 map_kind (MF.StringPairs inner entry) = K.Text
-map_kind MF.Hamt = K.Map
+map_kind (MF.Hamt p) = K.Map
 
 abbrev pub struct_kind : StructForm → KindWord
 struct_kind S.Map = K.Map

@@ -92,7 +92,7 @@ abbrev pub map_kinds : MapForm → Kinds
 map_kinds M.Map = only W.Map
 map_kinds M.ListPairs = only W.List
 map_kinds (M.StringPairs inner entry) = only W.Text
-map_kinds M.Hamt = only W.Map
+map_kinds (M.Hamt p) = only W.Map
 
 abbrev pub union_kinds : UnionForm → List Member → Kinds
 union_kinds U.Keyed ms = only W.Map

@@ -1,7 +1,7 @@
 //! What a schema says of a type (IPLD Schemas, "Schema Kinds" and "Representations"): its form and its parts. Each `at`
 //! is the offset of a part in the schema's text: of its name, or of the first token where it has none.
 use crate::{List, Slot, TypeNo};
-use ild_data::{Int, Txt};
+use ild_data::{HamtShape, Int, Txt};
 
 /// A type.
 #[derive(Drop)]
@@ -50,7 +50,8 @@ pub enum MapForm {
     Map,
     ListPairs,
     StringPairs(Txt, Txt),
-    Hamt,
+    /// As IPLD HashMap in many blocks, of this shape.
+    Hamt(HamtShape),
 }
 
 /// How a struct stands in a block. The texts part a name from its value, and a field from the next.

@@ -16,7 +16,7 @@ fn map_form(form: &MapForm)
             let _ = inner.as_str();
             let _ = entry.as_str();
         }
-        MapForm::Map | MapForm::ListPairs | MapForm::Hamt => {}
+        MapForm::Map | MapForm::ListPairs | MapForm::Hamt(_) => {}
     }
 }
 

@@ -8,6 +8,7 @@ use Rattle.ild_data.specs.Data.{Data}
 use Rattle.ild_data.specs.Key.{same_text}
 use Rattle.ild_data.specs.Trie.{trie}
 use Rattle.ild_data.specs.TrieShape.{trie_levels}
+use Rattle.ild_data.specs.declared.hamt_shape.HamtShape.{HamtShape}
 use Rattle.ild_hamt_trie.specs.Way.{way as nodes_on_way}
 use Rattle.ild_schema.specs.declared.def.TypeDef.{TypeDef}
 use Rattle.ild_schema.specs.declared.def.TypeDef.TheVariants as T
@@ -20,7 +21,6 @@ use Rattle.ild_script.specs.declared.reply.No.{No}
 use Rattle.ild_script.specs.declared.reply.No.TheVariants as N
 use Rattle.ild_typed.specs.At.{InSlot, at, way}
 use Rattle.ild_typed.specs.Blocks.{nodes}
-use Rattle.ild_typed.specs.Composed.{usual}
 use Rattle.ild_typed.specs.Hamt.{whole}
 use Rattle.ild_typed.specs.Represented.{represented_pairs}
 use Rattle.ild_value_meaning.specs.MeantRead.{meant}
@@ -28,11 +28,11 @@ use Rattle.ild_path_edits.specs.Edit.{Edit, set_at, ins_at, del_at, new_slot}
 use Rattle.ild_script_meaning.specs.Ask.{Tell, shown_form, representation, presence, count, list_of_parts}
 
 -- the nodes beneath the root of a HAMT that lie on the hash of a key, whether it is there or not; without a trie there are none
-abbrev pub on_way : (List ℕ → List ℕ) → List ℕ → List (List ℕ × Data) → ℕ
-on_way h k es = if is_some (trie h usual es 0) then length (nodes_on_way h usual k (trie_levels usual) 0 (in_byte_order es)) else 0
+abbrev pub on_way : (List ℕ → List ℕ) → HamtShape → List ℕ → List (List ℕ × Data) → ℕ
+on_way h p k es = if is_some (trie h p es 0) then length (nodes_on_way h p k (trie_levels p) 0 (in_byte_order es)) else 0
 
 abbrev pub met_in_map : (List ℕ → List ℕ) → List Row → Option TypeDef → Pairs → List ℕ → ℕ
-met_in_map h rows (Some (T.Map key key_at value place M.Hamt)) ps k = option_map_or (on_way h k) (represented_pairs (whole h) rows value ps) 0
+met_in_map h rows (Some (T.Map key key_at value place (M.Hamt p))) ps k = option_map_or (on_way h p k) (represented_pairs (whole h) rows value ps) 0
 met_in_map h rows d ps k = 0
 
 abbrev pub met_in : (List ℕ → List ℕ) → List Row → Option TypeDef → Value → List ℕ → ℕ

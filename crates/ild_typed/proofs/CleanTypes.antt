@@ -116,7 +116,7 @@ map_clean MF.ListPairs clear delims l t h =
 map_clean (MF.StringPairs inner entry) clear delims l t h =
     let x = then_from (stringpairs inner entry) (as_map l) t h in
     record { kind = refl; count = refl; delimiter = (split_of_pairs inner entry clear delims x.item t x.made).split }
-map_clean MF.Hamt clear delims l t h = record { kind = refl; count = refl; delimiter = refl }
+map_clean (MF.Hamt p) clear delims l t h = record { kind = refl; count = refl; delimiter = refl }
 
 pub layer_clean : (d : TypeDef) → ClearType d → Delims d → (l : Layer Data) (t : Data) → composed alone d l ≡ Some t → Clean d t
 layer_clean D.Bool clear delims l t h = record {
@@ -331,8 +331,8 @@ map_for MF.Map (T.map ms) k c = (L.map (T.members_list ms), ap (λ xs. Some (T.m
 map_for MF.Map t k c = absurd cc
 map_for MF.ListPairs t k c = let x = pairs_of_data t k c.kind c.count in (L.map x.entries, ap Some (sym x.is))
 map_for (MF.StringPairs inner entry) t k c = let x = string_of_data inner entry t k c.delimiter in (L.map x.entries, x.there)
-map_for MF.Hamt (T.map ms) k c = (L.hamt (T.map ms), refl)
-map_for MF.Hamt t k c = absurd cc
+map_for (MF.Hamt p) (T.map ms) k c = (L.hamt (T.map ms), refl)
+map_for (MF.Hamt p) t k c = absurd cc
 
 pub layer_for : (d : TypeDef) → ClearType d → Delims d → (t : Data) → KeysRise t → Clean d t → LayerFor d t
 layer_for D.Bool clear delims t up c = bool_for t (kind_of_clean D.Bool t c)

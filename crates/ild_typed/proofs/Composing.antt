@@ -16,12 +16,12 @@ use Rattle.ild_schema.specs.declared.def.EnumForm.{EnumForm}
 use Rattle.ild_schema.specs.declared.def.EnumForm.TheVariants as E
 use Rattle.ild_schema.specs.declared.def.Field.{Field}
 use Rattle.ild_schema.specs.declared.def.EnumMember.{EnumMember}
-use Rattle.ild_data.specs.TrieShape.{TrieShape}
+use Rattle.ild_data.specs.declared.hamt_shape.HamtShape.{HamtShape}
 use Rattle.ild_typed.specs.Layer.{Layer, as_boolean, as_integer, as_text, as_bytes, as_link, as_any, as_unit, as_enum, as_list, as_map, as_struct, as_union, as_hamt}
 use Rattle.ild_typed.specs.Fields.{field_entries, tuple_items}
 use Rattle.ild_typed.specs.Strings.{map_data, listpairs, stringpairs, in_key_order}
 use Rattle.ild_schema.specs.Decimal.{decimal_of}
-use Rattle.ild_typed.specs.Composed.{Hamts, usual, any_data, unit_data, map_form, struct_form, union_form, enum_form, composed}
+use Rattle.ild_typed.specs.Composed.{Hamts, any_data, unit_data, map_form, struct_form, union_form, enum_form, composed}
 use Rattle.ild_typed.specs.Hamt.{a_map, alone}
 use Rattle.ild_typed.specs.Tells.{Tells}
 use Rattle.ild_schema.specs.Clear.{ClearStruct, ClearMap, ClearEnum, ClearType}
@@ -63,7 +63,7 @@ a_map_says (T.map ms) t e = same_Some (T.map ms) t e
 a_map_says d t e = absurd (none-some t e)
 
 -- the root map of a HAMT tells itself
-pub alone_tells : (p : TrieShape) → Tells (alone p)
+pub alone_tells : (p : HamtShape) → Tells (alone p)
 alone_tells p = tells_then as_hamt a_map (λ d e t h k. a_map_says d t h ∙ sym (a_map_says e t k)) (λ l m d h k. only_hamt l d h ∙ sym (only_hamt m d k))
 
 -- ---- forms
@@ -71,11 +71,11 @@ alone_tells p = tells_then as_hamt a_map (λ d e t h k. a_map_says d t h ∙ sym
 map_only : (l m : Layer Data) (ps : List (List ℕ × Data)) → as_map l ≡ Some ps → as_map m ≡ Some ps → l ≡ m
 map_only l m ps h k = only_map l ps h ∙ sym (only_map m ps k)
 
-pub map_form_tells : (at : Hamts) → ((p : TrieShape) → Tells (at p)) → (form : MapForm) → ClearMap form → Tells (map_form at form)
+pub map_form_tells : (at : Hamts) → ((p : HamtShape) → Tells (at p)) → (form : MapForm) → ClearMap form → Tells (map_form at form)
 map_form_tells at hamts MF.Map clear = tells_map as_map map_data map_tells map_only
 map_form_tells at hamts MF.ListPairs clear = tells_map as_map listpairs listpairs_tell map_only
 map_form_tells at hamts (MF.StringPairs inner entry) clear = tells_then as_map (stringpairs inner entry) (stringpairs_tell inner entry clear) map_only
-map_form_tells at hamts MF.Hamt clear = hamts usual
+map_form_tells at hamts (MF.Hamt p) clear = hamts p
 
 struct_map_tells : (fs : List Field) → ClearStruct S.Map fs → Tells (struct_form S.Map fs)
 struct_map_tells fs clear os us t e k =
@@ -115,7 +115,7 @@ unit_tells form l m t e k =
     only_unit l x.item x.there ∙ sym (only_unit m y.item y.there)
 
 -- one layer, read back
-pub composed_tells : (at : Hamts) → ((p : TrieShape) → Tells (at p)) → (d : TypeDef) → ClearType d → Tells (composed at d)
+pub composed_tells : (at : Hamts) → ((p : HamtShape) → Tells (at p)) → (d : TypeDef) → ClearType d → Tells (composed at d)
 composed_tells at hamts D.Bool clear = tells_map as_boolean T.boolean (λ a b e. ap bool_in e) (λ l m b h k. only_boolean l b h ∙ sym (only_boolean m b k))
 composed_tells at hamts D.Text clear = tells_map as_text T.text (λ a b e. ap string_in e) (λ l m b h k. only_text l b h ∙ sym (only_text m b k))
 composed_tells at hamts D.Bytes clear = tells_map as_bytes T.bytes (λ a b e. ap string_in e) (λ l m b h k. only_bytes l b h ∙ sym (only_bytes m b k))

@@ -29,6 +29,7 @@ use Rattle.ild_typed.specs.Represented.{represented}
 use Rattle.ild_typed.specs.Strings.{map_data}
 use Rattle.ild_typed.specs.Shown.{shown}
 use Rattle.ild_data.specs.Trie.{trie, node_of}
+use Rattle.ild_data.specs.TrieShape.{usual}
 use Rattle.ild_typed.specs.Judged.{has_hole, breaks_delimiter}
 
 ints : ℕ
@@ -208,7 +209,7 @@ hole_is_seen = refl
 -- ---- HAMTs, with a hash that begins with ba, and with one that is the key itself
 
 abbrev hamt : List TypeDef
-hamt = map_of 3 MF.Hamt ∷ []
+hamt = map_of 3 (MF.Hamt usual) ∷ []
 
 abbrev pub hamt_block : (List ℕ → List ℕ) → Value → Option (List ℕ)
 hamt_block h v = option_map spell (represented (whole h) (table hamt) top v)

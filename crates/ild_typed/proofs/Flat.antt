@@ -34,7 +34,8 @@ use Rattle.ild_schema.specs.Hex.{bytes_of_hex}
 use Rattle.ild_schema.specs.Slots.{form_of}
 use Rattle.ild_typed.specs.Slots.{element_of, fields_of, member_of}
 use Rattle.ild_data.specs.Trie.{trie}
-use Rattle.ild_typed.specs.Composed.{Hamts, usual, composed, struct_form, marked_form, member_form, inlined}
+use Rattle.ild_data.specs.declared.hamt_shape.HamtShape.{HamtShape}
+use Rattle.ild_typed.specs.Composed.{Hamts, composed, struct_form, marked_form, member_form, inlined}
 use Rattle.ild_typed.specs.Hamt.{root_map, whole, a_map, alone}
 use Rattle.ild_typed.specs.Represented.{layered, represented, represented_pairs, represented_fields}
 use Rattle.ild_typed.proofs.Basics.{then_from, map_from, true_from, if_from}
@@ -162,7 +163,7 @@ member_flat (UF.Inline key) d m t e flat = let x = then_from (marked_form (UF.In
 
 -- what stands for a HAMT is no flat data
 abbrev NeverFlat : Hamts → Type 0
-NeverFlat at = (l : Layer Data) (t : Data) → at usual l ≡ Some t → IsFlat t → ⊥
+NeverFlat at = (p : HamtShape) (l : Layer Data) (t : Data) → at p l ≡ Some t → IsFlat t → ⊥
 
 -- Flat data are those of a value whatever stands for HAMTs: none is in it.
 module _ (at bt : Hamts) (never : NeverFlat at) (rows : List Row) where
@@ -171,14 +172,14 @@ module _ (at bt : Hamts) (never : NeverFlat at) (rows : List Row) where
   not_list (D.Map key key_at value place MF.Map) ds t e flat = none-some t e
   not_list (D.Map key key_at value place MF.ListPairs) ds t e flat = none-some t e
   not_list (D.Map key key_at value place (MF.StringPairs i k)) ds t e flat = none-some t e
-  not_list (D.Map key key_at value place MF.Hamt) ds t e flat = never (L.list ds) t e flat
+  not_list (D.Map key key_at value place (MF.Hamt p)) ds t e flat = never p (L.list ds) t e flat
   not_list d ds t e flat = none-some t e
 
   map_flat : (d : TypeDef) (ps : List (List ℕ × Data)) (t : Data) → composed at d (L.map ps) ≡ Some t → IsFlat t → FlatPairs ps
   map_flat (D.Map key key_at value place MF.Map) ps t e flat = absurd (is_flat (map_data ps) t e flat)
   map_flat (D.Map key key_at value place MF.ListPairs) ps t e flat = absurd (is_flat (listpairs ps) t e flat)
   map_flat (D.Map key key_at value place (MF.StringPairs inner entry)) ps t e flat = stringpairs_flat inner entry ps t e
-  map_flat (D.Map key key_at value place MF.Hamt) ps t e flat = absurd (never (L.map ps) t e flat)
+  map_flat (D.Map key key_at value place (MF.Hamt p)) ps t e flat = absurd (never p (L.map ps) t e flat)
   map_flat d ps t e flat = absurd (none-some t e)
 
   fields_flat : (d : TypeDef) (os : List (Option Data)) (t : Data) → composed at d (L.struct os) ≡ Some t → IsFlat t → FlatFields os
@@ -186,7 +187,7 @@ module _ (at bt : Hamts) (never : NeverFlat at) (rows : List Row) where
   fields_flat (D.Map key key_at value place MF.Map) os t e flat = absurd (none-some t e)
   fields_flat (D.Map key key_at value place MF.ListPairs) os t e flat = absurd (none-some t e)
   fields_flat (D.Map key key_at value place (MF.StringPairs i k)) os t e flat = absurd (none-some t e)
-  fields_flat (D.Map key key_at value place MF.Hamt) os t e flat = absurd (never (L.struct os) t e flat)
+  fields_flat (D.Map key key_at value place (MF.Hamt p)) os t e flat = absurd (never p (L.struct os) t e flat)
   fields_flat d os t e flat = absurd (none-some t e)
 
   union_flat : (d : TypeDef) (n : ℕ) (c t : Data) → composed at d (L.union n c) ≡ Some t → IsFlat t → IsFlat c
@@ -194,7 +195,7 @@ module _ (at bt : Hamts) (never : NeverFlat at) (rows : List Row) where
   union_flat (D.Map key key_at value place MF.Map) n c t e flat = absurd (none-some t e)
   union_flat (D.Map key key_at value place MF.ListPairs) n c t e flat = absurd (none-some t e)
   union_flat (D.Map key key_at value place (MF.StringPairs i k)) n c t e flat = absurd (none-some t e)
-  union_flat (D.Map key key_at value place MF.Hamt) n c t e flat = absurd (never (L.union n c) t e flat)
+  union_flat (D.Map key key_at value place (MF.Hamt p)) n c t e flat = absurd (never p (L.union n c) t e flat)
   union_flat d n c t e flat = absurd (none-some t e)
 
   -- the layer itself
@@ -202,7 +203,7 @@ module _ (at bt : Hamts) (never : NeverFlat at) (rows : List Row) where
   composed_same (D.Map key key_at value place MF.Map) l t e flat = e
   composed_same (D.Map key key_at value place MF.ListPairs) l t e flat = e
   composed_same (D.Map key key_at value place (MF.StringPairs i k)) l t e flat = e
-  composed_same (D.Map key key_at value place MF.Hamt) l t e flat = absurd (never l t e flat)
+  composed_same (D.Map key key_at value place (MF.Hamt p)) l t e flat = absurd (never p l t e flat)
   composed_same d l t e flat = e
 
   layer_same : (o : Option TypeDef) (p q : Option (Layer Data)) (t : Data) → layered at o p ≡ Some t → IsFlat t
@@ -285,14 +286,14 @@ module _ (at bt : Hamts) (never : NeverFlat at) (rows : List Row) where
 -- ---- whole values and fronts
 
 whole_never : (h : List ℕ → List ℕ) → NeverFlat (whole h)
-whole_never h l t e flat = let x = map_from (root_map usual) (option_and_then (λ es. trie h usual es 0) (as_map l)) t e in is_flat (root_map usual x.item) t x.made flat
+whole_never h p l t e flat = let x = map_from (root_map p) (option_and_then (λ es. trie h p es 0) (as_map l)) t e in is_flat (root_map p x.item) t x.made flat
 
 map_never : (d t : Data) → a_map d ≡ Some t → IsFlat t → ⊥
 map_never (T.map ms) t e flat = is_flat (T.map ms) t e flat
 map_never d t e flat = none-some t e
 
 alone_never : NeverFlat alone
-alone_never l t e flat = let x = then_from a_map (as_hamt l) t e in map_never x.item t x.made flat
+alone_never p l t e flat = let x = then_from a_map (as_hamt l) t e in map_never x.item t x.made flat
 
 pub flat_alone : (h : List ℕ → List ℕ) (rows : List Row) (s : Slot) (v : Value) (t : Data) → represented (whole h) rows s v ≡ Some t → IsFlat t → represented alone rows s v ≡ Some t
 flat_alone h rows s v t e flat = flat_same (whole h) alone (whole_never h) rows s v t e flat

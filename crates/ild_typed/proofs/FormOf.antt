@@ -8,6 +8,7 @@ use Rattle.ild_data.specs.Tree.{IsTree}
 use Rattle.ild_data.specs.Bytes.{AreBytes}
 use Rattle.ild_data.specs.Cid.{IsCid}
 use Rattle.ild_data.specs.Integer.{IsInt}
+use Rattle.ild_data.specs.declared.hamt_shape.HamtShape.{HamtShape}
 use Rattle.ild_schema.specs.declared.number.Slot.{Slot}
 use Rattle.ild_schema.specs.declared.number.TypeNo.{TypeNo}
 use Rattle.ild_schema.specs.declared.def.TypeDef.{TypeDef}
@@ -60,28 +61,32 @@ module _ (rows : List Row) (Of : Slot → Value → Type 0) where
   no_map key value MF.Map l a b h = subst (λ o. IsSomeAnd o (EntriesFit Of rows key value MF.Map)) a h
   no_map key value MF.ListPairs l a b h = subst (λ o. IsSomeAnd o (EntriesFit Of rows key value MF.ListPairs)) a h
   no_map key value (MF.StringPairs i e) l a b h = subst (λ o. IsSomeAnd o (EntriesFit Of rows key value (MF.StringPairs i e))) a h
-  no_map key value MF.Hamt l a b (inl h) = subst (λ o. IsSomeAnd o (EntriesFit Of rows key value MF.Hamt)) a h
-  no_map key value MF.Hamt l a b (inr h) = subst (λ o. IsSomeAnd o (RootFits Of rows key value)) b h
+  no_map key value (MF.Hamt p) l a b (inl h) = subst (λ o. IsSomeAnd o (EntriesFit Of rows key value (MF.Hamt p))) a h
+  no_map key value (MF.Hamt p) l a b (inr h) = subst (λ o. IsSomeAnd o (RootFits Of rows p key value)) b h
 
   pub entries_there : (key : TypeNo) (value : Slot) (f : MapForm) (ps : List (List ℕ × Value)) → MapFits Of rows key value f (L.map ps) → EntriesFit Of rows key value f ps
   entries_there key value MF.Map ps h = h
   entries_there key value MF.ListPairs ps h = h
   entries_there key value (MF.StringPairs i e) ps h = h
-  entries_there key value MF.Hamt ps (inl h) = h
-  entries_there key value MF.Hamt ps (inr h) = absurd h
+  entries_there key value (MF.Hamt p) ps (inl h) = h
+  entries_there key value (MF.Hamt p) ps (inr h) = absurd h
 
   pub there_entries : (key : TypeNo) (value : Slot) (f : MapForm) (ps : List (List ℕ × Value)) → EntriesFit Of rows key value f ps → MapFits Of rows key value f (L.map ps)
   there_entries key value MF.Map ps h = h
   there_entries key value MF.ListPairs ps h = h
   there_entries key value (MF.StringPairs i e) ps h = h
-  there_entries key value MF.Hamt ps h = inl h
+  there_entries key value (MF.Hamt p) ps h = inl h
 
-  pub hamt_there : (key : TypeNo) (value : Slot) (f : MapForm) (d : Data) → MapFits Of rows key value f (L.hamt d) → (f ≡ MF.Hamt) × RootFits Of rows key value d
+  pub hamt_there : (key : TypeNo) (value : Slot) (f : MapForm) (d : Data) → MapFits Of rows key value f (L.hamt d) → (p : HamtShape) × (f ≡ MF.Hamt p) × RootFits Of rows p key value d
   hamt_there key value MF.Map d h = absurd h
   hamt_there key value MF.ListPairs d h = absurd h
   hamt_there key value (MF.StringPairs i e) d h = absurd h
-  hamt_there key value MF.Hamt d (inl h) = absurd h
-  hamt_there key value MF.Hamt d (inr h) = (refl, h)
+  hamt_there key value (MF.Hamt p) d (inl h) = absurd h
+  hamt_there key value (MF.Hamt p) d (inr h) = (p, refl, h)
+
+  pub root_there : (p : HamtShape) (key : TypeNo) (value : Slot) (d : Data) → MapFits Of rows key value (MF.Hamt p) (L.hamt d) → RootFits Of rows p key value d
+  root_there p key value d (inl h) = absurd h
+  root_there p key value d (inr h) = h
 
   -- the form that a layer has
 
@@ -144,6 +149,6 @@ module _ (rows : List Row) (Of : Slot → Value → Type 0) where
   map_form (D.Map key key_at value at form) ps h = (key, key_at, value, at, form, refl, entries_there key value form ps h)
   map_form d ps h = absurd h
 
-  pub hamt_form : (d : TypeDef) (x : Data) → LayerFits Of rows d (L.hamt x) → (key : TypeNo) × (key_at : ℕ) × (elem : Slot) × (place : ℕ) × (d ≡ D.Map key key_at elem place MF.Hamt) × RootFits Of rows key elem x
-  hamt_form (D.Map key key_at value at form) x h = let r = hamt_there key value form x h in (key, key_at, value, at, ap (λ f. D.Map key key_at value at f) r.0, r.1)
+  pub hamt_form : (d : TypeDef) (x : Data) → LayerFits Of rows d (L.hamt x) → (key : TypeNo) × (key_at : ℕ) × (elem : Slot) × (place : ℕ) × (p : HamtShape) × (d ≡ D.Map key key_at elem place (MF.Hamt p)) × RootFits Of rows p key elem x
+  hamt_form (D.Map key key_at value at form) x h = let r = hamt_there key value form x h in (key, key_at, value, at, r.0, ap (λ f. D.Map key key_at value at f) r.1, r.2)
   hamt_form d x h = absurd h

@@ -13,6 +13,8 @@ use Rattle.ild_data.specs.Data.{Data}
 use Rattle.ild_data.specs.ByteOrder.{bytewise, in_byte_order, IsInOrder}
 use Rattle.ild_data.specs.Spell.{spell}
 use Rattle.ild_data.specs.Trie.{TrieSlot, empty, bucket, bucket_entries, bucket_or, link_to, all_some, part, slot_of, node_of, node_data, at_depth, trie}
+use Rattle.ild_data.specs.TrieShape.{trie_levels}
+use Rattle.ild_data.specs.declared.hamt_shape.HamtShape.{HamtShape}
 use Rattle.ild_schema.specs.declared.number.Slot.{Slot}
 use Rattle.ild_schema.specs.declared.number.TypeNo.{TypeNo}
 use Rattle.ild_schema.specs.declared.def.TypeDef.{TypeDef}
@@ -26,8 +28,9 @@ use Rattle.ild_schema.specs.Slots.{form_of, plainly}
 use Rattle.ild_schema.specs.Value as V
 use Rattle.ild_schema.specs.Value.{Value, Values, Pairs, Optionals, values_list, pairs_list, optionals_list}
 use Rattle.ild_schema.proofs.Legibly.{legible}
+use Rattle.ild_hamt_trie.proofs.Levels.{levels-first}
 use Rattle.ild_hamt_trie.proofs.Parts.{in_order-part, in_order-sorted}
-use Rattle.ild_typed.specs.Composed.{usual, composed, member_form, map_form}
+use Rattle.ild_typed.specs.Composed.{composed, member_form, map_form}
 use Rattle.ild_typed.specs.Fits.{FitsPast, ValueFits}
 use Rattle.ild_typed.specs.Hamt.{alone, whole, root_map}
 use Rattle.ild_typed.specs.Layer as L
@@ -55,17 +58,17 @@ use Rattle.ild_typed.proofs.Views.{Elements, Fields, list_shows, struct_shows, u
 
 -- ---- the slots of a node of entries whose keys are texts
 
-module _ (W : List ℕ × Data → Type 0) where
+module _ (p : HamtShape) (W : List ℕ × Data → Type 0) where
   -- a slot that a block may show, of entries of which W holds
   abbrev Fine : TrieSlot → Type 0
-  Fine z = IsSlot usual z × AllByRecursion W (bucket_entries z)
+  Fine z = IsSlot p z × AllByRecursion W (bucket_entries z)
 
   slot_fine : (below : List (List ℕ × Data) → Option Data) (es : List (List ℕ × Data)) (z : TrieSlot) → IsInOrder es → AllByRecursion (λ e. IsUtf8 e.0) es → AllByRecursion W es
-      → slot_of usual.bucket below es ≡ Some z → Fine z
+      → slot_of p.bucket below es ≡ Some z → Fine z
   slot_fine below [] z order keys all e = subst Fine (same_Some empty z e) (tt, tt)
-  slot_fine below (x ∷ es) z order keys all e = by (nat_le (length (x ∷ es)) usual.bucket) refl e where
-    by : (b : Bool) → nat_le (length (x ∷ es)) usual.bucket ≡ b → bucket_or b below (x ∷ es) ≡ Some z → Fine z
-    by true is h = subst Fine (same_Some (bucket (x ∷ es)) z h) ((order, omega arith, leb-true (length (x ∷ es)) usual.bucket is, keys), all)
+  slot_fine below (x ∷ es) z order keys all e = by (nat_le (length (x ∷ es)) p.bucket) refl e where
+    by : (b : Bool) → nat_le (length (x ∷ es)) p.bucket ≡ b → bucket_or b below (x ∷ es) ≡ Some z → Fine z
+    by true is h = subst Fine (same_Some (bucket (x ∷ es)) z h) ((order, omega arith, leb-true (length (x ∷ es)) p.bucket is, keys), all)
     by false is h =
         let n = map_from link_to (below (x ∷ es)) z h in
         subst Fine (same_Some (link_to n.item) z n.made) ((length-sha256 (spell n.item), id_bytes (spell n.item)), tt)
@@ -81,7 +84,7 @@ module _ (W : List ℕ × Data → Type 0) where
         let x = map_from (λ zs. z ∷ zs) (all_some (map piece is)) slots h in
         subst (AllByRecursion Fine) (same_Some (z ∷ x.item) slots x.made) (own z refl, later x.item x.there)
 
-  fine_slots : (slots : List TrieSlot) → AllByRecursion Fine slots → AllByRecursion (IsSlot usual) slots × AllByRecursion W (entries_in slots)
+  fine_slots : (slots : List TrieSlot) → AllByRecursion Fine slots → AllByRecursion (IsSlot p) slots × AllByRecursion W (entries_in slots)
   fine_slots [] all = (tt, tt)
   fine_slots (z ∷ slots) all =
       let rest = fine_slots slots all.1 in
@@ -109,25 +112,26 @@ module _ (K : List ℕ → Type 0) (W : Data → Type 0) where
   keys_of [] all = tt
   keys_of (m ∷ ms) all = (all.0.0.0, keys_of ms all.1)
 
-  record RootOver (t : Data) : Type 0 where
+  record RootOver (p : HamtShape) (t : Data) : Type 0 where
     slots : List TrieSlot
-    root : IsRoot usual slots t
+    root : IsRoot p slots t
     all : AllByRecursion Both (entries_in slots)
 
-  root_over : (h : List ℕ → List ℕ) (es : List (List ℕ × Data)) (t : Data) → AllByRecursion Both es → whole h usual (L.map es) ≡ Some t → RootOver t
-  root_over h es t all e =
-      let x = map_from (root_map usual) (trie h usual es 0) t e in
+  root_over : (p : HamtShape) (h : List ℕ → List ℕ) (es : List (List ℕ × Data)) (t : Data) → AllByRecursion Both es → whole h p (L.map es) ≡ Some t → RootOver p t
+  root_over p h es t all e =
+      let x = map_from (root_map p) (trie h p es 0) t e in
       let sorted : List (List ℕ × Data) = in_byte_order es in
-      let of : NodeSlots h usual 31 0 sorted x.item = node_slots h usual 31 0 sorted x.item (trie_node h usual es x.item x.there) in
-      let fine = slots_fine Both (λ i. slot_of usual.bucket (node_of h usual 31 1) (part (at_depth h usual 0) sorted i))
+      let left : ℕ = trie_levels p - 1 in
+      let of : NodeSlots h p left 0 sorted x.item = node_slots h p left 0 sorted x.item (subst (λ n. node_of h p n 0 sorted ≡ Some x.item) (levels-first p) (trie_node h p es x.item x.there)) in
+      let fine = slots_fine p Both (λ i. slot_of p.bucket (node_of h p left 1) (part (at_depth h p 0) sorted i))
       (λ i z is.
-      let own = part_in Both (λ k. at_depth h usual 0 k.0 == i) sorted (sorted_both es all) in
-      slot_fine Both (node_of h usual 31 1) (part (at_depth h usual 0) sorted i) z (in_order-part (at_depth h usual 0) sorted i (in_order-sorted es)) (keys_of (part (at_depth h usual 0) sorted i) own) own is)
-      (range_with_len 0 (2 ^ usual.width)) of.slots of.there in
-      let both = fine_slots Both of.slots fine in
+      let own = part_in Both (λ k. at_depth h p 0 k.0 == i) sorted (sorted_both es all) in
+      slot_fine p Both (node_of h p left 1) (part (at_depth h p 0) sorted i) z (in_order-part (at_depth h p 0) sorted i (in_order-sorted es)) (keys_of (part (at_depth h p 0) sorted i) own) own is)
+      (range_with_len 0 (2 ^ p.width)) of.slots of.there in
+      let both = fine_slots p Both of.slots fine in
       record {
         slots = of.slots;
-        root = record { indices = of.count; each = both.0; tree = sym (same_Some (root_map usual x.item) t x.made) ∙ ap (root_map usual) (sym of.is) };
+        root = record { indices = of.count; each = both.0; tree = sym (same_Some (root_map p x.item) t x.made) ∙ ap (root_map p) (sym of.is) };
         all = both.1;
       }
 
@@ -138,15 +142,15 @@ module _ (h : List ℕ → List ℕ) (rows : List Row) where
   alone_too (D.Map key key_at value place MF.Map) l t none e = e
   alone_too (D.Map key key_at value place MF.ListPairs) l t none e = e
   alone_too (D.Map key key_at value place (MF.StringPairs i k)) l t none e = e
-  alone_too (D.Map key key_at value place MF.Hamt) l t none e =
-      absurd (none-some t (sym (ap (λ o. option_map (root_map usual) (option_and_then (λ es. trie h usual es 0) o)) none) ∙ e))
+  alone_too (D.Map key key_at value place (MF.Hamt p)) l t none e =
+      absurd (none-some t (sym (ap (λ o. option_map (root_map p) (option_and_then (λ es. trie h p es 0) o)) none) ∙ e))
   alone_too d l t none e = e
 
   no_root : (d : TypeDef) (x t : Data) → composed (whole h) d (L.hamt x) ≡ Some t → ⊥
   no_root (D.Map key key_at value place MF.Map) x t e = none-some t e
   no_root (D.Map key key_at value place MF.ListPairs) x t e = none-some t e
   no_root (D.Map key key_at value place (MF.StringPairs i k)) x t e = none-some t e
-  no_root (D.Map key key_at value place MF.Hamt) x t e = none-some t e
+  no_root (D.Map key key_at value place (MF.Hamt p)) x t e = none-some t e
   no_root d x t e = none-some t e
 
   module _ (room : ℕ) (below : ℕ → Slot → Value → Type 0) (s : Slot) (t : Data) where
@@ -256,15 +260,15 @@ module _ (h : List ℕ → List ℕ) (rows : List Row) (clear : IsClear rows) (r
     by : (form : MapForm) → form_of rows s ≡ Some (D.Map key key_at value place form) → levels_of (D.Map key key_at value place form) (V.map ps) ≤ suc room
         → LayerFits (FitsPast rows room (levels_of (D.Map key key_at value place form) (V.map ps) - 1)) rows (D.Map key key_at value place form) (L.map (pairs_list ps))
         → represented_pairs (whole h) rows value ps ≡ Some ds → map_form (whole h) form (L.map ds) ≡ Some t → Answer
-    by MF.Hamt is enough f there made =
-        let fits = map_fitted rows (FitsPast rows room 4) key value MF.Hamt (pairs_list ps) f in
+    by (MF.Hamt p) is enough f there made =
+        let fits = map_fitted rows (FitsPast rows room 4) key value (MF.Hamt p) (pairs_list ps) f in
         let x = entries_front h rows (FitsPast rows room 4) (later 4) key value ps ds fits.1 there in
-        let root = root_over (λ k. Shows (FitsPast rows room 4) rows (plainly key) (T.text k)) (Shows (FitsPast rows room 4) rows value) h ds t
+        let root = root_over (λ k. Shows (FitsPast rows room 4) rows (plainly key) (T.text k)) (Shows (FitsPast rows room 4) rows value) p h ds t
         (entries_both h rows (FitsPast rows room 4) (later 4) key value ds x.0) made in
-        let shape : T.Members = T.members_of ((codes "hamt", node_data root.slots) ∷ (codes "hashAlg", T.integer (pos 18)) ∷ (codes "bucketSize", T.integer (pos 3)) ∷ []) in
-        let own : IsRoot usual root.slots (T.map shape) = subst (IsRoot usual root.slots) root.root.tree root.root in
+        let shape : T.Members = T.members_of ((codes "hamt", node_data root.slots) ∷ (codes "hashAlg", T.integer (pos 18)) ∷ (codes "bucketSize", T.integer (pos p.bucket)) ∷ []) in
+        let own : IsRoot p root.slots (T.map shape) = subst (IsRoot p root.slots) root.root.tree root.root in
         subst (λ u. Shows (FitsPast rows (suc room) zero) rows s u) (sym root.root.tree)
-        (hamt_shows rows clear room s key key_at value place shape is enough
+        (hamt_shows rows clear room s p key key_at value place shape is enough
         (root.slots, own, entries_shown h rows (FitsPast rows room 4) (later 4) key value (entries_in root.slots) root.all))
     by MF.Map is enough f there made = flat key key_at value place MF.Map ps ds is enough f there made
     by MF.ListPairs is enough f there made = flat key key_at value place MF.ListPairs ps ds is enough f there made

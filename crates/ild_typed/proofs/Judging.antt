@@ -22,7 +22,7 @@ use Rattle.ild_typed.specs.Fields.{field_entries, are_absent, tuple_items, all_i
 use Rattle.ild_typed.specs.Strings.{texts_in, text_pairs, stringpairs, stringjoin}
 use Rattle.ild_typed.specs.Slots.{element_of, fields_of, member_of}
 use Rattle.ild_data.specs.Trie.{trie}
-use Rattle.ild_typed.specs.Composed.{usual, composed, map_form, struct_form}
+use Rattle.ild_typed.specs.Composed.{composed, map_form, struct_form}
 use Rattle.ild_typed.specs.Hamt.{root_map, whole, alone}
 use Rattle.ild_typed.specs.Represented.{represented, represented_values, represented_pairs, represented_fields}
 use Rattle.ild_schema.specs.Whole.{is_whole, are_whole, pairs_whole, fields_whole}
@@ -71,7 +71,7 @@ map_full : (h : List ℕ → List ℕ) (form : MapForm) (o : Option (List (List 
 map_full h MF.Map o ds t is e = refl
 map_full h MF.ListPairs o ds t is e = refl
 map_full h (MF.StringPairs inner entry) o ds t is e = refl
-map_full h MF.Hamt o ds t is e = let x = map_from (root_map usual) (trie h usual ds 0) t e in ap (map_exhausts h MF.Hamt) is ∙ ap is_none x.there
+map_full h (MF.Hamt p) o ds t is e = let x = map_from (root_map p) (trie h p ds 0) t e in ap (map_exhausts h (MF.Hamt p)) is ∙ ap is_none x.there
 
 module _ (h : List ℕ → List ℕ) (rows : List Row) where
   map_joined : (form : MapForm) (s : Slot) (ps : Pairs) (ds : List (List ℕ × Data)) (t : Data) → represented_pairs (whole h) rows s ps ≡ Some ds → map_form (whole h) form (L.map ds) ≡ Some t
@@ -80,7 +80,7 @@ module _ (h : List ℕ → List ℕ) (rows : List Row) where
   map_joined MF.ListPairs s ps ds t e k = refl
   map_joined (MF.StringPairs inner entry) s ps ds t e k =
       stringpairs_sound inner entry (represented_pairs alone rows s ps) t (ap (option_and_then (stringpairs inner entry)) (pairs_alone h rows s ps ds e (stringpairs_flat inner entry ds t k)) ∙ k)
-  map_joined MF.Hamt s ps ds t e k = refl
+  map_joined (MF.Hamt p) s ps ds t e k = refl
 
   struct_joined : (form : StructForm) (fs : List Field) (os : Optionals) (ds : List (Option Data)) (t : Data) → represented_fields (whole h) rows fs os ≡ Some ds → struct_form form fs ds ≡ Some t
       → struct_breaks form fs (represented_fields alone rows fs os) ≡ false
@@ -164,7 +164,7 @@ module _ (h : List ℕ → List ℕ) (rows : List Row) where
   no_front (D.Map key key_at value place MF.Map) x t e = none-some t e
   no_front (D.Map key key_at value place MF.ListPairs) x t e = none-some t e
   no_front (D.Map key key_at value place (MF.StringPairs i k)) x t e = none-some t e
-  no_front (D.Map key key_at value place MF.Hamt) x t e = none-some t e
+  no_front (D.Map key key_at value place (MF.Hamt p)) x t e = none-some t e
   no_front d x t e = none-some t e
 
   -- ---- a value, its parts aside

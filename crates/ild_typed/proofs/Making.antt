@@ -23,7 +23,7 @@ use Rattle.ild_schema.specs.declared.def.Field.{Field}
 use Rattle.ild_schema.specs.declared.def.Member.{Member}
 use Rattle.ild_schema.specs.declared.def.EnumMember.{EnumMember}
 use Rattle.ild_schema.specs.declared.row.Row.{Row}
-use Rattle.ild_data.specs.TrieShape.{TrieShape}
+use Rattle.ild_data.specs.declared.hamt_shape.HamtShape.{HamtShape}
 use Rattle.ild_typed.specs.Layer as L
 use Rattle.ild_typed.specs.Layer.{Layer, as_struct}
 use Rattle.ild_schema.specs.Slots.{plainly}
@@ -35,7 +35,7 @@ use Rattle.ild_typed.specs.Kinds.{kind_of}
 use Rattle.ild_schema.specs.DataKinds.{kind_in, same_kind, slot_has}
 use Rattle.ild_schema.specs.Hex.{bytes_of_hex}
 use Rattle.ild_schema.specs.Decimal.{decimal_of}
-use Rattle.ild_typed.specs.Composed.{usual, map_form, struct_form, inlined, marked_form, member_form, enum_form, composed}
+use Rattle.ild_typed.specs.Composed.{map_form, struct_form, inlined, marked_form, member_form, enum_form, composed}
 use Rattle.ild_typed.specs.Hamt.{root_map, whole}
 use Rattle.ild_data.specs.Trie.{trie}
 use Rattle.ild_typed.specs.Represented.{represented}
@@ -76,7 +76,7 @@ not_refused f o a is e = not_none (f a) (sym (ap (is_refused f) is) ∙ e)
 
 -- ---- the kinds of data
 
-whole_kind : (h : List ℕ → List ℕ) (p : TrieShape) (l : Layer Data) (t : Data) → whole h p l ≡ Some t → kind_of t ≡ K.Map
+whole_kind : (h : List ℕ → List ℕ) (p : HamtShape) (l : Layer Data) (t : Data) → whole h p l ≡ Some t → kind_of t ≡ K.Map
 whole_kind h = (whole_exact h (λ n. ⊥) (λ n m a b e. absurd a)).kind
 
 module _ (h : List ℕ → List ℕ) (rows : List Row) where
@@ -248,7 +248,7 @@ pub map_there : (h : List ℕ → List ℕ) (form : MapForm) (ps : List (List �
 map_there h MF.Map ps ready e k = record { item = map_data ps; is = refl }
 map_there h MF.ListPairs ps ready e k = record { item = listpairs ps; is = refl }
 map_there h (MF.StringPairs inner entry) ps ready e k = stringpairs_there inner entry ps (Some ps) refl ready e
-map_there h MF.Hamt ps ready e k = there_map (root_map usual) (trie h usual ps 0) (not_none (trie h usual ps 0) k)
+map_there h (MF.Hamt p) ps ready e k = there_map (root_map p) (trie h p ps 0) (not_none (trie h p ps 0) k)
 
 -- ---- unions
 

@@ -231,7 +231,7 @@ module _ (h : List ℕ → List ℕ) (rows : List Row) where
   pairs_ready MF.Map value ps ds made e = tt
   pairs_ready MF.ListPairs value ps ds made e = tt
   pairs_ready (MF.StringPairs inner entry) value ps ds made e = pairs_texts value ps ds made e
-  pairs_ready MF.Hamt value ps ds made e = tt
+  pairs_ready (MF.Hamt p) value ps ds made e = tt
 
   -- ---- texts that can be joined
 
@@ -240,7 +240,7 @@ module _ (h : List ℕ → List ℕ) (rows : List Row) where
   map_joins MF.Map value ps ds ready e b = refl
   map_joins MF.ListPairs value ps ds ready e b = refl
   map_joins (MF.StringPairs inner entry) value ps ds ready e b = ap (map_breaks (MF.StringPairs inner entry)) (sym (pairs_alone h rows value ps ds e (pairs_flat ds ready))) ∙ b
-  map_joins MF.Hamt value ps ds ready e b = refl
+  map_joins (MF.Hamt p) value ps ds ready e b = refl
 
   struct_joins : (form : StructForm) (fs : List Field) (os : Optionals) (ds : List (Option Data)) → FormReady form fs ds → represented_fields (whole h) rows fs os ≡ Some ds
       → struct_breaks form fs (represented_fields alone rows fs os) ≡ false → struct_breaks form fs (Some ds) ≡ false

@@ -6,7 +6,7 @@ use Rattle.std.proofs.lemmas.Bool.{and_parts, and_from, eqb-true, eq-eqb}
 use Rattle.std.proofs.lemmas.List.{length-drop}
 use Rattle.ild_data.specs.Data.{Data, list, link, Items, no_items, item, items_of, items_list}
 use Rattle.ild_data.specs.Spell.{cid_of}
-use Rattle.ild_data.specs.TrieShape.{TrieShape}
+use Rattle.ild_data.specs.declared.hamt_shape.HamtShape.{HamtShape}
 use Rattle.ild_data.specs.ByteOrder.{bytewise}
 use Rattle.ild_data.specs.Trie.{TrieSlot, empty, bucket, child, is_used, entry_data, elements_of}
 use Rattle.ild_hamt_trie.proofs.Parts.{same_key, key_itself}
@@ -31,7 +31,7 @@ id-read id long = ap (λ b. cond b (Some id) None) (link-read id long)
 
 -- ---- one element
 
-pub record SlotOf (p : TrieShape) (t : Data) : Type 0 where
+pub record SlotOf (p : HamtShape) (t : Data) : Type 0 where
   pub slot : TrieSlot
   pub is : elements_of slot ≡ t ∷ []
   pub form : IsSlot p slot
@@ -42,7 +42,7 @@ bytes-drop zero b all = all
 bytes-drop (suc n) [] all = tt
 bytes-drop (suc n) (x ∷ b) all = bytes-drop n b all.1
 
-pub element-taken : (p : TrieShape) (t : Data) → IsTree t → element_fits p.bucket t ≡ true → SlotOf p t
+pub element-taken : (p : HamtShape) (t : Data) → IsTree t → element_fits p.bucket t ≡ true → SlotOf p t
 element-taken p (link s) tree is =
     let parts = block-link s is in
     record { slot = child (drop 4 s); is = ap (λ c. link c ∷ []) (sym parts.0); form = (parts.1, bytes-drop 4 s tree.1); used = refl }
@@ -53,13 +53,13 @@ element-taken p t tree is = absurd cc
 
 -- ---- all of them
 
-pub record SlotsOf (p : TrieShape) (bits : List Bool) (ds : Items) : Type 0 where
+pub record SlotsOf (p : HamtShape) (bits : List Bool) (ds : Items) : Type 0 where
   pub slots : List TrieSlot
   pub used : map is_used slots ≡ bits
   pub elements : flat_map elements_of slots ≡ items_list ds
   pub each : AllByRecursion (IsSlot p) slots
 
-pub elements-taken : (p : TrieShape) (bits : List Bool) (ds : Items) → AreTrees ds → elements_fit p.bucket bits ds ≡ true → SlotsOf p bits ds
+pub elements-taken : (p : HamtShape) (bits : List Bool) (ds : Items) → AreTrees ds → elements_fit p.bucket bits ds ≡ true → SlotsOf p bits ds
 elements-taken p [] no_items trees is = record { slots = []; used = refl; elements = refl; each = tt }
 elements-taken p [] (item d ds) trees is = absurd cc
 elements-taken p (false ∷ bits) ds trees is =
@@ -77,7 +77,7 @@ elements-taken p (true ∷ bits) (item d ds) trees is =
       each = (first.form, rest.each);
     }
 
-pub elements-read : (p : TrieShape) (slots : List TrieSlot) → AllByRecursion (IsSlot p) slots → elements_fit p.bucket (map is_used slots) (items_of (flat_map elements_of slots)) ≡ true
+pub elements-read : (p : HamtShape) (slots : List TrieSlot) → AllByRecursion (IsSlot p) slots → elements_fit p.bucket (map is_used slots) (items_of (flat_map elements_of slots)) ≡ true
 elements-read p [] each = refl
 elements-read p (empty ∷ slots) each = elements-read p slots each.1
 elements-read p (bucket es ∷ slots) each =

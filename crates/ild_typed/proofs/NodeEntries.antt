@@ -13,7 +13,7 @@ use Rattle.std.proofs.lemmas.List.{length-map}
 use Rattle.std.proofs.lemmas.Str.{is_utf8-from_IsUtf8, IsUtf8-from_is_utf8}
 use Rattle.ild_data.specs.Data.{Data, bytes, list, Items, no_items, item, items_of, items_list}
 use Rattle.ild_data.proofs.Lists.{items_by_list, length-items}
-use Rattle.ild_data.specs.TrieShape.{TrieShape}
+use Rattle.ild_data.specs.declared.hamt_shape.HamtShape.{HamtShape}
 use Rattle.ild_data.specs.ByteOrder.{bytewise}
 use Rattle.ild_data.specs.Trie.{entry_data}
 use Rattle.ild_hamt_trie.proofs.Parts.{total}
@@ -137,12 +137,12 @@ entries-read (e ∷ es) last above order texts =
 
 -- ---- buckets
 
-pub record BucketOf (p : TrieShape) (t : Data) : Type 0 where
+pub record BucketOf (p : HamtShape) (t : Data) : Type 0 where
   pub es : List (List ℕ × Data)
   pub is : t ≡ list (items_of (map entry_data es))
   pub form : IsSlot p (bucket es)
 
-bucket_of : (p : TrieShape) (ds : Items) → nat_lt 0 (length (items_list ds)) ≡ true → nat_le (length (items_list ds)) p.bucket ≡ true → EntriesOf ds None → BucketOf p (list ds)
+bucket_of : (p : HamtShape) (ds : Items) → nat_lt 0 (length (items_list ds)) ≡ true → nat_le (length (items_list ds)) p.bucket ≡ true → EntriesOf ds None → BucketOf p (list ds)
 bucket_of p ds some few of =
     let long : length (items_list ds) ≡ length of.es = ap length of.is ∙ length-map of.es entry_data in
     record {
@@ -151,14 +151,14 @@ bucket_of p ds some few of =
       form = (T_of _ of.order, omega (arith, ltb-true 0 (length (items_list ds)) some), omega (arith, leb-true (length (items_list ds)) p.bucket few), of.texts);
     }
 
-pub bucket-taken : (p : TrieShape) (t : Data) → bucket_fits p.bucket t ≡ true → BucketOf p t
+pub bucket-taken : (p : HamtShape) (t : Data) → bucket_fits p.bucket t ≡ true → BucketOf p t
 bucket-taken p (list ds) is =
     let count = and_parts (nat_lt 0 (length (items_list ds)) && nat_le (length (items_list ds)) p.bucket) (are_entries ds None) is in
     let bounds = and_parts (nat_lt 0 (length (items_list ds))) (nat_le (length (items_list ds)) p.bucket) count.0 in
     bucket_of p ds bounds.0 bounds.1 (entries-taken ds None count.1)
 bucket-taken p t is = absurd cc
 
-pub bucket-read : (p : TrieShape) (es : List (List ℕ × Data)) → IsSlot p (bucket es) → bucket_fits p.bucket (list (items_of (map entry_data es))) ≡ true
+pub bucket-read : (p : HamtShape) (es : List (List ℕ × Data)) → IsSlot p (bucket es) → bucket_fits p.bucket (list (items_of (map entry_data es))) ≡ true
 bucket-read p es is =
     let long : length (items_list (items_of (map entry_data es))) ≡ length es = length-items (map entry_data es) ∙ length-map es entry_data in
     and_from _ _

@@ -23,7 +23,7 @@ use Rattle.ild_schema.specs.declared.def.KindWord.TheVariants as K
 use Rattle.ild_schema.specs.declared.def.Field.{Field}
 use Rattle.ild_schema.specs.declared.def.Member.{Member}
 use Rattle.ild_schema.specs.declared.def.EnumMember.{EnumMember}
-use Rattle.ild_data.specs.TrieShape.{TrieShape}
+use Rattle.ild_data.specs.declared.hamt_shape.HamtShape.{HamtShape}
 use Rattle.ild_typed.specs.Layer.{Layer, as_boolean, as_integer, as_text, as_bytes, as_link, as_any, as_unit, as_enum, as_list, as_map, as_struct, as_union, as_hamt}
 use Rattle.ild_typed.specs.Texts.{join, join_pairs}
 use Rattle.ild_typed.specs.Fields.{field_entries, tuple_items, all_items}
@@ -33,7 +33,7 @@ use Rattle.ild_schema.specs.DataKinds.{same_kind, has_kind, unit_kind, map_kind,
 use Rattle.ild_schema.specs.Marks.{text_of as mark_text, kind_of as mark_kind}
 use Rattle.ild_schema.specs.Hex.{bytes_of_hex}
 use Rattle.ild_schema.specs.Decimal.{decimal_of}
-use Rattle.ild_typed.specs.Composed.{Hamts, usual, any_data, unit_data, map_form, struct_form, inlined, marked_form, member_form, union_form, enum_form, composed}
+use Rattle.ild_typed.specs.Composed.{Hamts, any_data, unit_data, map_form, struct_form, inlined, marked_form, member_form, union_form, enum_form, composed}
 use Rattle.ild_typed.specs.Hamt.{a_map, alone}
 use Rattle.ild_typed.proofs.Basics.{then_from, map_from, true_from}
 
@@ -88,11 +88,11 @@ unit_kinds U.True = refl
 unit_kinds U.False = refl
 unit_kinds U.EmptyMap = refl
 
-map_kinds : (at : Hamts) → ((p : TrieShape) (l : Layer Data) (t : Data) → at p l ≡ Some t → kind_of t ≡ K.Map) → (form : MapForm) (l : Layer Data) (t : Data) → map_form at form l ≡ Some t → kind_of t ≡ map_kind form
+map_kinds : (at : Hamts) → ((p : HamtShape) (l : Layer Data) (t : Data) → at p l ≡ Some t → kind_of t ≡ K.Map) → (form : MapForm) (l : Layer Data) (t : Data) → map_form at form l ≡ Some t → kind_of t ≡ map_kind form
 map_kinds at hamts MF.Map l t e = made map_data (as_map l) K.Map t (λ ps. refl) e
 map_kinds at hamts MF.ListPairs l t e = made listpairs (as_map l) K.List t (λ ps. refl) e
 map_kinds at hamts (MF.StringPairs inner entry) l t e = then_made (stringpairs inner entry) (as_map l) K.Text t (λ ps h. stringpairs_kind inner entry ps t h) e
-map_kinds at hamts MF.Hamt l t e = hamts usual l t e
+map_kinds at hamts (MF.Hamt p) l t e = hamts p l t e
 
 struct_kinds : (form : StructForm) (fs : List Field) (os : List (Option Data)) (t : Data) → struct_form form fs os ≡ Some t → kind_of t ≡ struct_kind form
 struct_kinds S.Map fs os t e = made (λ es. map_data (in_key_order es)) (field_entries fs os) K.Map t (λ es. refl) e
@@ -141,7 +141,7 @@ enum_kinds E.Text m t e = some_made (T.text (unwrap_or m.text m.name)) K.Text t 
 enum_kinds E.Int m t e = made T.integer (option_and_then decimal_of m.text) K.Int t (λ n. refl) e
 
 -- data of a layer are of a kind of the type
-pub composed_kind : (at : Hamts) → ((p : TrieShape) (l : Layer Data) (t : Data) → at p l ≡ Some t → kind_of t ≡ K.Map) → (d : TypeDef) (l : Layer Data) (t : Data)
+pub composed_kind : (at : Hamts) → ((p : HamtShape) (l : Layer Data) (t : Data) → at p l ≡ Some t → kind_of t ≡ K.Map) → (d : TypeDef) (l : Layer Data) (t : Data)
     → composed at d l ≡ Some t → has_kind d (kind_of t) ≡ true
 composed_kind at hamts D.Bool l t e = is_kind K.Bool t (made T.boolean (as_boolean l) K.Bool t (λ b. refl) e)
 composed_kind at hamts D.Text l t e = is_kind K.Text t (made T.text (as_text l) K.Text t (λ b. refl) e)
@@ -164,7 +164,7 @@ a_map_kind : (d t : Data) → a_map d ≡ Some t → kind_of t ≡ K.Map
 a_map_kind (T.map ms) t e = some_made (T.map ms) K.Map t refl e
 a_map_kind d t e = absurd (none-some t e)
 
-pub alone_kind : (p : TrieShape) (l : Layer Data) (t : Data) → alone p l ≡ Some t → kind_of t ≡ K.Map
+pub alone_kind : (p : HamtShape) (l : Layer Data) (t : Data) → alone p l ≡ Some t → kind_of t ≡ K.Map
 alone_kind p l t e = then_made a_map (as_hamt l) K.Map t (λ d h. a_map_kind d t h) e
 
 -- null is the data of no layer of a type without the kind null

@@ -5,6 +5,7 @@ use Rattle.std.specs.List.{AllByRecursion}
 use Rattle.std.proofs.lemmas.Option.{none-some}
 use Rattle.ild_data.specs.Data as T
 use Rattle.ild_data.specs.Data.{Data}
+use Rattle.ild_data.specs.declared.hamt_shape.HamtShape.{HamtShape}
 use Rattle.ild_schema.specs.declared.number.Slot.{Slot}
 use Rattle.ild_schema.specs.declared.number.TypeNo.{TypeNo}
 use Rattle.ild_schema.specs.declared.def.TypeDef.{TypeDef}
@@ -129,8 +130,8 @@ module _ (rows : List Row) where
       let b = shows_room value e.1 f in
       (a.0 + b.0, (shows_more a.0 (a.0 + b.0) (left_room a.0 b.0) (plainly key) (T.text e.0) a.1, shows_more b.0 (a.0 + b.0) (right_room a.0 b.0) value e.1 b.1))
 
-  root_room : (key : TypeNo) (value : Slot) (d : Data) → RootFits (OfType rows) rows key value d → (r : ℕ) × RootFits (Fits rows r) rows key value d
-  root_room key value d (slots, root, all) =
+  root_room : (p : HamtShape) (key : TypeNo) (value : Slot) (d : Data) → RootFits (OfType rows) rows p key value d → (r : ℕ) × RootFits (Fits rows r) rows p key value d
+  root_room p key value d (slots, root, all) =
       let a = all_room (HeldFits key value) (held_more key value) (N.entries_in slots)
       (all_more (λ e. Shows (OfType rows) rows (plainly key) (T.text e.0) × Shows (OfType rows) rows value e.1) (λ e. (r : ℕ) × HeldFits key value r e) (held_room key value) (N.entries_in slots) all) in
       (a.0, (slots, root, a.1))
@@ -144,8 +145,8 @@ module _ (rows : List Row) where
   map_room key value MF.Map l h = plain_room key value MF.Map l h
   map_room key value MF.ListPairs l h = plain_room key value MF.ListPairs l h
   map_room key value (MF.StringPairs inner entry) l h = plain_room key value (MF.StringPairs inner entry) l h
-  map_room key value MF.Hamt l (inl h) = let a = plain_room key value MF.Hamt l h in (a.0, inl a.1)
-  map_room key value MF.Hamt l (inr h) = let a = some_room (RootFits (OfType rows) rows key value) (λ r. RootFits (Fits rows r) rows key value) (root_room key value) (as_hamt l) h in (a.0, inr a.1)
+  map_room key value (MF.Hamt p) l (inl h) = let a = plain_room key value (MF.Hamt p) l h in (a.0, inl a.1)
+  map_room key value (MF.Hamt p) l (inr h) = let a = some_room (RootFits (OfType rows) rows p key value) (λ r. RootFits (Fits rows r) rows p key value) (root_room p key value) (as_hamt l) h in (a.0, inr a.1)
 
   fields_more : (m n : ℕ) → m ≤ n → (fs : List Field) (os : List (Option Value)) → FieldsFit (Fits rows m) fs os → FieldsFit (Fits rows n) fs os
   fields_more m n le [] [] h = tt

@@ -14,7 +14,7 @@ use Rattle.ild_schema.specs.declared.row.Row.{Row}
 use Rattle.ild_schema.specs.Copies.{base}
 use Rattle.ild_schema.specs.Value as V
 use Rattle.ild_schema.specs.Value.{Value, Values, Pairs, Optionals}
-use Rattle.ild_data.specs.TrieShape.{TrieShape}
+use Rattle.ild_data.specs.declared.hamt_shape.HamtShape.{HamtShape}
 use Rattle.ild_typed.specs.Layer as L
 use Rattle.ild_typed.specs.Layer.{Layer, as_list, as_map, as_struct, as_union}
 use Rattle.ild_typed.specs.Strings.{cons_both}
@@ -171,8 +171,8 @@ unsafe rows s safe nullable d is null =
     let h : false ≡ true = sym (safe nullable) ∙ ap (λ o. kind_in o K.Null) is ∙ null in absurd cc
 
 pub record IsExact (at : Hamts) : Type 0 where
-  pub tells : (p : TrieShape) → Tells (at p)
-  pub kind : (p : TrieShape) (l : Layer Data) (t : Data) → at p l ≡ Some t → kind_of t ≡ K.Map
+  pub tells : (p : HamtShape) → Tells (at p)
+  pub kind : (p : HamtShape) (l : Layer Data) (t : Data) → at p l ≡ Some t → kind_of t ≡ K.Map
 
 pub alone_exact : IsExact alone
 alone_exact = record { tells = alone_tells; kind = alone_kind }

@@ -14,13 +14,13 @@ use Rattle.ild_schema.specs.declared.row.Row.{Row}
 use Rattle.ild_schema.specs.Copies.{base}
 use Rattle.ild_schema.specs.Value as V
 use Rattle.ild_schema.specs.Value.{Value, Values, Pairs, Optionals}
-use Rattle.ild_data.specs.TrieShape.{TrieShape}
+use Rattle.ild_data.specs.declared.hamt_shape.HamtShape.{HamtShape}
 use Rattle.ild_typed.specs.Layer as L
 use Rattle.ild_typed.specs.Layer.{Layer, as_list, as_map, as_struct, as_union}
 use Rattle.ild_typed.specs.Strings.{cons_both}
 use Rattle.ild_schema.specs.Slots.{form_of}
 use Rattle.ild_typed.specs.Slots.{element_of, fields_of, member_of}
-use Rattle.ild_typed.specs.Composed.{Hamts, composed, usual, map_form}
+use Rattle.ild_typed.specs.Composed.{Hamts, composed, map_form}
 use Rattle.ild_typed.specs.Hamt.{alone}
 use Rattle.ild_typed.specs.Kinds.{kind_of}
 use Rattle.ild_typed.specs.Represented.{represented, represented_values, represented_pairs, represented_fields}
@@ -36,27 +36,27 @@ use Rattle.ild_schema.specs.declared.def.MapForm.{MapForm}
 use Rattle.ild_schema.specs.declared.def.MapForm.TheVariants as MF
 use Rattle.ild_typed.proofs.OneValue.{layer_data, Way, as_null, as_layer, way_of, list_in, map_in, struct_in, union_in, list_value, map_value, struct_value, union_value, Alike, both_null, one_layer, unsafe, scalar_of, scalar_value, plain_safe, element_safe, fields_safe, member_plain, safe_parts}
 
-form_other : (ok : List (List ℕ × Data) → Type 0) (form : MapForm) (l : Layer Data) → as_map l ≡ None → FormOk ok form l
-form_other ok MF.Hamt (L.map es) e = absurd (none-some es (sym e))
+form_other : (ok : HamtShape → List (List ℕ × Data) → Type 0) (form : MapForm) (l : Layer Data) → as_map l ≡ None → FormOk ok form l
+form_other ok (MF.Hamt p) (L.map es) e = absurd (none-some es (sym e))
 form_other ok form l e = tt
 
-layer_other : (ok : List (List ℕ × Data) → Type 0) (d : TypeDef) (l : Layer Data) → as_map l ≡ None → LayerOk ok d l
+layer_other : (ok : HamtShape → List (List ℕ × Data) → Type 0) (d : TypeDef) (l : Layer Data) → as_map l ≡ None → LayerOk ok d l
 layer_other ok (D.Map key key_at value place form) l e = form_other ok form l e
 layer_other ok d l e = tt
 
 -- what stands for a HAMT tells its layer, where what is asked of the entries holds
-pub record IsExactFor (at : Hamts) (ok : List (List ℕ × Data) → Type 0) : Type 0 where
-  pub tells : (l m : Layer Data) (t : Data) → FormOk ok MF.Hamt l → FormOk ok MF.Hamt m → at usual l ≡ Some t → at usual m ≡ Some t → l ≡ m
-  pub kind : (p : TrieShape) (l : Layer Data) (t : Data) → at p l ≡ Some t → kind_of t ≡ K.Map
+pub record IsExactFor (at : Hamts) (ok : HamtShape → List (List ℕ × Data) → Type 0) : Type 0 where
+  pub tells : (p : HamtShape) (l m : Layer Data) (t : Data) → FormOk ok (MF.Hamt p) l → FormOk ok (MF.Hamt p) m → at p l ≡ Some t → at p m ≡ Some t → l ≡ m
+  pub kind : (p : HamtShape) (l : Layer Data) (t : Data) → at p l ≡ Some t → kind_of t ≡ K.Map
 
-form_tells : (at : Hamts) (ok : List (List ℕ × Data) → Type 0) → IsExactFor at ok → (form : MapForm) → ClearMap form → (l m : Layer Data) (t : Data) → FormOk ok form l → FormOk ok form m
+form_tells : (at : Hamts) (ok : HamtShape → List (List ℕ × Data) → Type 0) → IsExactFor at ok → (form : MapForm) → ClearMap form → (l m : Layer Data) (t : Data) → FormOk ok form l → FormOk ok form m
     → map_form at form l ≡ Some t → map_form at form m ≡ Some t → l ≡ m
 form_tells at ok exact MF.Map clear l m t a b e k = map_form_tells alone alone_tells MF.Map clear l m t e k
 form_tells at ok exact MF.ListPairs clear l m t a b e k = map_form_tells alone alone_tells MF.ListPairs clear l m t e k
 form_tells at ok exact (MF.StringPairs inner entry) clear l m t a b e k = map_form_tells alone alone_tells (MF.StringPairs inner entry) clear l m t e k
-form_tells at ok exact MF.Hamt clear l m t a b e k = exact.tells l m t a b e k
+form_tells at ok exact (MF.Hamt p) clear l m t a b e k = exact.tells p l m t a b e k
 
-layer_tells : (at : Hamts) (ok : List (List ℕ × Data) → Type 0) → IsExactFor at ok → (d : TypeDef) → ClearType d → (l m : Layer Data) (t : Data) → LayerOk ok d l → LayerOk ok d m
+layer_tells : (at : Hamts) (ok : HamtShape → List (List ℕ × Data) → Type 0) → IsExactFor at ok → (d : TypeDef) → ClearType d → (l m : Layer Data) (t : Data) → LayerOk ok d l → LayerOk ok d m
     → composed at d l ≡ Some t → composed at d m ≡ Some t → l ≡ m
 layer_tells at ok exact (D.Map key key_at value place form) clear l m t a b e k = form_tells at ok exact form clear l m t a b e k
 layer_tells at ok exact D.Bool clear l m t a b e k = composed_tells alone alone_tells D.Bool clear l m t e k
@@ -72,7 +72,7 @@ layer_tells at ok exact (D.Union u) clear l m t a b e k = composed_tells alone a
 layer_tells at ok exact (D.Enum en) clear l m t a b e k = composed_tells alone alone_tells (D.Enum en) clear l m t e k
 layer_tells at ok exact (D.Copy target) clear l m t a b e k = composed_tells alone alone_tells (D.Copy target) clear l m t e k
 
-module _ (at : Hamts) (ok : List (List ℕ × Data) → Type 0) (exact : IsExactFor at ok) (rows : List Row) (clear : IsClear rows) where
+module _ (at : Hamts) (ok : HamtShape → List (List ℕ × Data) → Type 0) (exact : IsExactFor at ok) (rows : List Row) (clear : IsClear rows) where
   abbrev Good : Slot → Value → Type 0
   Good s v = G.Good at ok rows s v
 

@@ -13,6 +13,7 @@ use Rattle.ild_data.specs.Tree.{IsTree}
 use Rattle.ild_data.specs.Trie as Trie
 use Rattle.ild_data.specs.Trie.{map_of, entry_data, elements_of, node_data}
 use Rattle.ild_data.proofs.Rising.{rises_list}
+use Rattle.ild_data.specs.declared.hamt_shape.HamtShape.{HamtShape}
 use Rattle.ild_schema.specs.declared.number.Slot.{Slot}
 use Rattle.ild_schema.specs.declared.number.TypeNo.{TypeNo}
 use Rattle.ild_schema.specs.declared.def.TypeDef.{TypeDef}
@@ -37,7 +38,7 @@ use Rattle.ild_typed.specs.Slots.{slot_of}
 use Rattle.ild_typed.specs.Texts.{join, join_pairs}
 use Rattle.ild_typed.specs.Fields.{is_implicit, field_entries, are_absent, tuple_items, all_items}
 use Rattle.ild_typed.specs.Strings.{text_in, bytes_in, members_in, texts_in, text_pairs, in_key_order, map_data, pair_data, listpairs, stringpairs, stringjoin}
-use Rattle.ild_typed.specs.Composed.{usual, composed, map_form, struct_form, inlined, marked_form, member_form, union_form}
+use Rattle.ild_typed.specs.Composed.{composed, map_form, struct_form, inlined, marked_form, member_form, union_form}
 use Rattle.ild_typed.specs.Hamt.{alone, root_map}
 use Rattle.ild_typed.specs.Spots.{Step, Spot, item, key, under, value_spot, key_spot, element_spots, entry_spots, field_steps, field_spots, member_steps, member_spots, spots_of}
 use Rattle.ild_typed.specs.RootSpots.{in_node, bucket_spots, root_spots}
@@ -114,7 +115,7 @@ map_reached MF.Map k s es t made tree =
 map_reached MF.ListPairs k s es t made tree =
     subst (λ u. All u (entry_spots MF.ListPairs k s 0 es)) (same_Some (listpairs es) t made) (pairs_reached k s (map pair_data es) 0 es (from_start (map pair_data es)))
 map_reached (MF.StringPairs inner entry) k s es t made tree = inside_reached inner entry k s t 0 es (stringpairs_bare inner entry es t made)
-map_reached MF.Hamt k s es t made tree = absurd (none-some t made)
+map_reached (MF.Hamt p) k s es t made tree = absurd (none-some t made)
 
 -- ---- fields
 
@@ -359,15 +360,15 @@ member_reached s (UF.Inline k) d t m keys e = let y = then_from (marked_form (UF
 
 -- ---- the entries in the block of a HAMT's root
 
-module _ (k : TypeNo) (s : Slot) (slots : List Trie.TrieSlot) where
+module _ (shape : HamtShape) (k : TypeNo) (s : Slot) (slots : List Trie.TrieSlot) where
   abbrev Root : Data
-  Root = root_map usual (node_data slots)
+  Root = root_map shape (node_data slots)
 
   -- from the root map to an element of its node
   to_element : (n : ℕ) (e : Data) (way : List Step) → slice_get (flat_map elements_of slots) n ≡ Some e → Leads way e → Leads (under (codes "hamt") ∷ item 1 ∷ item n ∷ way) Root
   to_element n e way h l =
       let elements : Data = T.list (T.items_of (flat_map elements_of slots)) in
-      to_value ((codes "hamt", node_data slots) ∷ (codes "hashAlg", T.integer (pos 18)) ∷ (codes "bucketSize", T.integer (pos 3)) ∷ []) (codes "hamt") (node_data slots) (item 1 ∷ item n ∷ way) refl
+      to_value ((codes "hamt", node_data slots) ∷ (codes "hashAlg", T.integer (pos 18)) ∷ (codes "bucketSize", T.integer (pos shape.bucket)) ∷ []) (codes "hamt") (node_data slots) (item 1 ∷ item n ∷ way) refl
       (to_item (T.bytes (map_of slots) ∷ elements ∷ []) 1 elements (item n ∷ way) refl (to_item (flat_map elements_of slots) n e way h l))
 
   bucket_reached : (n : ℕ) (whole : List Data) → slice_get (flat_map elements_of slots) n ≡ Some (T.list (T.items_of whole)) → (i : ℕ) (es : List (List ℕ × Data)) → StandFrom whole i (map entry_data es)
@@ -422,8 +423,8 @@ layer_reached (D.Map k key_at value at form) l t clear plain e tree = by l e whe
 layer_reached d l t clear plain e tree = tt
 
 pub parts_reached : (d : TypeDef) (t : Data) (ps : List Spot) → ClearType d → TuplePlain d → IsTree t → AreParts d t ps → All t ps
-parts_reached (D.Map k key_at value at MF.Hamt) t ps clear plain tree (slots, root, e) =
-    subst (All t) (sym e) (subst (λ u. All u (root_spots k value 0 slots)) (sym root.tree) (slots_reached k value slots 0 slots (from_start (flat_map elements_of slots))))
+parts_reached (D.Map k key_at value at (MF.Hamt p)) t ps clear plain tree (slots, root, e) =
+    subst (All t) (sym e) (subst (λ u. All u (root_spots k value 0 slots)) (sym root.tree) (slots_reached p k value slots 0 slots (from_start (flat_map elements_of slots))))
 parts_reached (D.Map k key_at value at MF.Map) t ps clear plain tree (l, made, e) = subst (All t) (sym e) (layer_reached (D.Map k key_at value at MF.Map) l t clear plain made tree)
 parts_reached (D.Map k key_at value at MF.ListPairs) t ps clear plain tree (l, made, e) = subst (All t) (sym e) (layer_reached (D.Map k key_at value at MF.ListPairs) l t clear plain made tree)
 parts_reached (D.Map k key_at value at (MF.StringPairs inner entry)) t ps clear plain tree (l, made, e) = subst (All t) (sym e) (layer_reached (D.Map k key_at value at (MF.StringPairs inner entry)) l t clear plain made tree)

@@ -14,6 +14,7 @@ use Rattle.ild_data.specs.Trie as Trie
 use Rattle.ild_data.specs.Trie.{entry_data, elements_of, node_data}
 use Rattle.ild_data.proofs.Lists.{members_list-members_of}
 use Rattle.ild_data.proofs.Rising.{rises_list, rises_without}
+use Rattle.ild_data.specs.declared.hamt_shape.HamtShape.{HamtShape}
 use Rattle.ild_schema.specs.declared.number.Slot.{Slot}
 use Rattle.ild_schema.specs.declared.number.TypeNo.{TypeNo}
 use Rattle.ild_schema.specs.declared.def.TypeDef.{TypeDef}
@@ -40,7 +41,7 @@ use Rattle.ild_typed.specs.Kinds.{kind_of}
 use Rattle.ild_typed.specs.Texts.{join, join_pairs}
 use Rattle.ild_typed.specs.Fields.{is_implicit, field_entries, are_absent, tuple_items, all_items}
 use Rattle.ild_typed.specs.Strings.{text_in, bytes_in, members_in, texts_in, text_pairs, in_key_order, map_data, pair_data, listpairs, stringpairs, stringjoin}
-use Rattle.ild_typed.specs.Composed.{usual, composed, map_form, struct_form, inlined, marked_form, member_form, union_form}
+use Rattle.ild_typed.specs.Composed.{composed, map_form, struct_form, inlined, marked_form, member_form, union_form}
 use Rattle.ild_typed.specs.Hamt.{alone, root_map}
 use Rattle.ild_typed.specs.Node.{IsSlot, IsRoot}
 use Rattle.ild_typed.specs.Spots.{Spot, value_spot, element_spots, entry_spots, field_steps, field_spots, member_spots, spots_of}
@@ -212,7 +213,7 @@ map_entries : (form : MapForm) (ps : List (List ℕ × Data)) (t : Data) → Cle
 map_entries MF.Map ps t clear delims u e tree = members_entries ps (subst IsTree (sym (same_Some (map_data ps) t e)) tree)
 map_entries MF.ListPairs ps t clear delims u e tree = pairs_entries ps (subst IsTree (sym (same_Some (listpairs ps) t e)) tree)
 map_entries (MF.StringPairs inner entry) ps t clear delims u e tree = stringpairs_entries inner entry ps t clear delims u.0 u.1 e tree
-map_entries MF.Hamt ps t clear delims u e tree = absurd (none-some t e)
+map_entries (MF.Hamt p) ps t clear delims u e tree = absurd (none-some t e)
 
 -- ---- members of unions
 
@@ -312,17 +313,17 @@ append_trees : (ps qs : List Spot) → AllTrees ps → AllTrees qs → AllTrees 
 append_trees [] qs a b = b
 append_trees (p ∷ ps) qs a b = (a.0, append_trees ps qs a.1 b)
 
-slots_trees : (key : TypeNo) (s : Slot) (n : ℕ) (slots : List Trie.TrieSlot) → AllByRecursion (IsSlot usual) slots → AllByRecursion IsTree (flat_map elements_of slots) → AllTrees (root_spots key s n slots)
-slots_trees key s n [] each all = tt
-slots_trees key s n (Trie.empty ∷ slots) each all = slots_trees key s n slots each.1 all
-slots_trees key s n (Trie.bucket es ∷ slots) each all =
-    append_trees (bucket_spots key s n 0 es) (root_spots key s (n + 1) slots) (bucket_trees key s n 0 es each.0.3 (bucket_values es all.0)) (slots_trees key s (n + 1) slots each.1 all.1)
-slots_trees key s n (Trie.child id ∷ slots) each all = slots_trees key s (n + 1) slots each.1 all.1
+slots_trees : (p : HamtShape) (key : TypeNo) (s : Slot) (n : ℕ) (slots : List Trie.TrieSlot) → AllByRecursion (IsSlot p) slots → AllByRecursion IsTree (flat_map elements_of slots) → AllTrees (root_spots key s n slots)
+slots_trees p key s n [] each all = tt
+slots_trees p key s n (Trie.empty ∷ slots) each all = slots_trees p key s n slots each.1 all
+slots_trees p key s n (Trie.bucket es ∷ slots) each all =
+    append_trees (bucket_spots key s n 0 es) (root_spots key s (n + 1) slots) (bucket_trees key s n 0 es each.0.3 (bucket_values es all.0)) (slots_trees p key s (n + 1) slots each.1 all.1)
+slots_trees p key s n (Trie.child id ∷ slots) each all = slots_trees p key s (n + 1) slots each.1 all.1
 
-hamt_trees : (key : TypeNo) (s : Slot) (slots : List Trie.TrieSlot) (t : Data) → IsRoot usual slots t → IsTree t → AllTrees (root_spots key s 0 slots)
-hamt_trees key s slots t root tree =
-    let whole : IsTree (root_map usual (node_data slots)) = subst IsTree root.tree tree in
-    slots_trees key s 0 slots root.each (items_trees (flat_map elements_of slots) whole.1.1.0)
+hamt_trees : (p : HamtShape) (key : TypeNo) (s : Slot) (slots : List Trie.TrieSlot) (t : Data) → IsRoot p slots t → IsTree t → AllTrees (root_spots key s 0 slots)
+hamt_trees p key s slots t root tree =
+    let whole : IsTree (root_map p (node_data slots)) = subst IsTree root.tree tree in
+    slots_trees p key s 0 slots root.each (items_trees (flat_map elements_of slots) whole.1.1.0)
 
 -- ---- all forms
 
@@ -348,7 +349,7 @@ layer_trees (D.Map key key_at value at form) l t clear delims u implicits e tree
 layer_trees d l t clear delims u implicits e tree = tt
 
 pub parts_trees : (d : TypeDef) (t : Data) (ps : List Spot) → ClearType d → Delims d → SpelledType d → ImplicitType d → IsTree t → AreParts d t ps → AllTrees ps
-parts_trees (D.Map key key_at value at MF.Hamt) t ps clear delims u implicits tree (slots, root, e) = subst AllTrees (sym e) (hamt_trees key value slots t root tree)
+parts_trees (D.Map key key_at value at (MF.Hamt p)) t ps clear delims u implicits tree (slots, root, e) = subst AllTrees (sym e) (hamt_trees p key value slots t root tree)
 parts_trees (D.Map key key_at value at MF.Map) t ps clear delims u implicits tree (l, made, e) = subst AllTrees (sym e) (layer_trees (D.Map key key_at value at MF.Map) l t clear delims u implicits made tree)
 parts_trees (D.Map key key_at value at MF.ListPairs) t ps clear delims u implicits tree (l, made, e) = subst AllTrees (sym e) (layer_trees (D.Map key key_at value at MF.ListPairs) l t clear delims u implicits made tree)
 parts_trees (D.Map key key_at value at (MF.StringPairs inner entry)) t ps clear delims u implicits tree (l, made, e) = subst AllTrees (sym e) (layer_trees (D.Map key key_at value at (MF.StringPairs inner entry)) l t clear delims u implicits made tree)

@@ -2,6 +2,7 @@
 use Rattle.std.specs.Prelude.{◌≡◌, ℕ, pos, Bool, true, false, List, [], ◌∷◌, ◌++◌, Some, None, codes, refl}
 use Rattle.ild_data.specs.Data as T
 use Rattle.ild_data.specs.Data.{Data}
+use Rattle.ild_data.specs.TrieShape.{usual}
 use Rattle.ild_schema.specs.declared.def.TypeDef.TheVariants as D
 use Rattle.ild_schema.specs.declared.def.MapForm.TheVariants as MF
 use Rattle.ild_schema.specs.declared.def.StructForm.TheVariants as S
@@ -26,7 +27,7 @@ rows =
     prelude
     ++ given [] (D.Struct (record { fields = field (codes "l") 9 false ∷ field (codes "m") 10 true ∷ []; form = S.Tuple }))
     ∷ given [] (D.List (plainly (number 3)) 0)
-    ∷ given [] (D.Map (number 7) 0 (plainly (number 3)) 0 MF.Hamt)
+    ∷ given [] (D.Map (number 7) 0 (plainly (number 3)) 0 (MF.Hamt usual))
     ∷ given [] (D.Union (record { members = record { name = codes "Int"; at = 0; ty = number 3; mark = M.Text (codes "i") } ∷ []; form = UF.Keyed }))
     ∷ []
 

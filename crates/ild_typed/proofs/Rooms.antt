@@ -4,6 +4,7 @@ use Rattle.std.specs.Prelude.{IsSomeAnd, slice_get, IsUtf8}
 use Rattle.std.specs.List.{AllByRecursion}
 use Rattle.ild_data.specs.Data as T
 use Rattle.ild_data.specs.Data.{Data}
+use Rattle.ild_data.specs.declared.hamt_shape.HamtShape.{HamtShape}
 use Rattle.ild_schema.specs.declared.number.Slot.{Slot}
 use Rattle.ild_schema.specs.declared.number.TypeNo.{TypeNo}
 use Rattle.ild_schema.specs.declared.def.TypeDef.{TypeDef}
@@ -47,8 +48,8 @@ module _ (rows : List Row) (P Q : Slot → Value → Type 0) (more : (s : Slot) 
         (λ p e. (e.0, shows_more (plainly key) (T.text p.0) e.1, more value p.1 e.2)) ps h.1,
   )
 
-  pub root_more : (key : TypeNo) (value : Slot) (d : Data) → RootFits P rows key value d → RootFits Q rows key value d
-  root_more key value d (slots, root, all) = (
+  pub root_more : (p : HamtShape) (key : TypeNo) (value : Slot) (d : Data) → RootFits P rows p key value d → RootFits Q rows p key value d
+  root_more p key value d (slots, root, all) = (
     slots,
     root,
     all_more (λ e. Shows P rows (plainly key) (T.text e.0) × Shows P rows value e.1) (λ e. Shows Q rows (plainly key) (T.text e.0) × Shows Q rows value e.1)
@@ -60,8 +61,8 @@ module _ (rows : List Row) (P Q : Slot → Value → Type 0) (more : (s : Slot) 
   map_more key value MF.ListPairs l h = some_more (EntriesFit P rows key value MF.ListPairs) (EntriesFit Q rows key value MF.ListPairs) (entries_more key value MF.ListPairs) (as_map l) h
   map_more key value (MF.StringPairs i e) l h =
       some_more (EntriesFit P rows key value (MF.StringPairs i e)) (EntriesFit Q rows key value (MF.StringPairs i e)) (entries_more key value (MF.StringPairs i e)) (as_map l) h
-  map_more key value MF.Hamt l (inl h) = inl (some_more (EntriesFit P rows key value MF.Hamt) (EntriesFit Q rows key value MF.Hamt) (entries_more key value MF.Hamt) (as_map l) h)
-  map_more key value MF.Hamt l (inr h) = inr (some_more (RootFits P rows key value) (RootFits Q rows key value) (root_more key value) (as_hamt l) h)
+  map_more key value (MF.Hamt p) l (inl h) = inl (some_more (EntriesFit P rows key value (MF.Hamt p)) (EntriesFit Q rows key value (MF.Hamt p)) (entries_more key value (MF.Hamt p)) (as_map l) h)
+  map_more key value (MF.Hamt p) l (inr h) = inr (some_more (RootFits P rows p key value) (RootFits Q rows p key value) (root_more p key value) (as_hamt l) h)
 
   pub layer_more : (d : TypeDef) (l : Layer Value) → LayerFits P rows d l → LayerFits Q rows d l
   layer_more D.Bool l h = h

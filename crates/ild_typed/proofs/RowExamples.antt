@@ -24,7 +24,7 @@ use Rattle.ild_schema.specs.Slots.{plainly}
 use Rattle.ild_schema.specs.Value as V
 use Rattle.ild_schema.specs.Value.{Value}
 use Rattle.ild_typed.specs.At.{at}
-use Rattle.ild_typed.specs.Composed.{usual}
+use Rattle.ild_data.specs.TrieShape.{usual}
 use Rattle.ild_typed.specs.Hamt.{whole, alone}
 use Rattle.ild_typed.specs.Judged.{has_hole, breaks_delimiter, exhausts}
 use Rattle.ild_typed.specs.Levels.{levels_of}
@@ -164,7 +164,7 @@ kind_of_another_member = refl
 levels_of_pairs : levels_of (map_of 3 MF.ListPairs) V.null ≡ 2
 levels_of_pairs = refl
 
-levels_of_a_hamt : levels_of (map_of 3 MF.Hamt) V.null ≡ 5
+levels_of_a_hamt : levels_of (map_of 3 (MF.Hamt usual)) V.null ≡ 5
 levels_of_a_hamt = refl
 
 levels_of_a_unit : levels_of (D.Unit U.Null) V.null ≡ 1
@@ -192,7 +192,7 @@ as_text name text = record { name = name; at = 0; text = Some text }
 abbrev club : List TypeDef
 club =
     struct_of (field (codes "name") 7 false ∷ field (codes "users") 9 false ∷ field (codes "motto") 7 true ∷ []) S.Map
-    ∷ map_of 10 MF.Hamt
+    ∷ map_of 10 (MF.Hamt usual)
     ∷ struct_of (
     field (codes "mail") 7 false
     ∷ field (codes "role") 11 false
@@ -261,7 +261,7 @@ club_without_users = refl
 -- ---- HAMTs
 
 abbrev hamt : List TypeDef
-hamt = map_of 3 MF.Hamt ∷ []
+hamt = map_of 3 (MF.Hamt usual) ∷ []
 
 abbrev same_letters : ℕ → List ℕ
 same_letters c = replicate 32 107 ++ c ∷ []

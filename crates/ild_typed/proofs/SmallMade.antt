@@ -20,7 +20,7 @@ use Rattle.ild_schema.specs.declared.row.Row.{Row}
 use Rattle.ild_schema.specs.Table.{def_at}
 use Rattle.ild_schema.specs.Prelude.{prelude, given, number}
 use Rattle.ild_schema.specs.Slots.{plainly}
-use Rattle.ild_typed.specs.Composed.{usual}
+use Rattle.ild_data.specs.TrieShape.{usual}
 use Rattle.ild_typed.specs.Hamt.{root_map}
 use Rattle.ild_data.specs.Trie.{bucket, node_data}
 use Rattle.ild_schema.specs.DataKinds.{same_kind}
@@ -59,7 +59,7 @@ inlined = D.Union (record { members = inlined_box ∷ []; form = UF.Inline (code
 
 -- {String:Int} representation advanced HAMT
 abbrev hamt : TypeDef
-hamt = D.Map (number 7) 0 (plainly (number 3)) 0 MF.Hamt
+hamt = D.Map (number 7) 0 (plainly (number 3)) 0 (MF.Hamt usual)
 
 abbrev rows : List Row
 rows = prelude ++ given (codes "Joined") joined ∷ given (codes "Kinded") kinded ∷ given (codes "Box") (D.Struct box_def) ∷ given (codes "Inlined") inlined ∷ given (codes "Many") hamt ∷ []

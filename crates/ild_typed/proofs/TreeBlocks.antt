@@ -16,13 +16,13 @@ use Rattle.ild_schema.specs.declared.def.Field.{Field}
 use Rattle.ild_schema.specs.declared.row.Row.{Row}
 use Rattle.ild_schema.specs.Value as V
 use Rattle.ild_schema.specs.Value.{Value, Values, Pairs, Optionals, values_list, pairs_list, optionals_list}
-use Rattle.ild_data.specs.TrieShape.{TrieShape, trie_levels}
+use Rattle.ild_data.specs.declared.hamt_shape.HamtShape.{HamtShape}
+use Rattle.ild_data.specs.TrieShape.{trie_levels}
 use Rattle.ild_data.specs.ByteOrder.{in_byte_order}
 use Rattle.ild_data.specs.Trie.{part, at_depth, node_of, trie}
 use Rattle.ild_data.specs.TrieBlocks.{nodes_beneath, node_and_beneath, none_or, block_of}
 use Rattle.ild_schema.specs.Slots.{form_of, plainly}
 use Rattle.ild_typed.specs.Slots.{slot_of, element_of, fields_of, member_at}
-use Rattle.ild_typed.specs.Composed.{usual}
 use Rattle.ild_typed.specs.Hamt.{whole}
 use Rattle.ild_typed.specs.Represented.{represented, represented_pairs}
 use Rattle.ild_typed.specs.Levels.{levels_of}
@@ -56,7 +56,7 @@ beneath_in : (n : ℕ) (b : Bool) (below : List (List ℕ × Data) → Option Da
 beneath_in n true below beneath es one more = tt
 beneath_in n false below beneath es one more = all_append (BlockIn n) (block_of (below es)) (beneath es) (block_in n (below es) one) more
 
-pub blocks_beneath : (n : ℕ) (h : List ℕ → List ℕ) (p : TrieShape) (left depth : ℕ) (es : List (List ℕ × Data)) → AllByRecursion (EntryIn n) es → AllByRecursion (BlockIn (n + 4)) (nodes_beneath h p left depth es)
+pub blocks_beneath : (n : ℕ) (h : List ℕ → List ℕ) (p : HamtShape) (left depth : ℕ) (es : List (List ℕ × Data)) → AllByRecursion (EntryIn n) es → AllByRecursion (BlockIn (n + 4)) (nodes_beneath h p left depth es)
 unfolding nodes_beneath
 blocks_beneath n h p zero depth es all = tt
 blocks_beneath n h p (suc left) depth es all =
@@ -102,16 +102,16 @@ module _ (h : List ℕ → List ℕ) (rows : List Row) (room : ℕ) (below : ℕ
   room_four : 5 ≤ room → (room - 5) + 4 ≤ room
   room_four le = omega (arith, le)
 
-  trie_blocks : (b : Bool) (es : List (List ℕ × Data)) → 5 ≤ room → AllByRecursion (EntryIn (room - 5)) es → AllByRecursion (BlockIn room) (cond b (nodes_beneath h usual (trie_levels usual) 0 (in_byte_order es)) [])
-  trie_blocks true es le all =
-      all_more (BlockIn ((room - 5) + 4)) (BlockIn room) (λ b x. block_more ((room - 5) + 4) room b (room_four le) x) (nodes_beneath h usual (trie_levels usual) 0 (in_byte_order es))
-      (blocks_beneath (room - 5) h usual (trie_levels usual) 0 (in_byte_order es) (sorted_in (room - 5) es all))
-  trie_blocks false es le all = tt
+  trie_blocks : (p : HamtShape) (b : Bool) (es : List (List ℕ × Data)) → 5 ≤ room → AllByRecursion (EntryIn (room - 5)) es → AllByRecursion (BlockIn room) (cond b (nodes_beneath h p (trie_levels p) 0 (in_byte_order es)) [])
+  trie_blocks p true es le all =
+      all_more (BlockIn ((room - 5) + 4)) (BlockIn room) (λ b x. block_more ((room - 5) + 4) room b (room_four le) x) (nodes_beneath h p (trie_levels p) 0 (in_byte_order es))
+      (blocks_beneath (room - 5) h p (trie_levels p) 0 (in_byte_order es) (sorted_in (room - 5) es all))
+  trie_blocks p false es le all = tt
 
   hamt_blocks : (d : TypeDef) (ps : Pairs) (o : Option (List (List ℕ × Data))) → levels_of d (V.map ps) ≤ room
       → ((es : List (List ℕ × Data)) → o ≡ Some es → AllByRecursion (EntryIn (room - suc (levels_of d (V.map ps) - 1))) es) → AllByRecursion (BlockIn room) (hamt_nodes h (Some d) o)
-  hamt_blocks (D.Map key key_at value place MF.Hamt) ps (Some es) le each = trie_blocks (is_some (trie h usual es 0)) es le (each es refl)
-  hamt_blocks (D.Map key key_at value place MF.Hamt) ps None le each = tt
+  hamt_blocks (D.Map key key_at value place (MF.Hamt p)) ps (Some es) le each = trie_blocks p (is_some (trie h p es 0)) es le (each es refl)
+  hamt_blocks (D.Map key key_at value place (MF.Hamt p)) ps None le each = tt
   hamt_blocks (D.Map key key_at value place MF.Map) ps o le each = tt
   hamt_blocks (D.Map key key_at value place MF.ListPairs) ps o le each = tt
   hamt_blocks (D.Map key key_at value place (MF.StringPairs i e)) ps o le each = tt

@@ -21,7 +21,8 @@ use Rattle.ild_schema.specs.declared.def.Field.{Field}
 use Rattle.ild_schema.specs.declared.row.Row.{Row}
 use Rattle.ild_schema.specs.Value as V
 use Rattle.ild_schema.specs.Value.{Value, Values, Pairs, Optionals, values_list, pairs_list, optionals_list}
-use Rattle.ild_data.specs.TrieShape.{TrieShape, trie_levels}
+use Rattle.ild_data.specs.declared.hamt_shape.HamtShape.{HamtShape}
+use Rattle.ild_data.specs.TrieShape.{trie_levels}
 use Rattle.ild_data.specs.ByteOrder.{in_byte_order}
 use Rattle.ild_data.specs.Trie.{part, at_depth, node_of, trie}
 use Rattle.ild_data.specs.TrieBlocks.{nodes_beneath, node_and_beneath, none_or, block_of}
@@ -30,7 +31,7 @@ use Rattle.ild_typed.specs.Layer as L
 use Rattle.ild_typed.specs.Layer.{Layer}
 use Rattle.ild_schema.specs.Slots.{form_of, plainly}
 use Rattle.ild_typed.specs.Slots.{slot_of, element_of, fields_of, member_of}
-use Rattle.ild_typed.specs.Composed.{usual, composed}
+use Rattle.ild_typed.specs.Composed.{composed}
 use Rattle.ild_typed.specs.Hamt.{root_map, whole}
 use Rattle.ild_typed.specs.Represented.{represented, represented_values, represented_pairs, represented_fields}
 use Rattle.ild_typed.specs.Levels.{levels_of}
@@ -91,7 +92,7 @@ module _ (P : List ℕ → Type 0) (K : Data → Type 0) (known : (d : Data) →
       let found : AllByRecursion P (spell d ∷ beneath es) = subst (λ o. AllByRecursion P (block_of o ++ beneath es)) has opened in
       (found.0, found.1)
 
-  known_beneath : (n : ℕ) (h : List ℕ → List ℕ) (p : TrieShape) (left depth : ℕ) (es : List (List ℕ × Data)) → AllByRecursion (EntryIn n) es → AllByRecursion P (nodes_beneath h p left depth es) → AreKnown h p K left depth es
+  known_beneath : (n : ℕ) (h : List ℕ → List ℕ) (p : HamtShape) (left depth : ℕ) (es : List (List ℕ × Data)) → AllByRecursion (EntryIn n) es → AllByRecursion P (nodes_beneath h p left depth es) → AreKnown h p K left depth es
   unfolding nodes_beneath AreKnown
   known_beneath n h p zero depth es trees all = tt
   known_beneath n h p (suc left) depth es trees all = λ i d big has.
@@ -143,18 +144,21 @@ module _ (P : List ℕ → Type 0) (K : Data → Type 0) (known : (d : Data) →
           let x = all_split P (nodes h rows g.slot v) (nodes_of_fields h rows fs os) all in
           (later g.slot v y.item f.0 y.there x.0, good_fields fs os b.items f.1 b.rest x.1)
 
+    all_left : (n : ℕ) → n ≡ n - 0
+    all_left n = omega arith
+
     -- entries with a trie
-    kept_trie : (n : ℕ) (es : List (List ℕ × Data)) (t : Data) → AllByRecursion (EntryIn n) es → Rises es → whole h usual (L.map es) ≡ Some t
-        → AllByRecursion P (cond (is_some (trie h usual es 0)) (nodes_beneath h usual (trie_levels usual) 0 (in_byte_order es)) []) → Kept h K es
-    kept_trie n es t trees up e all =
-        let x = map_from (root_map usual) (trie h usual es 0) t e in
-        let there : AllByRecursion P (nodes_beneath h usual (trie_levels usual) 0 (in_byte_order es))
-        = subst (λ o. AllByRecursion P (cond (is_some o) (nodes_beneath h usual (trie_levels usual) 0 (in_byte_order es)) [])) x.there all in
-        (up, known_beneath n h usual (trie_levels usual) 0 (in_byte_order es) (sorted_in n es trees) there)
+    kept_trie : (p : HamtShape) (n : ℕ) (es : List (List ℕ × Data)) (t : Data) → AllByRecursion (EntryIn n) es → Rises es → whole h p (L.map es) ≡ Some t
+        → AllByRecursion P (cond (is_some (trie h p es 0)) (nodes_beneath h p (trie_levels p) 0 (in_byte_order es)) []) → Kept h K p es
+    kept_trie p n es t trees up e all =
+        let x = map_from (root_map p) (trie h p es 0) t e in
+        let there : AllByRecursion P (nodes_beneath h p (trie_levels p) 0 (in_byte_order es))
+        = subst (λ o. AllByRecursion P (cond (is_some o) (nodes_beneath h p (trie_levels p) 0 (in_byte_order es)) [])) x.there all in
+        (up, subst (λ l. AreKnown h p K l 0 (in_byte_order es)) (all_left (trie_levels p)) (known_beneath n h p (trie_levels p) 0 (in_byte_order es) (sorted_in n es trees) there))
 
     kept_map : (n : ℕ) (d : TypeDef) (u : Slot) (ps : Pairs) (es : List (List ℕ × Data)) (t : Data) → KeysFit d (pairs_list ps) → represented_pairs (whole h) rows u ps ≡ Some es → AllByRecursion (EntryIn n) es
         → composed (whole h) d (L.map es) ≡ Some t → AllByRecursion P (hamt_nodes h (Some d) (Some es)) → LayerOk (Kept h K) d (L.map es)
-    kept_map n (D.Map key key_at value place MF.Hamt) u ps es t keys e trees made all = kept_trie n es t trees (rises_pairs (whole h) rows u ps es keys e) made all
+    kept_map n (D.Map key key_at value place (MF.Hamt p)) u ps es t keys e trees made all = kept_trie p n es t trees (rises_pairs (whole h) rows u ps es keys e) made all
     kept_map n (D.Map key key_at value place MF.Map) u ps es t keys e trees made all = tt
     kept_map n (D.Map key key_at value place MF.ListPairs) u ps es t keys e trees made all = tt
     kept_map n (D.Map key key_at value place (MF.StringPairs i k)) u ps es t keys e trees made all = tt

@@ -1,6 +1,6 @@
 -- The nodes of a HAMT are trees where the values of its entries are, and so is its root map: five levels above the values
 -- of the root block, and four in the block of a node beneath.
-use Rattle.std.proofs.Common.{◌≡◌, ℕ, zero, suc, ◌+◌, ◌-◌, ◌*◌, ◌^◌, ◌<◌, ◌≤◌, pos, codes, List, [], ◌∷◌, ◌++◌, length, map, take, drop, Bool, true, false, cond, Option, Some, None, IsUtf8, refl, sym, ap, subst, arith, pow-suc, pow_pos}
+use Rattle.std.proofs.Common.{◌≡◌, ℕ, zero, suc, ◌+◌, ◌-◌, ◌*◌, ◌^◌, ◌<◌, ◌≤◌, pos, codes, List, [], ◌∷◌, ◌++◌, length, map, take, drop, Bool, true, false, cond, Option, Some, None, IsUtf8, refl, sym, ap, subst, arith, le→leb, pow-suc, pow_pos}
 use Rattle.std.specs.Prelude.{nat_eq, ◌/◌}
 use Rattle.std.specs.List.{AllByRecursion, flat_map, filter, range_with_len}
 use Rattle.std.proofs.lemmas.Option.{same_Some, none-some}
@@ -12,14 +12,15 @@ use Rattle.std.specs.declared.cmp.Ordering.TheVariants.{Less, Equal, Greater}
 use Rattle.ild_data.specs.Data as T
 use Rattle.ild_data.specs.Data.{Data}
 use Rattle.ild_data.specs.Bytes.{AreBytes}
+use Rattle.ild_data.specs.Tree.{IsTree}
 use Rattle.ild_data.specs.Cid.{IsCid}
 use Rattle.ild_data.specs.Spell.{spell, cid_of}
-use Rattle.ild_data.specs.TrieShape.{TrieShape, trie_levels}
+use Rattle.ild_data.specs.declared.hamt_shape.HamtShape.{HamtShape}
+use Rattle.ild_data.specs.TrieShape.{trie_levels}
 use Rattle.ild_data.specs.ByteOrder.{in_byte_order, bytewise, no_key_twice}
 use Rattle.ild_data.specs.Trie.{TrieSlot, empty, bucket, child, is_used, bucket_entries, byte_of, map_of, entry_data, elements_of, node_data, part, slot_of, all_some, node_of, at_depth, slots_at, trie}
 use Rattle.ild_typed.specs.Layer as L
 use Rattle.ild_typed.specs.Layer.{Layer, as_map, as_hamt}
-use Rattle.ild_typed.specs.Composed.{usual}
 use Rattle.ild_typed.specs.Hamt.{root_map, whole}
 use Rattle.ild_typed.specs.Node.{IsSlot, IsRoot, entries_in}
 use Rattle.ild_typed.specs.Nested.{TreeIn}
@@ -100,24 +101,27 @@ bucket_text : IsUtf8 (codes "bucketSize")
 unfolding encode
 bucket_text = (codes "bucketSize", (refl, refl))
 
-pub root_in : (n : ℕ) (node : Data) → TreeIn (n + 4) node → TreeIn (n + 5) (root_map usual node)
-root_in n node x =
-    in_more (n + 4 + 1) (n + 5) (root_map usual node) (omega arith)
-    (map_in (n + 4) ((codes "hamt", node) ∷ (codes "hashAlg", T.integer (pos 18)) ∷ (codes "bucketSize", T.integer (pos 3)) ∷ []) (
+bucket_number : (p : HamtShape) → IsTree (T.integer (pos p.bucket))
+bucket_number p = (record { le = tt }, record { le = le→leb p.bucket (2 ^ 64 - 1) (omega (arith, p.small)) })
+
+pub root_in : (p : HamtShape) (n : ℕ) (node : Data) → TreeIn (n + 4) node → TreeIn (n + 5) (root_map p node)
+root_in p n node x =
+    in_more (n + 4 + 1) (n + 5) (root_map p node) (omega arith)
+    (map_in (n + 4) ((codes "hamt", node) ∷ (codes "hashAlg", T.integer (pos 18)) ∷ (codes "bucketSize", T.integer (pos p.bucket)) ∷ []) (
       (hamt_text, x),
       (
         (hash_text, record { tree = (record { le = tt }, record { le = tt }); nested = omega arith }),
-        ((bucket_text, record { tree = (record { le = tt }, record { le = tt }); nested = omega arith }), tt),
+        ((bucket_text, record { tree = bucket_number p; nested = omega arith }), tt),
       ),
     )
     (refl, (refl, (tt, tt))))
 
 -- ---- the slots of a front
 
-slot_in : (n : ℕ) (z : TrieSlot) → IsSlot usual z → AllByRecursion (λ e. TreeIn n e.1) (bucket_entries z) → SlotIn n z
-slot_in n empty is all = tt
-slot_in n (child id) is all = link_fits id is.0 is.1
-slot_in n (bucket es) is all = both es is.3 all where
+slot_in : (p : HamtShape) (n : ℕ) (z : TrieSlot) → IsSlot p z → AllByRecursion (λ e. TreeIn n e.1) (bucket_entries z) → SlotIn n z
+slot_in p n empty is all = tt
+slot_in p n (child id) is all = link_fits id is.0 is.1
+slot_in p n (bucket es) is all = both es is.3 all where
   both : (es : List (List ℕ × Data)) → AllByRecursion (λ e. IsUtf8 e.0) es → AllByRecursion (λ e. TreeIn n e.1) es → AllByRecursion (EntryIn n) es
   both [] a b = tt
   both (e ∷ es) a b = ((a.0, b.0), both es a.1 b.1)
@@ -126,15 +130,15 @@ pub all_split : {X : Type 0} (P : X → Type 0) (xs ys : List X) → AllByRecurs
 all_split P [] ys all = (tt, all)
 all_split P (x ∷ xs) ys all = let rest = all_split P xs ys all.1 in ((all.0, rest.0), rest.1)
 
-slots_in : (n : ℕ) (slots : List TrieSlot) → AllByRecursion (IsSlot usual) slots → AllByRecursion (λ e. TreeIn n e.1) (entries_in slots) → AllByRecursion (SlotIn n) slots
-slots_in n [] is all = tt
-slots_in n (z ∷ slots) is all =
+slots_in : (p : HamtShape) (n : ℕ) (slots : List TrieSlot) → AllByRecursion (IsSlot p) slots → AllByRecursion (λ e. TreeIn n e.1) (entries_in slots) → AllByRecursion (SlotIn n) slots
+slots_in p n [] is all = tt
+slots_in p n (z ∷ slots) is all =
     let x = all_split (λ e. TreeIn n e.1) (bucket_entries z) (entries_in slots) all in
-    (slot_in n z is.0 x.0, slots_in n slots is.1 x.1)
+    (slot_in p n z is.0 x.0, slots_in p n slots is.1 x.1)
 
 -- the root map of a front
-pub front_in : (n : ℕ) (slots : List TrieSlot) (d : Data) → IsRoot usual slots d → AllByRecursion (λ e. TreeIn n e.1) (entries_in slots) → TreeIn (n + 5) d
-front_in n slots d root all = subst (TreeIn (n + 5)) (sym root.tree) (root_in n (node_data slots) (node_in n slots (slots_in n slots root.each all)))
+pub front_in : (p : HamtShape) (n : ℕ) (slots : List TrieSlot) (d : Data) → IsRoot p slots d → AllByRecursion (λ e. TreeIn n e.1) (entries_in slots) → TreeIn (n + 5) d
+front_in p n slots d root all = subst (TreeIn (n + 5)) (sym root.tree) (root_in p n (node_data slots) (node_in n slots (slots_in p n slots root.each all)))
 
 -- ---- the trie of entries
 
@@ -173,7 +177,7 @@ all_slots n most at below es (i ∷ is) slots all e = by (slot_of most below (pa
       subst (AllByRecursion (SlotIn n)) (same_Some (z ∷ x.item) slots x.made)
       (way_in n most below (part at es i) z (part_in (EntryIn n) (λ e. nat_eq (at e.0) i) es all) (slot_way most below (part at es i) z h), later x.item x.there)
 
-pub node_of_in : (n : ℕ) (h : List ℕ → List ℕ) (p : TrieShape) (left depth : ℕ) (es : List (List ℕ × Data)) (d : Data) → AllByRecursion (EntryIn n) es → node_of h p left depth es ≡ Some d → TreeIn (n + 4) d
+pub node_of_in : (n : ℕ) (h : List ℕ → List ℕ) (p : HamtShape) (left depth : ℕ) (es : List (List ℕ × Data)) (d : Data) → AllByRecursion (EntryIn n) es → node_of h p left depth es ≡ Some d → TreeIn (n + 4) d
 unfolding node_of
 node_of_in n h p zero depth es d all e = absurd (none-some d e)
 node_of_in n h p (suc left) depth es d all e =
@@ -181,13 +185,13 @@ node_of_in n h p (suc left) depth es d all e =
     subst (TreeIn (n + 4)) (same_Some (node_data x.item) d x.made)
     (node_in n x.item (all_slots n p.bucket (at_depth h p depth) (node_of h p left (depth + 1)) es (range_with_len 0 (2 ^ p.width)) x.item all x.there))
 
-pub trie_node : (h : List ℕ → List ℕ) (p : TrieShape) (es : List (List ℕ × Data)) (d : Data) → trie h p es 0 ≡ Some d → node_of h p (trie_levels p - 0) 0 (in_byte_order es) ≡ Some d
+pub trie_node : (h : List ℕ → List ℕ) (p : HamtShape) (es : List (List ℕ × Data)) (d : Data) → trie h p es 0 ≡ Some d → node_of h p (trie_levels p - 0) 0 (in_byte_order es) ≡ Some d
 unfolding trie
 trie_node h p es d e = (if_from (no_key_twice es) (node_of h p (trie_levels p - 0) 0 (in_byte_order es)) d e).1
 
 -- the root map over a trie
-pub whole_in : (h : List ℕ → List ℕ) (n : ℕ) (es : List (List ℕ × Data)) (t : Data) → AllByRecursion (EntryIn n) es → whole h usual (L.map es) ≡ Some t → TreeIn (n + 5) t
-whole_in h n es t all e =
-    let x = map_from (root_map usual) (trie h usual es 0) t e in
-    subst (TreeIn (n + 5)) (same_Some (root_map usual x.item) t x.made)
-    (root_in n x.item (node_of_in n h usual (trie_levels usual - 0) 0 (in_byte_order es) x.item (sorted_in n es all) (trie_node h usual es x.item x.there)))
+pub whole_in : (h : List ℕ → List ℕ) (p : HamtShape) (n : ℕ) (es : List (List ℕ × Data)) (t : Data) → AllByRecursion (EntryIn n) es → whole h p (L.map es) ≡ Some t → TreeIn (n + 5) t
+whole_in h p n es t all e =
+    let x = map_from (root_map p) (trie h p es 0) t e in
+    subst (TreeIn (n + 5)) (same_Some (root_map p x.item) t x.made)
+    (root_in p n x.item (node_of_in n h p (trie_levels p - 0) 0 (in_byte_order es) x.item (sorted_in n es all) (trie_node h p es x.item x.there)))

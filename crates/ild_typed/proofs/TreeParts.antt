@@ -41,7 +41,7 @@ KeysFit (D.Map key key_at value place form) ps = AreKeys form ps
 KeysFit d ps = Unit {0}
 
 abbrev pub RootOf : (Slot → Value → Type 0) → List Row → TypeDef → Data → Type 0
-RootOf fits rows (D.Map key key_at value place MF.Hamt) x = RootFits fits rows key value x
+RootOf fits rows (D.Map key key_at value place (MF.Hamt p)) x = RootFits fits rows p key value x
 RootOf fits rows d x = ⊥
 
 module _ (fits : Slot → Value → Type 0) (rows : List Row) where
@@ -49,8 +49,8 @@ module _ (fits : Slot → Value → Type 0) (rows : List Row) where
   no_map key value MF.Map l a b h = subst (λ o. IsSomeAnd o (EntriesFit fits rows key value MF.Map)) a h
   no_map key value MF.ListPairs l a b h = subst (λ o. IsSomeAnd o (EntriesFit fits rows key value MF.ListPairs)) a h
   no_map key value (MF.StringPairs i e) l a b h = subst (λ o. IsSomeAnd o (EntriesFit fits rows key value (MF.StringPairs i e))) a h
-  no_map key value MF.Hamt l a b (inl h) = subst (λ o. IsSomeAnd o (EntriesFit fits rows key value MF.Hamt)) a h
-  no_map key value MF.Hamt l a b (inr h) = subst (λ o. IsSomeAnd o (RootFits fits rows key value)) b h
+  no_map key value (MF.Hamt p) l a b (inl h) = subst (λ o. IsSomeAnd o (EntriesFit fits rows key value (MF.Hamt p))) a h
+  no_map key value (MF.Hamt p) l a b (inr h) = subst (λ o. IsSomeAnd o (RootFits fits rows p key value)) b h
 
   -- the parts of a layer fit in the slots that the type has for them
   pub record ListFit (d : TypeDef) (xs : List Value) : Type 0 where
@@ -98,8 +98,8 @@ module _ (fits : Slot → Value → Type 0) (rows : List Row) where
   form_fits key value MF.Map ps h = (entries_fit key value ps h.1, h.0)
   form_fits key value MF.ListPairs ps h = (entries_fit key value ps h.1, h.0)
   form_fits key value (MF.StringPairs i e) ps h = (entries_fit key value ps h.1, h.0)
-  form_fits key value MF.Hamt ps (inl h) = (entries_fit key value ps h.1, h.0)
-  form_fits key value MF.Hamt ps (inr h) = absurd h
+  form_fits key value (MF.Hamt p) ps (inl h) = (entries_fit key value ps h.1, h.0)
+  form_fits key value (MF.Hamt p) ps (inr h) = absurd h
 
   pub map_fits : (d : TypeDef) (ps : List (List ℕ × Value)) → LayerFits fits rows d (L.map ps) → MapFit d ps
   map_fits (D.Map key key_at value place form) ps h =
@@ -107,8 +107,8 @@ module _ (fits : Slot → Value → Type 0) (rows : List Row) where
   map_fits d ps h = absurd h
 
   root_fits : (key : TypeNo) (key_at : ℕ) (value : Slot) (place : ℕ) (form : MapForm) (x : Data) → MapFits fits rows key value form (L.hamt x) → RootOf fits rows (D.Map key key_at value place form) x
-  root_fits key key_at value place MF.Hamt x (inl h) = absurd h
-  root_fits key key_at value place MF.Hamt x (inr h) = h
+  root_fits key key_at value place (MF.Hamt p) x (inl h) = absurd h
+  root_fits key key_at value place (MF.Hamt p) x (inr h) = h
   root_fits key key_at value place form x h = absurd h
 
   pub hamt_fits : (d : TypeDef) (x : Data) → LayerFits fits rows d (L.hamt x) → RootOf fits rows d x

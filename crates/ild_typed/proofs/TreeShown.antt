@@ -26,9 +26,10 @@ use Rattle.ild_typed.specs.Layer as L
 use Rattle.ild_schema.specs.Slots.{form_of}
 use Rattle.ild_typed.specs.Slots.{slot_of, element_of, fields_of, member_at, enum_member_at}
 use Rattle.ild_typed.specs.Strings.{map_data, in_key_order}
-use Rattle.ild_typed.specs.Composed.{usual, composed}
+use Rattle.ild_typed.specs.Composed.{composed}
 use Rattle.ild_typed.specs.Hamt.{alone, a_map, root_map}
 use Rattle.ild_data.specs.Trie.{node_data, TrieSlot as Slots}
+use Rattle.ild_data.specs.declared.hamt_shape.HamtShape.{HamtShape}
 use Rattle.ild_typed.specs.Represented.{layered, represented}
 use Rattle.ild_typed.specs.Levels.{map_levels, struct_levels, levels_of}
 use Rattle.ild_typed.specs.Fits.{FormFits, ValueFits, FitsPast, Fits}
@@ -61,7 +62,7 @@ module _ (fits : Slot → Value → Type 0) (rows : List Row) where
   form_level MF.Map = omega arith
   form_level MF.ListPairs = omega arith
   form_level (MF.StringPairs i e) = omega arith
-  form_level MF.Hamt = omega arith
+  form_level (MF.Hamt p) = omega arith
 
   pub map_level : (d : TypeDef) (v : Value) (ps : List (List ℕ × Value)) → LayerFits fits rows d (L.map ps) → 1 ≤ levels_of d v
   map_level (D.Map key key_at value place form) v ps f = form_level form
@@ -95,11 +96,11 @@ module _ (fits : Slot → Value → Type 0) (rows : List Row) where
   any_level d x f = absurd f
 
   -- the data of a front's HAMT are its root map
-  root_itself : (x : Data) (slots : List Slots) → x ≡ root_map usual (node_data slots) → a_map x ≡ Some x
-  root_itself x slots is = subst (λ y. a_map y ≡ Some y) (sym is) refl
+  root_itself : (p : HamtShape) (x : Data) (slots : List Slots) → x ≡ root_map p (node_data slots) → a_map x ≡ Some x
+  root_itself p x slots is = subst (λ y. a_map y ≡ Some y) (sym is) refl
 
   hamt_data : (d : TypeDef) (x : Data) → RootOf fits rows d x → composed alone d (L.hamt x) ≡ Some x
-  hamt_data (D.Map key key_at value place MF.Hamt) x (slots, root, all) = root_itself x slots root.tree
+  hamt_data (D.Map key key_at value place (MF.Hamt p)) x (slots, root, all) = root_itself p x slots root.tree
   hamt_data (D.Map key key_at value place MF.Map) x f = absurd f
   hamt_data (D.Map key key_at value place MF.ListPairs) x f = absurd f
   hamt_data (D.Map key key_at value place (MF.StringPairs i e)) x f = absurd f

@@ -8,6 +8,7 @@ use Rattle.ild_data.specs.Data as T
 use Rattle.ild_data.specs.Data.{Data, depth}
 use Rattle.ild_data.specs.Key.{Rises}
 use Rattle.ild_data.specs.Tree.{IsTree}
+use Rattle.ild_data.specs.declared.hamt_shape.HamtShape.{HamtShape}
 use Rattle.ild_schema.specs.declared.number.Slot.{Slot}
 use Rattle.ild_schema.specs.declared.number.TypeNo.{TypeNo}
 use Rattle.ild_schema.specs.declared.def.TypeDef.{TypeDef}
@@ -21,7 +22,7 @@ use Rattle.ild_typed.specs.Layer as L
 use Rattle.ild_typed.specs.Layer.{Layer, as_map, as_hamt, as_any}
 use Rattle.ild_schema.specs.Slots.{form_of, plainly}
 use Rattle.ild_typed.specs.Slots.{slot_of, element_of, fields_of, member_of}
-use Rattle.ild_typed.specs.Composed.{Hamts, usual}
+use Rattle.ild_typed.specs.Composed.{Hamts}
 use Rattle.ild_typed.specs.Hamt.{whole, alone, a_map}
 use Rattle.ild_typed.specs.Node.{entries_in}
 use Rattle.ild_typed.specs.Represented.{represented, represented_pairs, represented_fields}
@@ -77,11 +78,11 @@ form_fits rows room below at s d V.null l is e h = absurd (none-some l e)
 form_fits rows room below at s d v l is e h = subst (λ o. IsSomeAnd o (FormFits rows room below v)) is h
 
 module _ (at : Hamts) (rows : List Row) (spelled : IsSpelled rows)
-    (entries : (n : ℕ) (es : List (List ℕ × Data)) (t : Data) → AllByRecursion (EntryIn n) es → at usual (L.map es) ≡ Some t → TreeIn (n + 5) t) where
+    (entries : (p : HamtShape) (n : ℕ) (es : List (List ℕ × Data)) (t : Data) → AllByRecursion (EntryIn n) es → at p (L.map es) ≡ Some t → TreeIn (n + 5) t) where
   module _ (room : ℕ) (below : ℕ → Slot → Value → Type 0)
       (good : (o : ℕ) (s : Slot) (v : Value) (t : Data) → below o s v → represented at rows s v ≡ Some t → IsTree t × (suc (depth t + o) ≤ room))
       (front : (n : ℕ) → 5 ≤ room → ((s : Slot) (v : Value) (t : Data) → below 4 s v → represented at rows s v ≡ Some t → TreeIn n t)
-      → (key : TypeNo) (value : Slot) (x t : Data) → RootFits (below 4) rows key value x → at usual (L.hamt x) ≡ Some t → TreeIn (n + 5) t) where
+      → (p : HamtShape) (key : TypeNo) (value : Slot) (x t : Data) → RootFits (below 4) rows p key value x → at p (L.hamt x) ≡ Some t → TreeIn (n + 5) t) where
     good_part : (o : ℕ) (s : Slot) (v : Value) (t : Data) → below o s v → represented at rows s v ≡ Some t → TreeIn (room - suc o) t
     good_part o s v t b e = let g = good o s v t b e in record { tree = g.0; nested = omega (arith, g.1) }
 
@@ -94,13 +95,13 @@ module _ (at : Hamts) (rows : List Row) (spelled : IsSpelled rows)
 
     more_map : (n : ℕ) (d : TypeDef) (u : Slot) (ps : Pairs) (ds : List (List ℕ × Data)) → KeysFit d (pairs_list ps) → represented_pairs at rows u ps ≡ Some ds → AllByRecursion (EntryIn n) ds → TypeMore at n d (L.map ds)
     more_map n (D.Map key key_at value place MF.Map) u ps ds keys e all = λ qs h. subst Rises (same_Some ds qs h) (rises_pairs at rows u ps ds keys e)
-    more_map n (D.Map key key_at value place MF.Hamt) u ps ds keys e all = λ t h. entries n ds t all h
+    more_map n (D.Map key key_at value place (MF.Hamt p)) u ps ds keys e all = λ t h. entries p n ds t all h
     more_map n (D.Map key key_at value place MF.ListPairs) u ps ds keys e all = tt
     more_map n (D.Map key key_at value place (MF.StringPairs i k)) u ps ds keys e all = tt
     more_map n d u ps ds keys e all = tt
 
     more_hamt : (d : TypeDef) (x : Data) → levels_of d (V.hamt x) ≤ room → RootOf (below (levels_of d (V.hamt x) - 1)) rows d x → TypeMore at (room - suc (levels_of d (V.hamt x) - 1)) d (L.hamt x)
-    more_hamt (D.Map key key_at value place MF.Hamt) x le root = λ t h. front (room - 5) le (good_part 4) key value x t root h
+    more_hamt (D.Map key key_at value place (MF.Hamt p)) x le root = λ t h. front (room - 5) le (good_part 4) p key value x t root h
     more_hamt (D.Map key key_at value place MF.Map) x le root = absurd root
     more_hamt (D.Map key key_at value place MF.ListPairs) x le root = absurd root
     more_hamt (D.Map key key_at value place (MF.StringPairs i k)) x le root = absurd root
@@ -173,7 +174,7 @@ module _ (at : Hamts) (rows : List Row) (spelled : IsSpelled rows)
           composed_in at (room - suc (levels_of d v - 1)) room d l t (spelled (base rows s.ty.0) d is) p.0 p.1 (enough at rows room d v l f.0 there) made
 
   module _ (front : (room n : ℕ) → ((s : Slot) (v : Value) (t : Data) → FitsPast rows room 4 s v → represented at rows s v ≡ Some t → TreeIn n t)
-      → (key : TypeNo) (value : Slot) (x t : Data) → RootFits (FitsPast rows room 4) rows key value x → at usual (L.hamt x) ≡ Some t → TreeIn (n + 5) t) where
+      → (p : HamtShape) (key : TypeNo) (value : Slot) (x t : Data) → RootFits (FitsPast rows room 4) rows p key value x → at p (L.hamt x) ≡ Some t → TreeIn (n + 5) t) where
     no_room : 5 ≤ 0 → ⊥
     no_room le = omega (arith, le)
 
@@ -203,17 +204,17 @@ map_itself (T.map ms) t e = same_Some (T.map ms) t e
 map_itself x t e = absurd (none-some t e)
 
 front_trees : (rows : List Row) (fits : Slot → Value → Type 0) (n : ℕ) → ((s : Slot) (v : Value) (t : Data) → fits s v → represented alone rows s v ≡ Some t → TreeIn n t)
-    → (key : TypeNo) (value : Slot) (x t : Data) → RootFits fits rows key value x → alone usual (L.hamt x) ≡ Some t → TreeIn (n + 5) t
-front_trees rows fits n good key value x t (slots, root, all) e =
-    subst (TreeIn (n + 5)) (map_itself x t e) (front_in n slots x root (entries_shown rows fits n good (plainly key) value (entries_in slots) all))
+    → (p : HamtShape) (key : TypeNo) (value : Slot) (x t : Data) → RootFits fits rows p key value x → alone p (L.hamt x) ≡ Some t → TreeIn (n + 5) t
+front_trees rows fits n good p key value x t (slots, root, all) e =
+    subst (TreeIn (n + 5)) (map_itself x t e) (front_in p n slots x root (entries_shown rows fits n good (plainly key) value (entries_in slots) all))
 
 pub alone_tree : (rows : List Row) → IsSpelled rows → (room : ℕ) (s : Slot) (v : Value) (t : Data) → Fits rows room s v → represented alone rows s v ≡ Some t → TreeIn room t
-alone_tree rows spelled = fits_in alone rows spelled (λ n es t all e. absurd (none-some t e)) (λ room n good. front_trees rows (FitsPast rows room 4) n good)
+alone_tree rows spelled = fits_in alone rows spelled (λ p n es t all e. absurd (none-some t e)) (λ room n good. front_trees rows (FitsPast rows room 4) n good)
 
 -- ---- whole values
 
 pub whole_past : (h : List ℕ → List ℕ) (rows : List Row) → IsSpelled rows → (room over : ℕ) (s : Slot) (v : Value) (t : Data) → FitsPast rows room over s v → represented (whole h) rows s v ≡ Some t → IsTree t × (depth t + over ≤ room)
-whole_past h rows spelled = past_in (whole h) rows spelled (λ n es t all e. whole_in h n es t all e) (λ room n good key value x t root e. absurd (none-some t e))
+whole_past h rows spelled = past_in (whole h) rows spelled (λ p n es t all e. whole_in h p n es t all e) (λ room n good p key value x t root e. absurd (none-some t e))
 
 pub whole_tree : (h : List ℕ → List ℕ) (rows : List Row) → IsSpelled rows → (room : ℕ) (s : Slot) (v : Value) (t : Data) → Fits rows room s v → represented (whole h) rows s v ≡ Some t → TreeIn room t
-whole_tree h rows spelled = fits_in (whole h) rows spelled (λ n es t all e. whole_in h n es t all e) (λ room n good key value x t root e. absurd (none-some t e))
+whole_tree h rows spelled = fits_in (whole h) rows spelled (λ p n es t all e. whole_in h p n es t all e) (λ room n good p key value x t root e. absurd (none-some t e))

@@ -42,7 +42,7 @@ use Rattle.ild_typed.specs.Kinds.{kind_of}
 use Rattle.ild_schema.specs.DataKinds.{same_kind}
 use Rattle.ild_schema.specs.Hex.{bytes_of_hex}
 use Rattle.ild_schema.specs.Decimal.{decimal_of}
-use Rattle.ild_typed.specs.Composed.{Hamts, usual, any_data, unit_data, map_form, struct_form, inlined, marked_form, member_form, union_form, enum_form, composed}
+use Rattle.ild_typed.specs.Composed.{Hamts, any_data, unit_data, map_form, struct_form, inlined, marked_form, member_form, union_form, enum_form, composed}
 use Rattle.ild_typed.specs.Levels.{map_levels, struct_levels, levels_of}
 use Rattle.ild_typed.specs.Nested.{TreeIn}
 use Rattle.ild_schema.specs.Spelled.{SpelledStruct, SpelledMap, SpelledKeys, SpelledType}
@@ -219,7 +219,7 @@ struct_in n (S.StringJoin delim) fs os t u all e =
 -- what a map's form asks beyond trees in its entries
 abbrev pub MapMore : Hamts → ℕ → MapForm → Layer Data → Type 0
 MapMore at n MF.Map l = (ps : List (List ℕ × Data)) → as_map l ≡ Some ps → Rises ps
-MapMore at n MF.Hamt l = (t : Data) → at usual l ≡ Some t → TreeIn (n + 5) t
+MapMore at n (MF.Hamt p) l = (t : Data) → at p l ≡ Some t → TreeIn (n + 5) t
 MapMore at n form l = Unit {0}
 
 abbrev pub TypeMore : Hamts → ℕ → TypeDef → Layer Data → Type 0
@@ -255,7 +255,7 @@ map_trees at n MF.ListPairs l t u trees more e =
 map_trees at n (MF.StringPairs inner entry) l t u trees more e =
     let x = then_from (stringpairs inner entry) (as_map l) t e in
     stringpairs_in n (n + 1) inner entry x.item t u.0 u.1 (map_entries n l x.item trees x.there) x.made
-map_trees at n MF.Hamt l t u trees more e = more t e
+map_trees at n (MF.Hamt p) l t u trees more e = more t e
 
 is_map : (d : Data) (ms : List (List ℕ × Data)) → members_in d ≡ Some ms → (es : T.Members) × (d ≡ T.map es) × (T.members_list es ≡ ms)
 is_map (T.map es) ms e = (es, refl, same_Some (T.members_list es) ms e)

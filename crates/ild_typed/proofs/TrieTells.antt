@@ -10,7 +10,8 @@ use Rattle.std.proofs.lemmas.List.FromFn.{length-map-range_with_len}
 use Rattle.ild_data.specs.Data.{Data}
 use Rattle.ild_data.specs.Spell.{spell, id_of}
 use Rattle.ild_data.specs.Key.{same_text, value_at, Rises}
-use Rattle.ild_data.specs.TrieShape.{TrieShape, trie_levels}
+use Rattle.ild_data.specs.declared.hamt_shape.HamtShape.{HamtShape}
+use Rattle.ild_data.specs.TrieShape.{trie_levels}
 use Rattle.ild_data.specs.ByteOrder.{bytewise, in_byte_order, no_key_twice, IsInOrder}
 use Rattle.ild_data.specs.Trie.{part, TrieSlot, empty, bucket, child, is_used, is_child, bucket_entries, link_to, node_data, bucket_or, slot_of, node_of, at_depth, slots_at, trie}
 use Rattle.ild_typed.specs.Known.{AreKnown}
@@ -56,13 +57,13 @@ slots_same most below es fs z (many n l t b) (nothing c d) deep = absurd (false_
 slots_same most below es fs z (many n l t b) (few d) deep = absurd (false_true (ap is_child (sym d ∙ b)))
 slots_same most below es fs z (many n l t b) (many m k u d) deep = deep n m l k t u (ap child_id (sym b ∙ d))
 
-pub record NodeSlots (h : List ℕ → List ℕ) (p : TrieShape) (left depth : ℕ) (es : List (List ℕ × Data)) (n : Data) : Type 0 where
+pub record NodeSlots (h : List ℕ → List ℕ) (p : HamtShape) (left depth : ℕ) (es : List (List ℕ × Data)) (n : Data) : Type 0 where
   pub slots : List TrieSlot
   pub there : slots_at h p left depth es ≡ Some slots
   pub is : node_data slots ≡ n
   pub count : length slots ≡ 2 ^ p.width
 
-pub node_slots : (h : List ℕ → List ℕ) (p : TrieShape) (left depth : ℕ) (es : List (List ℕ × Data)) (n : Data) → node_of h p (suc left) depth es ≡ Some n → NodeSlots h p left depth es n
+pub node_slots : (h : List ℕ → List ℕ) (p : HamtShape) (left depth : ℕ) (es : List (List ℕ × Data)) (n : Data) → node_of h p (suc left) depth es ≡ Some n → NodeSlots h p left depth es n
 unfolding node_of
 node_slots h p left depth es n e =
     let x = map_from node_data (slots_at h p left depth es) n e in
@@ -74,7 +75,7 @@ node_slots h p left depth es n e =
       count = all_some-length (map piece (range_with_len 0 (2 ^ p.width))) x.item x.there ∙ length-map-range_with_len piece 0 (2 ^ p.width);
     }
 
-no_node : (h : List ℕ → List ℕ) (p : TrieShape) (depth : ℕ) (es : List (List ℕ × Data)) (n : Data) → node_of h p zero depth es ≡ Some n → ⊥
+no_node : (h : List ℕ → List ℕ) (p : HamtShape) (depth : ℕ) (es : List (List ℕ × Data)) (n : Data) → node_of h p zero depth es ≡ Some n → ⊥
 unfolding node_of
 no_node h p depth es n e = none-some n e
 
@@ -82,7 +83,7 @@ no_node h p depth es n e = none-some n e
 find_there : (at : List ℕ → ℕ) (es : List (List ℕ × Data)) (q : List ℕ) → find bytewise q (part at es (at q)) ≡ find bytewise q es
 find_there at es q = find-part at es (at q) q ∙ ap (λ b. cond b (find bytewise q es) None) (eq-eqb (at q) (at q) refl)
 
-module _ (h : List ℕ → List ℕ) (p : TrieShape) (bytes : 2 ^ p.width % 8 ≡ 0) (Known : Data → Type 0)
+module _ (h : List ℕ → List ℕ) (p : HamtShape) (bytes : 2 ^ p.width % 8 ≡ 0) (Known : Data → Type 0)
     (one : (n m : Data) → Known n → Known m → id_of (spell n) ≡ id_of (spell m) → n ≡ m) where
   pub node_tells : (left depth : ℕ) (es fs : List (List ℕ × Data)) (n : Data) → IsInOrder es → IsInOrder fs → AreKnown h p Known left depth es → AreKnown h p Known left depth fs
       → node_of h p left depth es ≡ Some n → node_of h p left depth fs ≡ Some n → es ≡ fs

@@ -72,7 +72,7 @@ module _ {A B : Type 0} where
   keys_like MF.Map ps qs same keys = rises_like ps qs same keys
   keys_like MF.ListPairs ps qs same keys = apart_like ps qs same keys
   keys_like (MF.StringPairs inner entry) ps qs same keys = apart_like ps qs same keys
-  keys_like MF.Hamt ps qs same keys = rises_like ps qs same keys
+  keys_like (MF.Hamt p) ps qs same keys = rises_like ps qs same keys
 
 same_back : {A B : Type 0} (ps : List (List ℕ × A)) (qs : List (List ℕ × B)) → SameKeys ps qs → SameKeys qs ps
 same_back [] [] same = tt
@@ -117,14 +117,14 @@ module _ (rows : List Row) (below : Slot → Value → Type 0) (key : TypeNo) (v
   map_fits MF.Map ps fit = fit
   map_fits MF.ListPairs ps fit = fit
   map_fits (MF.StringPairs inner entry) ps fit = fit
-  map_fits MF.Hamt ps fit = inl fit
+  map_fits (MF.Hamt p) ps fit = inl fit
 
   pub map_fitted : (form : MapForm) (ps : List (List ℕ × Value)) → MapFits below rows key value form (L.map ps) → EntriesFit below rows key value form ps
   map_fitted MF.Map ps fit = fit
   map_fitted MF.ListPairs ps fit = fit
   map_fitted (MF.StringPairs inner entry) ps fit = fit
-  map_fitted MF.Hamt ps (inl fit) = fit
-  map_fitted MF.Hamt ps (inr fit) = absurd fit
+  map_fitted (MF.Hamt p) ps (inl fit) = fit
+  map_fitted (MF.Hamt p) ps (inr fit) = absurd fit
 
 module _ (rows : List Row) (clear : IsClear rows) (room : ℕ) (s : Slot) (key : TypeNo) (key_at : ℕ) (value : Slot) (place : ℕ) (form : MapForm)
     (is : form_of rows s ≡ Some (D.Map key key_at value place form)) (ds : List (List ℕ × Data)) (t : Data) (made : map_form alone form (L.map ds) ≡ Some t) where

@@ -7,6 +7,7 @@ use Rattle.std.specs.List.{AllByRecursion}
 use Rattle.std.proofs.lemmas.Option.{same_Some}
 use Rattle.ild_data.specs.Data as T
 use Rattle.ild_data.specs.Data.{Data}
+use Rattle.ild_data.specs.declared.hamt_shape.HamtShape.{HamtShape}
 use Rattle.ild_schema.specs.declared.number.Slot.{Slot}
 use Rattle.ild_schema.specs.declared.def.TypeDef.{TypeDef}
 use Rattle.ild_schema.specs.declared.def.TypeDef.TheVariants as D
@@ -215,28 +216,28 @@ module _ (rows : List Row) (clear : IsClear rows) (room : ℕ) where
         (x.part, part, ap (λ o. member_data alone rows (option_map slot_of o) x.part) (sym member) ∙ x.there)
 
   -- a HAMT has a front that fits where the entries in the block of its root have
-  pub hamt_shows : (s : Slot) (key : TypeNo) (key_at : ℕ) (value : Slot) (place : ℕ) (ms : T.Members) → form_of rows s ≡ Some (D.Map key key_at value place MF.Hamt)
-      → 5 ≤ suc room → RootFits (FitsPast rows room 4) rows key value (T.map ms) → Shows (FitsPast rows (suc room) zero) rows s (T.map ms)
+  pub hamt_shows : (s : Slot) (p : HamtShape) (key : TypeNo) (key_at : ℕ) (value : Slot) (place : ℕ) (ms : T.Members) → form_of rows s ≡ Some (D.Map key key_at value place (MF.Hamt p))
+      → 5 ≤ suc room → RootFits (FitsPast rows room 4) rows p key value (T.map ms) → Shows (FitsPast rows (suc room) zero) rows s (T.map ms)
   unfolding FitsPast
-  hamt_shows s key key_at value place ms is enough root = (
+  hamt_shows s p key key_at value place ms is enough root = (
     V.hamt (T.map ms),
     subst (λ o. IsSomeAnd o (FormFits rows (suc room) (FitsPast rows room) (V.hamt (T.map ms)))) (sym is) (enough, inr root),
     ap (λ o. layered alone o (Some (L.hamt (T.map ms)))) is,
   )
 
   -- and only there
-  pub hamt_shown : (s : Slot) (key : TypeNo) (key_at : ℕ) (value : Slot) (place : ℕ) (ms : T.Members) → form_of rows s ≡ Some (D.Map key key_at value place MF.Hamt)
-      → Shows (FitsPast rows (suc room) zero) rows s (T.map ms) → (5 ≤ suc room) × RootFits (FitsPast rows room 4) rows key value (T.map ms)
+  pub hamt_shown : (s : Slot) (p : HamtShape) (key : TypeNo) (key_at : ℕ) (value : Slot) (place : ℕ) (ms : T.Members) → form_of rows s ≡ Some (D.Map key key_at value place (MF.Hamt p))
+      → Shows (FitsPast rows (suc room) zero) rows s (T.map ms) → (5 ≤ suc room) × RootFits (FitsPast rows room 4) rows p key value (T.map ms)
   unfolding FitsPast
-  hamt_shown s key key_at value place ms is (v, fits, shows) = by v fits (way_of alone rows s v (T.map ms) shows) where
-    root : MapFits (FitsPast rows room 4) rows key value MF.Hamt (L.hamt (T.map ms)) → RootFits (FitsPast rows room 4) rows key value (T.map ms)
+  hamt_shown s p key key_at value place ms is (v, fits, shows) = by v fits (way_of alone rows s v (T.map ms) shows) where
+    root : MapFits (FitsPast rows room 4) rows key value (MF.Hamt p) (L.hamt (T.map ms)) → RootFits (FitsPast rows room 4) rows p key value (T.map ms)
     root (inl h) = absurd h
     root (inr h) = h
 
-    by : (v : Value) → ValueFits rows (suc room) (FitsPast rows room) s v → Way alone rows s v (T.map ms) → (5 ≤ suc room) × RootFits (FitsPast rows room 4) rows key value (T.map ms)
+    by : (v : Value) → ValueFits rows (suc room) (FitsPast rows room) s v → Way alone rows s v (T.map ms) → (5 ≤ suc room) × RootFits (FitsPast rows room 4) rows p key value (T.map ms)
     by v fits (as_null v_null nullable is_null) = let own : T.map ms ≡ T.null = is_null in absurd cc
     by v fits (as_layer d l known there composes) =
-        let own : TypeDef = D.Map key key_at value place MF.Hamt in
+        let own : TypeDef = D.Map key key_at value place (MF.Hamt p) in
         let same : own ≡ d = same_Some own d (sym is ∙ known) in
         let layer : l ≡ L.hamt (T.map ms) = composed_tells alone alone_tells own tt l (L.hamt (T.map ms)) (T.map ms) (ap (λ c. composed alone c l) same ∙ composes) refl in
         let v_is : v ≡ V.hamt (T.map ms) = scalar_value alone rows (Some d) v (V.hamt (T.map ms)) (ap (option_and_then scalar_of) (there ∙ ap Some layer)) in

@@ -167,7 +167,7 @@ module _ (rows : List Row) where
   parts_low (D.Map key key_at value at (MF.StringPairs inner entry)) t ps all (l, made, e) = subst AllLow (sym e) (spots_low (D.Map key key_at value at (MF.StringPairs inner entry)) l all)
   parts_low (D.Struct st) t ps all (l, made, e) = subst AllLow (sym e) (spots_low (D.Struct st) l all)
   parts_low (D.Union u) t ps all (l, made, e) = subst AllLow (sym e) (spots_low (D.Union u) l all)
-  parts_low (D.Map key key_at value at MF.Hamt) t ps all (slots, root, e) = subst AllLow (sym e) (root_low key value (all 0 0 (omega arith)) (all 1 0 (omega arith)) 0 slots)
+  parts_low (D.Map key key_at value at (MF.Hamt p)) t ps all (slots, root, e) = subst AllLow (sym e) (root_low key value (all 0 0 (omega arith)) (all 1 0 (omega arith)) 0 slots)
 
 low_forms : (rows : List Row) → All (λ r. IsWithin (length rows) r.def) rows → (ps : List Spot) → AllLow rows ps → AllByRecursion (λ p. HasForm rows p.slot) ps
 low_forms rows within [] all = tt

@@ -127,7 +127,7 @@ module _ (rows : List Row) where
   parts_safe (D.Map key key_at value at (MF.StringPairs inner entry)) t ps safe (l, made, e) = subst AllSafe (sym e) (spots_safe (D.Map key key_at value at (MF.StringPairs inner entry)) l safe)
   parts_safe (D.Struct st) t ps safe (l, made, e) = subst AllSafe (sym e) (spots_safe (D.Struct st) l safe)
   parts_safe (D.Union u) t ps safe (l, made, e) = subst AllSafe (sym e) (spots_safe (D.Union u) l safe)
-  parts_safe (D.Map key key_at value at MF.Hamt) t ps safe (slots, root, e) = subst AllSafe (sym e) (root_safe key value safe 0 slots)
+  parts_safe (D.Map key key_at value at (MF.Hamt p)) t ps safe (slots, root, e) = subst AllSafe (sym e) (root_safe key value safe 0 slots)
 
 -- ---- the parts are one list
 
@@ -151,7 +151,7 @@ parts_one (D.Map key key_at value at MF.ListPairs) clear t ps qs (l, a, e) (m, b
 parts_one (D.Map key key_at value at (MF.StringPairs inner entry)) clear t ps qs (l, a, e) (m, b, k) = one_layer (D.Map key key_at value at (MF.StringPairs inner entry)) clear t l m ps qs a b e k
 parts_one (D.Struct st) clear t ps qs (l, a, e) (m, b, k) = one_layer (D.Struct st) clear t l m ps qs a b e k
 parts_one (D.Union u) clear t ps qs (l, a, e) (m, b, k) = one_layer (D.Union u) clear t l m ps qs a b e k
-parts_one (D.Map key key_at value at MF.Hamt) clear t ps qs (ss, a, e) (ts, b, k) = e ∙ ap (root_spots key value 0) (one_root ss ts t a b) ∙ sym k
+parts_one (D.Map key key_at value at (MF.Hamt p)) clear t ps qs (ss, a, e) (ts, b, k) = e ∙ ap (root_spots key value 0) (one_root p ss ts t a b) ∙ sym k
 
 -- data with parts are the root of a HAMT
 has_root : (d : TypeDef) (t : Data) (ps : List Spot) → AreParts d t ps → HasNoRoot d t → ⊥
@@ -170,7 +170,7 @@ has_root (D.Map key key_at value at MF.ListPairs) t ps parts none = none
 has_root (D.Map key key_at value at (MF.StringPairs inner entry)) t ps parts none = none
 has_root (D.Struct st) t ps parts none = none
 has_root (D.Union u) t ps parts none = none
-has_root (D.Map key key_at value at MF.Hamt) t ps (slots, root, e) none = none slots root
+has_root (D.Map key key_at value at (MF.Hamt p)) t ps (slots, root, e) none = none slots root
 
 -- ---- the walk
 

@@ -1,6 +1,6 @@
 -- What has a front that fits is not refused.
-use Rattle.std.proofs.Common.{◌≡◌, ℕ, zero, suc, ◌+◌, ◌%◌, ◌-◌, ◌≤◌, List, [], ◌∷◌, ◌++◌, Bool, true, false, cond, Option, Some, None, refl, sym, ◌∙◌, ap, subst, arith, inl, inr}
-use Rattle.std.specs.Prelude.{IsSomeAnd, slice_get}
+use Rattle.std.proofs.Common.{◌≡◌, ℕ, zero, suc, ◌+◌, ◌-◌, ◌≤◌, List, [], ◌∷◌, ◌++◌, length, Bool, true, false, cond, Option, Some, None, refl, sym, ◌∙◌, ap, subst, arith, inl, inr}
+use Rattle.std.specs.Prelude.{IsSomeAnd, slice_get, pos, not}
 use Rattle.std.specs.Option.{option_or, option_map_or}
 use Rattle.std.specs.List.{AllByRecursion}
 use Rattle.std.specs.Cmp.Lexicographic.{same_text as text_same}
@@ -27,7 +27,7 @@ use Rattle.ild_schema.specs.Slots.{form_of, plainly}
 use Rattle.ild_typed.specs.Slots.{slot_of}
 use Rattle.ild_typed.specs.Fields.{is_implicit}
 use Rattle.ild_typed.specs.Strings.{map_data, listpairs, stringpairs}
-use Rattle.ild_typed.specs.Composed.{usual, composed, map_form, struct_form, union_form, member_form, any_data}
+use Rattle.ild_typed.specs.Composed.{composed, map_form, struct_form, union_form, member_form, any_data}
 use Rattle.ild_typed.specs.Hamt.{alone, a_map}
 use Rattle.ild_typed.specs.Represented.{represented}
 use Rattle.ild_typed.specs.Fits.{FormFits, ValueFits, FitsPast}
@@ -44,6 +44,7 @@ use Rattle.ild_typed.specs.Refused.{Refusal, AreParts, FirstRefused, RefusedPast
 use Rattle.ild_schema.specs.Delims.{AllDelims}
 use Rattle.ild_typed.specs.Node.{IsRoot, entries_in}
 use Rattle.ild_data.specs.Trie as Trie
+use Rattle.ild_data.specs.declared.hamt_shape.HamtShape.{HamtShape}
 use Rattle.ild_typed.proofs.Basics.{map_from, then_from}
 use Rattle.ild_typed.proofs.Onlies.{only_list, only_map, only_struct, only_union}
 use Rattle.ild_typed.proofs.OneValue.{Way, as_null, as_layer, way_of, layer_data, safe_parts, plain_safe}
@@ -54,6 +55,8 @@ use Rattle.ild_typed.proofs.CleanPairs.{pairs_names}
 use Rattle.ild_typed.proofs.CleanStructs.{split_of_pairs}
 use Rattle.ild_typed.proofs.CleanTypes.{layer_clean}
 use Rattle.ild_hamt_trie.proofs.Bits.{same_node}
+use Rattle.ild_typed.proofs.CleanFields.{int_self}
+use Rattle.ild_typed.proofs.NodeRoots.{whole_map}
 
 -- ---- keys that are apart
 
@@ -138,13 +141,13 @@ a_map_is : (x t : Data) → a_map x ≡ Some t → (ms : T.Members) × (t ≡ T.
 a_map_is (T.map ms) t e = (ms, sym (same_Some (T.map ms) t e))
 a_map_is x t e = absurd (none-some t e)
 
-root_fine : (slots : List Trie.TrieSlot) (t : Data) → IsRoot usual slots t → root_why t ≡ None
-root_fine slots t root = ap root_why root.tree
+root_fine : (p : HamtShape) (slots : List Trie.TrieSlot) (t : Data) → IsRoot p slots t → root_why p t ≡ None
+root_fine p slots t root = ap (root_why p) root.tree ∙ ap (λ b. cond (not b) (Some W.BucketSize) None) (int_self (pos p.bucket))
 
 module _ (rows : List Row) (clear : IsClear rows) (delims : AllDelims rows) (room : ℕ) (s : Slot) (safe : IsSafe rows s) (t : Data) (shows : Shows (FitsPast rows (suc room) zero) rows s t) where
   keys_none : (d : TypeDef) (l : Layer Data) → form_of rows s ≡ Some d → composed alone d l ≡ Some t → keys_why d t ≡ None
   keys_none (D.Map key key_at value at MF.Map) l is e = refl
-  keys_none (D.Map key key_at value at MF.Hamt) l is e = refl
+  keys_none (D.Map key key_at value at (MF.Hamt p)) l is e = refl
   keys_none (D.Map key key_at value at MF.ListPairs) l is e =
       let x = map_from listpairs (as_map l) t e in
       let shown = map_shown rows clear room s key key_at value at MF.ListPairs is x.item t x.made safe shows in
@@ -172,12 +175,12 @@ module _ (rows : List Row) (clear : IsClear rows) (delims : AllDelims rows) (roo
   keys_none (D.Copy target) l is e = refl
 
   root_there : (d : TypeDef) (l : Layer Data) → form_of rows s ≡ Some d → composed alone d l ≡ Some t → (hamt_why d t ≡ None) × (HasNoRoot d t → ⊥)
-  root_there (D.Map key key_at value at MF.Hamt) l is e =
+  root_there (D.Map key key_at value at (MF.Hamt p)) l is e =
       let x = then_from a_map (as_hamt l) t e in
       let y = a_map_is x.item t x.made in
-      let z = hamt_shown rows clear room s key key_at value at y.0 is (subst (λ u. Shows (FitsPast rows (suc room) zero) rows s u) y.1 shows) in
-      let root : IsRoot usual z.1.0 t = subst (IsRoot usual z.1.0) (sym y.1) z.1.1 in
-      (root_fine z.1.0 t root, λ none. none z.1.0 root)
+      let z = hamt_shown rows clear room s p key key_at value at y.0 is (subst (λ u. Shows (FitsPast rows (suc room) zero) rows s u) y.1 shows) in
+      let root : IsRoot p z.1.0 t = subst (IsRoot p z.1.0) (sym y.1) z.1.1 in
+      (root_fine p z.1.0 t root, λ none. none z.1.0 root)
   root_there (D.Map key key_at value at MF.Map) l is e = (refl, λ h. h)
   root_there (D.Map key key_at value at MF.ListPairs) l is e = (refl, λ h. h)
   root_there (D.Map key key_at value at (MF.StringPairs inner entry)) l is e = (refl, λ h. h)
@@ -211,7 +214,7 @@ no_keys : (d : TypeDef) (t : Data) → needs d t ≤ 0 → (keys_why d t ≡ Non
 no_keys (D.Map key key_at value at MF.Map) t fits = absurd (omega (arith, fits))
 no_keys (D.Map key key_at value at MF.ListPairs) t fits = absurd (omega (arith, fits))
 no_keys (D.Map key key_at value at (MF.StringPairs inner entry)) t fits = absurd (omega (arith, fits))
-no_keys (D.Map key key_at value at MF.Hamt) t fits = absurd (omega (arith, fits))
+no_keys (D.Map key key_at value at (MF.Hamt p)) t fits = absurd (omega (arith, fits))
 no_keys D.Bool t fits = (refl, refl, λ h. h)
 no_keys D.Text t fits = (refl, refl, λ h. h)
 no_keys D.Bytes t fits = (refl, refl, λ h. h)
@@ -290,11 +293,11 @@ node_inside : Data → Option Data
 node_inside (T.map (T.member k d ms)) = Some d
 node_inside t = None
 
-pub one_root : (ss ts : List Trie.TrieSlot) (t : Data) → IsRoot usual ss t → IsRoot usual ts t → ss ≡ ts
+pub one_root : (p : HamtShape) (ss ts : List Trie.TrieSlot) (t : Data) → IsRoot p ss t → IsRoot p ts t → ss ≡ ts
 unfolding node_inside
-one_root ss ts t a b =
+one_root p ss ts t a b =
     let node : Trie.node_data ss ≡ Trie.node_data ts = same_Some (Trie.node_data ss) (Trie.node_data ts) (ap node_inside (sym a.tree ∙ b.tree)) in
-    same_node ss ts (ap (λ n. n % 8) a.indices) (b.indices ∙ sym a.indices) node
+    same_node ss ts (whole_map p.width (length ss) p.wide a.indices) (b.indices ∙ sym a.indices) node
 
 module _ (rows : List Row) (clear : IsClear rows) (room : ℕ) (s : Slot) (safe : IsSafe rows s) (t : Data) (shows : Shows (FitsPast rows (suc room) zero) rows s t) where
   abbrev Parts : TypeDef → List Spot → Type 0
@@ -326,11 +329,11 @@ module _ (rows : List Row) (clear : IsClear rows) (room : ℕ) (s : Slot) (safe 
   parts_show (D.Map key key_at value at (MF.StringPairs inner entry)) ps is (l, made, e) =
       let x = then_from (stringpairs inner entry) (as_map l) t made in
       map_parts key key_at value at (MF.StringPairs inner entry) l x.item ps is (only_map l x.item x.there) x.made e
-  parts_show (D.Map key key_at value at MF.Hamt) ps is (slots, root, e) =
-      let own : TypeDef = D.Map key key_at value at MF.Hamt in
+  parts_show (D.Map key key_at value at (MF.Hamt p)) ps is (slots, root, e) =
+      let own : TypeDef = D.Map key key_at value at (MF.Hamt p) in
       let inner : (ms : T.Members) × (t ≡ T.map ms) = (_, root.tree) in
-      let x = hamt_shown rows clear room s key key_at value at inner.0 is (subst (λ u. Shows (FitsPast rows (suc room) zero) rows s u) inner.1 shows) in
-      let same : x.1.0 ≡ slots = one_root x.1.0 slots t (subst (IsRoot usual x.1.0) (sym inner.1) x.1.1) root in
+      let x = hamt_shown rows clear room s p key key_at value at inner.0 is (subst (λ u. Shows (FitsPast rows (suc room) zero) rows s u) inner.1 shows) in
+      let same : x.1.0 ≡ slots = one_root p x.1.0 slots t (subst (IsRoot p x.1.0) (sym inner.1) x.1.1) root in
       let all = root_shows rows (FitsPast rows room 4) key value (safe_parts rows clear s own is) 0 x.1.0 x.1.2 in
       subst (Parts own) (ap (root_spots key value 0) same ∙ sym e) all
   parts_show (D.Struct st) ps is (l, made, e) =

@@ -31,7 +31,7 @@ use Rattle.ild_typed.specs.Layer.{Layer, as_boolean, as_integer, as_text, as_byt
 use Rattle.ild_schema.specs.Slots.{form_of, plainly}
 use Rattle.ild_typed.specs.Fields.{is_implicit, field_entries, are_absent, tuple_items, all_items}
 use Rattle.ild_typed.specs.Strings.{map_data, listpairs, stringpairs, stringjoin, in_key_order}
-use Rattle.ild_typed.specs.Composed.{usual, composed, map_form, struct_form, member_form, union_form, enum_form, unit_data, any_data}
+use Rattle.ild_typed.specs.Composed.{composed, map_form, struct_form, member_form, union_form, enum_form, unit_data, any_data}
 use Rattle.ild_typed.specs.Hamt.{alone}
 use Rattle.ild_typed.specs.Levels.{struct_levels}
 use Rattle.ild_typed.specs.Represented.{layered}
@@ -51,6 +51,7 @@ use Rattle.ild_typed.proofs.NodeRoots.{root_or_none}
 use Rattle.ild_schema.specs.Delims.{AllDelims}
 use Rattle.ild_typed.specs.Node.{IsRoot, entries_in}
 use Rattle.ild_data.specs.Trie as Trie
+use Rattle.ild_data.specs.declared.hamt_shape.HamtShape.{HamtShape}
 use Rattle.ild_typed.proofs.Basics.{map_from, then_from, true_from, both_true}
 use Rattle.ild_typed.proofs.Structs.{field_from}
 use Rattle.ild_typed.proofs.Onlies.{only_list, only_map, only_struct, only_union}
@@ -298,7 +299,7 @@ module _ (rows : List Row) (room : ℕ) (below : ℕ → Slot → Value → Type
 
 -- not a HAMT
 abbrev IsOther : TypeDef → Type 0
-IsOther (D.Map key key_at value at MF.Hamt) = ⊥
+IsOther (D.Map key key_at value at (MF.Hamt p)) = ⊥
 IsOther d = Unit {0}
 
 module _ (rows : List Row) (clear : IsClear rows) (delims : AllDelims rows) (room : ℕ) (s : Slot) (t : Data) (tree : IsTree t) where
@@ -365,16 +366,16 @@ module _ (rows : List Row) (clear : IsClear rows) (delims : AllDelims rows) (roo
       let split = split_of_pairs inner entry (clear.types (base rows s.ty.0) own is) (delims (base rows s.ty.0) own is) x.item t x.made in
       let apart = once_apart x.item (sym (ap (where_some (λ es. has_twice (names es))) split.entries) ∙ once) in
       map_give key key_at value at (MF.StringPairs inner entry) l x.item is free.enough (only_map l x.item x.there) x.made apart trees all
-  whole_give (D.Map key key_at value at MF.Hamt) l is free other made trees all = absurd other
+  whole_give (D.Map key key_at value at (MF.Hamt p)) l is free other made trees all = absurd other
 
   -- the root of a HAMT
-  root_give : (key : TypeNo) (key_at : ℕ) (value : Slot) (at : ℕ) → form_of rows s ≡ Some (D.Map key key_at value at MF.Hamt) → 5 ≤ suc room → (slots : List Trie.TrieSlot) → IsRoot usual slots t
+  root_give : (p : HamtShape) (key : TypeNo) (key_at : ℕ) (value : Slot) (at : ℕ) → form_of rows s ≡ Some (D.Map key key_at value at (MF.Hamt p)) → 5 ≤ suc room → (slots : List Trie.TrieSlot) → IsRoot p slots t
       → AllByRecursion (Good rows (FitsPast rows room 4)) (root_spots key value 0 slots) → Whole
-  root_give key key_at value at is five slots root all =
+  root_give p key key_at value at is five slots root all =
       let inner : (ms : T.Members) × (t ≡ T.map ms) = (_, root.tree) in
       let good = root_good rows (FitsPast rows room 4) key value 0 slots all in
       subst (λ u. Shows (FitsPast rows (suc room) zero) rows s u) (sym inner.1)
-      (hamt_shows rows clear room s key key_at value at inner.0 is five (slots, subst (IsRoot usual slots) inner.1 root, good))
+      (hamt_shows rows clear room s p key key_at value at inner.0 is five (slots, subst (IsRoot p slots) inner.1 root, good))
 
 -- ---- the walk
 
@@ -394,11 +395,11 @@ other_parts (D.Struct st) other l t e = (l, e, refl)
 other_parts (D.Union u) other l t e = (l, e, refl)
 other_parts (D.Enum en) other l t e = (l, e, refl)
 other_parts (D.Copy target) other l t e = (l, e, refl)
-other_parts (D.Map key key_at value at MF.Hamt) other l t e = absurd other
+other_parts (D.Map key key_at value at (MF.Hamt p)) other l t e = absurd other
 
 data Form (d : TypeDef) : Type 0 where
   other_form : IsOther d → Form d
-  hamt_form : (key : TypeNo) (key_at : ℕ) (value : Slot) (at : ℕ) → d ≡ D.Map key key_at value at MF.Hamt → Form d
+  hamt_form : (p : HamtShape) (key : TypeNo) (key_at : ℕ) (value : Slot) (at : ℕ) → d ≡ D.Map key key_at value at (MF.Hamt p) → Form d
 
 form_is : (d : TypeDef) → Form d
 form_is D.Bool = other_form tt
@@ -416,7 +417,7 @@ form_is (D.Struct st) = other_form tt
 form_is (D.Union u) = other_form tt
 form_is (D.Enum en) = other_form tt
 form_is (D.Copy target) = other_form tt
-form_is (D.Map key key_at value at MF.Hamt) = hamt_form key key_at value at refl
+form_is (D.Map key key_at value at (MF.Hamt p)) = hamt_form p key key_at value at refl
 
 module _ (rows : List Row) (fits : Slot → Value → Type 0) (refused : Slot → Data → Refusal → Type 0) where
   abbrev Judged : Spot → Type 0
@@ -454,7 +455,7 @@ flat_give rows s t tree (D.Union u) l is fits made = absurd (omega (arith, fits)
 flat_give rows s t tree (D.Map key key_at value at MF.Map) l is fits made = absurd (omega (arith, fits))
 flat_give rows s t tree (D.Map key key_at value at MF.ListPairs) l is fits made = absurd (omega (arith, fits))
 flat_give rows s t tree (D.Map key key_at value at (MF.StringPairs inner entry)) l is fits made = absurd (omega (arith, fits))
-flat_give rows s t tree (D.Map key key_at value at MF.Hamt) l is fits made = absurd (omega (arith, fits))
+flat_give rows s t tree (D.Map key key_at value at (MF.Hamt p)) l is fits made = absurd (omega (arith, fits))
 flat_give rows s t tree (D.Struct st) l is fits made = by st.form fits where
   by : (form : StructForm) → struct_levels form ≤ 0 → Shows (FitsPast rows zero zero) rows s t
   by S.Map h = absurd (omega (arith, h))
@@ -510,11 +511,11 @@ module _ (rows : List Row) (clear : IsClear rows) (delims : AllDelims rows)
             inl (whole_give rows clear delims room s t tree d x.layer is f other x.there (trees s d t (spots_of d x.layer) is parts tree) good)
         pick (inr (r, first)) = inr (r, (there, d, is, inr (none, spots_of d x.layer, other_parts d other x.layer t x.there, first)))
 
-    hamts : is_null_there s t ≡ false → why_at (suc room) d t ≡ None → Free (suc room) d t → (key : TypeNo) (key_at : ℕ) (value : Slot) (at : ℕ) → d ≡ D.Map key key_at value at MF.Hamt
-        → ((slots : List Trie.TrieSlot) × IsRoot usual slots t) ⊎ IsNoRoot t → Answer (suc room) zero s t
-    hamts there none f key key_at value at same (inr rootless) =
+    hamts : is_null_there s t ≡ false → why_at (suc room) d t ≡ None → Free (suc room) d t → (p : HamtShape) (key : TypeNo) (key_at : ℕ) (value : Slot) (at : ℕ) → d ≡ D.Map key key_at value at (MF.Hamt p)
+        → ((slots : List Trie.TrieSlot) × IsRoot p slots t) ⊎ IsNoRoot p t → Answer (suc room) zero s t
+    hamts there none f p key key_at value at same (inr rootless) =
         inr (record { ty = s.ty; why = W.Trie; at = [] }, (there, d, is, inl (W.Trie, inr (none, subst (λ k. HasNoRoot k t) (sym same) rootless, refl), refl)))
-    hamts there none f key key_at value at same (inl (slots, root)) =
+    hamts there none f p key key_at value at same (inl (slots, root)) =
         let parts : AreParts d t (root_spots key value 0 slots) = subst (λ k. AreParts k t (root_spots key value 0 slots)) (sym same) (slots, root, refl) in
         pick parts (judged f (root_spots key value 0 slots) parts)
       where
@@ -522,7 +523,7 @@ module _ (rows : List Row) (clear : IsClear rows) (delims : AllDelims rows)
             ⊎ ((r : Refusal) × FirstRefused (FitsPast rows room (needs d t - 1)) (RefusedPast rows room (needs d t - 1)) rows (root_spots key value 0 slots) r) → Answer (suc room) zero s t
         pick parts (inl good) =
             let five : 5 ≤ suc room = subst (λ k. needs k t ≤ suc room) same f.enough in
-            inl (root_give rows clear delims room s t tree key key_at value at (is ∙ ap Some same) five slots root
+            inl (root_give rows clear delims room s t tree p key key_at value at (is ∙ ap Some same) five slots root
             (subst (λ k. AllByRecursion (Good rows (FitsPast rows room (needs k t - 1))) (root_spots key value 0 slots)) same good))
         pick parts (inr (r, first)) = inr (r, (there, d, is, inr (none, root_spots key value 0 slots, parts, first)))
 
@@ -532,7 +533,7 @@ module _ (rows : List Row) (clear : IsClear rows) (delims : AllDelims rows)
     by false there None e = let f = free (suc room) d t e in go f (form_is d) where
       go : Free (suc room) d t → Form d → Answer (suc room) zero s t
       go f (other_form other) = others there e f other (there_is s t tree d is f.own)
-      go f (hamt_form key key_at value at same) = hamts there e f key key_at value at same (root_or_none t tree)
+      go f (hamt_form p key key_at value at same) = hamts there e f p key key_at value at same (root_or_none p t tree)
 
   pub total : (room over : ℕ) (s : Slot) (t : Data) → over ≤ room → HasForm rows s → IsTree t → Answer room over s t
   unfolding FitsPast RefusedPast
@@ -566,7 +567,7 @@ parts_from (D.Struct st) other t ps h = h
 parts_from (D.Union u) other t ps h = h
 parts_from (D.Enum en) other t ps h = h
 parts_from (D.Copy target) other t ps h = h
-parts_from (D.Map key key_at value at MF.Hamt) other t ps h = absurd other
+parts_from (D.Map key key_at value at (MF.Hamt p)) other t ps h = absurd other
 
 -- what fits in a room fits where so much more is passed over
 pub past_fits : (rows : List Row) (over room n : ℕ) → n ≡ room + over → (s : Slot) (v : Value) → FitsPast rows room zero s v → FitsPast rows n over s v
@@ -590,11 +591,11 @@ module _ (rows : List Row) (s : Slot) (t : Data) (tree : IsTree t) where
           let x = parts_from d other t ps parts in
           whole_give rows clear delims room s t tree d x.0 is (free (suc room) d t none) other x.1
           (subst (AllByRecursion (λ p. IsTree p.tree)) x.2 trees) (subst (AllByRecursion (Good rows (FitsPast rows room (needs d t - 1)))) x.2 all)
-      by (hamt_form key key_at value at same) =
-          let x : (slots : List Trie.TrieSlot) × IsRoot usual slots t × (ps ≡ root_spots key value 0 slots) = subst (λ k. AreParts k t ps) same parts in
+      by (hamt_form p key key_at value at same) =
+          let x : (slots : List Trie.TrieSlot) × IsRoot p slots t × (ps ≡ root_spots key value 0 slots) = subst (λ k. AreParts k t ps) same parts in
           let five : 5 ≤ suc room = subst (λ k. needs k t ≤ suc room) same (free (suc room) d t none).enough in
           let good = subst (λ k. AllByRecursion (Good rows (FitsPast rows room (needs k t - 1))) ps) same all in
-          root_give rows clear delims room s t tree key key_at value at (is ∙ ap Some same) five x.0 x.1 (subst (AllByRecursion (Good rows (FitsPast rows room 4))) x.2 good)
+          root_give rows clear delims room s t tree p key key_at value at (is ∙ ap Some same) five x.0 x.1 (subst (AllByRecursion (Good rows (FitsPast rows room 4))) x.2 good)
 
     -- without parts
     pub plain_fits : (room : ℕ) → why_at room d t ≡ None → AreParts d t [] → Shows (FitsPast rows room zero) rows s t
@@ -602,7 +603,7 @@ module _ (rows : List Row) (s : Slot) (t : Data) (tree : IsTree t) where
     plain_fits zero none parts = by (form_is d) where
       by : Form d → Shows (FitsPast rows zero zero) rows s t
       by (other_form other) = let x = parts_from d other t [] parts in flat_give rows s t tree d x.0 is (free zero d t none).enough x.1
-      by (hamt_form key key_at value at same) =
+      by (hamt_form p key key_at value at same) =
           let five : 5 ≤ zero = subst (λ k. needs k t ≤ zero) same (free zero d t none).enough in
           absurd (omega (arith, five))
 

@@ -7,16 +7,16 @@ use Rattle.ild_data.specs.Data.{Data}
 use Rattle.ild_data.specs.Spell.{spell, id_of}
 use Rattle.ild_schema.specs.declared.def.KindWord.TheVariants as K
 use Rattle.ild_schema.specs.declared.def.MapForm.TheVariants as MF
-use Rattle.ild_data.specs.TrieShape.{TrieShape}
+use Rattle.ild_data.specs.declared.hamt_shape.HamtShape.{HamtShape}
 use Rattle.ild_data.specs.Trie.{trie}
 use Rattle.ild_typed.specs.Layer as L
 use Rattle.ild_typed.specs.Layer.{Layer, as_map}
 use Rattle.ild_typed.specs.Kinds.{kind_of}
-use Rattle.ild_typed.specs.Composed.{usual}
 use Rattle.ild_typed.specs.Hamt.{root_map, whole}
 use Rattle.ild_typed.proofs.Basics.{then_from, map_from}
 use Rattle.ild_typed.proofs.Onlies.{only_map}
 use Rattle.ild_typed.proofs.Entries.{map_tells}
+use Rattle.ild_typed.proofs.NodeRoots.{whole_map}
 use Rattle.ild_typed.proofs.TrieTells.{trie_tells, sorted_tells}
 use Rattle.ild_typed.proofs.OneWhole.{IsExactFor, one_whole}
 use Rattle.ild_typed.specs.Known.{FormOk, Kept, IdsTell, IsKept, HeldNode}
@@ -34,26 +34,26 @@ node_in z [] = z
 node_in z (p ∷ ps) = p.1
 
 module _ (h : List ℕ → List ℕ) (Known : Data → Type 0) (one : IdsTell Known) where
-  kept : (l : Layer Data) (es : List (List ℕ × Data)) → as_map l ≡ Some es → FormOk (Kept h Known) MF.Hamt l → Kept h Known es
-  kept (L.map fs) es e ok = subst (Kept h Known) (same_Some fs es e) ok
-  kept l es e ok = absurd (none-some es e)
+  kept : (p : HamtShape) (l : Layer Data) (es : List (List ℕ × Data)) → as_map l ≡ Some es → FormOk (Kept h Known) (MF.Hamt p) l → Kept h Known p es
+  kept p (L.map fs) es e ok = subst (Kept h Known p) (same_Some fs es e) ok
+  kept p l es e ok = absurd (none-some es e)
 
-  whole_tells : (l m : Layer Data) (t : Data) → FormOk (Kept h Known) MF.Hamt l → FormOk (Kept h Known) MF.Hamt m → whole h usual l ≡ Some t → whole h usual m ≡ Some t → l ≡ m
-  whole_tells l m t a b e k =
-      let x = map_from (root_map usual) (option_and_then (λ es. trie h usual es 0) (as_map l)) t e in
-      let y = map_from (root_map usual) (option_and_then (λ es. trie h usual es 0) (as_map m)) t k in
-      let u = then_from (λ es. trie h usual es 0) (as_map l) x.item x.there in
-      let v = then_from (λ es. trie h usual es 0) (as_map m) y.item y.there in
-      let rest : List (List ℕ × Data) = (codes "hashAlg", T.integer (pos 18)) ∷ (codes "bucketSize", T.integer (pos 3)) ∷ [] in
+  whole_tells : (p : HamtShape) (l m : Layer Data) (t : Data) → FormOk (Kept h Known) (MF.Hamt p) l → FormOk (Kept h Known) (MF.Hamt p) m → whole h p l ≡ Some t → whole h p m ≡ Some t → l ≡ m
+  whole_tells p l m t a b e k =
+      let x = map_from (root_map p) (option_and_then (λ es. trie h p es 0) (as_map l)) t e in
+      let y = map_from (root_map p) (option_and_then (λ es. trie h p es 0) (as_map m)) t k in
+      let u = then_from (λ es. trie h p es 0) (as_map l) x.item x.there in
+      let v = then_from (λ es. trie h p es 0) (as_map m) y.item y.there in
+      let rest : List (List ℕ × Data) = (codes "hashAlg", T.integer (pos 18)) ∷ (codes "bucketSize", T.integer (pos p.bucket)) ∷ [] in
       let node : y.item ≡ x.item
       = ap (node_in x.item) (map_tells ((codes "hamt", y.item) ∷ rest) ((codes "hamt", x.item) ∷ rest)
-      (same_Some (root_map usual y.item) t y.made ∙ sym (same_Some (root_map usual x.item) t x.made))) in
-      let ku : Kept h Known u.item = kept l u.item u.there a in
-      let kv : Kept h Known v.item = kept m v.item v.there b in
-      let same = trie_tells h usual refl Known one u.item v.item x.item ku.1 kv.1 u.made (v.made ∙ ap Some node) in
+      (same_Some (root_map p y.item) t y.made ∙ sym (same_Some (root_map p x.item) t x.made))) in
+      let ku : Kept h Known p u.item = kept p l u.item u.there a in
+      let kv : Kept h Known p v.item = kept p m v.item v.there b in
+      let same = trie_tells h p (whole_map p.width (2 ^ p.width) p.wide refl) Known one u.item v.item x.item ku.1 kv.1 u.made (v.made ∙ ap Some node) in
       only_map l u.item u.there ∙ ap L.map (sorted_tells u.item v.item ku.0 kv.0 same) ∙ sym (only_map m v.item v.there)
 
-  whole_kind : (p : TrieShape) (l : Layer Data) (t : Data) → whole h p l ≡ Some t → kind_of t ≡ K.Map
+  whole_kind : (p : HamtShape) (l : Layer Data) (t : Data) → whole h p l ≡ Some t → kind_of t ≡ K.Map
   whole_kind p l t e =
       let x = map_from (root_map p) (option_and_then (λ es. trie h p es 0) (as_map l)) t e in
       ap kind_of (sym (same_Some (root_map p x.item) t x.made))

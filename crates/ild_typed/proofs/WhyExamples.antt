@@ -23,6 +23,7 @@ use Rattle.ild_schema.specs.declared.row.Row.{Row}
 use Rattle.std.proofs.Common.{inl, inr, ap}
 use Rattle.std.specs.Prelude.{is_some}
 use Rattle.ild_data.specs.Key.{value_at}
+use Rattle.ild_data.specs.TrieShape.{usual}
 use Rattle.ild_typed.specs.Strings.{members_in, map_data}
 use Rattle.ild_typed.specs.Named.{where_some}
 use Rattle.ild_typed.specs.Pieces.{IsNoRoot, why_at}
@@ -277,17 +278,17 @@ abbrev root : Data → Data → Data
 root alg bucket = map_data (entry (codes "hashAlg") alg (entry (codes "bucketSize") bucket []))
 
 -- an integer is told of before the form of the root, which here has no node
-hash_alg : why_at 5 (map_of 3 MF.Hamt) (root (int 17) (int 2)) ≡ Some W.HashAlg
+hash_alg : why_at 5 (map_of 3 (MF.Hamt usual)) (root (int 17) (int 2)) ≡ Some W.HashAlg
 hash_alg = refl
 
-bucket_size : why_at 5 (map_of 3 MF.Hamt) (root (int 18) (int 2)) ≡ Some W.BucketSize
+bucket_size : why_at 5 (map_of 3 (MF.Hamt usual)) (root (int 18) (int 2)) ≡ Some W.BucketSize
 bucket_size = refl
 
 -- another kind of number is only no root
-odd_number : why_at 5 (map_of 3 MF.Hamt) (root T.null (text [])) ≡ None
+odd_number : why_at 5 (map_of 3 (MF.Hamt usual)) (root T.null (text [])) ≡ None
 odd_number = refl
 
-hamt_depth : why_at 4 (map_of 3 MF.Hamt) (root (int 17) (int 2)) ≡ Some W.Depth
+hamt_depth : why_at 4 (map_of 3 (MF.Hamt usual)) (root (int 17) (int 2)) ≡ Some W.Depth
 hamt_depth = refl
 
 -- ---- walks
@@ -425,10 +426,10 @@ query_implicit = refl
 has_node : Data → Bool
 has_node t = where_some (λ ms. is_some (value_at (codes "hamt") ms)) (members_in t)
 
-no_root : IsNoRoot (root T.null (text []))
+no_root : IsNoRoot usual (root T.null (text []))
 unfolding has_node
 no_root slots r = let e : false ≡ true = ap has_node r.tree in absurd cc
 
-walk_trie : Refused (table (map_of 3 MF.Hamt ∷ [])) 5 top (root T.null (text [])) (refusal 8 W.Trie [])
+walk_trie : Refused (table (map_of 3 (MF.Hamt usual) ∷ [])) 5 top (root T.null (text [])) (refusal 8 W.Trie [])
 unfolding RefusedPast
 walk_trie = (refl, _, refl, inl (W.Trie, inr (refl, no_root, refl), refl))

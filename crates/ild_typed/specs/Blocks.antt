@@ -16,14 +16,13 @@ use Rattle.ild_schema.specs.Value as V
 use Rattle.ild_schema.specs.Value.{Value, Values, Pairs, Optionals}
 use Rattle.ild_schema.specs.Slots.{form_of}
 use Rattle.ild_typed.specs.Slots.{element_of, fields_of, member_of}
-use Rattle.ild_typed.specs.Composed.{usual}
 use Rattle.ild_typed.specs.Hamt.{whole}
 use Rattle.ild_typed.specs.Represented.{represented_pairs}
 
 -- the blocks of the nodes beneath the root of a HAMT with these entries
 abbrev pub hamt_nodes : (List ℕ → List ℕ) → Option TypeDef → Option (List (List ℕ × Data)) → List (List ℕ)
-hamt_nodes h (Some (D.Map key key_at value at MF.Hamt)) (Some es) =
-    cond (is_some (trie h usual es 0)) (nodes_beneath h usual (trie_levels usual) 0 (in_byte_order es)) []
+hamt_nodes h (Some (D.Map key key_at value at (MF.Hamt p))) (Some es) =
+    cond (is_some (trie h p es 0)) (nodes_beneath h p (trie_levels p) 0 (in_byte_order es)) []
 hamt_nodes h d es = []
 
 abbrev mutual

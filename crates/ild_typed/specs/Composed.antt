@@ -20,7 +20,7 @@ use Rattle.ild_schema.specs.declared.def.EnumForm.TheVariants as E
 use Rattle.ild_schema.specs.declared.def.Field.{Field}
 use Rattle.ild_schema.specs.declared.def.Member.{Member}
 use Rattle.ild_schema.specs.declared.def.EnumMember.{EnumMember}
-use Rattle.ild_data.specs.TrieShape.{TrieShape}
+use Rattle.ild_data.specs.declared.hamt_shape.HamtShape.{HamtShape}
 use Rattle.ild_typed.specs.Layer.{Layer, as_boolean, as_integer, as_text, as_bytes, as_link, as_any, as_unit, as_enum, as_list, as_map, as_struct, as_union}
 use Rattle.ild_typed.specs.Fields.{field_entries, tuple_items, all_items}
 use Rattle.ild_typed.specs.Strings.{text_in, bytes_in, members_in, in_key_order, map_data, listpairs, stringpairs, stringjoin}
@@ -31,11 +31,7 @@ use Rattle.ild_schema.specs.Hex.{bytes_of_hex}
 
 -- how the layer of a HAMT of a shape stands in a block
 abbrev pub Hamts : Type 0
-Hamts = TrieShape → Layer Data → Option Data
-
--- until shapes are declared
-abbrev pub usual : TrieShape
-usual = record { width = 8; bucket = 3 }
+Hamts = HamtShape → Layer Data → Option Data
 
 abbrev pub unit_data : UnitForm → Data
 unit_data U.Null = T.null
@@ -52,7 +48,7 @@ abbrev pub map_form : Hamts → MapForm → Layer Data → Option Data
 map_form at MF.Map l = option_map map_data (as_map l)
 map_form at MF.ListPairs l = option_map listpairs (as_map l)
 map_form at (MF.StringPairs inner entry) l = option_and_then (stringpairs inner entry) (as_map l)
-map_form at MF.Hamt l = at usual l
+map_form at (MF.Hamt p) l = at p l
 
 abbrev pub struct_form : StructForm → List Field → List (Option Data) → Option Data
 struct_form S.Map fs os = option_map (λ es. map_data (in_key_order es)) (field_entries fs os)

@@ -2,14 +2,14 @@
 use Rattle.std.specs.Prelude.{ℕ, pos, codes, List, [], ◌∷◌, Option, Some, None, option_map, option_and_then}
 use Rattle.ild_data.specs.Data as T
 use Rattle.ild_data.specs.Data.{Data}
-use Rattle.ild_data.specs.TrieShape.{TrieShape}
+use Rattle.ild_data.specs.declared.hamt_shape.HamtShape.{HamtShape}
 use Rattle.ild_data.specs.Trie.{trie}
 use Rattle.ild_typed.specs.Layer.{as_map, as_hamt}
 use Rattle.ild_typed.specs.Strings.{map_data}
 use Rattle.ild_typed.specs.Composed.{Hamts}
 
 -- the root map over a root node
-abbrev pub root_map : TrieShape → Data → Data
+abbrev pub root_map : HamtShape → Data → Data
 root_map p node =
     map_data ((codes "hamt", node) ∷ (codes "hashAlg", T.integer (pos 18)) ∷ (codes "bucketSize", T.integer (pos p.bucket)) ∷ [])
 

@@ -46,7 +46,7 @@ abbrev pub is_paired : MapForm → Bool
 is_paired M.Map = false
 is_paired M.ListPairs = true
 is_paired (M.StringPairs inner entry) = true
-is_paired M.Hamt = false
+is_paired (M.Hamt p) = false
 
 abbrev pub list_holder : Option TypeDef → Values → Holder
 list_holder (Some (T.List elem at)) vs = elements elem (values_list vs)

@@ -16,7 +16,6 @@ use Rattle.ild_typed.specs.Texts.{join, join_pairs}
 use Rattle.ild_typed.specs.Fields.{field_entries, all_items}
 use Rattle.ild_typed.specs.Strings.{texts_in, text_pairs}
 use Rattle.ild_data.specs.Trie.{trie}
-use Rattle.ild_typed.specs.Composed.{usual}
 use Rattle.ild_typed.specs.Hamt.{whole, alone}
 use Rattle.ild_typed.specs.Represented.{represented_pairs, represented_fields}
 use Rattle.ild_typed.specs.EachLayer.{some_layer}
@@ -72,7 +71,7 @@ breaks_delimiter rows = some_layer (breaks rows) rows
 -- ---- entries without a trie
 
 abbrev pub map_exhausts : (List ℕ → List ℕ) → MapForm → Option (List (List ℕ × Data)) → Bool
-map_exhausts h MF.Hamt (Some es) = is_none (trie h usual es 0)
+map_exhausts h (MF.Hamt p) (Some es) = is_none (trie h p es 0)
 map_exhausts h form o = false
 
 abbrev pub is_exhausted : (List ℕ → List ℕ) → List Row → Option TypeDef → Value → Bool

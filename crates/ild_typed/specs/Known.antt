@@ -13,38 +13,39 @@ use Rattle.ild_schema.specs.declared.def.Field.{Field}
 use Rattle.ild_schema.specs.declared.row.Row.{Row}
 use Rattle.ild_schema.specs.Value as V
 use Rattle.ild_schema.specs.Value.{Value, Values, Pairs, Optionals}
-use Rattle.ild_data.specs.TrieShape.{TrieShape, trie_levels}
+use Rattle.ild_data.specs.declared.hamt_shape.HamtShape.{HamtShape}
+use Rattle.ild_data.specs.TrieShape.{trie_levels}
 use Rattle.ild_data.specs.ByteOrder.{in_byte_order}
 use Rattle.ild_data.specs.Trie.{part, at_depth, node_of}
 use Rattle.ild_typed.specs.Layer as L
 use Rattle.ild_typed.specs.Layer.{Layer}
 use Rattle.ild_schema.specs.Slots.{form_of}
 use Rattle.ild_typed.specs.Slots.{element_of, fields_of, member_of}
-use Rattle.ild_typed.specs.Composed.{Hamts, usual}
+use Rattle.ild_typed.specs.Composed.{Hamts}
 use Rattle.ild_typed.specs.Hamt.{whole}
 use Rattle.ild_typed.specs.Represented.{represented_pairs}
 
 -- each node beneath is known
-unfoldable pub AreKnown : (List ℕ → List ℕ) → TrieShape → (Data → Type 0) → ℕ → ℕ → List (List ℕ × Data) → Type 0
+unfoldable pub AreKnown : (List ℕ → List ℕ) → HamtShape → (Data → Type 0) → ℕ → ℕ → List (List ℕ × Data) → Type 0
 AreKnown h p Known zero depth es = Unit {0}
 AreKnown h p Known (suc left) depth es =
     (i : ℕ) (n : Data) → p.bucket < length (part (at_depth h p depth) es i) → node_of h p left (depth + 1) (part (at_depth h p depth) es i) ≡ Some n
     → Known n × AreKnown h p Known left (depth + 1) (part (at_depth h p depth) es i)
 
 -- entries of a HAMT that rise in the key order, with each node known
-abbrev pub Kept : (List ℕ → List ℕ) → (Data → Type 0) → List (List ℕ × Data) → Type 0
-Kept h Known es = Rises es × AreKnown h usual Known (trie_levels usual - 0) 0 (in_byte_order es)
+abbrev pub Kept : (List ℕ → List ℕ) → (Data → Type 0) → HamtShape → List (List ℕ × Data) → Type 0
+Kept h Known p es = Rises es × AreKnown h p Known (trie_levels p - 0) 0 (in_byte_order es)
 
 -- what is asked of the entries of a HAMT, and of no other layer
-abbrev pub FormOk : (List (List ℕ × Data) → Type 0) → MapForm → Layer Data → Type 0
-FormOk ok MF.Hamt (L.map es) = ok es
+abbrev pub FormOk : (HamtShape → List (List ℕ × Data) → Type 0) → MapForm → Layer Data → Type 0
+FormOk ok (MF.Hamt p) (L.map es) = ok p es
 FormOk ok form l = Unit {0}
 
-abbrev pub LayerOk : (List (List ℕ × Data) → Type 0) → TypeDef → Layer Data → Type 0
+abbrev pub LayerOk : (HamtShape → List (List ℕ × Data) → Type 0) → TypeDef → Layer Data → Type 0
 LayerOk ok (D.Map key key_at value place form) l = FormOk ok form l
 LayerOk ok d l = Unit {0}
 
-module _ (at : Hamts) (ok : List (List ℕ × Data) → Type 0) (rows : List Row) where
+module _ (at : Hamts) (ok : HamtShape → List (List ℕ × Data) → Type 0) (rows : List Row) where
   abbrev pub MapGood : Slot → Pairs → Type 0
   MapGood s ps =
       (d : TypeDef) (u : Slot) (ds : List (List ℕ × Data)) → form_of rows s ≡ Some d → element_of (Some d) ≡ Some u → represented_pairs at rows u ps ≡ Some ds → LayerOk ok d (L.map ds)

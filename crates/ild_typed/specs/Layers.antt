@@ -22,11 +22,11 @@ use Rattle.ild_schema.specs.Value.{Value, values_list, pairs_list, optionals_lis
 use Rattle.ild_typed.specs.Layer as L
 use Rattle.ild_typed.specs.Layer.{Layer, as_boolean, as_integer, as_text, as_bytes, as_link, as_any, as_unit, as_enum, as_list, as_map, as_struct, as_union, as_hamt}
 use Rattle.ild_schema.specs.Slots.{plainly}
-use Rattle.ild_typed.specs.Composed.{usual}
 use Rattle.ild_typed.specs.Hamt.{alone}
 use Rattle.ild_typed.specs.Represented.{represented}
 use Rattle.ild_typed.specs.Node as N
 use Rattle.ild_data.specs.Trie as Trie
+use Rattle.ild_data.specs.declared.hamt_shape.HamtShape.{HamtShape}
 
 -- the outermost layer of a value that is not null
 abbrev pub layer_of : Value → Option (Layer Value)
@@ -59,7 +59,7 @@ abbrev pub AreKeys : {V : Type 0} → MapForm → List (List ℕ × V) → Type 
 AreKeys MF.Map ps = Rises ps
 AreKeys MF.ListPairs ps = AreKeysApart ps
 AreKeys (MF.StringPairs inner entry) ps = AreKeysApart ps
-AreKeys MF.Hamt ps = Rises ps
+AreKeys (MF.Hamt p) ps = Rises ps
 
 -- data for which some value stands that fits
 abbrev pub Shows : (Slot → Value → Type 0) → List Row → Slot → Data → Type 0
@@ -77,15 +77,15 @@ abbrev pub EntriesFit : (Slot → Value → Type 0) → List Row → TypeNo → 
 EntriesFit fits rows key value form ps =
     AreKeys form ps × AllByRecursion (λ p. IsUtf8 p.0 × Shows fits rows (plainly key) (T.text p.0) × fits value p.1) ps
 
--- those in the block of the root of a HAMT
-abbrev pub RootFits : (Slot → Value → Type 0) → List Row → TypeNo → Slot → Data → Type 0
-RootFits fits rows key value d =
-    (slots : List Trie.TrieSlot) × N.IsRoot usual slots d
+-- those in the block of the root of a HAMT of this shape
+abbrev pub RootFits : (Slot → Value → Type 0) → List Row → HamtShape → TypeNo → Slot → Data → Type 0
+RootFits fits rows p key value d =
+    (slots : List Trie.TrieSlot) × N.IsRoot p slots d
     × AllByRecursion (λ e. Shows fits rows (plainly key) (T.text e.0) × Shows fits rows value e.1) (N.entries_in slots)
 
 abbrev pub MapFits : (Slot → Value → Type 0) → List Row → TypeNo → Slot → MapForm → Layer Value → Type 0
-MapFits fits rows key value MF.Hamt l =
-    IsSomeAnd (as_map l) (EntriesFit fits rows key value MF.Hamt) ⊎ IsSomeAnd (as_hamt l) (RootFits fits rows key value)
+MapFits fits rows key value (MF.Hamt p) l =
+    IsSomeAnd (as_map l) (EntriesFit fits rows key value (MF.Hamt p)) ⊎ IsSomeAnd (as_hamt l) (RootFits fits rows p key value)
 MapFits fits rows key value form l = IsSomeAnd (as_map l) (EntriesFit fits rows key value form)
 
 -- the layer is of the type's form, and its parts fit

@@ -6,7 +6,7 @@ use Rattle.std.specs.Ordering.{is_lt, eq_by_cmp}
 use Rattle.ild_data.specs.Data.{Data, integer, bytes, list, map as map_data, link, Items, no_items, item, items_list, members_list}
 use Rattle.ild_data.specs.Spell.{cid_of}
 use Rattle.ild_data.specs.Key.{same_text}
-use Rattle.ild_data.specs.TrieShape.{TrieShape}
+use Rattle.ild_data.specs.declared.hamt_shape.HamtShape.{HamtShape}
 use Rattle.ild_data.specs.ByteOrder.{bytewise}
 use Rattle.ild_typed.specs.Fields.{same_int}
 
@@ -87,15 +87,15 @@ abbrev pub map_bits : List ℕ → ℕ → ℕ → List Bool
 map_bits m from count = map (map_bit m) (range_with_len from count)
 
 -- the map and the list of elements
-abbrev pub parts_fit : TrieShape → Data × Data → Bool
+abbrev pub parts_fit : HamtShape → Data × Data → Bool
 parts_fit p (bytes m, list ds) = (length m == 2 ^ p.width / 8) && elements_fit p.bucket (map_bits m 0 (2 ^ p.width)) ds
 parts_fit p x = false
 
-abbrev pub pair_fits : TrieShape → Option (Data × Data) → Bool
+abbrev pub pair_fits : HamtShape → Option (Data × Data) → Bool
 pair_fits p None = false
 pair_fits p (Some x) = parts_fit p x
 
-abbrev pub node_fits : TrieShape → Data → Bool
+abbrev pub node_fits : HamtShape → Data → Bool
 node_fits p t = pair_fits p (pair_in t)
 
 -- ---- the root map
@@ -107,10 +107,10 @@ is_number n t = false
 abbrev pub entry_fits : List ℕ → (Data → Bool) → List ℕ × Data → Bool
 entry_fits k holds e = same_text k e.0 && holds e.1
 
-abbrev pub entries_fit : TrieShape → List (List ℕ × Data) → Bool
+abbrev pub entries_fit : HamtShape → List (List ℕ × Data) → Bool
 entries_fit p (a ∷ b ∷ c ∷ []) = entry_fits (codes "hamt") (node_fits p) a && (entry_fits (codes "hashAlg") (is_number 18) b && entry_fits (codes "bucketSize") (is_number p.bucket) c)
 entries_fit p es = false
 
-abbrev pub root_fits : TrieShape → Data → Bool
+abbrev pub root_fits : HamtShape → Data → Bool
 root_fits p (map_data ms) = entries_fit p (members_list ms)
 root_fits p t = false

@@ -12,10 +12,10 @@ use Rattle.ild_schema.specs.declared.def.MapForm.TheVariants as MF
 use Rattle.ild_schema.specs.Value as V
 use Rattle.ild_typed.specs.Fields.{same_int}
 use Rattle.ild_typed.specs.Strings.{members_in}
-use Rattle.ild_typed.specs.Composed.{usual}
 use Rattle.ild_typed.specs.Levels.{levels_of}
 use Rattle.ild_typed.specs.Node.{IsRoot}
 use Rattle.ild_data.specs.Trie as Trie
+use Rattle.ild_data.specs.declared.hamt_shape.HamtShape.{HamtShape}
 use Rattle.ild_typed.specs.Why as W
 use Rattle.ild_typed.specs.Why.{Why}
 use Rattle.ild_typed.specs.Named.{items_in, where_some, pair_names, split_entries, names, has_twice}
@@ -52,22 +52,22 @@ is_odd n d = false
 abbrev pub has_odd : List ℕ → ℕ → Data → Bool
 has_odd k n t = where_some (λ ms. where_some (is_odd n) (value_at k ms)) (members_in t)
 
-abbrev pub root_why : Data → Option Why
-root_why t = cond (has_odd (codes "hashAlg") 18 t) (Some W.HashAlg) (cond (has_odd (codes "bucketSize") 3 t) (Some W.BucketSize) None)
+abbrev pub root_why : HamtShape → Data → Option Why
+root_why p t = cond (has_odd (codes "hashAlg") 18 t) (Some W.HashAlg) (cond (has_odd (codes "bucketSize") p.bucket t) (Some W.BucketSize) None)
 
 abbrev pub hamt_why : TypeDef → Data → Option Why
-hamt_why (D.Map key key_at value at MF.Hamt) t = root_why t
+hamt_why (D.Map key key_at value at (MF.Hamt p)) t = root_why p t
 hamt_why d t = None
 
 abbrev pub why_at : ℕ → TypeDef → Data → Option Why
 why_at room d t = option_or (why_of d t) (option_or (keys_why d t) (option_or (room_why room d t) (hamt_why d t)))
 
--- data that are no root of a HAMT
-abbrev pub IsNoRoot : Data → Type 0
-IsNoRoot t = (slots : List Trie.TrieSlot) → IsRoot usual slots t → ⊥
+-- data that are no root of a HAMT of this shape
+abbrev pub IsNoRoot : HamtShape → Data → Type 0
+IsNoRoot p t = (slots : List Trie.TrieSlot) → IsRoot p slots t → ⊥
 
 abbrev pub HasNoRoot : TypeDef → Data → Type 0
-HasNoRoot (D.Map key key_at value at MF.Hamt) t = IsNoRoot t
+HasNoRoot (D.Map key key_at value at (MF.Hamt p)) t = IsNoRoot p t
 HasNoRoot d t = ⊥
 
 abbrev pub IsWhy : ℕ → TypeDef → Data → Why → Type 0

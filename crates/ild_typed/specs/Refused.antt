@@ -11,7 +11,7 @@ use Rattle.ild_schema.specs.declared.row.Row.{Row}
 use Rattle.ild_schema.specs.Value.{Value}
 use Rattle.ild_typed.specs.Layer.{Layer}
 use Rattle.ild_schema.specs.Slots.{form_of}
-use Rattle.ild_typed.specs.Composed.{usual, composed}
+use Rattle.ild_typed.specs.Composed.{composed}
 use Rattle.ild_typed.specs.Hamt.{alone}
 use Rattle.ild_typed.specs.Node.{IsRoot}
 use Rattle.ild_data.specs.Trie as Trie
@@ -39,7 +39,7 @@ part_refusal p q = cond p.is_key (key_refusal p q q.why) (record { ty = q.ty; wh
 
 -- the parts of data of a type, in their order
 abbrev pub AreParts : TypeDef → Data → List Spot → Type 0
-AreParts (D.Map key key_at value at MF.Hamt) t ps = (slots : List Trie.TrieSlot) × IsRoot usual slots t × (ps ≡ root_spots key value 0 slots)
+AreParts (D.Map key key_at value at (MF.Hamt p)) t ps = (slots : List Trie.TrieSlot) × IsRoot p slots t × (ps ≡ root_spots key value 0 slots)
 AreParts d t ps = (l : Layer Data) × (composed alone d l ≡ Some t) × (ps ≡ spots_of d l)
 
 -- the refusal of the first part that has one: those before it have fronts that fit

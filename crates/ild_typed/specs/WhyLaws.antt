@@ -13,9 +13,10 @@ use Rattle.ild_schema.specs.declared.number.Slot.{Slot}
 use Rattle.ild_schema.specs.declared.row.Row.{Row}
 use Rattle.ild_schema.specs.Value.{Value}
 use Rattle.ild_schema.specs.Slots.{form_of}
-use Rattle.ild_typed.specs.Composed.{usual, composed}
+use Rattle.ild_typed.specs.Composed.{composed}
 use Rattle.ild_typed.specs.Node.{IsRoot}
 use Rattle.ild_data.specs.Trie as Trie
+use Rattle.ild_data.specs.declared.hamt_shape.HamtShape.{HamtShape}
 use Rattle.ild_typed.specs.Fits.{Front}
 use Rattle.ild_schema.specs.Clear.{IsSafe, ClearType}
 use Rattle.ild_typed.specs.Spots.{Spot}
@@ -49,7 +50,7 @@ PartsAreTrees =
 
 -- a tree is the root of a HAMT exactly where the test says so
 abbrev pub RootsAreTold : Type 0
-RootsAreTold = (t : Data) → IsTree t → (root_fits usual t ≡ true) ↔ ((slots : List Trie.TrieSlot) × IsRoot usual slots t)
+RootsAreTold = (p : HamtShape) (t : Data) → IsTree t → (root_fits p t ≡ true) ↔ ((slots : List Trie.TrieSlot) × IsRoot p slots t)
 
 -- what is refused has no front
 abbrev pub RefusedHaveNoFront : Type 0

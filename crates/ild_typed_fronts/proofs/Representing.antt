@@ -5,6 +5,7 @@ use Rattle.std.specs.Option.{option_map_or}
 use Rattle.ild_data.specs.Data as T
 use Rattle.ild_data.specs.Data.{Data}
 use Rattle.ild_data.specs.Trie.{trie}
+use Rattle.ild_data.specs.declared.hamt_shape.HamtShape.{HamtShape}
 use Rattle.ild_schema.specs.declared.def.Field.{Field}
 use Rattle.ild_schema.specs.declared.def.MapForm.TheVariants as MF
 use Rattle.ild_schema.specs.declared.def.TypeDef.{TypeDef}
@@ -16,7 +17,7 @@ use Rattle.ild_schema.specs.Slots.{form_of}
 use Rattle.ild_schema.specs.Value as V
 use Rattle.ild_schema.specs.Value.{Value, Values, Pairs, Optionals}
 use Rattle.ild_schema.proofs.Legibly.{legible}
-use Rattle.ild_typed.specs.Composed.{composed, usual}
+use Rattle.ild_typed.specs.Composed.{composed}
 use Rattle.ild_typed.specs.Fits.{Fits}
 use Rattle.ild_typed.specs.Hamt.{alone, whole, root_map}
 use Rattle.ild_typed.specs.Layer as L
@@ -34,13 +35,13 @@ use Rattle.ild_typed_fronts.specs.FrontLaws.{FrontsRepresent, FrontsAreFronts, F
 module _ (h : List ℕ → List ℕ) where
   -- which are all but those of HAMTs
   abbrev Alike : Layer Data → Type 0
-  Alike l = alone usual l ≡ whole h usual l
+  Alike l = (p : HamtShape) → alone p l ≡ whole h p l
 
   composed_alike : (d : TypeDef) (l : Layer Data) → Alike l → composed alone d l ≡ composed (whole h) d l
   composed_alike (D.Map key key_at value place MF.Map) l same = refl
   composed_alike (D.Map key key_at value place MF.ListPairs) l same = refl
   composed_alike (D.Map key key_at value place (MF.StringPairs inner entry)) l same = refl
-  composed_alike (D.Map key key_at value place MF.Hamt) l same = same
+  composed_alike (D.Map key key_at value place (MF.Hamt p)) l same = same p
   composed_alike d l same = refl
 
   layered_alike : (F : Option TypeDef) (l : Layer Data) → Alike l → layered alone F (Some l) ≡ layered (whole h) F (Some l)
@@ -63,7 +64,7 @@ module _ (h : List ℕ → List ℕ) where
     by (D.Map key key_at value place MF.Map) plain = refl
     by (D.Map key key_at value place MF.ListPairs) plain = refl
     by (D.Map key key_at value place (MF.StringPairs inner entry)) plain = refl
-    by (D.Map key key_at value place MF.Hamt) plain = absurd cc
+    by (D.Map key key_at value place (MF.Hamt p)) plain = absurd cc
     by d plain = refl
 
   -- the root of a HAMT by its data
@@ -71,9 +72,9 @@ module _ (h : List ℕ → List ℕ) where
   of_root F None = layered alone F (Some (L.hamt T.null))
   of_root F (Some t) = layered alone F (Some (L.hamt t))
 
-  root_stands : (key : TypeNo) (key_at : ℕ) (value : Slot) (place : ℕ) (o : Option Data) → of_root (Some (D.Map key key_at value place MF.Hamt)) (option_map (root_map usual) o) ≡ option_map (root_map usual) o
-  root_stands key key_at value place None = refl
-  root_stands key key_at value place (Some n) = refl
+  root_stands : (p : HamtShape) (key : TypeNo) (key_at : ℕ) (value : Slot) (place : ℕ) (o : Option Data) → of_root (Some (D.Map key key_at value place (MF.Hamt p))) (option_map (root_map p) o) ≡ option_map (root_map p) o
+  root_stands p key key_at value place None = refl
+  root_stands p key key_at value place (Some n) = refl
 
   root_alike : (F : Option TypeDef) (o : Option (List (List ℕ × Data))) → is_hamt F ≡ true → of_root F (layered (whole h) F (option_map L.map o)) ≡ layered (whole h) F (option_map L.map o)
   root_alike None o root = absurd cc
@@ -82,8 +83,8 @@ module _ (h : List ℕ → List ℕ) where
     by (D.Map key key_at value place MF.Map) root o = absurd cc
     by (D.Map key key_at value place MF.ListPairs) root o = absurd cc
     by (D.Map key key_at value place (MF.StringPairs inner entry)) root o = absurd cc
-    by (D.Map key key_at value place MF.Hamt) root None = refl
-    by (D.Map key key_at value place MF.Hamt) root (Some es) = root_stands key key_at value place (trie h usual es 0)
+    by (D.Map key key_at value place (MF.Hamt p)) root None = refl
+    by (D.Map key key_at value place (MF.Hamt p)) root (Some es) = root_stands p key key_at value place (trie h p es 0)
     by d root o = absurd cc
 
   -- a root alone is no part of a whole value
@@ -94,7 +95,7 @@ module _ (h : List ℕ → List ℕ) where
     by (D.Map key key_at value place MF.Map) = refl
     by (D.Map key key_at value place MF.ListPairs) = refl
     by (D.Map key key_at value place (MF.StringPairs inner entry)) = refl
-    by (D.Map key key_at value place MF.Hamt) = refl
+    by (D.Map key key_at value place (MF.Hamt p)) = refl
     by d = refl
 
 -- ---- values
@@ -121,27 +122,27 @@ module _ (h : List ℕ → List ℕ) (rows : List Row) where
   mutual
     pub same_data : (v : Value) (s : Slot) → represented alone rows s (front h rows s v) ≡ represented (whole h) rows s v
     same_data V.null s = refl
-    same_data (V.boolean b) s = layered_alike h (form_of rows s) (L.boolean b) refl
-    same_data (V.integer n) s = layered_alike h (form_of rows s) (L.integer n) refl
-    same_data (V.text t) s = layered_alike h (form_of rows s) (L.text t) refl
-    same_data (V.bytes t) s = layered_alike h (form_of rows s) (L.bytes t) refl
-    same_data (V.link t) s = layered_alike h (form_of rows s) (L.link t) refl
-    same_data (V.any d) s = layered_alike h (form_of rows s) (L.any d) refl
-    same_data V.unit s = layered_alike h (form_of rows s) L.unit refl
-    same_data (V.enum n) s = layered_alike h (form_of rows s) (L.enum n) refl
+    same_data (V.boolean b) s = layered_alike h (form_of rows s) (L.boolean b) (λ p. refl)
+    same_data (V.integer n) s = layered_alike h (form_of rows s) (L.integer n) (λ p. refl)
+    same_data (V.text t) s = layered_alike h (form_of rows s) (L.text t) (λ p. refl)
+    same_data (V.bytes t) s = layered_alike h (form_of rows s) (L.bytes t) (λ p. refl)
+    same_data (V.link t) s = layered_alike h (form_of rows s) (L.link t) (λ p. refl)
+    same_data (V.any d) s = layered_alike h (form_of rows s) (L.any d) (λ p. refl)
+    same_data V.unit s = layered_alike h (form_of rows s) L.unit (λ p. refl)
+    same_data (V.enum n) s = layered_alike h (form_of rows s) (L.enum n) (λ p. refl)
     same_data (V.hamt t) s = no_whole h (form_of rows s) t
     same_data (V.list vs) s =
         ap (λ o. layered alone (form_of rows s) (option_map L.list o))
         (in_element (λ u ws. represented_values alone rows u ws) (λ u ws. represented_values (whole h) rows u ws) (λ u ws. fronts_of_values h rows u ws) (element_of (form_of rows s)) vs (λ u. same_values vs u))
-        ∙ made_alike h (form_of rows s) L.list (option_and_then (λ u. represented_values (whole h) rows u vs) (element_of (form_of rows s))) (λ ds. refl)
+        ∙ made_alike h (form_of rows s) L.list (option_and_then (λ u. represented_values (whole h) rows u vs) (element_of (form_of rows s))) (λ ds p. refl)
     same_data (V.map ps) s = map_case s ps (is_hamt (form_of rows s)) refl (λ u. same_pairs ps u)
     same_data (V.struct os) s =
         ap (λ o. layered alone (form_of rows s) (option_map L.struct o)) (same_fields os (fields_of (form_of rows s)))
-        ∙ made_alike h (form_of rows s) L.struct (represented_fields (whole h) rows (fields_of (form_of rows s)) os) (λ ds. refl)
+        ∙ made_alike h (form_of rows s) L.struct (represented_fields (whole h) rows (fields_of (form_of rows s)) os) (λ ds p. refl)
     same_data (V.union n v) s =
         ap (λ o. layered alone (form_of rows s) (option_map (L.union n) o))
         (in_element (λ u w. represented alone rows u w) (λ u w. represented (whole h) rows u w) (λ u w. front h rows u w) (member_of (form_of rows s) n) v (λ u. same_data v u))
-        ∙ made_alike h (form_of rows s) (L.union n) (option_and_then (λ u. represented (whole h) rows u v) (member_of (form_of rows s) n)) (λ d. refl)
+        ∙ made_alike h (form_of rows s) (L.union n) (option_and_then (λ u. represented (whole h) rows u v) (member_of (form_of rows s) n)) (λ d p. refl)
 
     same_values : (vs : Values) (u : Slot) → represented_values alone rows u (fronts_of_values h rows u vs) ≡ represented_values (whole h) rows u vs
     same_values V.no_values u = refl

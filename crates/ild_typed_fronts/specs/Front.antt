@@ -23,7 +23,7 @@ use Rattle.ild_path_edits.specs.Edit.{Edit, set_at, ins_at, del_at}
 -- ---- maps that are HAMTs
 
 abbrev pub is_hamt_form : MapForm → Bool
-is_hamt_form MF.Hamt = true
+is_hamt_form (MF.Hamt p) = true
 is_hamt_form form = false
 
 abbrev pub is_hamt : Option TypeDef → Bool

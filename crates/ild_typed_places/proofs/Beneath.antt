@@ -4,7 +4,7 @@ use Rattle.std.specs.List.{AllByRecursion, range_with_len}
 use Rattle.ild_data.specs.Data.{Data}
 use Rattle.ild_data.specs.Trie.{part, node_of, at_depth}
 use Rattle.ild_data.specs.TrieBlocks.{block_of, node_and_beneath, nodes_beneath, none_or}
-use Rattle.ild_data.specs.TrieShape.{TrieShape}
+use Rattle.ild_data.specs.declared.hamt_shape.HamtShape.{HamtShape}
 use Rattle.ild_hamt_trie.proofs.Index.{index_below}
 use Rattle.ild_typed.proofs.Treed.{all_append}
 use Rattle.ild_typed.proofs.TreeNodes.{all_split, part_in}
@@ -56,7 +56,7 @@ module _ (P : List ℕ → Type 0) (inner : List ℕ → Places) where
         let more = to_each most at es f js all.1 in
         ((here.0, more.0), (here.1, more.1))
 
-  module _ (h : List ℕ → List ℕ) (p : TrieShape) where
+  module _ (h : List ℕ → List ℕ) (p : HamtShape) where
     pub to_beneath : (left depth : ℕ) (es : List (List ℕ × Data)) → Inside es → On (nodes_beneath h p left depth es) → All P (places_beneath inner h p left depth es)
     unfolding nodes_beneath places_beneath
     to_beneath zero depth es inside on = over_each P (λ e. inner e.0) es inside

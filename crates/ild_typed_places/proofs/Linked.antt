@@ -9,7 +9,8 @@ use Rattle.ild_data.specs.Data.{Data}
 use Rattle.ild_data.specs.Key.{same_text}
 use Rattle.ild_data.specs.Spell.{spell, id_of}
 use Rattle.ild_data.specs.Trie.{TrieSlot, part, slot_of, all_some, node_of, at_depth, trie}
-use Rattle.ild_data.specs.TrieShape.{TrieShape, trie_levels}
+use Rattle.ild_data.specs.declared.hamt_shape.HamtShape.{HamtShape}
+use Rattle.ild_data.specs.TrieShape.{trie_levels}
 use Rattle.ild_schema.specs.declared.number.Slot.{Slot}
 use Rattle.ild_schema.specs.declared.def.TypeDef.{TypeDef}
 use Rattle.ild_schema.specs.declared.def.TypeDef.TheVariants as D
@@ -21,7 +22,6 @@ use Rattle.ild_schema.specs.Value as V
 use Rattle.ild_schema.specs.Value.{Value, Values, Pairs, Optionals}
 use Rattle.ild_hamt_trie.proofs.Node.{slots-node, no_node}
 use Rattle.ild_hamt_trie.proofs.Slots.{all_some-cons}
-use Rattle.ild_typed.specs.Composed.{usual}
 use Rattle.ild_typed.specs.Hamt.{whole}
 use Rattle.ild_typed.specs.Represented.{represented_pairs}
 use Rattle.ild_typed.specs.Slots.{element_of, fields_of, member_of}
@@ -95,7 +95,7 @@ module _ (inner : List ℕ → Places) where
         links_in most at below beneath es js parts.1 all parts.3 (λ id t. sub id (top_right id here more t)),
       )
 
-  module _ (h : List ℕ → List ℕ) (p : TrieShape) where
+  module _ (h : List ℕ → List ℕ) (p : HamtShape) where
     is_node : (left depth : ℕ) (es : List (List ℕ × Data)) (n : Data) → node_of h p left depth es ≡ Some n → IsNodePlace (spell n, places_beneath inner h p left depth es)
     unfolding places_beneath
     is_node zero depth es n is = absurd (let e : None ≡ Some n = sym (no_node h p depth es) ∙ is in cc)
@@ -137,14 +137,14 @@ module _ (h : List ℕ → List ℕ) (rows : List Row) where
   at_each : (ts : List (List ℕ × Places)) → Each ts → (k : List ℕ) → AllNodes (at_key ts k)
   at_each ts all k = over_nodes (λ t. t.1) (filter (λ t. same_text k t.0) ts) (part_in (λ t. AllNodes t.1) (λ t. same_text k t.0) ts all)
 
-  hamt : (b : Bool) (es : List (List ℕ × Data)) (ts : List (List ℕ × Places)) → Each ts
-      → AllNodes (cond b (places_beneath (at_key ts) h usual (trie_levels usual) 0 (in_byte_order es)) (places_over (λ t. t.1) ts))
-  hamt true es ts all = nodes_beneath_are (at_key ts) h usual (at_each ts all) (trie_levels usual) 0 (in_byte_order es)
-  hamt false es ts all = flat ts all
+  hamt : (p : HamtShape) (b : Bool) (es : List (List ℕ × Data)) (ts : List (List ℕ × Places)) → Each ts
+      → AllNodes (cond b (places_beneath (at_key ts) h p (trie_levels p) 0 (in_byte_order es)) (places_over (λ t. t.1) ts))
+  hamt p true es ts all = nodes_beneath_are (at_key ts) h p (at_each ts all) (trie_levels p) 0 (in_byte_order es)
+  hamt p false es ts all = flat ts all
 
   of_map : (d : Option TypeDef) (o : Option (List (List ℕ × Data))) (ts : List (List ℕ × Places)) → Each ts → AllNodes (map_places h d o ts)
-  of_map (Some (D.Map key key_at value at MF.Hamt)) (Some es) ts all = hamt (is_some (trie h usual es 0)) es ts all
-  of_map (Some (D.Map key key_at value at MF.Hamt)) None ts all = flat ts all
+  of_map (Some (D.Map key key_at value at (MF.Hamt p))) (Some es) ts all = hamt p (is_some (trie h p es 0)) es ts all
+  of_map (Some (D.Map key key_at value at (MF.Hamt p))) None ts all = flat ts all
   of_map (Some (D.Map key key_at value at MF.Map)) o ts all = flat ts all
   of_map (Some (D.Map key key_at value at MF.ListPairs)) o ts all = flat ts all
   of_map (Some (D.Map key key_at value at (MF.StringPairs i e))) o ts all = flat ts all

@@ -9,7 +9,8 @@ use Rattle.ild_data.specs.ByteOrder.{in_byte_order}
 use Rattle.ild_data.specs.Data.{Data}
 use Rattle.ild_data.specs.Key.{same_text}
 use Rattle.ild_data.specs.Trie.{part, node_of, at_depth, trie}
-use Rattle.ild_data.specs.TrieShape.{TrieShape, trie_levels}
+use Rattle.ild_data.specs.declared.hamt_shape.HamtShape.{HamtShape}
+use Rattle.ild_data.specs.TrieShape.{trie_levels}
 use Rattle.ild_schema.specs.declared.number.Slot.{Slot}
 use Rattle.ild_schema.specs.declared.def.TypeDef.{TypeDef}
 use Rattle.ild_schema.specs.declared.def.TypeDef.TheVariants as D
@@ -19,7 +20,6 @@ use Rattle.ild_schema.specs.Slots.{form_of}
 use Rattle.ild_schema.specs.Value as V
 use Rattle.ild_schema.specs.Value.{Value, Values, Pairs, values_list, pairs_list}
 use Rattle.ild_hamt_trie.proofs.Index.{index_below}
-use Rattle.ild_typed.specs.Composed.{usual}
 use Rattle.ild_typed.specs.Hamt.{whole}
 use Rattle.ild_typed.specs.Represented.{represented_pairs}
 use Rattle.ild_typed.proofs.Rooms.{all_more}
@@ -54,7 +54,7 @@ module _ (Q : Place → Type 0) where
     of_slot below ps es true f all = over (λ e. inner e.0) es all
     of_slot below ps es false f all = f (of_node (below es) (ps es) all)
 
-    of_beneath : (h : List ℕ → List ℕ) (p : TrieShape) (left depth : ℕ) (es : List (List ℕ × Data)) → Each (places_beneath inner h p left depth es) → Inside es
+    of_beneath : (h : List ℕ → List ℕ) (p : HamtShape) (left depth : ℕ) (es : List (List ℕ × Data)) → Each (places_beneath inner h p left depth es) → Inside es
     unfolding places_beneath
     of_beneath h p zero depth es all = over (λ e. inner e.0) es all
     of_beneath h p (suc left) depth es all =
@@ -82,17 +82,17 @@ module _ (Q : Place → Type 0) where
   of_keys [] all = tt
   of_keys (t ∷ ts) all = (first t ts all.0, of_keys ts (all_more (λ q. Each (at_key (t ∷ ts) q.0)) (λ q. Each (at_key ts q.0)) (λ q a. fewer t ts q.0 a) ts all.1))
 
-  of_hamt : (h : List ℕ → List ℕ) (es : List (List ℕ × Data)) (ts : List (List ℕ × Places)) → map (λ e. e.0) es ≡ map (λ t. t.0) ts → (o : Option Data) → trie h usual es 0 ≡ o
-      → Each (cond (is_some o) (places_beneath (at_key ts) h usual (trie_levels usual) 0 (in_byte_order es)) (places_over (λ t. t.1) ts)) → InAll ts
-  of_hamt h es ts same None e all = over (λ t. t.1) ts all
-  of_hamt h es ts same (Some d) e all =
-      let inside = from_order (λ i. Each (at_key ts i.0)) es (one_each h es d e) (of_beneath (at_key ts) h usual (trie_levels usual) 0 (in_byte_order es) all) in
+  of_hamt : (h : List ℕ → List ℕ) (p : HamtShape) (es : List (List ℕ × Data)) (ts : List (List ℕ × Places)) → map (λ e. e.0) es ≡ map (λ t. t.0) ts → (o : Option Data) → trie h p es 0 ≡ o
+      → Each (cond (is_some o) (places_beneath (at_key ts) h p (trie_levels p) 0 (in_byte_order es)) (places_over (λ t. t.1) ts)) → InAll ts
+  of_hamt h p es ts same None e all = over (λ t. t.1) ts all
+  of_hamt h p es ts same (Some d) e all =
+      let inside = from_order (λ i. Each (at_key ts i.0)) es (one_each h p es d e) (of_beneath (at_key ts) h p (trie_levels p) 0 (in_byte_order es) all) in
       of_keys ts (mapped_all (λ k. Each (at_key ts k)) (λ t. t.0) ts (subst (AllByRecursion (λ k. Each (at_key ts k))) same (all_mapped (λ k. Each (at_key ts k)) (λ e. e.0) es inside)))
 
   of_map : (h : List ℕ → List ℕ) (d : Option TypeDef) (o : Option (List (List ℕ × Data))) (ts : List (List ℕ × Places)) → ((es : List (List ℕ × Data)) → o ≡ Some es → map (λ e. e.0) es ≡ map (λ t. t.0) ts)
       → Each (map_places h d o ts) → InAll ts
-  of_map h (Some (D.Map key key_at value at MF.Hamt)) (Some es) ts same all = of_hamt h es ts (same es refl) (trie h usual es 0) refl all
-  of_map h (Some (D.Map key key_at value at MF.Hamt)) None ts same all = over (λ t. t.1) ts all
+  of_map h (Some (D.Map key key_at value at (MF.Hamt p))) (Some es) ts same all = of_hamt h p es ts (same es refl) (trie h p es 0) refl all
+  of_map h (Some (D.Map key key_at value at (MF.Hamt p))) None ts same all = over (λ t. t.1) ts all
   of_map h (Some (D.Map key key_at value at MF.Map)) o ts same all = over (λ t. t.1) ts all
   of_map h (Some (D.Map key key_at value at MF.ListPairs)) o ts same all = over (λ t. t.1) ts all
   of_map h (Some (D.Map key key_at value at (MF.StringPairs i e))) o ts same all = over (λ t. t.1) ts all

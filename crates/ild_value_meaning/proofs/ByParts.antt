@@ -5,6 +5,7 @@ use Rattle.ild_data.specs.Bytes.{AreBytes}
 use Rattle.ild_data.specs.Cid.{IsCid}
 use Rattle.ild_data.specs.Integer.{IsInt}
 use Rattle.ild_data.specs.Tree.{IsTree}
+use Rattle.ild_data.specs.declared.hamt_shape.HamtShape.{HamtShape}
 use Rattle.ild_schema.specs.declared.def.TypeDef.TheVariants as T
 use Rattle.ild_schema.specs.declared.def.MapForm.{MapForm}
 use Rattle.ild_schema.specs.declared.def.MapForm.TheVariants as M
@@ -54,7 +55,7 @@ abbrev mutual
   ByParts rows is_key slot unit = (f : UnitForm) × (form_of rows slot ≡ Some (T.Unit f))
   ByParts rows is_key slot (any d) = (form_of rows slot ≡ Some T.Any) × (is_null d ≡ false) × IsTree d
   ByParts rows is_key slot (hamt d) =
-      (key : TypeNo) × (key_at : ℕ) × (elem : Slot) × (place : ℕ) × (form_of rows slot ≡ Some (T.Map key key_at elem place M.Hamt)) × RootFits (OfType rows) rows key elem d
+      (key : TypeNo) × (key_at : ℕ) × (elem : Slot) × (place : ℕ) × (p : HamtShape) × (form_of rows slot ≡ Some (T.Map key key_at elem place (M.Hamt p))) × RootFits (OfType rows) rows p key elem d
 
   pub AreByParts : List Row → (ℕ → List ℕ → Bool) → Slot → Values → Type 0
   AreByParts rows is_key slot no_values = Unit {0}

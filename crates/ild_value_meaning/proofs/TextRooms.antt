@@ -277,7 +277,7 @@ module _ (rows : List Row) (room : ℕ) (k : List ℕ) (n : ℕ) (low : Lowers r
       → composed alone (D.Map key key_at value place form) l ≡ Some (T.text k) → FormFits rows (suc room) (FitsPast rows room) v (D.Map key key_at value place form)
   map_text MF.Map key key_at value place m v l clear h e made = absurd (no_kind (composed_kind alone alone_kind (D.Map key key_at value place MF.Map) l (T.text k) made))
   map_text MF.ListPairs key key_at value place m v l clear h e made = absurd (no_kind (composed_kind alone alone_kind (D.Map key key_at value place MF.ListPairs) l (T.text k) made))
-  map_text MF.Hamt key key_at value place m v l clear h e made = absurd (no_kind (composed_kind alone alone_kind (D.Map key key_at value place MF.Hamt) l (T.text k) made))
+  map_text (MF.Hamt p) key key_at value place m v l clear h e made = absurd (no_kind (composed_kind alone alone_kind (D.Map key key_at value place (MF.Hamt p)) l (T.text k) made))
   map_text (MF.StringPairs inner entry) key key_at value place m (V.map ps) l clear h e made =
       let x = map_from L.map (represented_pairs alone rows value ps) l e in
       let is : stringpairs inner entry x.item ≡ Some (T.text k) = ap (composed alone (D.Map key key_at value place (MF.StringPairs inner entry))) (same_Some (L.map x.item) l x.made) ∙ made in

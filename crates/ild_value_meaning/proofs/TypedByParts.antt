@@ -56,13 +56,13 @@ pub keys_ordered : {X : Type 0} (f : MapForm) (ps : List (List ℕ × X)) → Ar
 keys_ordered MF.Map ps h = h
 keys_ordered MF.ListPairs ps h = apart_distinct ps h
 keys_ordered (MF.StringPairs inner entry) ps h = apart_distinct ps h
-keys_ordered MF.Hamt ps h = h
+keys_ordered (MF.Hamt p) ps h = h
 
 pub ordered_keys : {X : Type 0} (f : MapForm) (ps : List (List ℕ × X)) → AreInOrder (is_paired f) ps → AreKeys f ps
 ordered_keys MF.Map ps h = h
 ordered_keys MF.ListPairs ps h = distinct_apart ps h
 ordered_keys (MF.StringPairs inner entry) ps h = distinct_apart ps h
-ordered_keys MF.Hamt ps h = h
+ordered_keys (MF.Hamt p) ps h = h
 
 not_null : (d : Data) → IsNotNull d → is_null d ≡ false
 not_null T.null h = absurd h
@@ -127,7 +127,7 @@ module _ (rows : List Row) (is_key : ℕ → List ℕ → Bool) (keys : TestsKey
     to_parts (V.enum n) s h = let f = in_layer rows s (V.enum n) (L.enum n) refl h in let k = enum_form rows Of f.ty n f.holds in (k.0, k.1, f.form ∙ ap Some k.2, k.3)
     to_parts V.unit s h = let f = in_layer rows s V.unit L.unit refl h in let k = unit_form rows Of f.ty f.holds in (k.0, f.form ∙ ap Some k.1)
     to_parts (V.any d) s h = let f = in_layer rows s (V.any d) (L.any d) refl h in let k = any_form rows Of f.ty d f.holds in (f.form ∙ ap Some k.0, not_null d k.2, k.1)
-    to_parts (V.hamt d) s h = let f = in_layer rows s (V.hamt d) (L.hamt d) refl h in let k = hamt_form rows Of f.ty d f.holds in (k.0, k.1, k.2, k.3, f.form ∙ ap Some k.4, k.5)
+    to_parts (V.hamt d) s h = let f = in_layer rows s (V.hamt d) (L.hamt d) refl h in let k = hamt_form rows Of f.ty d f.holds in (k.0, k.1, k.2, k.3, k.4, f.form ∙ ap Some k.5, k.6)
 
     values_to : (vs : Values) (s : Slot) → AllByRecursion (Of s) (values_list vs) → AreByParts rows is_key s vs
     values_to V.no_values s h = tt
@@ -164,7 +164,7 @@ module _ (rows : List Row) (is_key : ℕ → List ℕ → Bool) (keys : TestsKey
     from_parts (V.enum n) s h = of_layer rows s (V.enum n) (D.Enum h.0) (L.enum n) h.2 refl (below_got (h.0).members n h.1 h.3)
     from_parts V.unit s h = of_layer rows s V.unit (D.Unit h.0) L.unit h.1 refl tt
     from_parts (V.any d) s h = of_layer rows s (V.any d) D.Any (L.any d) h.0 refl (h.2, null_not d h.1)
-    from_parts (V.hamt d) s h = of_layer rows s (V.hamt d) (D.Map h.0 h.1 h.2 h.3 MF.Hamt) (L.hamt d) h.4 refl (inr h.5)
+    from_parts (V.hamt d) s h = of_layer rows s (V.hamt d) (D.Map h.0 h.1 h.2 h.3 (MF.Hamt h.4)) (L.hamt d) h.5 refl (inr h.6)
 
     values_from : (vs : Values) (s : Slot) → AreByParts rows is_key s vs → AllByRecursion (Of s) (values_list vs)
     values_from V.no_values s h = tt

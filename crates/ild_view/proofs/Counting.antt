@@ -160,4 +160,4 @@ module _ (rows : List Row) (legible : IsLegible rows) (s : Slot) (safe : is_safe
   map_counted MF.Map es u r keyed found = found ∙ sym keyed.1
   map_counted MF.ListPairs es u r keyed found = found ∙ sym keyed.1
   map_counted (MF.StringPairs inner entry) es u r keyed found = found ∙ sym keyed.1
-  map_counted MF.Hamt es u r keyed found = found ∙ sym keyed.1
+  map_counted (MF.Hamt p) es u r keyed found = found ∙ sym keyed.1

@@ -194,7 +194,7 @@ module _ (rows : List Row) (u : Slot) where
   form_keyed MF.Map es h r keyed found = keyed_begun (Some es) (entries_in h) r keyed.0 found
   form_keyed MF.ListPairs es h r keyed found = keyed_begun (Some es) (entries_in h) r keyed.0 found
   form_keyed (MF.StringPairs inner entry) es h r keyed found = keyed_begun (Some es) (entries_in h) r keyed.0 found
-  form_keyed MF.Hamt es h r keyed found = absurd cc
+  form_keyed (MF.Hamt p) es h r keyed found = absurd cc
 
   pub form_some : (form : MapForm) (es : List (List ℕ × Data)) (h : Holder) (r : EntriesLeft) → FormKeyed rows u form es h → FormLeft form es (Some r) → SomeEntries rows u r
   form_some form es h r keyed found = let x = form_keyed form es h r keyed found in record { of = x.parts; has = x.has }
@@ -209,7 +209,7 @@ module _ (rows : List Row) (u : Slot) where
   form_none MF.Map es h keyed found = entries_none (Some es) (entries_in h) keyed.0 found
   form_none MF.ListPairs es h keyed found = entries_none (Some es) (entries_in h) keyed.0 found
   form_none (MF.StringPairs inner entry) es h keyed found = entries_none (Some es) (entries_in h) keyed.0 found
-  form_none MF.Hamt es h keyed found = subst (λ p. FindsEntries rows p None) (sym keyed.0) tt
+  form_none (MF.Hamt p) es h keyed found = subst (λ p. FindsEntries rows p None) (sym keyed.0) tt
 
 pub entries_nothing : (rows : List Row) (o : Option (List (List ℕ × InSlot))) → o ≡ None → FindsEntries rows o None
 entries_nothing rows o e = subst (λ p. FindsEntries rows p None) (sym e) tt

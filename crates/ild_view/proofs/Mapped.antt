@@ -4,6 +4,7 @@ use Rattle.std.proofs.lemmas.Option.{same_Some}
 use Rattle.ild_data.specs.Data.{Data}
 use Rattle.ild_data.specs.Key.{value_at}
 use Rattle.ild_data.proofs.Lists.{members_list-members_of}
+use Rattle.ild_data.specs.declared.hamt_shape.HamtShape.{HamtShape}
 use Rattle.ild_view_entries.specs.Forms.{MapDelims, ShowsMap}
 use Rattle.ild_schema.specs.Clear.{ClearMap}
 use Rattle.ild_schema.specs.Copies.{base}
@@ -35,13 +36,13 @@ pub shows_map : (form : MapForm) (es : List (List ℕ × Data)) (t : Data) → C
 shows_map MF.Map es t clear given plain e = ap members_in (sym (same_Some (map_data es) t e)) ∙ ap Some (members_list-members_of es)
 shows_map MF.ListPairs es t clear given plain e = sym (same_Some (listpairs es) t e)
 shows_map (MF.StringPairs inner entry) es t clear given plain e = e
-shows_map MF.Hamt es t clear given plain e = absurd cc
+shows_map (MF.Hamt p) es t clear given plain e = absurd cc
 
 given_delims : (form : MapForm) → ClearMap form → Given form → MapDelims form
 given_delims MF.Map clear given = tt
 given_delims MF.ListPairs clear given = tt
 given_delims (MF.StringPairs inner entry) clear given = (given_some inner clear, given_some entry given)
-given_delims MF.Hamt clear given = tt
+given_delims (MF.Hamt p) clear given = tt
 
 pub map_delims : (rows : List Row) → IsLegible rows → (s : Slot) (key : TypeNo) (key_at : ℕ) (value : Slot) (at : ℕ) (form : MapForm) → form_of rows s ≡ Some (D.Map key key_at value at form) → MapDelims form
 map_delims rows legible s key key_at value at form known =
@@ -65,9 +66,9 @@ module _ (rows : List Row) (legible : IsLegible rows) (s : Slot) (safe : is_safe
         beside = map_entry_there rows legible.clear s safe room f t front some key key_at value at form plain known k;
       }
 
-  hamt_there : (key : TypeNo) (key_at : ℕ) (value : Slot) (at : ℕ) → form_of rows s ≡ Some (D.Map key key_at value at MF.Hamt) → (k : List ℕ) → EntryAt rows MF.Hamt value t k s f
-  hamt_there key key_at value at known k =
-      let d = D.Map key key_at value at MF.Hamt in
+  hamt_there : (p : HamtShape) (key : TypeNo) (key_at : ℕ) (value : Slot) (at : ℕ) → form_of rows s ≡ Some (D.Map key key_at value at (MF.Hamt p)) → (k : List ℕ) → EntryAt rows (MF.Hamt p) value t k s f
+  hamt_there p key key_at value at known k =
+      let d = D.Map key key_at value at (MF.Hamt p) in
       let none : entry_at (seen rows (s, f)) k ≡ None = no_entry rows legible.clear s safe room f t front d (seen_by rows legible.clear s safe room f t front some d known) refl k in
       record { entries = []; shows = refl; beside = subst (λ o. Beside rows value None o) (sym none) tt }
 
@@ -75,4 +76,4 @@ module _ (rows : List Row) (legible : IsLegible rows) (s : Slot) (safe : is_safe
   entry_there key key_at value at MF.Map known k = map_there key key_at value at MF.Map refl known k
   entry_there key key_at value at MF.ListPairs known k = map_there key key_at value at MF.ListPairs refl known k
   entry_there key key_at value at (MF.StringPairs inner entry) known k = map_there key key_at value at (MF.StringPairs inner entry) refl known k
-  entry_there key key_at value at MF.Hamt known k = hamt_there key key_at value at known k
+  entry_there key key_at value at (MF.Hamt p) known k = hamt_there p key key_at value at known k

@@ -5,6 +5,7 @@ use Rattle.std.specs.List.{AllByRecursion}
 use Rattle.std.proofs.lemmas.Option.{same_Some, none-some}
 use Rattle.ild_data.specs.Data as T
 use Rattle.ild_data.specs.Data.{Data}
+use Rattle.ild_data.specs.declared.hamt_shape.HamtShape.{HamtShape}
 use Rattle.ild_schema.specs.Clear.{IsClear, IsSafe}
 use Rattle.ild_schema.specs.Copies.{base}
 use Rattle.ild_schema.specs.DataKinds.{slot_has}
@@ -36,7 +37,7 @@ use Rattle.ild_typed.specs.Slots.{member_of}
 use Rattle.ild_typed.specs.Strings.{listpairs, map_data, stringpairs}
 use Rattle.ild_typed.proofs.Basics.{map_from, then_from}
 use Rattle.ild_typed.proofs.Composing.{alone_tells, composed_tells}
-use Rattle.ild_typed.proofs.FormOf.{entries_there, hamt_there}
+use Rattle.ild_typed.proofs.FormOf.{entries_there, root_there}
 use Rattle.ild_typed.proofs.OfKinds.{alone_kind, composed_kind}
 use Rattle.ild_typed.proofs.OneLayer.{in_layer}
 use Rattle.ild_typed.proofs.OneValue.{Way, as_layer, as_null, layer_data, list_in, list_value, map_in, map_value, scalar_of, scalar_value, struct_in, struct_value, union_in, union_value, unsafe, way_of}
@@ -78,7 +79,7 @@ map_says (T.map ms) t e = same_Some (T.map ms) t e
 map_says d t e = absurd (none-some t e)
 
 abbrev pub is_hamt : MapForm → Bool
-is_hamt MF.Hamt = true
+is_hamt (MF.Hamt p) = true
 is_hamt form = false
 
 -- the entries that are composed, where the form shows them
@@ -91,7 +92,7 @@ has_entries : (form : MapForm) (l : Layer Data) (t : Data) → is_hamt form ≡ 
 has_entries MF.Map l t e h = let x = map_from map_data (as_map l) t h in record { entries = x.item; is = only_map l x.item x.there; made = x.made }
 has_entries MF.ListPairs l t e h = let x = map_from listpairs (as_map l) t h in record { entries = x.item; is = only_map l x.item x.there; made = x.made }
 has_entries (MF.StringPairs inner entry) l t e h = let x = then_from (stringpairs inner entry) (as_map l) t h in record { entries = x.item; is = only_map l x.item x.there; made = x.made }
-has_entries MF.Hamt l t e h = absurd cc
+has_entries (MF.Hamt p) l t e h = absurd cc
 
 module _ (rows : List Row) (clear : IsClear rows) (s : Slot) (safe : is_safe rows s ≡ true) (room : ℕ) (f : Value) (t : Data) (front : Front rows room s f t) where
   -- null, where it may stand, is null
@@ -194,17 +195,17 @@ module _ (rows : List Row) (clear : IsClear rows) (s : Slot) (safe : is_safe row
         let y = then_from (λ n. option_and_then (enum_form e.form) (slice_get e.members n)) (as_enum x.layer) t x.made in
         record { number = y.item; is = front_scalar some (D.Enum e) known (L.enum y.item) (V.enum y.item) refl (only_enum x.layer y.item y.there); made = y.made }
 
-    pub record HamtFront (key : TypeNo) (value : Slot) : Type 0 where
+    pub record HamtFront (p : HamtShape) (key : TypeNo) (value : Slot) : Type 0 where
       pub is : f ≡ V.hamt t
-      pub fits : RootFits (OfType rows) rows key value t
+      pub fits : RootFits (OfType rows) rows p key value t
 
-    pub front_hamt : (key : TypeNo) (key_at : ℕ) (value : Slot) (at : ℕ) → form_of rows s ≡ Some (D.Map key key_at value at MF.Hamt) → HamtFront key value
-    front_hamt key key_at value at known =
-        let d : TypeDef = D.Map key key_at value at MF.Hamt in
+    pub front_hamt : (p : HamtShape) (key : TypeNo) (key_at : ℕ) (value : Slot) (at : ℕ) → form_of rows s ≡ Some (D.Map key key_at value at (MF.Hamt p)) → HamtFront p key value
+    front_hamt p key key_at value at known =
+        let d : TypeDef = D.Map key key_at value at (MF.Hamt p) in
         let x = front_layer some d known in
         let y = then_from a_map (as_hamt x.layer) t x.made in
         let is : f ≡ V.hamt t = front_scalar some d known (L.hamt y.item) (V.hamt y.item) refl (only_hamt x.layer y.item y.there) ∙ ap V.hamt (map_says y.item t y.made) in
-        record { is = is; fits = (hamt_there rows (OfType rows) key value MF.Hamt t (front_fits some d known (V.hamt t) (L.hamt t) is refl)).1 }
+        record { is = is; fits = root_there rows (OfType rows) p key value t (front_fits some d known (V.hamt t) (L.hamt t) is refl) }
 
     -- values with parts
 
@@ -317,7 +318,7 @@ module _ (rows : List Row) (clear : IsClear rows) (s : Slot) (safe : is_safe row
     hamt_other key key_at value at MF.Map known = ap itself (front_map key key_at value at MF.Map refl known).is
     hamt_other key key_at value at MF.ListPairs known = ap itself (front_map key key_at value at MF.ListPairs refl known).is
     hamt_other key key_at value at (MF.StringPairs inner entry) known = ap itself (front_map key key_at value at (MF.StringPairs inner entry) refl known).is
-    hamt_other key key_at value at MF.Hamt known = ap itself (front_hamt key key_at value at known).is
+    hamt_other key key_at value at (MF.Hamt p) known = ap itself (front_hamt p key key_at value at known).is
 
     pub itself_other : (d : TypeDef) → form_of rows s ≡ Some d → is_plain d ≡ false → itself f ≡ None
     itself_other (D.Unit form) known e = ap itself (front_unit form known)

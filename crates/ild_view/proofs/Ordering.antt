@@ -150,7 +150,7 @@ module _ (rows : List Row) (clear : IsClear rows) (s : Slot) (safe : is_safe row
   no_elements (D.Map key key_at value at MF.Map) x e = ap elements_in x.1
   no_elements (D.Map key key_at value at MF.ListPairs) x e = ap elements_in x.1
   no_elements (D.Map key key_at value at (MF.StringPairs inner entry)) x e = ap elements_in x.1
-  no_elements (D.Map key key_at value at MF.Hamt) x e = ap elements_in x
+  no_elements (D.Map key key_at value at (MF.Hamt p)) x e = ap elements_in x
   no_elements (D.Struct def) x e = ap elements_in x.1
   no_elements (D.Union def) x e = ap elements_in x.2
   no_elements D.Bool x e = ap elements_in x.1
@@ -166,7 +166,7 @@ module _ (rows : List Row) (clear : IsClear rows) (s : Slot) (safe : is_safe row
 
 -- what a map's form shows of entries, beside what holds them: of a HAMT nothing
 abbrev pub FormKeyed : List Row → Slot → MapForm → List (List ℕ × Data) → Holder → Type 0
-FormKeyed rows u MF.Hamt es h = (entries_in h ≡ None) × (count_in h ≡ None)
+FormKeyed rows u (MF.Hamt p) es h = (entries_in h ≡ None) × (count_in h ≡ None)
 FormKeyed rows u form es h = MapsBeside rows u (Some es) (entries_in h) × (count_in h ≡ Some (length es))
 
 pub record MapAt (rows : List Row) (u : Slot) (form : MapForm) (t : Data) (h : Holder) : Type 0 where
@@ -200,8 +200,8 @@ module _ (rows : List Row) (legible : IsLegible rows) (s : Slot) (safe : is_safe
   map_at key key_at value at MF.ListPairs known = let x = map_beside key key_at value at MF.ListPairs refl known in record { parts = x.parts; shows = x.shows; keyed = (x.beside, x.count) }
   map_at key key_at value at (MF.StringPairs inner entry) known =
       let x = map_beside key key_at value at (MF.StringPairs inner entry) refl known in record { parts = x.parts; shows = x.shows; keyed = (x.beside, x.count) }
-  map_at key key_at value at MF.Hamt known =
-      let is : seen rows (s, f) ≡ nothing (V.hamt t) = seen_in_map rows legible.clear s safe room f t front some key key_at value at MF.Hamt known in
+  map_at key key_at value at (MF.Hamt p) known =
+      let is : seen rows (s, f) ≡ nothing (V.hamt t) = seen_in_map rows legible.clear s safe room f t front some key key_at value at (MF.Hamt p) known in
       record { parts = []; shows = refl; keyed = (ap entries_in is, ap count_in is) }
 
   pub any_map_beside : form_of rows anything ≡ Some D.Any → form_of rows s ≡ Some D.Any → MapsBeside rows anything (members_in t) (entries_in (seen rows (s, f)))
@@ -215,7 +215,7 @@ module _ (rows : List Row) (legible : IsLegible rows) (s : Slot) (safe : is_safe
   no_entries (D.Map key key_at value at MF.Map) x e = absurd (none-some value (sym e))
   no_entries (D.Map key key_at value at MF.ListPairs) x e = absurd (none-some value (sym e))
   no_entries (D.Map key key_at value at (MF.StringPairs inner entry)) x e = absurd (none-some value (sym e))
-  no_entries (D.Map key key_at value at MF.Hamt) x e = ap entries_in x
+  no_entries (D.Map key key_at value at (MF.Hamt p)) x e = ap entries_in x
   no_entries (D.Struct def) x e = ap entries_in x.1
   no_entries (D.Union def) x e = ap entries_in x.2
   no_entries D.Bool x e = ap entries_in x.1

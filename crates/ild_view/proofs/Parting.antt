@@ -159,7 +159,7 @@ module _ (rows : List Row) (there : form_of rows anything ≡ Some D.Any) where
 
 module _ (rows : List Row) (clear : IsClear rows) (s : Slot) (safe : is_safe rows s ≡ true) (room : ℕ) (f : Value) (t : Data) (front : Front rows room s f t) where
   abbrev pub SeenMap : TypeNo → Slot → MapForm → Type 0
-  SeenMap key value MF.Hamt = seen rows (s, f) ≡ nothing (V.hamt t)
+  SeenMap key value (MF.Hamt p) = seen rows (s, f) ≡ nothing (V.hamt t)
   SeenMap key value form = (ps : List (List ℕ × Value)) × (seen rows (s, f) ≡ entries key.0 value (is_paired form) ps)
 
   abbrev pub Seen : TypeDef → Type 0
@@ -202,7 +202,7 @@ module _ (rows : List Row) (clear : IsClear rows) (s : Slot) (safe : is_safe row
     seen_in_map key key_at value at MF.Map known = (_, seen_map key key_at value at MF.Map refl known)
     seen_in_map key key_at value at MF.ListPairs known = (_, seen_map key key_at value at MF.ListPairs refl known)
     seen_in_map key key_at value at (MF.StringPairs inner entry) known = (_, seen_map key key_at value at (MF.StringPairs inner entry) refl known)
-    seen_in_map key key_at value at MF.Hamt known = ap (holder_of rows s) (front_hamt rows clear s safe room f t front some key key_at value at known).is
+    seen_in_map key key_at value at (MF.Hamt p) known = ap (holder_of rows s) (front_hamt rows clear s safe room f t front some p key key_at value at known).is
 
     pub seen_by : (d : TypeDef) → form_of rows s ≡ Some d → Seen d
     seen_by D.Bool known = let x = front_boolean rows clear s safe room f t front some known in (V.boolean x.0, ap (holder_of rows s) x.1)
@@ -227,7 +227,7 @@ module _ (rows : List Row) (clear : IsClear rows) (s : Slot) (safe : is_safe row
   no_element (D.Map key key_at value at MF.Map) x e i = ap (λ h. element_at h i) x.1
   no_element (D.Map key key_at value at MF.ListPairs) x e i = ap (λ h. element_at h i) x.1
   no_element (D.Map key key_at value at (MF.StringPairs inner entry)) x e i = ap (λ h. element_at h i) x.1
-  no_element (D.Map key key_at value at MF.Hamt) x e i = ap (λ h. element_at h i) x
+  no_element (D.Map key key_at value at (MF.Hamt p)) x e i = ap (λ h. element_at h i) x
   no_element (D.Struct def) x e i = ap (λ h. element_at h i) x.1
   no_element (D.Union def) x e i = ap (λ h. element_at h i) x.2
   no_element D.Bool x e i = ap (λ h. element_at h i) x.1
@@ -245,7 +245,7 @@ module _ (rows : List Row) (clear : IsClear rows) (s : Slot) (safe : is_safe row
   no_entry (D.Map key key_at value at MF.Map) x e k = absurd (none-some value (sym e))
   no_entry (D.Map key key_at value at MF.ListPairs) x e k = absurd (none-some value (sym e))
   no_entry (D.Map key key_at value at (MF.StringPairs inner entry)) x e k = absurd (none-some value (sym e))
-  no_entry (D.Map key key_at value at MF.Hamt) x e k = ap (λ h. entry_at h k) x
+  no_entry (D.Map key key_at value at (MF.Hamt p)) x e k = ap (λ h. entry_at h k) x
   no_entry (D.Struct def) x e k = ap (λ h. entry_at h k) x.1
   no_entry (D.Union def) x e k = ap (λ h. entry_at h k) x.2
   no_entry D.Bool x e k = ap (λ h. entry_at h k) x.1

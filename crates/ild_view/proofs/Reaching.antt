@@ -11,6 +11,7 @@ use Rattle.ild_data.specs.Data.{Data, Items, items_list}
 use Rattle.ild_data.specs.Key.{same_text}
 use Rattle.ild_data.specs.Spell.{head, spell, spell_items}
 use Rattle.ild_data.proofs.Sizes.{items_count}
+use Rattle.ild_data.specs.declared.hamt_shape.HamtShape.{HamtShape}
 use Rattle.ild_node_slots.specs.declared.view.NodeView.{NodeView}
 use Rattle.ild_schema.specs.Legible.{IsLegible}
 use Rattle.ild_schema.specs.Prelude.{anything}
@@ -234,10 +235,10 @@ module _ (rows : List Row) (from k : ℕ) (p : InSlot) (path : List (List ℕ)) 
 
 -- ---- where it stops
 
-pub stop_enters : (v : View) (k : ℕ) (f : Value) (node : NodeView) → IsView v f → RootIs (root_in f) (Some node) → Reaches (table_of v) (or_enter k (slot_of v) f) (Ok (S.Enter v k))
-stop_enters v k (V.hamt d) node is h = (record { table = refl; slot = refl; view = is }, refl)
-stop_enters v k f node is h = absurd h
+pub stop_enters : (v : View) (k : ℕ) (f : Value) (node : NodeView) → IsView v f → (o : Option HamtShape) → RootIs o (root_in f) (Some node) → Reaches (table_of v) (or_enter k (slot_of v) f) (Ok (S.Enter v k))
+stop_enters v k (V.hamt d) node is o h = (record { table = refl; slot = refl; view = is }, refl)
+stop_enters v k f node is o h = absurd h
 
-pub stop_nowhere : (v : View) (k : ℕ) (f : Value) → RootIs (root_in f) None → Reaches (table_of v) (or_enter k (slot_of v) f) (Err (record { k = k }))
-stop_nowhere v k (V.hamt d) h = absurd h
-stop_nowhere v k f h = refl
+pub stop_nowhere : (v : View) (k : ℕ) (f : Value) (o : Option HamtShape) → RootIs o (root_in f) None → Reaches (table_of v) (or_enter k (slot_of v) f) (Err (record { k = k }))
+stop_nowhere v k (V.hamt d) o h = absurd h
+stop_nowhere v k f o h = refl

@@ -7,6 +7,7 @@ use Rattle.ild_cbor.specs.declared.piece.Piece.{Piece}
 use Rattle.ild_cbor.specs.declared.why.Why.{Why}
 use Rattle.ild_data.specs.Data.{Data}
 use Rattle.ild_data.specs.Trie.{TrieSlot}
+use Rattle.ild_data.specs.declared.hamt_shape.HamtShape.{HamtShape}
 use Rattle.ild_layer_piece.specs.Answers.{Layered, Refused, told}
 use Rattle.ild_layer_piece.specs.Pieces.{StandsFor}
 use Rattle.ild_layer_piece.proofs.Stand.{piece_rises}
@@ -34,7 +35,7 @@ use Rattle.ild_schema.specs.declared.number.Slot.{Slot}
 use Rattle.ild_schema.specs.declared.row.Row.{Row}
 use Rattle.ild_typed.specs.At.{seen}
 use Rattle.ild_typed.specs.Causes.{why_of}
-use Rattle.ild_typed.specs.Composed.{composed, usual}
+use Rattle.ild_typed.specs.Composed.{composed}
 use Rattle.ild_typed.specs.Fits.{Front}
 use Rattle.ild_typed.specs.Hamt.{alone}
 use Rattle.ild_typed.specs.Layer as L
@@ -52,7 +53,7 @@ use Rattle.ild_view.proofs.Finding.{field_there, no_field_there}
 use Rattle.ild_view.proofs.Opening.{front_enum, front_hamt, front_known, front_struct, front_union}
 use Rattle.ild_view.proofs.Parting.{Beside, Fronts, seen_union}
 use Rattle.ild_view.specs.Body.{is_free, is_placed, is_struct}
-use Rattle.ild_view.specs.Forms.{enum_in, is_hamt, struct_in, union_in}
+use Rattle.ild_view.specs.Forms.{enum_in, shape_in, struct_in, union_in}
 use Rattle.ild_view.specs.Names.{enum_name_of}
 use Rattle.ild_view.specs.Parts.{field_named, member_held}
 use Rattle.ild_view.specs.Roots.{root_in}
@@ -154,20 +155,20 @@ module _ (rows : List Row) (legible : IsLegible rows) (s : Slot) (safe : is_safe
       let x = front_enum rows legible.clear s safe room f t front some e known in
       no_refusal rows legible s (D.Enum e) p t (L.enum x.number) w known stands x.made refused
 
-  pub record RootFront : Type 0 where
+  pub record RootFront (p : HamtShape) : Type 0 where
     pub is : root_in f ≡ Some t
     pub slots : List TrieSlot
-    pub root : IsRoot usual slots t
+    pub root : IsRoot p slots t
     pub outer : (b : Body) → is_placed rows s b ≡ true → is_free b ≡ true
 
-  pub root_front : (d : TypeDef) → form_of rows s ≡ Some d → is_hamt d ≡ true → RootFront
-  root_front (D.Map key key_at value at MF.Hamt) known e =
-      let x = front_hamt rows legible.clear s safe room f t front some key key_at value at known in
-      record { is = ap root_in x.is; slots = x.fits.0; root = x.fits.1; outer = λ b h. outer_free rows s b (D.Map key key_at value at MF.Hamt) known refl h }
-  root_front (D.Map key key_at value at MF.Map) known e = absurd cc
-  root_front (D.Map key key_at value at MF.ListPairs) known e = absurd cc
-  root_front (D.Map key key_at value at (MF.StringPairs inner entry)) known e = absurd cc
-  root_front d known e = absurd cc
+  pub root_front : (d : TypeDef) → form_of rows s ≡ Some d → (q : HamtShape) → shape_in (Some d) ≡ Some q → RootFront q
+  root_front (D.Map key key_at value at (MF.Hamt p)) known q e =
+      let x = front_hamt rows legible.clear s safe room f t front some p key key_at value at known in
+      record { is = ap root_in x.is; slots = x.fits.0; root = subst (λ r. IsRoot r x.fits.0 t) (same_Some p q e) x.fits.1; outer = λ b h. outer_free rows s b (D.Map key key_at value at (MF.Hamt p)) known refl h }
+  root_front (D.Map key key_at value at MF.Map) known q e = absurd (none-some q e)
+  root_front (D.Map key key_at value at MF.ListPairs) known q e = absurd (none-some q e)
+  root_front (D.Map key key_at value at (MF.StringPairs inner entry)) known q e = absurd (none-some q e)
+  root_front d known q e = absurd (none-some q e)
 
 -- ---- structs and unions
 

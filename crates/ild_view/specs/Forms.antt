@@ -1,5 +1,6 @@
 -- What a type's form says of its parts.
 use Rattle.std.specs.Prelude.{Bool, true, false, Option, Some, None}
+use Rattle.ild_data.specs.declared.hamt_shape.HamtShape.{HamtShape}
 use Rattle.ild_schema.specs.Prelude.{anything}
 use Rattle.ild_schema.specs.declared.def.EnumDef.{EnumDef}
 use Rattle.ild_schema.specs.declared.def.MapForm.{MapForm}
@@ -21,7 +22,7 @@ abbrev pub shown_slot : Slot → MapForm → Option Slot
 shown_slot value MF.Map = Some value
 shown_slot value MF.ListPairs = Some value
 shown_slot value (MF.StringPairs inner entry) = Some value
-shown_slot value MF.Hamt = None
+shown_slot value (MF.Hamt p) = None
 
 abbrev pub entry_slot : TypeDef → Option Slot
 entry_slot (D.Map key key_at value at form) = shown_slot value form
@@ -40,10 +41,11 @@ abbrev pub enum_in : TypeDef → Option EnumDef
 enum_in (D.Enum e) = Some e
 enum_in d = None
 
-abbrev pub is_hamt_form : MapForm → Bool
-is_hamt_form MF.Hamt = true
-is_hamt_form form = false
+-- the shape of the HAMT that a type is
+abbrev pub shape_in_form : MapForm → Option HamtShape
+shape_in_form (MF.Hamt p) = Some p
+shape_in_form form = None
 
-abbrev pub is_hamt : TypeDef → Bool
-is_hamt (D.Map key key_at value at form) = is_hamt_form form
-is_hamt d = false
+abbrev pub shape_in : Option TypeDef → Option HamtShape
+shape_in (Some (D.Map key key_at value at form)) = shape_in_form form
+shape_in d = None

@@ -6,10 +6,11 @@ ghost use Rattle.ild_schema.specs.Table.{IsWithin};
 ghost use Rattle.ild_schema.specs.declared.row.Row.{Row};
 ghost use Rattle.ild_typed.specs.Pieces.{is_null_there};
 ghost use Rattle.ild_view.specs.Body.{BodyStands};
-ghost use Rattle.ild_view.specs.Forms.{element_slot, enum_in, is_hamt, struct_in, union_in};
+ghost use Rattle.ild_view.specs.Forms.{element_slot, enum_in, shape_in, struct_in, union_in};
 ghost use Rattle.ild_view.specs.Itself.{is_plain};
 
 use crate::view::View;
+use ild_data::HamtShape;
 use ild_schema::{EnumDef, MapForm, Slot, StructDef, TypeDef, TypeNo, UnionDef};
 
 /// Any value, or null.
@@ -80,16 +81,16 @@ pub(crate) fn enum_in(def: &TypeDef) -> Option<&EnumDef>
     }
 }
 
-/// Whether a type is a map that stands as a HAMT.
-pub(crate) fn is_hamt(def: &TypeDef) -> bool
-    ensures { result ≡ is_hamt def.now }
+/// The shape of the HAMT as which a map stands, if a type is one.
+pub(crate) fn hamt_shape(def: &TypeDef) -> Option<HamtShape>
+    ensures { result ≡ shape_in (Some def.now) }
 {
     match def {
         TypeDef::Map { form, .. } => match form {
-            MapForm::Hamt => true,
-            MapForm::Map | MapForm::ListPairs | MapForm::StringPairs(_, _) => false,
+            MapForm::Hamt(shape) => Some(*shape),
+            MapForm::Map | MapForm::ListPairs | MapForm::StringPairs(_, _) => None,
         },
-        _ => false,
+        _ => None,
     }
 }
 

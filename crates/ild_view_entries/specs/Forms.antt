@@ -15,9 +15,9 @@ abbrev pub ShowsMap : MapForm → List (List ℕ × Data) → Data → Type 0
 ShowsMap MF.Map es t = members_in t ≡ Some es
 ShowsMap MF.ListPairs es t = t ≡ listpairs es
 ShowsMap (MF.StringPairs inner entry) es t = stringpairs inner entry es ≡ Some t
-ShowsMap MF.Hamt es t = es ≡ []
+ShowsMap (MF.Hamt p) es t = es ≡ []
 
 -- how many there are: of a HAMT they aren't counted
 abbrev pub FormCount : MapForm → List (List ℕ × Data) → Option ℕ → Type 0
-FormCount MF.Hamt es r = r ≡ None
+FormCount (MF.Hamt p) es r = r ≡ None
 FormCount form es r = r ≡ Some (length es)

@@ -54,5 +54,5 @@ FindsLeft (Some es) None = ⊥
 
 -- those of a map of a form: of a HAMT none are looked for
 abbrev pub FormLeft : MapForm → List (List ℕ × Data) → Option EntriesLeft → Type 0
-FormLeft MF.Hamt es r = r ≡ None
+FormLeft (MF.Hamt p) es r = r ≡ None
 FormLeft form es r = FindsLeft (Some es) r

@@ -48,6 +48,6 @@ pub fn form_count<'b>(form: &'b MapForm, piece: &Piece<'b>) -> Option<u64>
         MapForm::Map => parts_count(piece),
         MapForm::ListPairs => parts_count(piece),
         MapForm::StringPairs(inner, entry) => { text_count(piece, inner.as_str(), entry.as_str()) }
-        MapForm::Hamt => None,
+        MapForm::Hamt(_) => None,
     }
 }

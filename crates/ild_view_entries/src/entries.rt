@@ -69,6 +69,6 @@ pub fn form_entries<'b>(
         MapForm::StringPairs(inner, entry) => {
             stringpairs_entries(piece, inner.as_str(), entry.as_str())
         }
-        MapForm::Hamt => None,
+        MapForm::Hamt(_) => None,
     }
 }

@@ -132,6 +132,6 @@ pub fn form_entry<'b>(
         MapForm::StringPairs(inner, entry) => {
             stringpairs_entry(piece, inner.as_str(), entry.as_str(), key)
         }
-        MapForm::Hamt => None,
+        MapForm::Hamt(_) => None,
     }
 }

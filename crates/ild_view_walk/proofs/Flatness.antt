@@ -200,7 +200,7 @@ module _ (rows : List Row) where
   map_fine key value i MF.Map es t safe e flat = map_holds (T.members_of es) t (same_Some (map_data es) t e) flat
   map_fine key value i MF.ListPairs es t safe e flat = list_holds _ t (same_Some (listpairs es) t e) flat
   map_fine key value i (MF.StringPairs inner entry) es t safe e flat = entries_fine (MF.StringPairs inner entry) key value i es safe (stringpairs_flat inner entry es t e)
-  map_fine key value i MF.Hamt es t safe e flat = absurd (none-some t e)
+  map_fine key value i (MF.Hamt p) es t safe e flat = absurd (none-some t e)
 
   layer_fine : (d : TypeDef) (l : Layer Data) (t : Data) → AreSafe rows d → composed alone d l ≡ Some t → IsFlat t → AllFine (spots_of d l)
   layer_fine (D.List elem at) l t safe e flat =
@@ -220,7 +220,7 @@ module _ (rows : List Row) where
   layer_fine d l t safe e flat = tt
 
   pub parts_fine : (d : TypeDef) (t : Data) (ps : List Spot) → AreSafe rows d → IsFlat t → AreParts d t ps → AllFine ps
-  parts_fine (D.Map key key_at value at MF.Hamt) t ps safe flat (slots, root, e) = map_holds _ t (sym root.tree) flat
+  parts_fine (D.Map key key_at value at (MF.Hamt p)) t ps safe flat (slots, root, e) = map_holds _ t (sym root.tree) flat
   parts_fine (D.Map key key_at value at MF.Map) t ps safe flat (l, made, e) = subst AllFine (sym e) (layer_fine (D.Map key key_at value at MF.Map) l t safe made flat)
   parts_fine (D.Map key key_at value at MF.ListPairs) t ps safe flat (l, made, e) = subst AllFine (sym e) (layer_fine (D.Map key key_at value at MF.ListPairs) l t safe made flat)
   parts_fine (D.Map key key_at value at (MF.StringPairs inner entry)) t ps safe flat (l, made, e) =
@@ -252,7 +252,7 @@ few_levels (D.List elem at) t flat = omega arith
 few_levels (D.Map key key_at value at MF.Map) t flat = omega arith
 few_levels (D.Map key key_at value at MF.ListPairs) t flat = omega arith
 few_levels (D.Map key key_at value at (MF.StringPairs inner entry)) t flat = omega arith
-few_levels (D.Map key key_at value at MF.Hamt) t flat = omega arith
+few_levels (D.Map key key_at value at (MF.Hamt p)) t flat = omega arith
 few_levels (D.Struct st) t flat = by st.form where
   by : (form : StructForm) → struct_levels form ≤ 5
   by S.Map = omega arith

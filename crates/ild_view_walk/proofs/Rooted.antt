@@ -7,6 +7,7 @@ use Rattle.ild_data.specs.Data as T
 use Rattle.ild_data.specs.Data.{Data}
 use Rattle.ild_data.specs.Key.{value_at}
 use Rattle.ild_data.specs.Trie.{TrieSlot, node_data}
+use Rattle.ild_data.specs.declared.hamt_shape.HamtShape.{HamtShape}
 use Rattle.ild_cbor.specs.Scalar.{int_of, kind_of}
 use Rattle.ild_cbor.specs.Span.{entry_of}
 use Rattle.ild_cbor.specs.declared.kind.Kind.TheVariants as K
@@ -23,7 +24,6 @@ use Rattle.ild_schema.specs.declared.number.Slot.{Slot}
 use Rattle.ild_schema.specs.declared.number.TypeNo.{TypeNo}
 use Rattle.ild_schema.specs.declared.row.Row.{Row}
 use Rattle.ild_typed.specs.Causes.{why_of}
-use Rattle.ild_typed.specs.Composed.{usual}
 use Rattle.ild_typed.specs.Fields.{same_int}
 use Rattle.ild_typed.specs.Hamt.{root_map}
 use Rattle.ild_typed.specs.Named.{where_some}
@@ -82,38 +82,38 @@ even_there t key n map h =
 
 -- ---- the causes
 
-module _ (room : ℕ) (key : TypeNo) (key_at : ℕ) (value : Slot) (at : ℕ) (t : Data) (map : kind_of t ≡ K.Map) where
+module _ (room : ℕ) (p : HamtShape) (key : TypeNo) (key_at : ℕ) (value : Slot) (at : ℕ) (t : Data) (map : kind_of t ≡ K.Map) where
   abbrev Own : TypeDef
-  Own = D.Map key key_at value at MF.Hamt
+  Own = D.Map key key_at value at (MF.Hamt p)
 
-  own : why_of (D.Map key key_at value at MF.Hamt) t ≡ None
+  own : why_of (D.Map key key_at value at (MF.Hamt p)) t ≡ None
   own = by t map where
-    by : (u : Data) → kind_of u ≡ K.Map → why_of (D.Map key key_at value at MF.Hamt) u ≡ None
+    by : (u : Data) → kind_of u ≡ K.Map → why_of (D.Map key key_at value at (MF.Hamt p)) u ≡ None
     by (T.map ms) e = refl
     by u e = absurd cc
 
-  pub hamt_deep : room < 5 → IsWhy room (D.Map key key_at value at MF.Hamt) t W.Depth
-  hamt_deep less = inl (deep_at room (D.Map key key_at value at MF.Hamt) t own refl less)
+  pub hamt_deep : room < 5 → IsWhy room (D.Map key key_at value at (MF.Hamt p)) t W.Depth
+  hamt_deep less = inl (deep_at room (D.Map key key_at value at (MF.Hamt p)) t own refl less)
 
   module _ (enough : 5 ≤ room) where
-    asked : why_at room (D.Map key key_at value at MF.Hamt) t ≡ root_why t
-    asked = past_room room (D.Map key key_at value at MF.Hamt) t own refl enough
+    asked : why_at room (D.Map key key_at value at (MF.Hamt p)) t ≡ root_why p t
+    asked = past_room room (D.Map key key_at value at (MF.Hamt p)) t own refl enough
 
     pub root_refused : (why : Why) → IsRootWhy why → ((Y.HashAlg ≡ why → HasOtherInt t hash_alg 18) × (HasOtherInt t hash_alg 18 → why ≡ Y.HashAlg))
-        → ((Y.BucketSize ≡ why → (HasOtherInt t hash_alg 18 → ⊥) × HasOtherInt t bucket_size 3) × ((HasOtherInt t hash_alg 18 → ⊥) × HasOtherInt t bucket_size 3 → why ≡ Y.BucketSize))
-        → ((slots : List TrieSlot) → IsRoot usual slots t → ⊥) → IsWhy room (D.Map key key_at value at MF.Hamt) t (told why)
+        → ((Y.BucketSize ≡ why → (HasOtherInt t hash_alg 18 → ⊥) × HasOtherInt t bucket_size p.bucket) × ((HasOtherInt t hash_alg 18 → ⊥) × HasOtherInt t bucket_size p.bucket → why ≡ Y.BucketSize))
+        → ((slots : List TrieSlot) → IsRoot p slots t → ⊥) → IsWhy room (D.Map key key_at value at (MF.Hamt p)) t (told why)
     root_refused Y.HashAlg is hash size rootless =
-        inl (asked ∙ ap (λ b. cond b (Some W.HashAlg) (cond (has_odd (codes "bucketSize") 3 t) (Some W.BucketSize) None)) (odd_there t hash_alg 18 map (hash.0 refl)))
+        inl (asked ∙ ap (λ b. cond b (Some W.HashAlg) (cond (has_odd (codes "bucketSize") p.bucket t) (Some W.BucketSize) None)) (odd_there t hash_alg 18 map (hash.0 refl)))
     root_refused Y.BucketSize is hash size rootless =
         let x = size.0 refl in
-        inl (asked ∙ ap (λ b. cond b (Some W.HashAlg) (cond (has_odd (codes "bucketSize") 3 t) (Some W.BucketSize) None)) (even_there t hash_alg 18 map x.0)
-        ∙ ap (λ b. cond b (Some W.BucketSize) None) (odd_there t bucket_size 3 map x.1))
+        inl (asked ∙ ap (λ b. cond b (Some W.HashAlg) (cond (has_odd (codes "bucketSize") p.bucket t) (Some W.BucketSize) None)) (even_there t hash_alg 18 map x.0)
+        ∙ ap (λ b. cond b (Some W.BucketSize) None) (odd_there t bucket_size p.bucket map x.1))
     root_refused Y.Trie is hash size rootless =
         let no_hash : HasOtherInt t hash_alg 18 → ⊥ = λ h. absurd (trie_not_hash (hash.1 h)) in
-        let no_size : HasOtherInt t bucket_size 3 → ⊥ = λ h. absurd (trie_not_size (size.1 (no_hash, h))) in
+        let no_size : HasOtherInt t bucket_size p.bucket → ⊥ = λ h. absurd (trie_not_size (size.1 (no_hash, h))) in
         inr (
-          asked ∙ ap (λ b. cond b (Some W.HashAlg) (cond (has_odd (codes "bucketSize") 3 t) (Some W.BucketSize) None)) (even_there t hash_alg 18 map no_hash)
-              ∙ ap (λ b. cond b (Some W.BucketSize) None) (even_there t bucket_size 3 map no_size),
+          asked ∙ ap (λ b. cond b (Some W.HashAlg) (cond (has_odd (codes "bucketSize") p.bucket t) (Some W.BucketSize) None)) (even_there t hash_alg 18 map no_hash)
+              ∙ ap (λ b. cond b (Some W.BucketSize) None) (even_there t bucket_size p.bucket map no_size),
           rootless,
           refl,
         )
@@ -127,13 +127,13 @@ module _ (room : ℕ) (key : TypeNo) (key_at : ℕ) (value : Slot) (at : ℕ) (t
 
 -- ---- the entries
 
-no_root_why : (node : Data) → root_why (root_map usual node) ≡ None
-no_root_why node = refl
+no_root_why : (p : HamtShape) (node : Data) → root_why p (root_map p node) ≡ None
+no_root_why p node = ap (λ b. cond (not b) (Some W.BucketSize) None) (int_itself p.bucket (pos p.bucket) refl)
 
-pub hamt_opens : (rows : List Row) (room left : ℕ) (key : TypeNo) (key_at : ℕ) (value : Slot) (at : ℕ) (t : Data) → kind_of t ≡ K.Map → left + 5 ≡ room → (slots : List TrieSlot) → IsRoot usual slots t
-    → (s : RootEntries) → HasRoot s (root_spots key value 0 slots) → HasOpened rows room (D.Map key key_at value at MF.Hamt) t (record { parts = P.Root s; room = left })
-hamt_opens rows room left key key_at value at t map sum slots root s has = record {
-  none = asked room key key_at value at t map (omega (arith, sum)) ∙ ap root_why root.tree ∙ no_root_why (node_data slots);
+pub hamt_opens : (rows : List Row) (room left : ℕ) (p : HamtShape) (key : TypeNo) (key_at : ℕ) (value : Slot) (at : ℕ) (t : Data) → kind_of t ≡ K.Map → left + 5 ≡ room → (slots : List TrieSlot) → IsRoot p slots t
+    → (s : RootEntries) → HasRoot s (root_spots key value 0 slots) → HasOpened rows room (D.Map key key_at value at (MF.Hamt p)) t (record { parts = P.Root s; room = left })
+hamt_opens rows room left p key key_at value at t map sum slots root s has = record {
+  none = asked room p key key_at value at t map (omega (arith, sum)) ∙ ap (root_why p) root.tree ∙ no_root_why p (node_data slots);
   spots = root_spots key value 0 slots;
   parts = (slots, root, refl);
   room_is = sum;

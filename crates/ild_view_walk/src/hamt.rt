@@ -14,6 +14,7 @@ ghost use Rattle.ild_layer_parts.specs.Ready.{IsIn};
 
 use crate::opening::{Opening, Stop};
 use ild_cbor::{Kind, Node, Piece, Why};
+use ild_data::HamtShape;
 use ild_layer_parts::{Parts, RootEntries};
 use ild_node_slots::root_of;
 use ild_schema::{Slot, TypeNo};
@@ -22,16 +23,17 @@ use ild_schema::{Slot, TypeNo};
 pub(crate) fn open_hamt<'b>(
     key: TypeNo,
     value: Slot,
+    shape: HamtShape,
     piece: &Piece<'b>,
     room: u32,
 ) -> Result<Option<Opening<'b>>, Stop>
     requires { passes_over piece.now ≡ false }
-    ensures opens { (rows : List Row) (key_at at : ℕ) (t : Data) → StandsFor rows piece.now t → Opens rows room (D.Map key key_at value at MF.Hamt) t result }
+    ensures opens { (rows : List Row) (key_at at : ℕ) (t : Data) → StandsFor rows piece.now t → Opens rows room (D.Map key key_at value at (MF.Hamt shape)) t result }
     ensures ready { (rows : List Row) → IsIn rows (plainly key) → IsIn rows value → IsOpening rows room result }
     ensures many { OpensMany result }
 {
     match piece {
-        Piece::Node(node) => open_root(key, value, *node, room),
+        Piece::Node(node) => open_root(key, value, shape, *node, room),
         Piece::Text(_) => Err(Stop::Why(Why::Kind)),
         Piece::Bytes(_) => Err(Stop::Why(Why::Kind)),
         Piece::Inline(_, _) => unreachable!(),
@@ -42,10 +44,11 @@ pub(crate) fn open_hamt<'b>(
 fn open_root<'b>(
     key: TypeNo,
     value: Slot,
+    shape: HamtShape,
     node: Node<'b>,
     room: u32,
 ) -> Result<Option<Opening<'b>>, Stop>
-    ensures opens { (rows : List Row) (key_at at : ℕ) (t : Data) → Stands node.entry t → Opens rows room (D.Map key key_at value at MF.Hamt) t result }
+    ensures opens { (rows : List Row) (key_at at : ℕ) (t : Data) → Stands node.entry t → Opens rows room (D.Map key key_at value at (MF.Hamt shape)) t result }
     ensures ready { (rows : List Row) → IsIn rows (plainly key) → IsIn rows value → IsOpening rows room result }
     ensures many { OpensMany result }
 {
@@ -56,7 +59,7 @@ fn open_root<'b>(
     let Some(room) = room.checked_sub(5) else {
         return Err(Stop::Why(Why::Depth));
     };
-    match root_of(node) {
+    match root_of(node, shape) {
         Ok(view) => Ok(Some(Opening {
             parts: Parts::Root(RootEntries::of(key, value, &view)),
             room,

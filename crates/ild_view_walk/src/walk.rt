@@ -62,7 +62,7 @@ pub(crate) fn open_piece<'b>(
             ..
         } => match form {
             MapForm::Map => open_map(acc, *key, *value, piece, room),
-            MapForm::Hamt => open_hamt(*key, *value, piece, room),
+            MapForm::Hamt(shape) => open_hamt(*key, *value, *shape, piece, room),
             MapForm::StringPairs(inner, entry) => open_stringpairs(
                 alloc,
                 *key,

@@ -162,7 +162,7 @@ maps::add_map-add_pairs-requires-in-ListPairs g t c = λ κs le.
 
 pub maps::add_map-add_hamt-requires : goal.maps::add_map-add_hamt-requires
 maps::add_map-add_hamt-requires g t c = λ κs le.
-    let parts = root_in c.args.acc.now c.args.slot c.form_of.result.now c.form_of.ensures.same c.form_of.ensures.within c.in-Map.key c.in-Map.key_at c.in-Map.value c.in-Map.at c.in-Map.form c.args.pairs.now c.in-Map.is c.requires.fits c.in-Hamt.is in
+    let parts = root_in c.args.acc.now c.args.slot c.form_of.result.now c.form_of.ensures.same c.form_of.ensures.within c.in-Map.key c.in-Map.key_at c.in-Map.value c.in-Map.at c.in-Map.form c.args.pairs.now c.in-Map.is c.requires.fits c.in-Hamt.shape c.in-Hamt.is in
     (omega arith, (le, (parts.low, parts.each)))
 
 pub maps::add_map-returns-in-Map-form : goal.maps::add_map-returns-in-Map-form
@@ -186,7 +186,7 @@ maps::add_map-returns-in-StringPairs g t c = record {
 
 pub maps::add_map-returns-in-Hamt : goal.maps::add_map-returns-in-Hamt
 maps::add_map-returns-in-Hamt g t c = record {
-  ok = hamt_layer g.H.KeyHash.hash_of c.args.acc.now c.add_hamt.result c.args.out.now c.add_hamt.new.out c.args.nodes.now c.add_hamt.new.nodes c.args.slot c.in-Map.key c.in-Map.key_at c.in-Map.value c.in-Map.at c.in-Map.form c.args.pairs.now c.form_of.result.now c.form_of.ensures.same c.in-Map.is c.in-Hamt.is c.add_hamt.ensures.ok;
+  ok = hamt_layer g.H.KeyHash.hash_of c.args.acc.now c.add_hamt.result c.args.out.now c.add_hamt.new.out c.args.nodes.now c.add_hamt.new.nodes c.args.slot c.in-Map.key c.in-Map.key_at c.in-Map.value c.in-Map.at c.in-Map.form c.args.pairs.now c.form_of.result.now c.form_of.ensures.same c.in-Map.is c.in-Hamt.shape c.in-Hamt.is c.add_hamt.ensures.ok;
   err = c.add_hamt.ensures.err;
 }
 
@@ -271,9 +271,9 @@ maps::add_hamt-returns g t c =
     let keys = m.gathered.keys ∙ ap bare_keys all in
     record {
       ok = on_ok c.add_root.result _ _
-          (λ r. hamt_written h rows c.args.value c.args.pairs.now m.es c.args.out.now c.add_root.new.out c.args.nodes.now c.loop-i.nodes c.add_root.new.nodes
+          (λ r. hamt_written h c.args.shape rows c.args.value c.args.pairs.now m.es c.args.out.now c.add_root.new.out c.args.nodes.now c.loop-i.nodes c.add_root.new.nodes
           (subst (λ xs. Gathered h rows c.args.value xs m.es c.args.nodes.now c.loop-i.nodes) all m.gathered) r)
-          (c.add_root.ensures.ok h m.es m.marked (once_by_keys h ps m.es keys c.requires.fits.rises) (texts_by_keys ps m.es keys (λ i p e. (c.requires.fits.each i p e).text)) m.gathered.shallow);
+          (c.add_root.ensures.ok h m.es m.marked (once_by_keys h c.args.shape ps m.es keys c.requires.fits.rises) (texts_by_keys ps m.es keys (λ i p e. (c.requires.fits.each i p e).text)) m.gathered.shallow);
       err = c.add_root.ensures.err;
     }
 

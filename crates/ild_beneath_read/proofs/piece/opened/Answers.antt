@@ -27,7 +27,7 @@ pub returns-in-Hamt-clause-opens : goal.returns-in-Hamt-clause-opens
 returns-in-Hamt-clause-opens c = λ t stands.
     let own : MapForm → TypeDef = λ f. D.Map c.in-Map.key c.in-Map.key_at c.in-Map.value c.in-Map.at f in
     let flat : is_flat t ≡ false = sym (leaf_flat t) ∙ ap is_leaf (sym (c.kind.ensures c.args.acc.now t stands)) ∙ sym c.is_leaf.ensures ∙ c.if-is_leaf.false in
-    hamt_opens c.args.acc.now c.args.slot t flat c.in-Map.key c.in-Map.key_at c.in-Map.value c.in-Map.at (form_is c.args.acc.now c.args.slot c.base-base.result.0 c.def.result.now (own MF.Hamt) c.base-base.ensures.same c.def.ensures.same (c.in-Map.is ∙ ap own c.in-Hamt.is)) c.open_root.result
+    hamt_opens c.args.acc.now c.args.slot t flat c.in-Hamt.field-0 c.in-Map.key c.in-Map.key_at c.in-Map.value c.in-Map.at (form_is c.args.acc.now c.args.slot c.base-base.result.0 c.def.result.now (own (MF.Hamt c.in-Hamt.field-0)) c.base-base.ensures.same c.def.ensures.same (c.in-Map.is ∙ ap own c.in-Hamt.is)) c.open_root.result
     (c.open_root.ensures.root t stands)
 
 pub returns-in_default-form : goal.returns-in_default-form

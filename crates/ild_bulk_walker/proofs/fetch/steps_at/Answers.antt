@@ -3,7 +3,6 @@ use Rattle.std.proofs.lemmas.Bool.{false≢true}
 use Rattle.ild_data.specs.Data.{Data}
 use Rattle.ild_data.specs.Trie.{node_data}
 use Rattle.ild_cbor.specs.Block.{IsBlockOf}
-use Rattle.ild_typed.specs.Composed.{usual}
 use Rattle.ild_typed.proofs.NodeRoots.{node-read, node-taken}
 use Rattle.ild_bulk_walker.proofs.fetch.steps_at.Goals as goal
 
@@ -17,7 +16,7 @@ returns-in-Some c =
     let same : c.as_slice.result.now ≡ c.args.held.now.value = c.as_slice.ensures.same ∙ c.deref.ensures in
     let d = c.in-Ok.ensures.found in
     let r = rw c.in-Some.is at c.in_ok-steps-in-Ok.ensures d.0 d.2.stands in
-    let n = node-taken usual d.0 (omega arith) d.2.stands.within.tree r.0 in
+    let n = node-taken c.args.shape d.0 (omega arith) d.2.stands.within.tree r.0 in
     record {
       slots = n.slots;
       node = record {
@@ -36,6 +35,6 @@ returns-in-None c =
         λ slots n.
             let root = (c.in-Ok.ensures.only (node_data slots) (subst (λ (b : List ℕ). IsBlockOf b (node_data slots)) (sym same) n.is)).1 in
             let none = rw c.in-None.is at c.in_ok-steps-in-Ok.ensures (node_data slots) root.stands in
-            absurd (false≢true (sym none ∙ node-read usual slots (omega arith) n.form.many n.form.each)),
+            absurd (false≢true (sym none ∙ node-read c.args.shape slots (omega arith) n.form.many n.form.each)),
       ),
     )

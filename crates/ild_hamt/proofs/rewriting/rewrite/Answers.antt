@@ -11,7 +11,7 @@ use Rattle.ild_hamt.proofs.rewriting.rewrite.Goals as goal
 pub returns-clause-rewrites : goal.returns-clause-rewrites
 returns-clause-rewrites g c = λ h k slots es fs has is d hashed state.
     let r = c.in_ok-root.ensures.climbs h k slots es fs has is d hashed state in
-    way-rewrites h k fs c.in_ok-root.root c.deref.result.now _ c.put_way.result _ r.0 (c.deref.ensures.value ∙ r.1) c.put_way.ensures.puts
+    way-rewrites c.args.trail.shape h k fs c.in_ok-root.root c.deref.result.now _ c.put_way.result _ r.0 (c.deref.ensures.value ∙ r.1) c.put_way.ensures.puts
 
 pub returns-in_err-root-clause-rewrites : goal.returns-in_err-root-clause-rewrites
 returns-in_err-root-clause-rewrites g c = λ h k slots es fs has is d hashed state.
@@ -20,13 +20,13 @@ returns-in_err-root-clause-rewrites g c = λ h k slots es fs has is d hashed sta
 
 pub returns-clause-edits : goal.returns-clause-edits
 returns-clause-edits g c = λ slots has.
-    edits-from (trail_blocks c.args.trail) (slot_seen c.args.slot) c.args.plan.items c.in_ok-root.root c.climb.new.plan.items c.deref.result.now _ c.put_way.result _ c.in_ok-root.ensures.over (c.in_ok-root.ensures.written slots has)
+    edits-from c.args.trail.shape (trail_blocks c.args.trail) (slot_seen c.args.slot) c.args.plan.items c.in_ok-root.root c.climb.new.plan.items c.deref.result.now _ c.put_way.result _ c.in_ok-root.ensures.over (c.in_ok-root.ensures.written slots has)
     c.deref.ensures.value c.put_way.ensures.puts
 
 pub returns-in_err-root-clause-edits : goal.returns-in_err-root-clause-edits
 returns-in_err-root-clause-edits g c = λ slots has.
     let p = err_from_is_err_and c.from_residual.result c.from_residual.ensures.1 in
-    rw (p.1, p.2) (record { plan = c.args.plan.items; climbs = climbs-none _ _ _; answer = inl refl })
+    rw (p.1, p.2) (record { plan = c.args.plan.items; climbs = climbs-none c.args.trail.shape _ _ _; answer = inl refl })
 
 pub returns-clause-caused : goal.returns-clause-caused
 returns-clause-caused g c = caused-way c.in_ok-root.root c.deref.result.now _ _ c.put_way.result c.put_way.ensures.puts

@@ -1,14 +1,13 @@
 use Rattle.std.proofs.Common.{◌≡◌, ◌-◌, arith, rules}
 use Rattle.ild_data.specs.TrieShape.{trie_levels}
-use Rattle.ild_typed.specs.Composed.{usual}
 use Rattle.ild_node.specs.Keyed.{keyed_rows}
 use Rattle.ild_hamt.proofs.Leaving.{plans-few}
 use Rattle.ild_hamt.proofs.rewriting.slot_of.Goals as goal
 
-pub returns-then-len-le-BUCKET_SIZE-clause-plans : goal.returns-then-len-le-BUCKET_SIZE-clause-plans
-returns-then-len-le-BUCKET_SIZE-clause-plans c = λ h hashed are.
+pub returns-then-len-trail-clause-plans : goal.returns-then-len-trail-clause-plans
+returns-then-len-trail-clause-plans c = λ h hashed are.
     let le = c.len.ensures.count in
-    plans-few h usual (trie_levels usual - c.args.depth) c.args.depth c.args.rows c.few_slot.result c.args.plan.now.items (omega (arith, le)) (c.few_slot.ensures.same (omega (arith, le)))
+    plans-few h c.args.trail.now.shape (trie_levels c.args.trail.now.shape - c.args.depth) c.args.depth c.args.rows c.few_slot.result c.args.plan.now.items (omega (arith, le)) (c.few_slot.ensures.same (omega (arith, le)))
 
 pub returns-in-Err-Exhausted-clause-plans : goal.returns-in-Err-Exhausted-clause-plans
 returns-in-Err-Exhausted-clause-plans c = λ h hashed are.

@@ -1,4 +1,4 @@
-use Rattle.std.proofs.Common.{sym, ◌∙◌, subst, arith}
+use Rattle.std.proofs.Common.{sym, ◌∙◌, subst}
 use Rattle.ild_cbor.specs.Nodes.{Stands}
 use Rattle.ild_cbor.specs.declared.node.Node.{Node}
 use Rattle.ild_data.specs.Trie.{node_data}
@@ -6,8 +6,7 @@ use Rattle.ild_hamt_climb.proofs.Standing.{element_found}
 use Rattle.ild_hamt_climb.proofs.element.element_at.Goals as goal
 
 pub returns : goal.returns
-returns c = λ slots has.
-    let many = has.form.many in
+returns c = λ p slots has lt.
     let whole = c.apart.ensures (node_data slots) (subst (λ (n : Node). Stands n (node_data slots)) (sym c.node-node.ensures) has.stands) in
     element_found slots c.args.i c.count_before.result c.apart.result c.in_ok-list.list c.item-2.result c.nodes_are_at_places.ensures.item whole
-    (c.in_ok-list.ensures (node_data slots) whole.stands) (c.count_before.ensures slots has) (sym (c.is_used.ensures slots has (omega arith)) ∙ c.if-not-is_used.false) c.item-2.ensures
+    (c.in_ok-list.ensures (node_data slots) whole.stands) (c.count_before.ensures p slots has lt) (sym (c.is_used.ensures p slots has lt) ∙ c.if-not-is_used.false) c.item-2.ensures

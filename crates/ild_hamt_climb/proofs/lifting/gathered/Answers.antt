@@ -1,33 +1,32 @@
-use Rattle.std.proofs.Common.{◌+◌, arith}
+use Rattle.std.proofs.Common.{◌+◌, ◌^◌, arith}
 use Rattle.std.proofs.Math.Logic.{∥∥₁_map}
 use Rattle.ild_data.specs.Trie.{node_of, at_depth}
-use Rattle.ild_typed.specs.Composed.{usual}
 use Rattle.ild_node.specs.NewSlots.{slot_seen}
 use Rattle.ild_hamt_climb.proofs.Weights.{exchanged, gather-first, gather-more, gather-done}
 use Rattle.ild_hamt_climb.proofs.lifting.gathered.Goals as goal
 
 pub loop-j-init : goal.loop-j-init
 loop-j-init c = (
-  λ ss has. c.slots-slots.ensures ss has,
-  λ h left depth ss gs has order is le.
-      gather-first usual.bucket (at_depth h usual depth) (node_of h usual left (depth + 1)) 256 c.args.i ss (slot_seen c.args.slot) gs c.rows_of-rows.result
-      (exchanged h usual left depth c.args.i ss (slot_seen c.args.slot) gs has.form.many (omega arith) is) le c.rows_of-rows.ensures,
+  λ ss has. c.slots-slots.ensures c.args.shape ss has,
+  λ h left depth ss gs has lt order is le.
+      gather-first c.args.shape.bucket (at_depth h c.args.shape depth) (node_of h c.args.shape left (depth + 1)) (2 ^ c.args.shape.width) c.args.i ss (slot_seen c.args.slot) gs c.rows_of-rows.result
+      (exchanged h c.args.shape left depth c.args.i ss (slot_seen c.args.slot) gs has.form.many (let e = has.form.many in omega (arith, e, lt)) is) le c.rows_of-rows.ensures,
 )
 
 pub put_next-requires : goal.put_next-requires
-put_next-requires c = ∥∥₁_map c.requires (λ n. record { view = c.args.view; slots = n.slots; has = n.has; at = c.loop-j.invariant.0 n.slots n.has })
+put_next-requires c = ∥∥₁_map c.requires (λ n. record { shape = c.args.shape; view = c.args.view; slots = n.slots; has = n.has; at = c.loop-j.invariant.0 n.slots n.has })
 
 pub loop-j-preserved : goal.loop-j-preserved
 loop-j-preserved c = (
-  λ ss has. c.in_ok-put_next.ensures.walks c.args.view ss has (c.loop-j.invariant.0 ss has) (let e = has.form.many in omega arith),
-  λ h left depth ss gs has order is le.
+  λ ss has. c.in_ok-put_next.ensures.walks c.args.shape c.args.view ss has (c.loop-j.invariant.0 ss has) (let e = has.form.many in omega arith),
+  λ h left depth ss gs has lt order is le.
       let e = has.form.many in
-      gather-more usual.bucket (at_depth h usual depth) (node_of h usual left (depth + 1)) 256 c.args.i c.loop-j.j ss (slot_seen c.args.slot) gs c.loop-j.rows c.put_next.new.rows
-      (exchanged h usual left depth c.args.i ss (slot_seen c.args.slot) gs has.form.many (omega arith) is) order le c.loop-j-test.true (c.loop-j.invariant.1 h left depth ss gs has order is le)
-      (λ apart. c.in_ok-put_next.ensures.puts c.args.view ss has (c.loop-j.invariant.0 ss has) (omega arith) apart) c.in_ok-put_next.ensures.stays,
+      gather-more c.args.shape.bucket (at_depth h c.args.shape depth) (node_of h c.args.shape left (depth + 1)) (2 ^ c.args.shape.width) c.args.i c.loop-j.j ss (slot_seen c.args.slot) gs c.loop-j.rows c.put_next.new.rows
+      (exchanged h c.args.shape left depth c.args.i ss (slot_seen c.args.slot) gs has.form.many (let e = has.form.many in omega (arith, e, lt)) is) order le (omega arith) (c.loop-j.invariant.1 h left depth ss gs has lt order is le)
+      (λ apart. c.in_ok-put_next.ensures.puts c.args.shape c.args.view ss has (c.loop-j.invariant.0 ss has) (omega arith) apart) c.in_ok-put_next.ensures.stays,
 )
 
 pub returns-clause-same : goal.returns-clause-same
-returns-clause-same c = λ h left depth ss gs has order is le.
-    gather-done usual.bucket (at_depth h usual depth) (node_of h usual left (depth + 1)) 256 c.args.i c.loop-j.j ss (slot_seen c.args.slot) gs c.loop-j.rows (slot_seen c.few_slot.result)
-    (exchanged h usual left depth c.args.i ss (slot_seen c.args.slot) gs has.form.many (omega arith) is) le (c.loop-j.invariant.1 h left depth ss gs has order is le) c.loop-j-test.false c.few_slot.ensures.same
+returns-clause-same c = λ h left depth ss gs has lt order is le.
+    gather-done c.args.shape.bucket (at_depth h c.args.shape depth) (node_of h c.args.shape left (depth + 1)) (2 ^ c.args.shape.width) c.args.i c.loop-j.j ss (slot_seen c.args.slot) gs c.loop-j.rows (slot_seen c.few_slot.result)
+    (exchanged h c.args.shape left depth c.args.i ss (slot_seen c.args.slot) gs has.form.many (let e = has.form.many in omega (arith, e, lt)) is) le (c.loop-j.invariant.1 h left depth ss gs has lt order is le) (omega arith) c.few_slot.ensures.same

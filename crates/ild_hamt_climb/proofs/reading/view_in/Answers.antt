@@ -6,11 +6,11 @@ use Rattle.ild_hamt_climb.proofs.NodeTests.{node-told, no-fault, some-known}
 use Rattle.ild_hamt_climb.proofs.reading.view_in.Goals as goal
 
 pub known_root-requires : goal.known_root-requires
-known_root-requires c = ap fault_of c.as_slice.ensures.same ∙ no-fault _ c.requires
+known_root-requires c = ap fault_of c.as_slice.ensures.same ∙ no-fault c.args.shape _ c.requires
 
 pub known_node-requires : goal.known_node-requires
 known_node-requires c =
-    let n = node-told _ c.as_slice.ensures.bytes c.requires in
+    let n = node-told c.args.shape _ c.as_slice.ensures.bytes c.requires in
     ∣ record {
       slots = n.slots;
       stands = (c.known_root.ensures (node_data n.slots) (subst (λ (b : List ℕ). IsBlockOf b (node_data n.slots)) (sym c.as_slice.ensures.same) n.is)).stands;
@@ -19,8 +19,8 @@ known_node-requires c =
 
 pub returns-clause-known : goal.returns-clause-known
 returns-clause-known c =
-    let n = node-told _ c.as_slice.ensures.bytes c.requires in
-    some-known c.known_node.result n.slots
+    let n = node-told c.args.shape _ c.as_slice.ensures.bytes c.requires in
+    some-known c.args.shape c.known_node.result n.slots
     (c.known_node.ensures n.slots (c.known_root.ensures (node_data n.slots) (subst (λ (b : List ℕ). IsBlockOf b (node_data n.slots)) (sym c.as_slice.ensures.same) n.is)).stands n.form).1
 
 pub returns-clause-only : goal.returns-clause-only
@@ -28,4 +28,4 @@ returns-clause-only c = λ slots n.
     c.known_node.ensures slots (c.known_root.ensures (node_data slots) (subst (λ (b : List ℕ). IsBlockOf b (node_data slots)) (sym c.as_slice.ensures.same) n.is)).stands n.form
 
 pub returns-clause-node : goal.returns-clause-node
-returns-clause-node c = node-told _ c.as_slice.ensures.bytes c.requires
+returns-clause-node c = node-told c.args.shape _ c.as_slice.ensures.bytes c.requires

@@ -1,6 +1,6 @@
 use Rattle.std.proofs.Common.{refl}
 use Rattle.ild_inclusion.specs.Branches.{found, not_found}
-use Rattle.ild_inclusion.proofs.Slots.{safe_is}
+use Rattle.ild_view.proofs.Opening.{safe_is}
 use Rattle.ild_inclusion.proofs.Stepping.{part_view}
 use Rattle.ild_inclusion.proofs.entry.fronted.Goals as goal
 

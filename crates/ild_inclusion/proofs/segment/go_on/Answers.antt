@@ -1,6 +1,9 @@
 use Rattle.std.proofs.Common.{◌-◌, ap, ◌∙◌}
-use Rattle.ild_inclusion.proofs.Stepping.{steps_in, steps_off}
+use Rattle.ild_inclusion.proofs.Stepping.{has_map, steps_in, steps_off}
 use Rattle.ild_inclusion.proofs.segment.go_on.Goals as goal
+
+pub enter-requires-clause-map : goal.enter-requires-clause-map
+enter-requires-clause-map g c = has_map c.args.from.now.view c.in-Some-hamt.root c.in-Some-hamt.ensures
 
 pub returns-in-Some-hamt : goal.returns-in-Some-hamt
 returns-in-Some-hamt g c = λ f is memory.

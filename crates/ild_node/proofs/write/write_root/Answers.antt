@@ -6,5 +6,5 @@ use Rattle.ild_node.proofs.write.write_root.Goals as goal
 pub returns : goal.returns
 returns c = λ t h.
     c.finish.ensures
-    ∙ root-done t _ _ _ _ _ _ _ (c.in_ok-head.ensures.ok ∙ ap (λ x. x ++ head 5 3) c.new-out.ensures) c.in_ok-text.ensures.ok (c.in_ok-node.ensures.ok t h) c.in_ok-text-2.ensures.ok c.in_ok-head-2.ensures.ok
+    ∙ root-done c.args.shape t _ _ _ _ _ _ _ (c.in_ok-head.ensures.ok ∙ ap (λ x. x ++ head 5 3) c.new-out.ensures) c.in_ok-text.ensures.ok (c.in_ok-node.ensures.ok t h) c.in_ok-text-2.ensures.ok c.in_ok-head-2.ensures.ok
     c.in_ok-text-3.ensures.ok c.in_ok-head-3.ensures.ok

@@ -1,6 +1,5 @@
 use Rattle.std.proofs.Common.{sym, refl, ap, ◌∙◌, arith}
 use Rattle.ild_data.specs.Trie.{node_data}
-use Rattle.ild_typed.specs.Composed.{usual}
 use Rattle.ild_typed.specs.NodeReading.{pair_fits}
 use Rattle.ild_typed.proofs.NodeRoots.{node-read}
 use Rattle.ild_node_slots.proofs.Fits.{PartsOf, parts-of, view-only}
@@ -11,15 +10,16 @@ returns c = λ slots h form.
     let parts : PartsOf c.args.node (node_data slots) c.in_ok-map.map.now c.in_ok-ones.data c.in_ok-elements.elements =
     parts-of c.args.node (node_data slots) c.in_ok-ones.ones c.in_ok-ones.data _ _ (c.in_ok-ones.ensures (node_data slots) h) c.in_ok-map.ensures c.in_ok-elements.ensures in (
       refl,
-      view-only usual _ c.args.node slots (record {
+      view-only c.args.shape _ c.args.node slots (record {
         node_is = refl;
+        shape_is = refl;
         ones = c.in_ok-map.map.now;
         parts = parts.parts;
         pair = parts.pair;
         map = refl;
         elements = parts.elements;
         items = parts.items;
-        fits = sym (ap (pair_fits usual) parts.pair) ∙ node-read usual slots (omega arith) form.many form.each;
+        fits = sym (ap (pair_fits c.args.shape) parts.pair) ∙ node-read c.args.shape slots c.args.shape.wide form.many form.each;
       }) h form,
     )
 

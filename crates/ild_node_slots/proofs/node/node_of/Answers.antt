@@ -1,18 +1,18 @@
-use Rattle.std.proofs.Common.{◌≡◌, List, subst}
-use Rattle.std.specs.Prelude.{IsOk, IfOk}
-use Rattle.ild_data.specs.Data.{Data}
-use Rattle.ild_data.specs.Trie.{TrieSlot, node_data}
-use Rattle.ild_data.specs.TrieShape.{TrieShape}
-use Rattle.ild_cbor.specs.Nodes.{Stands}
-use Rattle.ild_node_slots.specs.Form.{IsNode}
-use Rattle.ild_node_slots.specs.Views.{HasSlots}
+use Rattle.std.proofs.Common.{refl, arith}
+use Rattle.std.proofs.lemmas.Bool.{both_ways}
+use Rattle.ild_data.specs.Trie.{node_data}
+use Rattle.ild_node_slots.proofs.Fits.{view-taken, view-only}
+use Rattle.ild_typed.proofs.NodeRoots.{node-read}
 use Rattle.ild_node_slots.proofs.node.node_of.Goals as goal
 
-pub returns-clause-found : goal.returns-clause-found
-returns-clause-found c =
-    subst (λ (p : TrieShape). (t : Data) → Stands c.args.node t → IfOk c.node_in.result (λ v. (slots : List TrieSlot) × (t ≡ node_data slots) × HasSlots p v slots)) c.usual.ensures c.node_in.ensures.found
+pub returns-in-Some-clause-found : goal.returns-in-Some-clause-found
+returns-in-Some-clause-found c = λ t h.
+    let s = view-taken c.args.shape c.in-Some.view c.args.node t (c.in-Some.ensures.view t h) h in
+    (s.slots, s.is, s.has)
 
-pub returns-clause-only : goal.returns-clause-only
-returns-clause-only c =
-    subst (λ (p : TrieShape). (slots : List TrieSlot) → Stands c.args.node (node_data slots) → IsNode p slots → IsOk c.node_in.result × IfOk c.node_in.result (λ v. HasSlots p v slots)) c.usual.ensures
-    c.node_in.ensures.only
+pub returns-in-Some-clause-only : goal.returns-in-Some-clause-only
+returns-in-Some-clause-only c = λ slots h form. (refl, view-only c.args.shape c.in-Some.view c.args.node slots (c.in-Some.ensures.view (node_data slots) h) h form)
+
+pub returns-in-None-clause-only : goal.returns-in-None-clause-only
+returns-in-None-clause-only c = λ slots h form.
+    absurd (both_ways _ (c.in-None.ensures.view (node_data slots) h) (node-read c.args.shape slots c.args.shape.wide form.many form.each))

@@ -1,20 +1,34 @@
-use Rattle.std.proofs.Common.{List, subst}
-use Rattle.std.specs.Prelude.{IsOk, IfOk}
+use Rattle.std.proofs.Common.{refl, sym, ◌∙◌, subst}
+use Rattle.std.proofs.lemmas.Bool.{false≢true}
 use Rattle.ild_data.specs.Data.{Data}
-use Rattle.ild_data.specs.Trie.{TrieSlot, node_data}
-use Rattle.ild_data.specs.TrieShape.{TrieShape}
-use Rattle.ild_cbor.specs.Nodes.{Stands, IsPart}
-use Rattle.ild_cbor.specs.Span.{place_of}
-use Rattle.ild_typed.specs.Node.{IsRoot}
-use Rattle.ild_node_slots.specs.Views.{HasSlots, view_node}
+use Rattle.ild_cbor.specs.Nodes.{Stands}
+use Rattle.ild_data.specs.Trie.{node_data}
+use Rattle.ild_typed.specs.Hamt.{root_map}
+use Rattle.ild_node_slots.specs.Form.{hash_alg, bucket_size}
+use Rattle.ild_node_slots.specs.Roots.{HasOtherInt}
+use Rattle.ild_node_slots.proofs.Rooting.{not-other, root-same, root-parts}
 use Rattle.ild_node_slots.proofs.root.root_of.Goals as goal
 
-pub returns-clause-found : goal.returns-clause-found
-returns-clause-found c =
-    subst (λ (p : TrieShape). (t : Data) → Stands c.args.node t → IfOk c.root_in.result (λ v. (slots : List TrieSlot) × IsRoot p slots t × HasSlots p v slots × IsPart c.args.node (view_node v) (place_of t 0) (node_data slots)))
-    c.usual.ensures c.root_in.ensures.found
+pub returns-then-has_other_int-clause-only : goal.returns-then-has_other_int-clause-only
+returns-then-has_other_int-clause-only c = λ slots t h root.
+    absurd (not-other (root_map c.args.shape (node_data slots)) hash_alg 18 refl
+    (subst (λ (d : Data). HasOtherInt d hash_alg 18) root.tree ((c.has_other_int.ensures t h).0 c.if-has_other_int.true)))
 
-pub returns-clause-only : goal.returns-clause-only
-returns-clause-only c =
-    subst (λ (p : TrieShape). (slots : List TrieSlot) (t : Data) → Stands c.args.node t → IsRoot p slots t → IsOk c.root_in.result × IfOk c.root_in.result (λ v. HasSlots p v slots)) c.usual.ensures
-    c.root_in.ensures.only
+pub returns-then-has_other_int-2-clause-only : goal.returns-then-has_other_int-2-clause-only
+returns-then-has_other_int-2-clause-only c = λ slots t h root.
+    absurd (not-other (root_map c.args.shape (node_data slots)) bucket_size c.args.shape.bucket refl
+    (subst (λ (d : Data). HasOtherInt d bucket_size c.args.shape.bucket) root.tree ((c.has_other_int-2.ensures t h).0 c.if-has_other_int-2.true)))
+
+pub returns-in-Some-clause-only : goal.returns-in-Some-clause-only
+returns-in-Some-clause-only c = λ slots t h root.
+    let f = c.in-Some.ensures.found t h in
+    let same = root-same c.args.shape f.0 (node_data slots) (sym f.1 ∙ root.tree) in
+    c.node_of.ensures.only slots (subst (λ (d : Data). Stands c.in-Some.item d) same f.2.stands) (record { many = root.indices; each = root.each })
+
+pub returns-in-None-clause-only : goal.returns-in-None-clause-only
+returns-in-None-clause-only c = λ slots t h root. absurd (false≢true (c.in-None.ensures.only (node_data slots) (subst (λ (d : Data). Stands c.args.node d) root.tree h)))
+
+pub returns-in-Some-clause-found : goal.returns-in-Some-clause-found
+returns-in-Some-clause-found c = λ t h.
+    let f = c.in-Some.ensures.found t h in
+    root-parts c.args.shape t f.0 c.args.node c.in-Some.item c.node_of.result f.1 f.2 (c.node_of.ensures.found f.0 f.2.stands) c.node_of.ensures.item

@@ -18,8 +18,8 @@ returns-in-Some-clause-told g c = λ was limit q holder d told x to.
     let rows = c.args.acc.now in
     let view = c.args.inner.now in
     let halts : (f : Value) → IsView view f → HaltsAt (table_of view) c.args.room (slot_of view, f) c.args.front c.halt_in.result = λ f is. subst (λ (p : List (List ℕ)). HaltsAt (table_of view) c.args.room (slot_of view, f) p c.halt_in.result) c.as_slice.ensures (c.halt_in.ensures.halts f is) in
-    let can = can_end_at h rows was limit q d view x c.args.front c.args.room holder to c.halt_in.result halts c.in-Some.field-0 c.in-Some.ensures in
-    ends_at_key h rows was limit q d view x c.args.front c.args.room holder to c.halt_in.result halts c.in-Some.field-0 c.in-Some.ensures
+    let can = can_end_at h rows was limit q d view x c.args.front c.args.room holder to c.halt_in.result halts _ c.in-Some.field-0 c.in-Some.ensures in
+    ends_at_key h rows was limit q d view x c.args.front c.args.room holder to c.halt_in.result halts _ c.in-Some.field-0 c.in-Some.ensures
     c.args.last.now c.args.k c.args.verb (g.K.Store.moment c.args.store.now) (g.K.Store.moment c.end_at_key.new.store) c.end_at_key.result (c.end_at_key.ensures.told was limit q told can)
 
 pub returns-in-None-clause-told : goal.returns-in-None-clause-told
@@ -28,7 +28,7 @@ returns-in-None-clause-told g c = λ was limit q holder d told x to.
     let rows = c.args.acc.now in
     let view = c.args.inner.now in
     let halts : (f : Value) → IsView view f → HaltsAt (table_of view) c.args.room (slot_of view, f) c.args.front c.halt_in.result = λ f is. subst (λ (p : List (List ℕ)). HaltsAt (table_of view) c.args.room (slot_of view, f) p c.halt_in.result) c.as_slice.ensures (c.halt_in.ensures.halts f is) in
-    ends_in_block h rows was limit q d view x c.args.front c.args.room holder to c.halt_in.result halts c.in-None.ensures
+    ends_in_block h rows was limit q d view x c.args.front c.args.room holder to c.halt_in.result halts _ c.in-None.ensures
     c.args.last.now c.args.k c.args.verb (g.K.Store.moment c.args.store.now) (g.K.Store.moment c.args.store.now) c.end_in_block.result refl c.end_in_block.ensures.ends
 
 pub returns-in-Some-clause-room : goal.returns-in-Some-clause-room

@@ -1,35 +1,39 @@
+use Rattle.std.proofs.Common.{subst, ◌∙◌}
 use Rattle.std.specs.Prelude.{Ok, Err}
 use Rattle.std.proofs.lemmas.Result.{err_from_is_err_and}
 use Rattle.ild_data.specs.ByteOrder.{without}
+use Rattle.ild_data.specs.Spell.{spell}
+use Rattle.ild_typed.specs.Hamt.{root_map}
 use Rattle.ild_hamt.specs.Rewriting.{IsTrailFrom}
 use Rattle.ild_schema.specs.Value.{hamt}
 use Rattle.ild_path_entered.specs.Entered.{without_entry}
-use Rattle.ild_path_reroot.proofs.Rerooting.{cut_rewrites, edit_done, edit_failed, cut_ready, same_node, tree_node}
+use Rattle.ild_path_reroot.specs.Reroots.{MakesRoot}
+use Rattle.ild_path_reroot.proofs.Rerooting.{cut_rewrites, edit_done, edit_failed, cut_ready, same_node, root_has, tree_node}
 use Rattle.ild_path_reroot.proofs.Causing.{caused_after}
 use Rattle.ild_path_reroot.proofs.edit.cut_entry.Goals as goal
 
 -- src/edit.rt:42:16
 pub returns-in_err-node-clause-cuts : goal.returns-in_err-node-clause-cuts
 returns-in_err-node-clause-cuts g c = λ rows was s elem t x ps es k room view told at new.
-    let slots = c.in-Some.ensures (hamt t) view in
-    let from : IsTrailFrom c.in-Some.root c.args.trail g.H.KeyHash.hash_of k slots.0 es = record { has = slots.2; trail = at.trail slots.0 slots.1 } in
+    let has = root_has g.H.KeyHash.hash_of at.hamt.3 rows was elem ps t es _ c.in-Some.root at.trie (c.in-Some.ensures (hamt t) view) in
+    let from : IsTrailFrom at.hamt.3 c.in-Some.root c.args.trail g.H.KeyHash.hash_of k has.slots es = record { has = has.has; trail = at.trail has.slots has.root } in
     let ready = cut_ready g.H.KeyHash.hash_of rows was s elem t x ps es k room c.args.trail at new in
     let p = err_from_is_err_and c.from_residual.result c.from_residual.ensures.1 in
-    rw (p.1, p.2) (edit_failed g.H.KeyHash.hash_of rows was s room (without_entry k ps) x k es (without k es) ready (g.K.Store.moment c.args.store.now) (g.K.Store.moment c.remove.new.store) told c.in_err-node.field-0.0
-    (cut_rewrites g.H.KeyHash.hash_of rows was elem t ps es k (g.K.Store.moment c.args.store.now) (g.K.Store.moment c.remove.new.store) (Err c.in_err-node.field-0.0) at.trie new.there (c.in_err-node.ensures.removes k slots.0 es from)))
+    rw (p.1, p.2) (edit_failed g.H.KeyHash.hash_of at.hamt.3 rows was s room (without_entry k ps) x k es (without k es) ready (g.K.Store.moment c.args.store.now) (g.K.Store.moment c.remove.new.store) told c.in_err-node.field-0.0
+    (cut_rewrites g.H.KeyHash.hash_of at.hamt.3 rows was elem t ps es k (g.K.Store.moment c.args.store.now) (g.K.Store.moment c.remove.new.store) (Err c.in_err-node.field-0.0) at.trie new.there (c.in_err-node.ensures.removes at.hamt.3 k has.slots es from)))
 
 -- src/edit.rt:24:1
 pub returns-clause-cuts : goal.returns-clause-cuts
 returns-clause-cuts g c = λ rows was s elem t x ps es k room view told at new.
-    let slots = c.in-Some.ensures (hamt t) view in
-    let from : IsTrailFrom c.in-Some.root c.args.trail g.H.KeyHash.hash_of k slots.0 es = record { has = slots.2; trail = at.trail slots.0 slots.1 } in
+    let has = root_has g.H.KeyHash.hash_of at.hamt.3 rows was elem ps t es _ c.in-Some.root at.trie (c.in-Some.ensures (hamt t) view) in
+    let from : IsTrailFrom at.hamt.3 c.in-Some.root c.args.trail g.H.KeyHash.hash_of k has.slots es = record { has = has.has; trail = at.trail has.slots has.root } in
     let ready = cut_ready g.H.KeyHash.hash_of rows was s elem t x ps es k room c.args.trail at new in
-    let sets = cut_rewrites g.H.KeyHash.hash_of rows was elem t ps es k (g.K.Store.moment c.args.store.now) (g.K.Store.moment c.remove.new.store) (Ok c.in_ok-node.node) at.trie new.there (c.in_ok-node.ensures.removes k slots.0 es from) in
-    let held = c.in_ok-node.ensures.held k slots.0 es from in
-    let gives = c.in_ok-node.ensures.gives k slots.0 es from in
-    edit_done g.H.KeyHash.hash_of rows was s room (without_entry k ps) x k es (without k es) ready (g.K.Store.moment c.args.store.now) (g.K.Store.moment c.remove.new.store) told c.in_ok-node.node sets held gives c.root_around.result
-    (c.root_around.ensures.made ready.has.node (same_node g.H.KeyHash.hash_of rows was s room (without_entry k ps) x k es (without k es) ready (g.K.Store.moment c.args.store.now) (g.K.Store.moment c.remove.new.store) c.in_ok-node.node sets.0)
-    (tree_node g.H.KeyHash.hash_of rows was s room (without_entry k ps) x k es (without k es) ready (g.K.Store.moment c.args.store.now) (g.K.Store.moment c.remove.new.store)))
+    let sets = cut_rewrites g.H.KeyHash.hash_of at.hamt.3 rows was elem t ps es k (g.K.Store.moment c.args.store.now) (g.K.Store.moment c.remove.new.store) (Ok c.in_ok-node.node) at.trie new.there (c.in_ok-node.ensures.removes at.hamt.3 k has.slots es from) in
+    let after = c.in_ok-node.ensures.held at.hamt.3 k has.slots es from in
+    let gives = c.in_ok-node.ensures.gives at.hamt.3 k has.slots es from in
+    edit_done g.H.KeyHash.hash_of at.hamt.3 rows was s room (without_entry k ps) x k es (without k es) ready (g.K.Store.moment c.args.store.now) (g.K.Store.moment c.remove.new.store) told c.in_ok-node.node sets after gives c.root_around.result
+    (subst (λ q. MakesRoot (spell (root_map q ready.has.node)) c.root_around.result) (c.shape-shape.ensures ∙ has.has.shape) (c.root_around.ensures.made ready.has.node (same_node g.H.KeyHash.hash_of at.hamt.3 rows was s room (without_entry k ps) x k es (without k es) ready (g.K.Store.moment c.args.store.now) (g.K.Store.moment c.remove.new.store) c.in_ok-node.node sets.0)
+    (tree_node g.H.KeyHash.hash_of at.hamt.3 rows was s room (without_entry k ps) x k es (without k es) ready (g.K.Store.moment c.args.store.now) (g.K.Store.moment c.remove.new.store))))
 
 pub returns-clause-caused : goal.returns-clause-caused
 returns-clause-caused g c = caused_after _ _ c.in_ok-node.node c.root_around.result c.in_ok-node.ensures.caused c.root_around.ensures.fault

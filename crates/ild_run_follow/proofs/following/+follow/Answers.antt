@@ -51,7 +51,7 @@ tell_in-returns-in_default-found g t c =
     let schema = subst IsSchema c.schema.ensures (record { table = c.types-types.ensures.table; accepted = c.types-types.ensures.accepted }) in
     let here = ap Some c.as_str.ensures.same ∙ c.in-Some-get.ensures in
     tells_absent g.H.KeyHash.hash_of c.args.hamt schema (g.K.Store.moment c.args.store.now) c.args.path.now c.args.k c.args.tell c.in-Some.root c.in-Some.ensures c.as_str.result.now here (Ok c.in_ok-trail.trail)
-    (g.K.Store.moment c.trail_of.new.store) c.in_ok-trail.ensures c.in_ok-trail.trail refl c.found.result (λ slots es has is. c.found.ensures g.H.KeyHash.hash_of c.as_str.result.now slots es has is) c.absent.result
+    (g.K.Store.moment c.trail_of.new.store) c.in_ok-trail.ensures c.in_ok-trail.trail refl c.found.result (λ p slots es has is. c.found.ensures g.H.KeyHash.hash_of p c.as_str.result.now slots es has is) c.absent.result
     c.in_default-found.is c.absent.ensures
 
 pub tell_in-overflow_add-k : goal.tell_in-overflow_add-k
@@ -81,7 +81,7 @@ tell_in-returns-in-Ok g t c =
     let schema = subst IsSchema c.schema.ensures (record { table = c.types-types.ensures.table; accepted = c.types-types.ensures.accepted }) in
     let here = ap Some c.as_str.ensures.same ∙ c.in-Some-get.ensures in
     tells_on g.H.KeyHash.hash_of c.args.hamt schema (g.K.Store.moment c.args.store.now) c.args.path.now c.args.k c.args.tell c.in-Some.root c.in-Some.ensures c.as_str.result.now here (Ok c.in_ok-trail.trail)
-    (g.K.Store.moment c.trail_of.new.store) c.in_ok-trail.ensures c.in_ok-trail.trail refl c.found.result (λ slots es has is. c.found.ensures g.H.KeyHash.hash_of c.as_str.result.now slots es has is) c.in-Some-found.node
+    (g.K.Store.moment c.trail_of.new.store) c.in_ok-trail.ensures c.in_ok-trail.trail refl c.found.result (λ p slots es has is. c.found.ensures g.H.KeyHash.hash_of p c.as_str.result.now slots es has is) c.in-Some-found.node
     c.in-Ok.part (g.K.Store.moment c.tell_from.new.store) c.tell_from.result c.in-Some-found.is c.in-Ok.ensures c.tell_from.ensures
 
 pub tell_in-returns : goal.tell_in-returns
@@ -89,5 +89,5 @@ tell_in-returns g t c =
     let schema = subst IsSchema c.schema.ensures (record { table = c.types-types.ensures.table; accepted = c.types-types.ensures.accepted }) in
     let here = ap Some c.as_str.ensures.same ∙ c.in-Some-get.ensures in
     tells_refused g.H.KeyHash.hash_of c.args.hamt schema (g.K.Store.moment c.args.store.now) c.args.path.now c.args.k c.args.tell c.in-Some.root c.in-Some.ensures c.as_str.result.now here (Ok c.in_ok-trail.trail)
-    (g.K.Store.moment c.trail_of.new.store) c.in_ok-trail.ensures c.in_ok-trail.trail refl c.found.result (λ slots es has is. c.found.ensures g.H.KeyHash.hash_of c.as_str.result.now slots es has is) c.in-Some-found.node
+    (g.K.Store.moment c.trail_of.new.store) c.in_ok-trail.ensures c.in_ok-trail.trail refl c.found.result (λ p slots es has is. c.found.ensures g.H.KeyHash.hash_of p c.as_str.result.now slots es has is) c.in-Some-found.node
     c.in-Err.fault c.in-Some-found.is c.in-Err.ensures

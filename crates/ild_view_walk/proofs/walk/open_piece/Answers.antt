@@ -66,7 +66,7 @@ returns-in-Any-clause-ready c = c.open_any.ensures.ready c.args.acc.now
 pub returns-in-Hamt-clause-opens : goal.returns-in-Hamt-clause-opens
 returns-in-Hamt-clause-opens c = λ d t stands is.
     let own : MapForm → TypeDef = λ f. D.Map c.in-Map.key c.in-Map.key_at c.in-Map.value c.in-Map.at f in
-    let the : d ≡ own MF.Hamt =
+    let the : d ≡ own (MF.Hamt c.in-Hamt.shape) =
     type_is c.args.acc.now c.args.slot.ty.0 c.base.result.0 c.def.result.now (own c.in-Map.form) d c.base.ensures.same c.def.ensures.same c.in-Map.is is ∙ ap own c.in-Hamt.is in
     subst (λ (k : TypeDef). Opens c.args.acc.now c.args.room k t c.open_hamt.result) (sym the) (c.open_hamt.ensures.opens c.args.acc.now c.in-Map.key_at c.in-Map.at t stands)
 

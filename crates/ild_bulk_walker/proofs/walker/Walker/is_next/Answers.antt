@@ -15,12 +15,12 @@ pub returns-else-fits : goal.returns-else-fits
 returns-else-fits g c =
     let e = c.in-Some-Give.entry in
     let n = next-todo c.args.self.now.steps.items c.deref.result.now (Give e) c.deref.ensures.value (sym c.in-Some-Give.ensures.value ∙ ap Some c.in-Some-Give.field-0-is) in
-    gives-misfit g.H.KeyHash.hash_of c.args.self.now (entry_key e) (entry_value e) e.index n.0 c.fault.result n.1 (sym c.fits-fits.ensures ∙ c.if-fits.false) c.fault.ensures.trie c.fault.ensures.here
+    gives-misfit c.args.self.now.shape g.H.KeyHash.hash_of c.args.self.now (entry_key e) (entry_value e) e.index n.0 c.fault.result n.1 (sym c.fits-fits.ensures ∙ c.if-fits.false) c.fault.ensures.trie c.fault.ensures.here
 
 pub returns-in-Some-Leave : goal.returns-in-Some-Leave
 returns-in-Some-Leave g c =
     let n = next-todo c.args.self.now.steps.items c.deref.result.now (Leave c.in-Some-Leave.field-0-0) c.deref.ensures.value (sym c.in-Some-Leave.ensures.value ∙ ap Some c.in-Some-Leave.field-0-is) in
-    gives-leave g.H.KeyHash.hash_of c.args.self.now c.in-Some-Leave.field-0-0 n.0 c.fault-in-Some-Leave.result n.1 c.requires.ready c.fault-in-Some-Leave.ensures.trie c.fault-in-Some-Leave.ensures.here
+    gives-leave c.args.self.now.shape g.H.KeyHash.hash_of c.args.self.now c.in-Some-Leave.field-0-0 n.0 c.fault-in-Some-Leave.result n.1 c.requires.ready c.fault-in-Some-Leave.ensures.trie c.fault-in-Some-Leave.ensures.here
 
 pub returns-in-Some-Enter : goal.returns-in-Some-Enter
 returns-in-Some-Enter g c =

@@ -5,8 +5,8 @@ use Rattle.ild_bulk_walker.specs.declared.step.Step.TheVariants.{Leave}
 use Rattle.ild_bulk_walker.proofs.Walking.{opened, some-step}
 use Rattle.ild_bulk_walker.proofs.walker.Walker.open.Goals as goal
 
-pub returns : goal.returns
-returns c =
+pub returns-clause-opens : goal.returns-clause-opens
+returns-clause-opens c =
     let v = c.args.self.now in
     let ok : is_ok c.append.result ≡ true = search rules in
     let some = some-step v (enter c.args.child.id.0 c.args.child.index) c.requires in

@@ -1,6 +1,5 @@
 use Rattle.std.proofs.Common.{◌≡◌, Bool, true, false, cond, refl, arith}
 use mir.Val.{bool_byte}
-use Rattle.ild_typed.specs.Composed.{usual}
 use Rattle.ild_node_slots.proofs.Around.{around-slot}
 use Rattle.ild_node_slots.proofs.view.NodeView.around.Goals as goal
 
@@ -9,6 +8,6 @@ as_number true = refl
 as_number false = refl
 
 pub returns : goal.returns
-returns c = λ slots has.
-    around-slot usual c.args.self.now slots c.args.i c.ones_below.result _ c.map_bit-own.result c.items_around.result.0.now c.items_around.result.1.now (omega arith) has (let e = has.form.many in omega arith) c.ones_below.ensures
+returns c = λ p slots has lt.
+    around-slot p c.args.self.now slots c.args.i c.ones_below.result _ c.map_bit-own.result c.items_around.result.0.now c.items_around.result.1.now has lt c.ones_below.ensures
     c.map_bit-own.ensures (as_number c.map_bit-own.result) c.items_around.ensures

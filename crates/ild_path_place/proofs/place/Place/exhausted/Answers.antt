@@ -9,5 +9,5 @@ pub returns-in-AtKey : goal.returns-in-AtKey
 returns-in-AtKey c =
     subst (λ (e : End). Exhausts c.args.self.now.verb e (c.exhausted.result && c.comes.result)) (sym c.in-AtKey.is)
     (λ h rows was room q x d.
-    let s = some_slots h rows was x.elem x.ps x.root x.es x.trie in
-    λ i. c.exhausted.ensures.trie h c.in-AtKey.trail.key s.0 x.es d (x.found s.0 s.1) i && c.comes.ensures i)
+    let s = some_slots h x.entered.hamt.3 rows was x.elem x.ps x.root x.es x.trie in
+    λ i. c.exhausted.ensures.trie h x.entered.hamt.3 c.in-AtKey.trail.key s.0 x.es d (x.found s.0 s.1) i && c.comes.ensures i)
