@@ -9,12 +9,13 @@ use Rattle.std.proofs.lemmas.List.{map-append, length-map}
 use Rattle.std.specs.Cmp.Lexicographic.{nat_list_eq_equiv}
 use Rattle.ild_data.specs.Key.{same_text}
 use Rattle.ild_data.specs.Spell.{id_of}
+use Rattle.ild_edges.specs.Gained.{AreHeld}
 use Rattle.ild_edges.specs.Store.{Moment, Later, Keeps, block_at}
 use Rattle.ild_edges.proofs.Held.{block_at_id}
 use Rattle.ild_dirty.specs.Own.{index_at}
 use Rattle.ild_dirty.specs.Beneath.{Place, Places, place, no_places, beside, block_of, kind_of, IsTree, AreTrees, HasPlace, HasPlaceBelow, IsTreeAt, AgreesWith, blocks_in, blocks_below, places_in, places_below}
 use Rattle.ild_dirty.specs.Walk.{IsIn, own_block, Leads, LeadOn, is_in, is_done, are_done, is_ready, HasReady, Follows, AreStuck, IsPlan}
-use Rattle.ild_dirty.specs.Flush.{AreHeld, AddsOnly, PutsAnswer, PutsAll, StopsAfter, AreCarried, IsWhole, AddsWhole, FlushAnswer, Flushes}
+use Rattle.ild_dirty.specs.Flush.{AddsOnly, PutsAnswer, PutsAll, StopsAfter, AreCarried, IsWhole, AddsWhole, FlushAnswer, Flushes}
 use Rattle.ild_dirty.specs.declared.fault.FlushFault.{FlushFault}
 use Rattle.ild_dirty.specs.declared.fault.FlushFault.TheVariants as F
 use Rattle.ild_dirty.proofs.Indexed.{block_at-none}
@@ -32,7 +33,7 @@ all_right : (P : List ℕ × List (List ℕ) → Type 0) (xs ys : List (List ℕ
 all_right P [] ys all = all
 all_right P (x ∷ xs) ys all = all_right P xs ys all.1
 
-held_both : (held xs ys : List (List ℕ)) → AreHeld held xs → AreHeld held ys → AreHeld held (xs ++ ys)
+held_both : (held xs ys : List (List ℕ)) → AreHeld xs held → AreHeld ys held → AreHeld (xs ++ ys) held
 held_both held [] ys first last = last
 held_both held (x ∷ xs) ys first last = (first.0, held_both held xs ys first.1 last)
 
@@ -41,7 +42,7 @@ is_in-or i j order true is e = inl (eqb-true i j is)
 is_in-or i j order false is e = inr e
 
 -- what stands in an order that was put is held
-pub held_at : (own held : List (List ℕ)) (order : List ℕ) (j : ℕ) → AreHeld held (map (own_block own) order) → is_in j order ≡ true → block_at held (id_of (own_block own j)) ≡ Some (own_block own j)
+pub held_at : (own held : List (List ℕ)) (order : List ℕ) (j : ℕ) → AreHeld (map (own_block own) order) held → is_in j order ≡ true → block_at held (id_of (own_block own j)) ≡ Some (own_block own j)
 held_at own held [] j all e = absurd (let bad : true ≡ false = sym e in cc)
 held_at own held (i ∷ order) j all e = ⊎_elim (λ same. subst (λ (k : ℕ). block_at held (id_of (own_block own k)) ≡ Some (own_block own k)) same all.0) (λ more. held_at own held order j all.1 more) (is_in-or i j order (nat_eq i j) refl e)
 
@@ -58,7 +59,7 @@ contained (x ∷ own) b (zero, lt, is) = found_by (same_text (id_of x) (id_of b)
 contained (x ∷ own) b (suc k, lt, is) = found_by (same_text (id_of x) (id_of b)) x b (block_at own (id_of b)) refl (inr (contained own b (k, omega (arith, lt), is)))
 
 -- a block that the batch doesn't hold of its own is carried by the store
-carried_by : (own held : List (List ℕ)) (b : List ℕ) (blocks : List (List ℕ)) → index_at own (id_of b) ≡ None → Contains own b ⊎ AreHeld held blocks → AreHeld held blocks
+carried_by : (own held : List (List ℕ)) (b : List ℕ) (blocks : List (List ℕ)) → index_at own (id_of b) ≡ None → Contains own b ⊎ AreHeld blocks held → AreHeld blocks held
 carried_by own held b blocks none either = ⊎_elim (λ has. absurd (contained own b has (block_at-none own (id_of b) none))) (λ there. there) either
 
 -- ---- all that is reached stands in the order
@@ -94,14 +95,14 @@ mutual
 
 -- ---- what is held at the end
 
-tree_by : (own was now : List (List ℕ)) (b : List ℕ) (rest : List (List ℕ)) (o : Option ℕ) → index_at own (id_of b) ≡ o → Contains own b ⊎ AreHeld was (b ∷ rest) → Keeps was now
-    → ((i : ℕ) → index_at own (id_of b) ≡ Some i → (block_at now (id_of b) ≡ Some b) × AreHeld now rest) → AreHeld now (b ∷ rest)
+tree_by : (own was now : List (List ℕ)) (b : List ℕ) (rest : List (List ℕ)) (o : Option ℕ) → index_at own (id_of b) ≡ o → Contains own b ⊎ AreHeld (b ∷ rest) was → Keeps was now
+    → ((i : ℕ) → index_at own (id_of b) ≡ Some i → (block_at now (id_of b) ≡ Some b) × AreHeld rest now) → AreHeld (b ∷ rest) now
 tree_by own was now b rest None none carried keeps each = held-keeps (b ∷ rest) was now (carried_by own was b (b ∷ rest) none carried) keeps
 tree_by own was now b rest (Some i) found carried keeps each = each i found
 
 mutual
-  pub tree_held : (own was now : List (List ℕ)) (children : ℕ → List ℕ → List (List ℕ × ℕ)) (spots : List (ℕ × ℕ)) (order : List ℕ) → LeadOn own children spots spots → AreStuck own children order spots → AreHeld now (map (own_block own) order) → Keeps was now
-      → (t : Place) → IsTree children t → AgreesWith own (blocks_in t) → AreCarried was own (places_in t) → ((i : ℕ) → index_at own (id_of (block_of t)) ≡ Some i → IsIn (i, kind_of t) spots) → AreHeld now (blocks_in t)
+  pub tree_held : (own was now : List (List ℕ)) (children : ℕ → List ℕ → List (List ℕ × ℕ)) (spots : List (ℕ × ℕ)) (order : List ℕ) → LeadOn own children spots spots → AreStuck own children order spots → AreHeld (map (own_block own) order) now → Keeps was now
+      → (t : Place) → IsTree children t → AgreesWith own (blocks_in t) → AreCarried was own (places_in t) → ((i : ℕ) → index_at own (id_of (block_of t)) ≡ Some i → IsIn (i, kind_of t) spots) → AreHeld (blocks_in t) now
   tree_held own was now children spots order closed stuck put keeps (place b k ts) tree agrees carried reached = tree_by own was now b (blocks_below ts) (index_at own (id_of b)) refl carried.0 keeps (λ i found.
       let top : b ≡ own_block own i = top_is own (place b k ts) (id_of b) (own_block own i) agrees refl (index_found own (id_of b) i found).1 in
       let here : block_at now (id_of (own_block own i)) ≡ Some (own_block own i) = held_at own now order i put (in_order own children spots order closed stuck (place b k ts) tree agrees i found (reached i found)) in
@@ -109,14 +110,14 @@ mutual
       let leads : Leads own (children k b) spots = subst (λ (cs : List (List ℕ × ℕ)). Leads own cs spots) same (closed (i, k) (reached i found)) in
       (subst (λ (c : List ℕ). block_at now (id_of c) ≡ Some c) (sym top) here, trees_held own was now children spots order closed stuck put keeps (children k b) ts tree agrees.1 carried.1 leads))
 
-  trees_held : (own was now : List (List ℕ)) (children : ℕ → List ℕ → List (List ℕ × ℕ)) (spots : List (ℕ × ℕ)) (order : List ℕ) → LeadOn own children spots spots → AreStuck own children order spots → AreHeld now (map (own_block own) order) → Keeps was now
-      → (cs : List (List ℕ × ℕ)) (ts : Places) → AreTrees children cs ts → AgreesWith own (blocks_below ts) → AreCarried was own (places_below ts) → Leads own cs spots → AreHeld now (blocks_below ts)
+  trees_held : (own was now : List (List ℕ)) (children : ℕ → List ℕ → List (List ℕ × ℕ)) (spots : List (ℕ × ℕ)) (order : List ℕ) → LeadOn own children spots spots → AreStuck own children order spots → AreHeld (map (own_block own) order) now → Keeps was now
+      → (cs : List (List ℕ × ℕ)) (ts : Places) → AreTrees children cs ts → AgreesWith own (blocks_below ts) → AreCarried was own (places_below ts) → Leads own cs spots → AreHeld (blocks_below ts) now
   trees_held own was now children spots order closed stuck put keeps cs no_places trees agrees carried leads = tt
   trees_held own was now children spots order closed stuck put keeps [] (beside t ts) trees agrees carried leads = absurd trees
   trees_held own was now children spots order closed stuck put keeps (c ∷ cs) (beside t ts) trees agrees carried leads = held_both now (blocks_in t) (blocks_below ts)
-      (tree_held own was now children spots order closed stuck put keeps t trees.2 (agrees_left own (blocks_in t) (blocks_below ts) agrees) (all_left (λ p. Contains own p.0 ⊎ AreHeld was p.1) (places_in t) (places_below ts) carried)
+      (tree_held own was now children spots order closed stuck put keeps t trees.2 (agrees_left own (blocks_in t) (blocks_below ts) agrees) (all_left (λ p. Contains own p.0 ⊎ AreHeld p.1 was) (places_in t) (places_below ts) carried)
       (λ i e. subst (λ (k : ℕ). IsIn (i, k) spots) (sym trees.1) (leads (i, c.1) (record { child = c; among = inl refl; found = ap (index_at own) (sym trees.0) ∙ e; kind = refl }))))
-      (trees_held own was now children spots order closed stuck put keeps cs ts trees.3 (agrees_right own (blocks_in t) (blocks_below ts) agrees) (all_right (λ p. Contains own p.0 ⊎ AreHeld was p.1) (places_in t) (places_below ts) carried)
+      (trees_held own was now children spots order closed stuck put keeps cs ts trees.3 (agrees_right own (blocks_in t) (blocks_below ts) agrees) (all_right (λ p. Contains own p.0 ⊎ AreHeld p.1 was) (places_in t) (places_below ts) carried)
       (λ s one. leads s (record { child = one.child; among = inr one.among; found = one.found; kind = one.kind })))
 
 -- ---- what came
@@ -138,15 +139,15 @@ pub record Stood (own : List (List ℕ)) (children : ℕ → List ℕ → List (
   pub block : own_block own number ≡ b
   pub front : List ℕ
   pub ready : HasReady own children spots front number
-  pub held : AreHeld now (map (own_block own) front)
+  pub held : AreHeld (map (own_block own) front) now
 
-stood_at : (own : List (List ℕ)) (children : ℕ → List ℕ → List (List ℕ × ℕ)) (spots : List (ℕ × ℕ)) (now : List (List ℕ)) (before order : List ℕ) (k : ℕ) → Follows own children spots before order → AreHeld now (map (own_block own) before) → AreHeld now (take k (map (own_block own) order))
+stood_at : (own : List (List ℕ)) (children : ℕ → List ℕ → List (List ℕ × ℕ)) (spots : List (ℕ × ℕ)) (now : List (List ℕ)) (before order : List ℕ) (k : ℕ) → Follows own children spots before order → AreHeld (map (own_block own) before) now → AreHeld (take k (map (own_block own) order)) now
     → (b : List ℕ) → IsIn b (take (suc k) (map (own_block own) order)) → Stood own children spots now b
 stood_at own children spots now before [] k follows held put b is = absurd is
 stood_at own children spots now before (i ∷ order) k follows held put b (inl same) = record { number = i; block = sym same; front = before; ready = follows.1; held = held }
 stood_at own children spots now before (i ∷ order) zero follows held put b (inr none) = absurd none
 stood_at own children spots now before (i ∷ order) (suc k) follows held put b (inr more) = stood_at own children spots now (before ++ i ∷ []) order k follows.2
-    (subst (λ (bs : List (List ℕ)). AreHeld now bs) (sym (map-append (own_block own) before (i ∷ []))) (held-push (map (own_block own) before) now (own_block own i) held put.0)) put.1 b more
+    (subst (λ (bs : List (List ℕ)). AreHeld bs now) (sym (map-append (own_block own) before (i ∷ []))) (held-push (map (own_block own) before) now (own_block own i) held put.0)) put.1 b more
 
 some_is : (o : Option (List ℕ)) (x : List ℕ) → o ≡ Some x → IsSome o
 some_is None x e = absurd (none-some x e)
@@ -156,7 +157,7 @@ and_first : (a b : Bool) → (a && b) ≡ true → (a ≡ true) × (b ≡ true)
 and_first true b e = (refl, e)
 and_first false b e = absurd (let bad : false ≡ true = e in cc)
 
-child_some : (own now : List (List ℕ)) (front : List ℕ) (id : List ℕ) (o : Option ℕ) → index_at own id ≡ o → option_map_or (λ j. is_in j front) o true ≡ true → AreHeld now (map (own_block own) front)
+child_some : (own now : List (List ℕ)) (front : List ℕ) (id : List ℕ) (o : Option ℕ) → index_at own id ≡ o → option_map_or (λ j. is_in j front) o true ≡ true → AreHeld (map (own_block own) front) now
     → (index_at own id ≡ None → IsSome (block_at now id)) → IsSome (block_at now id)
 child_some own now front id None e done held none = none e
 child_some own now front id (Some j) e done held none =
@@ -164,7 +165,7 @@ child_some own now front id (Some j) e done held none =
     let at : id_of (own_block own j) ≡ id = block_at_id own id (own_block own j) found in
     some_is (block_at now id) (own_block own j) (ap (block_at now) (sym at) ∙ held_at own now front j held done)
 
-all_some : (own now : List (List ℕ)) (front : List ℕ) (cs : List (List ℕ × ℕ)) → are_done own front cs ≡ true → AreHeld now (map (own_block own) front) → ((c : List ℕ × ℕ) → IsIn c cs → index_at own c.0 ≡ None → IsSome (block_at now c.0))
+all_some : (own now : List (List ℕ)) (front : List ℕ) (cs : List (List ℕ × ℕ)) → are_done own front cs ≡ true → AreHeld (map (own_block own) front) now → ((c : List ℕ × ℕ) → IsIn c cs → index_at own c.0 ≡ None → IsSome (block_at now c.0))
     → AllByRecursion (λ (c : List ℕ × ℕ). IsSome (block_at now c.0)) cs
 all_some own now front [] done held none = tt
 all_some own now front (c ∷ cs) done held none =
@@ -181,8 +182,8 @@ tops_carried : (own was : List (List ℕ)) (children : ℕ → List ℕ → List
 tops_carried own was children [] ts trees carried c is none = absurd is
 tops_carried own was children (e ∷ cs) no_places trees carried c is none = absurd trees
 tops_carried own was children (e ∷ cs) (beside t ts) trees carried c (inl same) none =
-    (block_of t, top_carried own was t c.0 (all_left (λ p. Contains own p.0 ⊎ AreHeld was p.1) (places_in t) (places_below ts) carried) (trees.0 ∙ ap (λ (x : List ℕ × ℕ). x.0) (sym same)) none)
-tops_carried own was children (e ∷ cs) (beside t ts) trees carried c (inr more) none = tops_carried own was children cs ts trees.3 (all_right (λ p. Contains own p.0 ⊎ AreHeld was p.1) (places_in t) (places_below ts) carried) c more none
+    (block_of t, top_carried own was t c.0 (all_left (λ p. Contains own p.0 ⊎ AreHeld p.1 was) (places_in t) (places_below ts) carried) (trees.0 ∙ ap (λ (x : List ℕ × ℕ). x.0) (sym same)) none)
+tops_carried own was children (e ∷ cs) (beside t ts) trees carried c (inr more) none = tops_carried own was children cs ts trees.3 (all_right (λ p. Contains own p.0 ⊎ AreHeld p.1 was) (places_in t) (places_below ts) carried) c more none
 
 mutual
   child_carried : (own was : List (List ℕ)) (children : ℕ → List ℕ → List (List ℕ × ℕ)) (t : Place) → IsTree children t → AreCarried was own (places_in t) → (b : List ℕ) (k : ℕ) → HasPlace t b k → (c : List ℕ × ℕ) → IsIn c (children k b) → index_at own c.0 ≡ None
@@ -196,8 +197,8 @@ mutual
       → (d : List ℕ) × (block_at was c.0 ≡ Some d)
   children_carried own was children cs no_places trees carried b k below c is none = absurd below
   children_carried own was children [] (beside t ts) trees carried b k below c is none = absurd trees
-  children_carried own was children (e ∷ cs) (beside t ts) trees carried b k (inl here) c is none = child_carried own was children t trees.2 (all_left (λ p. Contains own p.0 ⊎ AreHeld was p.1) (places_in t) (places_below ts) carried) b k here c is none
-  children_carried own was children (e ∷ cs) (beside t ts) trees carried b k (inr there) c is none = children_carried own was children cs ts trees.3 (all_right (λ p. Contains own p.0 ⊎ AreHeld was p.1) (places_in t) (places_below ts) carried) b k there c is none
+  children_carried own was children (e ∷ cs) (beside t ts) trees carried b k (inl here) c is none = child_carried own was children t trees.2 (all_left (λ p. Contains own p.0 ⊎ AreHeld p.1 was) (places_in t) (places_below ts) carried) b k here c is none
+  children_carried own was children (e ∷ cs) (beside t ts) trees carried b k (inr there) c is none = children_carried own was children cs ts trees.3 (all_right (λ p. Contains own p.0 ⊎ AreHeld p.1 was) (places_in t) (places_below ts) carried) b k there c is none
 
 -- a block that came has its children held
 whole_of : (own was now : List (List ℕ)) (children : ℕ → List ℕ → List (List ℕ × ℕ)) (spots : List (ℕ × ℕ)) (t : Place) → IsTree children t → AreCarried was own (places_in t) → Keeps was now → ((s : ℕ × ℕ) → IsIn s spots → HasPlace t (own_block own s.0) s.1)
@@ -226,8 +227,8 @@ ordered_in own children spots before (i ∷ order) blocks follows each b (inl sa
 ordered_in own children spots before (i ∷ order) blocks follows each b (inr more) = ordered_in own children spots (before ++ i ∷ []) order blocks follows.2 each b more
 
 answered : (own : List (List ℕ)) (bs : List (List ℕ)) (t : Place) (m : Moment) (result : Result (Unit {0}) FlushFault) (n : Moment) → Later m n → ((b : List ℕ) → IsIn b bs → IsIn b (blocks_in t))
-    → ((was now : List (List ℕ)) → AreHeld now bs → Keeps was now → AreCarried was own (places_in t) → AreHeld now (blocks_in t)) → PutsAnswer m bs result n → FlushAnswer own t m result n
-answered own bs t m (Ok u) n later inside all answer = told-both m.blocks n.blocks (λ was now. AreHeld now bs) Keeps (λ was now. AreCarried was own (places_in t) → AreHeld now (blocks_in t)) (λ was now put keeps. all was now put keeps) answer later.keeps
+    → ((was now : List (List ℕ)) → AreHeld bs now → Keeps was now → AreCarried was own (places_in t) → AreHeld (blocks_in t) now) → PutsAnswer m bs result n → FlushAnswer own t m result n
+answered own bs t m (Ok u) n later inside all answer = told-both m.blocks n.blocks (λ was now. AreHeld bs now) Keeps (λ was now. AreCarried was own (places_in t) → AreHeld (blocks_in t) now) (λ was now put keeps. all was now put keeps) answer later.keeps
 answered own bs t m (Err F.Store) n later inside all answer = answer
 answered own bs t m (Err (F.Clash id kept new)) n later inside all answer = (inside new answer.0, answer.1, answer.2, answer.3)
 answered own bs t m (Err F.Memory) n later inside all answer = tt

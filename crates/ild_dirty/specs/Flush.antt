@@ -4,16 +4,13 @@ use Rattle.std.specs.List.{AllByRecursion}
 use Rattle.ild_data.specs.Spell.{id_of}
 use Rattle.ild_edges.specs.Collide.{Collide}
 use Rattle.ild_edges.specs.Count.{Rose}
+use Rattle.ild_edges.specs.Gained.{AreHeld}
 use Rattle.ild_edges.specs.Store.{Moment, Later, block_at}
 use Rattle.ild_edges.specs.Told.{IfTold, BothTold}
 use Rattle.ild_dirty.specs.Beneath.{Place, HasPlace, blocks_in, places_in}
 use Rattle.ild_dirty.specs.Walk.{IsIn}
 use Rattle.ild_dirty.specs.declared.fault.FlushFault.{FlushFault}
 use Rattle.ild_dirty.specs.declared.fault.FlushFault.TheVariants as F
-
--- each block is held under its id
-abbrev pub AreHeld : List (List ℕ) → List (List ℕ) → Type 0
-AreHeld held blocks = AllByRecursion (λ b. block_at held (id_of b) ≡ Some b) blocks
 
 -- each block that is held now was held, or is one of these
 abbrev pub AddsOnly : List (List ℕ) → List (List ℕ) → List (List ℕ) → Type 0
@@ -34,14 +31,14 @@ pub record PutsOne (m : Moment) (b : List ℕ) (result : Result (Unit {0}) Flush
   pub adds : BothTold m.blocks n.blocks (AddsOnly (b ∷ []))
 
 abbrev pub PutsAnswer : Moment → List (List ℕ) → Result (Unit {0}) FlushFault → Moment → Type 0
-PutsAnswer m bs (Ok u) n = BothTold m.blocks n.blocks (λ was now. AreHeld now bs)
+PutsAnswer m bs (Ok u) n = BothTold m.blocks n.blocks (λ was now. AreHeld bs now)
 PutsAnswer m bs (Err F.Store) n = Rose m.faults n.faults
 PutsAnswer m bs (Err (F.Clash id kept new)) n = IsIn new bs × (id.0 ≡ id_of new) × Collide kept new × IfTold n.blocks (λ held. block_at held (id_of new) ≡ Some kept)
 PutsAnswer m bs (Err F.Memory) n = Unit {0}
 
 -- the blocks of a front are held, and no block was added but one of it and the one behind it
 pub record StopsAfter (bs : List (List ℕ)) (k : ℕ) (was now : List (List ℕ)) : Type 0 where
-  pub held : AreHeld now (take k bs)
+  pub held : AreHeld (take k bs) now
   pub adds : AddsOnly (take (suc k) bs) was now
 
 -- blocks were put one after another, or why not all
@@ -54,7 +51,7 @@ pub record PutsAll (m : Moment) (bs : List (List ℕ)) (result : Result (Unit {0
 
 -- each of these places has its block among the batch's own, or the blocks from there on down in the store
 abbrev pub AreCarried : List (List ℕ) → List (List ℕ) → List (List ℕ × List (List ℕ)) → Type 0
-AreCarried held own places = AllByRecursion (λ p. Contains own p.0 ⊎ AreHeld held p.1) places
+AreCarried held own places = AllByRecursion (λ p. Contains own p.0 ⊎ AreHeld p.1 held) places
 
 -- at one of its places the children of a block are all held
 pub record IsWhole (children : ℕ → List ℕ → List (List ℕ × ℕ)) (t : Place) (held : List (List ℕ)) (b : List ℕ) : Type 0 where
@@ -67,7 +64,7 @@ abbrev pub AddsWhole : (ℕ → List ℕ → List (List ℕ × ℕ)) → Place �
 AddsWhole children t was now = (id b : List ℕ) → block_at now id ≡ Some b → (block_at was id ≡ Some b) ⊎ IsWhole children t now b
 
 abbrev pub FlushAnswer : List (List ℕ) → Place → Moment → Result (Unit {0}) FlushFault → Moment → Type 0
-FlushAnswer own t m (Ok u) n = BothTold m.blocks n.blocks (λ was now. AreCarried was own (places_in t) → AreHeld now (blocks_in t))
+FlushAnswer own t m (Ok u) n = BothTold m.blocks n.blocks (λ was now. AreCarried was own (places_in t) → AreHeld (blocks_in t) now)
 FlushAnswer own t m (Err F.Store) n = Rose m.faults n.faults
 FlushAnswer own t m (Err (F.Clash id kept new)) n = IsIn new (blocks_in t) × (id.0 ≡ id_of new) × Collide kept new × IfTold n.blocks (λ held. block_at held (id_of new) ≡ Some kept)
 FlushAnswer own t m (Err F.Memory) n = Unit {0}

@@ -7,12 +7,23 @@ use Rattle.ild_edges.specs.Store.{Moment, Later, block_at}
 use Rattle.ild_edges.specs.Told.{IfTold, BothTold}
 
 -- each of these blocks is held under its id
+abbrev pub AreHeld : List (List ℕ) → List (List ℕ) → Type 0
+AreHeld blocks held = AllByRecursion (λ b. block_at held (id_of b) ≡ Some b) blocks
+
 abbrev pub Holds : Moment → List (List ℕ) → Type 0
-Holds m blocks = IfTold m.blocks (λ held. AllByRecursion (λ b. block_at held (id_of b) ≡ Some b) blocks)
+Holds m blocks = IfTold m.blocks (λ held. AreHeld blocks held)
+
+-- the ids of these blocks are given
+abbrev pub AreIdsGiven : List (List ℕ) → List (List ℕ) → Type 0
+AreIdsGiven blocks given = AllByRecursion (λ b. Contains given (id_of b)) blocks
+
+-- each block that is held now was held, or is one of these
+abbrev pub CameFrom : List (List ℕ) → List (List ℕ) → List (List ℕ) → Type 0
+CameFrom blocks was now = (id b : List ℕ) → block_at now id ≡ Some b → (block_at was id ≡ Some b) ⊎ Contains blocks b
 
 -- the blocks that came are among these
 abbrev pub AddsOnly : Moment → Moment → List (List ℕ) → Type 0
-AddsOnly m n blocks = BothTold m.blocks n.blocks (λ was now. (id b : List ℕ) → block_at now id ≡ Some b → (block_at was id ≡ Some b) ⊎ Contains blocks b)
+AddsOnly m n blocks = BothTold m.blocks n.blocks (λ was now. CameFrom blocks was now)
 
 -- of a block's places, with the ids of its children at each, one has all of them held
 pub record IsWhole (held : List (List ℕ)) (places : List (List (List ℕ))) : Type 0 where
@@ -20,9 +31,12 @@ pub record IsWhole (held : List (List ℕ)) (places : List (List (List ℕ))) : 
   pub place : Contains places ids
   pub children : AllByRecursion (λ id. IsSome (block_at held id)) ids
 
--- each block that came has its children held, those of one of its places
+-- each block that is held now was held, or has its children held, those of one of its places
+abbrev pub CameWhole : (List ℕ → List (List (List ℕ))) → List (List ℕ) → List (List ℕ) → Type 0
+CameWhole children was now = (id b : List ℕ) → block_at now id ≡ Some b → (block_at was id ≡ Some b) ⊎ IsWhole now (children b)
+
 abbrev pub AddsWhole : Moment → Moment → (List ℕ → List (List (List ℕ))) → Type 0
-AddsWhole m n children = BothTold m.blocks n.blocks (λ was now. (id b : List ℕ) → block_at now id ≡ Some b → (block_at was id ≡ Some b) ⊎ IsWhole now (children b))
+AddsWhole m n children = BothTold m.blocks n.blocks (λ was now. CameWhole children was now)
 
 -- a block that is held collides with one of these
 pub record Collides (m : Moment) (blocks : List (List ℕ)) : Type 0 where

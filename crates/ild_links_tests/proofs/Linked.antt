@@ -11,7 +11,7 @@ use Rattle.ild_edges.specs.Told.{IfTold, BothTold}
 use Rattle.ild_edges.proofs.Later.{Later-refl, Later-trans}
 use Rattle.ild_links.proofs.Linking.{before}
 use Rattle.ild_schema.specs.declared.number.TypeNo.{TypeNo}
-use Rattle.ild_links.specs.Gained.{AddsWhole, IsWhole}
+use Rattle.ild_edges.specs.Gained.{CameWhole, IsWhole}
 use Rattle.ild_links.specs.Relinks.{HasLink, IsSet, Clashes, OfValue, Relinks, RelinkAnswer, set_in}
 use Rattle.ild_links.specs.Stops.{Stops}
 use Rattle.ild_links.specs.Trees.{Tree, Stands, followed, tree_of}
@@ -172,7 +172,7 @@ module _ (first : List ℕ) where
         let more = p.puts in record {
           answer = relink_answer r p;
           later = Later-trans m k n f.later p.later;
-          whole = of_block (λ v was now. AddsWhole ((chain_meaning first).children hop.first hop.ty (set_in Any (chain_meaning first) path hop v new)) was now)
+          whole = of_block (λ v was now. CameWhole ((chain_meaning first).children hop.first hop.ty (set_in Any (chain_meaning first) path hop v new)) was now)
               (λ was now told is id x held. ⊎_elim (λ old. inl old) (λ s. inr (whole_block x now s)) (adds_at r p was now told is id x held));
           gets = λ was now v told is st. omega arith;
           puts = λ was now v told is st. omega arith;

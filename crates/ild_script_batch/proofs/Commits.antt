@@ -16,6 +16,7 @@ use Rattle.ild_dirty.specs.declared.fault.FlushFault.{FlushFault}
 use Rattle.ild_dirty.specs.declared.fault.FlushFault.TheVariants as F
 use Rattle.ild_dirty.proofs.Batching.{own_first}
 use Rattle.ild_dirty.proofs.Puts.{held-keeps, told-map}
+use Rattle.ild_edges.specs.Gained.{AreHeld}
 use Rattle.ild_edges.specs.Store.{Moment, Keeps, block_at}
 use Rattle.ild_edges.specs.Told.{BothTold, IfTold}
 use Rattle.ild_edges.proofs.Held.{block_at_id}
@@ -155,7 +156,7 @@ module _ (w : Setting) (children : ℕ → List ℕ → List (List ℕ × ℕ)) 
   -- ---- where it is kept
 
   held_then : FlushAnswer own t m (Ok tt) n → Holds n (value_blocks w v)
-  held_then answer = told_now m.blocks n.blocks (λ was. L.AreCarried was own (B.places_in t)) (λ was now. L.AreCarried was own (B.places_in t) → L.AreHeld now (B.blocks_in t))
+  held_then answer = told_now m.blocks n.blocks (λ was. L.AreCarried was own (B.places_in t)) (λ was now. L.AreCarried was own (B.places_in t) → AreHeld (B.blocks_in t) now)
       (λ held. AllByRecursion (λ b. block_at held (id_of b) ≡ Some b) (value_blocks w v)) (λ was now carried all. all_of_value w v t of (λ b. block_at now (id_of b) ≡ Some b) (all carried)) dirty answer
 
   kept_reply : FlushAnswer own t m (Ok tt) n → Replies (typed_lines w) m (batching v kept owed own) Line (Some (root_reply w v)) n (resting v)
