@@ -1,5 +1,6 @@
 pub mod Fielding
 pub mod Going
+pub mod Knowing
 pub mod Listing
 pub mod Pairing
 pub mod Readying

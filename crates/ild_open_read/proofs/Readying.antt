@@ -56,7 +56,7 @@ union_plain rows s u is p inlined = by (passes_over p) refl where
 pub map_delims : (rows : List Row) → IsLegible rows → (n : ℕ) (key : TypeNo) (key_at : ℕ) (value : Slot) (at : ℕ) (form : MapForm) → def_at rows n ≡ Some (D.Map key key_at value at form) → MapDelims form
 map_delims rows legible n key key_at value at MF.Map known = tt
 map_delims rows legible n key key_at value at MF.ListPairs known = tt
-map_delims rows legible n key key_at value at MF.Hamt known = tt
+map_delims rows legible n key key_at value at (MF.Hamt p) known = tt
 map_delims rows legible n key key_at value at (MF.StringPairs inner entry) known =
     (given_some inner (legible.clear.types n (D.Map key key_at value at (MF.StringPairs inner entry)) known), given_some entry (legible.delims n (D.Map key key_at value at (MF.StringPairs inner entry)) known))
 
@@ -70,19 +70,13 @@ pub some_map_levels : (form : MapForm) → 1 ≤ map_levels form
 some_map_levels MF.Map = omega arith
 some_map_levels MF.ListPairs = omega arith
 some_map_levels (MF.StringPairs i e) = omega arith
-some_map_levels MF.Hamt = omega arith
+some_map_levels (MF.Hamt p) = omega arith
 
 -- ---- the entries of maps
-
-pub hamt_form : (form : MapForm) → is_hamt form ≡ true → form ≡ MF.Hamt
-hamt_form MF.Hamt e = refl
-hamt_form MF.Map e = absurd cc
-hamt_form MF.ListPairs e = absurd cc
-hamt_form (MF.StringPairs inner entry) e = absurd cc
 
 -- what is left are the entries that the data show
 pub left_there : (form : MapForm) → is_hamt form ≡ false → (es : List (List ℕ × Data)) (t : Data) (left : EntriesLeft) → map_form alone form (L.map es) ≡ Some t → (ShowsMap form es t → FormLeft form es (Some left)) → AreLeft left es
 left_there MF.Map plain es t left made shows = shows (ap members_in (map_is es t made) ∙ ap Some (members_list-members_of es))
 left_there MF.ListPairs plain es t left made shows = shows (listpairs_is es t made)
 left_there (MF.StringPairs inner entry) plain es t left made shows = shows made
-left_there MF.Hamt plain es t left made shows = absurd cc
+left_there (MF.Hamt p) plain es t left made shows = absurd cc

@@ -10,15 +10,17 @@ ghost use Rattle.ild_union.specs.Forms.{passes_over};
 ghost use Rattle.ild_layer_parts.specs.Ready.{IsInlined};
 ghost use Rattle.ild_open_parts.specs.Fields.{ReadsPart};
 ghost use Rattle.ild_open_parts.specs.Hamts.{ReadsHamt, ReadsListed};
+ghost use Rattle.ild_open_read.specs.Sound.{AreSound};
 ghost use Rattle.ild_open_read.specs.Parts.{ReadsElements, ReadsFields, ReadsForm, ReadsLeft, ReadsMember, ReadsSlot};
 
-use crate::form::is_hamt;
+use crate::form::hamt_shape;
 use crate::reader::Reader;
 use ild_bulk_walker::Row;
 use ild_cbor::Piece;
-use ild_data::{BlockId, KeyHash};
+use ild_data::{BlockId, HamtShape, KeyHash};
 use ild_edges::Store;
 use ild_layer_piece::items;
+use ild_open_known::{Known, ReadAs};
 use ild_open_parts::{
     OpenFault, add, add_field, add_pair, hamt_rows, is_null_there, kept_leaf, left_out, levels,
     member_of, part_piece, row_item, union_with,
@@ -39,11 +41,14 @@ fn read_list<'b, K: Store, H: KeyHash>(
     piece: &Piece<'b>,
     room: u32,
     at: BlockId,
+    known: &mut Known,
     store: &mut K,
 ) -> Result<Val, OpenFault>
     requires within { elem.ty.0 < length acc.now }
     requires room { room ≤ 96 }
-    ensures { ReadsElements H.hash_of at.0 acc.now room reader.now.keep elem piece.now (K.moment store.old) result (K.moment store.new) }
+    requires sound { AreSound H.hash_of acc.now (K.moment store.old).blocks known.old }
+    ensures reads { ReadsElements H.hash_of at.0 acc.now room reader.now.keep elem piece.now (K.moment store.old) result (K.moment store.new) }
+    ensures sound { AreSound H.hash_of acc.now (K.moment store.new).blocks known.new }
 {
     let Some(mut left) = items(piece) else {
         return Err(OpenFault::Memory);
@@ -51,7 +56,7 @@ fn read_list<'b, K: Store, H: KeyHash>(
     let mut vals = Vals::new(reader.alloc);
     while let Some(item) = left.next() {
         let part = Piece::Node(item);
-        let val = read_slot(reader, acc, elem, &part, room, at, store)?;
+        let val = read_slot(reader, acc, elem, &part, room, at, known, store)?;
         add(&mut vals, reader.keep, val)?;
     }
     Ok(Val::List(vals))
@@ -66,16 +71,19 @@ fn read_pairs<'b, K: Store, H: KeyHash>(
     entries: EntriesLeft<'b>,
     room: u32,
     at: BlockId,
+    known: &mut Known,
     store: &mut K,
 ) -> Result<Val, OpenFault>
     requires within { value.ty.0 < length acc.now }
     requires room { room ≤ 96 }
-    ensures { ReadsLeft H.hash_of at.0 acc.now room reader.now.keep value entries.entry (K.moment store.old) result (K.moment store.new) }
+    requires sound { AreSound H.hash_of acc.now (K.moment store.old).blocks known.old }
+    ensures reads { ReadsLeft H.hash_of at.0 acc.now room reader.now.keep value entries.entry (K.moment store.old) result (K.moment store.new) }
+    ensures sound { AreSound H.hash_of acc.now (K.moment store.new).blocks known.new }
 {
     let mut kept = ValPairs::new(reader.alloc);
     let mut left = entries;
     while let Some((key, part, behind)) = left.split_first() {
-        let val = read_slot(reader, acc, value, &part, room, at, store)?;
+        let val = read_slot(reader, acc, value, &part, room, at, known, store)?;
         add_pair(reader.alloc, &mut kept, reader.keep, key, val)?;
         left = behind;
     }
@@ -91,12 +99,15 @@ fn read_rows<'r, K: Store, H: KeyHash>(
     value: Slot,
     rows: &'r [Row],
     room: u32,
+    known: &mut Known,
     store: &mut K,
 ) -> Result<Val, OpenFault>
     requires keyed { key.0 < length acc.now }
     requires within { value.ty.0 < length acc.now }
     requires room { room ≤ 96 }
-    ensures { ReadsListed H.hash_of acc.now room reader.now.keep key value rows.now (K.moment store.old) result (K.moment store.new) }
+    requires sound { AreSound H.hash_of acc.now (K.moment store.old).blocks known.old }
+    ensures reads { ReadsListed H.hash_of acc.now room reader.now.keep key value rows.now (K.moment store.old) result (K.moment store.new) }
+    ensures sound { AreSound H.hash_of acc.now (K.moment store.new).blocks known.new }
 {
     // It does no work: its clauses say what acceptance says of the table.
     let _types = acc.types();
@@ -105,34 +116,52 @@ fn read_rows<'r, K: Store, H: KeyHash>(
     while let Some((row, behind)) = left.split_first() {
         let item = row_item(reader.alloc, acc, key, value, row, room)?;
         let part = Piece::Node(item);
-        let val = read_slot(reader, acc, value, &part, room, row.block, store)?;
+        let val = read_slot(reader, acc, value, &part, room, row.block, known, store)?;
         add_pair(reader.alloc, &mut pairs, reader.keep, row.key.as_str(), val)?;
         left = behind;
     }
     Ok(Val::Map(pairs))
 }
 
-// Reads the entries of a HAMT.
+// Reads the entries of a HAMT. One that was found sound is passed over, unless it is to be kept.
 #[cycle(reads)]
 fn read_hamt<'b, K: Store, H: KeyHash>(
     reader: &Reader<'_, H>,
     acc: &'b Accepted,
     key: TypeNo,
     value: Slot,
+    shape: HamtShape,
     piece: &Piece<'b>,
     room: u32,
     at: BlockId,
+    known: &mut Known,
     store: &mut K,
 ) -> Result<Val, OpenFault>
     requires keyed { key.0 < length acc.now }
     requires within { value.ty.0 < length acc.now }
     requires room { room ≤ 96 }
-    ensures { ReadsHamt H.hash_of at.0 acc.now room reader.now.keep key value piece.now (K.moment store.old) result (K.moment store.new) }
+    requires sound { AreSound H.hash_of acc.now (K.moment store.old).blocks known.old }
+    ensures reads { ReadsHamt H.hash_of shape at.0 acc.now room reader.now.keep key value piece.now (K.moment store.old) result (K.moment store.new) }
+    ensures sound { AreSound H.hash_of acc.now (K.moment store.new).blocks known.new }
 {
     // It does no work: its clauses say what acceptance says of the table.
     let _types = acc.types();
-    let rows = hamt_rows(reader.alloc, piece, at, reader.keys, store)?;
-    read_rows(reader, acc, key, value, rows.as_slice(), room, store)
+    let Piece::Node(root) = piece else {
+        return Err(OpenFault::Memory);
+    };
+    let read_as = ReadAs {
+        key,
+        value,
+        shape,
+        room,
+    };
+    if reader.passes(known, read_as, root) {
+        return Ok(Val::Null);
+    }
+    let rows = hamt_rows(reader.alloc, shape, piece, at, reader.keys, store)?;
+    let val = read_rows(reader, acc, key, value, rows.as_slice(), room, known, store)?;
+    reader.remembers(known, read_as, root);
+    Ok(val)
 }
 
 // Reads a map, in each form.
@@ -146,6 +175,7 @@ fn read_map<'b, K: Store, H: KeyHash>(
     piece: &Piece<'b>,
     room: u32,
     at: BlockId,
+    known: &mut Known,
     store: &mut K,
 ) -> Result<Val, OpenFault>
     requires keyed { key.0 < length acc.now }
@@ -153,15 +183,19 @@ fn read_map<'b, K: Store, H: KeyHash>(
     requires numbered { IsNumbered acc.now piece.now }
     requires delims { MapDelims form.now }
     requires room { room ≤ 96 }
-    ensures { ReadsForm H.hash_of at.0 acc.now room reader.now.keep key value form.now piece.now (K.moment store.old) result (K.moment store.new) }
+    requires sound { AreSound H.hash_of acc.now (K.moment store.old).blocks known.old }
+    ensures reads { ReadsForm H.hash_of at.0 acc.now room reader.now.keep key value form.now piece.now (K.moment store.old) result (K.moment store.new) }
+    ensures sound { AreSound H.hash_of acc.now (K.moment store.new).blocks known.new }
 {
     // It does no work: its clauses say what acceptance says of the table.
     let _types = acc.types();
-    if is_hamt(form) {
-        return read_hamt(reader, acc, key, value, piece, room, at, store);
+    if let Some(shape) = hamt_shape(form) {
+        return read_hamt(
+            reader, acc, key, value, shape, piece, room, at, known, store,
+        );
     }
     match form_entries(acc, form, piece) {
-        Some(entries) => read_pairs(reader, acc, value, entries, room, at, store),
+        Some(entries) => read_pairs(reader, acc, value, entries, room, at, known, store),
         None => Err(OpenFault::Memory),
     }
 }
@@ -175,19 +209,22 @@ fn read_field<'b, K: Store, H: KeyHash>(
     part: &Part<'b>,
     room: u32,
     at: BlockId,
+    known: &mut Known,
     store: &mut K,
 ) -> Result<Option<Val>, OpenFault>
     requires within { field.now.slot.ty.0 < length acc.now }
     requires plain { HasNumber [] part.now }
     requires room { room ≤ 96 }
-    ensures { ReadsPart H.hash_of at.0 acc.now room reader.now.keep field.now part.now (K.moment store.old) result (K.moment store.new) }
+    requires sound { AreSound H.hash_of acc.now (K.moment store.old).blocks known.old }
+    ensures reads { ReadsPart H.hash_of at.0 acc.now room reader.now.keep field.now part.now (K.moment store.old) result (K.moment store.new) }
+    ensures sound { AreSound H.hash_of acc.now (K.moment store.new).blocks known.new }
 {
     // It does no work: its clauses say what acceptance says of the table.
     let _types = acc.types();
     let Some(piece) = part_piece(part) else {
         return left_out(field, part);
     };
-    let val = read_slot(reader, acc, field.slot, &piece, room, at, store)?;
+    let val = read_slot(reader, acc, field.slot, &piece, room, at, known, store)?;
     Ok(Some(val))
 }
 
@@ -201,6 +238,7 @@ fn read_struct<'b, K: Store, H: KeyHash>(
     piece: &Piece<'b>,
     room: u32,
     at: BlockId,
+    known: &mut Known,
     store: &mut K,
 ) -> Result<Val, OpenFault>
     requires within { ty.0 < length acc.now }
@@ -208,7 +246,9 @@ fn read_struct<'b, K: Store, H: KeyHash>(
     requires parts { IsWithin (length acc.now) (D.Struct def.now) }
     requires numbered { IsNumbered acc.now piece.now }
     requires room { room ≤ 96 }
-    ensures { ReadsFields H.hash_of at.0 acc.now room reader.now.keep def.now piece.now (K.moment store.old) result (K.moment store.new) }
+    requires sound { AreSound H.hash_of acc.now (K.moment store.old).blocks known.old }
+    ensures reads { ReadsFields H.hash_of at.0 acc.now room reader.now.keep def.now piece.now (K.moment store.old) result (K.moment store.new) }
+    ensures sound { AreSound H.hash_of acc.now (K.moment store.new).blocks known.new }
 {
     // It does no work: its clauses say what acceptance says of the table.
     let _types = acc.types();
@@ -219,7 +259,7 @@ fn read_struct<'b, K: Store, H: KeyHash>(
     let mut fields = ValFields::new(reader.alloc);
     for (i, field) in def.fields.as_slice().iter().enumerate() {
         let part = parts.field(i);
-        let val = read_field(reader, acc, field, &part, room, at, store)?;
+        let val = read_field(reader, acc, field, &part, room, at, known, store)?;
         add_field(&mut fields, reader.keep, val)?;
     }
     Ok(Val::Struct(fields))
@@ -235,6 +275,7 @@ fn read_union<'b, K: Store, H: KeyHash>(
     piece: &Piece<'b>,
     room: u32,
     at: BlockId,
+    known: &mut Known,
     store: &mut K,
 ) -> Result<Val, OpenFault>
     requires within { ty.0 < length acc.now }
@@ -243,12 +284,14 @@ fn read_union<'b, K: Store, H: KeyHash>(
     requires numbered { IsNumbered acc.now piece.now }
     requires plain { passes_over piece.now ≡ false }
     requires room { room ≤ 96 }
-    ensures { ReadsMember H.hash_of at.0 acc.now room reader.now.keep def.now piece.now (K.moment store.old) result (K.moment store.new) }
+    requires sound { AreSound H.hash_of acc.now (K.moment store.old).blocks known.old }
+    ensures reads { ReadsMember H.hash_of at.0 acc.now room reader.now.keep def.now piece.now (K.moment store.old) result (K.moment store.new) }
+    ensures sound { AreSound H.hash_of acc.now (K.moment store.new).blocks known.new }
 {
     let Some((number, slot, part)) = member_of(acc, ty, def, piece) else {
         return Err(OpenFault::Memory);
     };
-    let val = read_slot(reader, acc, slot, &part, room, at, store)?;
+    let val = read_slot(reader, acc, slot, &part, room, at, known, store)?;
     union_with(reader.alloc, reader.keep, number, val)
 }
 
@@ -261,13 +304,16 @@ pub(crate) fn read_slot<'b, K: Store, H: KeyHash>(
     piece: &Piece<'b>,
     room: u32,
     at: BlockId,
+    known: &mut Known,
     store: &mut K,
 ) -> Result<Val, OpenFault>
     requires within { slot.ty.0 < length acc.now }
     requires numbered { IsNumbered acc.now piece.now }
     requires inlined { IsInlined acc.now slot piece.now }
     requires room { room ≤ 96 }
-    ensures { ReadsSlot H.hash_of at.0 acc.now room reader.now.keep slot piece.now (K.moment store.old) result (K.moment store.new) }
+    requires sound { AreSound H.hash_of acc.now (K.moment store.old).blocks known.old }
+    ensures reads { ReadsSlot H.hash_of at.0 acc.now room reader.now.keep slot piece.now (K.moment store.old) result (K.moment store.new) }
+    ensures sound { AreSound H.hash_of acc.now (K.moment store.new).blocks known.new }
 {
     // It does no work: its clauses say what acceptance says of the table.
     let _types = acc.types();
@@ -280,15 +326,17 @@ pub(crate) fn read_slot<'b, K: Store, H: KeyHash>(
         return Err(OpenFault::Memory);
     };
     match def {
-        TypeDef::List { elem, .. } => read_list(reader, acc, *elem, piece, less, at, store),
+        TypeDef::List { elem, .. } => read_list(reader, acc, *elem, piece, less, at, known, store),
         TypeDef::Map {
             key,
             value,
             form,
             ..
-        } => read_map(reader, acc, *key, *value, form, piece, less, at, store),
-        TypeDef::Struct(def) => read_struct(reader, acc, ty, def, piece, less, at, store),
-        TypeDef::Union(def) => read_union(reader, acc, ty, def, piece, less, at, store),
+        } => read_map(
+            reader, acc, *key, *value, form, piece, less, at, known, store,
+        ),
+        TypeDef::Struct(def) => read_struct(reader, acc, ty, def, piece, less, at, known, store),
+        TypeDef::Union(def) => read_union(reader, acc, ty, def, piece, less, at, known, store),
         _ => kept_leaf(reader.alloc, acc, slot, piece, reader.keep),
     }
 }

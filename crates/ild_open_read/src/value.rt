@@ -9,12 +9,13 @@ use crate::reading::read_slot;
 use ild_cbor::Piece;
 use ild_data::{BlockId, KeyHash};
 use ild_edges::Store;
+use ild_open_known::Known;
 use ild_open_parts::OpenFault;
 use ild_schema::{Accepted, Slot, Val};
 use std::alloc::Global;
 
 /// The value of a slot for which a piece stands, which was checked against the slot, in a room. Its nodes are read from a store; the
-/// value is made only where it is to be kept.
+/// value is made only where it is to be kept, and else a HAMT that stands more than once is read once.
 pub fn read<'b, K: Store, H: KeyHash>(
     alloc: Global,
     acc: &'b Accepted,
@@ -33,5 +34,6 @@ pub fn read<'b, K: Store, H: KeyHash>(
     ensures { ReadsSlot H.hash_of at.0 acc.now room keep slot piece.now (K.moment store.old) result (K.moment store.new) }
 {
     let reader = Reader { alloc, keep, keys };
-    read_slot(&reader, acc, slot, piece, room, at, store)
+    let mut known = Known::new(alloc);
+    read_slot(&reader, acc, slot, piece, room, at, &mut known, store)
 }

@@ -13,6 +13,7 @@ use Rattle.ild_open_read.proofs.Fielding.{Fielding}
 use Rattle.ild_open_read.proofs.Listing.{Listing}
 use Rattle.ild_open_read.proofs.Pairing.{Pairing}
 use Rattle.ild_open_read.proofs.Rowing.{Rowing}
+use Rattle.ild_open_read.specs.Sound.{AreSound}
 use Rattle.ild_open_read.proofs.reading.+reads.Given as goal
 
 abbrev pub decreases-read_slot : goal.decreases-read_slot
@@ -26,7 +27,7 @@ invariant-read_list-loop-item g l =
     (goal.iterator-read_list-loop-item g).can_next l.left ×
     (goal.iterator-read_list-loop-item g).is_finite l.left ×
     ((ds : List Data) → StandsFor l.acc l.piece (T.list (T.items_of ds)) → AllByRecursion (HasFront l.acc l.room) (element_parts l.elem ds)
-    → Listing g.H.KeyHash.hash_of l.at.0 l.acc l.room l.reader.keep l.elem ds l.left l.vals (g.K.Store.moment l.initial.store) (g.K.Store.moment l.store))
+    → Listing g.H.KeyHash.hash_of l.at.0 l.acc l.room l.reader.keep l.elem ds l.left l.vals (g.K.Store.moment l.initial.store) (g.K.Store.moment l.store)) × AreSound g.H.KeyHash.hash_of l.acc (g.K.Store.moment l.store).blocks l.known
 
 abbrev pub decreases-read_field : goal.decreases-read_field
 decreases-read_field g l = 4 * l.room + 1
@@ -39,8 +40,8 @@ decreases-read_union g l = 4 * l.room + 1
 
 abbrev pub invariant-read_struct-loop-i : goal.invariant-read_struct-loop-i
 invariant-read_struct-loop-i g l =
-    (t : Data) (os : List (Option Data)) → StandsFor l.acc l.piece t → composed alone (D.Struct l.def) (L.struct os) ≡ Some t → AllByRecursion (HasFront l.acc l.room) (field_parts l.def.fields os)
-    → Fielding g.H.KeyHash.hash_of l.at.0 l.acc l.room l.reader.keep l.def.fields os l.i l.fields (g.K.Store.moment l.initial.store) (g.K.Store.moment l.store)
+    ((t : Data) (os : List (Option Data)) → StandsFor l.acc l.piece t → composed alone (D.Struct l.def) (L.struct os) ≡ Some t → AllByRecursion (HasFront l.acc l.room) (field_parts l.def.fields os)
+    → Fielding g.H.KeyHash.hash_of l.at.0 l.acc l.room l.reader.keep l.def.fields os l.i l.fields (g.K.Store.moment l.initial.store) (g.K.Store.moment l.store)) × AreSound g.H.KeyHash.hash_of l.acc (g.K.Store.moment l.store).blocks l.known
 
 abbrev pub decreases-read_rows : goal.decreases-read_rows
 decreases-read_rows g l = 4 * l.room + 1
@@ -49,7 +50,8 @@ abbrev pub decreases-read_hamt : goal.decreases-read_hamt
 decreases-read_hamt g l = 4 * l.room + 2
 
 abbrev pub invariant-read_rows-loop-row : goal.invariant-read_rows-loop-row
-invariant-read_rows-loop-row g l = Rowing g.H.KeyHash.hash_of l.acc l.room l.reader.keep l.key l.value l.rows l.left l.pairs (g.K.Store.moment l.initial.store) (g.K.Store.moment l.store)
+invariant-read_rows-loop-row g l =
+    Rowing g.H.KeyHash.hash_of l.acc l.room l.reader.keep l.key l.value l.rows l.left l.pairs (g.K.Store.moment l.initial.store) (g.K.Store.moment l.store) × AreSound g.H.KeyHash.hash_of l.acc (g.K.Store.moment l.store).blocks l.known
 
 abbrev pub decreases-read_rows-loop-row : goal.decreases-read_rows-loop-row
 decreases-read_rows-loop-row g l = length l.left
@@ -59,8 +61,8 @@ decreases-read_pairs g l = 4 * l.room + 1
 
 abbrev pub invariant-read_pairs-loop-key : goal.invariant-read_pairs-loop-key
 invariant-read_pairs-loop-key g l =
-    (es : List (List ℕ × Data)) → AreLeft l.entries es → AllByRecursion (HasFront l.acc l.room) (entry_parts l.value es)
-    → Pairing g.H.KeyHash.hash_of l.at.0 l.acc l.room l.reader.keep l.value es l.left l.kept (g.K.Store.moment l.initial.store) (g.K.Store.moment l.store)
+    ((es : List (List ℕ × Data)) → AreLeft l.entries es → AllByRecursion (HasFront l.acc l.room) (entry_parts l.value es)
+    → Pairing g.H.KeyHash.hash_of l.at.0 l.acc l.room l.reader.keep l.value es l.left l.kept (g.K.Store.moment l.initial.store) (g.K.Store.moment l.store)) × AreSound g.H.KeyHash.hash_of l.acc (g.K.Store.moment l.store).blocks l.known
 
 abbrev pub decreases-read_pairs-loop-key : goal.decreases-read_pairs-loop-key
 decreases-read_pairs-loop-key g l = most_left l.left

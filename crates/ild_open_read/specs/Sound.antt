@@ -1,0 +1,45 @@
+-- HAMTs that were found sound: their values are held, wherever their roots stand as what they were read as.
+use Rattle.std.specs.Prelude.{◌≡◌, ◌⊎◌, ℕ, ◌+◌, ◌≤◌, Bool, false, List, Option, Some, Contains}
+use Rattle.ild_cbor.specs.Nodes.{Stands}
+use Rattle.ild_cbor.specs.declared.node.Node.{Node}
+use Rattle.ild_data.specs.Data.{Data}
+use Rattle.ild_data.specs.Limits.{IsWithin, deepest}
+use Rattle.ild_data.specs.Spell.{spell}
+use Rattle.ild_edges.specs.Store.{block_at}
+use Rattle.ild_schema.specs.Slots.{form_of}
+use Rattle.ild_schema.specs.Value.{Value}
+use Rattle.ild_schema.specs.declared.def.MapForm.TheVariants as MF
+use Rattle.ild_schema.specs.declared.def.TypeDef.TheVariants as D
+use Rattle.ild_schema.specs.declared.number.Slot.{Slot}
+use Rattle.ild_schema.specs.declared.row.Row.{Row}
+use Rattle.ild_open_held.specs.Held.{IsHeld}
+use Rattle.ild_open_held.specs.Laws.{IsFronted}
+use Rattle.ild_open_known.specs.Roots.{known_in}
+use Rattle.ild_open_known.specs.declared.kind.ReadAs.{ReadAs}
+use Rattle.ild_open_known.specs.declared.table.Known.{Known}
+
+-- some value that data of a slot represent is held
+pub record HasHeld (held : List (List ℕ)) (h : List ℕ → List ℕ) (rows : List Row) (room : ℕ) (s : Slot) (t : Data) : Type 0 where
+  pub value : Value
+  pub is : IsHeld (block_at held) h rows room s t value
+
+-- of data with these bytes, in each slot whose form is this HAMT and in this room, a value is held by the store that tells this
+pub record IsSound (h : List ℕ → List ℕ) (rows : List Row) (told : Option (List (List ℕ))) (r : ReadAs × List ℕ) : Type 0 where
+  pub holds : (held : List (List ℕ)) (s : Slot) (t : Data) (key_at place whole : ℕ) → told ≡ Some held → IsWithin t → spell t ≡ r.1
+      → form_of rows s ≡ Some (D.Map r.0.key key_at r.0.value place (MF.Hamt r.0.shape)) → whole ≡ r.0.room + 5 → whole ≤ deepest → IsFronted rows whole s t → HasHeld held h rows whole s t
+
+pub record AreSound (h : List ℕ → List ℕ) (rows : List Row) (told : Option (List (List ℕ))) (known : Known) : Type 0 where
+  pub each : (r : ReadAs × List ℕ) → Contains (known_in known) r → IsSound h rows told r
+
+-- nothing is kept, and the bytes at which a root stands are known
+pub record IsPassed (keep : Bool) (known : Known) (kind : ReadAs) (root : Node) : Type 0 where
+  pub off : keep ≡ false
+  pub bytes : List ℕ
+  pub has : Contains (known_in known) (kind, bytes)
+  pub tells : (t : Data) → Stands root t → bytes ≡ spell t
+
+-- at most the bytes at which a root stands came to those that are known
+pub record Remembers (old new : Known) (kind : ReadAs) (root : Node) : Type 0 where
+  pub bytes : List ℕ
+  pub tells : (t : Data) → Stands root t → bytes ≡ spell t
+  pub added : (r : ReadAs × List ℕ) → Contains (known_in new) r → Contains (known_in old) r ⊎ (r ≡ (kind, bytes))
