@@ -1,29 +1,32 @@
 -- In a text, what has no data breaks a delimiter rule.
 use Rattle.std.proofs.Common.{◌≡◌, ℕ, List, Bool, true, false, Option, Some, None, refl, sym, ◌∙◌, ap, subst}
-use Rattle.std.specs.Prelude.{option_and_then, option_map, slice_get}
+use Rattle.std.specs.Prelude.{option_map, slice_get}
 use Rattle.std.proofs.lemmas.Option.{none-some, same_Some}
 use Rattle.ild_data.specs.Data as T
 use Rattle.ild_data.specs.Data.{Data, items_of}
-use Rattle.ild_path_block.specs.Changes.{in_last}
-use Rattle.ild_path_block.specs.Items.{becoming}
-use Rattle.ild_path_block.specs.declared.edit.PartEdit.{PartEdit}
-use Rattle.ild_path_block.specs.declared.edit.PartEdit.TheVariants as E
 use Rattle.ild_path_changes.proofs.Lifting.{chained, opened}
 use Rattle.ild_path_delimiter.proofs.Freeing.{edit_free, set_free}
 use Rattle.ild_path_delimiter.proofs.Held.{IsHeld, is_held}
-use Rattle.ild_path_delimiter.specs.Texts.{CanText}
+use Rattle.ild_path_delimiter.specs.TextEdits.{CanEdit, brought, in_last}
+use Rattle.ild_path_delimiter.specs.declared.delimiter.TextEdit.{TextEdit}
+use Rattle.ild_path_delimiter.specs.declared.delimiter.TextEdit.TheVariants as E
+use Rattle.ild_path_item.proofs.Members.{union_becomes}
+use Rattle.ild_path_item.proofs.Verbs.{as_set, is_list}
+use Rattle.ild_path_item.specs.Texts.{LetsBe, with_part}
 use Rattle.ild_path_edits.proofs.KeepTyped.{IsWholeOfType, whole_is_kept}
 use Rattle.ild_path_edits.specs.Along.{IsFree, Passes}
-use Rattle.ild_path_edits.specs.Table.{MayStand, slot_to_set}
+use Rattle.ild_path_edits.specs.Table.{MayStand, never, refusal_to_delete, slot_to_set}
 use Rattle.ild_path_holder.specs.Along.{is_holder}
 use Rattle.ild_path_steps.proofs.Holding.{Held, of_any, of_elements, of_entries, of_fields, of_member, of_nothing}
 use Rattle.ild_schema.proofs.Legibly.{legible}
-use Rattle.ild_schema.specs.Slots.{form_of}
+use Rattle.ild_schema.specs.Slots.{form_of, plainly}
 use Rattle.ild_schema.specs.Value as V
 use Rattle.ild_schema.specs.Value.{Value}
 use Rattle.ild_schema.specs.Whole.{is_whole}
 use Rattle.ild_schema.specs.declared.def.Field.{Field}
 use Rattle.ild_schema.specs.declared.def.MapForm.{MapForm}
+use Rattle.ild_schema.specs.declared.def.Member.{Member}
+use Rattle.ild_schema.specs.declared.def.UnionDef.{UnionDef}
 use Rattle.ild_schema.specs.declared.def.MapForm.TheVariants as MF
 use Rattle.ild_schema.specs.declared.def.StructDef.{StructDef}
 use Rattle.ild_schema.specs.declared.def.StructForm.{StructForm}
@@ -42,13 +45,13 @@ use Rattle.ild_typed.specs.Composed.{composed, map_form, struct_form}
 use Rattle.ild_typed.specs.Fields.{all_items, field_entries, tuple_items}
 use Rattle.ild_typed.specs.Hamt.{alone, whole}
 use Rattle.ild_typed.specs.Holder.{Holder, any_elements, any_entries, elements, entries, fields, member, nothing, value_of}
-use Rattle.ild_typed.specs.Judged.{breaks, is_exhausted, is_hole, map_exhausts, tuple_hole}
+use Rattle.ild_typed.specs.Judged.{breaks, is_exhausted, is_hole, tuple_hole}
 use Rattle.ild_typed.specs.Layer as L
 use Rattle.ild_typed.specs.Layer.{Layer, as_map, as_struct}
 use Rattle.ild_typed.specs.OfType.{OfType, TestsKeys}
-use Rattle.ild_typed.specs.Represented.{represented, represented_pairs}
+use Rattle.ild_typed.specs.Represented.{represented}
 use Rattle.ild_typed.specs.Schema.{IsSchema}
-use Rattle.ild_typed.specs.Segment.{set_part}
+use Rattle.ild_typed.specs.Segment.{held_as, member_named, set_part}
 use Rattle.ild_typed.specs.Strings.{in_key_order, listpairs, map_data, stringjoin, stringpairs, text_in}
 use Rattle.ild_view.specs.Parts.{member_held}
 
@@ -83,14 +86,14 @@ map_whole : (rows : List Row) (k : TypeNo) (k_at : ℕ) (elem : Slot) (at : ℕ)
 map_whole rows k k_at elem at MF.Map es j made v = other (map_data es) j (same_Some (map_data es) (T.text j) made) refl
 map_whole rows k k_at elem at MF.ListPairs es j made v = other (listpairs es) j (same_Some (listpairs es) (T.text j) made) refl
 map_whole rows k k_at elem at (MF.StringPairs inner entry) es j made (V.map ps) = refl
-map_whole rows k k_at elem at MF.Hamt es j made v = absurd (none-some (T.text j) made)
+map_whole rows k k_at elem at (MF.Hamt shape) es j made v = absurd (none-some (T.text j) made)
 map_whole rows k k_at elem at form es j made v = refl
 
 map_flat : (form : MapForm) (es : List (List ℕ × Data)) (l : Layer Data) (j : List ℕ) (d : Data) → map_form alone form (L.map es) ≡ Some (T.text j) → map_form (whole H) form l ≡ Some d → IsFlat d
 map_flat MF.Map es l j d made new = other (map_data es) j (same_Some (map_data es) (T.text j) made) refl
 map_flat MF.ListPairs es l j d made new = other (listpairs es) j (same_Some (listpairs es) (T.text j) made) refl
 map_flat (MF.StringPairs inner entry) es l j d made new = let x = chained (stringpairs inner entry) (as_map l) d new in text_flat _ d x.2
-map_flat MF.Hamt es l j d made new = absurd (none-some (T.text j) made)
+map_flat (MF.Hamt shape) es l j d made new = absurd (none-some (T.text j) made)
 
 passes_by : (test : Option TypeDef → Value → Bool) (rows : List Row) (slot : Slot) (F : Option TypeDef) → form_of rows slot ≡ F → ((v : Value) → test F v ≡ false) → (k : Holder) → Passes test rows slot k
 passes_by test rows slot F e all (fields fs os) = ap (λ F. test F (value_of (fields fs os))) e ∙ all (value_of (fields fs os))
@@ -147,40 +150,96 @@ module _ (rows : List Row) (p : InSlot) (j : List ℕ) (made : represented alone
         let same : (held).type ≡ c = same_Some (held).type c (sym (held).known ∙ is) in
         by_form (held).type l (held).held (subst (λ c. composed (whole H) c l ≡ Some d) (sym same) done)
 
+  -- so it has the same data in a block and as a whole, where a part becomes a text, or goes
+  pub alike_with : (s : List ℕ) (o : Option Value) (new : Option (List ℕ)) → LetsBe rows (seen rows p) s o (option_map T.text new) → (d : Data) → represented (whole H) rows p.0 (value_of (with_part (seen rows p) s o)) ≡ Some d
+      → represented alone rows p.0 (value_of (with_part (seen rows p) s o)) ≡ Some d
+  alike_with s o new lets d e = by (held).type (held).known (held).held where
+    flat : member_held (seen rows p) ≡ None → represented alone rows p.0 (value_of (with_part (seen rows p) s o)) ≡ Some d
+    flat single = let v = value_of (with_part (seen rows p) s o) in flat_alone H rows p.0 v d e (stays_flat single v d e)
+
+    never_deleted : {X A : Type 0} (o : Option X) → never o ≡ None → A
+    never_deleted None h = absurd (none-some _ (sym h))
+    never_deleted (Some x) h = absurd (none-some _ (sym h))
+
+    of_union : (u : UnionDef) (n : ℕ) (v : Value) → form_of rows p.0 ≡ Some (D.Union u) → seen rows p ≡ member u.members n v → (o : Option Value) (new : Option (List ℕ)) → LetsBe rows (seen rows p) s o (option_map T.text new)
+        → represented (whole H) rows p.0 (value_of (with_part (seen rows p) s o)) ≡ Some d → represented alone rows p.0 (value_of (with_part (seen rows p) s o)) ≡ Some d
+    of_union u n v known is None (Some t) lets e = absurd lets
+    of_union u n v known is (Some w) None lets e = absurd lets
+    of_union u n v known is None None lets e = never_deleted (held_as s v (slice_get u.members n)) (sym (ap (λ h. refusal_to_delete h s) is) ∙ lets)
+    of_union u n v known is (Some w) (Some t) lets e =
+        let y = opened (λ (p : ℕ × Member). plainly (p.1).ty) (member_named s u.members) lets.0 (sym (ap (λ h. slot_to_set h s) is) ∙ lets.1) in
+        let m = (y.0).1 in
+        let held : represented alone rows (plainly m.ty) w ≡ Some (T.text t) = ap (λ r. represented alone rows r w) y.2 ∙ lets.2 in
+        let over = flat_whole H rows (plainly m.ty) w (T.text t) held tt in
+        union_becomes alone rows p s w u v n (y.0).0 m (T.text t) known is y.1 held ∙ sym (union_becomes (whole H) rows p s w u v n (y.0).0 m (T.text t) known is y.1 over) ∙ e
+
+    by : (c : TypeDef) → form_of rows p.0 ≡ Some c → Held rows c (seen rows p) (T.text j) → represented alone rows p.0 (value_of (with_part (seen rows p) s o)) ≡ Some d
+    by c known (of_fields r os ds k z a b) = flat (ap member_held z)
+    by c known (of_member u n v m x k z a b g) = of_union u n v (known ∙ ap Some k) z o new lets e
+    by c known (of_entries l l_at elem at form ps es k z a b) = flat (ap member_held z)
+    by c known (of_elements elem at vs ds k z a b) = other (T.list (items_of ds)) j (sym b) refl
+    by c known (of_any k z) = no_any _ z
+    by c known (of_nothing v z) = no_any v z
+
+  no_list : is_list (seen rows p) ≡ false
+  no_list = by (held).held where
+    by : Held rows (held).type (seen rows p) (T.text j) → is_list (seen rows p) ≡ false
+    by (of_fields r os ds k z a b) = ap is_list z
+    by (of_member u n v m x k z a b g) = ap is_list z
+    by (of_entries l l_at elem at form ps es k z a b) = ap is_list z
+    by (of_elements elem at vs ds k z a b) = other (T.list (items_of ds)) j (sym b) refl
+    by (of_any k z) = ap is_list z
+    by (of_nothing v z) = ap is_list z
+
+  -- what an edit does to a part of it
+  pub record Lets (edit : TextEdit) (s : List ℕ) (w : Value) : Type 0 where
+    pub value : Option Value
+    pub allowed : LetsBe rows (seen rows p) s value (option_map T.text (brought edit))
+    pub same : in_last edit w (seen rows p) s ≡ with_part (seen rows p) s value
+
+  pub lets : (is_key : ℕ → List ℕ → Bool) (edit : TextEdit) (s : List ℕ) (w : Value) → CanEdit rows is_key edit (seen rows p) s w → Lets edit s w
+  lets is_key (E.Set t) s w can = record { value = Some w; allowed = (can.0, can.1, can.4); same = refl }
+  lets is_key (E.Insert t) s w can = let x = as_set (seen rows p) s can.0 w no_list can.1 in record { value = Some w; allowed = (can.0, x.1, can.4); same = x.0 }
+  lets is_key E.Delete s w can = record { value = None; allowed = can; same = refl }
+
+  pub alike : (edit : TextEdit) (s : List ℕ) (w : Value) → Lets edit s w → (d : Data) → represented (whole H) rows p.0 (value_of (in_last edit w (seen rows p) s)) ≡ Some d → represented alone rows p.0 (value_of (in_last edit w (seen rows p) s)) ≡ Some d
+  alike edit s w x =
+      subst (λ k. (d : Data) → represented (whole H) rows p.0 (value_of k) ≡ Some d → represented alone rows p.0 (value_of k) ≡ Some d) (sym x.same) (alike_with s x.value (brought edit) x.allowed)
+
 module _ (rows : List Row) (is_key : ℕ → List ℕ → Bool) (schema : IsSchema rows) (keys : TestsKeys rows is_key) (w : Value) where
   new_sound : (slot : Slot) (x : List ℕ) → represented alone rows slot w ≡ Some (T.text x) → (is_whole w ≡ true) × IsFree is_hole rows slot w × IsFree (breaks rows) rows slot w × IsFree (is_exhausted H rows) rows slot w
   new_sound slot x e = tree_sound H rows slot w (T.text x) (flat_whole H rows slot w (T.text x) e tt)
 
-  keeps : (edit : PartEdit) (p : InSlot) (s : List ℕ) → IsWholeOfType rows p.0 p.1 → CanText rows is_key edit (seen rows p) s w → IsWholeOfType rows p.0 (value_of ((in_last edit w).made (seen rows p) s))
-  keeps (E.Set n) p s is can = (whole_is_kept rows is_key schema keys).set p s can.0 w is can.1 can.2 (can.3, (new_sound can.0 can.4 can.5).0)
-  keeps (E.Insert n) p s is can = (whole_is_kept rows is_key schema keys).inserted p s can.0 w is can.1 can.2 (can.3, (new_sound can.0 can.4 can.5).0)
+  keeps : (edit : TextEdit) (p : InSlot) (s : List ℕ) → IsWholeOfType rows p.0 p.1 → CanEdit rows is_key edit (seen rows p) s w → IsWholeOfType rows p.0 (value_of (in_last edit w (seen rows p) s))
+  keeps (E.Set t) p s is can = (whole_is_kept rows is_key schema keys).set p s can.0 w is can.1 can.2 (can.3, (new_sound can.0 t.now can.4).0)
+  keeps (E.Insert t) p s is can = (whole_is_kept rows is_key schema keys).inserted p s can.0 w is can.1 can.2 (can.3, (new_sound can.0 t.now can.4).0)
   keeps E.Delete p s is can = (whole_is_kept rows is_key schema keys).deleted p s is can
 
   -- so a text without data has a broken delimiter
-  no_data_breaks : (p : InSlot) (j : List ℕ) (v : Value) → represented alone rows p.0 p.1 ≡ Some (T.text j) → is_holder (seen rows p) ≡ true → member_held (seen rows p) ≡ None → IsWholeOfType rows p.0 v → IsFree is_hole rows p.0 v
+  no_data_breaks : (p : InSlot) (v : Value) → ((d : Data) → represented (whole H) rows p.0 v ≡ Some d → represented alone rows p.0 v ≡ Some d) → IsWholeOfType rows p.0 v → IsFree is_hole rows p.0 v
       → IsFree (is_exhausted H rows) rows p.0 v → represented alone rows p.0 v ≡ None → IsFree (breaks rows) rows p.0 v → ⊥
-  no_data_breaks p j v made holds single k hole full none free =
+  no_data_breaks p v alike k hole full none free =
       let d = typed_tree H rows (legible rows schema.accepted).made p.0 v (k.0.0, k.0.1, k.1) hole free full in
-      none-some d.0 (sym none ∙ flat_alone H rows p.0 v d.0 d.1 (stays_flat rows p j made holds single v d.0 d.1))
+      none-some d.0 (sym none ∙ alike d.0 d.1)
 
   -- by an edit
-  pub text_breaks : (edit : PartEdit) (p : InSlot) (s j : List ℕ) → OfType rows p.0 p.1 → represented alone rows p.0 p.1 ≡ Some (T.text j) → is_holder (seen rows p) ≡ true → member_held (seen rows p) ≡ None → CanText rows is_key edit (seen rows p) s w
-      → becoming rows edit w p s ≡ None → IsFree (breaks rows) rows p.0 (value_of ((in_last edit w).made (seen rows p) s)) → ⊥
-  text_breaks edit p s j is made holds single can none free =
-      let k = (in_last edit w).made (seen rows p) s in
+  pub text_breaks : (edit : TextEdit) (p : InSlot) (s j : List ℕ) → OfType rows p.0 p.1 → represented alone rows p.0 p.1 ≡ Some (T.text j) → is_holder (seen rows p) ≡ true → CanEdit rows is_key edit (seen rows p) s w
+      → represented alone rows p.0 (value_of (in_last edit w (seen rows p) s)) ≡ None → IsFree (breaks rows) rows p.0 (value_of (in_last edit w (seen rows p) s)) → ⊥
+  text_breaks edit p s j is made holds can none free =
+      let k = in_last edit w (seen rows p) s in
       let old = tree_sound H rows p.0 p.1 (T.text j) (flat_whole H rows p.0 p.1 (T.text j) made tt) in
       let hole = edit_free is_hole rows is_key schema keys edit p s w is old.1 can (λ slot x e. (new_sound slot x e).1) (no_holes rows p j made holds k) in
       let full = edit_free (is_exhausted H rows) rows is_key schema keys edit p s w is old.3 can (λ slot x e. (new_sound slot x e).3) (has_tries rows p j made holds k) in
-      no_data_breaks p j (value_of k) made holds single (keeps edit p s (is, old.0) can) hole full none free
+      no_data_breaks p (value_of k) (alike rows p j made holds edit s w (lets rows p j made holds is_key edit s w can)) (keeps edit p s (is, old.0) can) hole full none free
 
   -- by a part that becomes a text
-  pub set_breaks : (p : InSlot) (s j : List ℕ) (slot : Slot) (x : List ℕ) → OfType rows p.0 p.1 → represented alone rows p.0 p.1 ≡ Some (T.text j) → is_holder (seen rows p) ≡ true → member_held (seen rows p) ≡ None
+  pub set_breaks : (p : InSlot) (s j : List ℕ) (slot : Slot) (x : List ℕ) → OfType rows p.0 p.1 → represented alone rows p.0 p.1 ≡ Some (T.text j) → is_holder (seen rows p) ≡ true
       → slot_to_set (seen rows p) s ≡ Some slot → MayStand is_key (seen rows p) s → OfType rows slot w → represented alone rows slot w ≡ Some (T.text x) → represented alone rows p.0 (value_of (set_part (seen rows p) s w)) ≡ None
       → IsFree (breaks rows) rows p.0 (value_of (set_part (seen rows p) s w)) → ⊥
-  set_breaks p s j slot x is made holds single at stands fits shown none free =
+  set_breaks p s j slot x is made holds at stands fits shown none free =
       let k = set_part (seen rows p) s w in
       let old = tree_sound H rows p.0 p.1 (T.text j) (flat_whole H rows p.0 p.1 (T.text j) made tt) in
       let new = new_sound slot x shown in
       let hole = set_free is_hole rows is_key schema keys p s slot w is old.1 at stands fits new.1 (no_holes rows p j made holds k) in
       let full = set_free (is_exhausted H rows) rows is_key schema keys p s slot w is old.3 at stands fits new.3 (has_tries rows p j made holds k) in
-      no_data_breaks p j (value_of k) made holds single ((whole_is_kept rows is_key schema keys).set p s slot w (is, old.0) at stands (fits, new.0)) hole full none free
+      no_data_breaks p (value_of k) (alike_with rows p j made holds s (Some w) (Some x) (slot, at, shown)) ((whole_is_kept rows is_key schema keys).set p s slot w (is, old.0) at stands (fits, new.0)) hole full none free

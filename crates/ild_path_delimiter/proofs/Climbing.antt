@@ -1,43 +1,34 @@
 -- From the last holder of a path outwards: whether what each becomes breaks a delimiter.
-use Rattle.std.proofs.Common.{◌≡◌, ◌<◌, ◌+◌, ℕ, zero, suc, List, [], ◌∷◌, length, take, drop, Bool, true, false, nat_eq, eqb-true, Some, None, refl, sym, ◌∙◌, ap, subst, arith}
+use Rattle.std.proofs.Common.{◌≡◌, ◌<◌, ◌+◌, ℕ, zero, suc, List, [], ◌∷◌, length, take, drop, Bool, true, false, nat_eq, eqb-true, Option, Some, None, refl, sym, ◌∙◌, ap, subst, arith}
 use Rattle.std.specs.List.{AllByRecursion}
 use Rattle.std.specs.Option.{option_map_or}
-use Rattle.std.specs.Prelude.{IsSomeAnd, IsUtf8, option_and_then, slice_get}
+use Rattle.std.specs.Prelude.{IsSomeAnd, IsUtf8, slice_get}
 use Rattle.std.proofs.lemmas.Option.{same_Some}
 use Rattle.ild_data.specs.Data.{Data, text}
-use Rattle.ild_data.specs.Spell.{spell}
-use Rattle.ild_data.specs.Tree.{IsTree}
-use Rattle.ild_path_block.proofs.Allowing.{IsAllowed, allowed, makes_rest}
-use Rattle.ild_path_block.specs.Changes.{Allows, in_last}
-use Rattle.ild_path_block.specs.Edits.{BringsPart, Makes}
-use Rattle.ild_path_block.specs.declared.edit.PartEdit.{PartEdit}
-use Rattle.ild_path_block.specs.declared.edit.PartEdit.TheVariants as E
-use Rattle.ild_path_changes.proofs.HaveTrees.{has_trees}
 use Rattle.ild_path_changes.proofs.Lifting.{chained}
-use Rattle.ild_path_changes.specs.LiftLaws.{of_fronts}
-use Rattle.ild_path_delimiter.proofs.Breaking.{set_breaks, text_breaks}
+use Rattle.ild_path_delimiter.proofs.Breaking.{lets, set_breaks, text_breaks}
 use Rattle.ild_path_delimiter.proofs.Freeing.{edit_free, set_free}
-use Rattle.ild_path_delimiter.proofs.Having.{data_passes}
 use Rattle.ild_path_delimiter.proofs.Quiet.{quiet, texts_break_nothing}
+use Rattle.ild_path_delimiter.proofs.Reaching.{Makes, can_edit, made_typed, makes_rest, reached, text_from}
 use Rattle.ild_path_delimiter.proofs.Texts.{texts_of_texts}
-use Rattle.ild_path_delimiter.specs.Levels.{HasTree, LevelIs, StandsFree}
-use Rattle.ild_path_delimiter.specs.Texts.{BringsText, CanText}
+use Rattle.ild_path_delimiter.specs.Levels.{LevelIs}
+use Rattle.ild_path_delimiter.specs.TextEdits.{CanEdit, TextIs, brought, in_last}
+use Rattle.ild_path_delimiter.specs.declared.delimiter.TextEdit.{TextEdit}
+use Rattle.ild_path_delimiter.specs.declared.delimiter.TextEdit.TheVariants as E
 use Rattle.ild_path_delimiter.specs.declared.level.Level.{Level}
 use Rattle.ild_path_delimiter.specs.declared.level.Level.TheVariants as V
 use Rattle.ild_path_edit.proofs.Making.{texts_from}
 use Rattle.ild_path_edit.proofs.Numbering.{at_next, one, rest_of, segment_there, two}
-use Rattle.ild_path_edit.proofs.Stepping.{brings_from, last_from, made_typed, ok_same, part_made, part_typed, passed}
+use Rattle.ild_path_edit.proofs.Stepping.{last_from, ok_same, part_made, part_typed, passed}
 use Rattle.ild_path_edit.specs.Holders.{AreHolders}
 use Rattle.ild_path_edits.proofs.KeepTyped.{of_type_is_kept}
 use Rattle.ild_path_edits.proofs.LayerTesting.{free_is_layered, set_is_judged}
-use Rattle.ild_path_edits.proofs.Paths.{kept_typed, may_stand, placed_typed}
 use Rattle.ild_path_edits.specs.Along.{IsFree}
-use Rattle.ild_path_edits.specs.Table.{MayStand, delete_part, insert_part, key_fits, refusal_to_delete, slot_to_insert, slot_to_set}
+use Rattle.ild_path_edits.specs.Table.{MayStand, slot_to_set}
 use Rattle.ild_path_holder.proofs.Written.{has_part}
 use Rattle.ild_path_holder.specs.Along.{holder_at, is_holder}
 use Rattle.ild_schema.proofs.Legibly.{legible}
 use Rattle.ild_schema.specs.Value.{Value}
-use Rattle.ild_schema.specs.declared.number.Slot.{Slot}
 use Rattle.ild_schema.specs.declared.row.Row.{Row}
 use Rattle.ild_typed.specs.At.{InSlot, at, changed_in, seen}
 use Rattle.ild_typed.specs.Hamt.{alone}
@@ -52,7 +43,7 @@ use Rattle.ild_view.specs.Parts.{IsPartView}
 use Rattle.ild_view.specs.declared.view.View.{View}
 
 -- so many segments lead to a holder, of which the edit at the others makes this value
-pub record Changed (rows : List Row) (is_key : ℕ → List ℕ → Bool) (edit : PartEdit) (w : Value) (p : InSlot) (path : List (List ℕ)) (n : ℕ) (v : Value) : Type 0 where
+pub record Changed (rows : List Row) (is_key : ℕ → List ℕ → Bool) (edit : TextEdit) (w : Value) (p : InSlot) (path : List (List ℕ)) (n : ℕ) (v : Value) : Type 0 where
   pub holder : InSlot
   pub before : n < length path
   pub leads : at rows p (take n path) ≡ Some holder
@@ -60,58 +51,25 @@ pub record Changed (rows : List Row) (is_key : ℕ → List ℕ → Bool) (edit 
   pub free : IsFree (breaks rows) rows holder.0 holder.1
   pub old : Data
   pub was : represented alone rows holder.0 holder.1 ≡ Some old
-  pub brings : BringsText rows holder (drop n path) edit w
+  pub brings : TextIs rows holder (drop n path) edit w
   pub makes : Makes rows is_key edit w holder (drop n path) v
 
 -- what is known of it at a level
-abbrev pub Claim : (rows : List Row) (is_key : ℕ → List ℕ → Bool) (edit : PartEdit) (w : Value) (p : InSlot) (path : List (List ℕ)) (n : ℕ) (v : Value) → Changed rows is_key edit w p path n v → Level → Type 0
+abbrev pub Claim : (rows : List Row) (is_key : ℕ → List ℕ → Bool) (edit : TextEdit) (w : Value) (p : InSlot) (path : List (List ℕ)) (n : ℕ) (v : Value) → Changed rows is_key edit w p path n v → Level → Type 0
 Claim rows is_key edit w p path n v m V.Free = IsFree (breaks rows) rows m.holder.0 v × (text_in m.old ≡ None)
 Claim rows is_key edit w p path n v m V.Broken = IsFree (breaks rows) rows m.holder.0 v → ⊥
-Claim rows is_key edit w p path n v m V.Long = IsFree (breaks rows) rows m.holder.0 v
-Claim rows is_key edit w p path n v m (V.Text b) = (j : List ℕ) × (represented alone rows m.holder.0 v ≡ Some (text j)) × (b ≡ spell (text j))
+Claim rows is_key edit w p path n v m (V.Text t) = represented alone rows m.holder.0 v ≡ Some (text t)
 
-brings_part : (rows : List Row) (p : InSlot) (path : List (List ℕ)) (edit : PartEdit) (w : Value) → BringsText rows p path edit w → BringsPart rows p path edit w
-brings_part rows p path (E.Set n) w b = λ slot e. let x = b slot e in record { fits = x.fits; tree = text x.text_is; tree_is = x.shown; stands = x.stands }
-brings_part rows p path (E.Insert n) w b = λ slot e. let x = b slot e in record { fits = x.fits; tree = text x.text_is; tree_is = x.shown; stands = x.stands }
-brings_part rows p path E.Delete w b = tt
+-- what a call says of the holder with a number
+abbrev pub LevelClause : List View → List (List ℕ) → ℕ → Option (List ℕ) → Level → Type 0
+LevelClause views segments k new l = (rows : List Row) (q : InSlot) (s : List ℕ) → IsSomeAnd (slice_get views k) (IsPartView rows q) → slice_get segments k ≡ Some s → is_holder (seen rows q) ≡ true → LevelIs rows q s new l
 
-text_from : (rows : List Row) (p q : InSlot) (s t : List ℕ) (ss : List (List ℕ)) (edit : PartEdit) (w : Value) → part (seen rows p) s ≡ Some q → BringsText rows p (s ∷ t ∷ ss) edit w → BringsText rows q (t ∷ ss) edit w
-text_from rows p q s t ss (E.Set n) w e b = λ slot new. b slot (ap (option_and_then (λ (l : Holder × List ℕ). slot_to_set l.0 l.1)) (last_from rows p q s t ss e) ∙ new)
-text_from rows p q s t ss (E.Insert n) w e b = λ slot new. b slot (ap (option_and_then (λ (l : Holder × List ℕ). slot_to_insert l.0 l.1)) (last_from rows p q s t ss e) ∙ new)
-text_from rows p q s t ss E.Delete w e b = tt
-
-can_text : (rows : List Row) (is_key : ℕ → List ℕ → Bool) (edit : PartEdit) (p : InSlot) (s : List ℕ) (w v : Value) → IsUtf8 s → BringsText rows p (s ∷ []) edit w → Makes rows is_key edit w p (s ∷ []) v → CanText rows is_key edit (seen rows p) s w
-can_text rows is_key (E.Set n) p s w v utf8 b makes =
-    placed_typed (λ v. CanText rows is_key (E.Set n) (seen rows p) s w) (key_fits is_key (seen rows p) s) (changed_in rows (λ h t. set_part h t w) p s []) (slot_to_set (seen rows p) s) v makes
-    (λ slot free fits. let x = b slot free in (slot, free, may_stand is_key (seen rows p) s utf8 fits, x.fits, x.text_is, x.shown))
-can_text rows is_key (E.Insert n) p s w v utf8 b makes =
-    placed_typed (λ v. CanText rows is_key (E.Insert n) (seen rows p) s w) (key_fits is_key (seen rows p) s) (changed_in rows (λ h t. insert_part h t w) p s []) (slot_to_insert (seen rows p) s) v makes
-    (λ slot free fits. let x = b slot free in (slot, free, may_stand is_key (seen rows p) s utf8 fits, x.fits, x.text_is, x.shown))
-can_text rows is_key E.Delete p s w v utf8 b makes =
-    kept_typed (λ v. CanText rows is_key E.Delete (seen rows p) s w) (changed_in rows delete_part p s []) (refusal_to_delete (seen rows p) s) v makes (λ free. free)
-
--- what a call says of a holder with a number
-abbrev pub LevelClause : List View → List (List ℕ) → ℕ → PartEdit → Level → Type 0
-LevelClause views segments k edit l =
-    (rows : List Row) (q : InSlot) (s : List ℕ) (w : Value) → IsSomeAnd (slice_get views k) (IsPartView rows q) → slice_get segments k ≡ Some s → is_holder (seen rows q) ≡ true → Allows rows edit (seen rows q) s w
-    → HasTree rows q ((in_last edit w).made (seen rows q) s) → LevelIs rows q ((in_last edit w).made (seen rows q) s) l
-
-abbrev pub AboveClause : List View → List (List ℕ) → ℕ → List ℕ → Level → Type 0
-AboveClause views segments k item l =
-    (rows : List Row) (q : InSlot) (slot : Slot) (s j : List ℕ) (v : Value) → IsSomeAnd (slice_get views k) (IsPartView rows q) → slice_get segments k ≡ Some s → is_holder (seen rows q) ≡ true → slot_to_set (seen rows q) s ≡ Some slot
-    → OfType rows slot v → represented alone rows slot v ≡ Some (text j) → IsTree (text j) → item ≡ spell (text j) → HasTree rows q (set_part (seen rows q) s v) → LevelIs rows q (set_part (seen rows q) s v) l
-
-module _ (rows : List Row) (is_key : ℕ → List ℕ → Bool) (schema : IsSchema rows) (keys : TestsKeys rows is_key) (edit : PartEdit) (w : Value) (p : InSlot) (path : List (List ℕ)) (texts : AllByRecursion IsUtf8 path) where
+module _ (rows : List Row) (is_key : ℕ → List ℕ → Bool) (schema : IsSchema rows) (keys : TestsKeys rows is_key) (edit : TextEdit) (w : Value) (p : InSlot) (path : List (List ℕ)) (texts : AllByRecursion IsUtf8 path) where
   abbrev Is : ℕ → Value → Type 0
   Is n v = Changed rows is_key edit w p path n v
 
   abbrev Knows : (n : ℕ) (v : Value) → Is n v → Level → Type 0
   Knows n v m l = Claim rows is_key edit w p path n v m l
-
-  pub changed_tree : (n : ℕ) (v : Value) (m : Is n v) (k : Holder) → v ≡ value_of k → HasTree rows m.holder k
-  changed_tree n v m k is u made =
-      let typed = made_typed rows is_key schema keys edit w m.holder (drop n path) v edit (texts_from path n texts) (brings_part rows m.holder (drop n path) edit w m.brings) m.typed m.makes in
-      has_trees alone rows (of_fronts refl) schema.table.texts.spelled m.holder.0 v u typed (ap (represented alone rows m.holder.0) is ∙ made)
 
   -- ---- the last
 
@@ -119,42 +77,41 @@ module _ (rows : List Row) (is_key : ℕ → List ℕ → Bool) (schema : IsSche
     pub segment : List ℕ
     pub there : slice_get path n ≡ Some segment
     pub holds : is_holder (seen rows m.holder) ≡ true
-    pub allows : Allows rows edit (seen rows m.holder) segment w
-    pub can : CanText rows is_key edit (seen rows m.holder) segment w
-    pub is : v ≡ value_of ((in_last edit w).made (seen rows m.holder) segment)
+    pub can : CanEdit rows is_key edit (seen rows m.holder) segment w
+    pub is : v ≡ value_of (in_last edit w (seen rows m.holder) segment)
 
   pub last : (n : ℕ) (v : Value) (m : Is n v) → suc n ≡ length path → Last n v m
   last n v m end =
       let x = one path n end in
       let s = x.0 in
-      let b = subst (λ ys. BringsText rows m.holder ys edit w) x.1 m.brings in
+      let b = subst (λ ys. TextIs rows m.holder ys edit w) x.1 m.brings in
       let makes = subst (λ ys. Makes rows is_key edit w m.holder ys v) x.1 m.makes in
       let utf8 = subst (λ ys. AllByRecursion IsUtf8 ys) x.1 (texts_from path n texts) in
-      let ok : IsAllowed rows m.holder s [] edit w = allowed rows is_key m.holder s [] w v edit (brings_part rows m.holder (s ∷ []) edit w b) makes in
-      let same : ok.last ≡ m.holder = sym (same_Some m.holder ok.last ok.at) in
+      let ok = reached rows is_key m.holder s [] w v edit makes in
       record {
         segment = s;
         there = segment_there path n s [] x.1;
-        holds = subst (λ r. is_holder (seen rows r) ≡ true) same ok.holds;
-        allows = subst (λ r. Allows rows edit (seen rows r) s w) same ok.allows;
-        can = can_text rows is_key edit m.holder s w v utf8.0 b makes;
-        is = ok_same v (changed_in rows (in_last edit w).made m.holder s []) _ makes (makes_rest rows is_key m.holder s [] w v edit makes m.holder s [] refl);
+        holds = subst (λ r. is_holder (seen rows r) ≡ true) (sym (same_Some m.holder ok.0 ok.1)) ok.2;
+        can = can_edit rows is_key edit m.holder s w v utf8.0 b makes;
+        is = ok_same v (changed_in rows (in_last edit w) m.holder s []) _ makes (makes_rest rows is_key m.holder s [] w v edit makes m.holder s [] refl);
       }
 
-  pub claim_last : (n : ℕ) (v : Value) (m : Is n v) (x : Last n v m) (l : Level) → LevelIs rows m.holder ((in_last edit w).made (seen rows m.holder) x.segment) l → Knows n v m l
+  pub claim_last : (n : ℕ) (v : Value) (m : Is n v) (x : Last n v m) (l : Level) → LevelIs rows m.holder x.segment (brought edit) l → Knows n v m l
   claim_last n v m x V.Free h =
       let none = h m.old m.was in
-      let k = (in_last edit w).made (seen rows m.holder) x.segment in (
+      let k = in_last edit w (seen rows m.holder) x.segment in (
         subst (IsFree (breaks rows) rows m.holder.0) (sym x.is)
             (edit_free (breaks rows) rows is_key schema keys edit m.holder x.segment w m.typed m.free x.can (λ slot y e. texts_break_nothing rows slot w y e) (quiet rows m.holder m.old k m.was x.holds none)),
         none,
       )
-  claim_last n v m x V.Broken h = λ free. text_breaks rows is_key schema keys w edit m.holder x.segment h.0 m.typed h.1 x.holds h.2 x.can h.3 (subst (IsFree (breaks rows) rows m.holder.0) x.is free)
-  claim_last n v m x V.Long h =
-      let k = (in_last edit w).made (seen rows m.holder) x.segment in
-      subst (IsFree (breaks rows) rows m.holder.0) (sym x.is)
-      (edit_free (breaks rows) rows is_key schema keys edit m.holder x.segment w m.typed m.free x.can (λ slot y e. texts_break_nothing rows slot w y e) (data_passes rows m.holder.0 k h.0 h.1))
-  claim_last n v m x (V.Text b) h = (h.0, ap (represented alone rows m.holder.0) x.is ∙ h.1, h.2)
+  claim_last n v m x V.Broken h = λ free.
+      let j = h.stands in
+      let y = lets rows m.holder j.0 j.1 x.holds is_key edit x.segment w x.can in
+      text_breaks rows is_key schema keys w edit m.holder x.segment j.0 m.typed j.1 x.holds x.can (ap (λ k. represented alone rows m.holder.0 (value_of k)) y.same ∙ h.is y.value y.allowed) (subst (IsFree (breaks rows) rows m.holder.0) x.is free)
+  claim_last n v m x (V.Text t) h =
+      let j = h.stands in
+      let y = lets rows m.holder j.0 j.1 x.holds is_key edit x.segment w x.can in
+      ap (represented alone rows m.holder.0) x.is ∙ ap (λ k. represented alone rows m.holder.0 (value_of k)) y.same ∙ h.is y.value y.allowed
 
   -- ---- those before it
 
@@ -180,19 +137,19 @@ module _ (rows : List Row) (is_key : ℕ → List ℕ → Bool) (schema : IsSche
       let s = x.first in
       let t = x.second in
       let ss = x.rest in
-      let b = subst (λ ys. BringsText rows p0 ys edit w) x.is m.brings in
-      let bp = brings_part rows p0 (s ∷ t ∷ ss) edit w b in
+      let b = subst (λ ys. TextIs rows p0 ys edit w) x.is m.brings in
       let makes = subst (λ ys. Makes rows is_key edit w p0 ys v) x.is m.makes in
       let utf8 = subst (λ ys. AllByRecursion IsUtf8 ys) x.is (texts_from path n texts) in
-      let ok : IsAllowed rows p0 s (t ∷ ss) edit w = allowed rows is_key p0 s (t ∷ ss) w v edit bp makes in
-      let y = chained (λ q. holder_at rows q t ss) (part (seen rows p0) s) ok.last ok.at in
+      let ok = reached rows is_key p0 s (t ∷ ss) w v edit makes in
+      let y = chained (λ q. holder_at rows q t ss) (part (seen rows p0) s) ok.0 ok.1 in
       let q : InSlot = y.0 in
-      let f : Holder → List ℕ → Holder = (in_last edit w).made in
+      let f : Holder → List ℕ → Holder = in_last edit w in
       let c : Value = changed_in rows f q t ss in
       let kept = of_type_is_kept rows is_key schema keys in
       let it = part_typed rows is_key schema keys p0 q s m.typed y.1 in
       let below : Makes rows is_key edit w q (t ∷ ss) c = makes_rest rows is_key p0 s (t ∷ ss) w v edit makes q t ss (sym (last_from rows p0 q s t ss y.1)) in
-      let new = made_typed rows is_key schema keys edit w q (t ∷ ss) c edit utf8.1 (brings_from rows p0 q s t ss edit w y.1 bp) it below in
+      let brings = text_from rows p0 q s t ss edit w y.1 b in
+      let new = made_typed rows is_key schema keys edit w q (t ∷ ss) c utf8.1 brings it below in
       let same : v ≡ changed_in rows f p0 s (t ∷ ss) = ok_same v (changed_in rows f p0 s (t ∷ ss)) _ makes (makes_rest rows is_key p0 s (t ∷ ss) w v edit makes p0 s (t ∷ ss) refl) in
       let made = part_made rows is_key schema keys p0 q s m.old m.typed y.1 m.was in
       let rest : drop (suc n) path ≡ t ∷ ss = rest_of path n s (t ∷ ss) x.is in
@@ -202,7 +159,7 @@ module _ (rows : List Row) (is_key : ℕ → List ℕ → Bool) (schema : IsSche
         holds = has_part (seen rows p0) s q y.1;
         next = q;
         part_is = y.1;
-        next_holds = passed rows q ok.last t ss y.2 ok.holds;
+        next_holds = passed rows q ok.0 t ss y.2 ok.2;
         place = kept.slots p0 q s m.typed y.1;
         stands = kept.there p0 q s m.typed y.1;
         value = c;
@@ -216,7 +173,7 @@ module _ (rows : List Row) (is_key : ℕ → List ℕ → Bool) (schema : IsSche
           free = (free_is_layered rows is_key (breaks rows) schema keys).parts tt p0 q s m.typed m.free y.1;
           old = made.0;
           was = made.1;
-          brings = subst (λ ys. BringsText rows q ys edit w) (sym rest) (text_from rows p0 q s t ss edit w y.1 b);
+          brings = subst (λ ys. TextIs rows q ys edit w) (sym rest) brings;
           makes = subst (λ ys. Makes rows is_key edit w q ys c) (sym rest) below;
         };
         holder_is = refl;
@@ -238,15 +195,11 @@ module _ (rows : List Row) (is_key : ℕ → List ℕ → Bool) (schema : IsSche
   pub shown_there : (n : ℕ) (v : Value) (m : Is n v) (x : Step n v m) (j : List ℕ) → represented alone rows x.changed.holder.0 x.value ≡ Some (text j) → represented alone rows x.next.0 x.value ≡ Some (text j)
   shown_there n v m x j e = subst (λ (q : InSlot). represented alone rows q.0 x.value ≡ Some (text j)) x.holder_is e
 
-  pub claim_above : (n : ℕ) (v : Value) (m : Is n v) (x : Step n v m) (j : List ℕ) (l : Level) → represented alone rows x.next.0 x.value ≡ Some (text j) → LevelIs rows m.holder (set_part (seen rows m.holder) x.segment x.value) l → Knows n v m l
+  pub claim_above : (n : ℕ) (v : Value) (m : Is n v) (x : Step n v m) (j : List ℕ) (l : Level) → represented alone rows x.next.0 x.value ≡ Some (text j) → LevelIs rows m.holder x.segment (Some j) l → Knows n v m l
   claim_above n v m x j V.Free shown h = let none = h m.old m.was in (up n v m x none (texts_break_nothing rows x.next.0 x.value j shown), none)
   claim_above n v m x j V.Broken shown h =
-      λ free. set_breaks rows is_key schema keys x.value m.holder x.segment h.0 x.next.0 j m.typed h.1 x.holds h.2 x.place x.stands x.fits shown h.3 (subst (IsFree (breaks rows) rows m.holder.0) x.is free)
-  claim_above n v m x j V.Long shown h =
-      let k = set_part (seen rows m.holder) x.segment x.value in
-      subst (IsFree (breaks rows) rows m.holder.0) (sym x.is)
-      (set_free (breaks rows) rows is_key schema keys m.holder x.segment x.next.0 x.value m.typed m.free x.place x.stands x.fits (texts_break_nothing rows x.next.0 x.value j shown) (data_passes rows m.holder.0 k h.0 h.1))
-  claim_above n v m x j (V.Text b) shown h = (h.0, ap (represented alone rows m.holder.0) x.is ∙ h.1, h.2)
+      λ free. set_breaks rows is_key schema keys x.value m.holder x.segment h.stands.0 x.next.0 j m.typed h.stands.1 x.holds x.place x.stands x.fits shown (h.is (Some x.value) (x.next.0, x.place, shown)) (subst (IsFree (breaks rows) rows m.holder.0) x.is free)
+  claim_above n v m x j (V.Text t) shown h = ap (represented alone rows m.holder.0) x.is ∙ h.is (Some x.value) (x.next.0, x.place, shown)
 
   -- ---- outwards
 
@@ -272,26 +225,15 @@ module _ (rows : List Row) (is_key : ℕ → List ℕ → Bool) (schema : IsSche
   -- ---- what is known of calls
 
   module _ (all : List View) (views : AreHolders rows p path all) where
-    pub last_done : (n : ℕ) (v : Value) (m : Is n v) (l : Level) → suc n ≡ length path → LevelClause all path n edit l → Knows n v m l
+    pub last_done : (n : ℕ) (v : Value) (m : Is n v) (l : Level) → suc n ≡ length path → LevelClause all path n (brought edit) l → Knows n v m l
     last_done n v m l end clause =
         let x = last n v m end in
-        claim_last n v m x l (clause rows m.holder x.segment w (views n m.holder m.before m.leads) x.there x.holds x.allows (changed_tree n v m ((in_last edit w).made (seen rows m.holder) x.segment) x.is))
+        claim_last n v m x l (clause rows m.holder x.segment (views n m.holder m.before m.leads) x.there x.holds)
 
-    pub above_done : (n : ℕ) (v : Value) (m : Is n v) (l : Level) (b : List ℕ) → suc n < length path → ((u : Value) (d : Is (suc n) u) → Knows (suc n) u d (V.Text b)) → AboveClause all path n b l → Knows n v m l
-    above_done n v m l b less known clause =
+    pub above_done : (n : ℕ) (v : Value) (m : Is n v) (l : Level) (t : List ℕ) → suc n < length path → ((u : Value) (d : Is (suc n) u) → Knows (suc n) u d (V.Text t)) → LevelClause all path n (Some t) l → Knows n v m l
+    above_done n v m l t less known clause =
         let x = step n v m less in
-        let k = known x.value x.changed in
-        let shown = shown_there n v m x k.0 k.1 in
-        let tree = has_trees alone rows (of_fronts refl) schema.table.texts.spelled x.next.0 x.value (text k.0) x.fits shown in
-        claim_above n v m x k.0 l shown
-        (clause rows m.holder x.next.0 x.segment k.0 x.value (views n m.holder m.before m.leads) x.there x.holds x.place x.fits shown tree k.2 (changed_tree n v m (set_part (seen rows m.holder) x.segment x.value) x.is))
-
-    -- below one that stands as no text, no block has to hold the text
-    pub long_done : (n : ℕ) (v : Value) (m : Is n v) → suc n < length path → ((u : Value) (d : Is (suc n) u) → Knows (suc n) u d V.Long) → ((q : InSlot) → IsSomeAnd (slice_get all n) (IsPartView rows q) → StandsFree rows q) → Knows n v m V.Free
-    long_done n v m less known free =
-        let x = step n v m less in
-        let none = free m.holder (views n m.holder m.before m.leads) m.old m.was in
-        (up n v m x none (subst (λ (q : InSlot). IsFree (breaks rows) rows q.0 x.value) x.holder_is (known x.value x.changed)), none)
+        claim_above n v m x t l (shown_there n v m x t (known x.value x.changed)) (clause rows m.holder x.segment (views n m.holder m.before m.leads) x.there x.holds)
 
   pub free_root : (n : ℕ) (v : Value) (c : Is 0 v) → n < length path → ((u : Value) (d : Is n u) → Knows n u d V.Free) → IsFree (breaks rows) rows c.holder.0 v
   free_root n v c less all =
@@ -303,13 +245,8 @@ module _ (rows : List Row) (is_key : ℕ → List ℕ → Bool) (schema : IsSche
       let same : n ≡ 0 + n = omega arith in
       broken_out 0 n v c (omega (arith, less)) (subst (λ (k : ℕ). (u : Value) (d : Is k u) → Knows k u d V.Broken) same all)
 
-  pub long_root : (n : ℕ) (v : Value) (c : Is 0 v) → n ≡ 0 → ((u : Value) (d : Is n u) → Knows n u d V.Long) → IsFree (breaks rows) rows c.holder.0 v
-  long_root n v c zero_is all = subst (λ (k : ℕ). (u : Value) (d : Is k u) → Knows k u d V.Long) zero_is all v c
-
-  pub text_root : (n : ℕ) (v : Value) (c : Is 0 v) (b : List ℕ) → n ≡ 0 → ((u : Value) (d : Is n u) → Knows n u d (V.Text b)) → IsFree (breaks rows) rows c.holder.0 v
-  text_root n v c b zero_is all =
-      let k = subst (λ (k : ℕ). (u : Value) (d : Is k u) → Knows k u d (V.Text b)) zero_is all v c in
-      texts_break_nothing rows c.holder.0 v k.0 k.1
+  pub text_root : (n : ℕ) (v : Value) (c : Is 0 v) (t : List ℕ) → n ≡ 0 → ((u : Value) (d : Is n u) → Knows n u d (V.Text t)) → IsFree (breaks rows) rows c.holder.0 v
+  text_root n v c t zero_is all = texts_break_nothing rows c.holder.0 v t (subst (λ (k : ℕ). (u : Value) (d : Is k u) → Knows k u d (V.Text t)) zero_is all v c)
 
 -- ---- the root
 
@@ -321,10 +258,9 @@ pub not_free : (b : Bool) → (b ≡ false → ⊥) → true ≡ b
 not_free true h = refl
 not_free false h = absurd (h refl)
 
-pub root_free : (rows : List Row) (is_key : ℕ → List ℕ → Bool) (edit : PartEdit) (p : InSlot) (w c : Value) → BringsText rows p [] edit w → Makes rows is_key edit w p [] c → IsFree (breaks rows) rows p.0 c
-root_free rows is_key (E.Set n) p w c b makes =
-    let x = b p.0 refl in
+pub root_free : (rows : List Row) (is_key : ℕ → List ℕ → Bool) (edit : TextEdit) (p : InSlot) (w c : Value) → TextIs rows p [] edit w → Makes rows is_key edit w p [] c → IsFree (breaks rows) rows p.0 c
+root_free rows is_key (E.Set t) p w c b makes =
     let same : w ≡ c = cc makes in
-    subst (IsFree (breaks rows) rows p.0) same (texts_break_nothing rows p.0 w x.text_is x.shown)
-root_free rows is_key (E.Insert n) p w c b makes = absurd cc
+    subst (IsFree (breaks rows) rows p.0) same (texts_break_nothing rows p.0 w t.now (b p.0 refl).1)
+root_free rows is_key (E.Insert t) p w c b makes = absurd cc
 root_free rows is_key E.Delete p w c b makes = absurd cc

@@ -1,19 +1,18 @@
 -- A test of layers that no layer of a value meets: nor does one where a part comes or goes, if the holder doesn't, and the part.
-use Rattle.std.proofs.Common.{◌≡◌, ℕ, zero, suc, List, [], ◌∷◌, length, Bool, true, false, cond, ◌||◌, Option, Some, None, refl, sym, ◌∙◌, ap, subst}
+use Rattle.std.proofs.Common.{◌≡◌, ℕ, List, [], ◌∷◌, length, Bool, true, false, cond, ◌||◌, Option, Some, None, refl, sym, ◌∙◌, ap, subst}
 use Rattle.std.specs.Option.{option_map_or}
-use Rattle.std.specs.Prelude.{IsUtf8, insert, option_map, remove}
+use Rattle.std.specs.Prelude.{insert, option_map, remove}
 use Rattle.std.proofs.lemmas.Option.{none-some, same_Some}
 use Rattle.ild_data.specs.Data as T
-use Rattle.ild_data.specs.Key.{same_text, value_at, without}
-use Rattle.ild_path_block.specs.Changes.{in_last}
-use Rattle.ild_path_block.specs.declared.edit.PartEdit.{PartEdit}
-use Rattle.ild_path_block.specs.declared.edit.PartEdit.TheVariants as E
-use Rattle.ild_path_delimiter.specs.Texts.{CanText}
+use Rattle.ild_data.specs.Key.{same_text}
+use Rattle.ild_path_delimiter.specs.TextEdits.{CanEdit, in_last}
+use Rattle.ild_path_delimiter.specs.declared.delimiter.TextEdit.{TextEdit}
+use Rattle.ild_path_delimiter.specs.declared.delimiter.TextEdit.TheVariants as E
+use Rattle.ild_path_item.proofs.Verbs.{as_set, is_list}
 use Rattle.ild_path_edits.proofs.LayerTesting.{set_is_judged}
 use Rattle.ild_path_edits.proofs.Typing.{Each, each_at, each_inserted, each_removed, each_without}
 use Rattle.ild_path_edits.specs.Along.{IsFree, Passes}
-use Rattle.ild_path_edits.specs.Table.{MayStand, declared_slot, if_absent, delete_part, insert_part, new_index, slot_left_out, slot_to_insert, slot_to_set}
-use Rattle.ild_schema.specs.Prelude.{anything}
+use Rattle.ild_path_edits.specs.Table.{MayStand, delete_part, insert_part, new_index, slot_to_insert, slot_to_set}
 use Rattle.ild_schema.specs.Slots.{form_of}
 use Rattle.ild_schema.specs.Value as V
 use Rattle.ild_schema.specs.Value.{Optionals, Pairs, Value, Values, optionals_list, optionals_of, pairs_list, pairs_of, values_list, values_of}
@@ -25,7 +24,7 @@ use Rattle.ild_schema.specs.declared.row.Row.{Row}
 use Rattle.ild_typed.specs.At.{InSlot, seen}
 use Rattle.ild_typed.specs.EachLayer.{some_field, some_layer, some_pair, some_value}
 use Rattle.ild_typed.specs.Hamt.{alone}
-use Rattle.ild_typed.specs.Holder.{Holder, any_elements, any_entries, elements, entries, fields, holder_of, member, nothing, list_holder, map_holder, struct_holder, union_holder, value_of}
+use Rattle.ild_typed.specs.Holder.{holder_of, list_holder, map_holder, struct_holder, union_holder, value_of}
 use Rattle.ild_typed.specs.OfType.{OfType, TestsKeys}
 use Rattle.ild_typed.specs.Represented.{represented}
 use Rattle.ild_typed.specs.Schema.{IsSchema}
@@ -137,39 +136,6 @@ module _ (test : Option TypeDef → Value → Bool) (rows : List Row) where
 
   -- ---- a part comes
 
-  slot_if : (b : Bool) (u slot : Slot) → cond b None (Some slot) ≡ Some u → slot ≡ u
-  slot_if true u slot e = absurd (none-some u e)
-  slot_if false u slot e = same_Some slot u e
-
-  absent_is : (slot u : Slot) (optional : Bool) (o : Option Value) → if_absent slot optional o ≡ Some u → slot ≡ u
-  absent_is slot u optional (Some v) e = absurd (none-some u e)
-  absent_is slot u true None e = same_Some slot u e
-  absent_is slot u false None e = absurd (none-some u e)
-
-  left_at : (f : Field) (o : Option Value) (u : Slot) (b : Bool) (r q : Option Slot) → cond b (if_absent f.slot f.optional o) r ≡ Some u → (r ≡ Some u → q ≡ Some u) → cond b (Some f.slot) q ≡ Some u
-  left_at f o u true r q e rest = ap Some (absent_is f.slot u f.optional o e)
-  left_at f o u false r q e rest = rest e
-
-  left_declared : (s : List ℕ) (fs : List Field) (os : List (Option Value)) (u : Slot) → slot_left_out s fs os ≡ Some u → declared_slot s fs os ≡ Some u
-  left_declared s [] os u e = absurd (none-some u e)
-  left_declared s (f ∷ fs) [] u e = absurd (none-some u e)
-  left_declared s (f ∷ fs) (o ∷ os) u e = left_at f o u (same_text s f.name) (slot_left_out s fs os) (declared_slot s fs os) e (λ g. left_declared s fs os u g)
-
-  -- what comes into a list has a place of its own, and all else is set
-  abbrev is_list : Holder → Bool
-  is_list (elements elem vs) = true
-  is_list (any_elements ds) = true
-  is_list h = false
-
-  as_set : (h : Holder) (s : List ℕ) (u : Slot) (w : Value) → is_list h ≡ false → slot_to_insert h s ≡ Some u → (insert_part h s w ≡ set_part h s w) × (slot_to_set h s ≡ Some u)
-  as_set (fields fs os) s u w e at = (refl, left_declared s fs os u at)
-  as_set (member ms n v) s u w e at = absurd (none-some u at)
-  as_set (entries key elem paired ps) s u w e at = (refl, ap Some (slot_if _ u elem at))
-  as_set (elements elem vs) s u w e at = absurd cc
-  as_set (any_entries ms) s u w e at = (refl, ap Some (slot_if _ u anything at))
-  as_set (any_elements ds) s u w e at = absurd cc
-  as_set (nothing v) s u w e at = absurd (none-some u at)
-
   index_slot : (elem u : Slot) (o : Option ℕ) → option_map (λ i. elem) o ≡ Some u → elem ≡ u
   index_slot elem u None e = absurd (none-some u e)
   index_slot elem u (Some i) e = same_Some elem u e
@@ -229,8 +195,8 @@ module _ (test : Option TypeDef → Value → Bool) (rows : List Row) where
           subst (λ h. Free p.0 (value_of h)) (sym x.0) (set_free p s u w is free x.1 stands new fine (subst (Passes test rows p.0) x.0 passes))
 
     -- each of the three
-    pub edit_free : (edit : PartEdit) (p : InSlot) (s : List ℕ) (w : Value) → OfType rows p.0 p.1 → Free p.0 p.1 → CanText rows is_key edit (seen rows p) s w
-        → ((slot : Slot) (x : List ℕ) → represented alone rows slot w ≡ Some (T.text x) → Free slot w) → Passes test rows p.0 ((in_last edit w).made (seen rows p) s) → Free p.0 (value_of ((in_last edit w).made (seen rows p) s))
-    edit_free (E.Set n) p s w is free can fine passes = set_free p s can.0 w is free can.1 can.2 can.3 (fine can.0 can.4 can.5) passes
-    edit_free (E.Insert n) p s w is free can fine passes = insert_free p s can.0 w is free can.1 can.2 can.3 (fine can.0 can.4 can.5) passes
+    pub edit_free : (edit : TextEdit) (p : InSlot) (s : List ℕ) (w : Value) → OfType rows p.0 p.1 → Free p.0 p.1 → CanEdit rows is_key edit (seen rows p) s w
+        → ((slot : Slot) (x : List ℕ) → represented alone rows slot w ≡ Some (T.text x) → Free slot w) → Passes test rows p.0 (in_last edit w (seen rows p) s) → Free p.0 (value_of (in_last edit w (seen rows p) s))
+    edit_free (E.Set t) p s w is free can fine passes = set_free p s can.0 w is free can.1 can.2 can.3 (fine can.0 t.now can.4) passes
+    edit_free (E.Insert t) p s w is free can fine passes = insert_free p s can.0 w is free can.1 can.2 can.3 (fine can.0 t.now can.4) passes
     edit_free E.Delete p s w is free can fine passes = deleted p.0 p.1 s free passes

@@ -1,5 +1,5 @@
 -- What a holder with data is held by.
-use Rattle.std.proofs.Common.{◌≡◌, List, Bool, true, false, Some, sym, ◌∙◌, ap}
+use Rattle.std.proofs.Common.{◌≡◌, List, true, false, Some, sym, ◌∙◌, ap}
 use Rattle.ild_data.specs.Data.{Data}
 use Rattle.ild_path_holder.specs.Along.{is_holder}
 use Rattle.ild_path_steps.proofs.Holding.{Held, held_by}

@@ -1,10 +1,8 @@
 mod Breaking
 mod Climbing
 pub mod Freeing
-mod Having
 mod Held
 mod Making
 pub mod Quiet
-mod Standing
-mod Telling
+mod Reaching
 pub mod Texts

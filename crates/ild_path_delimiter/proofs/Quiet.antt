@@ -1,11 +1,11 @@
 -- What stands as no text has no delimiter rule; what stands as a text breaks none.
-use Rattle.std.proofs.Common.{◌≡◌, ℕ, List, Bool, true, false, Option, Some, None, refl, sym, ◌∙◌, ap, subst}
-use Rattle.std.specs.Prelude.{option_and_then, option_map}
+use Rattle.std.proofs.Common.{◌≡◌, ℕ, List, true, false, Option, Some, None, refl, sym, ◌∙◌, ap, subst}
+use Rattle.std.specs.Prelude.{option_map}
 use Rattle.std.proofs.lemmas.Option.{none-some}
 use Rattle.ild_data.specs.Data as T
 use Rattle.ild_data.specs.Data.{Data}
 use Rattle.ild_path_changes.proofs.Lifting.{chained, opened}
-use Rattle.ild_path_delimiter.proofs.Held.{IsHeld, is_held}
+use Rattle.ild_path_delimiter.proofs.Held.{is_held}
 use Rattle.ild_path_delimiter.specs.Laws.{OnlyTextsBreak, TextsBreakNothing}
 use Rattle.ild_path_edits.specs.Along.{Passes}
 use Rattle.ild_path_holder.specs.Along.{is_holder}
@@ -30,9 +30,9 @@ use Rattle.ild_typed.specs.Composed.{map_form, struct_form}
 use Rattle.ild_typed.specs.Fields.{all_items, field_entries}
 use Rattle.ild_typed.specs.Hamt.{alone}
 use Rattle.ild_typed.specs.Holder.{Holder, any_elements, any_entries, elements, entries, fields, member, nothing, value_of}
-use Rattle.ild_typed.specs.Judged.{breaks, struct_breaks, map_breaks}
+use Rattle.ild_typed.specs.Judged.{breaks, struct_breaks}
 use Rattle.ild_typed.specs.Layer as L
-use Rattle.ild_typed.specs.Represented.{represented, represented_fields, represented_pairs}
+use Rattle.ild_typed.specs.Represented.{represented, represented_fields}
 use Rattle.ild_typed.specs.Strings.{stringjoin, stringpairs, text_in}
 
 pub texts_break_nothing : TextsBreakNothing
@@ -64,7 +64,7 @@ module _ (rows : List Row) where
   map_quiet k k_at elem at MF.Map es t made none (V.map ps) = refl
   map_quiet k k_at elem at MF.ListPairs es t made none (V.map ps) = refl
   map_quiet k k_at elem at (MF.StringPairs inner entry) es t made none (V.map ps) = no_text _ t made none
-  map_quiet k k_at elem at MF.Hamt es t made none (V.map ps) = refl
+  map_quiet k k_at elem at (MF.Hamt shape) es t made none (V.map ps) = refl
   map_quiet k k_at elem at form es t made none v = refl
 
   pub quiet : (p : InSlot) (t : Data) (k : Holder) → represented alone rows p.0 p.1 ≡ Some t → is_holder (seen rows p) ≡ true → text_in t ≡ None → Passes (breaks rows) rows p.0 k

@@ -10,11 +10,10 @@ use Rattle.ild_path_changes.proofs.Each.{each_pair-at, joined as both}
 use Rattle.ild_path_changes.proofs.Fields.{written-at}
 use Rattle.ild_path_changes.proofs.Lifting.{chained, field_data-each, opened, present_field, written_is}
 use Rattle.ild_path_changes.specs.Places.{field_data, field_named, field_place, left_out, written}
-use Rattle.ild_path_delimiter.proofs.Held.{IsHeld, is_held}
+use Rattle.ild_path_delimiter.proofs.Held.{is_held}
 use Rattle.ild_path_delimiter.specs.Laws.{TextsOfTexts}
 use Rattle.ild_path_edits.proofs.HeldTyped.{held_is, with_slot}
 use Rattle.ild_path_holder.proofs.Written.{has_part, is_written}
-use Rattle.ild_path_holder.specs.Along.{is_holder}
 use Rattle.ild_path_steps.proofs.Holding.{Held, of_any, of_elements, of_entries, of_fields, of_member, of_nothing}
 use Rattle.ild_path_steps.specs.Steps.{is_left_out}
 use Rattle.ild_schema.specs.Clear.{AreClearFields, ClearStruct}
@@ -23,7 +22,6 @@ use Rattle.ild_schema.specs.Hex.{bytes_of_hex}
 use Rattle.ild_schema.specs.Legible.{IsLegible}
 use Rattle.ild_schema.specs.Marks.{field_text, kind_of as mark_kind, text_of}
 use Rattle.ild_schema.specs.Slots.{form_of}
-use Rattle.ild_schema.specs.Value.{Value}
 use Rattle.ild_schema.specs.declared.def.Field.{Field}
 use Rattle.ild_schema.specs.declared.def.MapForm.{MapForm}
 use Rattle.ild_schema.specs.declared.def.MapForm.TheVariants as MF
@@ -39,7 +37,7 @@ use Rattle.ild_typed.specs.At.{InSlot, seen}
 use Rattle.ild_typed.specs.Composed.{inlined, map_form, marked_form, member_form, struct_form}
 use Rattle.ild_typed.specs.Fields.{all_items, field_entries, tuple_items}
 use Rattle.ild_typed.specs.Hamt.{alone}
-use Rattle.ild_typed.specs.Holder.{any_holder, elements, entries, fields, is_paired, member}
+use Rattle.ild_typed.specs.Holder.{any_holder}
 use Rattle.ild_typed.specs.Layer as L
 use Rattle.ild_typed.specs.Represented.{represented}
 use Rattle.ild_typed.specs.Segment.{part}
@@ -149,7 +147,7 @@ in_form : (form : MapForm) (k : List ℕ) (es : List (List ℕ × Data)) (t u : 
 in_form MF.Map k es t u j made there is = other (map_data es) u j (same_Some (map_data es) u made) refl is
 in_form MF.ListPairs k es t u j made there is = other (listpairs es) u j (same_Some (listpairs es) u made) refl is
 in_form (MF.StringPairs inner entry) k es t u j made there is = paired inner entry k es t u made there
-in_form MF.Hamt k es t u j made there is = absurd (none-some u made)
+in_form (MF.Hamt shape) k es t u j made there is = absurd (none-some u made)
 
 no_part : {A : Type 0} (u : Data) (s j : List ℕ) (q : InSlot) → text_in u ≡ Some j → part (any_holder u) s ≡ Some q → A
 no_part (T.text x) s j q is e = absurd (none-some q e)

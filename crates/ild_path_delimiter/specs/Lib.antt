@@ -2,4 +2,3 @@ pub mod Laws
 pub mod Levels
 pub mod Tells
 pub mod TextEdits
-pub mod Texts

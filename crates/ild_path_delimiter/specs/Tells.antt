@@ -1,10 +1,7 @@
 -- Whether an edit of a part breaks a delimiter rule, told at the view of a value that broke none.
 use Rattle.std.specs.Prelude.{◌≡◌, ℕ, Bool, IfOk, List, Result, Ok}
 use Rattle.std.specs.declared.alloc.AllocError.{AllocError}
-use Rattle.ild_path_block.specs.Edits.{Makes}
-use Rattle.ild_path_block.specs.declared.edit.PartEdit.{PartEdit}
 use Rattle.ild_path_delimiter.specs.TextEdits.{TextIs, edit_of}
-use Rattle.ild_path_delimiter.specs.Texts.{BringsText}
 use Rattle.ild_path_delimiter.specs.declared.delimiter.TextEdit.{TextEdit}
 use Rattle.ild_path_edit.specs.Holders.{AreHolders}
 use Rattle.ild_path_edits.specs.Along.{IsFree}
@@ -19,13 +16,7 @@ use Rattle.ild_view.specs.declared.view.View.{View}
 abbrev pub AreHoldersOf : View → List (List ℕ) → List View → Type 0
 AreHoldersOf root path views = (f : Value) → IsView root f → AreHolders (table_of root) (slot_of root, f) path views
 
--- of a part that is told by its node
-abbrev pub TellsOfEdit : View → List (List ℕ) → PartEdit → Result Bool AllocError → Type 0
-TellsOfEdit root path edit result =
-    (is_key : ℕ → List ℕ → Bool) (f c w : Value) → TestsKeys (table_of root) is_key → IsView root f → IsFree (breaks (table_of root)) (table_of root) (slot_of root) f → BringsText (table_of root) (slot_of root, f) path edit w
-    → Makes (table_of root) is_key edit w (slot_of root, f) path c → IfOk result (λ b. b ≡ breaks_delimiter (table_of root) (slot_of root) c)
-
--- of a part that is told by its text
+-- whether the edit breaks one
 abbrev pub TellsOfTextEdit : View → List (List ℕ) → TextEdit → Result Bool AllocError → Type 0
 TellsOfTextEdit root path edit result =
     (is_key : ℕ → List ℕ → Bool) (f c w : Value) → TestsKeys (table_of root) is_key → IsView root f → IsFree (breaks (table_of root)) (table_of root) (slot_of root) f → TextIs (table_of root) (slot_of root, f) path edit w

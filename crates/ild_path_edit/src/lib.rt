@@ -6,5 +6,4 @@ mod item;
 mod views;
 
 pub use block::block_of_edit;
-pub use ild_path_item::new_item;
 pub use views::{are_texts, holders};

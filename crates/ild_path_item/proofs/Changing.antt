@@ -1,5 +1,5 @@
 -- The one change of a holder's data.
-use Rattle.std.proofs.Common.{◌≡◌, ℕ, Bool, true, false, List, Option, Some, refl, sym, ◌∙◌, ap, subst}
+use Rattle.std.proofs.Common.{◌≡◌, ℕ, Bool, true, false, List, Option, Some, None, refl, sym, ◌∙◌, ap, subst}
 use Rattle.ild_data.specs.Data.{Data}
 use Rattle.ild_path_apply.specs.Applies.{is_whole}
 use Rattle.ild_path_block.specs.Changes.{Allows, IsChange, in_last, node_of}
@@ -16,6 +16,7 @@ use Rattle.ild_path_edits.proofs.Seen.{delete_part-seen, insert_part-seen}
 use Rattle.ild_path_holder.specs.Along.{is_holder}
 use Rattle.ild_path_item.proofs.Whole.{delete_part, insert_part, is_all, not_whole_change, parts_there, set_part}
 use Rattle.ild_path_item.specs.Rewrites.{has_parts}
+use Rattle.ild_path_item.specs.Texts.{becoming_with, with_part}
 use Rattle.ild_path_last.specs.Change.{located}
 use Rattle.ild_path_last.specs.declared.change.LastChange.{LastChange}
 use Rattle.ild_path_steps.proofs.Holding.{Held, held_by}
@@ -50,6 +51,11 @@ module _ (rows : List Row) (q : InSlot) (s : List ℕ) where
   changed_data (E.Set n) w = in_holders alone rows q.0 (value_of ((in_last (E.Set n) w).made (seen rows q) s)) ∙ ap data_in (set_part-seen rows q.0 q.1 s w)
   changed_data (E.Insert n) w = in_holders alone rows q.0 (value_of ((in_last (E.Insert n) w).made (seen rows q) s)) ∙ ap data_in (insert_part-seen rows q.0 q.1 s w)
   changed_data E.Delete w = in_holders alone rows q.0 (value_of ((in_last E.Delete w).made (seen rows q) s)) ∙ ap data_in (delete_part-seen rows q.0 q.1 s)
+
+  -- and where a part becomes a value, or goes
+  pub with_data : (o : Option Value) → becoming_with rows q s o ≡ data_in (with_part (seen rows q) s o)
+  with_data None = in_holders alone rows q.0 (value_of (with_part (seen rows q) s None)) ∙ ap data_in (delete_part-seen rows q.0 q.1 s)
+  with_data (Some w) = in_holders alone rows q.0 (value_of (with_part (seen rows q) s (Some w))) ∙ ap data_in (set_part-seen rows q.0 q.1 s w)
 
   module _ (schema : IsSchema rows) where
     clear : IsClear rows

@@ -1,26 +1,21 @@
 -- What a struct becomes that stands as the text of its fields, where one field is set or goes.
 use Rattle.std.proofs.Common.{◌≡◌, ◌<◌, ℕ, zero, suc, Bool, true, false, List, [], ◌∷◌, length, cond, Option, Some, None, refl, sym, ◌∙◌, ap, subst, arith}
-use Rattle.std.specs.Prelude.{option_and_then, option_map, slice_set}
+use Rattle.std.specs.Prelude.{Err, IfOk, Ok, Result, option_and_then, option_map, slice_set}
+use Rattle.std.specs.declared.alloc.AllocError.{AllocError}
 use Rattle.std.proofs.lemmas.Option.{none-some, same_Some}
 use Rattle.ild_data.specs.Data as T
 use Rattle.ild_data.specs.Data.{Data}
 use Rattle.ild_data.specs.Key.{same_text}
-use Rattle.ild_path_block.specs.Changes.{Allows, in_last, node_of}
-use Rattle.ild_path_block.specs.Items.{becoming}
-use Rattle.ild_path_block.specs.declared.edit.PartEdit.{PartEdit}
-use Rattle.ild_path_block.specs.declared.edit.PartEdit.TheVariants as E
 use Rattle.ild_path_changes.proofs.Each.{joined}
 use Rattle.ild_path_changes.proofs.Last.{each_field-gone}
 use Rattle.ild_path_changes.proofs.LastLifting.{declared_field, named_to_go}
 use Rattle.ild_path_changes.proofs.Lifting.{chained, each_field-set, opened}
 use Rattle.ild_path_changes.specs.Places.{each_field, field_named, field_place}
-use Rattle.ild_path_edits.proofs.HeldTyped.{left_out}
-use Rattle.ild_path_edits.proofs.RoomTests.{schemas_have_tests}
-use Rattle.ild_path_edits.specs.Table.{declared_slot, refusal_to_delete, slot_to_insert, slot_to_set}
+use Rattle.ild_path_edits.specs.Table.{refusal_to_delete, slot_to_set}
 use Rattle.ild_path_holder.specs.Along.{is_holder}
-use Rattle.ild_path_item.proofs.Changing.{changed_data, data_in}
-use Rattle.ild_path_item.specs.Rewrites.{joined_with}
-use Rattle.ild_path_last.specs.Change.{NewIs}
+use Rattle.ild_path_item.proofs.Changing.{data_in, with_data}
+use Rattle.ild_path_item.specs.Rewrites.{TellsJoined, joined_with}
+use Rattle.ild_path_item.specs.Texts.{LetsBe, Tells, becoming_with, with_part}
 use Rattle.ild_path_steps.proofs.Holding.{Held, held_by, of_any, of_elements, of_entries, of_fields, of_member, of_nothing}
 use Rattle.ild_path_steps.proofs.Leading.{field_counted, field_number}
 use Rattle.ild_schema.specs.Delims.{HasDelims}
@@ -42,11 +37,9 @@ use Rattle.ild_typed.specs.Hamt.{alone}
 use Rattle.ild_typed.specs.Holder.{fields}
 use Rattle.ild_typed.specs.Layer as L
 use Rattle.ild_typed.specs.Represented.{layered, represented}
-use Rattle.ild_typed.specs.Schema.{IsSchema}
 use Rattle.ild_typed.specs.Segment.{set_field, set_part}
 use Rattle.ild_typed.specs.Strings.{cons_both, stringjoin, text_in, texts_in}
 use Rattle.ild_typed.specs.Texts.{join}
-use Rattle.ild_value_meaning.proofs.Told.{told}
 
 -- ---- the fields' data, where one is set
 
@@ -127,18 +120,25 @@ given form fs delim is h = by fs delim (subst (λ z. HasDelims z fs) is h) where
   by (f ∷ fs) [] h = absurd h
   by (f ∷ fs) (c ∷ cs) h = omega arith
 
+-- a text that is told, as data
+pub as_data : (o : Option (List ℕ)) (r : Result (Option (List ℕ)) AllocError) → IfOk r (λ t. t ≡ o) → Tells (option_map T.text o) r
+as_data o (Ok t) h = ap (option_map T.text) h
+as_data o (Err e) h = h
+
+text_back : (o : Option (List ℕ)) → option_and_then text_in (option_map T.text o) ≡ o
+text_back None = refl
+text_back (Some t) = refl
+
 -- the parts of the text, and that of the field
-pub record Becomes (rows : List Row) (edit : PartEdit) (w : Value) (q : InSlot) (s : List ℕ) (r : StructDef) (delim : List ℕ) (n : ℕ) (t : Data) : Type 0 where
+pub record Becomes (rows : List Row) (o : Option Value) (new : Option (List ℕ)) (q : InSlot) (s : List ℕ) (r : StructDef) (delim : List ℕ) (n : ℕ) (t : Data) : Type 0 where
   pub old : List ℕ
   pub parts : List (List ℕ)
-  pub part : Option Data
   pub text : t ≡ T.text old
   pub whole : join delim parts ≡ Some old
   pub count : length parts ≡ length r.fields
-  pub new : NewIs (node_of edit) part
-  pub is : becoming rows edit w q s ≡ joined_with delim parts n (option_and_then text_in part)
+  pub is : becoming_with rows q s o ≡ joined_with delim parts n new
 
-module _ (rows : List Row) (q : InSlot) (s : List ℕ) (w : Value) (r : StructDef) (delim : List ℕ) (n : ℕ) (t : Data) (known : form_of rows q.0 ≡ Some (D.Struct r)) (form : r.form ≡ S.StringJoin delim) (numbered : Some n ≡ part_named s (D.Struct r)) (less : n < length r.fields) where
+module _ (rows : List Row) (q : InSlot) (s : List ℕ) (r : StructDef) (delim : List ℕ) (n : ℕ) (t : Data) (known : form_of rows q.0 ≡ Some (D.Struct r)) (form : r.form ≡ S.StringJoin delim) (numbered : Some n ≡ part_named s (D.Struct r)) (less : n < length r.fields) where
   abbrev rep : Slot → Value → Option Data
   rep = represented alone rows
 
@@ -146,10 +146,11 @@ module _ (rows : List Row) (q : InSlot) (s : List ℕ) (w : Value) (r : StructDe
   place = let e = field_number s 0 n r.fields (sym numbered) in omega (arith, e)
 
   module _ (os : List (Option Value)) (ds : List (Option Data)) (is : seen rows q ≡ fields r.fields os) (each : each_field rep r.fields os ≡ Some ds) (made : struct_form r.form r.fields ds ≡ Some t) where
-    -- with the data x for the field
-    with_field : (edit : PartEdit) (o : Option Value) (x : Option Data) (g : Field) → (in_last edit w).made (seen rows q) s ≡ fields r.fields (set_field s o r.fields os) → field_named s r.fields ≡ Some g
-        → each_field rep r.fields (set_field s o r.fields os) ≡ Some (set_field s x r.fields ds) → NewIs (node_of edit) x → Becomes rows edit w q s r delim n t
-    with_field edit o x g to named each_new new =
+    -- with a text for the field, or without one
+    with_field : (o : Option Value) (new : Option (List ℕ)) (g : Field) → with_part (seen rows q) s o ≡ fields r.fields (set_field s o r.fields os) → field_named s r.fields ≡ Some g
+        → each_field rep r.fields (set_field s o r.fields os) ≡ Some (set_field s (option_map T.text new) r.fields ds) → Becomes rows o new q s r delim n t
+    with_field o new g to named each_new =
+        let x : Option Data = option_map T.text new in
         let a = chained (stringjoin delim) (all_items r.fields ds) t (ap (λ z. struct_form z r.fields ds) (sym form) ∙ made) in
         let b = opened T.text (option_and_then (join delim) (texts_in a.0)) t a.2 in
         let c = chained (join delim) (texts_in a.0) b.0 b.1 in
@@ -157,70 +158,67 @@ module _ (rows : List Row) (q : InSlot) (s : List ℕ) (w : Value) (r : StructDe
         record {
           old = b.0;
           parts = c.0;
-          part = x;
           text = sym b.2;
           whole = c.2;
           count = texts_long a.0 c.0 c.1 ∙ long;
-          new = new;
-          is = changed_data rows q s edit w ∙ ap (data_in rows q s) to
+          is = with_data rows q s o ∙ ap (data_in rows q s) to
               ∙ (λ i. option_and_then (λ zs. layered alone (known i) (Some (L.struct zs))) (each_new i))
               ∙ ap (λ z. struct_form z r.fields (set_field s x r.fields ds)) form
               ∙ ap (option_and_then (stringjoin delim)) (items_set s g x r.fields ds a.0 named a.1 ∙ ap (λ m. option_map (λ e. slice_set a.0 m e) x) (sym place))
-              ∙ join_set delim a.0 c.0 n x c.1 (omega (arith, less, long));
+              ∙ join_set delim a.0 c.0 n x c.1 (omega (arith, less, long))
+              ∙ ap (joined_with delim c.0 n) (text_back new);
         }
 
-    sets : (edit : PartEdit) → (in_last edit w).made (seen rows q) s ≡ set_part (seen rows q) s w → (slot : Slot) (x : Data) → declared_slot s r.fields os ≡ Some slot → rep slot w ≡ Some x → NewIs (node_of edit) (Some x) → Becomes rows edit w q s r delim n t
-    sets edit to slot x there part_is new =
-        let y = declared_field s r.fields os slot there in
-        let g = y.declared in
-        with_field edit (Some w) (Some x) g (to ∙ ap (λ h. set_part h s w) is) y.named (each_field-set rep s w x r.fields os ds g each y.named (ap (λ z. rep z w) y.in_slot ∙ part_is)) new
-
-    by_edit : IsSchema rows → (edit : PartEdit) → Allows rows edit (seen rows q) s w → Becomes rows edit w q s r delim n t
-    by_edit schema (E.Set node) h = sets (E.Set node) refl h.0 h.2.tree (sym (ap (λ h. slot_to_set h s) is) ∙ h.1) h.2.tree_is h.2.stands
-    by_edit schema (E.Insert node) h =
-        let tests = schemas_have_tests rows schema in
-        sets (E.Insert node) (ap (λ h. (in_last (E.Insert node) w).made h s) is ∙ ap (λ h. set_part h s w) (sym is)) h.0 h.2.tree
-        (left_out rows tests.0.is_key (told rows schema).apart (told rows schema).any_there s r.fields os h.0 (sym (ap (λ h. slot_to_insert h s) is) ∙ h.1)) h.2.tree_is h.2.stands
-    by_edit schema E.Delete h =
+    by_part : (o : Option Value) (new : Option (List ℕ)) → LetsBe rows (seen rows q) s o (option_map T.text new) → Becomes rows o new q s r delim n t
+    by_part None (Some x) h = absurd h
+    by_part (Some w) None h = absurd h
+    by_part None None h =
         let g = named_to_go s r.fields os (sym (ap (λ h. refusal_to_delete h s) is) ∙ h) in
-        with_field E.Delete None None g.0 (ap (λ h. (in_last E.Delete w).made h s) is) g.1 (each_field-gone rep s r.fields os ds each) tt
+        with_field None None g.0 (ap (λ h. with_part h s None) is) g.1 (each_field-gone rep s r.fields os ds each)
+    by_part (Some w) (Some x) h =
+        let y = declared_field s r.fields os h.0 (sym (ap (λ h. slot_to_set h s) is) ∙ h.1) in
+        let g = y.declared in
+        with_field (Some w) (Some x) g (ap (λ h. set_part h s w) is) y.named (each_field-set rep s w (T.text x) r.fields os ds g each y.named (ap (λ z. rep z w) y.in_slot ∙ h.2))
 
   abbrev struct_in : TypeDef → StructDef
   struct_in (D.Struct k) = k
   struct_in d = r
 
-  pub field_becomes : IsSchema rows → (edit : PartEdit) → represented alone rows q.0 q.1 ≡ Some t → is_holder (seen rows q) ≡ true → Allows rows edit (seen rows q) s w → Becomes rows edit w q s r delim n t
-  field_becomes schema edit made holds h = by (held_by rows q.0 t (D.Struct r) known q.1 made) where
-    by : Held rows (D.Struct r) (seen rows q) t → Becomes rows edit w q s r delim n t
+  pub field_becomes : (o : Option Value) (new : Option (List ℕ)) → represented alone rows q.0 q.1 ≡ Some t → is_holder (seen rows q) ≡ true → LetsBe rows (seen rows q) s o (option_map T.text new) → Becomes rows o new q s r delim n t
+  field_becomes o new made holds h = by (held_by rows q.0 t (D.Struct r) known q.1 made) where
+    by : Held rows (D.Struct r) (seen rows q) t → Becomes rows o new q s r delim n t
     by (of_fields k os ds e z a b) =
         let same : k ≡ r = sym (ap struct_in e) in
-        by_edit os ds (z ∙ ap (λ k. fields k.fields os) same) (subst (λ k. each_field rep k.fields os ≡ Some ds) same a) (subst (λ k. struct_form k.form k.fields ds ≡ Some t) same b) schema edit h
+        by_part os ds (z ∙ ap (λ k. fields k.fields os) same) (subst (λ k. each_field rep k.fields os ≡ Some ds) same a) (subst (λ k. struct_form k.form k.fields ds ≡ Some t) same b) o new h
     by (of_member j m v k y e z a b g) = absurd cc
     by (of_any e k) = absurd cc
     by (of_entries l l_at el pl form ps es e k a b) = absurd cc
     by (of_elements el pl vs ds e k a b) = absurd cc
     by (of_nothing v k) = let wrong : false ≡ true = sym (ap is_holder k) ∙ holds in absurd cc
 
--- a field that is set, or goes, has a name
-pub field_there : (rows : List Row) (q : InSlot) (s : List ℕ) (w : Value) (r : StructDef) (t : Data) → form_of rows q.0 ≡ Some (D.Struct r) → IsSchema rows → (edit : PartEdit) → represented alone rows q.0 q.1 ≡ Some t → is_holder (seen rows q) ≡ true
-    → Allows rows edit (seen rows q) s w → None ≡ part_named s (D.Struct r) → ⊥
-field_there rows q s w r t known schema edit made holds h none = by (held_by rows q.0 t (D.Struct r) known q.1 made) where
-  named : (edit : PartEdit) (os : List (Option Value)) → seen rows q ≡ fields r.fields os → Allows rows edit (seen rows q) s w → (g : Field) × (field_named s r.fields ≡ Some g)
-  named (E.Set node) os is h = let y = declared_field s r.fields os h.0 (sym (ap (λ h. slot_to_set h s) is) ∙ h.1) in (y.declared, y.named)
-  named (E.Insert node) os is h =
-      let tests = schemas_have_tests rows schema in
-      let y = declared_field s r.fields os h.0 (left_out rows tests.0.is_key (told rows schema).apart (told rows schema).any_there s r.fields os h.0 (sym (ap (λ h. slot_to_insert h s) is) ∙ h.1)) in
-      (y.declared, y.named)
-  named E.Delete os is h = named_to_go s r.fields os (sym (ap (λ h. refusal_to_delete h s) is) ∙ h)
+-- a field that becomes a text, or goes, has a name
+pub field_there : (rows : List Row) (q : InSlot) (s : List ℕ) (r : StructDef) (t : Data) → form_of rows q.0 ≡ Some (D.Struct r) → (o : Option Value) (d : Option Data) → represented alone rows q.0 q.1 ≡ Some t → is_holder (seen rows q) ≡ true
+    → LetsBe rows (seen rows q) s o d → None ≡ part_named s (D.Struct r) → ⊥
+field_there rows q s r t known o d made holds h none = by (held_by rows q.0 t (D.Struct r) known q.1 made) where
+  named : (o : Option Value) (d : Option Data) (os : List (Option Value)) → seen rows q ≡ fields r.fields os → LetsBe rows (seen rows q) s o d → (g : Field) × (field_named s r.fields ≡ Some g)
+  named None None os is h = named_to_go s r.fields os (sym (ap (λ h. refusal_to_delete h s) is) ∙ h)
+  named None (Some x) os is h = absurd h
+  named (Some w) None os is h = absurd h
+  named (Some w) (Some x) os is h = let y = declared_field s r.fields os h.0 (sym (ap (λ h. slot_to_set h s) is) ∙ h.1) in (y.declared, y.named)
 
   struct_at : TypeDef → StructDef
   struct_at (D.Struct k) = k
   struct_at d = r
 
   by : Held rows (D.Struct r) (seen rows q) t → ⊥
-  by (of_fields k os ds e z a b) = let g = named edit os (z ∙ ap (λ d. fields (struct_at d).fields os) (sym e)) h in field_counted s 0 r.fields g.0 (sym none) g.1
+  by (of_fields k os ds e z a b) = let g = named o d os (z ∙ ap (λ d. fields (struct_at d).fields os) (sym e)) h in field_counted s 0 r.fields g.0 (sym none) g.1
   by (of_member j m v k y e z a b g) = absurd cc
   by (of_any e k) = absurd cc
   by (of_entries l l_at el pl form ps es e k a b) = absurd cc
   by (of_elements el pl vs ds e k a b) = absurd cc
   by (of_nothing v k) = let wrong : false ≡ true = sym (ap is_holder k) ∙ holds in absurd cc
+
+-- from the parts to the answer
+pub joined_told : (rows : List Row) (o : Option Value) (new : Option (List ℕ)) (q : InSlot) (s : List ℕ) (r : StructDef) (delim : List ℕ) (n count : ℕ) (t : Data) (a : Result (Option (List ℕ)) AllocError) (x : Becomes rows o new q s r delim n t) → count ≡ length r.fields → n < length r.fields
+    → TellsJoined delim x.old count n new a → Tells (becoming_with rows q s o) a
+joined_told rows o new q s r delim n count t a x counted less all = subst (λ u. Tells u a) (sym x.is) (all x.parts x.whole (x.count ∙ sym counted) (subst (λ m. n < m) (sym counted) less))

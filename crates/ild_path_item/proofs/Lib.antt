@@ -1,8 +1,10 @@
 mod Blocks
 mod Changing
 mod Joins
-mod Members
+pub mod Members
+pub mod Parts
 mod Rewriting
 mod Upward
-mod Viewing
+pub mod Verbs
+pub mod Viewing
 mod Whole

@@ -100,7 +100,7 @@ map_part : (k_at at : ℕ) (kt : TypeNo) (slot : Slot) (form : MapForm) → is_r
 map_part k_at at kt slot M.Map plain es t made s i c d u = key_part s c d
 map_part k_at at kt slot M.ListPairs plain es t made s i c d u = pair_part i s c d
 map_part k_at at kt slot (M.StringPairs inner entry) plain es t made s i c d u = never plain
-map_part k_at at kt slot M.Hamt plain es t made s i c d u = absurd (none-some t made)
+map_part k_at at kt slot (M.Hamt shape) plain es t made s i c d u = absurd (none-some t made)
 
 module _ (rows : List Row) (def : TypeDef) (t : Data) (plain : is_refusing (Some def) ≡ false) where
   abbrev pub f : Slot → Value → Option Data
@@ -173,7 +173,7 @@ module _ (rows : List Row) (def : TypeDef) (t : Data) (plain : is_refusing (Some
   map_parts k_at at kt slot M.Map es bare made = ap has_parts (sym (same_Some (map_data es) t made))
   map_parts k_at at kt slot M.ListPairs es bare made = ap has_parts (sym (same_Some (listpairs es) t made))
   map_parts k_at at kt slot (M.StringPairs inner entry) es bare made = never bare
-  map_parts k_at at kt slot M.Hamt es bare made = absurd (none-some t made)
+  map_parts k_at at kt slot (M.Hamt shape) es bare made = absurd (none-some t made)
 
   any_parts : (y : Data) → is_holder (any_holder y) ≡ true → has_parts y ≡ true
   any_parts (T.map ms) holds = refl

@@ -1,56 +1,83 @@
 //! The item of what a holder becomes.
-ghost use Rattle.std.specs.Prelude.{◌≡◌, ◌<◌, Some, length};
+ghost use Rattle.std.specs.Prelude.{◌≡◌, List, ℕ, IsSomeAnd, Option, Some, option_map, true};
+ghost use Rattle.ild_data.specs.Data as T;
+ghost use Rattle.ild_path_block.specs.Changes.{node_of};
 ghost use Rattle.ild_path_block.specs.Items.{AnswersItem};
-ghost use Rattle.ild_schema.specs.Parts.{part_named};
+ghost use Rattle.ild_path_item.specs.Rewrites.{Rewrites};
+ghost use Rattle.ild_path_item.specs.Texts.{is_text_form, text_of};
+ghost use Rattle.ild_path_last.specs.Change.{NewIs};
 ghost use Rattle.ild_schema.specs.Slots.{form_of};
-ghost use Rattle.ild_schema.specs.declared.def.TypeDef.TheVariants as D;
+ghost use Rattle.ild_schema.specs.declared.def.TypeDef.{TypeDef as Def};
 ghost use Rattle.ild_view.specs.View.{slot_of, table_of};
 
 use crate::changed::changed_item;
-use crate::joined::joined_item;
 use crate::member::member_item;
-use ild_data::Octets;
+use crate::text::new_text;
+use crate::told::told;
+use crate::write::text_item;
+use ild_data::{Octets, Txt};
 use ild_path_block::{PartEdit, node_of};
-use ild_path_pairs::pairs_item;
-use ild_schema::{MapForm, StructDef, StructForm, TypeDef};
+use ild_schema::{MapForm, StructForm, TypeDef};
 use ild_splice::SpliceErr;
 use ild_view::View;
 use std::alloc::Global;
 
-// The item of a struct, of which the field with a number is changed.
-fn struct_item(
+// Whether a struct or a map stands as the text of its parts.
+fn is_text_form(def: &TypeDef) -> bool
+    ensures { result ≡ is_text_form def.now }
+{
+    match def {
+        TypeDef::Struct(def) => match &def.form {
+            StructForm::StringPairs(_, _) | StructForm::StringJoin(_) => true,
+            StructForm::Map | StructForm::Tuple | StructForm::ListPairs => false,
+        },
+        TypeDef::Map { form, .. } => match form {
+            MapForm::StringPairs(_, _) => true,
+            MapForm::Map | MapForm::ListPairs | MapForm::Hamt(_) => false,
+        },
+        _ => false,
+    }
+}
+
+// The text of the part that comes, or that none does; there is no answer where the part is no text.
+fn new_part<'n>(edit: &PartEdit<'n>) -> Option<Option<&'n str>>
+    ensures { (t : Option (List ℕ)) → NewIs (node_of edit.now) (option_map T.text t) → IsSomeAnd result (λ n. text_of n ≡ t) }
+{
+    let Some(node) = node_of(edit) else {
+        return Some(None);
+    };
+    match node.text() {
+        Some(text) => Some(Some(text)),
+        None => None,
+    }
+}
+
+// The item of a text, where there is one.
+fn item_of(alloc: Global, text: Option<Txt>) -> Result<Option<Octets>, SpliceErr>
+    ensures { Rewrites (option_map T.text text) result }
+{
+    match text {
+        Some(text) => told(text_item(alloc, text.as_str())),
+        None => Ok(None),
+    }
+}
+
+// The item of a struct or a map that stands as the text of its parts.
+fn of_texts(
     alloc: Global,
     view: &View<'_>,
-    def: &StructDef,
-    number: usize,
     segment: &str,
     edit: &PartEdit<'_>,
 ) -> Result<Option<Octets>, SpliceErr>
-    requires known { form_of (table_of view.now) (slot_of view.now) ≡ Some (D.Struct def.now) }
-    requires numbered { Some number ≡ part_named segment.now (D.Struct def.now) }
-    requires within { number < length def.now.fields }
-    ensures { AnswersItem view.now segment.now edit.now result }
+    ensures { (d : Def) → form_of (table_of view.now) (slot_of view.now) ≡ Some d → is_text_form d ≡ true → AnswersItem view.now segment.now edit.now result }
 {
     // It does no work: its clauses say what acceptance says of the table.
     let _types = view.schema().types();
-    match &def.form {
-        StructForm::StringPairs(_, _) => pairs_item(alloc, view, segment, edit),
-        StructForm::StringJoin(delimiter) => {
-            let Some(piece) = view.piece() else {
-                return Ok(None);
-            };
-            let count = def.fields.len();
-            joined_item(
-                alloc,
-                &piece,
-                delimiter.as_str(),
-                count,
-                number,
-                node_of(edit),
-            )
-        }
-        _ => changed_item(alloc, view, segment, edit),
-    }
+    let Some(new) = new_part(edit) else {
+        return Ok(None);
+    };
+    let text = new_text(alloc, view, segment, new)?;
+    item_of(alloc, text)
 }
 
 /// The item of what the holder of a view becomes by an edit of its part at a segment: the canonical bytes of a new block (DAG-CBOR). All that
@@ -72,18 +99,14 @@ pub fn new_item(
     // It does no work: its clauses say what acceptance says of the table.
     let _types = acc.types();
     let base = acc.base(view.slot().ty);
-    match acc.def(base) {
+    let def = acc.def(base);
+    if is_text_form(def) {
+        return of_texts(alloc, view, segment, edit);
+    }
+    match def {
         TypeDef::Union(def) => {
             member_item(alloc, def, acc.part_named(base, segment), node_of(edit))
         }
-        TypeDef::Struct(def) => match acc.part_named(base, segment) {
-            Some(number) => struct_item(alloc, view, def, number, segment, edit),
-            None => Ok(None),
-        },
-        TypeDef::Map { form, .. } => match form {
-            MapForm::StringPairs(_, _) => pairs_item(alloc, view, segment, edit),
-            _ => changed_item(alloc, view, segment, edit),
-        },
         _ => changed_item(alloc, view, segment, edit),
     }
 }

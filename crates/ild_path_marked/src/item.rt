@@ -16,7 +16,7 @@ use ild_schema::{Mark, Member, UnionDef, UnionForm};
 use ild_splice::SpliceErr;
 use std::alloc::Global;
 
-fn is_kinded(form: &UnionForm) -> bool
+pub(crate) fn is_kinded(form: &UnionForm) -> bool
     ensures { result ≡ is_kinded form.now }
 {
     match form {
@@ -25,7 +25,7 @@ fn is_kinded(form: &UnionForm) -> bool
     }
 }
 
-fn text_of(mark: &Mark) -> Option<&str>
+pub(crate) fn text_of(mark: &Mark) -> Option<&str>
     ensures { option_map (λ s. s.now) result ≡ text_of mark.now }
 {
     match mark {

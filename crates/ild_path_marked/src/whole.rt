@@ -39,7 +39,7 @@ fn same_word(a: KindWord, b: KindWord) -> bool
 }
 
 // Whether a mark is a kind, and this one.
-fn is_kind(mark: &Mark, word: KindWord) -> bool
+pub(crate) fn is_kind(mark: &Mark, word: KindWord) -> bool
     ensures { result ≡ is_kind mark.now word }
 {
     match mark {

@@ -1,16 +1,15 @@
 -- What is answered of a view of a struct or a map that stands as the text of its pairs.
 use Rattle.std.proofs.Common.{◌≡◌, ◌+◌, ℕ, List, true, false, Option, Some, None, refl, sym, ◌∙◌, ap, subst, arith}
-use Rattle.std.specs.Prelude.{option_and_then, Result}
+use Rattle.std.specs.Prelude.{option_map, Result}
+use Rattle.std.specs.declared.alloc.AllocError.{AllocError}
 use Rattle.std.proofs.lemmas.Option.{same_Some, none-some}
 use Rattle.ild_data.specs.Data as T
 use Rattle.ild_data.specs.Data.{Data}
-use Rattle.ild_path_block.specs.Changes.{Allows, in_last, node_of}
-use Rattle.ild_path_block.specs.Items.{ItemOf, are_pairs, becoming, is_pairs_map, is_pairs_struct}
-use Rattle.ild_path_block.specs.declared.edit.PartEdit.{PartEdit}
-use Rattle.ild_path_changes.proofs.Lifting.{chained, opened}
+use Rattle.ild_path_block.specs.Items.{are_pairs, is_pairs_map, is_pairs_struct}
 use Rattle.ild_path_changes.specs.Places.{field_place}
 use Rattle.ild_path_holder.specs.Along.{is_holder}
 use Rattle.ild_path_pairs.proofs.Becoming.{map_becomes, new_entry, new_field, struct_becomes}
+use Rattle.ild_path_pairs.specs.Becomes.{LetsBe, becoming_with, with_part}
 use Rattle.ild_path_pairs.specs.Pairs.{MapGiven, StructGiven, Tells, TellsMapForm, TellsStructForm, entries_with}
 use Rattle.ild_path_steps.proofs.Holding.{Held, held_by, of_any, of_elements, of_entries, of_fields, of_member, of_nothing}
 use Rattle.ild_path_steps.proofs.Leading.{field_counted, field_number}
@@ -35,18 +34,15 @@ use Rattle.ild_schema.specs.declared.def.TypeDef.TheVariants as D
 use Rattle.ild_schema.specs.declared.number.Slot.{Slot}
 use Rattle.ild_schema.specs.declared.number.TypeNo.{TypeNo}
 use Rattle.ild_schema.specs.declared.row.Row.{Row}
-use Rattle.ild_splice.specs.declared.error.SpliceErr.{SpliceErr}
 use Rattle.ild_struct.proofs.Splitting.{given_some}
 use Rattle.ild_typed.specs.At.{seen}
 use Rattle.ild_typed.specs.Composed.{map_form, struct_form}
-use Rattle.ild_typed.specs.Fields.{field_entries}
 use Rattle.ild_typed.specs.Hamt.{alone}
 use Rattle.ild_typed.specs.Holder.{entries, fields, is_paired, nothing, value_of}
 use Rattle.ild_typed.specs.Layer as L
 use Rattle.ild_typed.specs.Represented.{represented}
 use Rattle.ild_typed.specs.Segment.{set_field}
-use Rattle.ild_typed.specs.Strings.{stringpairs, text_in, text_pairs}
-use Rattle.ild_typed.specs.Texts.{join_pairs}
+use Rattle.ild_typed.specs.Strings.{text_in}
 use Rattle.ild_view.specs.Body.{is_placed}
 use Rattle.ild_view.specs.View.{piece_in, piece_of, slot_of, table_of}
 use Rattle.ild_view.specs.declared.body.Body.{Body}
@@ -62,7 +58,7 @@ map_given_by : (form : MapForm) → ClearMap form → MapDelims form → MapGive
 map_given_by M.Map clear given = tt
 map_given_by M.ListPairs clear given = tt
 map_given_by (M.StringPairs inner entry) clear given = (given_some inner clear, given_some entry given)
-map_given_by M.Hamt clear given = tt
+map_given_by (M.Hamt shape) clear given = tt
 
 pub map_given : (rows : List Row) → IsLegible rows → (slot : Slot) (k : TypeNo) (k_at : ℕ) (elem : Slot) (at : ℕ) (form : MapForm) (def : TypeDef) → form_of rows slot ≡ Some def → def ≡ D.Map k k_at elem at form → MapGiven form
 map_given rows legible slot k k_at elem at form def known is =
@@ -84,51 +80,11 @@ struct_given rows legible slot z def known is =
 
 -- ---- the data are a text
 
-abbrev pub IsText : Data → Type 0
-IsText t = (x : List ℕ) × (t ≡ T.text x)
+pub text_same : (t : Data) (j s : List ℕ) → t ≡ T.text j → Some s ≡ text_in t → t ≡ T.text s
+text_same t j s is e = is ∙ ap T.text (sym (same_Some s j (e ∙ ap text_in is)))
 
-text_made : (inner entry : List ℕ) (es : List (List ℕ × Data)) (t : Data) → stringpairs inner entry es ≡ Some t → IsText t
-text_made inner entry es t h = let y = opened T.text (option_and_then (join_pairs inner entry) (text_pairs es)) t h in (y.0, sym y.2)
-
-struct_text : (form : StructForm) (fs : List Field) (ds : List (Option Data)) (t : Data) → is_pairs_struct form ≡ true → struct_form form fs ds ≡ Some t → IsText t
-struct_text S.Map fs ds t p h = not_true p
-struct_text S.Tuple fs ds t p h = not_true p
-struct_text S.ListPairs fs ds t p h = not_true p
-struct_text (S.StringPairs inner entry) fs ds t p h = let y = chained (stringpairs inner entry) (field_entries fs ds) t h in text_made inner entry y.0 t y.2
-struct_text (S.StringJoin delim) fs ds t p h = not_true p
-
-map_text : (form : MapForm) (es : List (List ℕ × Data)) (t : Data) → is_pairs_map form ≡ true → map_form alone form (L.map es) ≡ Some t → IsText t
-map_text M.Map es t p h = not_true p
-map_text M.ListPairs es t p h = not_true p
-map_text (M.StringPairs inner entry) es t p h = text_made inner entry es t h
-map_text M.Hamt es t p h = not_true p
-
-pub is_text : (rows : List Row) (slot : Slot) (f : Value) (t : Data) → are_pairs (form_of rows slot) ≡ true → represented alone rows slot f ≡ Some t → is_holder (seen rows (slot, f)) ≡ true → IsText t
-is_text rows slot f t pairs made holder = by_form (form_of rows slot) refl where
-  by : (def : TypeDef) → are_pairs (Some def) ≡ true → Held rows def (seen rows (slot, f)) t → IsText t
-  by def p (of_fields r os ds e h a b) = struct_text r.form r.fields ds t (sym (ap (λ d. are_pairs (Some d)) e) ∙ p) b
-  by def p (of_entries k k_at elem at form ps es e h a b) = map_text form es t (sym (ap (λ d. are_pairs (Some d)) e) ∙ p) b
-  by def p (of_member u n v m y e h a b g) = not_true (sym (ap (λ d. are_pairs (Some d)) e) ∙ p)
-  by def p (of_elements elem at vs ds e h a b) = not_true (sym (ap (λ d. are_pairs (Some d)) e) ∙ p)
-  by def p (of_any e h) = not_true (sym (ap (λ d. are_pairs (Some d)) e) ∙ p)
-  by def p (of_nothing v h) = not_true (sym (ap is_holder h) ∙ holder)
-
-  by_form : (F : Option TypeDef) → form_of rows slot ≡ F → IsText t
-  by_form None e = not_true (sym (ap are_pairs e) ∙ pairs)
-  by_form (Some def) e = by def (sym (ap are_pairs e) ∙ pairs) (held_by rows slot t def e f made)
-
-pub text_same : (t : Data) (s : List ℕ) → Some s ≡ text_in t → t ≡ T.text s
-text_same (T.text x) s e = ap T.text (sym (same_Some s x e))
-text_same T.null s e = absurd (none-some s (sym e))
-text_same (T.boolean b) s e = absurd (none-some s (sym e))
-text_same (T.integer n) s e = absurd (none-some s (sym e))
-text_same (T.bytes b) s e = absurd (none-some s (sym e))
-text_same (T.list ds) s e = absurd (none-some s (sym e))
-text_same (T.map ms) s e = absurd (none-some s (sym e))
-text_same (T.link b) s e = absurd (none-some s (sym e))
-
-pub no_text : {A : Type 0} (t : Data) → IsText t → None ≡ text_in t → A
-no_text t x e = absurd (none-some x.0 (e ∙ ap text_in x.1))
+pub no_text : {A : Type 0} (t : Data) (j : List ℕ) → t ≡ T.text j → None ≡ text_in t → A
+no_text t j is e = absurd (none-some j (e ∙ ap text_in is))
 
 -- a block does not leave out what is no scalar
 no_pairs : (c : Scalar) (F : Option TypeDef) → is_of c F ≡ true → are_pairs F ≡ true → ⊥
@@ -161,14 +117,17 @@ abbrev struct_in : StructDef → TypeDef → StructDef
 struct_in z (D.Struct r) = r
 struct_in z d = z
 
-module _ (rows : List Row) (slot : Slot) (f w : Value) (t : Data) (s : List ℕ) (edit : PartEdit) (r : Result (Option (List ℕ)) SpliceErr) (made : represented alone rows slot f ≡ Some t) (holder : is_holder (seen rows (slot, f)) ≡ true)
-    (allows : Allows rows edit (seen rows (slot, f)) s w) (def : TypeDef) (known : form_of rows slot ≡ Some def) (pairs : are_pairs (form_of rows slot) ≡ true)
+module _ (rows : List Row) (slot : Slot) (f : Value) (o : Option Value) (new : Option (List ℕ)) (t : Data) (s : List ℕ) (r : Result (Option (List ℕ)) AllocError) (made : represented alone rows slot f ≡ Some t) (holder : is_holder (seen rows (slot, f)) ≡ true)
+    (lets : LetsBe rows (seen rows (slot, f)) s o (option_map T.text new)) (def : TypeDef) (known : form_of rows slot ≡ Some def) (pairs : are_pairs (form_of rows slot) ≡ true)
   where
     abbrev pub Is : Type 0
-    Is = ItemOf rows edit w (slot, f) s r
+    Is = Tells (becoming_with rows (slot, f) s o) r
 
-    told_so : (o : Option Data) → becoming rows edit w (slot, f) s ≡ o → Tells o r → Is
-    told_so o is told = record { made = λ u e. subst (λ x. Tells x r) (sym is ∙ e) told; refused = λ q e. subst (λ x. Tells x r) (sym is ∙ e) told }
+    abbrev d : Option Data
+    d = option_map T.text new
+
+    told_so : (u : Option Data) → becoming_with rows (slot, f) s o ≡ u → Tells u r → Is
+    told_so u is told = subst (λ x. Tells x r) (sym is) told
 
     of_none : (v : Value) → seen rows (slot, f) ≡ nothing v → Is
     of_none v h = not_true (sym (ap is_holder h) ∙ holder)
@@ -177,9 +136,9 @@ module _ (rows : List Row) (slot : Slot) (f w : Value) (t : Data) (s : List ℕ)
     paired_is M.Map p = not_true p
     paired_is M.ListPairs p = not_true p
     paired_is (M.StringPairs inner entry) p = refl
-    paired_is M.Hamt p = not_true p
+    paired_is (M.Hamt shape) p = not_true p
 
-    pub map_answers : (k : TypeNo) (k_at : ℕ) (elem : Slot) (at : ℕ) (form : MapForm) (text : List ℕ) → def ≡ D.Map k k_at elem at form → t ≡ T.text text → TellsMapForm form text s (node_of edit) r → Is
+    pub map_answers : (k : TypeNo) (k_at : ℕ) (elem : Slot) (at : ℕ) (form : MapForm) (text : List ℕ) → def ≡ D.Map k k_at elem at form → t ≡ T.text text → TellsMapForm form text s new r → Is
     map_answers k k_at elem at form text is text_is all = by (held_by rows slot t def known f made) where
       by : Held rows def (seen rows (slot, f)) t → Is
       by (of_entries l l_at el pl g ps es e h a b) =
@@ -187,11 +146,11 @@ module _ (rows : List Row) (slot : Slot) (f w : Value) (t : Data) (s : List ℕ)
           let form_is : form_of rows slot ≡ Some (D.Map l l_at el pl g) = known ∙ ap Some e in
           let paired : is_pairs_map g ≡ true = sym (ap are_pairs form_is) ∙ pairs in
           let held : seen rows (slot, f) ≡ entries l.0 el true ps = h ∙ ap (λ p. entries l.0 el p ps) (paired_is g paired) in
-          let n = new_entry rows edit w l.0 el ps s (subst (λ k. Allows rows edit k s w) held allows) in
-          let becomes : becoming rows edit w (slot, f) s ≡ map_form alone g (L.map (entries_with s n.part es)) =
-          ap (λ k. represented alone rows slot (value_of ((in_last edit w).made k s))) held ∙ ap (λ k. represented alone rows slot (value_of k)) n.made ∙ map_becomes rows slot l l_at el pl g ps es s n.value n.part form_is a n.part_is in
-          let told : TellsMapForm g text s (node_of edit) r = subst (λ m. TellsMapForm m text s (node_of edit) r) (sym same) all in
-          told_so (map_form alone g (L.map (entries_with s n.part es))) becomes (told es n.part paired (b ∙ ap Some text_is) n.new)
+          let n = new_entry rows o d l.0 el ps s (subst (λ k. LetsBe rows k s o d) held lets) in
+          let becomes : becoming_with rows (slot, f) s o ≡ map_form alone g (L.map (entries_with s d es)) =
+          ap (λ k. represented alone rows slot (value_of (with_part k s o))) held ∙ ap (λ k. represented alone rows slot (value_of k)) n.made ∙ map_becomes rows slot l l_at el pl g ps es s o d form_is a n.part_is in
+          let told : TellsMapForm g text s new r = subst (λ m. TellsMapForm m text s new r) (sym same) all in
+          told_so (map_form alone g (L.map (entries_with s d es))) becomes (told es paired (b ∙ ap Some text_is))
       by (of_fields j os ds e h a b) = let wrong : D.Struct j ≡ D.Map k k_at elem at form = sym e ∙ is in absurd cc
       by (of_member j n v m y e h a b g) = let wrong : D.Union j ≡ D.Map k k_at elem at form = sym e ∙ is in absurd cc
       by (of_elements el pl vs ds e h a b) = let wrong : D.List el pl ≡ D.Map k k_at elem at form = sym e ∙ is in absurd cc
@@ -207,20 +166,20 @@ module _ (rows : List Row) (slot : Slot) (f w : Value) (t : Data) (s : List ℕ)
       of_struct all (of_elements elem at vs ds e h a b) = let wrong : D.List elem at ≡ D.Struct z = sym e ∙ is in absurd cc
       of_struct all (of_nothing v h) = of_none v h
 
-      pub struct_answers : IsLegible rows → (number : ℕ) (text : List ℕ) → Some number ≡ part_named s def → t ≡ T.text text → TellsStructForm z text number (node_of edit) r → Is
+      pub struct_answers : IsLegible rows → (number : ℕ) (text : List ℕ) → Some number ≡ part_named s def → t ≡ T.text text → TellsStructForm z text number new r → Is
       struct_answers legible number text numbered text_is all = by (held_by rows slot t def known f made) where
         by : Held rows def (seen rows (slot, f)) t → Is
         by (of_fields k os ds e h a b) =
             let same : k ≡ z = ap (struct_in z) (sym e ∙ is) in
             let form : form_of rows slot ≡ Some (D.Struct k) = known ∙ ap Some e in
             let paired : is_pairs_struct k.form ≡ true = sym (ap are_pairs form) ∙ pairs in
-            let n = new_field rows edit w k.fields os s (subst (λ j. Allows rows edit j s w) h allows) in
+            let n = new_field rows o d k.fields os s (subst (λ j. LetsBe rows j s o d) h lets) in
             let place : number ≡ 0 + field_place s k.fields = field_number s 0 number k.fields (sym (numbered ∙ ap (part_named s) e)) in
-            let becomes : becoming rows edit w (slot, f) s ≡ struct_form k.form k.fields (set_field s n.part k.fields ds) =
-            ap (λ j. represented alone rows slot (value_of ((in_last edit w).made j s))) h ∙ ap (λ j. represented alone rows slot (value_of j)) n.made ∙ struct_becomes rows slot k os ds s n.field n.value n.part form a n.named n.part_is in
-            let told : TellsStructForm k text number (node_of edit) r = subst (λ j. TellsStructForm j text number (node_of edit) r) (sym same) all in
-            told_so (struct_form k.form k.fields (set_field s n.part k.fields ds)) becomes
-            (told ds s n.field n.part paired (b ∙ ap Some text_is) (legible.clear.types (base rows slot.ty.0) (D.Struct k) form) n.named (omega (arith, place)) n.new n.gone)
+            let becomes : becoming_with rows (slot, f) s o ≡ struct_form k.form k.fields (set_field s d k.fields ds) =
+            ap (λ j. represented alone rows slot (value_of (with_part j s o))) h ∙ ap (λ j. represented alone rows slot (value_of j)) n.made ∙ struct_becomes rows slot k os ds s n.field o d form a n.named n.part_is in
+            let told : TellsStructForm k text number new r = subst (λ j. TellsStructForm j text number new r) (sym same) all in
+            told_so (struct_form k.form k.fields (set_field s d k.fields ds)) becomes
+            (told ds s n.field paired (b ∙ ap Some text_is) (legible.clear.types (base rows slot.ty.0) (D.Struct k) form) n.named (omega (arith, place)) (λ e. n.gone (ap (option_map T.text) e)))
         by (of_any e h) = let wrong : D.Any ≡ D.Struct z = sym e ∙ is in absurd cc
         by (of_member j n v m y e h a b g) = let wrong : D.Union j ≡ D.Struct z = sym e ∙ is in absurd cc
         by (of_entries k k_at elem at form ps es e h a b) = let wrong : D.Map k k_at elem at form ≡ D.Struct z = sym e ∙ is in absurd cc
@@ -231,5 +190,5 @@ module _ (rows : List Row) (slot : Slot) (f w : Value) (t : Data) (s : List ℕ)
       no_field numbered = of_struct by (held_by rows slot t def known f made) where
         by : (os : List (Option Value)) → seen rows (slot, f) ≡ fields z.fields os → Is
         by os h =
-            let n = new_field rows edit w z.fields os s (subst (λ j. Allows rows edit j s w) h allows) in
+            let n = new_field rows o d z.fields os s (subst (λ j. LetsBe rows j s o d) h lets) in
             absurd (field_counted s 0 z.fields n.field (sym (numbered ∙ ap (part_named s) is)) n.named)

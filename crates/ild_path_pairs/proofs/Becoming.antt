@@ -1,14 +1,11 @@
 -- What a struct or a map becomes by an edit of its part, in the data of its parts.
 use Rattle.std.proofs.Common.{◌≡◌, ℕ, List, [], ◌∷◌, ◌++◌, Bool, true, false, cond, Option, Some, None, refl, sym, ◌∙◌, ap, subst}
-use Rattle.std.specs.Prelude.{is_some, option_and_then, option_map, Result}
+use Rattle.std.specs.Prelude.{option_and_then, option_map, Result}
+use Rattle.std.specs.declared.alloc.AllocError.{AllocError}
 use Rattle.std.proofs.lemmas.Option.{same_Some, none-some}
-use Rattle.ild_cbor.specs.declared.node.Node.{Node}
 use Rattle.ild_data.specs.Data as T
 use Rattle.ild_data.specs.Data.{Data}
-use Rattle.ild_data.specs.Key.{same_text, value_at}
-use Rattle.ild_path_block.specs.Changes.{Allows, in_last, node_of}
-use Rattle.ild_path_block.specs.declared.edit.PartEdit.{PartEdit}
-use Rattle.ild_path_block.specs.declared.edit.PartEdit.TheVariants as E
+use Rattle.ild_data.specs.Key.{same_text}
 use Rattle.ild_path_changes.proofs.Datas.{data_of, each_pair}
 use Rattle.ild_path_changes.proofs.Each.{each_pair-last}
 use Rattle.ild_path_changes.proofs.Last.{each_field-gone, each_pair-without}
@@ -16,8 +13,8 @@ use Rattle.ild_path_changes.proofs.LastLifting.{declared_field}
 use Rattle.ild_path_changes.proofs.Lifting.{chained, each_field-set, opened}
 use Rattle.ild_path_changes.proofs.Represented.{in_holders}
 use Rattle.ild_path_changes.specs.Places.{each_field, field_named, field_place}
-use Rattle.ild_path_edits.specs.Table.{declared_slot, field_kept, if_absent, if_present, slot_left_out}
-use Rattle.ild_path_last.specs.Change.{NewIs}
+use Rattle.ild_path_edits.specs.Table.{field_kept, if_present}
+use Rattle.ild_path_pairs.specs.Becomes.{LetsBe, with_part}
 use Rattle.ild_path_pairs.specs.Pairs.{Tells, TellsStruct, entries_with}
 use Rattle.ild_schema.specs.Clear.{AreClearFields, ClearStruct, IsGiven}
 use Rattle.ild_schema.specs.Slots.{form_of}
@@ -32,7 +29,6 @@ use Rattle.ild_schema.specs.declared.def.TypeDef.TheVariants as D
 use Rattle.ild_schema.specs.declared.number.Slot.{Slot}
 use Rattle.ild_schema.specs.declared.number.TypeNo.{TypeNo}
 use Rattle.ild_schema.specs.declared.row.Row.{Row}
-use Rattle.ild_splice.specs.declared.error.SpliceErr.{SpliceErr}
 use Rattle.ild_typed.proofs.Lists.{optionals_list-optionals_of, pairs_list-pairs_of}
 use Rattle.ild_typed.specs.Composed.{map_form, struct_form}
 use Rattle.ild_typed.specs.Fields.{entries_of, field_entries}
@@ -51,19 +47,6 @@ HasData f (Some w) None = ⊥
 HasData f (Some w) (Some d) = f w ≡ Some d
 
 -- ---- structs
-
-left_declared_at : (s : List ℕ) (f : Field) (o : Option Value) (p q : Option Slot) (r : Slot) (b : Bool) → cond b (if_absent f.slot f.optional o) p ≡ Some r → (p ≡ Some r → q ≡ Some r) → cond b (Some f.slot) q ≡ Some r
-left_declared_at s f o p q r false e more = more e
-left_declared_at s f (Some v) p q r true e more = absurd (none-some r e)
-left_declared_at s f None p q r true e more = by f.optional e where
-  by : (b : Bool) → cond b (Some f.slot) None ≡ Some r → Some f.slot ≡ Some r
-  by true g = g
-  by false g = absurd (none-some r g)
-
-left_declared : (s : List ℕ) (fs : List Field) (os : List (Option Value)) (r : Slot) → slot_left_out s fs os ≡ Some r → declared_slot s fs os ≡ Some r
-left_declared s [] os r e = absurd (none-some r e)
-left_declared s (f ∷ fs) [] r e = absurd (none-some r e)
-left_declared s (f ∷ fs) (o ∷ os) r e = left_declared_at s f o (slot_left_out s fs os) (declared_slot s fs os) r (same_text s f.name) e (left_declared s fs os r)
 
 -- a field that may go
 record MayGo (s : List ℕ) (fs : List Field) : Type 0 where
@@ -87,48 +70,32 @@ may_go s [] os h = absurd (none-some _ (sym h))
 may_go s (f ∷ fs) [] h = absurd (none-some _ (sym h))
 may_go s (f ∷ fs) (o ∷ os) h = may_go_at s f fs o os (same_text s f.name) refl h (may_go s fs os)
 
--- what an edit of a struct brings
-pub record NewField (rows : List Row) (edit : PartEdit) (w : Value) (fs : List Field) (os : List (Option Value)) (s : List ℕ) : Type 0 where
+-- what a field of a struct becomes
+pub record NewField (rows : List Row) (o : Option Value) (d : Option Data) (fs : List Field) (os : List (Option Value)) (s : List ℕ) : Type 0 where
   pub field : Field
   pub named : field_named s fs ≡ Some field
-  pub value : Option Value
-  pub part : Option Data
-  pub part_is : HasData (represented alone rows field.slot) value part
-  pub new : NewIs (node_of edit) part
-  pub gone : part ≡ None → field.optional ≡ true
-  pub made : (in_last edit w).made (fields fs os) s ≡ fields fs (set_field s value fs os)
+  pub part_is : HasData (represented alone rows field.slot) o d
+  pub gone : d ≡ None → field.optional ≡ true
+  pub made : with_part (fields fs os) s o ≡ fields fs (set_field s o fs os)
 
 never_none : {A : Type 0} (d : Data) → Some d ≡ None → A
 never_none d e = absurd (none-some d (sym e))
 
-pub new_field : (rows : List Row) (edit : PartEdit) (w : Value) (fs : List Field) (os : List (Option Value)) (s : List ℕ) → Allows rows edit (fields fs os) s w → NewField rows edit w fs os s
-new_field rows (E.Set n) w fs os s h =
+pub new_field : (rows : List Row) (o : Option Value) (d : Option Data) (fs : List Field) (os : List (Option Value)) (s : List ℕ) → LetsBe rows (fields fs os) s o d → NewField rows o d fs os s
+new_field rows None None fs os s h =
+    let m = may_go s fs os h in
+    record { field = m.field; named = m.named; part_is = tt; gone = λ e. m.optional; made = refl }
+new_field rows None (Some x) fs os s h = absurd h
+new_field rows (Some w) None fs os s h = absurd h
+new_field rows (Some w) (Some x) fs os s h =
     let y = declared_field s fs os h.0 h.1 in
     record {
       field = y.declared;
       named = y.named;
-      value = Some w;
-      part = Some h.2.tree;
-      part_is = ap (λ z. represented alone rows z w) y.in_slot ∙ h.2.tree_is;
-      new = h.2.stands;
-      gone = λ e. never_none h.2.tree e;
+      part_is = ap (λ z. represented alone rows z w) y.in_slot ∙ h.2;
+      gone = λ e. never_none x e;
       made = refl;
     }
-new_field rows (E.Insert n) w fs os s h =
-    let y = declared_field s fs os h.0 (left_declared s fs os h.0 h.1) in
-    record {
-      field = y.declared;
-      named = y.named;
-      value = Some w;
-      part = Some h.2.tree;
-      part_is = ap (λ z. represented alone rows z w) y.in_slot ∙ h.2.tree_is;
-      new = h.2.stands;
-      gone = λ e. never_none h.2.tree e;
-      made = refl;
-    }
-new_field rows E.Delete w fs os s h =
-    let m = may_go s fs os h in
-    record { field = m.field; named = m.named; value = None; part = None; part_is = tt; new = tt; gone = λ e. m.optional; made = refl }
 
 fields_with : (f : Slot → Value → Option Data) (fs : List Field) (os : List (Option Value)) (ds : List (Option Data)) (s : List ℕ) (g : Field) (o : Option Value) (d : Option Data) → each_field f fs os ≡ Some ds → field_named s fs ≡ Some g
     → HasData (f g.slot) o d → each_field f fs (set_field s o fs os) ≡ Some (set_field s d fs ds)
@@ -148,23 +115,16 @@ module _ (rows : List Row) (slot : Slot) where
 
 -- ---- maps
 
--- what an edit of a map brings
-pub record NewEntry (rows : List Row) (edit : PartEdit) (w : Value) (k : ℕ) (elem : Slot) (ps : List (List ℕ × Value)) (s : List ℕ) : Type 0 where
-  pub value : Option Value
-  pub part : Option Data
-  pub part_is : HasData (represented alone rows elem) value part
-  pub new : NewIs (node_of edit) part
-  pub made : (in_last edit w).made (entries k elem true ps) s ≡ entries k elem true (entries_with s value ps)
+-- what an entry of a map becomes
+pub record NewEntry (rows : List Row) (o : Option Value) (d : Option Data) (k : ℕ) (elem : Slot) (ps : List (List ℕ × Value)) (s : List ℕ) : Type 0 where
+  pub part_is : HasData (represented alone rows elem) o d
+  pub made : with_part (entries k elem true ps) s o ≡ entries k elem true (entries_with s o ps)
 
-pub new_entry : (rows : List Row) (edit : PartEdit) (w : Value) (k : ℕ) (elem : Slot) (ps : List (List ℕ × Value)) (s : List ℕ) → Allows rows edit (entries k elem true ps) s w → NewEntry rows edit w k elem ps s
-new_entry rows (E.Set n) w k elem ps s h =
-    record { value = Some w; part = Some h.2.tree; part_is = ap (λ z. represented alone rows z w) (same_Some elem h.0 h.1) ∙ h.2.tree_is; new = h.2.stands; made = refl }
-new_entry rows (E.Insert n) w k elem ps s h =
-    record { value = Some w; part = Some h.2.tree; part_is = ap (λ z. represented alone rows z w) (by (is_some (value_at s ps)) h.1) ∙ h.2.tree_is; new = h.2.stands; made = refl } where
-      by : (b : Bool) → cond b None (Some elem) ≡ Some h.0 → elem ≡ h.0
-      by true g = absurd (none-some h.0 g)
-      by false g = same_Some elem h.0 g
-new_entry rows E.Delete w k elem ps s h = record { value = None; part = None; part_is = tt; new = tt; made = refl }
+pub new_entry : (rows : List Row) (o : Option Value) (d : Option Data) (k : ℕ) (elem : Slot) (ps : List (List ℕ × Value)) (s : List ℕ) → LetsBe rows (entries k elem true ps) s o d → NewEntry rows o d k elem ps s
+new_entry rows None None k elem ps s h = record { part_is = tt; made = refl }
+new_entry rows None (Some x) k elem ps s h = absurd h
+new_entry rows (Some w) None k elem ps s h = absurd h
+new_entry rows (Some w) (Some x) k elem ps s h = record { part_is = ap (λ z. represented alone rows z w) (same_Some elem h.0 h.1) ∙ h.2; made = refl }
 
 pairs_with : (f : Value → Option Data) (ps : List (List ℕ × Value)) (es : List (List ℕ × Data)) (s : List ℕ) (o : Option Value) (d : Option Data) → each_pair f ps ≡ Some es → HasData f o d → each_pair f (entries_with s o ps) ≡ Some (entries_with s d es)
 pairs_with f ps es s None None all has = each_pair-without f s ps es all
@@ -220,17 +180,24 @@ entries_set s (f ∷ fs) (o ∷ ds) es g d h named gone =
     let r = behind f fs o ds es h in
     entries_set_at s f fs o ds g d (same_text s f.name) r named gone (λ n. entries_set s fs ds r.entries g d r.made n gone)
 
-pub struct_form_told : (fs gs : List Field) (number : ℕ) (inner entry i e text : List ℕ) (new : Option Node) (r : Result (Option (List ℕ)) SpliceErr) → TellsStruct i e text gs number new r → i ≡ inner → e ≡ entry → gs ≡ fs → (form : StructForm) → form ≡ S.StringPairs inner entry
-    → (ds : List (Option Data)) (k : List ℕ) (g : Field) (d : Option Data) → struct_form form fs ds ≡ Some (T.text text) → ClearStruct form fs → field_named k fs ≡ Some g → number ≡ field_place k fs → NewIs new d → (d ≡ None → g.optional ≡ true)
-    → Tells (struct_form form fs (set_field k d fs ds)) r
-struct_form_told fs gs number inner entry i e text new r all i_is e_is gs_is form is ds k g d =
-    subst (λ m. struct_form m fs ds ≡ Some (T.text text) → ClearStruct m fs → field_named k fs ≡ Some g → number ≡ field_place k fs → NewIs new d → (d ≡ None → g.optional ≡ true) → Tells (struct_form m fs (set_field k d fs ds)) r) (sym is) so where
+pub struct_form_told : (fs gs : List Field) (number : ℕ) (inner entry i e text : List ℕ) (new : Option (List ℕ)) (r : Result (Option (List ℕ)) AllocError) → TellsStruct i e text gs number new r → i ≡ inner → e ≡ entry → gs ≡ fs → (form : StructForm) → form ≡ S.StringPairs inner entry
+    → (ds : List (Option Data)) (k : List ℕ) (g : Field) → struct_form form fs ds ≡ Some (T.text text) → ClearStruct form fs → field_named k fs ≡ Some g → number ≡ field_place k fs → (new ≡ None → g.optional ≡ true)
+    → Tells (struct_form form fs (set_field k (option_map T.text new) fs ds)) r
+struct_form_told fs gs number inner entry i e text new r all i_is e_is gs_is form is ds k g =
+    subst (λ m. struct_form m fs ds ≡ Some (T.text text) → ClearStruct m fs → field_named k fs ≡ Some g → number ≡ field_place k fs → (new ≡ None → g.optional ≡ true) → Tells (struct_form m fs (set_field k d fs ds)) r) (sym is) so where
+      d : Option Data
+      d = option_map T.text new
+
       all_so : TellsStruct inner entry text fs number new r
       all_so = subst (λ x. TellsStruct x entry text fs number new r) i_is (subst (λ y. TellsStruct i y text fs number new r) e_is (subst (λ z. TellsStruct i e text z number new r) gs_is all))
 
-      so : option_and_then (stringpairs inner entry) (field_entries fs ds) ≡ Some (T.text text) → AreClearFields fs × IsGiven inner → field_named k fs ≡ Some g → number ≡ field_place k fs → NewIs new d → (d ≡ None → g.optional ≡ true)
+      text_gone : (new : Option (List ℕ)) → option_map T.text new ≡ None → new ≡ None
+      text_gone None e = refl
+      text_gone (Some t) e = never_none (T.text t) e
+
+      so : option_and_then (stringpairs inner entry) (field_entries fs ds) ≡ Some (T.text text) → AreClearFields fs × IsGiven inner → field_named k fs ≡ Some g → number ≡ field_place k fs → (new ≡ None → g.optional ≡ true)
           → Tells (option_and_then (stringpairs inner entry) (field_entries fs (set_field k d fs ds))) r
-      so made clear named place brought gone =
+      so made clear named place gone =
           let y = chained (stringpairs inner entry) (field_entries fs ds) (T.text text) made in
-          let n = entries_set k fs ds y.0 g d y.1 named gone in
-          subst (λ o. Tells (option_and_then (stringpairs inner entry) o) r) (sym n.1) (all_so ds y.0 n.0 k g d y.1 y.2 clear.0.apart named place brought n.1)
+          let n = entries_set k fs ds y.0 g d y.1 named (λ e. gone (text_gone new e)) in
+          subst (λ o. Tells (option_and_then (stringpairs inner entry) o) r) (sym n.1) (all_so ds y.0 n.0 k g y.1 y.2 clear.0.apart named place n.1)

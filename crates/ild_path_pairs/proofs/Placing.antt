@@ -1,9 +1,8 @@
 -- The place of a pair in a text, and among the pairs of a holder's data.
 use Rattle.std.proofs.Common.{◌≡◌, ◌+◌, ℕ, zero, suc, List, [], ◌∷◌, ◌++◌, Bool, true, false, cond, length, Option, Some, None, refl, sym, ◌∙◌, ap, subst, arith}
 use Rattle.std.specs.Prelude.{is_some, option_and_then, option_map, Result}
+use Rattle.std.specs.declared.alloc.AllocError.{AllocError}
 use Rattle.std.proofs.lemmas.Option.{same_Some, none-some}
-use Rattle.ild_cbor.specs.Nodes.{Stands}
-use Rattle.ild_cbor.specs.declared.node.Node.{Node}
 use Rattle.ild_data.specs.Data as T
 use Rattle.ild_data.specs.Data.{Data}
 use Rattle.ild_data.specs.Key.{same_text, value_at}
@@ -15,14 +14,12 @@ use Rattle.ild_path_changes.proofs.Others.{put_lasts}
 use Rattle.ild_path_changes.proofs.Represented.{each_pair-some}
 use Rattle.ild_path_changes.specs.Pairs.{pair_if}
 use Rattle.ild_path_changes.specs.Places.{field_data, field_named, field_place, left_out, place_of, written, written_before}
-use Rattle.ild_path_last.specs.Change.{NewIs}
 use Rattle.ild_path_pairs.specs.Pairs.{Tells, TellsPair, entries_with}
 use Rattle.ild_path_pairs.specs.Seats.{count_behind, is_first, left_behind, passed}
 use Rattle.ild_path_pairs.specs.declared.place.Seat.{Seat}
 use Rattle.ild_schema.specs.Clear.{AreNamesApart}
 use Rattle.ild_schema.specs.Marks.{field_text}
 use Rattle.ild_schema.specs.declared.def.Field.{Field}
-use Rattle.ild_splice.specs.declared.error.SpliceErr.{SpliceErr}
 use Rattle.ild_splice_changes.proofs.Maps.{own_text}
 use Rattle.ild_typed.specs.Fields.{field_entries}
 use Rattle.ild_typed.specs.Segment.{set_field}
@@ -156,7 +153,7 @@ written_left k (f ∷ fs) (o ∷ ds) g apart long named = left_at k f fs o ds g 
 
 -- ---- what is told
 
-module _ (inner entry text : List ℕ) (seat : Seat) (r : Result (Option (List ℕ)) SpliceErr) where
+module _ (inner entry text : List ℕ) (seat : Seat) (r : Result (Option (List ℕ)) AllocError) where
   -- of a map
   module _ (key : List ℕ) (es : List (List ℕ × Data)) (ps : List (List ℕ × List ℕ)) (texts : text_pairs es ≡ Some ps) (placed : seat.place ≡ place_of key ps) (there : seat.there ≡ is_some (value_at key ps)) where
     each : each_pair text_in es ≡ Some ps
@@ -199,14 +196,8 @@ module _ (inner entry text : List ℕ) (seat : Seat) (r : Result (Option (List �
 
 -- ---- the new part, where it is written
 
-pub not_written : (g : Field) (o : Option Node) (n : Node) (d : Option Data) (b : Bool) → o ≡ Some n → NewIs o d → ((x : Data) → Stands n x → b ≡ left_out g x) → b ≡ true → NewIs None (written left_out g d)
-not_written g None n d b e h is q = absurd (none-some n e)
-not_written g (Some m) n None b e h is q = absurd h
-not_written g (Some m) n (Some x) b e h is q = subst (NewIs None) (sym (ap (λ c. cond c None (Some x)) (sym (is x (subst (λ k. Stands k x) (same_Some m n e) h)) ∙ q))) tt
+pub not_written : (g : Field) (x : Data) (b : Bool) → b ≡ left_out g x → b ≡ true → None ≡ written left_out g (Some x)
+not_written g x b is q = sym (ap (λ c. cond c None (Some x)) (sym is ∙ q))
 
-pub is_written : (g : Field) (o : Option Node) (n : Node) (d : Option Data) (b : Bool) → o ≡ Some n → NewIs o d → ((x : Data) → Stands n x → b ≡ left_out g x) → b ≡ false → NewIs (Some n) (written left_out g d)
-is_written g None n d b e h is q = absurd (none-some n e)
-is_written g (Some m) n None b e h is q = absurd h
-is_written g (Some m) n (Some x) b e h is q =
-    let at = subst (λ k. Stands k x) (same_Some m n e) h in
-    subst (NewIs (Some n)) (sym (ap (λ c. cond c None (Some x)) (sym (is x at) ∙ q))) at
+pub is_written : (g : Field) (x : Data) (b : Bool) → b ≡ left_out g x → b ≡ false → Some x ≡ written left_out g (Some x)
+is_written g x b is q = sym (ap (λ c. cond c None (Some x)) (sym is ∙ q))

@@ -3,25 +3,21 @@ use Rattle.std.proofs.Common.{◌≡◌, ◌<◌, ◌≤◌, ◌-◌, ℕ, suc, 
 use Rattle.std.specs.Prelude.{insert, is_some, option_and_then, option_map, remove, slice_set}
 use Rattle.std.proofs.Math.Seq.{set-append_seam}
 use Rattle.std.proofs.lemmas.List.Edits.{insert-append_right, remove-append_right}
-use Rattle.std.proofs.lemmas.Option.{same_Some, none-some}
-use Rattle.ild_cbor.specs.Nodes.{Stands}
-use Rattle.ild_cbor.specs.Scalar.{text_of}
-use Rattle.ild_cbor.specs.declared.node.Node.{Node}
+use Rattle.std.proofs.lemmas.Option.{same_Some}
 use Rattle.ild_data.specs.Data as T
 use Rattle.ild_data.specs.Data.{Data}
 use Rattle.ild_path_changes.proofs.Each.{joined}
 use Rattle.ild_path_changes.proofs.Lifting.{chained, opened}
 use Rattle.ild_path_changes.specs.Pairs.{pair_if}
-use Rattle.ild_path_last.specs.Change.{NewIs}
 use Rattle.ild_path_pairs.specs.Pairs.{Tells, changed_by, text_pair_if}
 use Rattle.ild_path_text.specs.Changed.{value_set}
 use Rattle.ild_path_text.specs.declared.change.PairChange.{PairChange}
-use Rattle.ild_splice.specs.declared.error.SpliceErr.{SpliceErr}
 use Rattle.ild_schema.specs.Joins.{IsPairs, OnePairs}
 use Rattle.ild_typed.specs.JoinLaws.{PairsArePairs}
 use Rattle.ild_typed.specs.Strings.{cons_both, stringpairs, text_in, text_pairs}
 use Rattle.ild_typed.specs.Texts.{join_pairs}
-use Rattle.std.specs.Prelude.{Result, Ok}
+use Rattle.std.specs.Prelude.{Err, IfOk, Ok, Result}
+use Rattle.std.specs.declared.alloc.AllocError.{AllocError}
 
 -- ---- the change
 
@@ -145,12 +141,6 @@ module _ (inner entry key : List ℕ) (front behind : List (List ℕ × Data)) (
       ap (λ o. option_map T.text (option_and_then (join_pairs inner entry) o))
       (whole_of front (pair_if key (option_map T.text new) ++ behind) s.first s.first_is ∙ ap (option_map (λ ys. s.first ++ ys)) (between new))
 
-  -- a new value that is no text has none
-  pub no_text : (d : Data) → text_in d ≡ None → stringpairs inner entry (front ++ (pair_if key (Some d) ++ behind)) ≡ None
-  no_text d e =
-      ap (λ o. option_map T.text (option_and_then (join_pairs inner entry) o))
-      (whole_of front ((key, d) ∷ behind) s.first s.first_is ∙ ap (λ o. option_map (λ ys. s.first ++ ys) (cons_both (option_map (λ s. (key, s)) o) (text_pairs behind))) e)
-
 text_same : (s t : List ℕ) → T.text s ≡ T.text t → s ≡ t
 text_same s t e = ap text_or e where
   text_or : Data → List ℕ
@@ -188,7 +178,7 @@ module _ (inner entry text key : List ℕ) (front behind : List (List ℕ × Dat
   parts = split key front behind old at.pairs at.pairs_are
 
   -- of the pairs that a change makes
-  pub told : (place : ℕ) (there : Bool) (new : Option (List ℕ)) (change : Option PairChange) (r : Result (Option (List ℕ)) SpliceErr) → place ≡ length front → there ≡ is_some old
+  pub told : (place : ℕ) (there : Bool) (new : Option (List ℕ)) (change : Option PairChange) (r : Result (Option (List ℕ)) AllocError) → place ≡ length front → there ≡ is_some old
       → ((front behind : List (List ℕ × List ℕ)) (old : Option (List ℕ)) → place ≡ length front → there ≡ is_some old → changed_by change (front ++ (text_pair_if key old ++ behind)) ≡ front ++ (text_pair_if key new ++ behind))
       → ((ps : List (List ℕ × List ℕ)) → join_pairs inner entry ps ≡ Some text → Tells (option_map T.text (join_pairs inner entry (changed_by change ps))) r)
       → Tells (stringpairs inner entry (front ++ (pair_if key (option_map T.text new) ++ behind))) r
@@ -196,20 +186,7 @@ module _ (inner entry text key : List ℕ) (front behind : List (List ℕ × Dat
       let same = ap (changed_by change) (sym parts.whole) ∙ law parts.first parts.last parts.held (placed ∙ parts.long) (is_there ∙ parts.there) in
       subst (λ o. Tells o r) (ap (λ xs. option_map T.text (join_pairs inner entry xs)) same ∙ sym (text_with inner entry key front behind old at.pairs parts new)) (all at.pairs at.text_is)
 
-  pub refused : (d : Data) → text_in d ≡ None → Tells (stringpairs inner entry (front ++ (pair_if key (Some d) ++ behind))) (Ok None)
-  refused d e = subst (λ o. Tells o (Ok None)) (sym (no_text inner entry key front behind old at.pairs parts d e)) tt
-
-  -- where the new part is an item that is no text
-  pub refused_item : (n : Node) (o : Option Node) (d : Option Data) → o ≡ Some n → NewIs o d → ((x : Data) → Stands n x → None ≡ text_of x) → Tells (stringpairs inner entry (front ++ (pair_if key d ++ behind))) (Ok None)
-  refused_item n None d e new is = absurd (none-some n e)
-  refused_item n (Some m) None e new is = absurd new
-  refused_item n (Some m) (Some x) e new is = refused x (no_text_in x (is x (subst (λ k. Stands k x) (same_Some m n e) new))) where
-    no_text_in : (x : Data) → None ≡ text_of x → text_in x ≡ None
-    no_text_in (T.text s) e = absurd (none-some s e)
-    no_text_in T.null e = refl
-    no_text_in (T.boolean b) e = refl
-    no_text_in (T.integer i) e = refl
-    no_text_in (T.bytes b) e = refl
-    no_text_in (T.list ds) e = refl
-    no_text_in (T.map ms) e = refl
-    no_text_in (T.link b) e = refl
+-- a text that is told, as data
+pub as_data : (o : Option (List ℕ)) (r : Result (Option (List ℕ)) AllocError) → IfOk r (λ t. t ≡ o) → Tells (option_map T.text o) r
+as_data o (Ok t) h = ap (option_map T.text) h
+as_data o (Err e) h = h

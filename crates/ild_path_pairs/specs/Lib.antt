@@ -1,2 +1,3 @@
+pub mod Becomes
 pub mod Pairs
 pub mod Seats

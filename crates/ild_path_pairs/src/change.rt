@@ -1,23 +1,19 @@
 //! The text of pairs of which one changes.
-ghost use Rattle.std.specs.Prelude.{◌<◌, Option, Some, length, option_map};
+ghost use Rattle.std.specs.Prelude.{◌≡◌, ◌<◌, Some, length, option_map};
 ghost use Rattle.ild_data.specs.Data as T;
-ghost use Rattle.ild_data.specs.Data.{Data};
 ghost use Rattle.ild_path_changes.specs.Places.{left_out, written};
-ghost use Rattle.ild_path_last.specs.Change.{NewIs};
-ghost use Rattle.ild_path_pairs.specs.Pairs.{ChangesPair, ReadsPairs, Tells, TellsChange, TellsMap, TellsPair, TellsStruct, text_of};
+ghost use Rattle.ild_path_pairs.specs.Pairs.{ChangesPair, ReadsPairs, TellsMap, TellsPair, TellsStruct, text_of};
 
 use crate::place::{Seat, field_seat, key_seat};
-use crate::write::text_item;
-use ild_cbor::{Node, Piece};
-use ild_data::Octets;
+use ild_cbor::Piece;
+use ild_data::Txt;
 use ild_layer_fields::is_implicit;
 use ild_path_steps::name_in_block;
 use ild_path_text::{PairChange, change_pair};
 use ild_schema::Field;
-use ild_splice::SpliceErr;
 use ild_text::{PairParts, pairs, pairs_are_one};
 use ild_typed::pairs_are_pairs;
-use std::alloc::Global;
+use std::alloc::{AllocError, Global};
 
 /// A text of pairs, the delimiter inside a pair and that between the pairs.
 #[derive(Clone, Copy)]
@@ -55,102 +51,65 @@ fn pair_change<'a>(seat: Seat, key: &'a str, new: Option<&'a str>) -> Option<Pai
     }
 }
 
-// The item of a text.
-fn of_text(alloc: Global, text: &str) -> Result<Option<Octets>, SpliceErr>
-    ensures { Tells (Some (T.text text.now)) result }
-{
-    Ok(Some(text_item(alloc, text)?))
-}
-
-// The item of the pairs with a change.
-fn of_change(
-    alloc: Global,
-    joined: &Joined<'_>,
-    change: PairChange<'_>,
-) -> Result<Option<Octets>, SpliceErr>
-    ensures { TellsChange joined.now.inner.now joined.now.entry.now joined.now.text.now change.entry result }
-{
-    let Some(text) = change_pair(alloc, joined.text, joined.inner, joined.entry, change)? else {
-        return Ok(None);
-    };
-    of_text(alloc, text.as_str())
-}
-
-// The item of the pairs of which that at a seat has a new value or goes.
+// The text of the pairs of which that at a seat has a new value or goes.
 fn with_pair(
     alloc: Global,
     joined: &Joined<'_>,
     seat: Seat,
     key: &str,
     new: Option<&str>,
-) -> Result<Option<Octets>, SpliceErr>
+) -> Result<Option<Txt>, AllocError>
     ensures { TellsPair joined.now.inner.now joined.now.entry.now joined.now.text.now seat key.now (option_map T.text (text_of new.entry)) result }
 {
     match pair_change(seat, key, new) {
-        Some(change) => of_change(alloc, joined, change),
-        None => of_text(alloc, joined.text),
+        Some(change) => change_pair(alloc, joined.text, joined.inner, joined.entry, change),
+        None => {
+            let text = Txt::of(alloc, joined.text)?;
+            Ok(Some(text))
+        }
     }
 }
 
-// The same where the new value is an item, which may be no text.
-fn with_item(
-    alloc: Global,
-    joined: &Joined<'_>,
-    seat: Seat,
-    key: &str,
-    new: Option<Node<'_>>,
-) -> Result<Option<Octets>, SpliceErr>
-    ensures { (d : Option Data) → NewIs new.entry d → TellsPair joined.now.inner.now joined.now.entry.now joined.now.text.now seat key.now d result }
-{
-    match new {
-        Some(node) => match node.text() {
-            Some(text) => with_pair(alloc, joined, seat, key, Some(text)),
-            None => Ok(None),
-        },
-        None => with_pair(alloc, joined, seat, key, None),
-    }
-}
-
-/// The item of a map, with a new value at a key or without one: a new key comes behind the others.
-pub(crate) fn map_item(
+/// The text of a map, with a new value at a key or without one: a new key comes behind the others.
+pub(crate) fn map_text(
     alloc: Global,
     joined: &Joined<'_>,
     key: &str,
-    new: Option<Node<'_>>,
-) -> Result<Option<Octets>, SpliceErr>
-    ensures { TellsMap joined.now.inner.now joined.now.entry.now joined.now.text.now key.now new.entry result }
+    new: Option<&str>,
+) -> Result<Option<Txt>, AllocError>
+    ensures { TellsMap joined.now.inner.now joined.now.entry.now joined.now.text.now key.now (text_of new.entry) result }
 {
     match split(joined) {
-        Some(split) => with_item(alloc, joined, key_seat(split, key), key, new),
+        Some(split) => with_pair(alloc, joined, key_seat(split, key), key, new),
         None => Ok(None),
     }
 }
 
 // The new part, where it is written.
-fn written<'n>(field: &Field, new: Option<Node<'n>>) -> Option<Node<'n>>
-    ensures { (d : Option Data) → NewIs new.entry d → NewIs result (written left_out field.now d) }
+fn written<'n>(field: &Field, new: Option<&'n str>) -> Option<&'n str>
+    ensures { option_map T.text (text_of result) ≡ written left_out field.now (option_map T.text (text_of new.entry)) }
 {
-    let node = new?;
-    let implicit = is_implicit(field, &Piece::Node(node));
-    if implicit { None } else { Some(node) }
+    let text = new?;
+    let implicit = is_implicit(field, &Piece::Text(text));
+    if implicit { None } else { Some(text) }
 }
 
-/// The item of a struct, of which the field with a number has a new value or goes: an implicit value is not written.
-pub(crate) fn struct_item(
+/// The text of a struct, of which the field with a number has a new value or goes: an implicit value is not written.
+pub(crate) fn struct_text(
     alloc: Global,
     joined: &Joined<'_>,
     fields: &[Field],
     number: usize,
-    new: Option<Node<'_>>,
-) -> Result<Option<Octets>, SpliceErr>
+    new: Option<&str>,
+) -> Result<Option<Txt>, AllocError>
     requires { number < length fields.now }
-    ensures { TellsStruct joined.now.inner.now joined.now.entry.now joined.now.text.now fields.now number new.entry result }
+    ensures { TellsStruct joined.now.inner.now joined.now.entry.now joined.now.text.now fields.now number (text_of new.entry) result }
 {
     let field = &fields[number];
     match split(joined) {
         Some(split) => {
             let seat = field_seat(split, fields, number);
-            with_item(
+            with_pair(
                 alloc,
                 joined,
                 seat,

@@ -1,12 +1,10 @@
-//! The item of what a struct or a map becomes that stands as the text of its pairs, where a part of it is set, comes or goes (IPLD
-//! Schemas, "stringpairs"; DAG-CBOR).
+//! The text of what a struct or a map becomes that stands as the text of its pairs, where a part of it is set, comes or goes (IPLD
+//! Schemas, "stringpairs").
 #![tactic(auto)]
 
 mod change;
 mod form;
-mod item;
 mod place;
-mod write;
+mod text;
 
-pub use item::pairs_item;
-pub use write::text_item;
+pub use text::pairs_text;

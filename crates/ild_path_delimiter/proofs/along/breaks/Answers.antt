@@ -1,30 +1,27 @@
-use Rattle.std.proofs.Common.{◌≡◌, ◌<◌, ◌-◌, ◌∙◌, ℕ, List, suc, length, ap, refl, subst, sym, false, arith}
-use Rattle.std.specs.Prelude.{Bool, IfOk, IsSomeAnd, Result, slice_get}
+use Rattle.std.proofs.Common.{◌≡◌, ◌<◌, ◌-◌, ◌∙◌, ℕ, Some, suc, length, ap, refl, subst, sym, arith}
+use Rattle.std.specs.Prelude.{Bool, IfOk, Result}
 use Rattle.std.specs.declared.alloc.AllocError.{AllocError}
-use Rattle.ild_path_delimiter.proofs.Climbing.{AboveClause, Changed, Claim, LevelClause, above_done, broken_root, free_root, is_nil, last_done, long_root, not_free, root_free, text_root, long_done}
-use Rattle.ild_path_delimiter.proofs.Making.{if_ok}
-use Rattle.ild_path_delimiter.specs.Levels.{StandsFree}
-use Rattle.ild_path_delimiter.specs.Texts.{BringsText}
-use Rattle.ild_path_block.specs.Edits.{Makes}
-use Rattle.ild_path_edit.proofs.Making.{not_empty}
+use Rattle.ild_path_delimiter.proofs.Climbing.{Changed, Claim, LevelClause, above_done, broken_root, free_root, is_nil, last_done, not_free, root_free, text_root}
+use Rattle.ild_path_delimiter.proofs.Reaching.{Makes}
+use Rattle.ild_path_delimiter.specs.TextEdits.{TextIs}
 use Rattle.ild_path_delimiter.specs.declared.level.Level.TheVariants as V
+use Rattle.ild_path_edit.proofs.Making.{not_empty}
+use Rattle.ild_path_item.specs.Texts.{text_of}
 use Rattle.ild_schema.specs.Value.{Value}
 use Rattle.ild_schema.specs.Accept.{IsAccepted}
 use Rattle.ild_schema.specs.Table.{IsTable}
-use Rattle.ild_schema.specs.declared.row.Row.{Row}
 use Rattle.ild_typed.specs.At.{InSlot}
 use Rattle.ild_typed.specs.Judged.{breaks_delimiter}
 use Rattle.ild_typed.specs.Schema.{IsSchema}
-use Rattle.ild_view.specs.Parts.{IsPartView}
 use Rattle.ild_view.specs.View.{slot_of, table_of}
 use Rattle.ild_path_delimiter.proofs.along.breaks.Goals as goal
-use Rattle.ild_path_delimiter.proofs.along.breaks.Goals.{in-Free-at, in-Broken-at, in-Long-at, in-Text-at}
+use Rattle.ild_path_delimiter.proofs.along.breaks.Goals.{in-Free-at, in-Broken-at, in-Text-at}
 
 pub returns-then-is_empty : goal.returns-then-is_empty
 returns-then-is_empty c = λ has is_key f x w keys view free brings makes.
     let rows = table_of c.args.root.now in
     let none = sym c.as_slice-segments.ensures ∙ is_nil c.as_slice-segments.result.now (sym c.is_empty.ensures ∙ c.if-is_empty.true) in
-    sym (root_free rows is_key c.args.edit.now (slot_of c.args.root.now, f) w x (subst (λ ys. BringsText rows (slot_of c.args.root.now, f) ys c.args.edit.now w) none brings) (subst (λ ys. Makes rows is_key c.args.edit.now w (slot_of c.args.root.now, f) ys x) none makes))
+    sym (root_free rows is_key c.args.edit (slot_of c.args.root.now, f) w x (subst (λ ys. TextIs rows (slot_of c.args.root.now, f) ys c.args.edit w) none brings) (subst (λ ys. Makes rows is_key c.args.edit w (slot_of c.args.root.now, f) ys x) none makes))
 
 pub loop-k-init : goal.loop-k-init
 loop-k-init c = (
@@ -32,7 +29,7 @@ loop-k-init c = (
   λ has is_key f w x keys view m.
       let rows = table_of c.args.root.now in
       let path = c.args.path.now in
-      let edit = c.args.edit.now in
+      let edit = c.args.edit in
       let p : InSlot = (slot_of c.args.root.now, f) in
       let schema : IsSchema rows = record { table = subst IsTable c.schema.ensures c.types-types.ensures.table; accepted = subst IsAccepted c.schema.ensures c.types-types.ensures.accepted } in
       let texts = c.are_texts.ensures in
@@ -40,7 +37,8 @@ loop-k-init c = (
       let count : length c.as_slice-segments.result.now ≡ length path = ap length c.as_slice-segments.ensures in
       let n : ℕ = length c.as_slice-segments.result.now - 1 in
       let before = m.before in
-      let clause = subst (λ xs. LevelClause c.args.views.now xs n edit c.in_ok-at.at) c.as_slice-segments.ensures c.in_ok-at.ensures in
+      let told = subst (λ xs. LevelClause c.args.views.now xs n (text_of c.text_of.result) c.in_ok-at.at) c.as_slice-segments.ensures c.in_ok-at.ensures in
+      let clause = subst (λ t. LevelClause c.args.views.now path n t c.in_ok-at.at) c.text_of.ensures told in
       last_done rows is_key schema keys edit w p path texts c.args.views.now views n x m c.in_ok-at.at (omega (arith, count, before)) clause,
 )
 
@@ -50,7 +48,7 @@ loop-k-preserved c = (
   λ has is_key f w x keys view m.
       let rows = table_of c.args.root.now in
       let path = c.args.path.now in
-      let edit = c.args.edit.now in
+      let edit = c.args.edit in
       let p : InSlot = (slot_of c.args.root.now, f) in
       let schema : IsSchema rows = record { table = subst IsTable c.schema.ensures c.types-types.ensures.table; accepted = subst IsAccepted c.schema.ensures c.types-types.ensures.accepted } in
       let texts = c.are_texts.ensures in
@@ -59,16 +57,17 @@ loop-k-preserved c = (
       let less = c.loop-k.invariant.0 in
       let more = c.loop-k-test.true in
       let next : c.loop-k.k ≡ suc n = omega (arith, more) in
-      let known = subst (λ (k : ℕ). (u : Value) (d : Changed rows is_key edit w p path k u) → Claim rows is_key edit w p path k u d (V.Text c.in-Text.item)) next (λ u d. rw c.in-Text.is at (c.loop-k.invariant.1 has is_key f w u keys view d)) in
-      let clause = subst (λ xs. AboveClause c.args.views.now xs n c.in-Text.item c.in_ok-at-2.at) c.as_slice-segments.ensures c.in_ok-at-2.ensures in
-      above_done rows is_key schema keys edit w p path texts c.args.views.now views n x m c.in_ok-at-2.at c.in-Text.item (omega (arith, less, next)) known clause,
+      let known = subst (λ (k : ℕ). (u : Value) (d : Changed rows is_key edit w p path k u) → Claim rows is_key edit w p path k u d (V.Text c.in-Text.text)) next (λ u d. rw c.in-Text.is at (c.loop-k.invariant.1 has is_key f w u keys view d)) in
+      let told = subst (λ xs. LevelClause c.args.views.now xs n (Some c.as_str.result.now) c.in_ok-at-2.at) c.as_slice-segments.ensures c.in_ok-at-2.ensures in
+      let clause = subst (λ t. LevelClause c.args.views.now path n (Some t) c.in_ok-at-2.at) c.as_str.ensures.same told in
+      above_done rows is_key schema keys edit w p path texts c.args.views.now views n x m c.in_ok-at-2.at c.in-Text.text (omega (arith, less, next)) known clause,
 )
 
 pub returns-in-Free : goal.returns-in-Free
 returns-in-Free c = λ has is_key f x w keys view free brings makes.
     let rows = table_of c.args.root.now in
     let path = c.args.path.now in
-    let edit = c.args.edit.now in
+    let edit = c.args.edit in
     let p : InSlot = (slot_of c.args.root.now, f) in
     let schema : IsSchema rows = record { table = subst IsTable c.schema.ensures c.types-types.ensures.table; accepted = subst IsAccepted c.schema.ensures c.types-types.ensures.accepted } in
     let texts = c.are_texts.ensures in
@@ -80,7 +79,7 @@ pub returns-in-Broken : goal.returns-in-Broken
 returns-in-Broken c = λ has is_key f x w keys view free brings makes.
     let rows = table_of c.args.root.now in
     let path = c.args.path.now in
-    let edit = c.args.edit.now in
+    let edit = c.args.edit in
     let p : InSlot = (slot_of c.args.root.now, f) in
     let schema : IsSchema rows = record { table = subst IsTable c.schema.ensures c.types-types.ensures.table; accepted = subst IsAccepted c.schema.ensures c.types-types.ensures.accepted } in
     let texts = c.are_texts.ensures in
@@ -88,28 +87,11 @@ returns-in-Broken c = λ has is_key f x w keys view free brings makes.
     let k = c.loop-k.k in
     not_free (breaks_delimiter rows p.0 x) (broken_root rows is_key schema keys edit w p path texts k x (root (omega (arith, c.loop-k.invariant.0))) c.loop-k.invariant.0 (λ u d. rw c.in-Broken.is at (c.loop-k.invariant.1 has is_key f w u keys view d)))
 
-pub returns-in-Long : goal.returns-in-Long
-returns-in-Long c = λ has is_key f x w keys view free brings makes.
-    let rows = table_of c.args.root.now in
-    let path = c.args.path.now in
-    let edit = c.args.edit.now in
-    let p : InSlot = (slot_of c.args.root.now, f) in
-    let schema : IsSchema rows = record { table = subst IsTable c.schema.ensures c.types-types.ensures.table; accepted = subst IsAccepted c.schema.ensures c.types-types.ensures.accepted } in
-    let texts = c.are_texts.ensures in
-    let root : (0 < length path) → Changed rows is_key edit w p path 0 x = λ less. record { holder = p; before = less; leads = refl; typed = (view.room, view.front.fits); free = free; old = view.tree; was = view.front.tree; brings = brings; makes = makes } in
-    let n : ℕ = c.loop-k.k - 1 in
-    let less = c.loop-k.invariant.0 in
-    let more = c.loop-k-test.true in
-    let next : c.loop-k.k ≡ suc n = omega (arith, more) in
-    let known = subst (λ (k : ℕ). (u : Value) (d : Changed rows is_key edit w p path k u) → Claim rows is_key edit w p path k u d V.Long) next (λ u d. rw c.in-Long.is at (c.loop-k.invariant.1 has is_key f w u keys view d)) in
-    if_ok (λ b. (b ≡ false) × ((rows : List Row) (q : InSlot) → IsSomeAnd (slice_get c.args.views.now n) (IsPartView rows q) → StandsFree rows q)) (λ b. b ≡ breaks_delimiter rows p.0 x) c.unless_text.result
-    (λ b h. h.0 ∙ sym (free_root rows is_key schema keys edit w p path texts n x (root (omega (arith, less))) (omega (arith, less)) (λ u d. long_done rows is_key schema keys edit w p path texts c.args.views.now (has f view) n u d (omega (arith, less, next)) known (h.1 rows)))) c.unless_text.ensures
-
 pub returns : goal.returns
 returns c = λ has is_key f x w keys view free brings makes.
     let rows = table_of c.args.root.now in
     let path = c.args.path.now in
-    let edit = c.args.edit.now in
+    let edit = c.args.edit in
     let p : InSlot = (slot_of c.args.root.now, f) in
     let schema : IsSchema rows = record { table = subst IsTable c.schema.ensures c.types-types.ensures.table; accepted = subst IsAccepted c.schema.ensures c.types-types.ensures.accepted } in
     let texts = c.are_texts.ensures in
@@ -122,6 +104,5 @@ returns c = λ has is_key f x w keys view free brings makes.
     elim c.match-at-2.branch [
       | in-Free-at a ↦ subst Tells (sym a.result-is) (sym (free_root rows is_key schema keys edit w p path texts k x start less (λ u d. rw a.in-Free-at.is at (c.loop-k.invariant.1 has is_key f w u keys view d))))
       | in-Broken-at a ↦ subst Tells (sym a.result-is) (not_free (breaks_delimiter rows p.0 x) (broken_root rows is_key schema keys edit w p path texts k x start less (λ u d. rw a.in-Broken-at.is at (c.loop-k.invariant.1 has is_key f w u keys view d))))
-      | in-Long-at a ↦ subst Tells (sym a.result-is) (sym (long_root rows is_key schema keys edit w p path texts k x start zero_is (λ u d. rw a.in-Long-at.is at (c.loop-k.invariant.1 has is_key f w u keys view d))))
       | in-Text-at a ↦ subst Tells (sym a.result-is) (sym (text_root rows is_key schema keys edit w p path texts k x start a.in-Text-at.field-0 zero_is (λ u d. rw a.in-Text-at.is at (c.loop-k.invariant.1 has is_key f w u keys view d))))
     ]
