@@ -1,3 +1,5 @@
+mod Spelled
 mod Finding
+mod Among
 mod Descending
 mod Leading
