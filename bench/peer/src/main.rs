@@ -12,6 +12,7 @@ mod typed;
 
 use sha2::{Digest, Sha256};
 use std::hint::black_box;
+use std::path::Path;
 
 fn main() {
     let words: Vec<String> = std::env::args().skip(1).collect();
@@ -123,9 +124,18 @@ fn main() {
             }
             return;
         }
-        "gen" => {
+        "gen-memory" => {
             let (count, seed) = session::words_of(&bytes);
-            print!("{}", session::generate(if times == 0 { 0 } else { count }, if times == 0 { 0 } else { seed }));
+            for _ in 0..times {
+                let made = session::generate(count, seed, None);
+                sum += made.sets + made.dels + made.absent + made.len;
+                sum += made.root.iter().map(|byte| *byte as u64).sum::<u64>();
+            }
+        }
+        "gen" => {
+            let (count, seed) = if times == 0 { (0, 0) } else { session::words_of(&bytes) };
+            std::fs::create_dir("blocks").expect("the folder is new");
+            print!("{}", session::generate(count, seed, Some(Path::new("blocks"))));
             return;
         }
         "new" => {

@@ -1,5 +1,5 @@
 //! A script of `get` and `set` on a HAMT of integers inside a batch: its nodes are kept as blocks in memory. The first line of the input is
-//! the JSON of its entries. And the generator, over a folder.
+//! the JSON of its entries. And the generator, in memory or over a folder.
 use crate::bulk::{plan, Row};
 use crate::cbor::{add_int, head};
 use crate::create::{root_block, row};
@@ -81,22 +81,39 @@ pub fn words_of(input: &[u8]) -> (u64, u64) {
     (words.next().expect("a count"), words.next().expect("a seed"))
 }
 
-/// The steps of the generator over the folder `blocks`, each of which writes its new blocks; and its summary.
-pub fn generate(count: u64, seed: u64) -> String {
-    std::fs::create_dir("blocks").expect("the folder is new");
+/// What the generator comes to.
+pub struct Made {
+    pub sets: u64,
+    pub dels: u64,
+    pub absent: u64,
+    pub len: u64,
+    pub root: [u8; 32],
+}
+
+impl std::fmt::Display for Made {
+    fn fmt(&self, out: &mut std::fmt::Formatter<'_>) -> std::fmt::Result {
+        let Made { sets, dels, absent, len, root } = self;
+        writeln!(out, "sets {sets}\ndels {dels}\nabsent {absent}\nlen {len}\nroot {}", cid_text(root))
+    }
+}
+
+/// The steps of the generator, each of which writes its new blocks into the folder, if there is one.
+pub fn generate(count: u64, seed: u64, folder: Option<&Path>) -> Made {
     let mut hamt = Hamt { blocks: HashMap::new(), came: Vec::new() };
-    let (mut root, mut keys) = (empty(), BTreeSet::new());
-    let (mut sets, mut dels, mut absent, mut written) = (0, 0, 0, 0);
+    let (mut node, mut keys) = (empty(), BTreeSet::new());
+    let mut made = Made { sets: 0, dels: 0, absent: 0, len: 0, root: [0; 32] };
+    let mut written = 0;
     let mut x = seed;
-    let mut cid = String::new();
     for i in 0..=count {
-        let block = root_block(&root);
-        cid = cid_text(&block.id);
+        let block = root_block(&node);
+        made.root = block.id;
         hamt.put(block.bytes);
-        for id in &hamt.came[written..] {
-            write(Path::new("blocks"), &cid_text(id), &hamt.blocks[id]);
+        if let Some(folder) = folder {
+            for id in &hamt.came[written..] {
+                write(folder, &cid_text(id), &hamt.blocks[id]);
+            }
+            written = hamt.came.len();
         }
-        written = hamt.came.len();
         if i == count {
             break;
         }
@@ -105,20 +122,21 @@ pub fn generate(count: u64, seed: u64) -> String {
         let mut value = Vec::new();
         add_int(&mut value, i as i128);
         let value = (x >> 32 & 3 != 0).then_some(value.as_slice());
-        match hamt.edited(&root, key.as_bytes(), &hash(key.as_bytes()), value, 0) {
+        match hamt.edited(&node, key.as_bytes(), &hash(key.as_bytes()), value, 0) {
             Some(Lifted::Root(next)) => {
-                root = next;
+                node = next;
                 if value.is_some() {
-                    sets += 1;
+                    made.sets += 1;
                     keys.insert(key);
                 } else {
-                    dels += 1;
+                    made.dels += 1;
                     keys.remove(&key);
                 }
             }
             Some(_) => panic!("a root"),
-            None => absent += 1,
+            None => made.absent += 1,
         }
     }
-    format!("sets {sets}\ndels {dels}\nabsent {absent}\nlen {}\nroot {cid}\n", keys.len())
+    made.len = keys.len() as u64;
+    made
 }

@@ -3,7 +3,7 @@
 
 use ild_bulk::plan_rows;
 use ild_cbor::{Node, check};
-use ild_data::{KeyHash, NamedBlock, Octets, Sha256Keys, block_id};
+use ild_data::{HamtShape, KeyHash, NamedBlock, Octets, Sha256Keys, block_id};
 use ild_hamt_samples::{is_above, is_scalar};
 use ild_node::Rows;
 use std::alloc::Global;
@@ -29,7 +29,7 @@ fn rows_of(alloc: Global, bytes: &[u8]) -> Option<Rows> {
 /// The root of a HAMT, and the blocks beneath it.
 fn planned(alloc: Global, rows: &Rows) -> Option<(Octets, Vec<NamedBlock>)> {
     let mut blocks = Vec::new(alloc);
-    match plan_rows(alloc, rows, &Sha256Keys, &mut blocks) {
+    match plan_rows(alloc, HamtShape::usual(), rows, &Sha256Keys, &mut blocks) {
         Ok(root) => Some((root, blocks)),
         Err(_) => None,
     }

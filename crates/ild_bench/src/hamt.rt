@@ -2,7 +2,7 @@
 //! that says nothing.
 
 use ild_cbor::check;
-use ild_data::{Octets, Sha256Keys, block_id};
+use ild_data::{HamtShape, Octets, Sha256Keys, block_id};
 use ild_edges::MemStore;
 use ild_hamt::descend;
 use ild_hamt_samples::is_scalar;
@@ -29,7 +29,7 @@ fn key_of(alloc: Global, high: u8, low: u8) -> Option<String> {
 }
 
 fn view_of(root: &Octets) -> Option<NodeView<'_>> {
-    node_of(check(root.as_slice()).ok()?).ok()
+    node_of(check(root.as_slice()).ok()?, HamtShape::usual()).ok()
 }
 
 /// The root after one edit, or a word for why there is none.
@@ -64,7 +64,7 @@ fn edited(
 /// The root after all edits of an empty HAMT.
 fn edited_all(alloc: Global, bytes: &[u8]) -> Option<Octets> {
     let mut store = MemStore::new(alloc, &[], &[]).ok()?;
-    let mut root = write_node(alloc, &[]).ok()?;
+    let mut root = write_node(alloc, HamtShape::usual(), &[]).ok()?;
     for i in 0..bytes.len() / 4 {
         let what = *bytes.get(4 * i)?;
         let key = key_of(alloc, *bytes.get(4 * i + 1)?, *bytes.get(4 * i + 2)?)?;

@@ -47,6 +47,7 @@ fn main(rt: HostRuntime) -> io::Result<ExitCode> {
         "hamt" => hamt::edit_all(alloc, &bytes, times),
         "bulk" => bulk::plan_all(alloc, &bytes, times),
         "bulk-hashes" => bulk::hash_all(alloc, &bytes, times),
+        "gen-memory" => whole::generate_all(alloc, &bytes, times),
         "script" => whole::answer_all_of(alloc, &bytes, times),
         _ => None,
     };

@@ -1,6 +1,7 @@
-//! Whole commands in memory: compiling a schema, and answering a script.
+//! Whole commands in memory: compiling a schema, answering a script, and the generator.
 use ild_compile::compile;
 use ild_edges::{MemSink, MemStore};
+use ild_run_generate::generate;
 use ild_run_open::Start;
 use ild_run_script::run_script;
 use std::alloc::Global;
@@ -42,6 +43,29 @@ pub(crate) fn answer_all_of(alloc: Global, script: &[u8], times: u32) -> Option<
     let mut sum: u64 = 0;
     for _ in 0..times {
         sum = sum.wrapping_add(replies_to(alloc, script)?);
+    }
+    Some(sum)
+}
+
+/// How many steps, and from which seed.
+fn steps_of(bytes: &[u8]) -> Option<(u64, u64)> {
+    let (count, seed) = str::from_utf8(bytes).ok()?.split_once(" ")?;
+    Some((count.parse::<u64>().ok()?, seed.parse::<u64>().ok()?))
+}
+
+/// The generator runs over an empty store. Answers a sum over its summary and the bytes of its root.
+pub(crate) fn generate_all(alloc: Global, bytes: &[u8], times: u32) -> Option<u64> {
+    let (count, seed) = steps_of(bytes)?;
+    let mut sum: u64 = 0;
+    for _ in 0..times {
+        let mut store = MemStore::new(alloc, &[], &[]).ok()?;
+        let summary = generate(alloc, count, seed, &mut store).ok()?;
+        for n in [summary.sets, summary.dels, summary.absent, summary.len] {
+            sum = sum.wrapping_add(n);
+        }
+        for byte in summary.root.0 {
+            sum = sum.wrapping_add(byte as u64);
+        }
     }
     Some(sum)
 }
