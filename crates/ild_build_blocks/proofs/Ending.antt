@@ -5,7 +5,10 @@ use Rattle.ild_data.specs.Spell.{id_of}
 use Rattle.ild_edges.specs.Store.{Moment, block_at}
 use Rattle.ild_edges.specs.Told.{BothTold, IfTold}
 use Rattle.ild_bulk.specs.Children.{Follows}
-use Rattle.ild_bulk.specs.Putting.{AreHeld, GivesAll, IsAmong, PutsAll, StopsAfter}
+use Rattle.ild_edges.specs.Gained.{AreHeld}
+use Rattle.ild_edges.specs.Among.{IsIn}
+use Rattle.ild_edges.proofs.Among.{IsIn-contains, IsIn-of}
+use Rattle.ild_bulk.specs.Putting.{GivesAll, PutsAll, StopsAfter}
 use Rattle.ild_bulk.proofs.Childs.{held_among, puts-whole}
 use Rattle.ild_bulk.proofs.Puts.{told-map}
 use Rattle.ild_node_slots.specs.declared.fault.HamtFault.{HamtFault}
@@ -21,10 +24,10 @@ use Rattle.ild_build_blocks.specs.Planned.{AreAlike, IsPlanned, Plans, StoppedBy
 use Rattle.ild_build_blocks.specs.declared.fault.BuildFault.{BuildFault}
 use Rattle.ild_build_blocks.specs.declared.fault.BuildFault.TheVariants as B
 use Rattle.ild_build_blocks.specs.declared.planned.Planned.{Planned}
-use Rattle.ild_build_blocks.proofs.Alikes.{all_among, among_alike, contained, images_alike, many_alike}
+use Rattle.ild_build_blocks.proofs.Alikes.{all_among, among_alike, images_alike, many_alike}
 use Rattle.ild_build_blocks.proofs.Leaving.{puts_none, told_same}
 
-among_take : (b : List ℕ) (k : ℕ) (bs : List (List ℕ)) → IsAmong b (take k bs) → IsAmong b bs
+among_take : (b : List ℕ) (k : ℕ) (bs : List (List ℕ)) → IsIn b (take k bs) → IsIn b bs
 among_take b zero bs is = absurd is
 among_take b (suc k) [] is = absurd is
 among_take b (suc k) (c ∷ bs) (inl e) = inl e
@@ -47,7 +50,7 @@ module _ (h : List ℕ → List ℕ) (rows : List Row) (slot : Slot) (v : Value)
     gets = puts.gets;
     puts = let e = many_alike bs (nodes h rows slot v) same in let p = puts.puts in omega (arith, e, p);
     adds = told-map m.blocks n.blocks (StopsAfter bs puts.stops.0) _
-        (λ was now s id b held. ⊎_elim (λ before. inl before) (λ among. inr (contained b (nodes h rows slot v) (among_alike bs (nodes h rows slot v) same b (among_take b (puts.stops.0 + 1) bs among)))) (s.adds id b held)) puts.stops.1;
+        (λ was now s id b held. ⊎_elim (λ before. inl before) (λ among. inr (IsIn-contains b (nodes h rows slot v) (among_alike bs (nodes h rows slot v) same b (among_take b (puts.stops.0 + 1) bs (IsIn-of b (take (puts.stops.0 + 1) bs) among))))) (s.adds id b held)) puts.stops.1;
     children = puts-whole m n bs r follows puts;
   }
 
@@ -80,7 +83,7 @@ module _ (h : List ℕ → List ℕ) (rows : List Row) (slot : Slot) (v : Value)
       subst (λ (f : BuildFault). BuildAnswer h rows slot v m (Err f) n) (sym by.0) (
         record {
           held = if_more n.blocks (λ held. block_at held id.0 ≡ Some kept) (λ held. AllByRecursion (λ b. block_at held (id_of b) ≡ Some b) (kept ∷ [])) (λ held t. (ap (block_at held) puts.answer.1 ∙ t, tt)) puts.answer.4;
-          among = contained new (nodes h rows slot v) (among_alike bs (nodes h rows slot v) same new puts.answer.0);
+          among = IsIn-contains new (nodes h rows slot v) (among_alike bs (nodes h rows slot v) same new puts.answer.0);
           named = puts.answer.2;
           collide = record { kept_bytes = by.1; new_bytes = by.2; differ = puts.answer.3; one_id = puts.answer.1 ∙ sym puts.answer.2 };
         },

@@ -4,7 +4,7 @@ use Rattle.std.specs.Prelude.{Contains, is_some, slice_get, slice_index_or}
 use Rattle.std.specs.Option.{option_map_or}
 use Rattle.std.specs.Cmp.Lexicographic.{same_text as text_same}
 use Rattle.std.proofs.lemmas.Bool.{and_parts}
-use Rattle.ild_bulk.specs.Putting.{IsAmong}
+use Rattle.ild_edges.specs.Among.{IsIn}
 use Rattle.ild_data.specs.Data.{Data}
 use Rattle.ild_data.specs.Key.{same_text}
 use Rattle.ild_data.specs.ByteOrder.{in_byte_order}
@@ -38,7 +38,7 @@ or_true : (a b : Bool) → (a || b) ≡ true → (a ≡ true) ⊎ (b ≡ true)
 or_true true b e = inl refl
 or_true false b e = inr e
 
-is_from : (b : List ℕ) (cs : List (List ℕ)) → is_among b cs ≡ true → IsAmong b cs
+is_from : (b : List ℕ) (cs : List (List ℕ)) → is_among b cs ≡ true → IsIn b cs
 is_from b [] e = absurd cc
 is_from b (c ∷ cs) e = ⊎_elim (λ x. inl (text_same b c (sym x))) (λ x. inr (is_from b cs x)) (or_true (same_text b c) (is_among b cs) e)
 

@@ -29,7 +29,8 @@ use Rattle.ild_build_entries.specs.Fine.{told, IsFine}
 use Rattle.ild_build_pass.specs.Writes.{Exact, TooLong, Writes}
 use Rattle.ild_build_entries.specs.declared.nodes.Nodes.{Nodes}
 use Rattle.ild_build_blocks.specs.declared.planned.Planned.{Planned}
-use Rattle.ild_build_blocks.proofs.Alikes.{all_short, contained, some_long}
+use Rattle.ild_build_blocks.proofs.Alikes.{all_short, some_long}
+use Rattle.ild_edges.proofs.Among.{IsIn-contains}
 use Rattle.ild_build_entries.proofs.Flags.{unset}
 use Rattle.ild_build_pass.proofs.Judges.{nodes_weigh}
 use Rattle.ild_build_pass.proofs.Trees.{HasTree, exhausted_is, tree_there}
@@ -84,7 +85,7 @@ module _ (h : List ℕ → List ℕ) (rows : List Row) (made_is : IsMade rows) (
   too_long t k =
       let sum = all_over t.tree in
       let x = some_long (spell t.tree ∷ nodes h rows s v) (omega (arith, k, sum)) in
-      record { tree = t.tree; represented = t.is; block = x.block; among = contained x.block (spell t.tree ∷ nodes h rows s v) x.among; long = x.long }
+      record { tree = t.tree; represented = t.is; block = x.block; among = IsIn-contains x.block (spell t.tree ∷ nodes h rows s v) x.among; long = x.long }
 
   exact_of : (t : HasTree h rows made_is s v fit) → Exact h rows (λ μ. weigh μ rows s v) (spell t.tree) old out w.added now ⊎ TooLong h rows (λ μ. weigh μ rows s v) (spell t.tree) now.long
   exact_of t = w.exact fine (spell t.tree) (ap (option_map spell) t.is)

@@ -2,7 +2,7 @@
 use Rattle.std.proofs.Common.{◌≡◌, inl, inr, ℕ, ◌≤◌, Bool, true, false, ◌||◌, ◌&&◌, cond, List, [], ◌∷◌, ◌++◌, refl, sym, ap, ◌∙◌, subst, arith, append_assoc, append-nil}
 use Rattle.std.specs.List.{AllByRecursion}
 use Rattle.std.specs.Cmp.Lexicographic.{nat_list_eq_equiv}
-use Rattle.ild_bulk.specs.Putting.{IsAmong}
+use Rattle.ild_edges.specs.Among.{IsIn}
 use Rattle.ild_data.specs.declared.hamt_shape.HamtShape.{HamtShape}
 use Rattle.ild_data.specs.Key.{same_text}
 use Rattle.ild_schema.specs.declared.number.Slot.{Slot}
@@ -36,7 +36,7 @@ module _ (h : List ℕ → List ℕ) (rows : List Row) where
   both_and : (a b : Bool) → a ≡ true → b ≡ true → (a && b) ≡ true
   both_and a b x y = ap (λ c. c && b) x ∙ y
 
-  among_is : (b : List ℕ) (cs : List (List ℕ)) → IsAmong b cs → is_among b cs ≡ true
+  among_is : (b : List ℕ) (cs : List (List ℕ)) → IsIn b cs → is_among b cs ≡ true
   among_is b [] is = absurd is
   among_is b (c ∷ cs) (inl e) = or_left (same_text b c) (is_among b cs) (ap (same_text b) (sym e) ∙ nat_list_eq_equiv.refl b)
   among_is b (c ∷ cs) (inr is) = or_right (same_text b c) (is_among b cs) (among_is b cs is)

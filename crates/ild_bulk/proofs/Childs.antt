@@ -16,35 +16,38 @@ use Rattle.ild_edges.specs.Told.{BothTold}
 use Rattle.ild_node_slots.specs.declared.fault.HamtFault.{HamtFault}
 use Rattle.ild_bulk.specs.Children.{IsIdAmong, ChildIn, IsNodeOver, Follows, AddsWhole}
 use Rattle.ild_bulk.specs.Planned.{planned, slot_plan}
-use Rattle.ild_bulk.specs.Putting.{AreHeld, IsAmong, PutsAll, StopsAfter}
+use Rattle.ild_edges.specs.Gained.{AreHeld}
+use Rattle.ild_edges.specs.Among.{IsIn}
+use Rattle.ild_bulk.specs.Putting.{PutsAll, StopsAfter}
 use Rattle.ild_bulk.proofs.Building.{planned_is}
-use Rattle.ild_bulk.proofs.Puts.{among-left, among-right, told-map, told-same}
+use Rattle.ild_bulk.proofs.Puts.{told-map, told-same}
+use Rattle.ild_edges.proofs.Among.{IsIn-left, IsIn-right, IsIn-of}
 
 -- ---- one slot
 
 pub child_of : (most : ℕ) (below : List (List ℕ × Data) → Option Data) (beneath : List (List ℕ × Data) → List (List ℕ)) (es : List (List ℕ × Data)) (s : TrieSlot) (whole : List (List ℕ))
-    → ((b : List ℕ) → IsAmong b (slot_plan most below beneath es) → IsAmong b whole) → SlotWay most below es s → ChildIn (IsIdAmong whole) s
+    → ((b : List ℕ) → IsIn b (slot_plan most below beneath es) → IsIn b whole) → SlotWay most below es s → ChildIn (IsIdAmong whole) s
 child_of most below beneath es s whole sub (nothing a is) = subst (λ (z : TrieSlot). ChildIn (IsIdAmong whole) z) (sym is) tt
 child_of most below beneath es s whole sub (few is) = subst (λ (z : TrieSlot). ChildIn (IsIdAmong whole) z) (sym is) tt
 child_of most below beneath es s whole sub (many n long has is) =
     let plan : slot_plan most below beneath es ≡ beneath es ++ block_of (below es) = ap (λ b. none_or b (λ fs. beneath fs ++ block_of (below fs)) es) (lt-leb (length es) most long) in
     subst (λ (z : TrieSlot). ChildIn (IsIdAmong whole) z) (sym is) (record {
       block = spell n;
-      among = sub (spell n) (subst (λ (bs : List (List ℕ)). IsAmong (spell n) bs) (sym (plan ∙ ap (λ o. beneath es ++ block_of o) has)) (among-right (spell n) (beneath es) (spell n ∷ []) (inl refl)));
+      among = sub (spell n) (subst (λ (bs : List (List ℕ)). IsIn (spell n) bs) (sym (plan ∙ ap (λ o. beneath es ++ block_of o) has)) (IsIn-right (spell n) (beneath es) (spell n ∷ []) (inl refl)));
       named = refl;
     })
 
 -- ---- the slots of a node
 
 children_of : (most : ℕ) (at : List ℕ → ℕ) (below : List (List ℕ × Data) → Option Data) (beneath : List (List ℕ × Data) → List (List ℕ)) (es : List (List ℕ × Data)) (js : List ℕ) (slots : List TrieSlot) (whole : List (List ℕ))
-    → all_some (map (λ i. slot_of most below (part at es i)) js) ≡ Some slots → ((b : List ℕ) → IsAmong b (flat_map (λ i. slot_plan most below beneath (part at es i)) js) → IsAmong b whole)
+    → all_some (map (λ i. slot_of most below (part at es i)) js) ≡ Some slots → ((b : List ℕ) → IsIn b (flat_map (λ i. slot_plan most below beneath (part at es i)) js) → IsIn b whole)
     → AllByRecursion (ChildIn (IsIdAmong whole)) slots
 children_of most at below beneath es [] slots whole is sub = let none : [] ≡ slots = cc in subst (λ (ss : List TrieSlot). AllByRecursion (ChildIn (IsIdAmong whole)) ss) none tt
 children_of most at below beneath es (j ∷ js) slots whole is sub =
     let parts = all_some-cons (slot_of most below (part at es j)) (map (λ i. slot_of most below (part at es i)) js) slots is in
     subst (λ (ss : List TrieSlot). AllByRecursion (ChildIn (IsIdAmong whole)) ss) (sym parts.4) (
-      child_of most below beneath (part at es j) parts.0 whole (λ b among. sub b (among-left b (slot_plan most below beneath (part at es j)) _ among)) (slot_way most below (part at es j) parts.0 parts.2),
-      children_of most at below beneath es js parts.1 whole parts.3 (λ b among. sub b (among-right b (slot_plan most below beneath (part at es j)) _ among)),
+      child_of most below beneath (part at es j) parts.0 whole (λ b among. sub b (IsIn-left b (slot_plan most below beneath (part at es j)) _ among)) (slot_way most below (part at es j) parts.0 parts.2),
+      children_of most at below beneath es js parts.1 whole parts.3 (λ b among. sub b (IsIn-right b (slot_plan most below beneath (part at es j)) _ among)),
     )
 
 -- a node's block, where the blocks beneath it stand before
@@ -57,7 +60,7 @@ node-over h p (suc left) depth es node before is =
       slots = n.0;
       is = ap spell n.2;
       children = children_of p.bucket (at_depth h p depth) (node_of h p left (depth + 1)) (planned h p left (depth + 1)) es (range_with_len 0 (2 ^ p.width)) n.0 (before ++ planned h p (suc left) depth es) n.1
-          (λ b among. among-right b before (planned h p (suc left) depth es) (subst (λ (bs : List (List ℕ)). IsAmong b bs) (sym (planned_is h p left depth es)) among));
+          (λ b among. IsIn-right b before (planned h p (suc left) depth es) (subst (λ (bs : List (List ℕ)). IsIn b bs) (sym (planned_is h p left depth es)) among));
     }
 
 -- ---- the plan
@@ -106,7 +109,7 @@ over-more P Q b f over = record { slots = over.slots; is = over.is; children = a
     all_more [] all = tt
     all_more (s ∷ slots) all = (one s all.0, all_more slots all.1)
 
-pub held_among : (bs now : List (List ℕ)) (b : List ℕ) → AreHeld bs now → IsAmong b bs → block_at now (id_of b) ≡ Some b
+pub held_among : (bs now : List (List ℕ)) (b : List ℕ) → AreHeld bs now → IsIn b bs → block_at now (id_of b) ≡ Some b
 held_among [] now b held is = absurd is
 held_among (c ∷ bs) now b held is = ⊎_elim (λ here. subst (λ (x : List ℕ). block_at now (id_of x) ≡ Some x) (sym here) held.0) (λ more. held_among bs now b held.1 more) is
 
@@ -118,7 +121,7 @@ held_push [] now b held is = (is, tt)
 held_push (c ∷ bs) now b held is = (held.0, held_push bs now b held.1 is)
 
 -- each of the first blocks, of which all but the last are held, has its children held
-first_over : (k : ℕ) (before bs now : List (List ℕ)) (b : List ℕ) → Follows before bs → AreHeld before now → AreHeld (take k bs) now → IsAmong b (take (suc k) bs) → IsNodeOver (λ id. IsSome (block_at now id)) b
+first_over : (k : ℕ) (before bs now : List (List ℕ)) (b : List ℕ) → Follows before bs → AreHeld before now → AreHeld (take k bs) now → IsIn b (take (suc k) bs) → IsNodeOver (λ id. IsSome (block_at now id)) b
 first_over k before [] now b follows done held is = absurd is
 first_over zero before (c ∷ bs) now b follows done held is =
     ⊎_elim (λ here. subst (λ (x : List ℕ). IsNodeOver (λ id. IsSome (block_at now id)) x) (sym here) (over-more _ _ c (λ id among. child_held before now id done among) follows.0)) (λ none. absurd none) is
@@ -132,7 +135,7 @@ next_is k = omega arith
 stopped_whole : (bs : List (List ℕ)) (k : ℕ) (was now : List (List ℕ)) → Follows [] bs → StopsAfter bs k was now → AddsWhole was now
 stopped_whole bs k was now follows stops id b held =
     ⊎_elim (λ before. inl before)
-    (λ among. inr (first_over k [] bs now b follows tt stops.held (subst (λ (n : ℕ). IsAmong b (take n bs)) (next_is k) among)))
+    (λ among. inr (first_over k [] bs now b follows tt stops.held (subst (λ (n : ℕ). IsIn b (take n bs)) (next_is k) (IsIn-of b (take (k + 1) bs) among))))
     (stops.adds id b held)
 
 pub puts-whole : (m n : Moment) (bs : List (List ℕ)) (r : Result (Unit {0}) HamtFault) → Follows [] bs → PutsAll m bs r n → BothTold m.blocks n.blocks AddsWhole

@@ -4,12 +4,12 @@ use Rattle.std.specs.List.{AllByRecursion}
 use Rattle.ild_data.specs.Spell.{spell, id_of}
 use Rattle.ild_data.specs.Trie.{TrieSlot, empty, bucket, child, node_data}
 use Rattle.ild_edges.specs.Store.{block_at}
-use Rattle.ild_bulk.specs.Putting.{IsAmong}
+use Rattle.ild_edges.specs.Among.{IsIn}
 
 -- a child's block is one of these
 pub record IsIdAmong (blocks : List (List ℕ)) (id : List ℕ) : Type 0 where
   pub block : List ℕ
-  pub among : IsAmong block blocks
+  pub among : IsIn block blocks
   pub named : id_of block ≡ id
 
 abbrev pub ChildIn : (List ℕ → Type 0) → TrieSlot → Type 0

@@ -1,29 +1,17 @@
 -- What puts of many blocks leave.
 use Rattle.std.specs.Prelude.{◌≡◌, ◌≢◌, ◌⊎◌, ◌↔◌, Contains, ℕ, ◌+◌, ◌≤◌, List, [], ◌∷◌, length, map, take, Result, Ok, Err, Some}
 use Rattle.ild_data.specs.Spell.{id_of}
+use Rattle.ild_edges.specs.Among.{IsIn}
 use Rattle.ild_edges.specs.Count.{Rose}
+use Rattle.ild_edges.specs.Gained.{AreHeld, CameFrom}
 use Rattle.ild_edges.specs.Store.{Moment, Later, Gives, block_at}
 use Rattle.ild_edges.specs.Told.{IfTold, BothTold}
 use Rattle.ild_node_slots.specs.declared.fault.HamtFault.{HamtFault}
 use Rattle.ild_node_slots.specs.declared.fault.HamtFault.TheVariants.{Store, Clash, Memory}
 
--- each block is held under its id
-abbrev pub AreHeld : List (List ℕ) → List (List ℕ) → Type 0
-AreHeld [] held = Unit {0}
-AreHeld (b ∷ bs) held = (block_at held (id_of b) ≡ Some b) × AreHeld bs held
-
--- a block is one of these
-abbrev pub IsAmong : List ℕ → List (List ℕ) → Type 0
-IsAmong b [] = ⊥
-IsAmong b (c ∷ cs) = (b ≡ c) ⊎ IsAmong b cs
-
--- each block that is held now was held, or is one of these
-abbrev pub AddsOnly : List (List ℕ) → List (List ℕ) → List (List ℕ) → Type 0
-AddsOnly blocks was now = (id b : List ℕ) → block_at now id ≡ Some b → (block_at was id ≡ Some b) ⊎ IsAmong b blocks
-
 -- these ids are given, beside those that were
 abbrev pub GivesAll : List (List ℕ) → List (List ℕ) → List (List ℕ) → Type 0
-GivesAll ids was now = (j : List ℕ) → Contains now j ↔ (Contains was j ⊎ IsAmong j ids)
+GivesAll ids was now = (j : List ℕ) → Contains now j ↔ (Contains was j ⊎ IsIn j ids)
 
 abbrev pub PutAnswer : Moment → List ℕ → Result (Unit {0}) HamtFault → Moment → Type 0
 PutAnswer m b (Ok u) n = BothTold m.blocks n.blocks (λ was now. block_at now (id_of b) ≡ Some b) × BothTold m.given n.given (Gives (id_of b))
@@ -38,19 +26,19 @@ pub record PutsOne (m : Moment) (b : List ℕ) (result : Result (Unit {0}) HamtF
   pub later : Later m n
   pub gets : n.gets ≡ m.gets
   pub puts : n.puts ≤ m.puts + 1
-  pub adds : BothTold m.blocks n.blocks (AddsOnly (b ∷ []))
+  pub adds : BothTold m.blocks n.blocks (CameFrom (b ∷ []))
 
 abbrev pub PutsAnswer : Moment → List (List ℕ) → Result (Unit {0}) HamtFault → Moment → Type 0
 PutsAnswer m bs (Ok u) n = BothTold m.blocks n.blocks (λ was now. AreHeld bs now) × BothTold m.given n.given (GivesAll (map id_of bs))
 PutsAnswer m bs (Err Store) n = Rose m.faults n.faults
-PutsAnswer m bs (Err (Clash id kept new)) n = IsAmong new bs × (id_of kept ≡ id.0) × (id_of new ≡ id.0) × (kept ≢ new) × IfTold n.blocks (λ held. block_at held id.0 ≡ Some kept)
+PutsAnswer m bs (Err (Clash id kept new)) n = IsIn new bs × (id_of kept ≡ id.0) × (id_of new ≡ id.0) × (kept ≢ new) × IfTold n.blocks (λ held. block_at held id.0 ≡ Some kept)
 PutsAnswer m bs (Err Memory) n = Unit {0}
 PutsAnswer m bs (Err e) n = ⊥
 
 -- the blocks of a front are held, and no block was added but one of it and the one behind it
 pub record StopsAfter (bs : List (List ℕ)) (k : ℕ) (was now : List (List ℕ)) : Type 0 where
   pub held : AreHeld (take k bs) now
-  pub adds : AddsOnly (take (k + 1) bs) was now
+  pub adds : CameFrom (take (k + 1) bs) was now
 
 -- blocks were put one after another, or why not all
 pub record PutsAll (m : Moment) (bs : List (List ℕ)) (result : Result (Unit {0}) HamtFault) (n : Moment) : Type 0 where

@@ -1,6 +1,9 @@
 -- Puts of blocks that stand behind their children leave each block that came with its children held.
 use Rattle.std.proofs.Common.{◌≡◌, inl, inr, ⊎_elim, ℕ, zero, suc, ◌+◌, List, [], ◌∷◌, ◌++◌, take, Some, sym, ◌∙◌, subst, arith}
-use Rattle.ild_bulk.specs.Putting.{AreHeld, IsAmong, StopsAfter}
+use Rattle.ild_edges.specs.Gained.{AreHeld}
+use Rattle.ild_edges.specs.Among.{IsIn}
+use Rattle.ild_edges.proofs.Among.{IsIn-of}
+use Rattle.ild_bulk.specs.Putting.{StopsAfter}
 use Rattle.ild_bulk.proofs.Childs.{held_among}
 use Rattle.ild_bulk.proofs.Puts.{told-map}
 use Rattle.ild_data.specs.Spell.{id_of}
@@ -20,11 +23,11 @@ module _ (ps : Places) (now : List (List ℕ)) where
     at = x.at;
     among = x.among;
     is = x.is ∙ sym same;
-    children = all_more (λ d. IsAmong d before) (λ d. block_at now (id_of d) ≡ Some d) (λ d is. held_among before now d held is) (tops x.at.1) x.children;
+    children = all_more (λ d. IsIn d before) (λ d. block_at now (id_of d) ≡ Some d) (λ d is. held_among before now d held is) (tops x.at.1) x.children;
   }
 
   -- each of the first blocks, of which all but the last are held
-  first_placed : (k : ℕ) (before bs : List (List ℕ)) (b : List ℕ) → FollowsIn ps before bs → AreHeld before now → AreHeld (take k bs) now → IsAmong b (take (suc k) bs) → HasPlaceHeld ps now b
+  first_placed : (k : ℕ) (before bs : List (List ℕ)) (b : List ℕ) → FollowsIn ps before bs → AreHeld before now → AreHeld (take k bs) now → IsIn b (take (suc k) bs) → HasPlaceHeld ps now b
   first_placed k before [] b follows done held is = absurd is
   first_placed zero before (c ∷ bs) b follows done held is = ⊎_elim (λ here. there before b c done here follows.0) (λ none. absurd none) is
   first_placed (suc k) before (c ∷ bs) b follows done held is =
@@ -37,5 +40,5 @@ pub puts_leave : PutsLeavePlaces
 puts_leave ps m n bs r follows puts =
     told-map m.blocks n.blocks (StopsAfter bs puts.stops.0) (AddsPlaced ps)
     (λ was now stops id b held. ⊎_elim (λ before. inl before)
-    (λ among. inr (first_placed ps now puts.stops.0 [] bs b follows tt stops.held (subst (λ (n : ℕ). IsAmong b (take n bs)) (next_is puts.stops.0) among)))
+    (λ among. inr (first_placed ps now puts.stops.0 [] bs b follows tt stops.held (subst (λ (n : ℕ). IsIn b (take n bs)) (next_is puts.stops.0) (IsIn-of b (take (puts.stops.0 + 1) bs) among))))
     (stops.adds id b held)) puts.stops.1

@@ -3,8 +3,9 @@ use Rattle.std.proofs.Common.{◌≡◌, ◌≢◌, inl, inr, ⊎_elim, ℕ, suc
 use Rattle.std.proofs.lemmas.Bool.{eq-eqb}
 use Rattle.std.proofs.lemmas.Option.{same_Some}
 use Rattle.ild_data.specs.Spell.{id_of}
+use Rattle.ild_edges.specs.Among.{IsIn}
 use Rattle.ild_dirty.specs.Own.{index_at}
-use Rattle.ild_dirty.specs.Walk.{IsIn, IsOwn, AreInside, own_block, is_in, Follows}
+use Rattle.ild_dirty.specs.Walk.{IsOwn, AreInside, own_block, is_in, Follows}
 use Rattle.ild_dirty.proofs.Ordering.{is_in-more}
 
 -- these items but one

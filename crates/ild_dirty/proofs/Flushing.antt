@@ -9,17 +9,19 @@ use Rattle.std.proofs.lemmas.List.{map-append, length-map}
 use Rattle.std.specs.Cmp.Lexicographic.{nat_list_eq_equiv}
 use Rattle.ild_data.specs.Key.{same_text}
 use Rattle.ild_data.specs.Spell.{id_of}
-use Rattle.ild_edges.specs.Gained.{AreHeld}
+use Rattle.ild_edges.specs.Gained.{AreHeld, CameFrom}
 use Rattle.ild_edges.specs.Store.{Moment, Later, Keeps, block_at}
 use Rattle.ild_edges.proofs.Held.{block_at_id}
+use Rattle.ild_edges.specs.Among.{IsIn}
+use Rattle.ild_edges.proofs.Among.{IsIn-left, IsIn-right, IsIn-contains, IsIn-of}
 use Rattle.ild_dirty.specs.Own.{index_at}
 use Rattle.ild_dirty.specs.Beneath.{Place, Places, place, no_places, beside, block_of, kind_of, IsTree, AreTrees, HasPlace, HasPlaceBelow, IsTreeAt, AgreesWith, blocks_in, blocks_below, places_in, places_below}
-use Rattle.ild_dirty.specs.Walk.{IsIn, own_block, Leads, LeadOn, is_in, is_done, are_done, is_ready, HasReady, Follows, AreStuck, IsPlan}
-use Rattle.ild_dirty.specs.Flush.{AddsOnly, PutsAnswer, PutsAll, StopsAfter, AreCarried, IsWhole, AddsWhole, FlushAnswer, Flushes}
+use Rattle.ild_dirty.specs.Walk.{own_block, Leads, LeadOn, is_in, is_done, are_done, is_ready, HasReady, Follows, AreStuck, IsPlan}
+use Rattle.ild_dirty.specs.Flush.{PutsAnswer, PutsAll, StopsAfter, AreCarried, IsWhole, AddsWhole, FlushAnswer, Flushes}
 use Rattle.ild_dirty.specs.declared.fault.FlushFault.{FlushFault}
 use Rattle.ild_dirty.specs.declared.fault.FlushFault.TheVariants as F
 use Rattle.ild_dirty.proofs.Indexed.{block_at-none}
-use Rattle.ild_dirty.proofs.Walking.{IsIn-left, IsIn-right, index_found, top_is, agrees_left, agrees_right}
+use Rattle.ild_dirty.proofs.Walking.{index_found, top_is, agrees_left, agrees_right}
 use Rattle.ild_dirty.proofs.Counting.{fits_in}
 use Rattle.ild_dirty.proofs.Puts.{told-map, told-both, held-push, held-keeps}
 
@@ -246,9 +248,9 @@ flushed own children id kind order m result n plan puts t tree agrees =
           let most : length order ≤ length blocks = fits_in own children plan.spots [] order blocks plan.reached.inside plan.follows (λ j k is free. among (own_block own j) (place_block t (own_block own j) k (places (j, k) is))) in
           omega (arith, most, puts.puts, length-map order (own_block own));
       answer = answered own (map (own_block own) order) t m result n puts.later inside (λ was now put keeps carried. tree_held own was now children plan.spots order plan.reached.closed plan.stuck put keeps t tree.tree agrees carried root) puts.answer;
-      adds = told-map m.blocks n.blocks (StopsAfter (map (own_block own) order) puts.stops.0) (AddsOnly (blocks_in t))
-          (λ was now stops id b held. ⊎_elim (λ before. inl before) (λ among. inr (inside b (in_take b (suc puts.stops.0) (map (own_block own) order) among))) (stops.adds id b held)) puts.stops.1;
+      adds = told-map m.blocks n.blocks (StopsAfter (map (own_block own) order) puts.stops.0) (CameFrom (blocks_in t))
+          (λ was now stops id b held. ⊎_elim (λ before. inl before) (λ among. inr (IsIn-contains b (blocks_in t) (inside b (in_take b (suc puts.stops.0) (map (own_block own) order) (IsIn-of b (take (suc puts.stops.0) (map (own_block own) order)) among))))) (stops.adds id b held)) puts.stops.1;
       whole = told-both m.blocks n.blocks (StopsAfter (map (own_block own) order) puts.stops.0) Keeps (λ was now. AreCarried was own (places_in t) → AddsWhole children t was now)
           (λ was now stops keeps carried id b held. ⊎_elim (λ before. inl before)
-          (λ among. inr (whole_of own was now children plan.spots t tree.tree carried keeps places b (stood_at own children plan.spots now [] order puts.stops.0 plan.follows tt stops.held b among))) (stops.adds id b held)) puts.stops.1 puts.later.keeps;
+          (λ among. inr (whole_of own was now children plan.spots t tree.tree carried keeps places b (stood_at own children plan.spots now [] order puts.stops.0 plan.follows tt stops.held b (IsIn-of b (take (suc puts.stops.0) (map (own_block own) order)) among)))) (stops.adds id b held)) puts.stops.1 puts.later.keeps;
     }

@@ -4,8 +4,9 @@ use Rattle.std.proofs.lemmas.List.{get_or-set_same, get_or-set_other, length-app
 use Rattle.std.proofs.lemmas.Bool.{eq-eqb, eqb-true}
 use Rattle.std.proofs.Math.ListN.{set}
 use Rattle.std.specs.Prelude.{replicate}
-use Rattle.ild_dirty.specs.Walk.{IsIn, AreInside, is_in, is_done, are_done, is_ready, HasReady, Follows, AreStuck, unmarked, AreMarks, IsSoFar, Passes}
-use Rattle.ild_dirty.proofs.Walking.{IsIn-at}
+use Rattle.ild_edges.specs.Among.{IsIn}
+use Rattle.ild_edges.proofs.Among.{IsIn-at}
+use Rattle.ild_dirty.specs.Walk.{AreInside, is_in, is_done, are_done, is_ready, HasReady, Follows, AreStuck, unmarked, AreMarks, IsSoFar, Passes}
 
 -- ---- children that are done
 

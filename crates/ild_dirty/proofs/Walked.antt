@@ -1,10 +1,12 @@
 -- How far a walk has come.
 use Rattle.std.proofs.Common.{◌≡◌, ⊎_elim, ℕ, ◌+◌, ◌≤◌, ◌<◌, List, [], ◌∷◌, ◌++◌, length, take, get_or, Some, sym, ap, subst, ◌∙◌, arith}
 use Rattle.std.proofs.lemmas.List.{take_more, take_all, take-append-le}
+use Rattle.ild_edges.specs.Among.{IsIn}
+use Rattle.ild_edges.proofs.Among.{IsIn-left, IsIn-append, IsIn-one, IsIn-at}
 use Rattle.ild_dirty.specs.Own.{index_at}
 use Rattle.ild_dirty.specs.Beneath.{Place, HasPlace, IsTreeAt, AgreesWith, blocks_in, block_of, kind_of}
-use Rattle.ild_dirty.specs.Walk.{IsIn, own_block, IsOneOf, Leads, Grows, LeadOn, ArePlaces, AreInside, AreReached}
-use Rattle.ild_dirty.proofs.Walking.{IsIn-left, IsIn-append, IsIn-one, IsIn-at, index_found, own_found, child_place, top_is, has_top}
+use Rattle.ild_dirty.specs.Walk.{own_block, IsOneOf, Leads, Grows, LeadOn, ArePlaces, AreInside, AreReached}
+use Rattle.ild_dirty.proofs.Walking.{index_found, own_found, child_place, top_is, has_top}
 
 -- the children of so many places lead on
 pub record Walked (own : List (List ℕ)) (children : ℕ → List ℕ → List (List ℕ × ℕ)) (id : List ℕ) (kind : ℕ) (passed : ℕ) (spots : List (ℕ × ℕ)) : Type 0 where

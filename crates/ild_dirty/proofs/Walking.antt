@@ -8,34 +8,13 @@ use Rattle.ild_data.specs.Key.{same_text}
 use Rattle.ild_data.specs.Spell.{id_of}
 use Rattle.ild_edges.specs.Store.{block_at}
 use Rattle.ild_edges.proofs.Held.{block_at_id}
+use Rattle.ild_edges.specs.Among.{IsIn}
+use Rattle.ild_edges.proofs.Among.{IsIn-left, IsIn-right, IsIn-append, IsIn-one, IsIn-at}
 use Rattle.ild_dirty.specs.Own.{index_at}
 use Rattle.ild_dirty.specs.Beneath.{Place, Places, place, no_places, beside, block_of, kind_of, IsTree, AreTrees, HasPlace, HasPlaceBelow, AgreesWith, blocks_in, blocks_below}
-use Rattle.ild_dirty.specs.Walk.{IsIn, IsOwn, own_block, IsOneOf, Grows, AreNoted}
+use Rattle.ild_dirty.specs.Walk.{IsOwn, own_block, IsOneOf, Grows, AreNoted}
 
 -- ---- members
-
-pub IsIn-left : {A : Type 0} (x : A) (xs ys : List A) → IsIn x xs → IsIn x (xs ++ ys)
-IsIn-left x [] ys is = absurd is
-IsIn-left x (y ∷ xs) ys (inl e) = inl e
-IsIn-left x (y ∷ xs) ys (inr more) = inr (IsIn-left x xs ys more)
-
-pub IsIn-right : {A : Type 0} (x : A) (xs ys : List A) → IsIn x ys → IsIn x (xs ++ ys)
-IsIn-right x [] ys is = is
-IsIn-right x (y ∷ xs) ys is = inr (IsIn-right x xs ys is)
-
-pub IsIn-append : {A : Type 0} (x : A) (xs ys : List A) → IsIn x (xs ++ ys) → IsIn x xs ⊎ IsIn x ys
-IsIn-append x [] ys is = inr is
-IsIn-append x (y ∷ xs) ys (inl e) = inl (inl e)
-IsIn-append x (y ∷ xs) ys (inr more) = ⊎_elim (λ here. inl (inr here)) (λ there. inr there) (IsIn-append x xs ys more)
-
-pub IsIn-one : {A : Type 0} (x y : A) → IsIn x (y ∷ []) → x ≡ y
-IsIn-one x y (inl e) = e
-IsIn-one x y (inr none) = absurd none
-
-pub IsIn-at : {A : Type 0} (xs : List A) (i : ℕ) (x d : A) → i < length xs → x ≡ get_or xs i d → IsIn x xs
-IsIn-at [] i x d lt is = absurd (omega (arith, lt))
-IsIn-at (y ∷ ys) zero x d lt is = inl is
-IsIn-at (y ∷ ys) (suc i) x d lt is = inr (IsIn-at ys i x d (omega (arith, lt)) is)
 
 -- ---- one place more
 

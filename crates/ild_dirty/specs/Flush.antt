@@ -4,17 +4,13 @@ use Rattle.std.specs.List.{AllByRecursion}
 use Rattle.ild_data.specs.Spell.{id_of}
 use Rattle.ild_edges.specs.Collide.{Collide}
 use Rattle.ild_edges.specs.Count.{Rose}
-use Rattle.ild_edges.specs.Gained.{AreHeld}
+use Rattle.ild_edges.specs.Gained.{AreHeld, CameFrom}
 use Rattle.ild_edges.specs.Store.{Moment, Later, block_at}
 use Rattle.ild_edges.specs.Told.{IfTold, BothTold}
+use Rattle.ild_edges.specs.Among.{IsIn}
 use Rattle.ild_dirty.specs.Beneath.{Place, HasPlace, blocks_in, places_in}
-use Rattle.ild_dirty.specs.Walk.{IsIn}
 use Rattle.ild_dirty.specs.declared.fault.FlushFault.{FlushFault}
 use Rattle.ild_dirty.specs.declared.fault.FlushFault.TheVariants as F
-
--- each block that is held now was held, or is one of these
-abbrev pub AddsOnly : List (List ℕ) → List (List ℕ) → List (List ℕ) → Type 0
-AddsOnly blocks was now = (id b : List ℕ) → block_at now id ≡ Some b → (block_at was id ≡ Some b) ⊎ IsIn b blocks
 
 abbrev pub PutAnswer : Moment → List ℕ → Result (Unit {0}) FlushFault → Moment → Type 0
 PutAnswer m b (Ok u) n = BothTold m.blocks n.blocks (λ was now. block_at now (id_of b) ≡ Some b)
@@ -28,7 +24,7 @@ pub record PutsOne (m : Moment) (b : List ℕ) (result : Result (Unit {0}) Flush
   pub later : Later m n
   pub gets : n.gets ≡ m.gets
   pub puts : n.puts ≤ m.puts + 1
-  pub adds : BothTold m.blocks n.blocks (AddsOnly (b ∷ []))
+  pub adds : BothTold m.blocks n.blocks (CameFrom (b ∷ []))
 
 abbrev pub PutsAnswer : Moment → List (List ℕ) → Result (Unit {0}) FlushFault → Moment → Type 0
 PutsAnswer m bs (Ok u) n = BothTold m.blocks n.blocks (λ was now. AreHeld bs now)
@@ -39,7 +35,7 @@ PutsAnswer m bs (Err F.Memory) n = Unit {0}
 -- the blocks of a front are held, and no block was added but one of it and the one behind it
 pub record StopsAfter (bs : List (List ℕ)) (k : ℕ) (was now : List (List ℕ)) : Type 0 where
   pub held : AreHeld (take k bs) now
-  pub adds : AddsOnly (take (suc k) bs) was now
+  pub adds : CameFrom (take (suc k) bs) was now
 
 -- blocks were put one after another, or why not all
 pub record PutsAll (m : Moment) (bs : List (List ℕ)) (result : Result (Unit {0}) FlushFault) (n : Moment) : Type 0 where
@@ -76,7 +72,7 @@ AreAmong blocks others = (b : List ℕ) → IsIn b blocks → IsIn b others
 -- the blocks of a tree that are the batch's own were put, each once and behind its children, or why not all
 pub record Flushes (own : List (List ℕ)) (children : ℕ → List ℕ → List (List ℕ × ℕ)) (t : Place) (m : Moment) (result : Result (Unit {0}) FlushFault) (n : Moment) : Type 0 where
   pub answer : FlushAnswer own t m result n
-  pub adds : BothTold m.blocks n.blocks (AddsOnly (blocks_in t))
+  pub adds : BothTold m.blocks n.blocks (CameFrom (blocks_in t))
   pub whole : BothTold m.blocks n.blocks (λ was now. AreCarried was own (places_in t) → AddsWhole children t was now)
   -- each block once at most, however often it stands in the tree
   pub puts : (blocks : List (List ℕ)) → AreAmong (blocks_in t) blocks → n.puts ≤ m.puts + length blocks

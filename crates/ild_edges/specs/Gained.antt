@@ -1,6 +1,7 @@
 -- What a store holds at a moment, and what came to it between two.
-use Rattle.std.specs.Prelude.{◌≡◌, ◌⊎◌, ℕ, List, [], ◌∷◌, Some, IsSome, Contains}
+use Rattle.std.specs.Prelude.{◌≡◌, ◌⊎◌, ℕ, List, [], ◌∷◌, Option, Some, IsSome, Contains}
 use Rattle.std.specs.List.{AllByRecursion}
+use Rattle.ild_data.specs.Bytes.{AreBytes}
 use Rattle.ild_data.specs.Spell.{id_of}
 use Rattle.ild_edges.specs.Collide.{Collide}
 use Rattle.ild_edges.specs.Store.{Moment, Later, block_at}
@@ -52,3 +53,23 @@ pub record OnlyReads (m n : Moment) : Type 0 where
   pub blocks : n.blocks ≡ m.blocks
   pub given : n.given ≡ m.given
   pub puts : n.puts ≡ m.puts
+
+-- Something that was found out by gets, over every store: it holds wherever these blocks are held, each under its own id; and where the
+-- store tells what it holds, they are among that.
+pub record FromBlocks (told : Option (List (List ℕ))) (P : List (List ℕ) → Type 0) : Type 0 where
+  pub blocks : List (List ℕ)
+  pub bytes : AllByRecursion AreBytes blocks
+  pub there : IfTold told (λ held. AreHeld blocks held)
+  pub so : (held : List (List ℕ)) → AreHeld blocks held → P held
+
+-- two of these blocks collide
+pub record HaveClash (blocks : List (List ℕ)) : Type 0 where
+  pub kept : List ℕ
+  pub new : List ℕ
+  pub one : Contains blocks kept
+  pub other : Contains blocks new
+  pub collide : Collide kept new
+
+-- blocks hold themselves, or two of them collide: so what follows from blocks holds of these, whatever the store does beside
+abbrev pub BlocksHoldThemselves : Type 0
+BlocksHoldThemselves = (blocks : List (List ℕ)) → AllByRecursion AreBytes blocks → AreHeld blocks blocks ⊎ HaveClash blocks

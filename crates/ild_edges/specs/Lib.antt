@@ -2,6 +2,7 @@ pub mod Count
 pub mod Told
 pub mod Store
 pub mod Collide
+pub mod Among
 pub mod Gained
 pub mod Inputs
 pub mod Sink

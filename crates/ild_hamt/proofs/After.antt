@@ -1,5 +1,5 @@
 -- What a store holds after the rewriting of a way.
-use Rattle.std.proofs.Common.{◌≡◌, inl, inr, ⊎_elim, ℕ, ◌+◌, false, List, [], ◌∷◌, Option, Some, None, sym, ap, ◌∙◌, subst}
+use Rattle.std.proofs.Common.{◌≡◌, inl, inr, ⊎_elim, ℕ, ◌+◌, false, List, [], ◌∷◌, take, Option, Some, None, sym, ap, ◌∙◌, subst}
 use Rattle.std.specs.Prelude.{Result, Ok, Err, IsUtf8}
 use Rattle.std.specs.List.{AllByRecursion}
 use Rattle.std.specs.Prelude.{not}
@@ -24,7 +24,9 @@ use Rattle.ild_node_slots.specs.declared.fault.HamtFault.{HamtFault}
 use Rattle.ild_node_slots.specs.declared.fault.HamtFault.TheVariants as F
 use Rattle.ild_bulk.specs.Build.{any_long}
 use Rattle.ild_bulk.specs.Children.{AddsWhole}
-use Rattle.ild_bulk.specs.Putting.{AddsOnly, AreHeld, PutsAll, StopsAfter}
+use Rattle.ild_edges.specs.Gained.{CameFrom, AreHeld}
+use Rattle.ild_edges.proofs.Among.{IsIn-contains, IsIn-of}
+use Rattle.ild_bulk.specs.Putting.{PutsAll, StopsAfter}
 use Rattle.ild_data.specs.TrieBlocks.{nodes_beneath}
 use Rattle.ild_hamt.proofs.Beneath.{way-beneath, among-turned, among-take}
 use Rattle.ild_bulk.proofs.Puts.{told-map, told-same}
@@ -70,25 +72,26 @@ whole-after p h k slots es fs root m n r is d has puts =
 
 -- what was added is on the way
 nodes-after : (p : HamtShape) (h : List ℕ → List ℕ) (k : List ℕ) (fs : List (List ℕ × Data)) (m n : Moment) (r : Result (Unit {0}) HamtFault) → PutsAll m (way_up h p k fs) r n
-    → BothTold m.blocks n.blocks (AddsOnly (nodes_beneath h p (trie_levels p) 0 fs))
+    → BothTold m.blocks n.blocks (CameFrom (nodes_beneath h p (trie_levels p) 0 fs))
 nodes-after p h k fs m n r puts =
-    told-map m.blocks n.blocks (StopsAfter (way_up h p k fs) puts.stops.0) (AddsOnly (nodes_beneath h p (trie_levels p) 0 fs))
+    told-map m.blocks n.blocks (StopsAfter (way_up h p k fs) puts.stops.0) (CameFrom (nodes_beneath h p (trie_levels p) 0 fs))
     (λ was now stops id b held. ⊎_elim (λ before. inl before)
-    (λ among. inr (way-beneath h p k (trie_levels p) 0 fs b (among-turned b (way h p k (trie_levels p) 0 fs) (among-take b (puts.stops.0 + 1) (way_up h p k fs) among))))
+    (λ among. inr (IsIn-contains b (nodes_beneath h p (trie_levels p) 0 fs) (way-beneath h p k (trie_levels p) 0 fs b (among-turned b (way h p k (trie_levels p) 0 fs) (among-take b (puts.stops.0 + 1) (way_up h p k fs)
+    (IsIn-of b (take (puts.stops.0 + 1) (way_up h p k fs)) among))))))
     (stops.adds id b held)) puts.stops.1
 
 -- a put that stopped
 stops-after : (p : HamtShape) (h : List ℕ → List ℕ) (k : List ℕ) (slots : List TrieSlot) (es fs : List (List ℕ × Data)) (root : List ℕ) (m n : Moment) (e : HamtFault) → IsRootOf h p es slots → DiffersAt k es fs
     → HasRoot h p fs root → PutsAll m (way_up h p k fs) (Err e) n → BothTold m.blocks n.blocks (HoldsAfter h p es fs (Err e))
 stops-after p h k slots es fs root m n e is d has puts =
-    told-both m.blocks n.blocks (AddsOnly (nodes_beneath h p (trie_levels p) 0 fs)) (λ was now. HoldsBelow h p was (trie_levels p) 0 es → AddsWhole was now) (HoldsAfter h p es fs (Err e))
+    told-both m.blocks n.blocks (CameFrom (nodes_beneath h p (trie_levels p) 0 fs)) (λ was now. HoldsBelow h p was (trie_levels p) 0 es → AddsWhole was now) (HoldsAfter h p es fs (Err e))
     (λ was now a f. record { nodes = a; held = λ below. tt; whole = f }) (nodes-after p h k fs m n (Err e) puts) (whole-after p h k slots es fs root m n (Err e) is d has puts)
 
 -- all was put
 done-after : (p : HamtShape) (h : List ℕ → List ℕ) (k : List ℕ) (view : NodeView) (slots : List TrieSlot) (es fs : List (List ℕ × Data)) (root : List ℕ) (m n : Moment) → HasSlots p view slots → IsRootOf h p es slots → DiffersAt k es fs → KeepsSound es fs
     → HasRoot h p fs root → any_long (root ∷ way_up h p k fs) ≡ false → PutsAll m (way_up h p k fs) (Ok tt) n → BothTold m.blocks n.blocks (HoldsAfter h p es fs (Ok root))
 done-after p h k view slots es fs root m n has_slots is d sound has short puts =
-    told-both m.blocks n.blocks (λ was now. Keeps was now × AreHeld (way_up h p k fs) now) (λ was now. AddsOnly (nodes_beneath h p (trie_levels p) 0 fs) was now × (HoldsBelow h p was (trie_levels p) 0 es → AddsWhole was now)) (HoldsAfter h p es fs (Ok root))
+    told-both m.blocks n.blocks (λ was now. Keeps was now × AreHeld (way_up h p k fs) now) (λ was now. CameFrom (nodes_beneath h p (trie_levels p) 0 fs) was now × (HoldsBelow h p was (trie_levels p) 0 es → AddsWhole was now)) (HoldsAfter h p es fs (Ok root))
     (λ was now kept f. record {
       nodes = f.0;
       held = λ below.
@@ -98,8 +101,8 @@ done-after p h k view slots es fs root m n has_slots is d sound has short puts =
       whole = f.1;
     })
     (told-both m.blocks n.blocks Keeps (λ was now. AreHeld (way_up h p k fs) now) (λ was now. Keeps was now × AreHeld (way_up h p k fs) now) (λ was now a b. (a, b)) puts.later.keeps puts.answer.0)
-    (told-both m.blocks n.blocks (AddsOnly (nodes_beneath h p (trie_levels p) 0 fs)) (λ was now. HoldsBelow h p was (trie_levels p) 0 es → AddsWhole was now)
-    (λ was now. AddsOnly (nodes_beneath h p (trie_levels p) 0 fs) was now × (HoldsBelow h p was (trie_levels p) 0 es → AddsWhole was now)) (λ was now a b. (a, b))
+    (told-both m.blocks n.blocks (CameFrom (nodes_beneath h p (trie_levels p) 0 fs)) (λ was now. HoldsBelow h p was (trie_levels p) 0 es → AddsWhole was now)
+    (λ was now. CameFrom (nodes_beneath h p (trie_levels p) 0 fs) was now × (HoldsBelow h p was (trie_levels p) 0 es → AddsWhole was now)) (λ was now a b. (a, b))
     (nodes-after p h k fs m n (Ok tt) puts) (whole-after p h k slots es fs root m n (Ok tt) is d has puts))
 
 pub holds-after : (p : HamtShape) (h : List ℕ → List ℕ) (k : List ℕ) (view : NodeView) (slots : List TrieSlot) (es fs : List (List ℕ × Data)) (m n : Moment) (r : Result (List ℕ) HamtFault) → HasSlots p view slots → IsRootOf h p es slots

@@ -1,5 +1,5 @@
 -- What an edit along a trail leaves.
-use Rattle.std.proofs.Common.{◌≡◌, inl, inr, ⊎_elim, ℕ, suc, ◌+◌, ◌-◌, ◌≤◌, ◌<◌, Bool, true, false, List, [], ◌∷◌, length, refl, sym, ap, subst, arith}
+use Rattle.std.proofs.Common.{◌≡◌, inl, inr, ⊎_elim, ℕ, suc, ◌+◌, ◌-◌, ◌≤◌, ◌<◌, Bool, true, false, List, [], ◌∷◌, length, take, refl, sym, ap, subst, arith}
 use Rattle.std.specs.Prelude.{All, IsSome, Result, Ok, Err}
 use Rattle.std.specs.FinMap.{find, put}
 use Rattle.std.specs.List.{AllByRecursion}
@@ -19,7 +19,9 @@ use Rattle.ild_node_slots.specs.declared.fault.HamtFault.TheVariants as F
 use Rattle.ild_bulk.specs.Build.{is_long, any_long}
 use Rattle.ild_bulk.specs.Children.{AddsWhole}
 use Rattle.ild_bulk.specs.Planned.{PlansSlot}
-use Rattle.ild_bulk.specs.Putting.{AddsOnly, PutsAll, StopsAfter}
+use Rattle.ild_edges.specs.Gained.{CameFrom}
+use Rattle.ild_edges.proofs.Among.{IsIn-contains, IsIn-of}
+use Rattle.ild_bulk.specs.Putting.{PutsAll, StopsAfter}
 use Rattle.ild_bulk.proofs.Puts.{told-map, told-same}
 use Rattle.ild_hamt_climb.specs.NodeBytes.{IsNodeBytes}
 use Rattle.ild_hamt_climb.specs.Planning.{HoldsLinksOf, IsWritten, PutsWay, Rising, SpellsNode, ClimbsOver}
@@ -67,7 +69,7 @@ pub record Leaves (p : HamtShape) (bs plan : List (List ℕ)) (m n : Moment) : T
   pub later : Later m n
   pub gets : n.gets ≡ m.gets
   pub puts : n.puts ≤ m.puts + length plan
-  pub adds : BothTold m.blocks n.blocks (AddsOnly plan)
+  pub adds : BothTold m.blocks n.blocks (CameFrom plan)
   pub whole : BothTold m.blocks n.blocks (λ was now. All (HoldsLinksOf p was) bs → AddsWhole was now)
 
 leaves-all : (p : HamtShape) (bs plan : List (List ℕ)) (m : Moment) → Leaves p bs plan m m
@@ -75,7 +77,7 @@ leaves-all p bs plan m = record {
   later = Later-refl m;
   gets = refl;
   puts = omega arith;
-  adds = told-same m.blocks m.blocks (AddsOnly plan) refl (λ was id b held. inl held);
+  adds = told-same m.blocks m.blocks (CameFrom plan) refl (λ was id b held. inl held);
   whole = told-same m.blocks m.blocks (λ was now. All (HoldsLinksOf p was) bs → AddsWhole was now) refl (λ was all id b held. inl held);
 }
 
@@ -87,8 +89,8 @@ leaves-puts p bs plan m r n rises puts = record {
   later = puts.later;
   gets = puts.gets;
   puts = puts.puts;
-  adds = told-map m.blocks n.blocks (StopsAfter plan puts.stops.0) (AddsOnly plan)
-      (λ was now stops id b held. ⊎_elim (λ before. inl before) (λ among. inr (among-take b (puts.stops.0 + 1) plan among)) (stops.adds id b held)) puts.stops.1;
+  adds = told-map m.blocks n.blocks (StopsAfter plan puts.stops.0) (CameFrom plan)
+      (λ was now stops id b held. ⊎_elim (λ before. inl before) (λ among. inr (IsIn-contains b plan (among-take b (puts.stops.0 + 1) plan (IsIn-of b (take (puts.stops.0 + 1) plan) among)))) (stops.adds id b held)) puts.stops.1;
   whole = told-both m.blocks n.blocks Keeps (StopsAfter plan puts.stops.0) (λ was now. All (HoldsLinksOf p was) bs → AddsWhole was now)
       (λ was now keeps stops all. stopped-whole plan puts.stops.0 was now keeps (rises was all) stops) puts.later.keeps puts.stops.1;
 }

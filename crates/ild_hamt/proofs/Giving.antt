@@ -12,23 +12,24 @@ use Rattle.ild_edges.specs.Store.{Moment}
 use Rattle.ild_edges.specs.Told.{IfTold, BothTold}
 use Rattle.ild_hamt_trie.specs.Way.{way}
 use Rattle.ild_node_slots.specs.declared.fault.HamtFault.{HamtFault}
-use Rattle.ild_bulk.specs.Putting.{GivesAll, IsAmong}
-use Rattle.ild_bulk.proofs.Puts.{among-left, among-right}
+use Rattle.ild_edges.specs.Among.{IsIn}
+use Rattle.ild_bulk.specs.Putting.{GivesAll}
+use Rattle.ild_edges.proofs.Among.{IsIn-left, IsIn-right}
 use Rattle.ild_hamt_climb.specs.Rewriting.{Rewrites}
 use Rattle.ild_hamt.specs.Given.{GivesWay}
 use Rattle.ild_hamt.specs.Removing.{Removes}
 
-among-mapped : (b : List ℕ) (xs : List (List ℕ)) → IsAmong b xs → IsAmong (id_of b) (map id_of xs)
+among-mapped : (b : List ℕ) (xs : List (List ℕ)) → IsIn b xs → IsIn (id_of b) (map id_of xs)
 among-mapped b [] is = absurd is
 among-mapped b (x ∷ xs) is = ⊎_elim (λ here. inl (ap id_of here)) (λ more. inr (among-mapped b xs more)) is
 
-among-back : (b : List ℕ) (xs : List (List ℕ)) → IsAmong b xs → IsAmong b (reverse xs)
+among-back : (b : List ℕ) (xs : List (List ℕ)) → IsIn b xs → IsIn b (reverse xs)
 among-back b [] is = is
 among-back b (x ∷ xs) is =
-    subst (λ (bs : List (List ℕ)). IsAmong b bs) (sym (reverse-append (x ∷ []) xs))
-    (⊎_elim (λ here. among-right b (reverse xs) (x ∷ []) (inl here)) (λ more. among-left b (reverse xs) (x ∷ []) (among-back b xs more)) is)
+    subst (λ (bs : List (List ℕ)). IsIn b bs) (sym (reverse-append (x ∷ []) xs))
+    (⊎_elim (λ here. IsIn-right b (reverse xs) (x ∷ []) (inl here)) (λ more. IsIn-left b (reverse xs) (x ∷ []) (among-back b xs more)) is)
 
-all-given : (bs given : List (List ℕ)) → ((b : List ℕ) → IsAmong b bs → Contains given (id_of b)) → AreIdsGiven bs given
+all-given : (bs given : List (List ℕ)) → ((b : List ℕ) → IsIn b bs → Contains given (id_of b)) → AreIdsGiven bs given
 all-given [] given each = tt
 all-given (b ∷ bs) given each = (each b (inl refl), all-given bs given (λ c is. each c (inr is)))
 

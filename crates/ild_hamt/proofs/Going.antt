@@ -29,7 +29,7 @@ use Rattle.ild_node_slots.specs.declared.fault.HamtFault.{HamtFault}
 use Rattle.ild_node_slots.specs.declared.fault.HamtFault.TheVariants.{Exhausted, Block, Store, Clash, Size, NoKey, Memory}
 use Rattle.ild_hamt.specs.declared.trail.Trail.{Trail}
 use Rattle.ild_hamt.specs.Fetching.{Fetches, BlockCause, IsBlockAt}
-use Rattle.ild_bulk.specs.Putting.{AreHeld}
+use Rattle.ild_edges.specs.Gained.{AreHeld}
 use Rattle.ild_bulk_walker.specs.Gives.{IsNodeOf}
 use Rattle.ild_bulk_walker.specs.Trees.{HoldsBelow}
 use Rattle.ild_hamt_climb.specs.Way.{slot_for, child_id, Leads, IsRootOf}

@@ -16,7 +16,7 @@ use Rattle.ild_hamt_trie.proofs.Node.{slot-child, slots-node, no_node}
 use Rattle.ild_hamt_trie.proofs.Way.{way-child}
 use Rattle.ild_node_slots.proofs.Shapes.{whole_map}
 use Rattle.ild_hamt.specs.Ends.{EndsAt}
-use Rattle.ild_bulk.specs.Putting.{AreHeld}
+use Rattle.ild_edges.specs.Gained.{AreHeld}
 use Rattle.ild_bulk_walker.specs.Gives.{IsNodeOf}
 use Rattle.ild_bulk_walker.specs.Trees.{IsHeldNode, HoldsBelow}
 use Rattle.ild_hamt_climb.specs.Way.{slot_for, Leads}

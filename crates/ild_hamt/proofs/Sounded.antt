@@ -16,7 +16,7 @@ use Rattle.ild_typed.specs.Node.{IsSlot}
 use Rattle.ild_typed.proofs.Treed.{EntryIn}
 use Rattle.ild_node.specs.Rows.{AreShallow}
 use Rattle.ild_bulk.specs.Build.{any_long, is_long}
-use Rattle.ild_bulk.specs.Putting.{AreHeld}
+use Rattle.ild_edges.specs.Gained.{AreHeld}
 use Rattle.ild_bulk_walker.specs.Trees.{HoldsBelow, IsHeldNode}
 use Rattle.ild_hamt.proofs.Holding.{linked}
 use Rattle.ild_hamt.proofs.Leading.{held-node}

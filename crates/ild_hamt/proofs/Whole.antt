@@ -16,7 +16,10 @@ use Rattle.ild_hamt_trie.proofs.Slots.{slot_at}
 use Rattle.ild_hamt_trie.proofs.Way.{way_is}
 use Rattle.ild_typed.proofs.TrieTells.{SlotWay, nothing, few, many, slot_way}
 use Rattle.ild_bulk.specs.Children.{IsIdAmong, ChildIn, IsNodeOver, AddsWhole}
-use Rattle.ild_bulk.specs.Putting.{AreHeld, IsAmong, StopsAfter}
+use Rattle.ild_edges.specs.Gained.{AreHeld}
+use Rattle.ild_edges.specs.Among.{IsIn}
+use Rattle.ild_edges.proofs.Among.{IsIn-of}
+use Rattle.ild_bulk.specs.Putting.{StopsAfter}
 use Rattle.ild_bulk_walker.specs.Trees.{HoldsBelow}
 use Rattle.ild_hamt_climb.specs.Planning.{Rising}
 use Rattle.ild_hamt_climb.specs.Rewriting.{DiffersAt}
@@ -126,7 +129,7 @@ near-among : (was ws : List (List ℕ)) (id : List ℕ) → IsNear was ws id →
 near-among was [] id near = ⊎_elim (λ held. inl held) (λ none. absurd none) near
 near-among was (w ∷ ws) id near =
     ⊎_elim (λ held. inl held)
-    (λ first. inr (record { block = w; among = subst (λ (bs : List (List ℕ)). IsAmong w bs) (sym (reverse-append (w ∷ []) ws)) (among-last w (reverse ws)); named = first })) near
+    (λ first. inr (record { block = w; among = subst (λ (bs : List (List ℕ)). IsIn w bs) (sym (reverse-append (w ∷ []) ws)) (among-last w (reverse ws)); named = first })) near
 
 pub rising-way : (was ws : List (List ℕ)) → WayOver was ws → Rising was [] (reverse ws)
 rising-way was [] over = tt
@@ -137,7 +140,7 @@ rising-way was (w ∷ ws) over =
 
 -- ---- in a store
 
-held-among : (bs now : List (List ℕ)) (b : List ℕ) → AreHeld bs now → IsAmong b bs → block_at now (id_of b) ≡ Some b
+held-among : (bs now : List (List ℕ)) (b : List ℕ) → AreHeld bs now → IsIn b bs → block_at now (id_of b) ≡ Some b
 held-among [] now b held is = absurd is
 held-among (c ∷ bs) now b held is = ⊎_elim (λ here. subst (λ (x : List ℕ). block_at now (id_of x) ≡ Some x) (sym here) held.0) (λ more. held-among bs now b held.1 more) is
 
@@ -154,7 +157,7 @@ held-push : (bs now : List (List ℕ)) (b : List ℕ) → AreHeld bs now → blo
 held-push [] now b held is = (is, tt)
 held-push (c ∷ bs) now b held is = (held.0, held-push bs now b held.1 is)
 
-first-over : (k : ℕ) (was before bs now : List (List ℕ)) (b : List ℕ) → Keeps was now → Rising was before bs → AreHeld before now → AreHeld (take k bs) now → IsAmong b (take (suc k) bs)
+first-over : (k : ℕ) (was before bs now : List (List ℕ)) (b : List ℕ) → Keeps was now → Rising was before bs → AreHeld before now → AreHeld (take k bs) now → IsIn b (take (suc k) bs)
     → IsNodeOver (λ id. IsSome (block_at now id)) b
 first-over k was before [] now b keeps rises done held is = absurd is
 first-over zero was before (c ∷ bs) now b keeps rises done held is =
@@ -169,5 +172,5 @@ next_is k = omega arith
 pub stopped-whole : (bs : List (List ℕ)) (k : ℕ) (was now : List (List ℕ)) → Keeps was now → Rising was [] bs → StopsAfter bs k was now → AddsWhole was now
 stopped-whole bs k was now keeps rises stops id b held =
     ⊎_elim (λ before. inl before)
-    (λ among. inr (first-over k was [] bs now b keeps rises tt stops.held (subst (λ (n : ℕ). IsAmong b (take n bs)) (next_is k) among)))
+    (λ among. inr (first-over k was [] bs now b keeps rises tt stops.held (subst (λ (n : ℕ). IsIn b (take n bs)) (next_is k) (IsIn-of b (take (k + 1) bs) among))))
     (stops.adds id b held)

@@ -18,7 +18,7 @@ use Rattle.ild_node_slots.specs.declared.fault.HamtFault.TheVariants.{Block, Sto
 use Rattle.ild_hamt.specs.declared.trail.Trail.{Trail}
 use Rattle.ild_hamt.specs.Fetching.{BlockCause}
 use Rattle.ild_hamt.specs.Ends.{hashes_of, is_full}
-use Rattle.ild_bulk.specs.Putting.{AreHeld}
+use Rattle.ild_edges.specs.Gained.{AreHeld}
 use Rattle.ild_bulk_walker.specs.Trees.{HoldsBelow}
 use Rattle.ild_hamt_climb.specs.Rewriting.{NodeAt}
 use Rattle.ild_hamt_climb.specs.Way.{Leads, slot_for, IsRootOf}

@@ -9,7 +9,7 @@ use Rattle.ild_node_slots.specs.Views.{HasSlots}
 use Rattle.ild_node_slots.specs.declared.view.NodeView.{NodeView}
 use Rattle.ild_node_slots.specs.declared.fault.HamtFault.{HamtFault}
 use Rattle.ild_bulk.specs.Children.{AddsWhole}
-use Rattle.ild_bulk.specs.Putting.{AddsOnly}
+use Rattle.ild_edges.specs.Gained.{CameFrom}
 use Rattle.ild_bulk_walker.specs.Trees.{HoldsBelow}
 use Rattle.ild_hamt.specs.Descending.{IsTrailOf}
 use Rattle.ild_hamt.specs.declared.trail.Trail.{Trail}
@@ -22,6 +22,6 @@ pub record IsTrailFrom (p : HamtShape) (root : NodeView) (t : Trail) (h : List �
 -- each block that was added is one of the trie of the new entries; where the trie of the old ones was held, that of the new ones
 -- is, and each block that was added has all its children held
 pub record HoldsAfter (h : List ℕ → List ℕ) (p : HamtShape) (es fs : List (List ℕ × Data)) (result : Result (List ℕ) HamtFault) (was now : List (List ℕ)) : Type 0 where
-  pub nodes : AddsOnly (nodes_beneath h p (trie_levels p) 0 fs) was now
+  pub nodes : CameFrom (nodes_beneath h p (trie_levels p) 0 fs) was now
   pub held : HoldsBelow h p was (trie_levels p) 0 es → IfOk result (λ root. HoldsBelow h p now (trie_levels p) 0 fs)
   pub whole : HoldsBelow h p was (trie_levels p) 0 es → AddsWhole was now

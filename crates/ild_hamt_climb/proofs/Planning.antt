@@ -13,7 +13,7 @@ use Rattle.ild_node.specs.Written.{IsNodeBlock}
 use Rattle.ild_node.specs.declared.hold.NewHold.{NewHold}
 use Rattle.ild_node.proofs.Standing.{all-set}
 use Rattle.ild_bulk.specs.Children.{ChildIn, IsIdAmong, IsNodeOver}
-use Rattle.ild_bulk.specs.Putting.{IsAmong}
+use Rattle.ild_edges.specs.Among.{IsIn}
 use Rattle.ild_hamt_climb.specs.Planning.{HoldsLinksOf, SpellsNode, IsWritten, Rising, IsPlanned, LiftsOver, ClimbsOver}
 use Rattle.ild_bulk_walker.specs.Gives.{IsNodeOf}
 
@@ -34,7 +34,7 @@ children-more P Q (s ∷ slots) f all = (child-more P Q s f all.0, children-more
 pub over-more : (P Q : List ℕ → Type 0) (b : List ℕ) → ((id : List ℕ) → P id → Q id) → IsNodeOver P b → IsNodeOver Q b
 over-more P Q b f over = record { slots = over.slots; is = over.is; children = children-more P Q over.slots f over.children }
 
-pub among-last : (b : List ℕ) (bs : List (List ℕ)) → IsAmong b (bs ++ b ∷ [])
+pub among-last : (b : List ℕ) (bs : List (List ℕ)) → IsIn b (bs ++ b ∷ [])
 among-last b [] = inl refl
 among-last b (c ∷ bs) = inr (among-last b bs)
 

@@ -49,7 +49,7 @@ use Rattle.ild_typed.specs.Represented.{layered, represented}
 use Rattle.ild_typed.specs.Slots.{element_of}
 use Rattle.ild_open_held_roots.specs.Enters.{DataOf}
 use Rattle.ild_open_held_roots.specs.Laws.{RootsAreEntered}
-use Rattle.ild_open_held_roots.proofs.Tries.{known_holds, node_form, sorted_texts}
+use Rattle.ild_open_rows.proofs.Given.{known_holds, node_form, sorted_texts}
 
 -- ---- maps that stand as HAMTs
 

@@ -12,7 +12,8 @@ use Rattle.ild_edges.specs.Store.{Keeps, Moment, block_at}
 use Rattle.ild_edges.specs.Told.{BothTold, IfTold}
 use Rattle.ild_edges.proofs.Later.{Later-refl}
 use Rattle.ild_bulk.specs.Build.{any_long}
-use Rattle.ild_bulk.specs.Putting.{IsAmong}
+use Rattle.ild_edges.specs.Among.{IsIn}
+use Rattle.ild_edges.proofs.Among.{IsIn-contains}
 use Rattle.ild_bulk.proofs.Puts.{told-map}
 use Rattle.ild_hamt.specs.Edits.{CausedBy}
 use Rattle.ild_node_slots.specs.declared.fault.HamtFault.{HamtFault}
@@ -72,11 +73,6 @@ ok_of P (Err (H.Block id why)) r x is = subst (λ y. IfOk y P) (sym is) tt
 
 -- ---- where the value is held
 
-among_contains : (b : List ℕ) (xs : List (List ℕ)) → IsAmong b xs → Contains xs b
-among_contains b [] is = absurd is
-among_contains b (x ∷ xs) (inl same) = (0, omega arith, sym same)
-among_contains b (x ∷ xs) (inr more) = let y = among_contains b xs more in let less = y.1 in (suc y.0, omega (arith, less), y.2)
-
 if_map : {A : Type 0} (o : Option A) (P Q : A → Type 0) → ((a : A) → P a → Q a) → IfTold o P → IfTold o Q
 if_map None P Q f t = tt
 if_map (Some a) P Q f t = f a t
@@ -98,8 +94,8 @@ module _ (h : List ℕ → List ℕ) (rows : List Row) (n : TypeNo) (c : Value) 
   blocks_same : spell u ∷ Nodes ≡ Blocks
   blocks_same = ap (λ bs. spell u ∷ bs) (sym (append-nil Nodes))
 
-  in_blocks : (b : List ℕ) → IsAmong b (spell u ∷ Nodes) → Contains Blocks b
-  in_blocks b is = subst (λ xs. Contains xs b) blocks_same (among_contains b (spell u ∷ Nodes) is)
+  in_blocks : (b : List ℕ) → IsIn b (spell u ∷ Nodes) → Contains Blocks b
+  in_blocks b is = subst (λ xs. Contains xs b) blocks_same (IsIn-contains b (spell u ∷ Nodes) is)
 
   abbrev IsHeldNow : List (List ℕ) → Type 0
   IsHeldNow now = IsHeld (block_at now) h rows deepest (plainly n) u c × IsHeldBlock (block_at now) (spell u)

@@ -4,9 +4,11 @@ use Rattle.std.specs.Prelude.{Contains, IsSome, is_some, reverse}
 use Rattle.std.specs.List.{AllByRecursion, filter}
 use Rattle.std.specs.Cmp.Lexicographic.{nat_list_eq_equiv}
 use Rattle.std.proofs.lemmas.List.{reverse-append}
-use Rattle.ild_bulk.specs.Putting.{AreHeld, IsAmong, StopsAfter}
+use Rattle.ild_edges.specs.Gained.{AreHeld}
+use Rattle.ild_edges.specs.Among.{IsIn}
+use Rattle.ild_bulk.specs.Putting.{StopsAfter}
 use Rattle.ild_bulk.proofs.Childs.{held_among}
-use Rattle.ild_bulk.proofs.Puts.{among-right}
+use Rattle.ild_edges.proofs.Among.{IsIn-right, IsIn-of, IsIn-contains}
 use Rattle.ild_data.specs.Key.{same_text}
 use Rattle.ild_data.specs.Spell.{id_of}
 use Rattle.ild_edges.specs.Store.{Keeps, block_at}
@@ -24,7 +26,7 @@ use Rattle.ild_path_children.proofs.Wayward.{Held}
 
 -- a block is held, or one of those before
 abbrev IsThere : List (List ℕ) → List (List ℕ) → List ℕ → Type 0
-IsThere was before c = Held was c ⊎ IsAmong c before
+IsThere was before c = Held was c ⊎ IsIn c before
 
 abbrev Rises : Places → List (List ℕ) → List (List ℕ) → List (List ℕ) → Type 0
 Rises home was before [] = Unit {0}
@@ -39,7 +41,7 @@ near_there : (was ws : List (List ℕ)) (c : List ℕ) → IsNear was ws c → I
 near_there was [] c near = ⊎_elim (λ held. inl held) (λ none. absurd none) near
 near_there was (w ∷ ws) c near =
     ⊎_elim (λ held. inl held)
-    (λ next. inr (subst (λ (bs : List (List ℕ)). IsAmong c bs) (sym (reverse-append (w ∷ []) ws)) (among-right c (reverse ws) (w ∷ []) (inl (sym next))))) near
+    (λ next. inr (subst (λ (bs : List (List ℕ)). IsIn c bs) (sym (reverse-append (w ∷ []) ws)) (IsIn-right c (reverse ws) (w ∷ []) (inl (sym next))))) near
 
 way_rises : (home : Places) (was ws : List (List ℕ)) → WayIn home was ws → Rises home was [] (reverse ws)
 way_rises home was [] way = tt
@@ -59,7 +61,7 @@ module _ (home : Places) (was now : List (List ℕ)) (keeps : Keeps was now) whe
       subst (HasPlace home (Held now)) (sym same) (place_more home (IsThere was before) (Held now) c (λ d. ⊎_elim (λ held. keeps (id_of d) d held) (λ among. held_among before now d done among)) x)
 
   -- each of the first blocks, of which all but the last are held
-  first_placed : (k : ℕ) (before bs : List (List ℕ)) (b : List ℕ) → Rises home was before bs → AreHeld before now → AreHeld (take k bs) now → IsAmong b (take (suc k) bs) → HasPlace home (Held now) b
+  first_placed : (k : ℕ) (before bs : List (List ℕ)) (b : List ℕ) → Rises home was before bs → AreHeld before now → AreHeld (take k bs) now → IsIn b (take (suc k) bs) → HasPlace home (Held now) b
   first_placed k before [] b rises done held is = absurd is
   first_placed zero before (c ∷ bs) b rises done held is = ⊎_elim (λ here. there before b c done here rises.0) (λ none. absurd none) is
   first_placed (suc k) before (c ∷ bs) b rises done held is =
@@ -97,9 +99,9 @@ next_is k = omega arith
 stopped : (home : Places) (was now ws : List (List ℕ)) (k : ℕ) → Keeps was now → WayIn home was ws → StopsAfter (reverse ws) k was now → AddsPlaced home (reverse ws) was now
 stopped home was now ws k keeps way stops id b held =
     ⊎_elim (λ before. inl before)
-    (λ among. inr (
+    (λ came. let among = IsIn-of b (take (k + 1) (reverse ws)) came in inr (
       among-take b (k + 1) (reverse ws) among,
-      whole_of home now b (first_placed home was now keeps k [] (reverse ws) b (way_rises home was ws way) tt stops.held (subst (λ (n : ℕ). IsAmong b (take n (reverse ws))) (next_is k) among)),
+      whole_of home now b (first_placed home was now keeps k [] (reverse ws) b (way_rises home was ws way) tt stops.held (subst (λ (n : ℕ). IsIn b (take n (reverse ws))) (next_is k) among)),
     )) (stops.adds id b held)
 
 told_first : (o q : Option (List (List ℕ))) (was : List (List ℕ)) (P Q R : List (List ℕ) → List (List ℕ) → Type 0) → o ≡ Some was → ((now : List (List ℕ)) → P was now → Q was now → R was now)

@@ -33,7 +33,8 @@ use Rattle.ild_typed_places.specs.Places.{nowhere, at_key, map_places, places_be
 use Rattle.ild_typed_places.proofs.Keyed.{InEach, at_keys}
 use Rattle.ild_typed_places.proofs.Listing.{all_from}
 use Rattle.ild_typed_places.proofs.Values.{alike}
-use Rattle.ild_node_slots.proofs.Shapes.{levels_all, levels_suc}
+use Rattle.ild_hamt_trie.proofs.Levels.{levels-first}
+use Rattle.ild_node_slots.proofs.Shapes.{levels_suc}
 use Rattle.ild_bulk_walker.specs.Trees.{HoldsBelow}
 use Rattle.ild_hamt_climb.specs.Rewriting.{DiffersAt}
 use Rattle.ild_hamt_climb.proofs.Differing.{differs-put, differs-without}
@@ -76,7 +77,7 @@ module _ (h : List ℕ → List ℕ) (rows : List Row) (was : List (List ℕ)) (
   placed k es fs pairs qs old x e order made before d below all =
       let y = map_from (root_map is.3) (trie h is.3 pairs 0) x (sym (map_data h rows s elem is qs pairs e) ∙ made) in
       let first = levels_suc is.3 in
-      let tree : node_of h is.3 (suc Left) 0 fs ≡ Some y.item = ap (node_of h is.3 (suc Left) 0) order ∙ subst (λ n. node_of h is.3 n 0 (in_byte_order pairs) ≡ Some y.item) (levels_all is.3) (trie_node h is.3 pairs y.item y.there) in
+      let tree : node_of h is.3 (suc Left) 0 fs ≡ Some y.item = ap (node_of h is.3 (suc Left) 0) order ∙ subst (λ n. node_of h is.3 n 0 (in_byte_order pairs) ≡ Some y.item) (levels-first is.3) (trie_node h is.3 pairs y.item y.there) in
       let new = slots-node h is.3 Left 0 fs y.item tree in
       let was_slots = slots-node h is.3 Left 0 es old (subst (λ n. node_of h is.3 n 0 es ≡ Some old) first before) in
       let each = in_each qs all in

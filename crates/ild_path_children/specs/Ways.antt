@@ -17,7 +17,8 @@ use Rattle.ild_hamt_trie.specs.Way.{way}
 use Rattle.ild_typed.specs.Hamt.{whole}
 use Rattle.ild_typed.specs.Represented.{represented}
 use Rattle.ild_typed_places.specs.Places.{Place, Places, each_place, tops, places_in, children_at}
-use Rattle.ild_bulk.specs.Putting.{IsAmong, PutsAll}
+use Rattle.ild_edges.specs.Among.{IsIn}
+use Rattle.ild_bulk.specs.Putting.{PutsAll}
 use Rattle.ild_open_held.specs.Held.{IsHeld}
 use Rattle.ild_path_nodes.specs.NodeLaws.{IsHamt}
 use Rattle.ild_path_held.specs.Hamts.{IsTrieIn}
@@ -60,7 +61,7 @@ WaysAreCut =
 
 -- each block that is held now was held, or is one of these, and has its children held at one of its places
 abbrev pub AddsPlaced : Places → List (List ℕ) → List (List ℕ) → List (List ℕ) → Type 0
-AddsPlaced home bs was now = (id b : List ℕ) → block_at now id ≡ Some b → (block_at was id ≡ Some b) ⊎ (IsAmong b bs × IsWhole now (children_at home b))
+AddsPlaced home bs was now = (id b : List ℕ) → block_at now id ≡ Some b → (block_at was id ≡ Some b) ⊎ (IsIn b bs × IsWhole now (children_at home b))
 
 -- what puts of such a way leave, from the bottom up
 abbrev pub PutsLeaveWays : Type 0

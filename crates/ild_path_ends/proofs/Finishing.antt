@@ -2,14 +2,16 @@
 use Rattle.std.proofs.Common.{◌≡◌, inl, inr, ⊎_elim, ℕ, suc, ◌≤◌, List, [], ◌∷◌, length, Option, Some, None, ap, sym, ◌∙◌, subst, arith}
 use Rattle.std.specs.Prelude.{Contains, Result, Ok, Err}
 use Rattle.std.specs.List.{AllByRecursion}
-use Rattle.ild_edges.specs.Gained.{AreIdsGiven}
+use Rattle.ild_edges.specs.Gained.{AreIdsGiven, CameFrom}
 use Rattle.ild_data.specs.Data.{Data}
 use Rattle.ild_data.specs.Limits.{deepest, longest_block}
 use Rattle.ild_data.specs.Spell.{id_of, spell}
 use Rattle.ild_edges.specs.Store.{Moment, Later, Keeps, Gives, StaysGiven, block_at}
 use Rattle.ild_edges.specs.Told.{BothTold, IfTold}
 use Rattle.ild_edges.proofs.Later.{Later-trans}
-use Rattle.ild_bulk.specs.Putting.{AddsOnly, IsAmong, PutAnswer, PutsOne}
+use Rattle.ild_edges.specs.Among.{IsIn}
+use Rattle.ild_edges.proofs.Among.{IsIn-contains, IsIn-of, IsIn-one}
+use Rattle.ild_bulk.specs.Putting.{PutAnswer, PutsOne}
 use Rattle.ild_schema.specs.declared.number.Slot.{Slot}
 use Rattle.ild_schema.specs.declared.row.Row.{Row}
 use Rattle.ild_schema.specs.Value.{Value}
@@ -32,11 +34,6 @@ pub all_stay : (was now : List (List ℕ)) → Keeps was now → (bs : List (Lis
 all_stay was now keeps [] all = tt
 all_stay was now keeps (b ∷ bs) all = (block_stays was now b keeps all.0, all_stay was now keeps bs all.1)
 
-contained : (b : List ℕ) (xs : List (List ℕ)) → IsAmong b xs → Contains xs b
-contained b [] is = absurd is
-contained b (x ∷ xs) (inl e) = (0, omega arith, sym e)
-contained b (x ∷ xs) (inr is) = let m = contained b xs is in (suc m.0, omega (arith, m.1), m.2)
-
 -- the id of the root's block is given beside those of the nodes
 given_next : (o q : Option (List (List ℕ))) (b root : List ℕ) (bs : List (List ℕ)) → b ≡ root → BothTold o q StaysGiven → BothTold o q (Gives (id_of b)) → IfTold o (AreIdsGiven bs) → IfTold q (AreIdsGiven (root ∷ bs))
 given_next None None b root bs is stays gives all = tt
@@ -46,7 +43,7 @@ given_next (Some was) (Some now) b root bs is stays gives all = ((gives (id_of r
 
 -- a node that came is a block of the whole that came
 pub node_came : (h : List ℕ → List ℕ) (rows : List Row) (s : Slot) (c : Value) (u : Data) (now : List (List ℕ)) (b : List ℕ) → NodeCame h rows s c now b → Came h rows s c u now b
-node_came h rows s c u now b x = record { among = contained b (spell u ∷ nodes h rows s c) (inr x.among); short = x.short; whole = inr x.whole }
+node_came h rows s c u now b x = record { among = IsIn-contains b (spell u ∷ nodes h rows s c) (inr x.among); short = x.short; whole = inr x.whole }
 
 module _ (h : List ℕ → List ℕ) (rows : List Row) (s : Slot) (c : Value) (u : Data) (path : List (List ℕ)) (m : Moment) (was : List (List ℕ)) (told : m.blocks ≡ Some was) where
   nodes_added : (a b : List (List ℕ)) → AddsNodes h rows s c a b → AddsBlocks h rows s c u a b
@@ -103,11 +100,11 @@ module _ (h : List ℕ → List ℕ) (rows : List Row) (s : Slot) (c : Value) (u
       added r y =
           let last = told_next n.blocks k.blocks Next.0 Next.1 y.later.keeps in
           let first = both_at m.blocks n.blocks was Next.0 (AddsNodes h rows s c) told Next.1 x.adds in
-          let second = both_at n.blocks k.blocks Next.0 last.0 (AddsOnly (b ∷ [])) Next.1 last.1 y.adds in
+          let second = both_at n.blocks k.blocks Next.0 last.0 (CameFrom (b ∷ [])) Next.1 last.1 y.adds in
           both_here m.blocks k.blocks was last.0 (AddsBlocks h rows s c u) told last.1 (record {
             came = λ id z is.
                 ⊎_elim (λ before. ⊎_elim (λ old. inl old) (λ new. inr (node_came h rows s c u last.0 z (came_stays h rows (s, c) Next.0 last.0 z last.2 new))) (first.came id z before))
-                (λ own. inr (root_came last.0 last.2 z (⊎_elim (λ same. same) (λ none. absurd none) own))) (second id z is);
+                (λ own. inr (root_came last.0 last.2 z (IsIn-one z b (IsIn-of z (b ∷ []) own)))) (second id z is);
           })
 
       put_answer : (e : HamtFault) → PutsOne n b (Err e) k → WholeAnswer h rows s c u m (Err e) k

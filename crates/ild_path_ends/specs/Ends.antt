@@ -18,7 +18,7 @@ use Rattle.ild_typed.specs.Blocks.{nodes}
 use Rattle.ild_view.specs.View.{slot_of, table_of}
 use Rattle.ild_view.specs.declared.view.View.{View}
 use Rattle.ild_bulk.specs.Build.{any_long}
-use Rattle.ild_bulk.specs.Putting.{IsAmong}
+use Rattle.ild_edges.specs.Among.{IsIn}
 use Rattle.ild_hamt.specs.declared.trail.Trail.{Trail}
 use Rattle.ild_open_held.specs.Held.{IsHeld, IsHeldBlock}
 use Rattle.ild_typed_fronts.specs.Front.{in_one_block}
@@ -57,7 +57,7 @@ WholeAnswer h rows s c u m (Ok b) n = (b ≡ spell u) × IfTold n.blocks (λ now
 WholeAnswer h rows s c u m (Err F.Size) n = (any_long (nodes h rows s c) ≡ true) ⊎ HasLongPart h rows (s, c)
 WholeAnswer h rows s c u m (Err F.Store) n = Rose m.faults n.faults
 WholeAnswer h rows s c u m (Err (F.Clash id kept new)) n =
-    IsAmong new (spell u ∷ nodes h rows s c) × (id_of kept ≡ id.0) × (id_of new ≡ id.0) × (kept ≢ new) × IfTold n.blocks (λ held. block_at held id.0 ≡ Some kept) × (length new ≤ longest_block)
+    IsIn new (spell u ∷ nodes h rows s c) × (id_of kept ≡ id.0) × (id_of new ≡ id.0) × (kept ≢ new) × IfTold n.blocks (λ held. block_at held id.0 ≡ Some kept) × (length new ≤ longest_block)
 WholeAnswer h rows s c u m (Err F.Memory) n = Unit {0}
 WholeAnswer h rows s c u m (Err e) n = ⊥
 

@@ -1,6 +1,6 @@
 -- A key of a HAMT in a store, and the value there.
-use Rattle.std.proofs.Common.{◌≡◌, ℕ, ◌+◌, ◌-◌, Bool, true, false, List, [], ◌∷◌, Option, Some, None, refl, sym, ap, ◌∙◌, subst, arith}
-use Rattle.std.specs.Prelude.{Result, Ok, Err, option_and_then, option_map, not, ◌&&◌}
+use Rattle.std.proofs.Common.{◌≡◌, ℕ, ◌+◌, ◌-◌, Bool, true, List, [], ◌∷◌, Option, Some, None, refl, sym, ap, ◌∙◌, subst, arith}
+use Rattle.std.specs.Prelude.{Result, Ok, Err, option_and_then, option_map}
 use Rattle.std.specs.FinMap.{find}
 use Rattle.std.specs.Option.{option_map_or}
 use Rattle.std.proofs.lemmas.Option.{same_Some}
@@ -17,9 +17,6 @@ use Rattle.ild_schema.specs.declared.def.TypeDef.{TypeDef}
 use Rattle.ild_schema.specs.declared.number.Slot.{Slot}
 use Rattle.ild_schema.specs.declared.number.TypeNo.{TypeNo}
 use Rattle.ild_schema.specs.declared.row.Row.{Row}
-use Rattle.ild_schema.specs.Clear.{IsSafe}
-use Rattle.ild_schema.specs.DataKinds.{slot_has}
-use Rattle.ild_schema.specs.declared.def.KindWord.TheVariants as K
 use Rattle.ild_schema.specs.Value.{Value, Pairs, map, pairs_list}
 use Rattle.ild_schema.proofs.Legibly.{legible}
 use Rattle.ild_cbor.specs.declared.why.Why.{Why}
@@ -41,6 +38,7 @@ use Rattle.ild_typed.proofs.WalkSound.{one_root, refused_sound}
 use Rattle.ild_path_edits.specs.Along.{room_below, taken}
 use Rattle.ild_view_walk.specs.Checks.{IsRefusal}
 use Rattle.ild_view.specs.Roots.{RootIs}
+use Rattle.ild_view.proofs.Opening.{safe_is}
 use Rattle.ild_view.specs.Safe.{is_safe}
 use Rattle.ild_hamt_climb.specs.Seen.{ValueIs}
 use Rattle.ild_hamt_climb.specs.Way.{IsRootOf}
@@ -53,18 +51,11 @@ use Rattle.ild_path_entry.specs.declared.entry.Entry.{Entry}
 use Rattle.ild_path_held.specs.Hamts.{IsTrieIn, IsValueOf}
 use Rattle.ild_path_held.specs.HeldEdits.{room_at}
 use Rattle.ild_path_held.proofs.Holding.{held_parts}
-use Rattle.ild_path_held.proofs.Knowing.{node_form}
+use Rattle.ild_open_rows.proofs.Given.{node_form}
 use Rattle.ild_path_held.proofs.Shapes.{root_shape}
 use Rattle.ild_path_nodes.specs.NodeLaws.{IsHamt}
 use Rattle.ild_path_enter.specs.Enters.{CanEnter, EnterAnswer, EntersHamt, EntryAnswer, EntryThere}
 use Rattle.ild_path_enter.specs.declared.lookup.Entered.{Entered}
-
-safe_is : (rows : List Row) (s : Slot) → is_safe rows s ≡ true → IsSafe rows s
-safe_is rows s is nullable = by s.nullable (slot_has rows s K.Null) is nullable where
-  by : (a b : Bool) → not (a && b) ≡ true → a ≡ true → b ≡ false
-  by true true is e = absurd cc
-  by true false is e = refl
-  by false b is e = absurd cc
 
 -- ---- what is read
 

@@ -56,7 +56,8 @@ use Rattle.ild_path_nodes.proofs.Having.{EntryHas}
 use Rattle.ild_path_held.specs.Hamts.{IsValueOf}
 use Rattle.ild_path_held.specs.HeldEdits.{HamtsAreTries, HamtsArePut, HamtsAreCut, HamtsHaveTries, HasTrie}
 use Rattle.ild_path_held.proofs.Holding.{block_stays}
-use Rattle.ild_path_held.proofs.Knowing.{known_holds, holds_known, sorted_texts}
+use Rattle.ild_open_rows.proofs.Given.{known_holds, sorted_texts}
+use Rattle.ild_open_rows.proofs.Rooting.{holds_known}
 use Rattle.ild_path_held.proofs.Orders.{once, same_find, sorted_put, sorted_without}
 
 -- ---- the data of pairs

@@ -57,7 +57,8 @@ use Rattle.ild_path_reroot.proofs.Coming.{IsPartOf, adds_whole}
 use Rattle.ild_path_reroot.proofs.Among.{among_of, long_root, long_one, long_any}
 use Rattle.ild_path_hop.specs.Levels.{IsLevel, IsCutThere, LevelAnswer, SetsLevel, with_cut}
 use Rattle.ild_path_sizes.specs.Long.{IsDataOfPart}
-use Rattle.ild_path_hop.proofs.Leveling.{reached_at, slot_of_path, still_given, told_here, view_of}
+use Rattle.ild_path_block.proofs.Allowing.{view_of}
+use Rattle.ild_path_hop.proofs.Leveling.{reached_at, slot_of_path, still_given, told_here}
 
 -- ---- one level
 

@@ -38,23 +38,19 @@ use Rattle.ild_typed.proofs.TreeValues.{whole_tree}
 use Rattle.ild_path_edits.specs.Edit.{new_slot, set_at}
 use Rattle.ild_path_edits.specs.Table.{slot_to_set}
 use Rattle.ild_path_edits.proofs.KeepTyped.{of_type_is_kept}
-use Rattle.ild_path_block.specs.Edits.{Edits, IsPart, IsRootView}
+use Rattle.ild_path_block.specs.Edits.{Edits, IsPart}
 use Rattle.ild_path_block.specs.declared.edit.PartEdit.TheVariants as E
+use Rattle.ild_path_block.proofs.Allowing.{view_of}
 use Rattle.ild_hamt.specs.Given.{GivesWay}
 use Rattle.ild_hamt.specs.declared.trail.Trail.{Trail}
 use Rattle.ild_open_held.specs.Held.{IsHeld}
 use Rattle.ild_cbor.specs.Block.{IsBlockOf}
 use Rattle.ild_cbor.specs.Nodes.{IsRoot}
-use Rattle.ild_cbor.specs.declared.piece.Piece.TheVariants as P
-use Rattle.ild_layer_piece.specs.Pieces.{StandsFor}
 use Rattle.ild_typed.proofs.Wholes.{one_within}
-use Rattle.ild_view.specs.Body.{BodyStands}
 use Rattle.ild_view.specs.Reaches.{Reaches}
-use Rattle.ild_view.specs.declared.body.Body.{Body}
-use Rattle.ild_view.specs.declared.body.Body.TheVariants as B
 use Rattle.ild_view.specs.declared.step.NoPath.{NoPath}
 use Rattle.ild_view.specs.declared.step.Step.TheVariants as St
-use Rattle.ild_view.specs.View.{IsView, body_of, piece_in, slot_of, table_of}
+use Rattle.ild_view.specs.View.{IsView, slot_of, table_of}
 use Rattle.ild_view.specs.declared.view.View.{View}
 use Rattle.ild_path_within.proofs.Splitting.{first_of_path, parts_are_set}
 use Rattle.ild_typed_fronts.specs.Front.{front, front_in, is_hamt, root_of, root_or_map, fronts_of_pairs}
@@ -105,13 +101,6 @@ still_given h p k es root (Err e) n all = tt
 
 pub item_stands : (b : List ℕ) (n : Node) (d x : Data) → IsBlockOf b d → IsRoot n b d → b ≡ spell x → IsTree x → Stands n x
 item_stands b n d x block root e tree = subst (Stands n) (one_within d x block.within tree (sym block.spelled ∙ e)) root.stands
-
-pub piece_stands : (rows : List Row) (b : Body) (n : Node) (t : Data) → piece_in b ≡ Some (P.Node n) → Stands n t → BodyStands rows b t
-piece_stands rows (B.Held p) n t e stands = subst (λ q. StandsFor rows q t) (sym (same_Some p (P.Node n) e)) stands
-piece_stands rows (B.Implicit s) n t e stands = absurd cc
-
-pub view_of : (v : View) (f : Value) (t : Data) → IsRootView v f t → IsView v f
-view_of v f t is = record { room = is.room; tree = t; stands = piece_stands (table_of v) (body_of v) is.node t is.piece is.root.stands; front = is.front }
 
 -- ---- one level
 

@@ -28,7 +28,7 @@ use Rattle.ild_typed.specs.Schema.{IsSchema}
 use Rattle.ild_view.specs.View.{slot_of, table_of}
 use Rattle.ild_view.specs.declared.view.View.{View}
 use Rattle.ild_bulk.specs.Build.{any_long}
-use Rattle.ild_bulk.specs.Putting.{IsAmong}
+use Rattle.ild_edges.specs.Among.{IsIn}
 pub use Rattle.ild_path_block.specs.Edits.{IsRootView}
 use Rattle.ild_hamt.specs.Descending.{IsTrailOf}
 use Rattle.ild_hamt.specs.Given.{GivesWay}
@@ -91,7 +91,7 @@ LevelAnswer h rows room s c u x m (Ok b) n = (b ≡ spell u) × (length b ≤ lo
 LevelAnswer h rows room s c u x m (Err F.Size) n = any_long (spell u ∷ spell x ∷ nodes h rows s c) ≡ true
 LevelAnswer h rows room s c u x m (Err F.Store) n = Rose m.faults n.faults
 LevelAnswer h rows room s c u x m (Err (F.Clash id kept new)) n =
-    IsAmong new (nodes h rows s c) × (id_of kept ≡ id.0) × (id_of new ≡ id.0) × (kept ≢ new) × IfTold n.blocks (λ held. block_at held id.0 ≡ Some kept) × (length new ≤ longest_block)
+    IsIn new (nodes h rows s c) × (id_of kept ≡ id.0) × (id_of new ≡ id.0) × (kept ≢ new) × IfTold n.blocks (λ held. block_at held id.0 ≡ Some kept) × (length new ≤ longest_block)
 LevelAnswer h rows room s c u x m (Err F.Memory) n = Unit {0}
 LevelAnswer h rows room s c u x m (Err e) n = ⊥
 

@@ -24,7 +24,7 @@ use Rattle.ild_path_edits.specs.Stop.{stopped}
 use Rattle.ild_path_enter.specs.Enters.{CanEnter, EnterAnswer, EntryThere, IsValueThere}
 use Rattle.ild_path_entered.specs.Entered.{IsEntered}
 use Rattle.ild_path_entry.specs.declared.entry.Entry.{Entry}
-use Rattle.ild_path_held.proofs.Knowing.{node_form}
+use Rattle.ild_open_rows.proofs.Given.{node_form}
 use Rattle.ild_path_held.proofs.Orders.{once}
 use Rattle.ild_path_held.proofs.Tries.{hamts_are_tries}
 use Rattle.ild_path_held.specs.Hamts.{IsTrieIn}

@@ -1,6 +1,6 @@
 -- One level outward.
-use Rattle.std.proofs.Common.{◌≡◌, ℕ, ◌-◌, ◌<◌, length-append, Bool, true, false, List, [], ◌∷◌, ◌++◌, length, Some, inl, refl, sym, ap, ◌∙◌, subst, arith}
-use Rattle.std.specs.Prelude.{Result, Err, is_some, ◌||◌, not, ◌&&◌}
+use Rattle.std.proofs.Common.{◌≡◌, ℕ, ◌-◌, ◌<◌, length-append, Bool, true, List, [], ◌∷◌, ◌++◌, length, Some, inl, refl, sym, ap, ◌∙◌, subst, arith}
+use Rattle.std.specs.Prelude.{Result, Err, is_some, ◌||◌}
 use Rattle.std.specs.List.{slice_get}
 use Rattle.std.proofs.Math.Seq.{get_or-append_seam}
 use Rattle.std.proofs.lemmas.Option.{slice_get-get_or}
@@ -16,8 +16,6 @@ use Rattle.ild_edges.specs.Store.{Moment}
 use Rattle.ild_edges.proofs.Later.{Later-refl}
 use Rattle.ild_bulk.proofs.Puts.{told-same}
 use Rattle.ild_schema.specs.Clear.{IsSafe}
-use Rattle.ild_schema.specs.DataKinds.{slot_has}
-use Rattle.ild_schema.specs.declared.def.KindWord.TheVariants as K
 use Rattle.ild_schema.specs.declared.number.Slot.{Slot}
 use Rattle.ild_schema.specs.declared.row.Row.{Row}
 use Rattle.ild_schema.specs.Value.{Value, Pairs, pairs_list}
@@ -33,6 +31,7 @@ use Rattle.ild_view.specs.Safe.{is_safe}
 use Rattle.ild_view.specs.View.{slot_of, table_of}
 use Rattle.ild_view.specs.Whole.{IsWholeView}
 use Rattle.ild_view.specs.declared.view.View.{View}
+use Rattle.ild_view.proofs.Opening.{safe_is}
 use Rattle.ild_path_nodes.specs.NodeLaws.{IsHamt}
 use Rattle.ild_typed_fronts.specs.Front.{front}
 use Rattle.ild_typed_fronts.proofs.Representing.{fronts_are_fronts}
@@ -106,13 +105,6 @@ sets_in h view path trail item m n r sets = λ is_key was k told x root stands.
     sets is_key was x.room x.v x.w x.t x.d x.u x.slot x.elem x.ps x.es k told (step_level h is_key was path k trail view x root) (step_set h is_key was path k trail view x root) stands
 
 -- ---- the view of an entry
-
-safe_is : (rows : List Row) (s : Slot) → is_safe rows s ≡ true → IsSafe rows s
-safe_is rows s is nullable = by s.nullable (slot_has rows s K.Null) is nullable where
-  by : (a b : Bool) → not (a && b) ≡ true → a ≡ true → b ≡ false
-  by true true is e = absurd cc
-  by true false is e = refl
-  by false b is e = absurd cc
 
 pub entry_view : (h : List ℕ → List ℕ) (rows : List Row) (s : Slot) (room : ℕ) (v : Value) (t : Data) (e : Entry) (view : View) → IsSchema rows → Fits rows room s v → represented (whole h) rows s v ≡ Some t
     → IsEntry rows s room t e → table_of view ≡ table_in e → slot_of view ≡ slot_in e → is_safe (table_of view) (slot_of view) ≡ true → IsWholeView view (data_in e) → IsRootView view (front h rows s v) t

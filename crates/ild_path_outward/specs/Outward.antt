@@ -20,7 +20,7 @@ use Rattle.ild_typed.specs.Represented.{represented}
 use Rattle.ild_view.specs.View.{slot_of, table_of}
 use Rattle.ild_view.specs.declared.view.View.{View}
 use Rattle.ild_bulk.specs.Build.{any_long}
-use Rattle.ild_bulk.specs.Putting.{IsAmong}
+use Rattle.ild_edges.specs.Among.{IsIn}
 use Rattle.ild_open_held.specs.Held.{IsHeld}
 use Rattle.ild_path_way.specs.Way.{nodes_met}
 use Rattle.ild_path_within.specs.Within.{with_part}
@@ -57,7 +57,7 @@ EndAnswer h rows room s c u m (Ok b) n = (b ≡ spell u) × (length b ≤ longes
 EndAnswer h rows room s c u m (Err F.Size) n = (any_long (nodes h rows s c) ≡ true) ⊎ HasLongPart h rows (s, c)
 EndAnswer h rows room s c u m (Err F.Store) n = Rose m.faults n.faults
 EndAnswer h rows room s c u m (Err (F.Clash id kept new)) n =
-    IsAmong new (nodes h rows s c) × (id_of kept ≡ id.0) × (id_of new ≡ id.0) × (kept ≢ new) × IfTold n.blocks (λ held. block_at held id.0 ≡ Some kept) × (length new ≤ longest_block)
+    IsIn new (nodes h rows s c) × (id_of kept ≡ id.0) × (id_of new ≡ id.0) × (kept ≢ new) × IfTold n.blocks (λ held. block_at held id.0 ≡ Some kept) × (length new ≤ longest_block)
 EndAnswer h rows room s c u m (Err F.Memory) n = Unit {0}
 EndAnswer h rows room s c u m (Err e) n = ⊥
 

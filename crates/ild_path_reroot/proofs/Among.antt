@@ -9,18 +9,14 @@ use Rattle.ild_data.specs.Tree.{IsTree}
 use Rattle.ild_data.specs.declared.hamt_shape.HamtShape.{HamtShape}
 use Rattle.ild_typed.specs.Hamt.{root_map}
 use Rattle.ild_bulk.specs.Build.{any_long, is_long}
-use Rattle.ild_bulk.specs.Putting.{IsAmong}
+use Rattle.ild_edges.specs.Among.{IsIn}
+use Rattle.ild_edges.proofs.Among.{IsIn-of}
 use Rattle.ild_path_nodes.specs.NodeLaws.{AreAmong}
 
-contained : (k : ℕ) (xs : List (List ℕ)) (x : List ℕ) → k < length xs → slice_index_or xs k x ≡ x → IsAmong x xs
-contained k [] x less is = absurd (omega (arith, less))
-contained zero (y ∷ ys) x less is = inl (sym is)
-contained (suc k) (y ∷ ys) x less is = inr (contained k ys x (omega (arith, less)) is)
-
-pub among_of : (b : List ℕ) (bs held : List (List ℕ)) → AreAmong bs held → IsAmong b bs → IsAmong b held
+pub among_of : (b : List ℕ) (bs held : List (List ℕ)) → AreAmong bs held → IsIn b bs → IsIn b held
 among_of b [] held all is = absurd is
 among_of b (c ∷ cs) held all is =
-    ⊎_elim (λ same. subst (λ z. IsAmong z held) (sym same) (contained all.0.0 held c all.0.1 all.0.2)) (λ more. among_of b cs held all.1 more) is
+    ⊎_elim (λ same. subst (λ z. IsIn z held) (sym same) (IsIn-of c held all.0)) (λ more. among_of b cs held all.1 more) is
 
 or_first : (a b : Bool) → a ≡ true → (a || b) ≡ true
 or_first true b is = refl
@@ -33,16 +29,16 @@ or_later false b is = is
 pub long_root : (b : List ℕ) (bs : List (List ℕ)) → is_long b ≡ true → any_long (b ∷ bs) ≡ true
 long_root b bs is = or_first (is_long b) (any_long bs) is
 
-pub long_one : (bs : List (List ℕ)) → any_long bs ≡ true → (b : List ℕ) × IsAmong b bs × (is_long b ≡ true)
+pub long_one : (bs : List (List ℕ)) → any_long bs ≡ true → (b : List ℕ) × IsIn b bs × (is_long b ≡ true)
 long_one [] is = absurd cc
 long_one (b ∷ bs) is = ⊎_elim (λ here. (b, inl refl, here)) (λ more. let x = long_one bs more in (x.0, inr x.1, x.2)) (or_cases (is_long b) (any_long bs) is)
 
-pub long_any : (b : List ℕ) (bs : List (List ℕ)) → IsAmong b bs → is_long b ≡ true → any_long bs ≡ true
+pub long_any : (b : List ℕ) (bs : List (List ℕ)) → IsIn b bs → is_long b ≡ true → any_long bs ≡ true
 long_any b [] is long = absurd is
 long_any b (c ∷ cs) is long = ⊎_elim (λ same. or_first (is_long c) (any_long cs) (ap is_long (sym same) ∙ long)) (λ more. or_later (is_long c) (any_long cs) (long_any b cs more long)) is
 
 -- where none is too long
-pub short_one : (b : List ℕ) (bs : List (List ℕ)) → any_long bs ≡ false → IsAmong b bs → length b ≤ longest_block
+pub short_one : (b : List ℕ) (bs : List (List ℕ)) → any_long bs ≡ false → IsIn b bs → length b ≤ longest_block
 short_one b bs none is = by (is_long b) refl where
   by : (t : Bool) → is_long b ≡ t → length b ≤ longest_block
   by true e = absurd (let same : true ≡ false = sym (long_any b bs is e) ∙ none in cc)

@@ -33,7 +33,8 @@ use Rattle.ild_typed.specs.Node.{IsRoot}
 use Rattle.ild_typed.proofs.TreeValues.{whole_tree}
 use Rattle.ild_typed_places.specs.Places.{places_in}
 use Rattle.ild_bulk.specs.Build.{any_long, is_long}
-use Rattle.ild_bulk.specs.Putting.{IsAmong, PutsAll}
+use Rattle.ild_edges.specs.Among.{IsIn}
+use Rattle.ild_bulk.specs.Putting.{PutsAll}
 use Rattle.ild_bulk.proofs.Puts.{told-map, told-same}
 use Rattle.ild_hamt_climb.specs.Rewriting.{HasRoot, IsLongWay, Rewrites, way_up}
 use Rattle.ild_bulk_walker.specs.Trees.{HoldsBelow}
@@ -72,7 +73,7 @@ told_now (Some a) (Some b) was P Q R is f t u = let same : was ≡ a = cc in f b
 
 module _ (h : List ℕ → List ℕ) (p : HamtShape) (rows : List Row) (was : List (List ℕ)) (s : Slot) (room : ℕ) (v : Value) (x : Data) (k : List ℕ) (es fs : List (List ℕ × Data)) (ready : Ready h p rows was s room v x k es fs) (m n : Moment) where
   -- a block of the way is a node of v
-  of_way : (b : List ℕ) → IsAmong b (way_up h p k fs) → IsAmong b (nodes h rows s v)
+  of_way : (b : List ℕ) → IsIn b (way_up h p k fs) → IsIn b (nodes h rows s v)
   of_way b is = among_of b (nodes_beneath h p (trie_levels p) 0 fs) (nodes h rows s v) ready.has.among (way-beneath h p k (trie_levels p) 0 fs b (among-turned b (way h p k (trie_levels p) 0 fs) is))
 
   pub same_node : (root : List ℕ) → HasRoot h p fs root → root ≡ spell ready.has.node

@@ -27,7 +27,7 @@ use Rattle.ild_typed.specs.Schema.{IsSchema}
 use Rattle.ild_typed_places.specs.Places.{children_of}
 use Rattle.ild_script_session.specs.Step.{IsWhole}
 use Rattle.ild_bulk.specs.Build.{any_long}
-use Rattle.ild_bulk.specs.Putting.{IsAmong}
+use Rattle.ild_edges.specs.Among.{IsIn}
 use Rattle.ild_hamt.specs.Descending.{IsTrailOf}
 use Rattle.ild_hamt.specs.Given.{GivesWay}
 use Rattle.ild_hamt.specs.declared.trail.Trail.{Trail}
@@ -81,13 +81,13 @@ EditAnswer h rows room s v x m (Ok b) n = (b ≡ spell x) × (length b ≤ longe
 EditAnswer h rows room s v x m (Err F.Size) n = any_long (spell x ∷ nodes h rows s v) ≡ true
 EditAnswer h rows room s v x m (Err F.Store) n = Rose m.faults n.faults
 EditAnswer h rows room s v x m (Err (F.Clash id kept new)) n =
-    IsAmong new (nodes h rows s v) × (id_of kept ≡ id.0) × (id_of new ≡ id.0) × (kept ≢ new) × IfTold n.blocks (λ held. block_at held id.0 ≡ Some kept) × (length new ≤ longest_block)
+    IsIn new (nodes h rows s v) × (id_of kept ≡ id.0) × (id_of new ≡ id.0) × (kept ≢ new) × IfTold n.blocks (λ held. block_at held id.0 ≡ Some kept) × (length new ≤ longest_block)
 EditAnswer h rows room s v x m (Err F.Memory) n = Unit {0}
 EditAnswer h rows room s v x m (Err e) n = ⊥
 
 -- a block that came is a node of v, no longer than a block may be, and at one of the places where it stands in v its children are all held
 pub record NodeCame (h : List ℕ → List ℕ) (rows : List Row) (s : Slot) (v : Value) (now : List (List ℕ)) (b : List ℕ) : Type 0 where
-  pub among : IsAmong b (nodes h rows s v)
+  pub among : IsIn b (nodes h rows s v)
   pub short : length b ≤ longest_block
   pub whole : IsWhole now (children_of h rows (s, v) b)
 

@@ -1,7 +1,6 @@
 -- What putting the blocks of a value leaves.
 use Rattle.std.proofs.Common.{◌≡◌, ◌⊎◌, ℕ, ◌+◌, List, [], ◌∷◌, Option, Some, None, Result, Ok, Err, refl, sym, ap, ◌∙◌, subst, inl, inr, arith}
 use Rattle.std.specs.Prelude.{length, Contains}
-use Rattle.std.specs.List.{AllByRecursion}
 use Rattle.std.proofs.lemmas.List.Elements.{Contains-append_left, Contains-append_right, Contains-push_cases}
 use Rattle.ild_bulk_places.specs.Leaving.{AddsPlaced, HasPlaceHeld}
 use Rattle.ild_typed_places.specs.Places.{Places, places_in, tops}
@@ -9,6 +8,7 @@ use Rattle.ild_typed.proofs.Rooms.{all_more}
 use Rattle.ild_data.specs.Data.{Data}
 use Rattle.ild_data.specs.Spell.{spell, id_of}
 use Rattle.ild_data.specs.declared.id.BlockId.{BlockId}
+use Rattle.ild_edges.specs.Gained.{AreHeld, CameFrom}
 use Rattle.ild_edges.specs.Store.{Moment, Later, Keeps, block_at}
 use Rattle.ild_edges.specs.Told.{IfTold, BothTold}
 use Rattle.ild_edges.proofs.Later.{Later-trans}
@@ -17,6 +17,7 @@ use Rattle.ild_schema.specs.declared.row.Row.{Row}
 use Rattle.ild_schema.specs.Slots.{plainly}
 use Rattle.ild_schema.specs.Value.{Value}
 use Rattle.ild_script_session.specs.Puts.{PutAnswer, PutsBlock}
+use Rattle.ild_script_session.proofs.Steps.{all_keeps}
 use Rattle.ild_script_session.specs.declared.putting.PutFault.{PutFault}
 use Rattle.ild_script_session.specs.declared.putting.PutFault.TheVariants as P
 use Rattle.ild_typed.specs.Blocks.{nodes}
@@ -67,13 +68,6 @@ kept_told R (Some x) (Some y) f p r = f x y p r
 
 -- ---- what is held stays held
 
-abbrev IsHeld : List (List ℕ) → List ℕ → Type 0
-IsHeld held b = block_at held (id_of b) ≡ Some b
-
-held_kept : (bs : List (List ℕ)) (x y : List (List ℕ)) → Keeps x y → AllByRecursion (IsHeld x) bs → AllByRecursion (IsHeld y) bs
-held_kept [] x y keeps all = tt
-held_kept (b ∷ bs) x y keeps all = (keeps (id_of b) b all.0, held_kept bs x y keeps all.1)
-
 over_kept : (ps : Places) (x y : List (List ℕ)) (b : List ℕ) → Keeps x y → HasPlaceHeld ps x b → HasPlaceHeld ps y b
 over_kept ps x y b keeps over = record {
   at = over.at;
@@ -106,9 +100,6 @@ so_many h rows n v d =
     let same : length (spell d ∷ nodes h rows (plainly n) v) ≡ length (blocks_of bare h rows n v d) = ap (λ (bs : List (List ℕ)). length bs) (bare_blocks h rows n v d) in
     omega (arith, same)
 
-abbrev CameOnly : List (List ℕ) → List (List ℕ) → List (List ℕ) → Type 0
-CameOnly bs was now = (id b : List ℕ) → block_at now id ≡ Some b → (block_at was id ≡ Some b) ⊎ Contains bs b
-
 abbrev CameWhole : (List ℕ → List ℕ) → List Row → TypeNo → Value → Data → List (List ℕ) → List (List ℕ) → Type 0
 CameWhole h rows n v d was now = (id b : List ℕ) → block_at now id ≡ Some b → (block_at was id ≡ Some b) ⊎ HasChildren h rows n v d now b
 
@@ -121,7 +112,7 @@ only_nodes h rows n b v m k given tries =
       value = v;
       tree = d;
       makes = record { given = given; storable = tries.storable };
-      adds = told_more (CameOnly (nodes h rows (plainly n) v)) (CameOnly (blocks_of bare h rows n v d)) m.blocks k.blocks (λ was now came id x held. came_more was id x (came id x held)) steps.adds;
+      adds = told_more (CameFrom (nodes h rows (plainly n) v)) (CameFrom (blocks_of bare h rows n v d)) m.blocks k.blocks (λ was now came id x held. came_more was id x (came id x held)) steps.adds;
       children = told_more (AddsPlaced (places_in h rows (plainly n) v)) (CameWhole h rows n v d) m.blocks k.blocks (λ was now whole id x held. whole_more was now id x (whole id x held)) tries.children;
       gets = let same = steps.gets in omega (arith, same);
       puts = let most = steps.puts in let many = so_many h rows n v d in omega (arith, most, many);
@@ -146,10 +137,10 @@ with_root h rows n b v m j k result given tries held puts =
       value = v;
       tree = d;
       makes = record { given = given; storable = tries.storable };
-      adds = told_chain (CameOnly ns) (CameOnly (spell d ∷ [])) (CameOnly (blocks_of bare h rows n v d)) m.blocks j.blocks k.blocks (λ was then now first last id x there. came was then id x (first id x) (last id x there)) steps.adds puts.adds;
-      children = told_chain (λ was then. AddsPlaced (places_in h rows (plainly n) v) was then × AllByRecursion (IsHeld then) ns) (λ then now. CameOnly (spell d ∷ []) then now × Keeps then now) (CameWhole h rows n v d) m.blocks j.blocks k.blocks
+      adds = told_chain (CameFrom ns) (CameFrom (spell d ∷ [])) (CameFrom (blocks_of bare h rows n v d)) m.blocks j.blocks k.blocks (λ was then now first last id x there. came was then id x (first id x) (last id x there)) steps.adds puts.adds;
+      children = told_chain (λ was then. AddsPlaced (places_in h rows (plainly n) v) was then × AreHeld ns then) (λ then now. CameFrom (spell d ∷ []) then now × Keeps then now) (CameWhole h rows n v d) m.blocks j.blocks k.blocks
           (λ was then now first last id x there. whole was then now id x first.0 first.1 last.1 (last.0 id x there))
-          (both_with (AddsPlaced (places_in h rows (plainly n) v)) (λ then. AllByRecursion (IsHeld then) ns) m.blocks j.blocks tries.children held) (both (CameOnly (spell d ∷ [])) Keeps j.blocks k.blocks puts.adds puts.later.keeps);
+          (both_with (AddsPlaced (places_in h rows (plainly n) v)) (λ then. AreHeld ns then) m.blocks j.blocks tries.children held) (both (CameFrom (spell d ∷ [])) Keeps j.blocks k.blocks puts.adds puts.later.keeps);
       gets = let same = steps.gets in let no = puts.gets in omega (arith, same, no);
       puts = let most = steps.puts in let one = puts.puts in let many = so_many h rows n v d in omega (arith, most, one, many);
     }
@@ -163,9 +154,9 @@ with_root h rows n b v m j k result given tries held puts =
         by (inl held) = inl held
         by (inr among) = inr (node_among h rows n v tries.tree x among)
 
-    whole : (was then now : List (List ℕ)) (id x : List ℕ) → AddsPlaced (places_in h rows (plainly n) v) was then → AllByRecursion (IsHeld then) (nodes h rows (plainly n) v) → Keeps then now → (block_at then id ≡ Some x) ⊎ Contains (spell tries.tree ∷ []) x
+    whole : (was then now : List (List ℕ)) (id x : List ℕ) → AddsPlaced (places_in h rows (plainly n) v) was then → AreHeld (nodes h rows (plainly n) v) then → Keeps then now → (block_at then id ≡ Some x) ⊎ Contains (spell tries.tree ∷ []) x
         → (block_at was id ≡ Some x) ⊎ HasChildren h rows n v tries.tree now x
-    whole was then now id x first all keeps (inr root) = inr (inl (sym (root_is tries.tree x root), held_kept (nodes h rows (plainly n) v) then now keeps all))
+    whole was then now id x first all keeps (inr root) = inr (inl (sym (root_is tries.tree x root), all_keeps then now (nodes h rows (plainly n) v) keeps all))
     whole was then now id x first all keeps (inl there) = by (first id x there)
       where
         by : (block_at was id ≡ Some x) ⊎ HasPlaceHeld (places_in h rows (plainly n) v) then x → (block_at was id ≡ Some x) ⊎ HasChildren h rows n v tries.tree now x
@@ -175,13 +166,13 @@ with_root h rows n b v m j k result given tries held puts =
 -- ---- the value stands
 
 stands_in : (h : List ℕ → List ℕ) (rows : List Row) (n : TypeNo) (v : Value) (d : Data) (id : List ℕ) → Storable bare h rows n v d → id ≡ root_id bare d → (told : Option (List (List ℕ)))
-    → IfTold told (λ held. AllByRecursion (IsHeld held) (spell d ∷ [])) → IfTold told (λ held. AllByRecursion (IsHeld held) (nodes h rows (plainly n) v)) → IfTold told (λ held. Stands bare (block_at held) h rows n id v)
+    → IfTold told (λ held. AreHeld (spell d ∷ []) held) → IfTold told (λ held. AreHeld (nodes h rows (plainly n) v) held) → IfTold told (λ held. Stands bare (block_at held) h rows n id v)
 stands_in h rows n v d id storable root None one all = tt
 stands_in h rows n v d id storable root (Some held) one all = record {
   tree = d;
   storable = storable;
   root = root;
-  all = subst (λ (bs : List (List ℕ)). AllByRecursion (IsHeld held) bs) (bare_blocks h rows n v d) (one.0, all);
+  all = subst (λ (bs : List (List ℕ)). AreHeld bs held) (bare_blocks h rows n v d) (one.0, all);
 }
 
 -- ---- the answer
@@ -198,7 +189,7 @@ answered h rows n b v m j k (Ok id) first given tries held puts answer = record 
   tried = with_root h rows n b v m j k (Ok id) given tries held puts;
   root = answer.0;
   stands = stands_in h rows n v tries.tree id.0 tries.storable answer.0 k.blocks answer.1
-      (kept_told (λ then. AllByRecursion (IsHeld then) (nodes h rows (plainly n) v)) j.blocks k.blocks (λ then now. held_kept (nodes h rows (plainly n) v) then now) puts.later.keeps held);
+      (kept_told (λ then. AreHeld (nodes h rows (plainly n) v) then) j.blocks k.blocks (λ then now. all_keeps then now (nodes h rows (plainly n) v)) puts.later.keeps held);
 }
 answered h rows n b v m j k (Err P.Failed) first given tries held puts answer =
     (let rose = answer in let before = first.faults in omega (arith, rose, before), with_root h rows n b v m j k (Err P.Failed) given tries held puts)

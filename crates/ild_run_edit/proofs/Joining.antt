@@ -22,6 +22,7 @@ use Rattle.ild_script_meaning.specs.Lines.{read_json, new_nodes}
 use Rattle.ild_script_meaning.specs.Costs.{blocks_met}
 use Rattle.ild_script_session.specs.Session.{Due}
 use Rattle.ild_script_session.specs.Step.{AddsOnly, AddsWhole, Gains, IsWhole}
+use Rattle.ild_script_session.proofs.Came.{Came}
 use Rattle.ild_typed.specs.At.{InSlot}
 use Rattle.ild_typed.specs.Blocks.{nodes}
 use Rattle.ild_typed.specs.Schema.{IsSchema}
@@ -53,9 +54,6 @@ pub built_none : (h : List ℕ → List ℕ) (place : Place) (w : Value) (json :
 built_none h place w json m k r x = record { later = x.later; fails = x.fails; moves = x.builds }
 
 -- ---- two steps of a store
-
-abbrev Came : (List ℕ → List (List ℕ) → Type 0) → List (List ℕ) → List (List ℕ) → Type 0
-Came New was now = (id b : List ℕ) → block_at now id ≡ Some b → (block_at was id ≡ Some b) ⊎ New b now
 
 both : (New : List ℕ → List (List ℕ) → Type 0) → ((b : List ℕ) (x y : List (List ℕ)) → Keeps x y → New b x → New b y) → (o p q : Option (List (List ℕ))) → BothTold p q Keeps → BothTold o p (Came New) → BothTold p q (Came New) → BothTold o q (Came New)
 both New later None None None k a b = tt

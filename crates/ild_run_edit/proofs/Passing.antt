@@ -5,7 +5,8 @@ use Rattle.std.specs.List.{AllByRecursion}
 use Rattle.std.specs.Option.{option_map_or}
 use Rattle.std.proofs.lemmas.Option.{same_Some}
 use Rattle.ild_edges.specs.Gained.{AreIdsGiven}
-use Rattle.ild_bulk.specs.Putting.{GivesAll, IsAmong}
+use Rattle.ild_edges.specs.Among.{IsIn}
+use Rattle.ild_bulk.specs.Putting.{GivesAll}
 use Rattle.ild_data.specs.Data.{Data}
 use Rattle.ild_data.specs.Spell.{id_of, spell}
 use Rattle.ild_edges.specs.Store.{StaysGiven}
@@ -63,15 +64,15 @@ given_later None (Some now) bs stays x = absurd stays
 given_later (Some was) None bs stays x = absurd stays
 given_later (Some was) (Some now) bs stays x = all_more (λ b. Contains was (id_of b)) (λ b. Contains now (id_of b)) (λ b here. stays (id_of b) here) bs x
 
-among_ids : (bs : List (List ℕ)) → AllByRecursion (λ b. IsAmong (id_of b) (map id_of bs)) bs
+among_ids : (bs : List (List ℕ)) → AllByRecursion (λ b. IsIn (id_of b) (map id_of bs)) bs
 among_ids [] = tt
-among_ids (b ∷ bs) = (inl refl, all_more (λ c. IsAmong (id_of c) (map id_of bs)) (λ c. IsAmong (id_of c) (map id_of (b ∷ bs))) (λ c here. inr here) bs (among_ids bs))
+among_ids (b ∷ bs) = (inl refl, all_more (λ c. IsIn (id_of c) (map id_of bs)) (λ c. IsIn (id_of c) (map id_of (b ∷ bs))) (λ c here. inr here) bs (among_ids bs))
 
 pub given_all : (o p : Option (List (List ℕ))) (bs : List (List ℕ)) → BothTold o p (GivesAll (map id_of bs)) → IfTold p (AreIdsGiven bs)
 given_all None None bs x = tt
 given_all None (Some now) bs x = absurd x
 given_all (Some was) None bs x = absurd x
-given_all (Some was) (Some now) bs x = all_more (λ b. IsAmong (id_of b) (map id_of bs)) (λ b. Contains now (id_of b)) (λ b here. (x (id_of b)).1 (inr here)) bs (among_ids bs)
+given_all (Some was) (Some now) bs x = all_more (λ b. IsIn (id_of b) (map id_of bs)) (λ b. Contains now (id_of b)) (λ b here. (x (id_of b)).1 (inr here)) bs (among_ids bs)
 
 -- ---- places as they are listed
 

@@ -18,7 +18,8 @@ use Rattle.ild_run_generate.specs.declared.fault.GenerateFault.{GenerateFault}
 use Rattle.ild_run_generate.specs.declared.fault.GenerateFault.TheVariants as F
 use Rattle.ild_run_generate.specs.declared.summary.Counts.{Counts}
 use Rattle.ild_run_generate.specs.declared.summary.Summary.{Summary}
-use Rattle.ild_run_generate.proofs.Added.{AreAmong, adds_wider, adds_trans, adds_read, collides_wider, rose_later}
+use Rattle.ild_run_generate.proofs.Added.{AreAmong, collides_wider, rose_later}
+use Rattle.ild_script_session.proofs.Came.{adds_none, adds_wider, adds_trans}
 use Rattle.ild_run_generate.proofs.Ending.{counted, root_is, stands_then}
 use Rattle.ild_run_generate.proofs.Through.{among_through}
 use Rattle.ild_run_open.specs.Empty.{IsEmpty, empty_of, empty_blocks}
@@ -59,7 +60,7 @@ module _ (old d : Doc) (seed count : ℕ) (m k n : Moment) (c : Counts) (steps :
     told = λ tests are of held.
         let through = steps.told tests are of held in record {
           cause = count_cause v f (blocks_through seed count) n (read.told tests v through.held);
-          adds = adds_trans m k n (blocks_through seed count) through.adds (adds_read k n (blocks_through seed count) read.reads.blocks);
+          adds = adds_trans m k n (blocks_through seed count) through.adds (adds_none k n (blocks_through seed count) read.reads.blocks);
         };
   }
 
@@ -76,7 +77,7 @@ module _ (old d : Doc) (seed count : ℕ) (m k n : Moment) (c : Counts) (steps :
         let there : root.0 ≡ root_in g.entries = is ∙ root_is d now tests k g.entries through.held in record {
           summary = ap (λ (x : Counts). summary_made x len root.0) through.counts ∙ ap (λ (l : ℕ). summary_made (counts_of g) l root.0) many ∙ ap (λ (id : List ℕ). summary_made (counts_of g) (length g.entries) id) there;
           stands = subst (λ (id : List ℕ). IfTold n.blocks (λ blocks. Stands bare (block_at blocks) id_of generator_rows generator_type id v)) (sym is) (stands_then d now tests k g.entries through.held back n read.reads.blocks);
-          adds = adds_trans m k n (blocks_through seed count) through.adds (adds_read k n (blocks_through seed count) read.reads.blocks);
+          adds = adds_trans m k n (blocks_through seed count) through.adds (adds_none k n (blocks_through seed count) read.reads.blocks);
         };
   }
 

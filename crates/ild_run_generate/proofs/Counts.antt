@@ -3,8 +3,9 @@ use Rattle.std.proofs.Common.{◌≡◌, ◌≢◌, ℕ, List, Option, Some, Non
 use Rattle.ild_cbor.specs.declared.why.BlockWhy.{BlockWhy}
 use Rattle.ild_data.specs.Spell.{id_of}
 use Rattle.ild_data.specs.declared.id.BlockId.{BlockId}
+use Rattle.ild_edges.proofs.Reading.{from_told}
 use Rattle.ild_edges.specs.Store.{Moment, block_at}
-use Rattle.ild_open.specs.Opened.{HasValue, Opens}
+use Rattle.ild_open.specs.Opened.{HasValue, Opens, StandsInBlock}
 use Rattle.ild_open_parts.specs.declared.fault.OpenFault.{OpenFault}
 use Rattle.ild_open_parts.specs.declared.fault.OpenFault.TheVariants as O
 use Rattle.ild_path_edits.specs.Judged.{Tests}
@@ -54,6 +55,6 @@ counts back one frame d first first_is is_table accepted rows table ty type id r
       told = λ tests v x.
           let t = told_some m.blocks x.at.told in
           let same : value_of opened.1 ≡ v =
-          one bare frame (block_at t.0) id_of rows schema ty id (value_of opened.1) v ((opens.answer.value t.0 t.1).stands) (stood back d rows table ty type id root m n tests v x t.0 t.1) in
+          one bare frame (block_at t.0) id_of rows schema ty id (value_of opened.1) v (from_told m.blocks (λ held. StandsInBlock id_of rows ty id held (block_in opened.0) (value_of opened.1)) opens.answer.value t.0 t.1).stands (stood back d rows table ty type id root m n tests v x t.0 t.1) in
           is ∙ ap count_in same;
     }

@@ -12,7 +12,8 @@ use Rattle.ild_run_generate.specs.Steps.{Causes, StepTold}
 use Rattle.ild_run_generate.specs.declared.fault.GenerateFault.{GenerateFault}
 use Rattle.ild_run_generate.specs.declared.fault.GenerateFault.TheVariants as F
 use Rattle.ild_run_generate.specs.declared.summary.Counts.{Counts}
-use Rattle.ild_run_generate.proofs.Added.{AreAmong, adds_wider, adds_trans, collides_wider}
+use Rattle.ild_run_generate.proofs.Added.{AreAmong, collides_wider}
+use Rattle.ild_script_session.proofs.Came.{adds_wider, adds_trans}
 use Rattle.ild_script.specs.declared.reply.No.{No}
 use Rattle.ild_script_meaning.specs.PlainValue.{Value as Entries}
 use Rattle.ild_view_doc.specs.declared.doc.Doc.{Doc}

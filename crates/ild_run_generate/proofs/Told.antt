@@ -14,7 +14,7 @@ use Rattle.ild_run_edit.specs.Edits.{edit_of, reply_of}
 use Rattle.ild_run_generate.specs.Steps.{IsAsked, IsOfGenerator, counts_of, one_more, one_absent, outcome_of}
 use Rattle.ild_run_generate.specs.declared.asking.Asked.{Asked}
 use Rattle.ild_run_generate.specs.declared.stepping.Outcome.TheVariants as O
-use Rattle.ild_run_generate.proofs.Added.{adds_wider, collides_wider}
+use Rattle.ild_run_generate.proofs.Added.{collides_wider}
 use Rattle.ild_run_generate.proofs.Leading.{LedBy, led, same_setting}
 use Rattle.ild_run_generate.proofs.Taking.{ComesTo, asked_is, done, absent, left, why}
 use Rattle.ild_run_standing.specs.Answers.{AnswersAs, LeadsOn}
@@ -27,6 +27,7 @@ use Rattle.ild_script_meaning.specs.Lines.{Setting, read_json, edit_blocks, type
 use Rattle.ild_script_meaning.specs.PlainMap.{as_value, IsPlain}
 use Rattle.ild_script_session.specs.Session.{resting}
 use Rattle.ild_script_session.specs.Step.{AddsOnly, Carries, Collides, HasCause}
+use Rattle.ild_script_session.proofs.Came.{adds_wider}
 use Rattle.ild_view_doc.specs.declared.doc.Doc.{Doc}
 
 module _ (edits : StepsAreEdits) (blocks : StepsAddBlocks) (old new : Doc) (x i : ℕ) (low : i < 2 ^ 64) (a : Asked) (asked : IsAsked x i a) (m n : Moment) (answer : Result (Unit {0}) No)

@@ -1,5 +1,5 @@
 //! The entries of a document's map, read back from its root.
-ghost use Rattle.std.specs.Prelude.{◌≡◌, ◌≢◌};
+ghost use Rattle.std.specs.Prelude.{◌≡◌};
 ghost use Rattle.ild_run_generate.specs.Counting.{CountsEntries, Lacks, count_in};
 ghost use Rattle.ild_schema.specs.ValueSeen.{value_of};
 

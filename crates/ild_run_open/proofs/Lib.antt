@@ -1,2 +1,3 @@
 mod Empties
 mod Putting
+mod Rooted

@@ -1,5 +1,5 @@
 -- Putting the block of an empty value.
-use Rattle.std.proofs.Common.{◌≡◌, ◌⊎◌, ℕ, ◌+◌, ◌≤◌, List, [], ◌∷◌, Option, Some, None, Result, Ok, Err, sym, ap, ◌∙◌, subst, inl, inr, arith}
+use Rattle.std.proofs.Common.{◌≡◌, ◌⊎◌, ℕ, ◌+◌, ◌≤◌, List, [], ◌∷◌, Option, Some, Result, Ok, Err, sym, ap, ◌∙◌, subst, inl, inr, arith}
 use Rattle.std.specs.Prelude.{length, Contains}
 use Rattle.std.specs.List.{AllByRecursion}
 use Rattle.std.proofs.lemmas.List.Elements.{Contains-push_cases}
@@ -10,14 +10,16 @@ use Rattle.ild_data.specs.Limits.{longest_block}
 use Rattle.ild_data.specs.Spell.{spell, id_of}
 use Rattle.ild_data.specs.declared.id.BlockId.{BlockId}
 use Rattle.ild_edges.proofs.Later.{Later-trans}
+use Rattle.ild_edges.specs.Gained.{AreHeld}
 use Rattle.ild_edges.specs.Store.{Moment, block_at}
-use Rattle.ild_edges.specs.Told.{IfTold, BothTold}
+use Rattle.ild_edges.specs.Told.{IfTold}
 use Rattle.ild_schema.specs.Slots.{plainly}
 use Rattle.ild_schema.specs.Value.{Value}
 use Rattle.ild_schema.specs.declared.number.TypeNo.{TypeNo}
 use Rattle.ild_schema.specs.declared.row.Row.{Row}
 use Rattle.ild_script_session.specs.Puts.{PutAnswer, PutsBlock}
 use Rattle.ild_script_session.specs.Step.{AddsOnly}
+use Rattle.ild_script_session.proofs.Came.{adds_trans, adds_wider}
 use Rattle.ild_script_session.specs.declared.putting.PutFault.{PutFault}
 use Rattle.ild_script_session.specs.declared.putting.PutFault.TheVariants as P
 use Rattle.ild_view_doc.specs.Docs.{IsDoc, block_in}
@@ -30,39 +32,8 @@ use Rattle.ild_run_open.specs.declared.start.StartFault.{StartFault}
 use Rattle.ild_run_open.specs.declared.start.StartFault.TheVariants as F
 use Rattle.ild_run_open.proofs.Empties.{fits, one_block, nodes_gone, empty_block}
 
--- ---- what came
-
-abbrev CameOnly : List (List ℕ) → List (List ℕ) → List (List ℕ) → Type 0
-CameOnly bs was now = (id b : List ℕ) → block_at now id ≡ Some b → (block_at was id ≡ Some b) ⊎ Contains bs b
-
 not_in_none : (b : List ℕ) → Contains [] b → ⊥
 not_in_none b among = let less = among.1 in absurd (omega (arith, less))
-
-more_came : (bs : List (List ℕ)) (a b : Option (List (List ℕ))) → BothTold a b (CameOnly []) → BothTold a b (CameOnly bs)
-more_came bs None None p = tt
-more_came bs None (Some y) p = absurd p
-more_came bs (Some x) None p = absurd p
-more_came bs (Some x) (Some y) p = λ id b held. by b (p id b held)
-  where
-    by : {A : Type 0} (b : List ℕ) → A ⊎ Contains [] b → A ⊎ Contains bs b
-    by b (inl held) = inl held
-    by b (inr among) = absurd (not_in_none b among)
-
-then_came : (bs : List (List ℕ)) (a b c : Option (List (List ℕ))) → BothTold a b (CameOnly []) → BothTold b c (CameOnly bs) → BothTold a c (CameOnly bs)
-then_came bs None None None p q = tt
-then_came bs None None (Some z) p q = absurd q
-then_came bs None (Some y) c p q = absurd p
-then_came bs (Some x) None c p q = absurd p
-then_came bs (Some x) (Some y) None p q = absurd q
-then_came bs (Some x) (Some y) (Some z) p q = λ id b held. by id b (q id b held)
-  where
-    then_by : (b : List ℕ) {A : Type 0} → A ⊎ Contains [] b → A ⊎ Contains bs b
-    then_by b (inl held) = inl held
-    then_by b (inr among) = absurd (not_in_none b among)
-
-    by : (id b : List ℕ) → (block_at y id ≡ Some b) ⊎ Contains bs b → (block_at x id ≡ Some b) ⊎ Contains bs b
-    by id b (inl there) = then_by b (p id b there)
-    by id b (inr among) = inr among
 
 -- ---- the block
 
@@ -112,7 +83,7 @@ module _ (h : List ℕ → List ℕ) (rows : List Row) (ty : TypeNo) (v : Value)
     answer = unbuilt f x.answer;
     asks = record {
       later = x.later;
-      adds = more_came (empty_blocks h rows ty) m.blocks n.blocks x.adds;
+      adds = adds_wider m n [] (empty_blocks h rows ty) (λ b none. absurd (not_in_none b none)) x.adds;
       gets = let same = x.gets in omega (arith, same);
       puts = let same = x.puts in omega (arith, same);
     };
@@ -138,7 +109,7 @@ module _ (h : List ℕ → List ℕ) (rows : List Row) (ty : TypeNo) (v : Value)
   keeps : (result : Result BlockId PutFault) → PutsBlock j block result n → KeepsEmpty h rows ty m n
   keeps result puts = record {
     later = Later-trans m j n built.later puts.later;
-    adds = subst (AddsOnly m n) blocks_are (then_came (block ∷ []) m.blocks j.blocks n.blocks built.adds puts.adds);
+    adds = subst (AddsOnly m n) blocks_are (adds_trans m j n (block ∷ []) (adds_wider m j [] (block ∷ []) (λ b none. absurd (not_in_none b none)) built.adds) puts.adds);
     gets = let same = built.gets in let no = puts.gets in omega (arith, same, no);
     puts = let same = built.puts in let one = puts.puts in omega (arith, same, one);
   }
@@ -159,8 +130,8 @@ module _ (h : List ℕ → List ℕ) (rows : List Row) (ty : TypeNo) (v : Value)
 
 -- ---- its document
 
-told_one : (told : Option (List (List ℕ))) (held : List (List ℕ)) (b : List ℕ) → told ≡ Some held → IfTold told (λ blocks. AllByRecursion (λ x. block_at blocks (id_of x) ≡ Some x) (b ∷ [])) → block_at held (id_of b) ≡ Some b
-told_one told held b is holds = (subst (λ o. IfTold o (λ blocks. AllByRecursion (λ x. block_at blocks (id_of x) ≡ Some x) (b ∷ []))) is holds).0
+told_one : (told : Option (List (List ℕ))) (held : List (List ℕ)) (b : List ℕ) → told ≡ Some held → IfTold told (AreHeld (b ∷ [])) → block_at held (id_of b) ≡ Some b
+told_one told held b is holds = (subst (λ o. IfTold o (AreHeld (b ∷ []))) is holds).0
 
 pub starts : (h : List ℕ → List ℕ) (rows : List Row) (ty : TypeNo) (m n : Moment) (block : List ℕ) (d : Doc) → PutsEmpty h rows ty m (Ok block) n → IsDoc rows ty block d → Starts h rows ty S.Empty m (Ok d) n
 starts h rows ty m n block d puts doc =
@@ -178,7 +149,7 @@ starts h rows ty m n block d puts doc =
               tree = has.is.tree;
               storable = has.is.storable;
               root = ap id_of spelled;
-              all = subst (λ (bs : List (List ℕ)). AllByRecursion (λ b. block_at held (id_of b) ≡ Some b) bs) (sym (one_block h rows ty has.value has.is.tree has.empty))
+              all = subst (λ (bs : List (List ℕ)). AreHeld bs held) (sym (one_block h rows ty has.value has.is.tree has.empty))
                   (subst (λ b. block_at held (id_of b) ≡ Some b) has.is.spelled (told_one n.blocks held block told has.held), tt);
             };
             spelled = spelled;

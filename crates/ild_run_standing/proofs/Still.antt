@@ -1,19 +1,19 @@
 -- Replies that leave the value and what the store holds.
-use Rattle.std.proofs.Common.{◌≡◌, ◌⊎◌, inl, inr, ℕ, List, [], ◌∷◌, Option, Some, None, refl, sym, subst, arith}
+use Rattle.std.proofs.Common.{◌≡◌, ◌⊎◌, inl, inr, ℕ, List, [], ◌∷◌, Option, refl, sym, subst, arith}
 use Rattle.std.specs.Prelude.{Contains}
-use Rattle.std.specs.List.{AllByRecursion}
-use Rattle.ild_data.specs.Spell.{id_of}
-use Rattle.ild_edges.specs.Store.{Moment, block_at}
-use Rattle.ild_edges.specs.Told.{BothTold, IfTold}
+use Rattle.ild_edges.specs.Gained.{AreHeld}
+use Rattle.ild_edges.specs.Store.{Moment}
+use Rattle.ild_edges.specs.Told.{IfTold}
 use Rattle.ild_schema.specs.Value.{Value}
 use Rattle.ild_script.specs.declared.reply.Reply.{Reply}
 use Rattle.ild_script_session.specs.Session.{Due, idle}
 use Rattle.ild_script_session.specs.Step.{AreCarried, Holds, IsExcused, IsWhole}
+use Rattle.ild_script_session.proofs.Came.{none_came}
 use Rattle.ild_script_meaning.specs.Lines.{typed_lines}
 use Rattle.ild_run_standing.specs.Laws.{StillReplies}
 
 holds_on : (m n : Moment) → n.blocks ≡ m.blocks → (bs : List (List ℕ)) → Holds m bs → Holds n bs
-holds_on m n e bs all = subst (λ (o : Option (List (List ℕ))). IfTold o (λ held. AllByRecursion (λ b. block_at held (id_of b) ≡ Some b) bs)) (sym e) all
+holds_on m n e bs all = subst (λ (o : Option (List (List ℕ))). IfTold o (AreHeld bs)) (sym e) all
 
 one_on : (m n : Moment) → n.blocks ≡ m.blocks → (own : List (List ℕ)) (p : List ℕ × List (List ℕ)) → Contains own p.0 ⊎ Holds m p.1 → Contains own p.0 ⊎ Holds n p.1
 one_on m n e own p (inl x) = inl x
@@ -22,13 +22,6 @@ one_on m n e own p (inr x) = inr (holds_on m n e p.1 x)
 carried_on : (m n : Moment) → n.blocks ≡ m.blocks → (own : List (List ℕ)) (ps : List (List ℕ × List (List ℕ))) → AreCarried m own ps → AreCarried n own ps
 carried_on m n e own [] all = tt
 carried_on m n e own (p ∷ ps) all = (one_on m n e own p all.0, carried_on m n e own ps all.1)
-
-abbrev Came : (List ℕ → List (List ℕ) → Type 0) → List (List ℕ) → List (List ℕ) → Type 0
-Came New was now = (id b : List ℕ) → block_at now id ≡ Some b → (block_at was id ≡ Some b) ⊎ New b now
-
-none_came : (New : List ℕ → List (List ℕ) → Type 0) (a b : Option (List (List ℕ))) → b ≡ a → BothTold a b (Came New)
-none_came New None b e = subst (λ (x : Option (List (List ℕ))). BothTold None x (Came New)) (sym e) tt
-none_came New (Some held) b e = subst (λ (x : Option (List (List ℕ))). BothTold (Some held) x (Came New)) (sym e) (λ id c here. inl here)
 
 pub still_replies : StillReplies
 still_replies = λ w m n v d reply later same gets puts answered. record {

@@ -9,6 +9,7 @@ use Rattle.ild_data.specs.Data.{Data}
 use Rattle.ild_data.specs.Key.{same_text}
 use Rattle.ild_data.specs.Spell.{id_of}
 use Rattle.ild_dirty.proofs.Batching.{Contains-map, block_at-among, own_first}
+use Rattle.ild_edges.specs.Gained.{AreHeld}
 use Rattle.ild_edges.specs.Store.{Moment, block_at}
 use Rattle.ild_edges.specs.Told.{IfTold}
 use Rattle.ild_schema.specs.Value.{Value}
@@ -26,8 +27,8 @@ use Rattle.ild_script_batch.specs.Inside.{CarriedOverBatch}
 abbrev IsHeld : List (List ℕ) → List ℕ → Type 0
 IsHeld held b = block_at held (id_of b) ≡ Some b
 
-pub holds_same : (a b : Option (List (List ℕ))) (bs : List (List ℕ)) → b ≡ a → IfTold a (λ held. AllByRecursion (λ c. block_at held (id_of c) ≡ Some c) bs) → IfTold b (λ held. AllByRecursion (λ c. block_at held (id_of c) ≡ Some c) bs)
-holds_same a b bs same all = subst (λ (o : Option (List (List ℕ))). IfTold o (λ held. AllByRecursion (λ c. block_at held (id_of c) ≡ Some c) bs)) (sym same) all
+pub holds_same : (a b : Option (List (List ℕ))) (bs : List (List ℕ)) → b ≡ a → IfTold a (AreHeld bs) → IfTold b (AreHeld bs)
+holds_same a b bs same all = subst (λ (o : Option (List (List ℕ))). IfTold o (AreHeld bs)) (sym same) all
 
 -- the block of a place, and all from there on down
 abbrev listed : Place → List ℕ × List (List ℕ)
@@ -40,12 +41,12 @@ abbrev blocks_by : Setting → Value → Option Data → List (List ℕ)
 blocks_by w v o = option_map_or (λ d. blocks_of w.frame w.hash w.rows w.ty v d) o []
 
 -- of a value that is held each place is, whatever the batch holds of its own
-places_told : (w : Setting) (v : Value) (held : List (List ℕ)) (o : Option Data) → AllByRecursion (IsHeld held) (blocks_by w v o) → AllByRecursion (λ p. Contains [] p.0 ⊎ AllByRecursion (IsHeld held) p.1) (places_by w v o)
+places_told : (w : Setting) (v : Value) (held : List (List ℕ)) (o : Option Data) → AreHeld (blocks_by w v o) held → AllByRecursion (λ p. Contains [] p.0 ⊎ AreHeld p.1 held) (places_by w v o)
 places_told w v held None all = tt
 places_told w v held (Some d) all =
     let down = down_each (IsHeld held) (value_places w.frame w.hash w.rows w.ty v d) (to_places (IsHeld held) w.frame w.hash w.rows w.ty v d all) in
-    all_mapped (λ (p : List ℕ × List (List ℕ)). Contains [] p.0 ⊎ AllByRecursion (IsHeld held) p.1) (λ (q : Place). (q.0, down_from q)) (each_place (value_places w.frame w.hash w.rows w.ty v d)) (right (each_place (value_places w.frame w.hash w.rows w.ty v d)) down) where
-      right : (qs : List Place) → AllByRecursion (λ q. AllByRecursion (IsHeld held) (down_from q)) qs → AllByRecursion (λ q. Contains [] q.0 ⊎ AllByRecursion (IsHeld held) (down_from q)) qs
+    all_mapped (λ (p : List ℕ × List (List ℕ)). Contains [] p.0 ⊎ AreHeld p.1 held) (λ (q : Place). (q.0, down_from q)) (each_place (value_places w.frame w.hash w.rows w.ty v d)) (right (each_place (value_places w.frame w.hash w.rows w.ty v d)) down) where
+      right : (qs : List Place) → AllByRecursion (λ q. AreHeld (down_from q) held) qs → AllByRecursion (λ q. Contains [] q.0 ⊎ AreHeld (down_from q) held) qs
       right [] all = tt
       right (q ∷ qs) all = (inr all.0, right qs all.1)
 
@@ -54,7 +55,7 @@ untold : (ps : List (List ℕ × List (List ℕ))) → AllByRecursion (λ p. Con
 untold [] = tt
 untold (p ∷ ps) = (inr tt, untold ps)
 
-pub carried_by : (w : Setting) (v : Value) (o : Option (List (List ℕ))) → IfTold o (λ held. AllByRecursion (IsHeld held) (value_blocks w v)) → AllByRecursion (λ p. Contains [] p.0 ⊎ IfTold o (λ held. AllByRecursion (IsHeld held) p.1)) (places_in w v)
+pub carried_by : (w : Setting) (v : Value) (o : Option (List (List ℕ))) → IfTold o (λ held. AreHeld (value_blocks w v) held) → AllByRecursion (λ p. Contains [] p.0 ⊎ IfTold o (λ held. AreHeld p.1 held)) (places_in w v)
 carried_by w v None all = untold (places_in w v)
 carried_by w v (Some held) all = places_told w v held (tree_in w (in_slot w v)) all
 
@@ -101,14 +102,14 @@ carried_then m n was now held before (p ∷ after) same grown carried heads pass
 )
 
 -- the block of each place is held where all from there on down are
-heads_by : (w : Setting) (v : Value) (held : List (List ℕ)) (o : Option Data) → AllByRecursion (IsHeld held) (blocks_by w v o) → AllByRecursion (λ p. IsHeld held p.0) (places_by w v o)
+heads_by : (w : Setting) (v : Value) (held : List (List ℕ)) (o : Option Data) → AreHeld (blocks_by w v o) held → AllByRecursion (λ p. IsHeld held p.0) (places_by w v o)
 heads_by w v held None all = tt
 heads_by w v held (Some d) all =
     let down = down_each (IsHeld held) (value_places w.frame w.hash w.rows w.ty v d) (to_places (IsHeld held) w.frame w.hash w.rows w.ty v d all) in
     all_mapped (λ (p : List ℕ × List (List ℕ)). IsHeld held p.0) (λ (q : Place). (q.0, down_from q)) (each_place (value_places w.frame w.hash w.rows w.ty v d)) (first (each_place (value_places w.frame w.hash w.rows w.ty v d)) down) where
-      first : (qs : List Place) → AllByRecursion (λ q. AllByRecursion (IsHeld held) (down_from q)) qs → AllByRecursion (λ q. IsHeld held q.0) qs
+      first : (qs : List Place) → AllByRecursion (λ q. AreHeld (down_from q) held) qs → AllByRecursion (λ q. IsHeld held q.0) qs
       first [] all = tt
       first (q ∷ qs) all = (all.0.0, first qs all.1)
 
-pub heads_held : (w : Setting) (v : Value) (held : List (List ℕ)) → AllByRecursion (λ b. block_at held (id_of b) ≡ Some b) (value_blocks w v) → AllByRecursion (λ p. block_at held (id_of p.0) ≡ Some p.0) (places_in w v)
+pub heads_held : (w : Setting) (v : Value) (held : List (List ℕ)) → AreHeld (value_blocks w v) held → AllByRecursion (λ p. block_at held (id_of p.0) ≡ Some p.0) (places_in w v)
 heads_held w v held all = heads_by w v held (tree_in w (in_slot w v)) all

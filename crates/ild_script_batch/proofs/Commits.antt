@@ -7,16 +7,17 @@ use Rattle.std.specs.Cmp.Lexicographic.{nat_list_eq_equiv}
 use Rattle.std.proofs.lemmas.List.{append-nil}
 use Rattle.ild_data.specs.Key.{same_text}
 use Rattle.ild_data.specs.Spell.{id_of, spell}
+use Rattle.ild_edges.specs.Among.{IsIn}
+use Rattle.ild_edges.proofs.Among.{IsIn-of}
 use Rattle.ild_dirty.specs.Beneath as B
 use Rattle.ild_dirty.specs.Beneath.{AgreesWith, IsTree}
 use Rattle.ild_dirty.specs.Flush as L
 use Rattle.ild_dirty.specs.Flush.{Asks, Flushes, FlushAnswer}
-use Rattle.ild_dirty.specs.Walk.{IsIn}
 use Rattle.ild_dirty.specs.declared.fault.FlushFault.{FlushFault}
 use Rattle.ild_dirty.specs.declared.fault.FlushFault.TheVariants as F
 use Rattle.ild_dirty.proofs.Batching.{own_first}
 use Rattle.ild_dirty.proofs.Puts.{held-keeps, told-map}
-use Rattle.ild_edges.specs.Gained.{AreHeld}
+use Rattle.ild_edges.specs.Gained.{AreHeld, CameFrom}
 use Rattle.ild_edges.specs.Store.{Moment, Keeps, block_at}
 use Rattle.ild_edges.specs.Told.{BothTold, IfTold}
 use Rattle.ild_edges.proofs.Held.{block_at_id}
@@ -39,7 +40,8 @@ use Rattle.ild_typed_places.proofs.Telling.{from_places, to_places}
 use Rattle.ild_script_batch.specs.Commits.{CarriedAgree, FlushesCommit, IsTreeOf, commit_reply, commit_stage, put_before}
 use Rattle.ild_script_batch.specs.Inside.{batching, begun_at}
 use Rattle.ild_script_batch.proofs.Carrying.{carried_by}
-use Rattle.ild_script_batch.proofs.Listed.{Came, all_in, all_listed, came_over, contains_in, ids_at, in_different, keeps_over, over_own, some_over, told_if, told_now}
+use Rattle.ild_script_session.proofs.Came.{Came}
+use Rattle.ild_script_batch.proofs.Listed.{all_in, all_listed, came_over, ids_at, in_different, keeps_over, over_own, some_over, told_if, told_now}
 use Rattle.ild_script_batch.proofs.Unkinded.{HasKind, blocks_before, kind_at, places_before}
 
 module _ (w : Setting) (v : Value) (t : B.Place) (of : IsTreeOf w v t) where
@@ -135,14 +137,14 @@ module _ (w : Setting) (children : ℕ → List ℕ → List (List ℕ × ℕ)) 
 
   gains : Gains m Line n
   gains = record {
-    adds = told-map m.blocks n.blocks (L.AddsOnly (B.blocks_in t)) (Came (λ b held. Contains (value_blocks w v) b)) (λ was now came id b held. ⊎_elim (λ before. inl before) (λ new. inr (of_value w v t of b new)) (came id b held)) flushes.adds;
+    adds = told-map m.blocks n.blocks (CameFrom (B.blocks_in t)) (Came (λ b held. Contains (value_blocks w v) b)) (λ was now came id b held. ⊎_elim (λ before. inl before) (λ new. inr (of_value w v t of b (IsIn-of b (B.blocks_in t) new))) (came id b held)) flushes.adds;
     whole = told_if m.blocks n.blocks (λ was. L.AreCarried was own (B.places_in t)) (λ was now. L.AreCarried was own (B.places_in t) → L.AddsWhole children t was now) (Came (λ b held. IsWhole held (value_children w v b)))
         (λ was now carried came id b held. ⊎_elim (λ before. inl before) (λ new. inr (whole_of w v t of children now b tree new)) (came carried id b held)) dirty flushes.whole;
   }
 
   puts : n.puts ≤ m.puts + min (length (different (value_blocks w v))) owed
   puts =
-      let each : n.puts ≤ m.puts + length (different (value_blocks w v)) = flushes.puts (different (value_blocks w v)) (λ b is. in_different b (value_blocks w v) (contains_in (value_blocks w v) b (of_value w v t of b is))) in
+      let each : n.puts ≤ m.puts + length (different (value_blocks w v)) = flushes.puts (different (value_blocks w v)) (λ b is. in_different b (value_blocks w v) (IsIn-of b (value_blocks w v) (of_value w v t of b is))) in
       let all : n.puts ≤ m.puts + length own = asks.puts in
       omega (arith, each, all, most)
 

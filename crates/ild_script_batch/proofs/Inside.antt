@@ -1,5 +1,5 @@
 -- A line that is answered over a batch is the line inside the batch.
-use Rattle.std.proofs.Common.{◌≡◌, ◌≢◌, ◌⊎◌, inl, inr, ⊎_elim, ℕ, zero, ◌+◌, ◌-◌, ◌^◌, ◌≤◌, ◌<◌, List, [], ◌∷◌, ◌++◌, length, map, Option, Some, None, Result, Ok, Err, refl, sym, ap, ◌∙◌, subst, arith}
+use Rattle.std.proofs.Common.{◌≡◌, ◌≢◌, ◌⊎◌, inl, inr, ⊎_elim, ℕ, zero, ◌+◌, ◌-◌, ◌^◌, ◌≤◌, ◌<◌, List, [], ◌∷◌, ◌++◌, length, map, Option, Some, None, Result, Ok, Err, refl, ap, ◌∙◌, subst, arith}
 use Rattle.std.specs.Prelude.{Contains, option_map}
 use Rattle.std.specs.List.{AllByRecursion}
 use Rattle.std.proofs.lemmas.Option.{same_Some}
@@ -7,7 +7,7 @@ use Rattle.ild_data.specs.Data.{Data}
 use Rattle.ild_data.specs.Spell.{id_of}
 use Rattle.ild_dirty.specs.Batch.{batch_moment}
 use Rattle.ild_edges.specs.Store.{Moment, block_at}
-use Rattle.ild_edges.specs.Told.{IfTold, BothTold}
+use Rattle.ild_edges.specs.Told.{IfTold}
 use Rattle.ild_json.specs.Printing.{json_text}
 use Rattle.ild_schema.specs.Value.{Value}
 use Rattle.ild_script.specs.declared.reply.No.{No}
@@ -19,6 +19,7 @@ use Rattle.ild_script_meaning.specs.Lines.{Setting, due, changed, edit_reply, ed
 use Rattle.ild_script_session.specs.Batch.{together}
 use Rattle.ild_script_session.specs.Session.{State, Stage, Due, idle, resting}
 use Rattle.ild_script_session.specs.Step.{Carries, HasCause, IsExcused, IsWhole, Replies}
+use Rattle.ild_script_session.proofs.Came.{none_came}
 use Rattle.ild_typed.specs.At.{at}
 use Rattle.ild_script_batch.specs.Inside.{AnswersInside, IsAnsweredInside, IsAnsweredOver, IsLaterBeneath, IsOfStore, batching, begun_at, told_inside}
 use Rattle.ild_script_batch.proofs.Beneath.{later_beneath}
@@ -81,15 +82,6 @@ kept_once : (was now puts owes owed : ℕ) → (puts < 2 ^ 64 - 1 → now + 0 �
 kept_once was now puts owes owed few fits le most = ⊎_elim (λ less. let kept = few less in omega (arith, kept, le, most)) (λ more. omega (arith, more, fits, le)) (either puts) where
   either : (k : ℕ) → (k < 2 ^ 64 - 1) ⊎ (2 ^ 64 - 1 ≤ k)
   either k = grind arith
-
--- ---- what came
-
-abbrev Came : (List ℕ → List (List ℕ) → Type 0) → List (List ℕ) → List (List ℕ) → Type 0
-Came New was now = (id b : List ℕ) → block_at now id ≡ Some b → (block_at was id ≡ Some b) ⊎ New b now
-
-none_came : (New : List ℕ → List (List ℕ) → Type 0) (a b : Option (List (List ℕ))) → b ≡ a → BothTold a b (Came New)
-none_came New None b e = subst (λ (o : Option (List (List ℕ))). BothTold None o (Came New)) (sym e) tt
-none_came New (Some held) b e = subst (λ (o : Option (List (List ℕ))). BothTold (Some held) o (Came New)) (sym e) (λ id c here. inl here)
 
 -- ---- a line that is due d outside a batch, and inside one this reply, this state and so many gets
 

@@ -1,11 +1,11 @@
 -- Blocks that are listed, and what is told of them.
-use Rattle.std.proofs.Common.{◌≡◌, ◌⊎◌, inl, inr, ⊎_elim, ℕ, zero, suc, List, [], ◌∷◌, ◌++◌, map, filter, Bool, true, false, cond, ◌||◌, Option, Some, None, refl, sym, ◌∙◌, subst, arith}
+use Rattle.std.proofs.Common.{◌≡◌, ◌⊎◌, inl, inr, ⊎_elim, ℕ, zero, List, [], ◌∷◌, ◌++◌, map, filter, Bool, true, false, cond, ◌||◌, Option, Some, None, refl, sym, ◌∙◌, subst, arith}
 use Rattle.std.specs.Prelude.{Contains, IsSome, option_map}
 use Rattle.std.specs.List.{AllByRecursion, list_any}
 use Rattle.std.specs.Cmp.Lexicographic.{same_text as texts_same}
 use Rattle.ild_data.specs.Key.{same_text}
 use Rattle.ild_data.specs.Spell.{id_of}
-use Rattle.ild_dirty.specs.Walk.{IsIn}
+use Rattle.ild_edges.specs.Among.{IsIn}
 use Rattle.ild_dirty.proofs.Batching.{own_first, then_held}
 use Rattle.ild_edges.specs.Store.{Keeps, block_at}
 use Rattle.ild_edges.specs.Told.{BothTold, IfTold}
@@ -13,18 +13,9 @@ use Rattle.ild_typed.proofs.Rooms.{all_more}
 use Rattle.ild_typed_places.specs.Places.{Place, tops}
 use Rattle.ild_typed_places.proofs.Listing.{contains_more}
 use Rattle.ild_script_meaning.specs.Costs.{different}
+use Rattle.ild_script_session.proofs.Came.{Came}
 
 -- ---- one of many
-
-pub in_contains : (b : List ℕ) (bs : List (List ℕ)) → IsIn b bs → Contains bs b
-in_contains b [] is = absurd is
-in_contains b (c ∷ bs) (inl same) = (zero, omega arith, sym same)
-in_contains b (c ∷ bs) (inr more) = contains_more c bs b (in_contains b bs more)
-
-pub contains_in : (bs : List (List ℕ)) (b : List ℕ) → Contains bs b → IsIn b bs
-contains_in [] b here = let none = here.1 in absurd (omega (arith, none))
-contains_in (c ∷ bs) b (zero, lt, is) = inl (sym is)
-contains_in (c ∷ bs) b (suc k, lt, is) = inr (contains_in bs b (k, omega (arith, lt), is))
 
 pub all_in : (P : List ℕ → Type 0) (bs : List (List ℕ)) (b : List ℕ) → AllByRecursion P bs → IsIn b bs → P b
 all_in P [] b all is = absurd is
@@ -91,9 +82,6 @@ over_own own (Some x) None P Q f p = absurd p
 over_own own (Some x) (Some y) P Q f p = f x y p
 
 -- ---- beneath blocks of the batch's own
-
-abbrev pub Came : (List ℕ → List (List ℕ) → Type 0) → List (List ℕ) → List (List ℕ) → Type 0
-Came New was now = (id b : List ℕ) → block_at now id ≡ Some b → (block_at was id ≡ Some b) ⊎ New b now
 
 pub keeps_over : (own was now : List (List ℕ)) → Keeps was now → Keeps (own ++ was) (own ++ now)
 keeps_over own was now keeps id b held = by (block_at own id) refl where

@@ -1,5 +1,5 @@
 -- Lines that ask nothing of a store.
-use Rattle.std.proofs.Common.{◌≡◌, ◌⊎◌, inl, inr, ⊎_elim, ℕ, List, [], ◌++◌, Option, Some, None, refl, sym, ap, arith}
+use Rattle.std.proofs.Common.{◌≡◌, ◌⊎◌, inl, inr, ⊎_elim, ℕ, List, [], ◌++◌, Option, Some, None, refl, arith}
 use Rattle.std.specs.Prelude.{Contains, IfSome, option_map}
 use Rattle.std.specs.List.{AllByRecursion}
 use Rattle.ild_data.specs.Data as D
@@ -9,15 +9,14 @@ use Rattle.ild_edges.specs.Told.{BothTold, IfTold}
 use Rattle.ild_edges.proofs.Held.{keeps_all}
 use Rattle.ild_edges.proofs.Later.{Later-refl}
 use Rattle.ild_schema.specs.Value.{Value}
-use Rattle.ild_script.specs.declared.reply.Reply.{Reply}
-use Rattle.ild_script_meaning.specs.Lines.{Setting, abort_due, begin_due, places_in, printed, typed_lines, value_blocks}
+use Rattle.ild_script_meaning.specs.Lines.{abort_due, begin_due, value_blocks}
 use Rattle.ild_script_session.specs.Batch.{together}
-use Rattle.ild_script_session.specs.Session.{State, Stage, Due, idle, resting}
-use Rattle.ild_script_session.specs.Step.{Carries, Gains, IsExcused, IsWhole, Replies, StaysTogether}
-use Rattle.ild_script_batch.specs.Inside.{batching, begun_at}
+use Rattle.ild_script_session.specs.Session.{Stage, Due, idle}
+use Rattle.ild_script_session.specs.Step.{Gains, IsWhole, StaysTogether}
+use Rattle.ild_script_batch.specs.Inside.{begun_at}
 use Rattle.ild_script_batch.specs.Stages.{BatchesBegin, BatchesEnd, StagesStay}
 use Rattle.ild_script_batch.proofs.Carrying.{carried_by}
-use Rattle.ild_script_batch.proofs.Listed.{Came}
+use Rattle.ild_script_session.proofs.Came.{Came}
 
 told_still : (P : List (List ℕ) → List (List ℕ) → Type 0) → ((held : List (List ℕ)) → P held held) → (a : Option (List (List ℕ))) → BothTold a a P
 told_still P each None = tt

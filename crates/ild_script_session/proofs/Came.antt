@@ -7,6 +7,7 @@ use Rattle.ild_data.specs.Key.{same_text}
 use Rattle.ild_data.specs.Spell.{id_of}
 use Rattle.ild_data.specs.Bytes.{AreBytes}
 use Rattle.ild_edges.specs.Count.{bumped}
+use Rattle.ild_edges.specs.Gained.{CameFrom}
 use Rattle.ild_edges.specs.Store.{Moment, Adds, IsFree, block_at, PutsAnswer}
 use Rattle.ild_edges.specs.Told.{IfTold, BothTold}
 use Rattle.ild_edges.specs.declared.error.EdgeErr.TheVariants as E
@@ -15,16 +16,49 @@ use Rattle.ild_script_session.specs.Step.{Holds, AddsOnly, AddsWhole, IsWhole, C
 pub contains_one : (b : List ℕ) → Contains (b ∷ []) b
 contains_one b = (0, omega arith, refl)
 
-abbrev CameOnly : List (List ℕ) → List (List ℕ) → List (List ℕ) → Type 0
-CameOnly bs was now = (id c : List ℕ) → block_at now id ≡ Some c → (block_at was id ≡ Some c) ⊎ Contains bs c
-
-none_came : (bs : List (List ℕ)) (a b : Option (List (List ℕ))) → b ≡ a → BothTold a b (CameOnly bs)
-none_came bs None b same = subst (λ (x : Option (List (List ℕ))). BothTold None x (CameOnly bs)) (sym same) tt
-none_came bs (Some a) b same = subst (λ (x : Option (List (List ℕ))). BothTold (Some a) x (CameOnly bs)) (sym same) (λ id c held. inl held)
+-- each block that is held now was held, or is new in this sense
+abbrev pub Came : (List ℕ → List (List ℕ) → Type 0) → List (List ℕ) → List (List ℕ) → Type 0
+Came New was now = (id b : List ℕ) → block_at now id ≡ Some b → (block_at was id ≡ Some b) ⊎ New b now
 
 -- nothing came
+pub none_came : (New : List ℕ → List (List ℕ) → Type 0) (a b : Option (List (List ℕ))) → b ≡ a → BothTold a b (Came New)
+none_came New None b same = subst (λ (x : Option (List (List ℕ))). BothTold None x (Came New)) (sym same) tt
+none_came New (Some held) b same = subst (λ (x : Option (List (List ℕ))). BothTold (Some held) x (Came New)) (sym same) (λ id c here. inl here)
+
 pub adds_none : (m n : Moment) (bs : List (List ℕ)) → n.blocks ≡ m.blocks → AddsOnly m n bs
-adds_none m n bs same = none_came bs m.blocks n.blocks same
+adds_none m n bs same = none_came (λ b now. Contains bs b) m.blocks n.blocks same
+
+-- ---- one list of blocks, and more
+
+wider : (few many : List (List ℕ)) (o : List (List ℕ)) (id c : List ℕ) → ((b : List ℕ) → Contains few b → Contains many b) → (block_at o id ≡ Some c) ⊎ Contains few c → (block_at o id ≡ Some c) ⊎ Contains many c
+wider few many o id c among (inl is) = inl is
+wider few many o id c among (inr here) = inr (among c here)
+
+widened : (few many : List (List ℕ)) (a b : Option (List (List ℕ))) → ((b : List ℕ) → Contains few b → Contains many b) → BothTold a b (CameFrom few) → BothTold a b (CameFrom many)
+widened few many None None among told = tt
+widened few many None (Some b) among told = absurd told
+widened few many (Some a) None among told = absurd told
+widened few many (Some a) (Some b) among told = λ id c held. wider few many a id c among (told id c held)
+
+pub adds_wider : (m n : Moment) (few many : List (List ℕ)) → ((b : List ℕ) → Contains few b → Contains many b) → AddsOnly m n few → AddsOnly m n many
+adds_wider m n few many among adds = widened few many m.blocks n.blocks among adds
+
+before : (bs a : List (List ℕ)) (b : List (List ℕ)) (id c : List ℕ) → CameFrom bs a b → (block_at b id ≡ Some c) ⊎ Contains bs c → (block_at a id ≡ Some c) ⊎ Contains bs c
+before bs a b id c first (inl is) = first id c is
+before bs a b id c first (inr here) = inr here
+
+joined : (bs : List (List ℕ)) (a b c : Option (List (List ℕ))) → BothTold a b (CameFrom bs) → BothTold b c (CameFrom bs) → BothTold a c (CameFrom bs)
+joined bs None None None first then = tt
+joined bs None None (Some z) first then = absurd then
+joined bs None (Some y) c first then = absurd first
+joined bs (Some x) None c first then = absurd first
+joined bs (Some x) (Some y) None first then = absurd then
+joined bs (Some x) (Some y) (Some z) first then = λ id c held. before bs x y id c first (then id c held)
+
+pub adds_trans : (m k n : Moment) (bs : List (List ℕ)) → AddsOnly m k bs → AddsOnly k n bs → AddsOnly m n bs
+adds_trans m k n bs first then = joined bs m.blocks k.blocks n.blocks first then
+
+-- ---- one put
 
 came_by : (t : Bool) (block : List ℕ) (was now : List (List ℕ)) → Adds block was now → (id c : List ℕ) → t ≡ same_text (id_of block) id → block_at now id ≡ Some c → (block_at was id ≡ Some c) ⊎ Contains (block ∷ []) c
 came_by true block was now adds id c is held =
@@ -35,7 +69,7 @@ came_by false block was now adds id c is held = inl (sym (adds.others id (other_
 
 -- the block came
 adds_block : (block : List ℕ) (a b : Option (List (List ℕ))) → BothTold a b (λ was now. Adds block was now)
-    → BothTold a b (CameOnly (block ∷ []))
+    → BothTold a b (CameFrom (block ∷ []))
 adds_block block None None told = tt
 adds_block block None (Some b) told = absurd told
 adds_block block (Some a) None told = absurd told
@@ -91,8 +125,8 @@ memory_adds m block n answer = adds_none m n (block ∷ []) answer.0
 pub bumped_most : (n : ℕ) → bumped n ≤ n + 1
 bumped_most n = omega arith
 
-childless_by : (new : List (List ℕ)) (a b : Option (List (List ℕ))) → BothTold a b (CameOnly new)
-    → BothTold a b (λ was now. (id c : List ℕ) → block_at now id ≡ Some c → (block_at was id ≡ Some c) ⊎ IsWhole now ([] ∷ []))
+childless_by : (new : List (List ℕ)) (a b : Option (List (List ℕ))) → BothTold a b (CameFrom new)
+    → BothTold a b (Came (λ c now. IsWhole now ([] ∷ [])))
 childless_by new None None adds = tt
 childless_by new None (Some b) adds = absurd adds
 childless_by new (Some a) None adds = absurd adds

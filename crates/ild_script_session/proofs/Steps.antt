@@ -1,9 +1,10 @@
 -- Runs without faults and collisions are runs on plain values, and what a run asks of the store.
 use Rattle.std.proofs.Common.{◌≡◌, ◌≢◌, ◌⊎◌, ℕ, ◌+◌, ◌≤◌, List, [], ◌∷◌, Option, Some, None, refl, sym, ap, ◌∙◌, subst, inl, inr, arith}
 use Rattle.std.specs.Prelude.{IfSome, IsSome, is_some, Contains}
-use Rattle.std.specs.List.{AllByRecursion, cons_option}
+use Rattle.std.specs.List.{cons_option}
 use Rattle.ild_data.specs.Spell.{id_of}
 use Rattle.ild_edges.specs.Count.{Rose, bumped}
+use Rattle.ild_edges.specs.Gained.{AreHeld, CameFrom}
 use Rattle.ild_edges.specs.Store.{Moment, Later, Keeps, block_at}
 use Rattle.ild_edges.specs.Told.{IfTold, BothTold}
 use Rattle.ild_edges.proofs.Later.{Later-refl, Later-trans}
@@ -17,14 +18,11 @@ use Rattle.ild_script_session.specs.Step.{Holds, Collides, HasCause, IsExcused, 
 use Rattle.ild_script_session.specs.Run.{Run, most_gets, most_puts}
 use Rattle.ild_script_session.specs.Plain.{PlainRun, MayPut, MayBegin, AreAllApart}
 
-abbrev AreHeld : List (List ℕ) → List (List ℕ) → Type 0
-AreHeld held bs = AllByRecursion (λ b. block_at held (id_of b) ≡ Some b) bs
-
-all_keeps : (was now bs : List (List ℕ)) → Keeps was now → AreHeld was bs → AreHeld now bs
+pub all_keeps : (was now bs : List (List ℕ)) → Keeps was now → AreHeld bs was → AreHeld bs now
 all_keeps was now [] keeps held = tt
 all_keeps was now (b ∷ bs) keeps held = (keeps (id_of b) b held.0, all_keeps was now bs keeps held.1)
 
-hold_all : (bs : List (List ℕ)) (was now : Option (List (List ℕ))) → BothTold was now Keeps → IfTold was (λ held. AreHeld held bs) → IfTold now (λ held. AreHeld held bs)
+hold_all : (bs : List (List ℕ)) (was now : Option (List (List ℕ))) → BothTold was now Keeps → IfTold was (λ held. AreHeld bs held) → IfTold now (λ held. AreHeld bs held)
 hold_all bs None None keeps held = tt
 hold_all bs None (Some n) keeps held = absurd keeps
 hold_all bs (Some m) None keeps held = absurd keeps
@@ -97,13 +95,13 @@ IsBacked Begins New m s = (b : List ℕ) → Holds (together m s) (b ∷ []) →
 backed_out : {V : Type 0} (Begins : Type 0) (New : List ℕ → Type 0) (m : Moment) (s : Stage V) → s.state.begun ≡ None → IsBacked Begins New m s
 backed_out Begins New m s out b held = inl (subst (λ (k : Moment). Holds k (b ∷ [])) (alone m s out) held)
 
-came_before : (b : List ℕ) (adds : List (List ℕ)) (was now : Option (List (List ℕ))) → BothTold was now (λ was now. (id b : List ℕ) → block_at now id ≡ Some b → (block_at was id ≡ Some b) ⊎ Contains adds b)
-    → IfTold now (λ held. AreHeld held (b ∷ [])) → IfTold was (λ held. AreHeld held (b ∷ [])) ⊎ Contains adds b
+came_before : (b : List ℕ) (adds : List (List ℕ)) (was now : Option (List (List ℕ))) → BothTold was now (CameFrom adds)
+    → IfTold now (λ held. AreHeld (b ∷ []) held) → IfTold was (λ held. AreHeld (b ∷ []) held) ⊎ Contains adds b
 came_before b adds None None came held = inl tt
 came_before b adds None (Some now) came held = absurd came
 came_before b adds (Some was) None came held = absurd came
 came_before b adds (Some was) (Some now) came held = came_so (came (id_of b) b held.0) where
-  came_so : (block_at was (id_of b) ≡ Some b) ⊎ Contains adds b → AreHeld was (b ∷ []) ⊎ Contains adds b
+  came_so : (block_at was (id_of b) ≡ Some b) ⊎ Contains adds b → AreHeld (b ∷ []) was ⊎ Contains adds b
   came_so (inl there) = inl (there, tt)
   came_so (inr new) = inr new
 
