@@ -219,13 +219,13 @@ pub field_there : (rows : List Row) (def : StructDef) (parts : StructParts) (nex
 field_there rows def parts next ps h f known part x = field_at rows def parts next ps h next f known part x
 
 -- a count goes on
-pub count_on : (rows : List Row) (def : StructDef) (parts : StructParts) (next : ℕ) (ps : List Spot) (h : FieldsLeft rows def parts next ps) (i written more : ℕ) (f : Field) → slice_get def.fields i ≡ Some f
-    → (part : Held) → IsFieldOf rows (fields_of parts) h.held i part → ((o : Option Data) → IsPart rows f o part → more ≡ count_there f o) → written ≡ written_in i def.fields h.held
+pub count_on : (rows : List Row) (def : StructDef) (parts : StructParts) (next : ℕ) (ps : List Spot) (h : FieldsLeft rows def parts next ps) (i written more : ℕ)
+    → (part : Held) → IsFieldOf rows (fields_of parts) h.held i part → ((f : Field) (o : Option Data) → IsPart rows f o part → more ≡ count_there f o) → written ≡ written_in i def.fields h.held
     → written + more ≡ written_in (i + 1) def.fields h.held
-count_on rows def parts next ps h i written more f known part there counts so_far =
-    let x = field_at rows def parts next ps h i f known part there in
-    let step = written_next i def.fields h.held f x.content known x.at in
-    let own = counts x.content x.is in
+count_on rows def parts next ps h i written more part x counts so_far =
+    let known : slice_get def.fields i ≡ Some x.field = ap (λ (fs : List Field). slice_get fs i) (sym h.same) ∙ x.there in
+    let step = written_next i def.fields h.held x.field x.held known x.at in
+    let own = counts x.field x.held x.is in
     omega (arith, step, own, so_far)
 
 pub implicit_told : (rows : List Row) (def : StructDef) (parts : StructParts) (next : ℕ) (ps : List Spot) (h : FieldsLeft rows def parts next ps) (f : Field) (d : Data) → slice_get def.fields next ≡ Some f

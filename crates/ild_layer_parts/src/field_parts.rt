@@ -17,7 +17,6 @@ ghost use Rattle.ild_layer_parts.specs.Ready.{AreIn, AreReady, IsPartReady};
 ghost use Rattle.ild_layer_parts.specs.declared.parts.Parts.TheVariants as P;
 
 use crate::fields::Fields;
-use crate::null::null_item;
 use crate::part::{Part, value_part};
 use ild_cbor::Piece;
 use ild_layer_places::Way;
@@ -31,7 +30,7 @@ fn piece_of(held: Held<'_>) -> Option<Piece<'_>>
 {
     match held {
         Held::Absent | Held::Implicit => None,
-        Held::Null => Some(Piece::Node(null_item())),
+        Held::Null(node) => Some(Piece::Node(node)),
         Held::Held(piece) => Some(piece),
     }
 }

@@ -1,8 +1,8 @@
 //! Where the field stands that is the next to be handed out.
 ghost use Rattle.std.specs.Prelude.{◌≡◌, ◌<◌, ◌≤◌, List, Option, Some, length, slice_get};
 ghost use Rattle.ild_data.specs.Data.{Data};
-ghost use Rattle.ild_layer_piece.specs.Pieces.{StandsFor};
 ghost use Rattle.ild_layer_places.specs.Places.{steps_of};
+ghost use Rattle.ild_schema.specs.declared.def.Field.{Field as Schema};
 ghost use Rattle.ild_schema.specs.declared.row.Row.{Row};
 ghost use Rattle.ild_struct.specs.Parts.{IsPart};
 ghost use Rattle.ild_typed.specs.Spots.{Spot, field_steps};
@@ -10,29 +10,27 @@ ghost use Rattle.ild_layer_parts.specs.Fields.{HasFields, count_there, is_there,
 ghost use Rattle.ild_layer_parts.specs.Ways.{LeadsWay};
 
 use crate::fields::Fields;
-use ild_layer_fields::{is_implicit, text_of_field};
+use ild_layer_fields::text_of_field;
 use ild_layer_places::Way;
 use ild_schema::{Field, StructForm};
 use ild_struct::Part as Held;
 
 // Whether a field stands in the data.
-fn is_written(field: &Field, held: &Held<'_>) -> bool
-    ensures { (rows : List Row) (o : Option Data) → IsPart rows field.now o held.now → result ≡ is_there field.now o }
+fn is_written(held: &Held<'_>) -> bool
+    ensures { (rows : List Row) (f : Schema) (o : Option Data) → IsPart rows f o held.now → result ≡ is_there f o }
 {
     match held {
-        Held::Absent => false,
-        Held::Implicit => false,
-        Held::Null => true,
-        Held::Held(piece) => !is_implicit(field, piece),
+        Held::Absent | Held::Implicit => false,
+        Held::Null(_) | Held::Held(_) => true,
     }
 }
 
 // One where a field stands in the data, else none.
-fn count(field: &Field, held: &Held<'_>) -> usize
-    ensures there { (rows : List Row) (o : Option Data) → IsPart rows field.now o held.now → result ≡ count_there field.now o }
+fn count(held: &Held<'_>) -> usize
+    ensures there { (rows : List Row) (f : Schema) (o : Option Data) → IsPart rows f o held.now → result ≡ count_there f o }
     ensures most { result ≤ 1 }
 {
-    if is_written(field, held) { 1 } else { 0 }
+    if is_written(held) { 1 } else { 0 }
 }
 
 // Where a field that is written stands, behind so many.
@@ -53,12 +51,11 @@ impl<'b> Fields<'b> {
         requires { self.now.next < length self.now.def.now.fields }
         ensures { (rows : List Row) (ps : List Spot) (h : HasFields rows self.now ps) → result ≡ written_in self.now.next self.now.def.now.fields h.held }
     {
-        let fields = self.def.fields.as_slice();
         let mut written: usize = 0;
         let mut i: usize = 0;
         while i < self.next {
             let held = self.parts.field(i);
-            written += count(&fields[i], &held);
+            written += count(&held);
             i += 1;
         }
         written
@@ -73,7 +70,7 @@ impl<'b> Fields<'b> {
         }
         let field = &self.def.fields.as_slice()[self.next];
         let held = self.parts.field(self.next);
-        if is_written(field, &held) {
+        if is_written(&held) {
             way_in(&self.def.form, field, self.written_before() as u64)
         } else {
             Way::Here

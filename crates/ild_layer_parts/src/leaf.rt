@@ -8,9 +8,8 @@ ghost use Rattle.ild_typed.specs.Layers.{Shows};
 ghost use Rattle.ild_layer_parts.specs.Leaf.{FitsOfKind};
 ghost use Rattle.ild_layer_parts.specs.Ready.{IsIn};
 
-use crate::null::is_null_there;
 use ild_cbor::{Kind, Piece};
-use ild_layer_piece::kind;
+use ild_layer_piece::{is_null_there, kind};
 use ild_schema::{Accepted, Slot, TypeDef};
 
 /// The kind of which all data are values of a slot, where there is one.

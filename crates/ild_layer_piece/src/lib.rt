@@ -9,5 +9,5 @@ mod walk;
 
 pub use iterate::{entries, entry, items};
 pub use laws::answers_are_one;
-pub use scalar::{boolean, bytes, int, is_null, kind, text};
+pub use scalar::{boolean, bytes, int, is_null, is_null_there, kind, text};
 pub use walk::MapEntries;

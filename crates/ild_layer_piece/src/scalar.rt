@@ -3,11 +3,13 @@ ghost use Rattle.std.specs.Prelude.{◌≡◌, List, option_map, true, false, �
 ghost use Rattle.ild_cbor.specs.Scalar.{boolean_of, int_of, kind_of};
 ghost use Rattle.ild_data.specs.Data.{Data, null};
 ghost use Rattle.ild_schema.specs.declared.row.Row.{Row};
+ghost use Rattle.ild_typed.specs.Pieces.{is_null_there};
 ghost use Rattle.ild_typed.specs.Strings.{bytes_in, text_in};
 ghost use Rattle.ild_layer_piece.specs.Pieces.{StandsFor};
 
 use ild_cbor::{Kind, Piece};
 use ild_data::Int;
+use ild_schema::Slot;
 
 /// The kind of the data.
 #[inline(always)]
@@ -27,6 +29,13 @@ pub fn is_null(piece: &Piece<'_>) -> bool
     ensures { (rows : List Row) (t : Data) → StandsFor rows piece.now t → (result ≡ true) ↔ (t ≡ null) }
 {
     kind(piece) == Kind::Null
+}
+
+/// Whether the data are null, in a slot that takes it.
+pub fn is_null_there(slot: Slot, piece: &Piece<'_>) -> bool
+    ensures { (rows : List Row) (t : Data) → StandsFor rows piece.now t → result ≡ is_null_there slot t }
+{
+    slot.nullable && is_null(piece)
 }
 
 /// The truth value, or `None` where the data are of another kind.

@@ -78,7 +78,7 @@ fn letter(part: Part<'_>) -> u8 {
     match part {
         Part::Held(_) => b'H',
         Part::Absent => b'A',
-        Part::Null => b'N',
+        Part::Null(_) => b'N',
         Part::Implicit => b'I',
     }
 }

@@ -13,6 +13,7 @@ use Rattle.ild_cbor.specs.Steps.{HasItems}
 use Rattle.ild_cbor.specs.declared.items.Items.{Items}
 use Rattle.ild_cbor.specs.declared.node.Node.{Node}
 use Rattle.ild_cbor.specs.declared.piece.Piece.{Piece}
+use Rattle.ild_schema.specs.Accept.{IsAccepted}
 use Rattle.ild_schema.specs.Clear.{ClearStruct, IsGiven, IsRequired, AreClearFields}
 use Rattle.ild_schema.specs.Delims.{HasDelims}
 use Rattle.ild_schema.specs.Copies.{base}
@@ -48,6 +49,7 @@ use Rattle.ild_struct.specs.declared.part.Part.{Part}
 use Rattle.ild_struct.specs.declared.parts.StructParts.{StructParts}
 use Rattle.ild_struct.specs.declared.source.Source.TheVariants as R
 use Rattle.ild_struct.proofs.Looking.{joined_at, keyed, map_keyed, placed}
+use Rattle.ild_struct.proofs.Plain.{join_plain, tuple_plain}
 use Rattle.ild_struct.proofs.Splitting.{text_value_at}
 use Rattle.ild_layer_fields.proofs.Placing.{all_at, get_at}
 
@@ -203,11 +205,12 @@ module _ (rows : List Row) (ty : ℕ) (t : Data) (os : List (Option Data)) (part
           is = told k.held (record { absent = k.absent; required = all_at (λ (g : Field). IsRequired g) parts.fields.def.now.fields i f fields.required at }) (subst (λ o. Found o r) looked there);
         }
 
-    pub tuple_field : (n : Node) (r : Option Node) → parts.source ≡ R.Tuple n
+    pub tuple_field : (n : Node) (r : Option Node) → IsAccepted parts.fields.acc.now → parts.source ≡ R.Tuple n
         → ((u : Data) → Stands n u → Finds n (place_of u i) (item_of u i) r)
-        → ((o : Option Data) → Found o r → IsPart rows f o part)
+        → ((o : Option Data) → f.implicit ≡ None → Found o r → IsPart rows f o part)
         → IsFieldOf rows parts.fields.def.now.fields os i part
-    tuple_field n r source found told =
+    tuple_field n r accepted source found told =
+        let at = field_at parts.fields.def.now.fields i f less is in
         let x = shown_tuple rows parts.fields.def.now.form n t (subst (λ s. Shows rows parts.fields.def.now.form s t) source h.shows) in
         let made_tuple : struct_form S.Tuple parts.fields.def.now.fields os ≡ Some t = ap (λ form. struct_form form parts.fields.def.now.fields os) (sym x.form_is) ∙ made in
         let y = map_from (λ ds. T.list (T.items_of ds)) (tuple_items parts.fields.def.now.fields os) t made_tuple in
@@ -217,10 +220,10 @@ module _ (rows : List Row) (ty : ℕ) (t : Data) (os : List (Option Data)) (part
         ap (λ u. item_of u i) (sym (same_Some (T.list (T.items_of y.item)) t y.made)) ∙ ap (λ ds. slice_get ds i) (items_list-items_of y.item) ∙ k.same in
         record {
           field = f;
-          there = field_at parts.fields.def.now.fields i f less is;
+          there = at;
           held = k.held;
           at = k.at;
-          is = told k.held (subst (λ o. Found o r) looked there);
+          is = told k.held (tuple_plain rows ty parts.fields.def.now (subst IsAccepted h.table accepted) h.struct i f at x.form_is) (subst (λ o. Found o r) looked there);
         }
 
     pub listpairs_field : (s : Items) (key : List ℕ) (r : Option Node) → parts.source ≡ R.ListPairs s → key ≡ field_text f
@@ -269,20 +272,21 @@ module _ (rows : List Row) (ty : ℕ) (t : Data) (os : List (Option Data)) (part
           is = told k.held (record { absent = k.absent; required = all_at (λ (g : Field). IsRequired g) parts.fields.def.now.fields i f both.0.required at }) looked;
         }
 
-    pub stringjoin_field : (split : JoinParts) (r : Option (Bor (List ℕ))) → parts.source ≡ R.StringJoin split
+    pub stringjoin_field : (split : JoinParts) (r : Option (Bor (List ℕ))) → IsAccepted parts.fields.acc.now → parts.source ≡ R.StringJoin split
         → option_map (λ (s : Bor (List ℕ)). s.now) r ≡ slice_get (joined_parts split) i
-        → ((o : Option Data) → o ≡ option_map (λ (s : Bor (List ℕ)). T.text s.now) r → IsPart rows f o part)
+        → ((o : Option Data) → f.implicit ≡ None → o ≡ option_map (λ (s : Bor (List ℕ)). T.text s.now) r → IsPart rows f o part)
         → IsFieldOf rows parts.fields.def.now.fields os i part
-    stringjoin_field split r source found told =
+    stringjoin_field split r accepted source found told =
         let fs = parts.fields.def.now.fields in
+        let at = field_at fs i f less is in
         let x = shown_textjoin rows parts.fields.def.now.form split t (subst (λ u. Shows rows parts.fields.def.now.form u t) source h.shows) in
         let given : HasDelims (S.StringJoin x.delim) fs = subst (λ form. HasDelims form fs) x.form_is delims in
         let made_join : struct_form (S.StringJoin x.delim) fs os ≡ Some t = ap (λ form. struct_form form fs os) (sym x.form_is) ∙ made in
         let k = joined_at x.delim x.text fs os i given less (made_join ∙ ap Some x.text_is) in
         record {
           field = f;
-          there = field_at fs i f less is;
+          there = at;
           held = k.held;
           at = k.at;
-          is = told k.held (part_looked (parted x.delim x.text) (joined_parts split) i k.held r x.cuts k.same found);
+          is = told k.held (join_plain rows ty parts.fields.def.now (subst IsAccepted h.table accepted) h.struct i f at x.delim x.form_is) (part_looked (parted x.delim x.text) (joined_parts split) i k.held r x.cuts k.same found);
         }

@@ -2,6 +2,7 @@ pub mod Fielding
 pub mod Forms
 pub mod Layering
 pub mod Looking
+pub mod Plain
 pub mod Presenting
 pub mod Splitting
 pub mod Stepping

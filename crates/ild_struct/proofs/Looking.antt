@@ -71,18 +71,18 @@ map_keyed fs os t i f apart made at =
     subst (Keyed f os i) (sym same) (keyed fs os x.item i f apart x.there at)
 
 -- the part of what was found
-pub keyed_part : (rows : List Row) (f : Field) (n : Node) (part : Part) → ((d : Data) → Stands n d → IsPart rows f (Some d) part)
+pub keyed_part : (rows : List Row) (f : Field) (n : Node) (part : Part) → ((d : Data) → Stands n d → is_implicit f.implicit d ≡ false → IsPart rows f (Some d) part)
     → (o : Option Data) → IsLookedUp f o → Found (shown f o) (Some n) → IsPart rows f o part
 keyed_part rows f n part held None l found = absurd found
-keyed_part rows f n part held (Some d) l found = by (is_implicit f.implicit d) found where
-  by : (b : Bool) → Found (cond b None (Some d)) (Some n) → IsPart rows f (Some d) part
-  by true here = absurd here
-  by false here = held d here
+keyed_part rows f n part held (Some d) l found = by (is_implicit f.implicit d) refl found where
+  by : (b : Bool) → is_implicit f.implicit d ≡ b → Found (cond b None (Some d)) (Some n) → IsPart rows f (Some d) part
+  by true is here = absurd here
+  by false is here = held d here is
 
-pub placed_part : (rows : List Row) (f : Field) (n : Node) (part : Part) → ((d : Data) → Stands n d → IsPart rows f (Some d) part)
-    → (o : Option Data) → Found o (Some n) → IsPart rows f o part
-placed_part rows f n part held None found = absurd found
-placed_part rows f n part held (Some d) found = held d found
+pub placed_part : (rows : List Row) (f : Field) (n : Node) (part : Part) → ((d : Data) → Stands n d → is_implicit f.implicit d ≡ false → IsPart rows f (Some d) part)
+    → (o : Option Data) → f.implicit ≡ None → Found o (Some n) → IsPart rows f o part
+placed_part rows f n part held None plain found = absurd found
+placed_part rows f n part held (Some d) plain found = held d found (ap (λ v. is_implicit v d) plain)
 
 -- ---- by its place
 

@@ -1,7 +1,8 @@
 -- What a struct's layer hands out: what stands for each of its fields (IPLD Schemas, "Struct Representation Strategies").
-use Rattle.std.specs.Prelude.{◌≡◌, ℕ, Bool, true, List, Option, Some, None, slice_get}
+use Rattle.std.specs.Prelude.{◌≡◌, ℕ, Bool, true, false, List, Option, Some, None, slice_get}
 use Rattle.ild_data.specs.Data as T
 use Rattle.ild_data.specs.Data.{Data}
+use Rattle.ild_cbor.specs.Nodes.{Stands}
 use Rattle.ild_schema.specs.Kinds.{meant}
 use Rattle.ild_schema.specs.declared.def.Field.{Field}
 use Rattle.ild_schema.specs.declared.def.StructDef.{StructDef}
@@ -27,8 +28,8 @@ IsStruct rows ty s = meant rows ty ≡ Some (D.Struct s)
 abbrev pub IsPart : List Row → Field → Option Data → Part → Type 0
 IsPart rows f None P.Absent = Unit {0}
 IsPart rows f (Some d) P.Implicit = is_implicit f.implicit d ≡ true
-IsPart rows f (Some d) P.Null = d ≡ T.null
-IsPart rows f (Some d) (P.Held p) = StandsFor rows p d × (d ≡ T.null → ⊥)
+IsPart rows f (Some d) (P.Null n) = Stands n d × (d ≡ T.null)
+IsPart rows f (Some d) (P.Held p) = StandsFor rows p d × (d ≡ T.null → ⊥) × (is_implicit f.implicit d ≡ false)
 IsPart rows f o part = ⊥
 
 -- of the field with a number

@@ -1,11 +1,12 @@
 //! The parts that stand for fields.
-ghost use Rattle.std.specs.Prelude.{◌≡◌, ◌<◌, ℕ, List, Option, None, Some, length, option_map};
+ghost use Rattle.std.specs.Prelude.{◌≡◌, ◌<◌, ℕ, List, Option, None, Some, false, length, option_map};
 ghost use Rattle.ild_data.specs.Data.{Data, text};
 ghost use Rattle.ild_cbor.specs.Nodes.{Stands};
 ghost use Rattle.ild_schema.specs.declared.def.Field.{Field as Schema};
 ghost use Rattle.ild_schema.specs.declared.row.Row.{Row};
 ghost use Rattle.ild_struct.specs.Parts.{ArePartsOf, HasNumber, IsFieldOf, IsPart, fields_of};
 ghost use Rattle.ild_layer_piece.specs.Entries.{Found};
+ghost use Rattle.ild_typed.specs.Fields.{is_implicit};
 ghost use Rattle.ild_struct.specs.Reading.{IsLookedUp, shown};
 
 use crate::pairs::pair_value;
@@ -20,11 +21,11 @@ use ild_schema::Field;
 
 // A part that is written.
 fn held(node: Node<'_>) -> Part<'_>
-    ensures held { (rows : List Row) (field : Schema) (d : Data) → Stands node.entry d → IsPart rows field (Some d) result }
+    ensures held { (rows : List Row) (field : Schema) (d : Data) → Stands node.entry d → is_implicit field.implicit d ≡ false → IsPart rows field (Some d) result }
     ensures numbered { (rows : List Row) → HasNumber rows result }
 {
     if node.kind() == Kind::Null {
-        Part::Null
+        Part::Null(node)
     } else {
         Part::Held(Piece::Node(node))
     }
@@ -54,7 +55,7 @@ fn keyed<'b>(field: &Field, found: Option<Node<'b>>) -> Part<'b>
 
 // The part of a field that was looked up by its place.
 fn placed(found: Option<Node<'_>>) -> Part<'_>
-    ensures part { (rows : List Row) (field : Schema) (o : Option Data) → Found o found.entry → IsPart rows field o result }
+    ensures part { (rows : List Row) (field : Schema) (o : Option Data) → field.implicit ≡ None → Found o found.entry → IsPart rows field o result }
     ensures numbered { (rows : List Row) → HasNumber rows result }
 {
     match found {
@@ -76,7 +77,7 @@ fn keyed_text<'b>(field: &Field, found: Option<&'b str>) -> Part<'b>
 
 // The part of a field that was looked up by its place among texts.
 fn placed_text(found: Option<&str>) -> Part<'_>
-    ensures part { (rows : List Row) (field : Schema) (o : Option Data) → o ≡ option_map (λ s. text s.now) found.entry → IsPart rows field o result }
+    ensures part { (rows : List Row) (field : Schema) (o : Option Data) → field.implicit ≡ None → o ≡ option_map (λ s. text s.now) found.entry → IsPart rows field o result }
     ensures numbered { (rows : List Row) → HasNumber rows result }
 {
     match found {

@@ -1,5 +1,5 @@
 //! What stands for a field.
-use ild_cbor::Piece;
+use ild_cbor::{Node, Piece};
 
 /// What stands in a block for a field of a struct.
 #[derive(Clone, Copy)]
@@ -8,8 +8,8 @@ pub enum Part<'b> {
     Absent,
     /// Nothing: the field has its implicit value, which is left out.
     Implicit,
-    /// Null.
-    Null,
-    /// A piece that isn't null.
+    /// Null, where it stands.
+    Null(Node<'b>),
+    /// A piece that is neither null nor the implicit value.
     Held(Piece<'b>),
 }

@@ -14,7 +14,6 @@ ghost use Rattle.ild_view.specs.Itself.{Embodies};
 
 use crate::body::Body;
 use crate::form::struct_in;
-use crate::null::null_item;
 use crate::view::View;
 use ild_cbor::Piece;
 use ild_schema::{Accepted, Field, TypeNo};
@@ -32,7 +31,7 @@ fn body_of<'b>(field: &'b Field, part: Part<'b>) -> Option<Body<'b>>
             Some(scalar) => Some(Body::Implicit(scalar)),
             None => None,
         },
-        Part::Null => Some(Body::Held(Piece::Node(null_item()))),
+        Part::Null(node) => Some(Body::Held(Piece::Node(node))),
         Part::Held(piece) => Some(Body::Held(piece)),
     }
 }

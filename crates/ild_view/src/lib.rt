@@ -17,7 +17,6 @@ mod itself;
 mod keyed;
 mod member;
 mod name;
-mod null;
 mod of;
 mod part;
 mod rep;

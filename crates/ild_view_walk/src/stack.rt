@@ -11,7 +11,8 @@ ghost use Rattle.ild_view_walk.specs.Stacked.{Adds, AreHeld, IsPlain, IsShown, S
 
 use crate::opening::Stop;
 use crate::walk::open_piece;
-use ild_layer_parts::{Part, Parts, is_null_there};
+use ild_layer_parts::{Part, Parts};
+use ild_layer_piece::is_null_there;
 use ild_schema::Accepted;
 use std::alloc::{AllocError, Global};
 

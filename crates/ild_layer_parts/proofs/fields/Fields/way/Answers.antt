@@ -15,7 +15,7 @@ returns-then-is_written c = λ rows ps h d at.
     let is : f ≡ get_or fs s.next f = c.index-as_slice-self.is ∙ ap (λ (gs : List Field). get_or gs s.next f) c.as_slice.ensures in
     let known : slice_get fs s.next ≡ Some f = got_at fs s.next f (omega (arith, c.if-self-len.false, c.len.ensures)) is in
     let told = implicit_told rows s.def.now s.parts s.next ps h f d known at c.field-held.result (c.field-held.ensures.part rows h.ty h.tree h.held h.are) c.is_written.result
-    (λ o part. c.is_written.ensures rows o part) in
+    (λ o part. c.is_written.ensures rows f o part) in
     way_there rows s.def.now s.parts s.next ps h f d known at c.way_in.result (told ∙ ap not c.if-is_written.true) (c.way_in.ensures ∙ ap (field_steps s.def.now.form f) (c.written_before.ensures rows ps h))
 
 pub returns-else-is_written : goal.returns-else-is_written
@@ -26,5 +26,5 @@ returns-else-is_written c = λ rows ps h d at.
     let is : f ≡ get_or fs s.next f = c.index-as_slice-self.is ∙ ap (λ (gs : List Field). get_or gs s.next f) c.as_slice.ensures in
     let known : slice_get fs s.next ≡ Some f = got_at fs s.next f (omega (arith, c.if-self-len.false, c.len.ensures)) is in
     let told = implicit_told rows s.def.now s.parts s.next ps h f d known at c.field-held.result (c.field-held.ensures.part rows h.ty h.tree h.held h.are) c.is_written.result
-    (λ o part. c.is_written.ensures rows o part) in
+    (λ o part. c.is_written.ensures rows f o part) in
     way_left_out rows s.def.now s.parts s.next ps h f d known at W.Here (told ∙ ap not c.if-is_written.false) refl

@@ -15,7 +15,7 @@ returns-in-Tuple-clause-part c = λ rows ty t os h.
     let f = c.index-as_slice-i.result in
     let is : f ≡ get_or c.args.self.now.fields.def.now.fields c.args.i f = c.index-as_slice-i.is ∙ ap (λ (fs : List Field). get_or fs c.args.i f) c.as_slice.ensures in
     tuple_field rows ty t os c.args.self.now c.types.ensures.legible c.args.i f c.requires is c.placed.result h
-    c.in-Tuple.node c.item.result c.in-Tuple.is c.item.ensures (c.placed.ensures.part rows f)
+    c.in-Tuple.node c.item.result c.types.ensures.accepted c.in-Tuple.is c.item.ensures (c.placed.ensures.part rows f)
 
 pub returns-in-ListPairs-clause-part : goal.returns-in-ListPairs-clause-part
 returns-in-ListPairs-clause-part c = λ rows ty t os h.
@@ -36,4 +36,4 @@ returns-in-StringJoin-clause-part c = λ rows ty t os h.
     let f = c.index-as_slice-i.result in
     let is : f ≡ get_or c.args.self.now.fields.def.now.fields c.args.i f = c.index-as_slice-i.is ∙ ap (λ (fs : List Field). get_or fs c.args.i f) c.as_slice.ensures in
     stringjoin_field rows ty t os c.args.self.now c.types.ensures.legible c.args.i f c.requires is c.placed_text.result h
-    c.in-StringJoin.split c.get.result c.in-StringJoin.is c.get.ensures (c.placed_text.ensures.part rows f)
+    c.in-StringJoin.split c.get.result c.types.ensures.accepted c.in-StringJoin.is c.get.ensures (c.placed_text.ensures.part rows f)
