@@ -4,14 +4,13 @@ use Rattle.std.specs.Prelude.{Result, IfErr}
 use Rattle.ild_data.specs.declared.hamt_shape.HamtShape.{HamtShape}
 use Rattle.ild_data.specs.Trie.{TrieSlot}
 use Rattle.ild_edges.specs.Store.{Moment}
-use Rattle.ild_edges.specs.Told.{IfTold}
 use Rattle.ild_node_slots.specs.declared.fault.HamtFault.{HamtFault}
 use Rattle.ild_bulk_walker.specs.Ahead.{IsNewLeft, KeepsWhere}
 use Rattle.ild_bulk_walker.specs.Calls.{Calls, fails_in}
-use Rattle.ild_bulk_walker.specs.Reads.{NodesBeneath, HasRead, HoldsAll, fails_of}
+use Rattle.ild_bulk_walker.specs.Reads.{NodesBeneath, HasRead, fails_of}
 use Rattle.ild_bulk_walker.specs.declared.row.Row.{Row}
 use Rattle.ild_bulk_walker.specs.declared.walker.Walker.{Walker}
-use Rattle.ild_bulk_walker.proofs.Resuming.{read-nothing, read-both}
+use Rattle.ild_bulk_walker.proofs.Resuming.{told-are, read-nothing, read-both}
 
 pub gets-what-it-enters : (p : HamtShape) (h : List ℕ → List ℕ) (rs : List (Result (Option Row) HamtFault)) (m n : Moment) (v w : Walker) → Calls h p rs m v w n → HasRead p (λ blocks. Unit {0}) (fails_in rs) m v w n
 gets-what-it-enters p h [] m n v w c =
@@ -22,9 +21,6 @@ gets-what-it-enters p h (r ∷ rs) m n v w c =
     let first = c.2 in
     read-both p (λ blocks. IfErr r (λ e. KeepsWhere h p blocks v u)) (λ blocks. Unit {0}) (λ blocks. Unit {0}) (fails_of r + fails_in rs) m k n v u w first.only.blocks (λ xs ys s q. tt) (fails_of r) (fails_in rs) refl first.read
     (gets-what-it-enters p h rs k n u w c.3)
-
-told-are : (told : Option (List (List ℕ))) (held blocks : List (List ℕ)) → told ≡ Some held → IfTold told (λ held. HoldsAll held blocks) → HoldsAll held blocks
-told-are told held blocks is q = subst (λ o. IfTold o (λ held. HoldsAll held blocks)) is q
 
 pub gets-in-all : (p : HamtShape) (h : List ℕ → List ℕ) (rs : List (Result (Option Row) HamtFault)) (m n : Moment) (v w : Walker) (slots : List TrieSlot) (held : List (List ℕ)) (many : ℕ)
     → IsNewLeft p slots v → Calls h p rs m v w n → m.blocks ≡ Some held → NodesBeneath p held slots many → n.gets ≤ m.gets + (many + fails_in rs)

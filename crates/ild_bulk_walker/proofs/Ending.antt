@@ -11,12 +11,14 @@ use Rattle.ild_data.specs.Data.{Data}
 use Rattle.ild_data.specs.Spell.{spell}
 use Rattle.ild_data.specs.Trie.{TrieSlot}
 use Rattle.ild_data.specs.TrieShape.{trie_levels}
+use Rattle.ild_edges.specs.Gained.{FromBlocks}
 use Rattle.ild_edges.specs.Store.{Moment}
 use Rattle.ild_edges.proofs.Later.{Later-refl, Later-trans}
+use Rattle.ild_edges.proofs.Reading.{from_told, from_nothing, from_both}
 use Rattle.ild_node_slots.specs.declared.fault.HamtFault.{HamtFault}
 use Rattle.ild_node_slots.specs.declared.fault.HamtFault.TheVariants as F
 use Rattle.ild_bulk_walker.specs.Ahead.{Ahead, BeginsWith, IsNew, IsNewOn, IsNewLeft, NextAnswer, Nexts}
-use Rattle.ild_bulk_walker.specs.Checked.{ReadsTree, GivesNone, StopsWith, Checks, Walks, InKeyOrder, row_pair, spelled_pair, Behind, Walked, HasWalked, HasListed}
+use Rattle.ild_bulk_walker.specs.Checked.{ReadsTree, GivesNone, StopsWith, GivesMany, GivesRows, Checks, Walks, InKeyOrder, row_pair, spelled_pair, Behind, Walked, HasWalked, HasListed}
 use Rattle.ild_bulk_walker.specs.Gives.{RootGives}
 use Rattle.ild_bulk_walker.specs.Reads.{LeftNodes, Spends}
 use Rattle.ild_bulk_walker.specs.Standing.{IsOn, IsBroken, StandsThere}
@@ -35,7 +37,7 @@ from-root p h slots m w held new es = (
 
 pub begun : (p : HamtShape) (h : List ℕ → List ℕ) (slots : List TrieSlot) (at : List ℕ) (AreDone : List (List ℕ × Data) → Type 0) (m : Moment) (w : Walker) → AreDone [] → IsNew p slots w → IsNewOn p slots at w → IsNewLeft p slots w → w.given ≡ 0 → HasWalked h p slots at AreDone m w m
 begun p h slots at AreDone m w are new on left none = record {
-  walked = λ held told. record { done = []; are = are; many = sym none; ahead = from-root p h slots m w held new };
+  walked = from_nothing m.blocks (λ held. Walked h p held slots AreDone w) (λ held. record { done = []; are = are; many = sym none; ahead = from-root p h slots m w held new });
   on = on m.blocks;
   spent = λ held many told nodes. record { left = many; nodes = left held many nodes; gets = omega arith };
   later = Later-refl m;
@@ -45,7 +47,10 @@ begun p h slots at AreDone m w are new on left none = record {
 }
 
 -- a row more
-walked-one : (p : HamtShape) (h : List ℕ → List ℕ) (slots : List TrieSlot) (held : List (List ℕ)) (P Q : List (List ℕ × Data) → Type 0) (v w : Walker) (row : Row) (value : Data) → (es : List (List ℕ × Data)) → ((es : List (List ℕ × Data)) → Ahead h p held v es ↔ BeginsWith h p held row.key value w es)
+abbrev IsRow : (List ℕ → List ℕ) → HamtShape → Walker → Row → Data → Walker → List (List ℕ) → Type 0
+IsRow h p v row value w held = (es : List (List ℕ × Data)) → Ahead h p held v es ↔ BeginsWith h p held row.key value w es
+
+walked-one : (p : HamtShape) (h : List ℕ → List ℕ) (slots : List TrieSlot) (held : List (List ℕ)) (P Q : List (List ℕ × Data) → Type 0) (v w : Walker) (row : Row) (value : Data) → (es : List (List ℕ × Data)) → IsRow h p v row value w held
     → (b : Walked h p held slots P v) → RootGives h p held (trie_levels p - 1) slots es ↔ Behind h p held (b.done ++ (row.key, value) ∷ []) w es
 walked-one p h slots held P Q v w row value es ahead b = (
   λ r.
@@ -63,15 +68,7 @@ walked-one p h slots held P Q v w row value es ahead b = (
 pub walked-more : (p : HamtShape) (h : List ℕ → List ℕ) (slots : List TrieSlot) (at : List ℕ) (P Q : List (List ℕ × Data) → Type 0) (m n o : Moment) (v w : Walker) (row : Row) → ((done : List (List ℕ × Data)) (value : Data) → row.value ≡ spell value → P done → Q (done ++ (row.key, value) ∷ []))
     → HasWalked h p slots at P m v n → Nexts h p n v (Ok (Some row)) w o → HasWalked h p slots at Q m w o
 walked-more p h slots at P Q m n o v w row more was next = record {
-  walked = λ held told.
-      let b = was.walked held told in
-      let g = next.answer in
-      record {
-        done = b.done ++ (row.key, g.value) ∷ [];
-        are = more b.done g.value g.spelled b.are;
-        many = length-append b.done ((row.key, g.value) ∷ []) ∙ ap (λ k. k + 1) b.many ∙ sym next.counts.0;
-        ahead = λ es. walked-one p h slots held P Q v w row g.value es (λ fs. g.ahead held fs (was.blocks ∙ told)) b;
-      };
+  walked = from_both m.blocks (λ held. Walked h p held slots P v) (IsRow h p v row next.answer.value w) (λ held. Walked h p held slots Q w) step was.walked (subst (λ told. FromBlocks told (IsRow h p v row next.answer.value w)) was.blocks next.answer.ahead);
   on = subst (λ told. IsOn p told slots at w) was.blocks (next.on slots at (subst (λ told. IsOn p told slots at v) (sym was.blocks) was.on)).0;
   spent = λ held many told nodes. let s = was.spent held many told nodes in let q = next.reads held (was.blocks ∙ told) s.left s.nodes in record { left = q.left; nodes = q.nodes; gets = let one = s.gets in let two = q.gets in omega arith };
   later = Later-trans m n o was.later next.only.later;
@@ -79,6 +76,14 @@ walked-more p h slots at P Q m n o v w row more was next = record {
   given = next.only.given ∙ was.given;
   puts = next.only.puts ∙ was.puts;
 }
+  where
+    step : (held : List (List ℕ)) → Walked h p held slots P v → IsRow h p v row next.answer.value w held → Walked h p held slots Q w
+    step held b ahead = record {
+      done = b.done ++ (row.key, next.answer.value) ∷ [];
+      are = more b.done next.answer.value next.answer.spelled b.are;
+      many = length-append b.done ((row.key, next.answer.value) ∷ []) ∙ ap (λ k. k + 1) b.many ∙ sym next.counts.0;
+      ahead = λ es. walked-one p h slots held P Q v w row next.answer.value es ahead b;
+    }
 
 pub any-more : (row : Row) → (done : List (List ℕ × Data)) (value : Data) → row.value ≡ spell value → Unit {0} → Unit {0}
 any-more row done value spelled u = u
@@ -109,16 +114,23 @@ still-reads p h slots at P m n w was = record {
 pub no-reads : (p : HamtShape) (slots : List TrieSlot) (m : Moment) → ReadsTree p slots m m
 no-reads p slots m = record { later = Later-refl m; blocks = refl; given = refl; puts = refl; gets = λ held many told nodes. omega arith }
 
+-- nothing is ahead
+abbrev IsDone : (List ℕ → List ℕ) → HamtShape → Walker → List (List ℕ) → Type 0
+IsDone h p v held = (es : List (List ℕ × Data)) → Ahead h p held v es ↔ (es ≡ [])
+
 -- all entries were given
-all-given : (p : HamtShape) (h : List ℕ → List ℕ) (slots : List TrieSlot) (at : List ℕ) (P : List (List ℕ × Data) → Type 0) (m n o : Moment) (v w : Walker) (held : List (List ℕ)) → HasWalked h p slots at P m v n → Nexts h p n v (Ok None) w o → m.blocks ≡ Some held → (b : Walked h p held slots P v)
-    → RootGives h p held (trie_levels p - 1) slots b.done
-all-given p h slots at P m n o v w held was next told b = (b.ahead b.done).1 (record { rest = []; is = sym (append-nil b.done); ahead = (next.answer held [] (was.blocks ∙ told)).1 refl })
+all-given : (p : HamtShape) (h : List ℕ → List ℕ) (slots : List TrieSlot) (P : List (List ℕ × Data) → Type 0) (v : Walker) (held : List (List ℕ)) → (b : Walked h p held slots P v) → IsDone h p v held → RootGives h p held (trie_levels p - 1) slots b.done
+all-given p h slots P v held b done = (b.ahead b.done).1 (record { rest = []; is = sym (append-nil b.done); ahead = (done []).1 refl })
+
+-- what follows from all that was given, and that it was all
+from-all : (p : HamtShape) (h : List ℕ → List ℕ) (slots : List TrieSlot) (at : List ℕ) (P : List (List ℕ × Data) → Type 0) (Q : List (List ℕ) → Type 0) (m n o : Moment) (v w : Walker) → HasWalked h p slots at P m v n → Nexts h p n v (Ok None) w o
+    → ((held : List (List ℕ)) → (b : Walked h p held slots P v) → RootGives h p held (trie_levels p - 1) slots b.done → Q held) → FromBlocks m.blocks Q
+from-all p h slots at P Q m n o v w was next so =
+    from_both m.blocks (λ held. Walked h p held slots P v) (IsDone h p v) Q (λ held b done. so held b (all-given p h slots P v held b done)) was.walked (subst (λ told. FromBlocks told (IsDone h p v)) was.blocks next.answer)
 
 pub walked-end : (p : HamtShape) (h : List ℕ → List ℕ) (slots : List TrieSlot) (at : List ℕ) (m n o : Moment) (v w : Walker) (count : ℕ) → HasWalked h p slots at (λ done. Unit {0}) m v n → Nexts h p n v (Ok None) w o → w.given ≡ count → Checks h p slots at m (Ok count) o
 walked-end p h slots at m n o v w count was next is = record {
-  answer = λ held told.
-      let b = was.walked held told in
-      record { entries = b.done; many = b.many ∙ sym next.counts ∙ is; gives = all-given p h slots at (λ done. Unit {0}) m n o v w held was next told b };
+  answer = from-all p h slots at (λ done. Unit {0}) (λ held. GivesMany h p held slots count) m n o v w was next (λ held b gives. record { entries = b.done; many = b.many ∙ sym next.counts ∙ is; gives = gives });
   broken = tt;
   reads = ended p h slots at (λ done. Unit {0}) m n o v w (Ok None) was next;
 }
@@ -127,7 +139,7 @@ pub stopped : (p : HamtShape) (h : List ℕ → List ℕ) (slots : List TrieSlot
 stopped p h slots at P m n o v w e was next = by e next.answer
   where
     none : ((held : List (List ℕ)) (es : List (List ℕ × Data)) → n.blocks ≡ Some held → Ahead h p held v es → ⊥) → GivesNone h p slots m
-    none no_more held es told r = let u = ((was.walked held told).ahead es).0 r in no_more held u.rest (was.blocks ∙ told) u.ahead
+    none no_more held es told r = let u = ((from_told m.blocks (λ held. Walked h p held slots P v) was.walked held told).ahead es).0 r in no_more held u.rest (was.blocks ∙ told) u.ahead
 
     by : (e : HamtFault) → NextAnswer h p n v (Err e) w o → StopsWith h p slots m e o
     by F.Store q = rose-later m.faults n.faults o.faults was.later.faults q.0
@@ -172,11 +184,9 @@ listed-more p h slots at rows more m n o v w row is was next = record {
 
 pub listed-end : (p : HamtShape) (h : List ℕ → List ℕ) (slots : List TrieSlot) (at : List ℕ) (rows : List Row) (m n o : Moment) (v w : Walker) (sorted : Vec Row) → IsNode p slots → HasListed h p slots at rows m v n → Nexts h p n v (Ok None) w o → IsPermutation rows sorted.items → InKeyOrder sorted.items → Walks h p slots at m (Ok sorted) o
 listed-end p h slots at rows m n o v w sorted form was next same order = record {
-  answer = λ held told.
-      let b = was.walk.walked held told in
-      let gives = all-given p h slots at (λ done. map spelled_pair done ≡ map row_pair rows) m n o v w held was.walk next told b in
+  answer = from-all p h slots at (λ done. map spelled_pair done ≡ map row_pair rows) (λ held. GivesRows h p held slots sorted.items) m n o v w was.walk next (λ held b gives.
       let moved : IsPermutation (map spelled_pair b.done) (map row_pair sorted.items) = subst (λ xs. IsPermutation xs (map row_pair sorted.items)) (sym b.are) (IsPermutation-map row_pair rows sorted.items same) in
-      record { entries = b.done; gives = gives; same = moved; rise = rows-rise p h held slots b.done sorted.items form gives moved order };
+      record { entries = b.done; gives = gives; same = moved; rise = rows-rise p h held slots b.done sorted.items form gives moved order });
   order = order;
   stand = All-permutation (StandsThere p m.blocks slots at) rows sorted.items same was.stand;
   broken = tt;

@@ -9,6 +9,7 @@ use Rattle.ild_data.specs.Data.{Data}
 use Rattle.ild_data.specs.Trie.{TrieSlot}
 use Rattle.ild_data.specs.TrieShape.{trie_levels}
 use Rattle.ild_edges.specs.Count.{Rose}
+use Rattle.ild_edges.specs.Gained.{AreHeld, FromBlocks}
 use Rattle.ild_edges.specs.Store.{Moment, Later, block_at}
 use Rattle.ild_edges.specs.Told.{IfTold}
 use Rattle.ild_edges.proofs.Later.{Later-refl, Later-trans}
@@ -18,13 +19,13 @@ use Rattle.std.proofs.lemmas.List.{length-map}
 use Rattle.ild_bulk_walker.specs.Fetching.{IsRefused, OnlyGets}
 use Rattle.ild_bulk_walker.specs.Todo.{Todo, give, enter, leave, node_todo, fits, StillGives}
 use Rattle.ild_node_slots.proofs.Shapes.{levels_some}
-use Rattle.ild_bulk_walker.specs.Ahead.{Ahead, StillAhead, walker_todo, walker_path, walker_here, IsFaultAt, IsTrieFault, SameTold, NothingTold, KeepsAhead, KeepsWhere, SameWhere, Leaves, Enters, EnterAnswer, IsPast, IsCause, IsUnchanged, Takes, Gives, GiveAnswer, GivesNext, IsNew, IsReady, NextAnswer, Nexts, Counts, AnyRow, ComesNext}
+use Rattle.ild_bulk_walker.specs.Ahead.{Ahead, StillAhead, walker_todo, walker_path, walker_here, IsFaultAt, IsTrieFault, NothingTold, KeepsAhead, KeepsWhere, SameWhere, Leaves, Enters, EnterAnswer, IsPast, IsCause, IsUnchanged, Takes, Gives, GiveAnswer, GivesNext, IsNew, IsReady, BeginsWith, NextAnswer, Nexts, Counts, AnyRow, ComesNext}
 use Rattle.ild_bulk_walker.proofs.Opening.{root-on, root-off}
-use Rattle.ild_bulk_walker.proofs.Walking.{unchanged-same, unchanged-still}
+use Rattle.ild_bulk_walker.proofs.Walking.{unchanged-still}
 use Rattle.ild_bulk_walker.specs.Standing.{KeepsOn, RowStands}
 use Rattle.ild_bulk_walker.proofs.Keeping.{StaysOn, FaultOn, keeps-more, few-keeps, stray-keeps, taken-keeps, taken-row, memory-keeps}
 use Rattle.ild_bulk_walker.proofs.Spending.{Passes, passes-itself, spends-none, spends-more, taken-passes, taken-nodes, unchanged-nodes}
-use Rattle.ild_bulk_walker.proofs.Resuming.{read-nothing, read-both, where-both, where-itself}
+use Rattle.ild_bulk_walker.proofs.Resuming.{read-nothing, read-both, read-from, where-both, where-itself, where-told}
 use Rattle.ild_bulk_walker.specs.Reads.{HasRead, fails_of}
 use Rattle.ild_bulk_walker.specs.declared.row.Row.{Row}
 use Rattle.ild_bulk_walker.specs.declared.step.Child.{Child}
@@ -49,11 +50,8 @@ cause-later p m n o F.Size later blocks c = absurd c
 cause-later p m n o F.NoKey later blocks c = absurd c
 cause-later p m n o F.Memory later blocks c = absurd c
 
-same-told : (p : HamtShape) (m n : Moment) (u v w : Walker) → n.blocks ≡ m.blocks → SameTold p m u v → SameTold p n v w → SameTold p m u w
-same-told p m n u v w blocks a b = λ h held es told. (λ s. (b h held es (blocks ∙ told)).0 ((a h held es told).0 s), λ s. (a h held es told).1 ((b h held es (blocks ∙ told)).1 s))
-
-nothing-told : (p : HamtShape) (m n : Moment) (u v : Walker) → n.blocks ≡ m.blocks → SameTold p m u v → NothingTold p n v → NothingTold p m u
-nothing-told p m n u v blocks a b = λ h held es told s. b h held es (blocks ∙ told) ((a h held es told).0 s)
+nothing-told : (p : HamtShape) (most : ℕ) (m n : Moment) (u v : Walker) → Enters p most m u (Ok tt) v n → NothingTold p n v → NothingTold p m u
+nothing-told p most m n u v x none = λ h held es told s. none h held es (x.only.blocks ∙ told) ((where-told p 0 m n u v x.read h held es told).0 s)
 
 only-more : (a b c : ℕ) (m n o : Moment) → OnlyGets a m n → OnlyGets b n o → a + b ≤ c → OnlyGets c m o
 only-more a b c m n o x y le = record { later = Later-trans m n o x.later y.later; blocks = y.blocks ∙ x.blocks; given = y.given ∙ x.given; puts = y.puts ∙ x.puts; gets = let s = x.gets in let q = y.gets in omega arith }
@@ -67,7 +65,6 @@ no-fail n = omega arith
 pub enters-more : (p : HamtShape) (a b c : ℕ) (m n o : Moment) (u v w : Walker) (r : Result (Unit {0}) HamtFault) → a + b ≤ c → Enters p a m u (Ok tt) v n → Enters p b n v r w o → Enters p c m u r w o
 enters-more p a b c m n o u v w r le x y = record {
   answer = by r y.answer;
-  same = same-told p m n u v w x.only.blocks x.same y.same;
   given = y.given ∙ x.given;
   short = y.short;
   only = only-more a b c m n o x.only y.only le;
@@ -77,7 +74,7 @@ enters-more p a b c m n o u v w r le x y = record {
 }
   where
     failed : (e : HamtFault) → IsCause p n e o × NothingTold p n v → IsCause p m e o × NothingTold p m u
-    failed e q = (cause-later p m n o e x.only.later x.only.blocks q.0, nothing-told p m n u v x.only.blocks x.same q.1)
+    failed e q = (cause-later p m n o e x.only.later x.only.blocks q.0, nothing-told p a m n u v x q.1)
 
     by : (r : Result (Unit {0}) HamtFault) → EnterAnswer p n v r w o → EnterAnswer p m u r w o
     by (Ok t) q = q
@@ -93,7 +90,6 @@ enters-more p a b c m n o u v w r le x y = record {
 pub enters-none : (p : HamtShape) (m : Moment) (v : Walker) → IsPast v.given (walker_todo v) → length (walker_path v) < trie_levels p → Enters p (length (walker_path v)) m v (Ok tt) v m
 enters-none p m v past short = record {
   answer = past;
-  same = λ h held es told. (λ a. a, λ a. a);
   given = refl;
   short = short;
   only = only-most 0 (length (walker_path v)) m m (record { later = Later-refl m; blocks = refl; given = refl; puts = refl; gets = omega arith }) (omega arith);
@@ -103,7 +99,7 @@ enters-none p m v past short = record {
 }
 
 pub enters-most : (p : HamtShape) (a c : ℕ) (m n : Moment) (u w : Walker) (r : Result (Unit {0}) HamtFault) → a ≤ c → Enters p a m u r w n → Enters p c m u r w n
-enters-most p a c m n u w r le x = record { answer = x.answer; same = x.same; given = x.given; short = x.short; only = only-most a c m n x.only le; on = x.on; reads = x.reads; read = x.read }
+enters-most p a c m n u w r le x = record { answer = x.answer; given = x.given; short = x.short; only = only-most a c m n x.only le; on = x.on; reads = x.reads; read = x.read }
 
 -- ---- giving
 
@@ -222,9 +218,6 @@ still-both p h m u v su sv same = λ held es told. (
   λ b. record { short = su; still = (same held es told).1 b.still },
 )
 
-same-of : (p : HamtShape) (h : List ℕ → List ℕ) (m : Moment) (u v : Walker) → SameTold p m u v → (held : List (List ℕ)) (es : List (List ℕ × Data)) → m.blocks ≡ Some held → StillAhead h p held u es ↔ StillAhead h p held v es
-same-of p h m u v same held es told = same h held es told
-
 cause-trie : (p : HamtShape) (m n : Moment) (e : HamtFault) → IsTrieFault e → IsCause p m e n
 cause-trie p m n (F.Block id why) f = inr f
 cause-trie p m n F.Exhausted f = absurd f
@@ -277,8 +270,9 @@ next-left p h m u v e short l = record {
   read = read-nothing p (λ blocks. KeepsWhere h p blocks u v) 1 m m u v (omega arith) l.nodes (λ held es all. ahead-of p h held es u v short (let q = l.path in omega arith) (l.same h held es));
 }
 
-told-of : (p : HamtShape) (u v : Walker) (m : Moment) → Leaves p u (Ok tt) v → SameTold p m u v
-told-of p u v m l = λ h held es told. l.same h held es
+-- once nodes are left and children entered the same is ahead, where the store tells what it holds
+same-of : (p : HamtShape) (h : List ℕ → List ℕ) (m n : Moment) (u v w : Walker) (r : Result (Unit {0}) HamtFault) → Leaves p u (Ok tt) v → Enters p (trie_levels p) m v r w n → (held : List (List ℕ)) (es : List (List ℕ × Data)) → m.blocks ≡ Some held → StillAhead h p held u es ↔ StillAhead h p held w es
+same-of p h m n u v w r l e held es told = both-ways (l.same h held es) (where-told p (fails_of r) m n v w e.read h held es told)
 
 pub next-entered : (p : HamtShape) (h : List ℕ → List ℕ) (m n : Moment) (u v w : Walker) (e : HamtFault) → length (walker_path u) < trie_levels p → Leaves p u (Ok tt) v → Enters p (trie_levels p) m v (Err e) w n → Nexts h p m u (Err e) w n
 next-entered p h m n u v w e short l x = record { answer = by e x.answer; counts = x.given ∙ l.given; only = x.only; on = keeps; row = tt; read = read; reads = λ held told many nodes. let s = l.reads held m.gets many nodes in let q = x.reads held told s.left s.nodes in let one = s.gets in omega arith }
@@ -286,6 +280,7 @@ next-entered p h m n u v w e short l x = record { answer = by e x.answer; counts
     read : HasRead p (λ blocks. KeepsWhere h p blocks u w) 1 m u w n
     read = record {
       blocks = x.read.blocks;
+      bytes = x.read.bytes;
       nodes = x.read.nodes;
       held = x.read.held;
       gets = x.read.gets;
@@ -297,7 +292,7 @@ next-entered p h m n u v w e short l x = record { answer = by e x.answer; counts
     keeps = λ root at on. let q = x.on h root at (l.on h m.blocks m.lacks root at on).0 in (q.0, q.1)
 
     same : KeepsAhead h p m u w
-    same = still-both p h m u w short x.short (same-of p h m u w (same-told p m m u v w refl (told-of p u v m l) x.same))
+    same = still-both p h m u w short x.short (same-of p h m n u v w (Err e) l x)
 
     failed : (e : HamtFault) → IsCause p m e n × NothingTold p m v → NextAnswer h p m u (Err e) w n
     failed e q = faulty p h m n u w e q.0 (λ held es told a. q.1 h held es told ((l.same h held es).0 a.still)) same
@@ -339,13 +334,19 @@ next-given p h m n u v w x r short l e g = record {
     counted (Err f) c = c ∙ (e.given ∙ l.given)
 
     same : (held : List (List ℕ)) (es : List (List ℕ × Data)) → m.blocks ≡ Some held → StillAhead h p held u es ↔ StillAhead h p held w es
-    same = same-of p h m u w (same-told p m m u v w refl (told-of p u v m l) e.same)
+    same = same-of p h m n u v w (Ok tt) l e
+
+    same-where : (held : List (List ℕ)) (es : List (List ℕ × Data)) → AreHeld e.read.blocks held → StillAhead h p held u es ↔ StillAhead h p held w es
+    same-where held es all = both-ways (l.same h held es) (e.read.says h held es all)
+
+    from : (P : List (List ℕ) → Type 0) → ((held : List (List ℕ)) → AreHeld e.read.blocks held → P held) → FromBlocks m.blocks P
+    from P so = read-from p (λ blocks. SameWhere p blocks v w) P 0 m n v w e.read so
 
     short-x : length (walker_path x) < trie_levels p
     short-x = subst (λ (q : List ℕ). length q < trie_levels p) (sym g.path) e.short
 
     where-kept : IsUnchanged w x → KeepsWhere h p e.read.blocks u x
-    where-kept c = λ held es all. ahead-of p h held es u x short short-x (both-ways (both-ways (l.same h held es) (e.read.says h held es all)) (unchanged-still p w x c h held es))
+    where-kept c = λ held es all. ahead-of p h held es u x short short-x (both-ways (same-where held es all) (unchanged-still p w x c h held es))
 
     says : (r : Result (Option Row) HamtFault) → GiveAnswer h p w r x → IfErr r (λ f. KeepsWhere h p e.read.blocks u x)
     says (Ok row) q = tt
@@ -363,6 +364,7 @@ next-given p h m n u v w x r short l e g = record {
     read : HasRead p (λ blocks. IfErr r (λ f. KeepsWhere h p blocks u x)) (fails_of r) m u x n
     read = record {
       blocks = e.read.blocks;
+      bytes = e.read.bytes;
       nodes = e.read.nodes;
       held = e.read.held;
       gets = besides n.gets m.gets (length e.read.blocks) (fails_of r) e.read.gets;
@@ -371,7 +373,7 @@ next-given p h m n u v w x r short l e g = record {
     }
 
     kept : IsUnchanged w x → KeepsAhead h p m u x
-    kept c = still-both p h m u x short short-x (same-of p h m u x (same-told p m m u w x refl (same-told p m m u v w refl (told-of p u v m l) e.same) (unchanged-same p m w x c)))
+    kept c = still-both p h m u x short short-x (λ held es told. both-ways (same held es told) (unchanged-still p w x c h held es))
 
     failed : (e : HamtFault) → IsTrieFault e × ((held : List (List ℕ)) (es : List (List ℕ × Data)) → StillAhead h p held w es → ⊥) × IsUnchanged w x → NextAnswer h p m u (Err e) x n
     failed e q = faulty p h m n u x e (cause-trie p m n e q.0) (λ held es told a. q.1 held es ((same held es told).0 a.still)) (kept q.2)
@@ -380,15 +382,15 @@ next-given p h m n u v w x r short l e g = record {
     by (Ok (Some row)) q = record {
       value = q.value;
       spelled = q.spelled;
-      ahead = λ held es told. (
-        λ a. let b = (q.still held es).0 ((same held es told).0 a.still) in record { rest = b.rest; is = b.is; ahead = record { short = short-x; still = b.still } },
-        λ b. record { short = short; still = (same held es told).1 ((q.still held es).1 (record { rest = b.rest; is = b.is; still = b.ahead.still })) },
-      );
+      ahead = from (λ held. (es : List (List ℕ × Data)) → Ahead h p held u es ↔ BeginsWith h p held row.key q.value x es) (λ held all es. (
+        λ a. let b = (q.still held es).0 ((same-where held es all).0 a.still) in record { rest = b.rest; is = b.is; ahead = record { short = short-x; still = b.still } },
+        λ b. record { short = short; still = (same-where held es all).1 ((q.still held es).1 (record { rest = b.rest; is = b.is; still = b.ahead.still })) },
+      ));
     }
-    by (Ok None) q = λ held es told. (
-      λ a. (q held es).0 ((same held es told).0 a.still),
-      λ is. record { short = short; still = (same held es told).1 ((q held es).1 is) },
-    )
+    by (Ok None) q = from (λ held. (es : List (List ℕ × Data)) → Ahead h p held u es ↔ (es ≡ [])) (λ held all es. (
+      λ a. (q held es).0 ((same-where held es all).0 a.still),
+      λ is. record { short = short; still = (same-where held es all).1 ((q held es).1 is) },
+    ))
     by (Err F.Memory) q = kept q
     by (Err F.Store) q = absurd q.0
     by (Err F.Exhausted) q = failed F.Exhausted q

@@ -1,45 +1,56 @@
 -- What blocks that were read say over every store.
-use Rattle.std.proofs.Common.{◌≡◌, ℕ, ◌+◌, ◌≤◌, List, [], ◌∷◌, ◌++◌, length, Option, Some, None, sym, subst, arith}
+use Rattle.std.proofs.Common.{◌≡◌, ◌↔◌, ℕ, ◌+◌, ◌≤◌, List, [], ◌∷◌, ◌++◌, Option, Some, None, sym, subst, arith}
+use Rattle.std.specs.List.{AllByRecursion}
 use Rattle.std.proofs.lemmas.List.{length-append}
+use Rattle.ild_data.specs.Bytes.{AreBytes}
+use Rattle.ild_data.specs.Data.{Data}
 use Rattle.ild_data.specs.declared.hamt_shape.HamtShape.{HamtShape}
 use Rattle.ild_data.specs.Spell.{id_of}
+use Rattle.ild_edges.specs.Gained.{AreHeld, FromBlocks}
 use Rattle.ild_edges.specs.Store.{Moment, block_at}
 use Rattle.ild_edges.specs.Told.{IfTold}
-use Rattle.ild_bulk_walker.specs.Ahead.{SameNodes, SameWhere}
-use Rattle.ild_bulk_walker.specs.Reads.{AreNodes, HoldsAll, HasRead}
+use Rattle.ild_bulk_walker.specs.Ahead.{StillAhead, SameNodes, SameWhere}
+use Rattle.ild_bulk_walker.specs.Reads.{AreNodes, HasRead}
 use Rattle.ild_bulk_walker.specs.declared.walker.Walker.{Walker}
 
 -- ---- blocks that are held
 
-holds-both : (held xs ys : List (List ℕ)) → HoldsAll held xs → HoldsAll held ys → HoldsAll held (xs ++ ys)
+holds-both : (held xs ys : List (List ℕ)) → AreHeld xs held → AreHeld ys held → AreHeld (xs ++ ys) held
 holds-both held [] ys s q = q
 holds-both held (a ∷ xs) ys s q = (s.0, holds-both held xs ys s.1 q)
 
-holds-first : (held xs ys : List (List ℕ)) → HoldsAll held (xs ++ ys) → HoldsAll held xs
+holds-first : (held xs ys : List (List ℕ)) → AreHeld (xs ++ ys) held → AreHeld xs held
 holds-first held [] ys q = tt
 holds-first held (a ∷ xs) ys q = (q.0, holds-first held xs ys q.1)
 
-holds-second : (held xs ys : List (List ℕ)) → HoldsAll held (xs ++ ys) → HoldsAll held ys
+holds-second : (held xs ys : List (List ℕ)) → AreHeld (xs ++ ys) held → AreHeld ys held
 holds-second held [] ys q = q
 holds-second held (a ∷ xs) ys q = holds-second held xs ys q.1
+
+bytes-both : (xs ys : List (List ℕ)) → AllByRecursion AreBytes xs → AllByRecursion AreBytes ys → AllByRecursion AreBytes (xs ++ ys)
+bytes-both [] ys s q = q
+bytes-both (a ∷ xs) ys s q = (s.0, bytes-both xs ys s.1 q)
 
 nodes-both : (p : HamtShape) (xs ys : List (List ℕ)) → AreNodes p xs → AreNodes p ys → AreNodes p (xs ++ ys)
 nodes-both p [] ys s q = q
 nodes-both p (a ∷ xs) ys s q = (s.0, nodes-both p xs ys s.1 q)
 
-told-none : (told : Option (List (List ℕ))) → IfTold told (λ held. HoldsAll held [])
+told-none : (told : Option (List (List ℕ))) → IfTold told (λ held. AreHeld [] held)
 told-none None = tt
 told-none (Some held) = tt
 
-told-both : (told : Option (List (List ℕ))) (xs ys : List (List ℕ)) → IfTold told (λ held. HoldsAll held xs) → IfTold told (λ held. HoldsAll held ys) → IfTold told (λ held. HoldsAll held (xs ++ ys))
+told-both : (told : Option (List (List ℕ))) (xs ys : List (List ℕ)) → IfTold told (λ held. AreHeld xs held) → IfTold told (λ held. AreHeld ys held) → IfTold told (λ held. AreHeld (xs ++ ys) held)
 told-both None xs ys s q = tt
 told-both (Some held) xs ys s q = holds-both held xs ys s q
 
-pub told-one : (told : Option (List (List ℕ))) (id block : List ℕ) → id_of block ≡ id → IfTold told (λ held. block_at held id ≡ Some block) → IfTold told (λ held. HoldsAll held (block ∷ []))
+pub told-one : (told : Option (List (List ℕ))) (id block : List ℕ) → id_of block ≡ id → IfTold told (λ held. block_at held id ≡ Some block) → IfTold told (λ held. AreHeld (block ∷ []) held)
 told-one None id block named q = tt
 told-one (Some held) id block named q = (subst (λ i. block_at held i ≡ Some block) (sym named) q, tt)
 
-pub holds-one : (held : List (List ℕ)) (id block : List ℕ) → id_of block ≡ id → HoldsAll held (block ∷ []) → block_at held id ≡ Some block
+pub told-are : (told : Option (List (List ℕ))) (held blocks : List (List ℕ)) → told ≡ Some held → IfTold told (λ held. AreHeld blocks held) → AreHeld blocks held
+told-are told held blocks is q = subst (λ o. IfTold o (λ held. AreHeld blocks held)) is q
+
+pub holds-one : (held : List (List ℕ)) (id block : List ℕ) → id_of block ≡ id → AreHeld (block ∷ []) held → block_at held id ≡ Some block
 holds-one held id block named q = subst (λ i. block_at held i ≡ Some block) named q.0
 
 -- ---- what was read
@@ -53,6 +64,7 @@ no-get a b c le = omega arith
 pub read-nothing : (p : HamtShape) (P : List (List ℕ) → Type 0) (besides : ℕ) (m n : Moment) (v w : Walker) → n.gets ≤ m.gets + besides → SameNodes p v w → P [] → HasRead p P besides m v w n
 read-nothing p P besides m n v w gets same q = record {
   blocks = [];
+  bytes = tt;
   nodes = tt;
   held = told-none m.blocks;
   gets = no-get n.gets m.gets besides gets;
@@ -65,8 +77,9 @@ read-both p P Q R besides m n o u v w same both a b sum x y =
     let long = length-append x.blocks y.blocks in
     record {
       blocks = x.blocks ++ y.blocks;
+      bytes = bytes-both x.blocks y.blocks x.bytes y.bytes;
       nodes = nodes-both p x.blocks y.blocks x.nodes y.nodes;
-      held = told-both m.blocks x.blocks y.blocks x.held (subst (λ told. IfTold told (λ held. HoldsAll held y.blocks)) same y.held);
+      held = told-both m.blocks x.blocks y.blocks x.held (subst (λ told. IfTold told (λ held. AreHeld y.blocks held)) same y.held);
       gets = let s = x.gets in let q = y.gets in omega arith;
       left = λ held k all l.
           let s = x.left held k (holds-first held x.blocks y.blocks all) l in
@@ -74,6 +87,10 @@ read-both p P Q R besides m n o u v w same both a b sum x y =
           (q.0, let one = s.1 in let two = q.1 in omega arith, q.2);
       says = both x.blocks y.blocks x.says y.says;
     }
+
+-- what holds wherever the blocks are held follows from them
+pub read-from : (p : HamtShape) (Says : List (List ℕ) → Type 0) (P : List (List ℕ) → Type 0) (besides : ℕ) (m n : Moment) (v w : Walker) → (r : HasRead p Says besides m v w n) → ((held : List (List ℕ)) → AreHeld r.blocks held → P held) → FromBlocks m.blocks P
+read-from p Says P besides m n v w r so = record { blocks = r.blocks; bytes = r.bytes; there = r.held; so = so }
 
 pub where-itself : (p : HamtShape) (v : Walker) → SameWhere p [] v v
 where-itself p v = λ h held es all. (λ s. s, λ s. s)
@@ -83,3 +100,8 @@ where-both p u v w xs ys a b = λ h held es all. (
   λ s. (b h held es (holds-second held xs ys all)).0 ((a h held es (holds-first held xs ys all)).0 s),
   λ s. (a h held es (holds-first held xs ys all)).1 ((b h held es (holds-second held xs ys all)).1 s),
 )
+
+-- where the store tells what it holds
+pub where-told : (p : HamtShape) (besides : ℕ) (m n : Moment) (v w : Walker) → HasRead p (λ blocks. SameWhere p blocks v w) besides m v w n
+    → (h : List ℕ → List ℕ) (held : List (List ℕ)) (es : List (List ℕ × Data)) → m.blocks ≡ Some held → StillAhead h p held v es ↔ StillAhead h p held w es
+where-told p besides m n v w r = λ h held es told. r.says h held es (told-are m.blocks held r.blocks told r.held)

@@ -20,7 +20,7 @@ use Rattle.ild_node_slots.specs.declared.fault.HamtFault.TheVariants as F
 use Rattle.ild_bulk_walker.specs.Gives.{IsNodeOf, TreeGives, SlotsGive}
 use Rattle.ild_bulk_walker.specs.Todo.{Todo, enter, leave, slot_todo, node_todo, StillGives}
 use Rattle.ild_bulk_walker.specs.Steps.{step_todo, steps_todo, path_of}
-use Rattle.ild_bulk_walker.specs.Ahead.{NextIs, StillAhead, walker_todo, walker_path, walker_here, IsTrieFault, IsFaultAt, NothingAhead, Leaves, IsPast, IsEntered, IsUnchanged, SameTold, SameWhere, NothingTold, Opens, EnterAnswer, Enters}
+use Rattle.ild_bulk_walker.specs.Ahead.{NextIs, StillAhead, walker_todo, walker_path, walker_here, IsTrieFault, IsFaultAt, NothingAhead, Leaves, IsPast, IsEntered, IsUnchanged, SameWhere, NothingTold, Opens, EnterAnswer, Enters}
 use Rattle.ild_bulk_walker.specs.Fetching.{GotSteps, IsRefused, FetchAnswer, Fetches}
 use Rattle.ild_bulk_walker.specs.declared.step.Child.{Child}
 use Rattle.ild_bulk_walker.specs.declared.step.Step.{Step}
@@ -259,9 +259,6 @@ entered-still p m v w c steps short got e = λ h held es here.
       },
     )
 
-pub entered-same : (p : HamtShape) (m : Moment) (v w : Walker) (c : Child) (steps : List Step) → suc (length (walker_path v)) < trie_levels p → GotSteps p m c.id.0 steps → IsEntered v c steps w → SameTold p m v w
-entered-same p m v w c steps short got e = λ h held es told. entered-still p m v w c steps short got e h held es (told-held m held c.id.0 got.block got.at.held told)
-
 -- over every store: wherever the block is held that was got
 entered-where : (p : HamtShape) (m : Moment) (v w : Walker) (c : Child) (steps : List Step) → suc (length (walker_path v)) < trie_levels p → (got : GotSteps p m c.id.0 steps) → IsEntered v c steps w → SameWhere p (got.block ∷ []) v w
 entered-where p m v w c steps short got e = λ h held es all. entered-still p m v w c steps short got e h held es (holds-one held c.id.0 got.block got.at.named all)
@@ -277,9 +274,6 @@ unchanged-still p v w u = λ h held es. (
         (subst (λ q. StillGives h p held (walker_todo v) q w.given es) u.path (subst (λ ts. StillGives h p held ts (walker_path w) w.given es) u.todo b.gives));
   },
 )
-
-pub unchanged-same : (p : HamtShape) (m : Moment) (v w : Walker) → IsUnchanged v w → SameTold p m v w
-unchanged-same p m v w u = λ h held es told. unchanged-still p v w u h held es
 
 -- a child for which no level is left
 pub entered-deep : (p : HamtShape) (m : Moment) (v : Walker) (c : Child) → NextIs (enter c.id.0 c.index) v → trie_levels p ≤ suc (length (walker_path v)) → NothingTold p m v
@@ -351,7 +345,6 @@ opened v w c steps at next is place path given same-at =
 pub enter-stopped : (p : HamtShape) (m n : Moment) (v : Walker) (c : Child) (e : HamtFault) → NextIs (enter c.id.0 c.index) v → suc (length (walker_path v)) < trie_levels p → Fetches p m c.id.0 (Err e) n → Enters p 1 m v (Err e) v n
 enter-stopped p m n v c e next short f = record {
   answer = by e f.answer;
-  same = λ h held es told. (λ a. a, λ a. a);
   given = refl;
   short = omega arith;
   only = f.only;
@@ -384,7 +377,6 @@ path-longer v w c is = ap (λ (q : List ℕ). length q) is ∙ length-append (wa
 pub enter-done : (p : HamtShape) (m n : Moment) (v w : Walker) (c : Child) (steps : Vec Step) (r : Result (Unit {0}) HamtFault) → NextIs (enter c.id.0 c.index) v → suc (length (walker_path v)) < trie_levels p → Fetches p m c.id.0 (Ok steps) n → Opens v c steps.items r w → Enters p 1 m v r w n
 enter-done p m n v w c steps (Ok u) next short f o = record {
   answer = entered-past p m v w c steps.items f.answer o;
-  same = entered-same p m v w c steps.items short f.answer o;
   given = o.given;
   short = let long = path-longer v w c o.path in omega arith;
   only = f.only;
@@ -392,6 +384,7 @@ enter-done p m n v w c steps (Ok u) next short f o = record {
   reads = λ held told. entered-passes p m held m.gets n.gets v w c steps.items told (let seen = length-map v.path.items (λ (d : Child). d.index) in omega arith) f.only.gets f.answer o;
   read = record {
     blocks = f.answer.block ∷ [];
+    bytes = (f.answer.has.bytes, tt);
     nodes = ((f.answer.has.slots, f.answer.has.node), tt);
     held = told-one m.blocks c.id.0 f.answer.block f.answer.at.named f.answer.at.held;
     gets = let one = f.only.gets in omega arith;
@@ -401,7 +394,6 @@ enter-done p m n v w c steps (Ok u) next short f o = record {
 }
 enter-done p m n v w c steps (Err F.Memory) next short f o = record {
   answer = tt;
-  same = unchanged-same p m v w o;
   given = o.given;
   short = let long = ap (λ (q : List ℕ). length q) o.path in omega arith;
   only = f.only;
@@ -420,7 +412,6 @@ enter-done p m n v w c steps (Err F.NoKey) next short f o = absurd o
 pub enter-deep : (p : HamtShape) (m : Moment) (v : Walker) (c : Child) (e : HamtFault) → NextIs (enter c.id.0 c.index) v → length (walker_path v) < trie_levels p → trie_levels p ≤ suc (length v.path.items) → IsTrieFault e → IsFaultAt (walker_here v) e → Enters p 1 m v (Err e) v m
 enter-deep p m v c e next short deep trie here = record {
   answer = by e trie;
-  same = λ h held es told. (λ a. a, λ a. a);
   given = refl;
   short = short;
   only = record { later = Later-refl m; blocks = refl; given = refl; puts = refl; gets = omega arith };

@@ -8,6 +8,7 @@ use Rattle.ild_data.specs.TrieShape.{trie_levels}
 use Rattle.ild_cbor.specs.declared.why.BlockWhy.TheVariants.{Shape as NoNode}
 use Rattle.ild_cbor.specs.declared.why.Why.TheVariants.{Trie}
 use Rattle.ild_edges.specs.Count.{Rose}
+use Rattle.ild_edges.specs.Gained.{AreHeld, FromBlocks}
 use Rattle.ild_edges.specs.Store.{Moment}
 use Rattle.ild_node_slots.specs.declared.fault.HamtFault.{HamtFault}
 use Rattle.ild_node_slots.specs.declared.fault.HamtFault.TheVariants.{Block, Store, Memory}
@@ -15,7 +16,7 @@ use Rattle.ild_bulk_walker.specs.Fetching.{IsRefused, OnlyGets}
 use Rattle.ild_bulk_walker.specs.Gives.{RootGives}
 use Rattle.ild_bulk_walker.specs.Standing.{IsOn, KeepsOn, RowStands, way_of, last_of}
 use Rattle.ild_bulk_walker.specs.Steps.{steps_todo, path_of}
-use Rattle.ild_bulk_walker.specs.Reads.{NodesBeneath, LeftNodes, Spends, HoldsAll, HasRead, fails_of}
+use Rattle.ild_bulk_walker.specs.Reads.{NodesBeneath, LeftNodes, Spends, HasRead, fails_of}
 use Rattle.ild_bulk_walker.specs.Todo.{Todo, give, enter, leave, StillGives, fits}
 use Rattle.ild_bulk_walker.specs.declared.step.Child.{Child}
 use Rattle.ild_bulk_walker.specs.declared.step.Step.{Step}
@@ -93,7 +94,7 @@ SameNodes p v w = (held : List (List ℕ)) (n : ℕ) → LeftNodes p held v n �
 
 -- the same entries are ahead, wherever these blocks are held
 abbrev pub SameWhere : HamtShape → List (List ℕ) → Walker → Walker → Type 0
-SameWhere p blocks v w = (h : List ℕ → List ℕ) (held : List (List ℕ)) (es : List (List ℕ × Data)) → HoldsAll held blocks → StillAhead h p held v es ↔ StillAhead h p held w es
+SameWhere p blocks v w = (h : List ℕ → List ℕ) (held : List (List ℕ)) (es : List (List ℕ × Data)) → AreHeld blocks held → StillAhead h p held v es ↔ StillAhead h p held w es
 
 abbrev pub NothingAhead : HamtShape → Walker → Type 0
 NothingAhead p w = (h : List ℕ → List ℕ) (held : List (List ℕ)) (es : List (List ℕ × Data)) → StillAhead h p held w es → ⊥
@@ -147,10 +148,7 @@ Opens v c steps (Ok u) w = IsEntered v c steps w
 Opens v c steps (Err Memory) w = IsUnchanged v w
 Opens v c steps (Err e) w = ⊥
 
--- the same, where the store tells what it holds
-abbrev pub SameTold : HamtShape → Moment → Walker → Walker → Type 0
-SameTold p m v w = (h : List ℕ → List ℕ) (held : List (List ℕ)) (es : List (List ℕ × Data)) → m.blocks ≡ Some held → StillAhead h p held v es ↔ StillAhead h p held w es
-
+-- nothing is ahead, where the store tells what it holds
 abbrev pub NothingTold : HamtShape → Moment → Walker → Type 0
 NothingTold p m w = (h : List ℕ → List ℕ) (held : List (List ℕ)) (es : List (List ℕ × Data)) → m.blocks ≡ Some held → StillAhead h p held w es → ⊥
 
@@ -168,7 +166,6 @@ EnterAnswer p m v (Err e) w n = IsCause p m e n × NothingTold p m v
 -- children are entered, or why not; the path is one of a trie's levels
 pub record Enters (p : HamtShape) (most : ℕ) (m : Moment) (v : Walker) (result : Result (Unit {0}) HamtFault) (w : Walker) (n : Moment) : Type 0 where
   pub answer : EnterAnswer p m v result w n
-  pub same : SameTold p m v w
   pub given : w.given ≡ v.given
   pub short : length (walker_path w) < trie_levels p
   pub only : OnlyGets most m n
@@ -287,7 +284,7 @@ KeepsAhead h p m v w = (held : List (List ℕ)) (es : List (List ℕ × Data)) �
 
 -- the same, wherever these blocks are held
 abbrev pub KeepsWhere : (List ℕ → List ℕ) → HamtShape → List (List ℕ) → Walker → Walker → Type 0
-KeepsWhere h p blocks v w = (held : List (List ℕ)) (es : List (List ℕ × Data)) → HoldsAll held blocks → Ahead h p held v es ↔ Ahead h p held w es
+KeepsWhere h p blocks v w = (held : List (List ℕ)) (es : List (List ℕ × Data)) → AreHeld blocks held → Ahead h p held v es ↔ Ahead h p held w es
 
 -- the entries begin with this pair, and the others are ahead
 pub record BeginsWith (h : List ℕ → List ℕ) (p : HamtShape) (held : List (List ℕ)) (key : List ℕ) (value : Data) (w : Walker) (es : List (List ℕ × Data)) : Type 0 where
@@ -295,16 +292,16 @@ pub record BeginsWith (h : List ℕ → List ℕ) (p : HamtShape) (held : List (
   pub is : es ≡ (key, value) ∷ rest
   pub ahead : Ahead h p held w rest
 
--- what was ahead were exactly the entries that begin with the row's pair and of whose rest it is ahead now
+-- what was ahead were exactly the entries that begin with the row's pair and of whose rest it is ahead now, as follows from blocks
 pub record GivesRow (h : List ℕ → List ℕ) (p : HamtShape) (m : Moment) (v : Walker) (row : Row) (w : Walker) : Type 0 where
   pub value : Data
   pub spelled : row.value ≡ spell value
-  pub ahead : (held : List (List ℕ)) (es : List (List ℕ × Data)) → m.blocks ≡ Some held → Ahead h p held v es ↔ BeginsWith h p held row.key value w es
+  pub ahead : FromBlocks m.blocks (λ held. (es : List (List ℕ × Data)) → Ahead h p held v es ↔ BeginsWith h p held row.key value w es)
 
 -- a row is given where what was ahead begins with it, and nothing where nothing was ahead; a block is refused only where no entries were
 abbrev pub NextAnswer : (List ℕ → List ℕ) → HamtShape → Moment → Walker → Result (Option Row) HamtFault → Walker → Moment → Type 0
 NextAnswer h p m v (Ok (Some row)) w n = GivesRow h p m v row w
-NextAnswer h p m v (Ok None) w n = (held : List (List ℕ)) (es : List (List ℕ × Data)) → m.blocks ≡ Some held → Ahead h p held v es ↔ (es ≡ [])
+NextAnswer h p m v (Ok None) w n = FromBlocks m.blocks (λ held. (es : List (List ℕ × Data)) → Ahead h p held v es ↔ (es ≡ []))
 NextAnswer h p m v (Err Store) w n = Rose m.faults n.faults × KeepsAhead h p m v w
 NextAnswer h p m v (Err Memory) w n = KeepsAhead h p m v w
 NextAnswer h p m v (Err e) w n = IsCause p m e n × ((held : List (List ℕ)) (es : List (List ℕ × Data)) → m.blocks ≡ Some held → Ahead h p held v es → ⊥) × KeepsAhead h p m v w

@@ -1,6 +1,7 @@
 -- Reading one node from a store, as its steps.
 use Rattle.std.specs.Prelude.{◌≡◌, ◌≤◌, ◌+◌, ℕ, List, Some, None, Result, Ok, Err}
 use Rattle.std.specs.Global.{Vec}
+use Rattle.ild_data.specs.Bytes.{AreBytes}
 use Rattle.ild_data.specs.declared.hamt_shape.HamtShape.{HamtShape}
 use Rattle.ild_data.specs.Spell.{id_of}
 use Rattle.ild_data.specs.Trie.{TrieSlot}
@@ -20,6 +21,7 @@ use Rattle.ild_bulk_walker.specs.declared.step.Step.{Step}
 
 -- the block is a node, and these are its steps
 pub record HasSteps (p : HamtShape) (b : List ℕ) (steps : List Step) : Type 0 where
+  pub bytes : AreBytes b
   pub slots : List TrieSlot
   pub node : IsNodeOf p b slots
   pub todo : steps_todo steps ≡ node_todo 0 slots

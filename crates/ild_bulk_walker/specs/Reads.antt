@@ -1,11 +1,12 @@
 -- How many blocks of nodes hang beneath a root, and how many of them a walk has still to read.
 use Rattle.std.specs.Prelude.{◌≡◌, ◌⊎◌, ℕ, zero, suc, ◌+◌, ◌-◌, ◌≤◌, List, [], ◌∷◌, length, Some, Result, Ok, Err}
 use Rattle.std.specs.List.{AllByRecursion}
+use Rattle.ild_data.specs.Bytes.{AreBytes}
 use Rattle.ild_data.specs.declared.hamt_shape.HamtShape.{HamtShape}
-use Rattle.ild_data.specs.Spell.{id_of}
 use Rattle.ild_data.specs.Trie.{TrieSlot, empty, bucket, child}
 use Rattle.ild_data.specs.TrieShape.{trie_levels}
-use Rattle.ild_edges.specs.Store.{Moment, block_at}
+use Rattle.ild_edges.specs.Gained.{AreHeld}
+use Rattle.ild_edges.specs.Store.{Moment}
 use Rattle.ild_edges.specs.Told.{IfTold}
 use Rattle.ild_node_slots.specs.declared.fault.HamtFault.{HamtFault}
 use Rattle.ild_bulk_walker.specs.Gives.{IsNodeOf}
@@ -64,17 +65,13 @@ Spends p held before now v (Err e) w = (n : ℕ) → LeftNodes p held v n → no
 
 -- ---- over every store
 
--- these blocks are held, each under its id
-abbrev pub HoldsAll : List (List ℕ) → List (List ℕ) → Type 0
-HoldsAll held blocks = AllByRecursion (λ b. block_at held (id_of b) ≡ Some b) blocks
-
 -- each is the block of a node
 abbrev pub AreNodes : HamtShape → List (List ℕ) → Type 0
 AreNodes p blocks = AllByRecursion (λ b. (slots : List TrieSlot) × IsNodeOf p b slots) blocks
 
 -- where these blocks are held, as many nodes fewer are to be read
 abbrev pub ReadThem : HamtShape → List (List ℕ) → Walker → Walker → Type 0
-ReadThem p blocks v w = (held : List (List ℕ)) (n : ℕ) → HoldsAll held blocks → LeftNodes p held v n → (left : ℕ) × (n ≡ length blocks + left) × LeftNodes p held w left
+ReadThem p blocks v w = (held : List (List ℕ)) (n : ℕ) → AreHeld blocks held → LeftNodes p held v n → (left : ℕ) × (n ≡ length blocks + left) × LeftNodes p held w left
 
 -- a call that fails may get one block that it doesn't enter
 abbrev pub fails_of : {A : Type 0} → Result A HamtFault → ℕ
@@ -84,8 +81,9 @@ fails_of (Err e) = 1
 -- nodes were entered, and these are their blocks, with a get for each, and so many gets besides; and what is said of them
 pub record HasRead (p : HamtShape) (Says : List (List ℕ) → Type 0) (besides : ℕ) (m : Moment) (v w : Walker) (n : Moment) : Type 0 where
   pub blocks : List (List ℕ)
+  pub bytes : AllByRecursion AreBytes blocks
   pub nodes : AreNodes p blocks
-  pub held : IfTold m.blocks (λ held. HoldsAll held blocks)
+  pub held : IfTold m.blocks (λ held. AreHeld blocks held)
   pub gets : n.gets ≤ m.gets + (length blocks + besides)
   pub left : ReadThem p blocks v w
   pub says : Says blocks

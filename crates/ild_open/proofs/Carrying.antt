@@ -17,6 +17,7 @@ use Rattle.ild_data.specs.Data.{Data}
 use Rattle.ild_data.specs.Spell.{id_of}
 use Rattle.ild_data.specs.declared.id.BlockId.{BlockId}
 use Rattle.ild_edges.proofs.Later.{below_of}
+use Rattle.ild_edges.proofs.Reading.{from_more}
 use Rattle.ild_edges.specs.Store.{Keeps, Moment, StaysGiven, asked_over, block_at}
 use Rattle.ild_edges.specs.Told.{BothTold}
 use Rattle.ild_layer_parts.specs.Ready as R
@@ -24,6 +25,7 @@ use Rattle.ild_layer_parts.specs.Ready.{IsInlined}
 use Rattle.ild_layer_piece.specs.Pieces.{IsNumbered, StandsFor}
 use Rattle.ild_schema.specs.Slots.{form_of}
 use Rattle.ild_schema.specs.Value.{Value}
+use Rattle.ild_schema.specs.ValueSeen.{value_of}
 use Rattle.ild_schema.specs.declared.def.Scalar.{Scalar}
 use Rattle.ild_schema.specs.declared.def.Scalar.TheVariants as C
 use Rattle.ild_schema.specs.declared.def.TypeDef.{TypeDef}
@@ -46,7 +48,7 @@ use Rattle.ild_view.specs.declared.body.Body.TheVariants as VB
 use Rattle.ild_view.specs.declared.view.View.{View}
 use Rattle.ild_open_held.specs.Held.{IsHeld}
 use Rattle.ild_open_held.specs.Splits.{HasFront}
-use Rattle.ild_open_parts.specs.Reads.{BrokenPart, OnlyReads, Reads}
+use Rattle.ild_open_parts.specs.Reads.{BrokenPart, HasValue, OnlyReads, Reads}
 use Rattle.ild_open_parts.specs.declared.fault.OpenFault.{OpenFault}
 use Rattle.ild_open_parts.specs.declared.fault.OpenFault.TheVariants as F
 use Rattle.ild_open_read.specs.Parts.{ReadsSlot}
@@ -88,7 +90,9 @@ only_of m n some =
 module _ (h : List ℕ → List ℕ) (rows : List Row) (s : Slot) (piece : Piece) (at : List ℕ) (m n : Moment) where
   read_answer : (Stopped : List ℕ → BlockWhy → Type 0) (t : Data) (r : Result Val OpenFault) → ((id : List ℕ) (why : BlockWhy) → BrokenPart h at rows 96 (s, t) m n id why → Stopped id why)
       → Reads h at rows 96 (s, t) true m r n → DataAnswer h rows s Stopped t m r n
-  read_answer Stopped t (Ok val) more x = λ held told. let a = x.answer held told in subst (λ v. IsHeld (block_at held) h rows 96 s t v) (sym (a.kept refl)) a.is
+  read_answer Stopped t (Ok val) more x =
+      from_more m.blocks (λ held. HasValue h rows 96 (s, t) true held val) (λ held. IsHeld (block_at held) h rows 96 s t (value_of val))
+      (λ held a. subst (λ v. IsHeld (block_at held) h rows 96 s t v) (sym (a.kept refl)) a.is) x.answer
   read_answer Stopped t (Err (F.Block id why)) more x = (x.answer.0, more id.0 why x.answer.1)
   read_answer Stopped t (Err F.Store) more x = x.answer
   read_answer Stopped t (Err F.Memory) more x = tt

@@ -8,18 +8,22 @@ use Rattle.ild_cbor.specs.Block.{IsBlockOf}
 use Rattle.ild_cbor.specs.Reading.{fault_of}
 use Rattle.ild_cbor.specs.declared.why.BlockWhy.{BlockWhy}
 use Rattle.ild_cbor.specs.declared.why.BlockWhy.TheVariants as B
+use Rattle.ild_data.specs.Bytes.{AreBytes}
 use Rattle.ild_data.specs.Data.{Data}
 use Rattle.ild_data.specs.Limits.{deepest}
 use Rattle.ild_data.specs.Spell.{id_of, spell}
 use Rattle.ild_view_doc.specs.Block.{HasRoot}
 use Rattle.ild_view_doc.specs.Docs.{IsShape, block_in}
 use Rattle.ild_view_doc.specs.declared.doc.Doc.{Doc}
+use Rattle.ild_edges.proofs.Reading.{from_both, from_more, from_one}
+use Rattle.ild_edges.specs.Gained.{FromBlocks}
 use Rattle.ild_edges.specs.Store.{Moment, block_at}
 use Rattle.ild_edges.specs.Told.{IfTold}
 use Rattle.ild_schema.specs.Clear.{IsSafe}
 use Rattle.ild_schema.specs.Legible.{IsLegible}
 use Rattle.ild_schema.specs.Slots.{plainly}
 use Rattle.ild_schema.specs.Value.{Value}
+use Rattle.ild_schema.specs.ValueSeen.{value_of}
 use Rattle.ild_schema.specs.declared.number.TypeNo.{TypeNo}
 use Rattle.ild_schema.specs.declared.row.Row.{Row}
 use Rattle.ild_schema.specs.declared.val.Val.{Val}
@@ -34,11 +38,11 @@ use Rattle.ild_open_held.proofs.Roots.{held_stand, standing_are_held}
 use Rattle.ild_open_held.specs.Held.{IsHeld}
 use Rattle.ild_open_held.specs.Roots.{IsRooted}
 use Rattle.ild_open_parts.specs.Broken.{HasBrokenBlock}
-use Rattle.ild_open_parts.specs.Reads.{Reads}
+use Rattle.ild_open_parts.specs.Reads.{HasValue as HasPart, Reads}
 use Rattle.ild_open_parts.specs.declared.fault.OpenFault.{OpenFault}
 use Rattle.ild_open_parts.specs.declared.fault.OpenFault.TheVariants as F
 use Rattle.ild_open.specs.Broken.{IsWrongRoot}
-use Rattle.ild_open.specs.Found.{FindAnswer, Finds, HasKept, ReadsRoot}
+use Rattle.ild_open.specs.Found.{FindAnswer, Finds, HasKept, IsKept, ReadsRoot}
 use Rattle.ild_open.specs.Opened.{HasOpened, HasValue, StandsInBlock, NoneStands, OpenStops, Opens}
 use Rattle.ild_open_parts.proofs.Breaking.{broken_earlier, rose_later}
 use Rattle.ild_open_parts.proofs.Turning.{only_trans}
@@ -130,16 +134,17 @@ module _ (rows : List Row) (schema : IsSchema rows) (h : List ℕ → List ℕ) 
         let e = many_gets held v st in
         omega (arith, a, b, e)
 
-    pub open_goes : (val : Val) → ReadsRoot h rows ty id (block_in d) keep k (Ok val) n → Opens (HasKept h rows ty id m keep) h rows ty id m (Ok (d, val)) n
-    open_goes val reads = record {
-      answer = record {
-        table = x.answer.table;
-        type = x.answer.type;
-        root = x.answer.at.named;
-        value = λ held told.
-            let a = (own (Ok val) reads).answer held (x.only.blocks ∙ told) in
-            record { value = a.value; is = root_stands held (block_in d) t x.answer.at.named (there held told) x.answer.root.root.block a.value a.is; kept = a.kept };
-      };
+    -- its value is that of its data, which follows from its block beside those that were read
+    has_kept : AreBytes (block_in d) → (val : Val) → FromBlocks k.blocks (λ held. HasPart h rows 96 (plainly ty, t) keep held val) → FromBlocks m.blocks (λ held. IsKept h rows ty id held (block_in d) keep val)
+    has_kept bytes val a =
+        from_both m.blocks (λ held. block_at held id ≡ Some (block_in d)) (λ held. HasPart h rows 96 (plainly ty, t) keep held val) (λ held. IsKept h rows ty id held (block_in d) keep val)
+        (λ held here y. record { value = y.value; is = root_stands held (block_in d) t x.answer.at.named here x.answer.root.root.block y.value y.is; kept = y.kept })
+        (from_one m.blocks id (block_in d) bytes x.answer.at.named x.answer.at.held)
+        (subst (λ (o : Option (List (List ℕ))). FromBlocks o (λ held. HasPart h rows 96 (plainly ty, t) keep held val)) x.only.blocks a)
+
+    pub open_goes : AreBytes (block_in d) → (val : Val) → ReadsRoot h rows ty id (block_in d) keep k (Ok val) n → Opens (HasKept h rows ty id m keep) h rows ty id m (Ok (d, val)) n
+    open_goes bytes val reads = record {
+      answer = record { table = x.answer.table; type = x.answer.type; root = x.answer.at.named; value = has_kept bytes val (own (Ok val) reads).answer };
       only = only_trans m k n x.only (own (Ok val) reads).only;
       gets = gets (Ok val) reads;
     }
@@ -161,10 +166,19 @@ module _ (rows : List Row) (schema : IsSchema rows) (h : List ℕ → List ℕ) 
 -- ---- what the callers ask for
 
 module _ (h : List ℕ → List ℕ) (rows : List Row) (ty : TypeNo) (id : List ℕ) (m n : Moment) where
+  seen : (keep : Bool) (p : Doc × Val) → FromBlocks m.blocks (λ held. IsKept h rows ty id held (block_in p.0) keep p.1) → FromBlocks m.blocks (λ held. (v : Value) × StandsInBlock h rows ty id held (block_in p.0) v)
+  seen keep p x =
+      from_more m.blocks (λ held. IsKept h rows ty id held (block_in p.0) keep p.1) (λ held. (v : Value) × StandsInBlock h rows ty id held (block_in p.0) v) (λ held a. (a.value, a.is)) x
+
+  kept : (p : Doc × Val) → FromBlocks m.blocks (λ held. IsKept h rows ty id held (block_in p.0) true p.1) → FromBlocks m.blocks (λ held. StandsInBlock h rows ty id held (block_in p.0) (value_of p.1))
+  kept p x =
+      from_more m.blocks (λ held. IsKept h rows ty id held (block_in p.0) true p.1) (λ held. StandsInBlock h rows ty id held (block_in p.0) (value_of p.1))
+      (λ held a. subst (λ v. StandsInBlock h rows ty id held (block_in p.0) v) (sym (a.kept refl)) a.is) x
+
   -- the root alone
   pub opened_root : (keep : Bool) (p : Doc × Val) → Opens (HasKept h rows ty id m keep) h rows ty id m (Ok p) n → Opens (HasOpened h rows ty id m) h rows ty id m (Ok p.0) n
   opened_root keep p x = record {
-    answer = record { table = x.answer.table; type = x.answer.type; root = x.answer.root; value = λ held told. let a = x.answer.value held told in (a.value, a.is) };
+    answer = record { table = x.answer.table; type = x.answer.type; root = x.answer.root; value = seen keep p x.answer.value };
     only = x.only;
     gets = x.gets;
   }
@@ -172,12 +186,7 @@ module _ (h : List ℕ → List ℕ) (rows : List Row) (ty : TypeNo) (id : List 
   -- with its value
   pub opened_value : (p : Doc × Val) → Opens (HasKept h rows ty id m true) h rows ty id m (Ok p) n → Opens (HasValue h rows ty id m) h rows ty id m (Ok p) n
   opened_value p x = record {
-    answer = record {
-      table = x.answer.table;
-      type = x.answer.type;
-      root = x.answer.root;
-      value = λ held told. let a = x.answer.value held told in subst (λ v. StandsInBlock h rows ty id held (block_in p.0) v) (sym (a.kept refl)) a.is;
-    };
+    answer = record { table = x.answer.table; type = x.answer.type; root = x.answer.root; value = kept p x.answer.value };
     only = x.only;
     gets = x.gets;
   }

@@ -9,6 +9,7 @@ use Rattle.ild_data.specs.Spell.{id_of}
 use Rattle.ild_view_doc.specs.Block.{HasRoot}
 use Rattle.ild_view_doc.specs.Docs.{IsDoc, IsShape, block_in, table_in, type_in}
 use Rattle.ild_view_doc.specs.declared.doc.Doc.{Doc}
+use Rattle.ild_edges.specs.Gained.{FromBlocks}
 use Rattle.ild_edges.specs.Count.{Rose}
 use Rattle.ild_edges.specs.Store.{Moment}
 use Rattle.ild_schema.specs.Slots.{plainly}
@@ -74,4 +75,4 @@ pub record HasKept (h : List ℕ → List ℕ) (rows : List Row) (ty : TypeNo) (
   pub table : table_in result.0 ≡ rows
   pub type : type_in result.0 ≡ ty
   pub root : id_of (block_in result.0) ≡ id
-  pub value : (held : List (List ℕ)) → m.blocks ≡ Some held → IsKept h rows ty id held (block_in result.0) keep result.1
+  pub value : FromBlocks m.blocks (λ held. IsKept h rows ty id held (block_in result.0) keep result.1)

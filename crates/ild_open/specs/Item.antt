@@ -6,6 +6,7 @@ use Rattle.ild_cbor.specs.declared.piece.Piece.TheVariants as P
 use Rattle.ild_cbor.specs.declared.why.BlockWhy.{BlockWhy}
 use Rattle.ild_data.specs.Data.{Data}
 use Rattle.ild_data.specs.Spell.{id_of}
+use Rattle.ild_edges.specs.Gained.{FromBlocks}
 use Rattle.ild_edges.specs.Store.{Moment, block_at}
 use Rattle.ild_layer_piece.specs.Pieces.{StandsFor}
 use Rattle.ild_schema.specs.Value.{Value}
@@ -27,7 +28,7 @@ pub record HasTree (rows : List Row) (s : Slot) (piece : Piece) : Type 0 where
 
 module _ (h : List ℕ → List ℕ) (rows : List Row) (s : Slot) where
   abbrev pub DataAnswer : (List ℕ → BlockWhy → Type 0) → Data → Moment → Result Val OpenFault → Moment → Type 0
-  DataAnswer Stopped t m (Ok val) n = (held : List (List ℕ)) → m.blocks ≡ Some held → IsHeld (block_at held) h rows 96 s t (value_of val)
+  DataAnswer Stopped t m (Ok val) n = FromBlocks m.blocks (λ held. IsHeld (block_at held) h rows 96 s t (value_of val))
   DataAnswer Stopped t m (Err e) n = Stops (NoValue h rows 96 (s, t) m) Stopped m e n
 
   -- the value that the data represent is loaded; of a block that is refused, what is said

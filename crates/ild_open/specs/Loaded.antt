@@ -1,4 +1,4 @@
--- What loading a view answers: the value at it, all of whose HAMTs the store holds, or the block for which there is none.
+-- What loading a view answers: the value at it, which follows from the blocks that gets gave, or the block for which there is none.
 use Rattle.std.specs.Prelude.{◌≡◌, ℕ, ◌+◌, ◌≤◌, List, length, Option, Some, Result, Ok, Err}
 use Rattle.ild_cbor.specs.Nodes.{block_of}
 use Rattle.ild_cbor.specs.declared.piece.Piece.{Piece}
@@ -6,6 +6,7 @@ use Rattle.ild_cbor.specs.declared.piece.Piece.TheVariants as P
 use Rattle.ild_cbor.specs.declared.why.BlockWhy.{BlockWhy}
 use Rattle.ild_data.specs.Data.{Data}
 use Rattle.ild_data.specs.Spell.{id_of}
+use Rattle.ild_edges.specs.Gained.{FromBlocks}
 use Rattle.ild_edges.specs.Count.{Rose}
 use Rattle.ild_edges.specs.Store.{Moment, block_at}
 use Rattle.ild_schema.specs.Value.{Value}
@@ -47,7 +48,7 @@ IsRefusedAt h view m t id why n =
     (at : List ℕ) × IsInBlock (piece_of view) at × BrokenPart h at (table_of view) 96 (slot_of view, t) m n id why
 
 abbrev pub LoadAnswer : (List ℕ → List ℕ) → View → Moment → Data → Result Val OpenFault → Moment → Type 0
-LoadAnswer h view m t (Ok val) n = (held : List (List ℕ)) → m.blocks ≡ Some held → IsValueAt h held view t (value_of val)
+LoadAnswer h view m t (Ok val) n = FromBlocks m.blocks (λ held. IsValueAt h held view t (value_of val))
 LoadAnswer h view m t (Err (F.Block id why)) n =
     ((held : List (List ℕ)) (v : Value) → m.blocks ≡ Some held → IsValueAt h held view t v → ⊥) × IsRefusedAt h view m t id.0 why n
 LoadAnswer h view m t (Err F.Store) n = Rose m.faults n.faults

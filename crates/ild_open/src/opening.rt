@@ -1,6 +1,7 @@
 //! Opening the root of a value.
 ghost use Rattle.std.specs.Prelude.{◌≡◌, ◌<◌, None, length};
 ghost use Rattle.ild_cbor.specs.Reading.{fault_of};
+ghost use Rattle.ild_data.specs.Bytes.{AreBytes};
 ghost use Rattle.ild_open.specs.Found.{Finds, HasKept, Judges, ReadsRoot};
 ghost use Rattle.ild_open.specs.Opened.{HasOpened, HasValue, Opens};
 
@@ -59,6 +60,11 @@ fn find<'s, K: Store>(
     }
 }
 
+// The items of a slice of bytes are bytes.
+fn are_bytes(bytes: &[u8])
+    ensures { AreBytes bytes.now }
+{}
+
 // The value that a root block represents, whose nodes are read from a store.
 fn read_root<K: Store, H: KeyHash>(
     alloc: Global,
@@ -101,15 +107,17 @@ fn open<'s, K: Store, H: KeyHash>(
         Ok(doc) => doc,
         Err(fault) => return Err(fault),
     };
-    match read_root(alloc, acc, ty, doc.block(), keep, *id, keys, store) {
+    let block = doc.block();
+    are_bytes(block);
+    match read_root(alloc, acc, ty, block, keep, *id, keys, store) {
         Ok(val) => Ok((doc, val)),
         Err(fault) => Err(fault),
     }
 }
 
 /// Opens the root under an id: reads the whole tree of blocks of the value of a type that stands there, each block once, and
-/// checks it. `Block` comes exactly where no such value stands there, with a block at fault: the root block's form, and then HAMT
-/// by HAMT.
+/// checks it. Over every store, that the value stands there follows from blocks, each under its own hash. `Block` comes exactly where
+/// no such value stands there, with a block at fault: the root block's form, and then HAMT by HAMT.
 pub fn open_root<'s, K: Store, H: KeyHash>(
     alloc: Global,
     acc: &'s Accepted,

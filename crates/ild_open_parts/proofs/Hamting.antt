@@ -1,18 +1,20 @@
 -- The rows of a HAMT's root, and the whole that is read of it.
-use Rattle.std.proofs.Common.{◌≡◌, ℕ, ◌+◌, ◌≤◌, List, [], ◌∷◌, length, Bool, false, Some, ◌∙◌, arith}
+use Rattle.std.proofs.Common.{◌≡◌, ℕ, ◌+◌, ◌≤◌, List, [], ◌∷◌, length, map, Bool, false, Some, refl, sym, ◌∙◌, ap, ap₂, subst, arith}
 use Rattle.std.specs.Prelude.{Result, Ok, Err}
 use Rattle.std.specs.Global.{Vec}
 use Rattle.std.specs.List.{AllByRecursion}
 use Rattle.ild_data.specs.Data.{Data}
-use Rattle.ild_data.specs.Limits.{deepest}
+use Rattle.ild_data.specs.Limits.{IsWithin, deepest}
 use Rattle.ild_data.specs.Tree.{IsTree}
 use Rattle.ild_data.specs.Trie.{TrieSlot}
 use Rattle.ild_data.specs.declared.hamt_shape.HamtShape.{HamtShape}
 use Rattle.ild_edges.specs.Store.{Moment, block_at}
+use Rattle.ild_edges.proofs.Reading.{from_both, from_more, from_told}
 use Rattle.ild_node_slots.specs.Form.{AreTexts}
 use Rattle.ild_node_slots.specs.declared.fault.HamtFault.{HamtFault}
 use Rattle.ild_node_slots.specs.declared.fault.HamtFault.TheVariants as H
 use Rattle.ild_schema.specs.Slots.{form_of}
+use Rattle.ild_schema.specs.ValueSeen.{value_of}
 use Rattle.ild_schema.specs.declared.def.MapForm.TheVariants as MF
 use Rattle.ild_schema.specs.declared.def.TypeDef.TheVariants as D
 use Rattle.ild_schema.specs.declared.number.Slot.{Slot}
@@ -22,15 +24,18 @@ use Rattle.ild_schema.specs.declared.val.Val.{Val}
 use Rattle.ild_typed.specs.Node.{IsRoot}
 use Rattle.ild_typed.specs.Pieces.{is_null_there}
 use Rattle.ild_typed.specs.Schema.{IsSchema}
-use Rattle.ild_bulk_walker.specs.Checked.{StopsWith, Walks}
+use Rattle.ild_typed.proofs.Wholes.{one_within}
+use Rattle.ild_bulk_walker.specs.Checked.{GivesRows, StopsWith, Walks, spelled_pair}
 use Rattle.ild_bulk_walker.specs.Standing.{IsBroken}
 use Rattle.ild_bulk_walker.specs.declared.row.Row.{Row as Listed}
 use Rattle.ild_open_held.specs.Entries.{HamtSplits, IsRootOf, KeyFits, beneath}
+use Rattle.ild_open_held.specs.Splits.{entry_parts}
 use Rattle.ild_open_held.proofs.Hamts.{hamts_split}
+use Rattle.ild_open_rows.specs.Rooted.{AreRows}
 use Rattle.ild_open_rows.proofs.Given.{entries_are_given}
 use Rattle.ild_open_rows.proofs.Rooting.{rows_are_entries}
 use Rattle.ild_open_parts.specs.Hamts.{BrokenRows, BrokenTree, EntriesAnswer, ListsRows, NoEntries, NoRoot, ReadsRows, map_made, told_fault}
-use Rattle.ild_open_parts.specs.Reads.{BrokenPart, NoValue, OnlyReads, ReadAnswer, Reads, Stops}
+use Rattle.ild_open_parts.specs.Reads.{BrokenPart, FromBlocks, HasValue, HasValues, NoValue, OnlyReads, ReadAnswer, Reads, Stops}
 use Rattle.ild_open_parts.specs.declared.fault.OpenFault.{OpenFault}
 use Rattle.ild_open_parts.specs.declared.fault.OpenFault.TheVariants as F
 use Rattle.ild_open_parts.proofs.Turning.{only_refl, only_trans, stops_later}
@@ -47,7 +52,14 @@ module _ (h : List ℕ → List ℕ) (p : HamtShape) (t : Data) (slots : List Tr
   few_gets r w s held fs told texts x = w.reads.gets held (length (beneath h p fs)) told (entries_are_given h p held t slots fs root texts x).nodes
 
   pub rows_listed : (rows : Vec Listed) → Walks h p slots at m (Ok rows) n → ListsRows h p at t m (Ok rows) n
-  rows_listed rows w = record { answer = ((slots, tree, root, w.stand), λ held told. rows_are_entries h p held t slots rows.items root tree (w.answer held told)); only = only_walks (Ok rows) w; gets = few_gets (Ok rows) w (Ok rows) }
+  rows_listed rows w = record {
+    answer = (
+      (slots, tree, root, w.stand),
+      from_more m.blocks (λ held. GivesRows h p held slots rows.items) (λ held. AreRows h p held t rows.items) (λ held gives. rows_are_entries h p held t slots rows.items root tree gives) w.answer,
+    );
+    only = only_walks (Ok rows) w;
+    gets = few_gets (Ok rows) w (Ok rows);
+  }
 
   walk_stops : (e : HamtFault) → StopsWith h p slots m e n → IsBroken h p m.blocks slots at m.lacks n.lacks e → Stops (NoRoot h p t m) (BrokenTree h p at t m n) m (told_fault e) n
   walk_stops (H.Block id why) w broken = (λ held fs told texts x. let g = entries_are_given h p held t slots fs root texts x in w.1 held g.entries told g.gives, (slots, root, broken))
@@ -63,6 +75,27 @@ module _ (h : List ℕ → List ℕ) (p : HamtShape) (t : Data) (slots : List Tr
 
 pub rows_want : (h : List ℕ → List ℕ) (p : HamtShape) (at : List ℕ) (t : Data) (m : Moment) → ListsRows h p at t m (Err F.Memory) m
 rows_want h p at t m = record { answer = tt; only = only_refl m; gets = λ held fs told texts x. omega arith }
+
+-- ---- what the rows spell
+
+abbrev first_pair : List (List ℕ × List ℕ) → List ℕ × List ℕ
+first_pair [] = ([], [])
+first_pair (x ∷ xs) = x
+
+abbrev other_pairs : List (List ℕ × List ℕ) → List (List ℕ × List ℕ)
+other_pairs [] = []
+other_pairs (x ∷ xs) = xs
+
+one_entry : (e f : List ℕ × Data) → IsWithin e.1 → IsTree f.1 → spelled_pair e ≡ spelled_pair f → e ≡ f
+one_entry e f within tree same = ap₂ (λ (k : List ℕ) (d : Data). (k, d)) (ap (λ q. q.0) same) (one_within e.1 f.1 within tree (ap (λ q. q.1) same))
+
+-- rows spell one list of entries
+same_entries : (es fs : List (List ℕ × Data)) → AllByRecursion (λ e. IsWithin e.1) es → AllByRecursion (λ e. IsTree e.1) fs → map spelled_pair es ≡ map spelled_pair fs → es ≡ fs
+same_entries [] [] within trees same = refl
+same_entries [] (f ∷ fs) within trees same = let n = ap (λ (xs : List (List ℕ × List ℕ)). length xs) same in absurd (omega (arith, n))
+same_entries (e ∷ es) [] within trees same = let n = ap (λ (xs : List (List ℕ × List ℕ)). length xs) same in absurd (omega (arith, n))
+same_entries (e ∷ es) (f ∷ fs) within trees same =
+    ap₂ (λ (x : List ℕ × Data) (xs : List (List ℕ × Data)). x ∷ xs) (one_entry e f within.0 trees.0 (ap first_pair same)) (same_entries es fs within.1 trees.1 (ap other_pairs same))
 
 -- ---- the whole
 
@@ -97,15 +130,26 @@ module _ (h : List ℕ → List ℕ) (p : HamtShape) (at : List ℕ) (rows : Lis
   }
 
   module _ (listed : Vec Listed) (m k n : Moment) (x : ListsRows h p at t m (Ok listed) k) where
+    abbrev Listing : List (List ℕ) → Type 0
+    Listing held = AreRows h p held t listed.items
+
+    abbrev Values : Val → List (List ℕ × Data) → List (List ℕ) → Type 0
+    Values val es held = HasValues h rows less (entry_parts u es) keep held (λ vs. value_of val ≡ map_made h rows less keep key u listed.items es vs)
+
     hamt_answer : (r : Result Val OpenFault) → EntriesAnswer h rows less keep key u listed.items k r n → ReadAnswer h at rows room (s, t) keep m r n
-    hamt_answer (Ok val) y = λ held told.
-        let a = x.answer.1 held told in
-        let b = y a.entries (record { made = a.made; trees = a.trees }) in
-        let c = b.1 held (x.only.blocks ∙ told) in
-        record { value = map_made h rows less keep key u listed.items a.entries c.values; is = (split held).up a.entries c.values a.root b.0 c.are; kept = c.kept }
+    hamt_answer (Ok val) y =
+        from_both m.blocks Listing (Values val y.entries) (λ held. HasValue h rows room (s, t) keep held val)
+        (λ held a c.
+        let same : a.entries ≡ y.entries = sym (same_entries y.entries a.entries y.within a.trees (y.spelled.made ∙ sym a.made)) in
+        record {
+          value = map_made h rows less keep key u listed.items y.entries c.values;
+          is = (split held).up y.entries c.values (subst (λ fs. IsRootOf (block_at held) h p t fs) same a.root) y.keys c.are;
+          kept = c.kept;
+        })
+        x.answer.1 (subst (λ told. FromBlocks told (Values val y.entries)) x.only.blocks y.held)
     hamt_answer (Err e) y = stops_later (NoEntries h rows less keep key u listed.items k) (NoValue h rows room (s, t) m) (BrokenRows h rows less keep key u listed.items k n) (BrokenPart h at rows room (s, t) m n) m k n e x.only
         (λ none held v told has.
-        let a = x.answer.1 held told in
+        let a = from_told m.blocks Listing x.answer.1 held told in
         let b = (split held).back a.entries v a.root has in
         none a.entries (record { made = a.made; trees = a.trees }) b.keys held b.values (x.only.blocks ∙ told) b.held)
         (λ id why broken. rows_broken h p at rows room less s t key key_at u place is left keep listed.items m k n id why x.only x.answer.0 broken) y
@@ -116,7 +160,7 @@ module _ (h : List ℕ → List ℕ) (p : HamtShape) (at : List ℕ) (rows : Lis
       answer = hamt_answer r y.answer;
       only = only_trans m k n x.only y.only;
       gets = λ held v told has.
-          let a = x.answer.1 held told in
+          let a = from_told m.blocks Listing x.answer.1 held told in
           let b = (split held).back a.entries v a.root has in
           let f = x.gets held a.entries told (key_texts rows less key a.entries b.keys) a.root in
           let g = y.gets a.entries (record { made = a.made; trees = a.trees }) held b.values (x.only.blocks ∙ told) b.held in

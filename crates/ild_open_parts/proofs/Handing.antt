@@ -2,8 +2,9 @@
 use Rattle.std.proofs.Common.{◌≡◌, ℕ, List, Option, Some, None, true, refl, sym, ◌∙◌, ap, subst}
 use Rattle.std.specs.Prelude.{option_and_then, slice_get}
 use Rattle.std.proofs.lemmas.Option.{same_Some}
+use Rattle.ild_cbor.specs.Nodes.{Stands}
+use Rattle.ild_cbor.specs.declared.node.Node.{Node}
 use Rattle.ild_cbor.specs.declared.piece.Piece.{Piece}
-use Rattle.ild_data.specs.Data as T
 use Rattle.ild_data.specs.Data.{Data}
 use Rattle.ild_layer_piece.specs.Answers.{Layered}
 use Rattle.ild_layer_piece.specs.Pieces.{StandsFor}
@@ -40,11 +41,11 @@ module _ (rows : List Row) (f : Field) where
     by None k = absurd k
     by (Some d) k = (d, refl, k)
 
-  pub null_part : (o : Option Data) (part : Part) → part ≡ P.Null → IsPart rows f o part → o ≡ Some T.null
-  null_part o part is h = by o (subst (IsPart rows f o) is h) where
-    by : (q : Option Data) → IsPart rows f q P.Null → q ≡ Some T.null
+  pub null_part : (o : Option Data) (part : Part) (n : Node) → part ≡ P.Null n → IsPart rows f o part → (d : Data) × (o ≡ Some d) × Stands n d
+  null_part o part n is h = by o (subst (IsPart rows f o) is h) where
+    by : (q : Option Data) → IsPart rows f q (P.Null n) → (d : Data) × (q ≡ Some d) × Stands n d
     by None k = absurd k
-    by (Some d) k = subst (λ e. Some e ≡ Some T.null) (sym k) refl
+    by (Some d) k = (d, refl, k.0)
 
   pub held_part : (o : Option Data) (part : Part) (p : Piece) → part ≡ P.Held p → IsPart rows f o part → (d : Data) × (o ≡ Some d) × StandsFor rows p d
   held_part o part p is h = by o (subst (IsPart rows f o) is h) where

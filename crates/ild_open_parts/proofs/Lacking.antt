@@ -1,6 +1,7 @@
 -- Fields for which no piece stands, and pieces in which nothing is passed over.
 use Rattle.std.proofs.Common.{◌≡◌, List, [], Bool, true, false, Option, Some, None, ◌⊎◌, inl, inr, refl, sym, ◌∙◌, ap, subst, arith}
 use Rattle.std.specs.Prelude.{Ok, Err}
+use Rattle.ild_cbor.specs.declared.node.Node.{Node}
 use Rattle.ild_cbor.specs.declared.piece.Piece.{Piece}
 use Rattle.ild_cbor.specs.declared.piece.Piece.TheVariants as C
 use Rattle.ild_data.specs.Data.{Data}
@@ -58,11 +59,11 @@ some_there : (rows : List Row) (f : Field) (o : Option Data) (part : Part) → i
 some_there rows f (Some d) part there h = (d, refl)
 some_there rows f None P.Absent there h = absurd cc
 some_there rows f None P.Implicit there h = absurd h
-some_there rows f None P.Null there h = absurd h
+some_there rows f None (P.Null n) there h = absurd h
 some_there rows f None (P.Held p) there h = absurd h
 
-pub null_there : (part : Part) → (part ≡ P.Null) ⊎ ((p : Piece) × (part ≡ P.Held p)) → is_absent part ≡ false
-null_there part (inl e) = ap is_absent e
+pub null_there : (part : Part) → ((n : Node) × (part ≡ P.Null n)) ⊎ ((p : Piece) × (part ≡ P.Held p)) → is_absent part ≡ false
+null_there part (inl x) = ap is_absent x.1
 null_there part (inr x) = ap is_absent x.1
 
 -- of a field that is there, none is made where memory is wanting

@@ -10,7 +10,7 @@ use Rattle.ild_cbor.specs.declared.why.BlockWhy.{BlockWhy}
 use Rattle.ild_cbor.specs.declared.why.BlockWhy.TheVariants as B
 use Rattle.ild_cbor.specs.declared.why.Why.{Why}
 use Rattle.ild_data.specs.Data.{Data}
-use Rattle.ild_data.specs.Limits.{deepest}
+use Rattle.ild_data.specs.Limits.{IsWithin, deepest}
 use Rattle.ild_data.specs.Tree.{IsTree}
 use Rattle.ild_data.specs.Trie.{TrieSlot}
 use Rattle.ild_data.specs.declared.id.BlockId.{BlockId}
@@ -42,7 +42,7 @@ use Rattle.ild_open_held.specs.Laws.{IsFronted}
 use Rattle.ild_open_held.specs.Splits.{AreHeld, HasFront, entry_parts, entry_values, nodes_in}
 use Rattle.ild_open_rows.specs.Rooted.{AreRows}
 use Rattle.ild_open_parts.specs.Broken.{IsWrongPart}
-use Rattle.ild_open_parts.specs.Reads.{BrokenPart, HasValues, NoValues, OnlyReads, Reads, Stops}
+use Rattle.ild_open_parts.specs.Reads.{BrokenPart, FromBlocks, HasValues, NoValues, OnlyReads, Reads, Stops}
 use Rattle.ild_open_parts.specs.declared.fault.OpenFault.{OpenFault}
 use Rattle.ild_open_parts.specs.declared.fault.OpenFault.TheVariants as F
 
@@ -67,7 +67,7 @@ abbrev pub BrokenTree : (List ℕ → List ℕ) → HamtShape → List ℕ → D
 BrokenTree h p at t m n id why = (slots : List TrieSlot) × IsRoot p slots t × IsWrongOnTree h p m.blocks slots at m.lacks n.lacks id why
 
 abbrev pub RowsAnswer : (List ℕ → List ℕ) → HamtShape → List ℕ → Data → Moment → Result (Vec Listed) OpenFault → Moment → Type 0
-RowsAnswer h p at t m (Ok rows) n = RowsStand p at t m rows.items × ((held : List (List ℕ)) → m.blocks ≡ Some held → AreRows h p held t rows.items)
+RowsAnswer h p at t m (Ok rows) n = RowsStand p at t m rows.items × FromBlocks m.blocks (λ held. AreRows h p held t rows.items)
 RowsAnswer h p at t m (Err e) n = Stops (NoRoot h p t m) (BrokenTree h p at t m n) m e n
 
 -- the rows of the HAMT whose root these data are
@@ -129,17 +129,24 @@ module _ (h : List ℕ → List ℕ) (rows : List Row) (room : ℕ) (keep : Bool
   abbrev pub NoEntries : Moment → Type 0
   NoEntries m = (es : List (List ℕ × Data)) → AreSpelled es listed → AllByRecursion (KeyFits rows room key) es → NoValues h rows room (entry_parts u es) m
 
-  -- values for the entries are held, and those that are to be kept make the map
+  -- values for the entries follow, and those that are to be kept make the map
   abbrev pub EntriesHeld : List (List ℕ × Data) → Val → Moment → Type 0
-  EntriesHeld es val m = (held : List (List ℕ)) → m.blocks ≡ Some held → HasValues h rows room (entry_parts u es) keep held (λ vs. value_of val ≡ map_made es vs)
+  EntriesHeld es val m = FromBlocks m.blocks (λ held. HasValues h rows room (entry_parts u es) keep held (λ vs. value_of val ≡ map_made es vs))
 
   -- something is wrong with the entry of a row, or in its value
   abbrev pub BrokenRows : Moment → Moment → List ℕ → BlockWhy → Type 0
   BrokenRows m n id why = (row : Listed) × Contains listed row × (((id ≡ row.block.0) × IsWrongRow rows room key u row why) ⊎ HasBroken h rows room u row m n id why)
 
+  -- the entries that the rows spell, whose keys fit, were read; no others are spelled so, as these are within the limits
+  pub record EntriesRead (val : Val) (m : Moment) : Type 0 where
+    pub entries : List (List ℕ × Data)
+    pub spelled : AreSpelled entries listed
+    pub within : AllByRecursion (λ e. IsWithin e.1) entries
+    pub keys : AllByRecursion (KeyFits rows room key) entries
+    pub held : EntriesHeld entries val m
+
   abbrev pub EntriesAnswer : Moment → Result Val OpenFault → Moment → Type 0
-  EntriesAnswer m (Ok val) n =
-      (es : List (List ℕ × Data)) → AreSpelled es listed → AllByRecursion (KeyFits rows room key) es × EntriesHeld es val m
+  EntriesAnswer m (Ok val) n = EntriesRead val m
   EntriesAnswer m (Err e) n = Stops (NoEntries m) (BrokenRows m n) m e n
 
   -- the entries that the rows spell were read, and the map is made of their values

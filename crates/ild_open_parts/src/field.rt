@@ -6,7 +6,6 @@ ghost use Rattle.ild_open_parts.specs.Fields.{LeftOut, StandsThere};
 
 use crate::fault::OpenFault;
 use crate::keeping::implied;
-use crate::null::null_item;
 use ild_cbor::Piece;
 use ild_schema::{Field, Val};
 use ild_struct::Part;
@@ -17,7 +16,7 @@ pub fn part_piece<'b>(part: &Part<'b>) -> Option<Piece<'b>>
     ensures free { HasNumber [] part.now → IfSome result (λ p. passes_over p ≡ false) }
 {
     match part {
-        Part::Null => Some(Piece::Node(null_item())),
+        Part::Null(node) => Some(Piece::Node(*node)),
         Part::Held(piece) => Some(*piece),
         Part::Absent | Part::Implicit => None,
     }
@@ -30,6 +29,6 @@ pub fn left_out(field: &Field, part: &Part<'_>) -> Result<Option<Val>, OpenFault
     match part {
         Part::Absent => Ok(None),
         Part::Implicit => Ok(Some(implied(field)?)),
-        Part::Null | Part::Held(_) => Err(OpenFault::Memory),
+        Part::Null(_) | Part::Held(_) => Err(OpenFault::Memory),
     }
 }

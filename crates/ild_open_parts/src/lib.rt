@@ -9,7 +9,6 @@ mod hamt;
 mod keeping;
 mod leaves;
 mod member;
-mod null;
 
 pub use depth::levels;
 pub use fault::OpenFault;
@@ -18,4 +17,3 @@ pub use hamt::{hamt_rows, row_item};
 pub use keeping::{add, add_field, add_pair, union_with};
 pub use leaves::{kept_leaf, leaf};
 pub use member::member_of;
-pub use null::is_null_there;

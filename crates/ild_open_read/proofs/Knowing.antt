@@ -15,7 +15,9 @@ use Rattle.ild_data.specs.Data.{Data}
 use Rattle.ild_data.specs.Limits.{IsWithin}
 use Rattle.ild_data.specs.Spell.{spell}
 use Rattle.ild_data.specs.declared.hamt_shape.HamtShape.{HamtShape}
+use Rattle.ild_edges.specs.Gained.{FromBlocks}
 use Rattle.ild_edges.specs.Store.{Moment}
+use Rattle.ild_edges.proofs.Reading.{from_more}
 use Rattle.ild_schema.specs.Clear.{IsSafe}
 use Rattle.ild_schema.specs.Copies.{base}
 use Rattle.ild_schema.specs.Legible.{IsLegible}
@@ -31,10 +33,11 @@ use Rattle.ild_open_known.specs.Roots.{known_in}
 use Rattle.ild_open_known.specs.declared.kind.ReadAs.{ReadAs}
 use Rattle.ild_open_known.specs.declared.table.Known.{Known}
 use Rattle.ild_open_parts.specs.Hamts.{ListsRoot, ReadsHamt, ReadsListed, ReadsRows}
+use Rattle.ild_open_parts.specs.Reads.{HasValue}
 use Rattle.ild_open_parts.specs.declared.fault.OpenFault.{OpenFault}
 use Rattle.ild_open_parts.proofs.Hamting.{hamt_read}
 use Rattle.ild_open_parts.proofs.Turning.{only_refl}
-use Rattle.ild_open_read.specs.Sound.{AreSound, IsPassed, IsSound, Remembers}
+use Rattle.ild_open_read.specs.Sound.{AreSound, HasHeld, IsPassed, IsSound, Remembers}
 
 -- ---- the bytes at which a node stands
 
@@ -102,9 +105,9 @@ module _ (h : List ℕ → List ℕ) (rows : List Row) (kind : ReadAs) (root : N
   passed_node : (at : List ℕ) (keep : Bool) (known : Known) (m : Moment) → AreSound h rows m.blocks known → IsPassed keep known kind root
       → ReadsHamt h kind.shape at rows kind.room keep kind.key kind.value (P.Node root) m (Ok W.Null) m
   passed_node at keep known m sound x = λ s t key_at place whole stands is sum le front. record {
-    answer = λ held told.
-        let y = (sound.each (kind, x.bytes) x.has).holds held s t key_at place whole told stands.within (sym (x.tells t stands)) is sum le front in
-        record { value = y.value; is = y.is; kept = λ k. absurd (on_off x.off k) };
+    answer = from_more m.blocks (λ held. HasHeld held h rows whole s t) (λ held. HasValue h rows whole (s, t) keep held W.Null)
+        (λ held y. record { value = y.value; is = y.is; kept = λ k. absurd (on_off x.off k) })
+        ((sound.each (kind, x.bytes) x.has).holds s t key_at place whole stands.within (sym (x.tells t stands)) is sum le front);
     only = only_refl m;
     gets = λ held v told has. omega arith;
   }
@@ -120,10 +123,10 @@ module _ (h : List ℕ → List ℕ) (rows : List Row) (kind : ReadAs) (root : N
   found : (at : List ℕ) (keep : Bool) (m n : Moment) (val : Val) (b : List ℕ) → ((t : Data) → Stands root t → b ≡ spell t) → ReadsHamt h kind.shape at rows kind.room keep kind.key kind.value (P.Node root) m (Ok val) n
       → IsSound h rows n.blocks (kind, b)
   found at keep m n val b tells read = record {
-    holds = λ held s t key_at place whole told within same is sum le front.
+    holds = λ s t key_at place whole within same is sum le front.
         let y = read s t key_at place whole (stands_again root b tells t same within) is sum le front in
-        let a = y.answer held (sym y.only.blocks ∙ told) in
-        record { value = a.value; is = a.is };
+        subst (λ told. FromBlocks told (λ held. HasHeld held h rows whole s t)) (sym y.only.blocks)
+        (from_more m.blocks (λ held. HasValue h rows whole (s, t) keep held val) (λ held. HasHeld held h rows whole s t) (λ held a. record { value = a.value; is = a.is }) y.answer);
   }
 
   -- and may be remembered

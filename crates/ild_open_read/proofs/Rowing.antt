@@ -1,11 +1,14 @@
 -- Reading the rows of a HAMT, one after another.
-use Rattle.std.proofs.Common.{◌≡◌, ℕ, List, [], ◌∷◌, ◌++◌, length, Bool, true, Contains, append_assoc, refl, sym, ◌∙◌, ap, subst, arith, inl, inr}
+use Rattle.std.proofs.Common.{◌≡◌, ℕ, List, [], ◌∷◌, ◌++◌, length, map, Bool, true, Contains, append_assoc, append-nil, refl, sym, ◌∙◌, ap, ap₂, subst, arith, inl, inr}
 use Rattle.std.specs.Prelude.{IsUtf8, Result, Ok, Err}
 use Rattle.std.specs.List.{AllByRecursion}
+use Rattle.std.proofs.lemmas.List.{map-append}
+use Rattle.ild_cbor.specs.Block.{IsBlockOf}
 use Rattle.ild_cbor.specs.declared.node.Node.{Node}
 use Rattle.ild_cbor.specs.declared.why.BlockWhy.{BlockWhy}
 use Rattle.ild_cbor.specs.declared.why.Why.{Why}
 use Rattle.ild_data.specs.Data.{Data, text}
+use Rattle.ild_data.specs.Limits.{IsWithin}
 use Rattle.ild_data.specs.Spell.{spell}
 use Rattle.ild_data.specs.Tree.{IsTree}
 use Rattle.ild_data.specs.declared.id.BlockId.{BlockId}
@@ -26,6 +29,7 @@ use Rattle.ild_typed.specs.Schema.{IsSchema}
 use Rattle.ild_typed.proofs.Fronting.{values_fronts}
 use Rattle.ild_typed.proofs.OneValue.{plain_safe}
 use Rattle.ild_typed.proofs.TreeNodes.{all_split}
+use Rattle.ild_typed.proofs.Treed.{all_append}
 use Rattle.ild_typed.proofs.WalkSound.{refused_sound}
 use Rattle.ild_bulk_walker.specs.Checked.{row_pair, spelled_pair}
 use Rattle.ild_bulk_walker.specs.declared.row.Row.{Row as Listed}
@@ -86,6 +90,28 @@ pub none_left : (left : List Listed) → length left ≡ 0 → left ≡ []
 none_left [] few = refl
 none_left (r ∷ rs) few = absurd (omega (arith, few))
 
+-- entries within the limits that rows spell
+pub record HasOwnEntries (done : List Listed) : Type 0 where
+  pub entries : List (List ℕ × Data)
+  pub made : map spelled_pair entries ≡ map row_pair done
+  pub within : AllByRecursion (λ e. IsWithin e.1) entries
+
+more_own : (done : List Listed) (row : Listed) (tree : Data) → IsBlockOf row.value tree → HasOwnEntries done → HasOwnEntries (done ++ row ∷ [])
+more_own done row tree is x =
+    let e : List ℕ × Data = (row.key, tree) in
+    record {
+      entries = x.entries ++ e ∷ [];
+      made = map-append spelled_pair x.entries (e ∷ []) ∙ ap₂ (λ (ps qs : List (List ℕ × List ℕ)). ps ++ qs) x.made (ap (λ (v : List ℕ). (row.key, v) ∷ []) (sym is.spelled)) ∙ sym (map-append row_pair done (row ∷ []));
+      within = all_append (λ e. IsWithin e.1) x.entries (e ∷ []) x.within (is.within, tt);
+    }
+
+trees_of : (es : List (List ℕ × Data)) → AllByRecursion (λ e. IsWithin e.1) es → AllByRecursion (λ e. IsTree e.1) es
+trees_of [] within = tt
+trees_of (e ∷ es) within = (within.0.tree, trees_of es within.1)
+
+own_spelled : (listed done : List Listed) → listed ≡ done ++ [] → (x : HasOwnEntries done) → AreSpelled x.entries listed
+own_spelled listed done is x = record { made = x.made ∙ ap (λ (rs : List Listed). map row_pair rs) (sym (is ∙ append-nil done)); trees = trees_of x.entries x.within }
+
 module _ (h : List ℕ → List ℕ) (rows : List Row) (room : ℕ) (keep : Bool) (key : TypeNo) (u : Slot) (listed : List Listed) where
   abbrev Meets : List ℕ × Data → Type 0
   Meets e = KeyFits rows room key e
@@ -99,11 +125,18 @@ module _ (h : List ℕ → List ℕ) (rows : List Row) (room : ℕ) (keep : Bool
   pub record Rowing (left : List Listed) (pairs : Pairs) (m n : Moment) : Type 0 where
     pub done : List Listed
     pub is : listed ≡ done ++ left
+    pub own : HasOwnEntries done
     pub only : OnlyReads m n
     pub each : (es : List (List ℕ × Data)) → AreSpelled es listed → HasGone es left pairs m n
 
   pub rowing_begins : (m : Moment) → Rowing listed V.no_pairs m m
-  rowing_begins m = record { done = []; is = refl; only = only_refl m; each = λ es x. record { rest = es; spelled = x; going = going_begins Meets h rows room keep u es m } }
+  rowing_begins m = record {
+    done = [];
+    is = refl;
+    own = record { entries = []; made = refl; within = tt };
+    only = only_refl m;
+    each = λ es x. record { rest = es; spelled = x; going = going_begins Meets h rows room keep u es m };
+  }
 
   abbrev Answers : Moment → OpenFault → Moment → Type 0
   Answers m e n = ReadsRows h rows room keep key u listed m (Err e) n
@@ -122,6 +155,7 @@ module _ (h : List ℕ → List ℕ) (rows : List Row) (room : ℕ) (keep : Bool
     rowing_goes val more read added = record {
       done = x.done ++ row ∷ [];
       is = x.is ∙ sym (append_assoc x.done (row ∷ []) behind);
+      own = more_own x.done row y.tree y.spelled x.own;
       only = only_trans m n o x.only read.only;
       each = λ es s.
           let g = x.each es s in
@@ -174,8 +208,15 @@ module _ (h : List ℕ → List ℕ) (rows : List Row) (room : ℕ) (keep : Bool
   rowing_ends pairs m n val made x =
       let last : (es : List (List ℕ × Data)) → AreSpelled es listed → Going Meets h rows room keep u es [] pairs m n =
       λ es s. let g = x.each es s in subst (λ r. Going Meets h rows room keep u es r pairs m n) (none_spelled g.rest g.spelled) g.going in
+      let own : AreSpelled x.own.entries listed = own_spelled listed x.done x.is x.own in
       record {
-        answer = λ es s. (going_met Meets h rows room keep u es pairs m n (last es s), (going_ends Meets h [] rows room keep u es pairs m n val made (last es s)).answer);
+        answer = record {
+          entries = x.own.entries;
+          spelled = own;
+          within = x.own.within;
+          keys = going_met Meets h rows room keep u x.own.entries pairs m n (last x.own.entries own);
+          held = (going_ends Meets h [] rows room keep u x.own.entries pairs m n val made (last x.own.entries own)).answer;
+        };
         only = x.only;
         gets = λ es s. (going_ends Meets h [] rows room keep u es pairs m n val made (last es s)).gets;
       }

@@ -5,6 +5,7 @@ use Rattle.ild_cbor.specs.declared.node.Node.{Node}
 use Rattle.ild_data.specs.Data.{Data}
 use Rattle.ild_data.specs.Limits.{IsWithin, deepest}
 use Rattle.ild_data.specs.Spell.{spell}
+use Rattle.ild_edges.specs.Gained.{FromBlocks}
 use Rattle.ild_edges.specs.Store.{block_at}
 use Rattle.ild_schema.specs.Slots.{form_of}
 use Rattle.ild_schema.specs.Value.{Value}
@@ -23,10 +24,12 @@ pub record HasHeld (held : List (List ℕ)) (h : List ℕ → List ℕ) (rows : 
   pub value : Value
   pub is : IsHeld (block_at held) h rows room s t value
 
--- of data with these bytes, in each slot whose form is this HAMT and in this room, a value is held by the store that tells this
+-- of data with these bytes, in each slot whose form is this HAMT and in this room: that a value is held follows from blocks that a
+-- store which tells this gave
 pub record IsSound (h : List ℕ → List ℕ) (rows : List Row) (told : Option (List (List ℕ))) (r : ReadAs × List ℕ) : Type 0 where
-  pub holds : (held : List (List ℕ)) (s : Slot) (t : Data) (key_at place whole : ℕ) → told ≡ Some held → IsWithin t → spell t ≡ r.1
-      → form_of rows s ≡ Some (D.Map r.0.key key_at r.0.value place (MF.Hamt r.0.shape)) → whole ≡ r.0.room + 5 → whole ≤ deepest → IsFronted rows whole s t → HasHeld held h rows whole s t
+  pub holds : (s : Slot) (t : Data) (key_at place whole : ℕ) → IsWithin t → spell t ≡ r.1
+      → form_of rows s ≡ Some (D.Map r.0.key key_at r.0.value place (MF.Hamt r.0.shape)) → whole ≡ r.0.room + 5 → whole ≤ deepest → IsFronted rows whole s t
+      → FromBlocks told (λ held. HasHeld held h rows whole s t)
 
 pub record AreSound (h : List ℕ → List ℕ) (rows : List Row) (told : Option (List (List ℕ))) (known : Known) : Type 0 where
   pub each : (r : ReadAs × List ℕ) → Contains (known_in known) r → IsSound h rows told r

@@ -19,11 +19,11 @@ use ild_bulk_walker::Row;
 use ild_cbor::Piece;
 use ild_data::{BlockId, HamtShape, KeyHash};
 use ild_edges::Store;
-use ild_layer_piece::items;
+use ild_layer_piece::{is_null_there, items};
 use ild_open_known::{Known, ReadAs};
 use ild_open_parts::{
-    OpenFault, add, add_field, add_pair, hamt_rows, is_null_there, kept_leaf, left_out, levels,
-    member_of, part_piece, row_item, union_with,
+    OpenFault, add, add_field, add_pair, hamt_rows, kept_leaf, left_out, levels, member_of,
+    part_piece, row_item, union_with,
 };
 use ild_schema::{
     Accepted, Field, MapForm, Slot, StructDef, TypeDef, TypeNo, UnionDef, Val, ValFields, ValPairs,

@@ -7,6 +7,7 @@ use Rattle.ild_data.specs.Data as D
 use Rattle.ild_data.specs.Data.{Data}
 use Rattle.ild_data.specs.Seen.{data_of}
 use Rattle.ild_data.specs.declared.tree.Tree.{Tree}
+use Rattle.ild_edges.proofs.Reading.{from_told}
 use Rattle.ild_edges.specs.Store.{Moment, block_at}
 use Rattle.ild_typed_fronts.proofs.Representing.{fronts_represent}
 use Rattle.ild_typed_fronts.specs.Front.{front}
@@ -47,7 +48,7 @@ module _ (h : List ℕ → List ℕ) (view : View) (schema : IsSchema (table_of 
 
   load_answer : (t : Data) (v : Value) (x : IsAt h view m t v) (r : Result Val OpenFault) → L.LoadAnswer h view m t r n → LoadAnswer v m (loaded_as r) n
   load_answer t v x (Ok val) a =
-      one_is_held (block_at x.held) h (table_of view) schema 96 (omega arith) (slot_of view) t (value_of val) v (safe_is (table_of view) (slot_of view) view.safe) (a x.held x.told) x.value
+      one_is_held (block_at x.held) h (table_of view) schema 96 (omega arith) (slot_of view) t (value_of val) v (safe_is (table_of view) (slot_of view) view.safe) (from_told m.blocks (λ held. L.IsValueAt h held view t (value_of val)) a x.held x.told) x.value
   load_answer t v x (Err (O.Block id why)) a = absurd (a.0 x.held v x.told x.value)
   load_answer t v x (Err O.Store) a = a
   load_answer t v x (Err O.Memory) a = tt

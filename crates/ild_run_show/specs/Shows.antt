@@ -1,6 +1,7 @@
 -- What showing the value under a block id answers, and what it leaves of the store (IPLD Schemas, "type-level representation"; DAG-JSON).
 use Rattle.std.specs.Prelude.{◌≡◌, ℕ, ◌+◌, ◌≤◌, List, length, Option, Some, None, Result, Ok, Err}
 use Rattle.ild_cbor.specs.declared.why.BlockWhy.{BlockWhy}
+use Rattle.ild_edges.specs.Gained.{FromBlocks}
 use Rattle.ild_edges.specs.Count.{Rose}
 use Rattle.ild_edges.specs.Store.{Moment, block_at}
 use Rattle.ild_json.specs.Printing.{json_text}
@@ -16,9 +17,9 @@ use Rattle.ild_open.specs.Opened.{NoneStands}
 use Rattle.ild_run_show.specs.declared.fault.ShowFault.{ShowFault}
 use Rattle.ild_run_show.specs.declared.fault.ShowFault.TheVariants as F
 
--- this value stands under the id, where the store tells what it holds
+-- this value stands under the id, as follows from the blocks that gets gave, whatever the store does beside
 abbrev pub IsOpened : (List ℕ → List ℕ) → List Row → TypeNo → List ℕ → Moment → Value → Type 0
-IsOpened h rows n id m v = (held : List (List ℕ)) → m.blocks ≡ Some held → Stands bare (block_at held) h rows n id v
+IsOpened h rows n id m v = FromBlocks m.blocks (λ held. Stands bare (block_at held) h rows n id v)
 
 -- no value stands under the id, where the store tells what it holds; and the block under this one is refused for a cause that holds
 pub record NotOpened (h : List ℕ → List ℕ) (rows : List Row) (n : TypeNo) (id : List ℕ) (m : Moment) (at : List ℕ) (why : BlockWhy) (k : Moment) : Type 0 where

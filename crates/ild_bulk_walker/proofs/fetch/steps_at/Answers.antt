@@ -1,5 +1,6 @@
 use Rattle.std.proofs.Common.{◌≡◌, ℕ, List, refl, sym, ◌∙◌, subst, arith}
 use Rattle.std.proofs.lemmas.Bool.{false≢true}
+use Rattle.ild_data.specs.Bytes.{AreBytes}
 use Rattle.ild_data.specs.Data.{Data}
 use Rattle.ild_data.specs.Trie.{node_data}
 use Rattle.ild_cbor.specs.Block.{IsBlockOf}
@@ -18,6 +19,7 @@ returns-in-Some c =
     let r = rw c.in-Some.is at c.in_ok-steps-in-Ok.ensures d.0 d.2.stands in
     let n = node-taken c.args.shape d.0 (omega arith) d.2.stands.within.tree r.0 in
     record {
+      bytes = subst AreBytes c.deref.ensures c.as_slice.ensures.bytes;
       slots = n.slots;
       node = record {
         is = subst (λ (b : List ℕ). IsBlockOf b (node_data n.slots)) same (subst (λ (t : Data). IsBlockOf c.as_slice.result.now t) n.is d.1);

@@ -1,6 +1,7 @@
 use Rattle.std.proofs.Common.{◌≡◌, ℕ, List, None, sym, subst}
 use Rattle.std.specs.Prelude.{Ok, Err}
 use Rattle.ild_cbor.specs.Reading.{fault_of}
+use Rattle.ild_data.specs.Bytes.{AreBytes}
 use Rattle.ild_view_doc.specs.Docs.{block_in}
 use Rattle.ild_open.specs.Found.{HasKept, ReadsRoot}
 use Rattle.ild_open.proofs.Settling.{open_breaks, open_goes, open_stops, root_faultless}
@@ -16,7 +17,7 @@ returns-in-Err g c =
 
 pub read_root-requires-clause-faultless : goal.read_root-requires-clause-faultless
 read_root-requires-clause-faultless g c =
-    subst (λ (b : List ℕ). fault_of b ≡ None) (sym c.block.ensures) (root_faultless c.args.acc.now c.args.ty (block_in c.in-Ok.doc) c.in-Ok.ensures.answer.root)
+    subst (λ (b : List ℕ). fault_of b ≡ None) (sym c.block-block.ensures) (root_faultless c.args.acc.now c.args.ty (block_in c.in-Ok.doc) c.in-Ok.ensures.answer.root)
 
 pub returns-in-Ok-read_root : goal.returns-in-Ok-read_root
 returns-in-Ok-read_root g c =
@@ -25,8 +26,9 @@ returns-in-Ok-read_root g c =
     let m = g.K.Store.moment c.args.store.now in
     let k = g.K.Store.moment c.find.new.store in
     let n = g.K.Store.moment c.read_root.new.store in
-    open_goes rows (record { table = c.types-types.ensures.table; accepted = c.types-types.ensures.accepted }) h c.args.ty c.args.id.now.0 m k n c.in-Ok.doc c.in-Ok.ensures c.args.keep c.in-Ok-read_root.val
-    (subst (λ (b : List ℕ). ReadsRoot h rows c.args.ty c.args.id.now.0 b c.args.keep k (Ok c.in-Ok-read_root.val) n) c.block.ensures c.in-Ok-read_root.ensures)
+    open_goes rows (record { table = c.types-types.ensures.table; accepted = c.types-types.ensures.accepted }) h c.args.ty c.args.id.now.0 m k n c.in-Ok.doc c.in-Ok.ensures c.args.keep
+    (subst AreBytes c.block-block.ensures c.are_bytes.ensures) c.in-Ok-read_root.val
+    (subst (λ (b : List ℕ). ReadsRoot h rows c.args.ty c.args.id.now.0 b c.args.keep k (Ok c.in-Ok-read_root.val) n) c.block-block.ensures c.in-Ok-read_root.ensures)
 
 pub returns : goal.returns
 returns g c =
@@ -37,4 +39,4 @@ returns g c =
     let n = g.K.Store.moment c.read_root.new.store in
     open_breaks rows (record { table = c.types-types.ensures.table; accepted = c.types-types.ensures.accepted }) h c.args.ty c.args.id.now.0 m k n c.in-Ok.doc c.in-Ok.ensures c.args.keep
     (HasKept h rows c.args.ty c.args.id.now.0 m c.args.keep) c.in-Err-read_root.fault
-    (subst (λ (b : List ℕ). ReadsRoot h rows c.args.ty c.args.id.now.0 b c.args.keep k (Err c.in-Err-read_root.fault) n) c.block.ensures c.in-Err-read_root.ensures)
+    (subst (λ (b : List ℕ). ReadsRoot h rows c.args.ty c.args.id.now.0 b c.args.keep k (Err c.in-Err-read_root.fault) n) c.block-block.ensures c.in-Err-read_root.ensures)
