@@ -111,19 +111,19 @@ fn many_edits(rt: HostRuntime) -> Result<(), Fail> {
 
 /// An edit whose puts fail in turn.
 #[derive(Clone, Copy)]
-struct Failing<'k> {
+pub(crate) struct Failing<'k> {
     /// The entries before it.
-    before: &'k [(&'k str, u8)],
-    edit: Edit<'k>,
+    pub(crate) before: &'k [(&'k str, u8)],
+    pub(crate) edit: Edit<'k>,
     /// The entries after it.
-    after: &'k [(&'k str, u8)],
+    pub(crate) after: &'k [(&'k str, u8)],
     /// How many blocks the entries before it take beneath their root, and how many the edit puts.
-    built: u64,
-    puts: u64,
+    pub(crate) built: u64,
+    pub(crate) puts: u64,
 }
 
 /// A split with nodes of one link above it.
-const SPLIT: Failing<'static> = Failing {
+pub(crate) const SPLIT: Failing<'static> = Failing {
     before: &[("abcd1", 1), ("abcd2", 2), ("abcd3", 3)],
     edit: ("abcd4", Some(4)),
     after: &[("abcd1", 1), ("abcd2", 2), ("abcd3", 3), ("abcd4", 4)],
@@ -132,7 +132,7 @@ const SPLIT: Failing<'static> = Failing {
 };
 
 /// A node that becomes a bucket, in a node that stays.
-const COLLAPSE: Failing<'static> = Failing {
+pub(crate) const COLLAPSE: Failing<'static> = Failing {
     before: &[
         ("xab1", 1),
         ("xab2", 2),
@@ -146,13 +146,24 @@ const COLLAPSE: Failing<'static> = Failing {
     puts: 2,
 };
 
+/// The root node of these entries, and the nodes beneath it put.
+pub(crate) fn root_in<K: Store>(
+    alloc: Global,
+    pairs: &[(&str, u8)],
+    store: &mut K,
+) -> Result<Octets, Fail> {
+    let rows = rows_of(alloc, pairs)?;
+    Ok(
+        from_entries(alloc, HamtShape::usual(), &rows, &PadKeys, store)
+            .ok()
+            .ok_or("a root")?,
+    )
+}
+
 /// Which of the new nodes on the key's way a store holds, from the lowest up, as the bits of a number.
-fn held(alloc: Global, case: &Failing<'_>, store: &mut MemStore) -> Result<u64, Fail> {
+fn held<K: Store>(alloc: Global, case: &Failing<'_>, store: &mut K) -> Result<u64, Fail> {
     let mut whole = MemStore::new(alloc, &[], &[])?;
-    let rows = rows_of(alloc, case.after)?;
-    let root = from_entries(alloc, HamtShape::usual(), &rows, &PadKeys, &mut whole)
-        .ok()
-        .ok_or("a root")?;
+    let root = root_in(alloc, case.after, &mut whole)?;
     let node = check(root.as_slice()).ok().ok_or("a block")?;
     let view = node_of(node, HamtShape::usual()).ok().ok_or("a node")?;
     let (key, _) = case.edit;
@@ -171,45 +182,48 @@ fn held(alloc: Global, case: &Failing<'_>, store: &mut MemStore) -> Result<u64, 
     Ok(bits)
 }
 
-/// Whether the k-th put of an edit that fails leaves the nodes beneath alone, and the same edit then has its root.
-fn fails_at(alloc: Global, case: &Failing<'_>, k: u64) -> Result<bool, Fail> {
-    let mut store = MemStore::new(alloc, &[], &[case.built.wrapping_add(k)])?;
-    let rows = rows_of(alloc, case.before)?;
-    let root = from_entries(alloc, HamtShape::usual(), &rows, &PadKeys, &mut store)
-        .ok()
-        .ok_or("a root")?;
-    let first = edit(alloc, &root, case.edit, &PadKeys, &mut store);
-    let stopped = ending(first) == "store";
-    let bits = held(alloc, case, &mut store)?;
-    let second = edit(alloc, &root, case.edit, &PadKeys, &mut store)?;
-    let wanted = root_of(alloc, &rows_of(alloc, case.after)?, &PadKeys)?;
-    let node = check(second.as_slice()).ok().ok_or("a block")?;
+/// How many entries stand beneath a root, of which every node is held.
+fn counted<K: Store>(alloc: Global, root: &Octets, store: &mut K) -> Result<u64, Fail> {
+    let node = check(root.as_slice()).ok().ok_or("a block")?;
     let view = node_of(node, HamtShape::usual()).ok().ok_or("a node")?;
-    let count = check_tree(
-        alloc,
-        view,
-        block_id(second.as_slice()),
-        &PadKeys,
-        &mut store,
+    let at = block_id(root.as_slice());
+    Ok(
+        check_tree(alloc, view, at, &PadKeys, store)
+            .ok()
+            .ok_or("a whole tree")?,
     )
-    .ok();
+}
+
+/// Whether the k-th put of an edit, which fails over this store, leaves the nodes beneath and those that were held before alone, and the same
+/// edit then has its root.
+pub(crate) fn fails_at<K: Store>(
+    alloc: Global,
+    case: &Failing<'_>,
+    k: u64,
+    store: &mut K,
+) -> Result<bool, Fail> {
+    let root = root_in(alloc, case.before, store)?;
+    let first = edit(alloc, &root, case.edit, &PadKeys, store);
+    let stopped = ending(first) == "store";
+    let bits = held(alloc, case, store)?;
+    let kept = counted(alloc, &root, store)? == case.before.len() as u64;
+    let second = edit(alloc, &root, case.edit, &PadKeys, store)?;
+    let wanted = root_of(alloc, &rows_of(alloc, case.after)?, &PadKeys)?;
+    let whole = counted(alloc, &second, store)? == case.after.len() as u64;
     let children_first = bits
         == 1u64
             .wrapping_shl((k.wrapping_sub(1) % 64) as u32)
             .wrapping_sub(1);
-    Ok(
-        stopped
-            && children_first
-            && second.as_slice() == wanted.as_slice()
-            && count == Some(case.after.len() as u64),
-    )
+    Ok(stopped && children_first && kept && whole && second.as_slice() == wanted.as_slice())
 }
 
 #[test]
 fn each_put_fails(rt: HostRuntime) -> Result<(), Fail> {
     for case in [SPLIT, COLLAPSE] {
         for k in 0..case.puts {
-            assert_eq!(rt; fails_at(rt.alloc(), &case, k.wrapping_add(1))?, true);
+            let number = k.wrapping_add(1);
+            let mut store = MemStore::new(rt.alloc(), &[], &[case.built.wrapping_add(number)])?;
+            assert_eq!(rt; fails_at(rt.alloc(), &case, number, &mut store)?, true);
         }
     }
     Ok(())

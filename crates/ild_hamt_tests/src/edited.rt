@@ -13,24 +13,24 @@ use std::test::Fail;
 pub(crate) type Edit<'k> = (&'k str, Option<u8>);
 
 /// The root node after an edit, or a word for why not.
-pub(crate) fn edit<H: KeyHash>(
+pub(crate) fn edit<K: Store, H: KeyHash>(
     alloc: Global,
     root: &Octets,
     edit: Edit<'_>,
     keys: &H,
-    store: &mut MemStore,
+    store: &mut K,
 ) -> Result<Octets, &'static str> {
     edit_of(alloc, HamtShape::usual(), root, edit, keys, store)
 }
 
 /// The same of a HAMT of any shape.
-pub(crate) fn edit_of<H: KeyHash>(
+pub(crate) fn edit_of<K: Store, H: KeyHash>(
     alloc: Global,
     shape: HamtShape,
     root: &Octets,
     edit: Edit<'_>,
     keys: &H,
-    store: &mut MemStore,
+    store: &mut K,
 ) -> Result<Octets, &'static str> {
     let node = check(root.as_slice()).ok().ok_or("a block")?;
     let view = node_of(node, shape).ok().ok_or("a node")?;

@@ -12,4 +12,6 @@ mod narrow;
 #[cfg(test)]
 mod nodes;
 #[cfg(test)]
+mod untold;
+#[cfg(test)]
 mod whys;

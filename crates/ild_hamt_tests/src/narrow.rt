@@ -1,5 +1,5 @@
 //! HAMTs of other shapes than the usual one.
-use crate::edited::edit_of;
+use crate::edited::{edit_of, ending};
 use ild_bulk_walker::check_tree;
 use ild_cbor::check;
 use ild_data::{HamtShape, Octets, PadKeys, Sha256Keys, block_id};
@@ -121,6 +121,26 @@ fn every_shape(rt: HostRuntime) -> Result<(), Fail> {
             let shape = HamtShape::new(width, bucket).ok_or("a shape")?;
             assert_eq!(rt; counted(rt.alloc(), shape, &keys)?, 20);
         }
+    }
+    Ok(())
+}
+
+/// Keys whose hashes, padded, differ in their last bit alone.
+const LAST_BIT: [(&str, Option<u8>); 2] = [
+    ("kkkkkkkkkkkkkkkkkkkkkkkkkkkkkkk0", Some(1)),
+    ("kkkkkkkkkkkkkkkkkkkkkkkkkkkkkkk1", Some(2)),
+];
+
+#[test]
+fn keys_that_part_at_the_last_bit(rt: HostRuntime) -> Result<(), Fail> {
+    // 85 indices of 3 bits leave that bit out, and 64 of 4 bits reach it.
+    for (width, word) in [(3, "exhausted"), (4, "root")] {
+        let mut store = MemStore::new(rt.alloc(), &[], &[])?;
+        let shape = HamtShape::new(width, 1).ok_or("a shape")?;
+        let none = write_node(rt.alloc(), shape, &[])?;
+        let one = edit_of(rt.alloc(), shape, &none, LAST_BIT[0], &PadKeys, &mut store)?;
+        let two = edit_of(rt.alloc(), shape, &one, LAST_BIT[1], &PadKeys, &mut store);
+        assert_eq!(rt; ending(two), word);
     }
     Ok(())
 }

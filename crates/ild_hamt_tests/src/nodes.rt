@@ -2,7 +2,10 @@
 use ild_cbor::check;
 use ild_data::{BlockId, HamtShape, Octets};
 use ild_emit::Emit;
-use ild_node::{NodeSlot, NodeView, node_of, root_of, write_node, write_root};
+use ild_hamt_samples::rows_of;
+use ild_node::{
+    NewHold, NodeSlot, NodeView, node_of, root_of, write_node, write_root, write_slots,
+};
 use std::alloc::Global;
 use std::test::Fail;
 
@@ -57,6 +60,45 @@ fn full(alloc: Global) -> Result<Octets, Fail> {
     }
     out.spelled(b"\x82\x82\x41\x61\x01\x82\x41\x62\x02")?;
     Ok(out.finish())
+}
+
+/// The node of three bits that has a child at index 0, whose id is 32 sevens, and two entries at index 2.
+const OF_EIGHT: &[u8] =
+    b"\x82\x41\x05\x82\xd8\x2a\x58\x25\x00\x01\x71\x12\x20\x07\x07\x07\x07\x07\x07\x07\x07\x07\x07\x07\x07\x07\x07\x07\x07\x07\x07\x07\x07\x07\x07\x07\x07\x07\x07\x07\x07\x07\x07\x07\x07\x82\x82\x41\x61\x01\x82\x41\x62\x02";
+
+/// The slots of that node.
+fn eight_slots(alloc: Global) -> Result<Vec<Option<NewHold>>, Fail> {
+    let mut slots = Vec::new(alloc);
+    slots.push(Some(NewHold::Child(BlockId([7; 32]))))?;
+    slots.push(None)?;
+    let rows = rows_of(alloc, &[("a", 1), ("b", 2)])?;
+    slots.push(Some(NewHold::Bucket(rows)))?;
+    for _ in 3..8 {
+        slots.push(None)?;
+    }
+    Ok(slots)
+}
+
+/// The slots of the full node.
+fn full_slots(alloc: Global) -> Result<Vec<Option<NewHold>>, Fail> {
+    let mut slots = Vec::new(alloc);
+    for i in 0..255u8 {
+        slots.push(Some(NewHold::Child(BlockId([i; 32]))))?;
+    }
+    let rows = rows_of(alloc, &[("a", 1), ("b", 2)])?;
+    slots.push(Some(NewHold::Bucket(rows)))?;
+    Ok(slots)
+}
+
+#[test]
+fn of_all_slots(rt: HostRuntime) -> Result<(), Fail> {
+    let slots = eight_slots(rt.alloc())?;
+    let block = write_slots(rt.alloc(), &slots)?;
+    assert_eq!(rt; block.as_slice(), OF_EIGHT);
+    let slots = full_slots(rt.alloc())?;
+    let block = write_slots(rt.alloc(), &slots)?;
+    assert_eq!(rt; block.as_slice(), full(rt.alloc())?.as_slice());
+    Ok(())
 }
 
 fn is_full(view: NodeView<'_>) -> bool {

@@ -94,6 +94,11 @@ const EDITS: [&str; 34] = [
     "set . [] => root bafyreidwx2fvfdiaox32v2mnn6sxu3j4qoxeqcuenhtgrv5qv6litfnmoe\n",
 ];
 
+/// The JSON of the first value, and the reply that tells its root.
+pub(crate) fn whole() -> Option<(&'static str, &'static str)> {
+    EDITS[0].strip_prefix("set . ")?.split_once(" => ")
+}
+
 /// A node of the first value, by its number.
 pub(crate) fn node(alloc: Global, number: usize) -> Option<Vec<u8>> {
     decode(alloc, *NODES.get(number)?).ok()

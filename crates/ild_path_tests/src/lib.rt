@@ -3,6 +3,8 @@
 #![tactic(auto)]
 
 #[cfg(test)]
+mod created;
+#[cfg(test)]
 mod damaged;
 #[cfg(test)]
 mod failing;

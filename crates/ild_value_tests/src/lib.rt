@@ -1,6 +1,9 @@
-//! Tests of typed values: what JSON texts mean by the types of a schema and how it is shown again, and how values are judged.
+//! Tests of typed values: what JSON texts mean by the types of a schema and how it is shown again, how values are judged,
+//! copied, and told as texts.
 #![tactic(auto)]
 
+#[cfg(test)]
+mod copied;
 #[cfg(test)]
 mod deep;
 #[cfg(test)]
@@ -9,3 +12,5 @@ mod judged;
 mod meant;
 #[cfg(test)]
 mod slots;
+#[cfg(test)]
+mod texts;
