@@ -82,10 +82,10 @@ module _ (h : List ℕ → List ℕ) (rows : List Row) (slot : Slot) (v : Value)
   stop_answer m n bs (F.Clash id kept new) r has same by puts =
       subst (λ (f : BuildFault). BuildAnswer h rows slot v m (Err f) n) (sym by.0) (
         record {
-          held = if_more n.blocks (λ held. block_at held id.0 ≡ Some kept) (λ held. AllByRecursion (λ b. block_at held (id_of b) ≡ Some b) (kept ∷ [])) (λ held t. (ap (block_at held) puts.answer.1 ∙ t, tt)) puts.answer.4;
+          held = if_more n.blocks (λ held. block_at held id.0 ≡ Some kept) (λ held. AllByRecursion (λ b. block_at held (id_of b) ≡ Some b) (kept ∷ [])) (λ held t. (ap (block_at held) puts.answer.1.0 ∙ t, tt)) puts.answer.1.3;
           among = IsIn-contains new (nodes h rows slot v) (among_alike bs (nodes h rows slot v) same new puts.answer.0);
-          named = puts.answer.2;
-          collide = record { kept_bytes = by.1; new_bytes = by.2; differ = puts.answer.3; one_id = puts.answer.1 ∙ sym puts.answer.2 };
+          named = puts.answer.1.1;
+          collide = record { kept_bytes = by.1; new_bytes = by.2; differ = puts.answer.1.2; one_id = puts.answer.1.0 ∙ sym puts.answer.1.1 };
         },
         has,
       )

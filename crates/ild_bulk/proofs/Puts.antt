@@ -163,7 +163,7 @@ stopped-answer : (m k n : Moment) (bs : List (List ℕ)) (b : List ℕ) (e : Ham
 stopped-answer m k n bs b F.Exhausted later among is = absurd is
 stopped-answer m k n bs b (F.Block id why) later among is = absurd is
 stopped-answer m k n bs b F.Store later among is = let up = later.faults in omega (arith, is)
-stopped-answer m k n bs b (F.Clash id kept new) later among is = (subst (λ (x : List ℕ). IsIn x bs) (sym is.0) among, is.1, is.2, is.3, is.4)
+stopped-answer m k n bs b (F.Clash id kept new) later among is = (subst (λ (x : List ℕ). IsIn x bs) (sym is.0) among, is.1)
 stopped-answer m k n bs b F.Size later among is = absurd is
 stopped-answer m k n bs b F.NoKey later among is = absurd is
 stopped-answer m k n bs b F.Memory later among is = tt

@@ -1,11 +1,11 @@
 -- What puts of many blocks leave.
-use Rattle.std.specs.Prelude.{◌≡◌, ◌≢◌, ◌⊎◌, ◌↔◌, Contains, ℕ, ◌+◌, ◌≤◌, List, [], ◌∷◌, length, map, take, Result, Ok, Err, Some}
+use Rattle.std.specs.Prelude.{◌≡◌, ◌⊎◌, ◌↔◌, Contains, ℕ, ◌+◌, ◌≤◌, List, [], ◌∷◌, length, map, take, Result, Ok, Err, Some}
 use Rattle.ild_data.specs.Spell.{id_of}
 use Rattle.ild_edges.specs.Among.{IsIn}
 use Rattle.ild_edges.specs.Count.{Rose}
-use Rattle.ild_edges.specs.Gained.{AreHeld, CameFrom}
+use Rattle.ild_edges.specs.Gained.{AreHeld, CameFrom, Clashes}
 use Rattle.ild_edges.specs.Store.{Moment, Later, Gives, block_at}
-use Rattle.ild_edges.specs.Told.{IfTold, BothTold}
+use Rattle.ild_edges.specs.Told.{BothTold}
 use Rattle.ild_node_slots.specs.declared.fault.HamtFault.{HamtFault}
 use Rattle.ild_node_slots.specs.declared.fault.HamtFault.TheVariants.{Store, Clash, Memory}
 
@@ -16,7 +16,7 @@ GivesAll ids was now = (j : List ℕ) → Contains now j ↔ (Contains was j ⊎
 abbrev pub PutAnswer : Moment → List ℕ → Result (Unit {0}) HamtFault → Moment → Type 0
 PutAnswer m b (Ok u) n = BothTold m.blocks n.blocks (λ was now. block_at now (id_of b) ≡ Some b) × BothTold m.given n.given (Gives (id_of b))
 PutAnswer m b (Err Store) n = Rose m.faults n.faults
-PutAnswer m b (Err (Clash id kept new)) n = (new ≡ b) × (id_of kept ≡ id.0) × (id_of new ≡ id.0) × (kept ≢ new) × IfTold n.blocks (λ held. block_at held id.0 ≡ Some kept)
+PutAnswer m b (Err (Clash id kept new)) n = (new ≡ b) × Clashes n id.0 kept new
 PutAnswer m b (Err Memory) n = Unit {0}
 PutAnswer m b (Err e) n = ⊥
 
@@ -31,7 +31,7 @@ pub record PutsOne (m : Moment) (b : List ℕ) (result : Result (Unit {0}) HamtF
 abbrev pub PutsAnswer : Moment → List (List ℕ) → Result (Unit {0}) HamtFault → Moment → Type 0
 PutsAnswer m bs (Ok u) n = BothTold m.blocks n.blocks (λ was now. AreHeld bs now) × BothTold m.given n.given (GivesAll (map id_of bs))
 PutsAnswer m bs (Err Store) n = Rose m.faults n.faults
-PutsAnswer m bs (Err (Clash id kept new)) n = IsIn new bs × (id_of kept ≡ id.0) × (id_of new ≡ id.0) × (kept ≢ new) × IfTold n.blocks (λ held. block_at held id.0 ≡ Some kept)
+PutsAnswer m bs (Err (Clash id kept new)) n = IsIn new bs × Clashes n id.0 kept new
 PutsAnswer m bs (Err Memory) n = Unit {0}
 PutsAnswer m bs (Err e) n = ⊥
 

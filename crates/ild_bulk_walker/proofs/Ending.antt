@@ -14,7 +14,7 @@ use Rattle.ild_data.specs.TrieShape.{trie_levels}
 use Rattle.ild_edges.specs.Gained.{FromBlocks}
 use Rattle.ild_edges.specs.Store.{Moment}
 use Rattle.ild_edges.proofs.Later.{Later-refl, Later-trans}
-use Rattle.ild_edges.proofs.Reading.{from_told, from_nothing, from_both}
+use Rattle.ild_edges.proofs.Reading.{from_told, from_nothing, from_later, from_both}
 use Rattle.ild_node_slots.specs.declared.fault.HamtFault.{HamtFault}
 use Rattle.ild_node_slots.specs.declared.fault.HamtFault.TheVariants as F
 use Rattle.ild_bulk_walker.specs.Ahead.{Ahead, BeginsWith, IsNew, IsNewOn, IsNewLeft, NextAnswer, Nexts}
@@ -28,6 +28,7 @@ use Rattle.ild_node_slots.specs.Form.{IsNode}
 use Rattle.ild_bulk_walker.proofs.Keeping.{broken-since}
 use Rattle.ild_bulk_walker.proofs.Listing.{rows-rise}
 use Rattle.ild_bulk_walker.proofs.Nexting.{rose-later, cause-later}
+use Rattle.ild_bulk_walker.proofs.Resuming.{only-reads}
 
 from-root : (p : HamtShape) (h : List ℕ → List ℕ) (slots : List TrieSlot) (m : Moment) (w : Walker) (held : List (List ℕ)) → IsNew p slots w → (es : List (List ℕ × Data)) → RootGives h p held (trie_levels p - 1) slots es ↔ Behind h p held [] w es
 from-root p h slots m w held new es = (
@@ -37,7 +38,7 @@ from-root p h slots m w held new es = (
 
 pub begun : (p : HamtShape) (h : List ℕ → List ℕ) (slots : List TrieSlot) (at : List ℕ) (AreDone : List (List ℕ × Data) → Type 0) (m : Moment) (w : Walker) → AreDone [] → IsNew p slots w → IsNewOn p slots at w → IsNewLeft p slots w → w.given ≡ 0 → HasWalked h p slots at AreDone m w m
 begun p h slots at AreDone m w are new on left none = record {
-  walked = from_nothing m.blocks (λ held. Walked h p held slots AreDone w) (λ held. record { done = []; are = are; many = sym none; ahead = from-root p h slots m w held new });
+  walked = from_nothing m (λ held. Walked h p held slots AreDone w) (λ held. record { done = []; are = are; many = sym none; ahead = from-root p h slots m w held new });
   on = on m.blocks;
   spent = λ held many told nodes. record { left = many; nodes = left held many nodes; gets = omega arith };
   later = Later-refl m;
@@ -68,7 +69,7 @@ walked-one p h slots held P Q v w row value es ahead b = (
 pub walked-more : (p : HamtShape) (h : List ℕ → List ℕ) (slots : List TrieSlot) (at : List ℕ) (P Q : List (List ℕ × Data) → Type 0) (m n o : Moment) (v w : Walker) (row : Row) → ((done : List (List ℕ × Data)) (value : Data) → row.value ≡ spell value → P done → Q (done ++ (row.key, value) ∷ []))
     → HasWalked h p slots at P m v n → Nexts h p n v (Ok (Some row)) w o → HasWalked h p slots at Q m w o
 walked-more p h slots at P Q m n o v w row more was next = record {
-  walked = from_both m.blocks (λ held. Walked h p held slots P v) (IsRow h p v row next.answer.value w) (λ held. Walked h p held slots Q w) step was.walked (subst (λ told. FromBlocks told (IsRow h p v row next.answer.value w)) was.blocks next.answer.ahead);
+  walked = from_both o (λ held. Walked h p held slots P v) (IsRow h p v row next.answer.value w) (λ held. Walked h p held slots Q w) step (from_later n o (λ held. Walked h p held slots P v) (only-reads (trie_levels p) n o next.only) was.walked) next.answer.ahead;
   on = subst (λ told. IsOn p told slots at w) was.blocks (next.on slots at (subst (λ told. IsOn p told slots at v) (sym was.blocks) was.on)).0;
   spent = λ held many told nodes. let s = was.spent held many told nodes in let q = next.reads held (was.blocks ∙ told) s.left s.nodes in record { left = q.left; nodes = q.nodes; gets = let one = s.gets in let two = q.gets in omega arith };
   later = Later-trans m n o was.later next.only.later;
@@ -124,9 +125,9 @@ all-given p h slots P v held b done = (b.ahead b.done).1 (record { rest = []; is
 
 -- what follows from all that was given, and that it was all
 from-all : (p : HamtShape) (h : List ℕ → List ℕ) (slots : List TrieSlot) (at : List ℕ) (P : List (List ℕ × Data) → Type 0) (Q : List (List ℕ) → Type 0) (m n o : Moment) (v w : Walker) → HasWalked h p slots at P m v n → Nexts h p n v (Ok None) w o
-    → ((held : List (List ℕ)) → (b : Walked h p held slots P v) → RootGives h p held (trie_levels p - 1) slots b.done → Q held) → FromBlocks m.blocks Q
+    → ((held : List (List ℕ)) → (b : Walked h p held slots P v) → RootGives h p held (trie_levels p - 1) slots b.done → Q held) → FromBlocks o Q
 from-all p h slots at P Q m n o v w was next so =
-    from_both m.blocks (λ held. Walked h p held slots P v) (IsDone h p v) Q (λ held b done. so held b (all-given p h slots P v held b done)) was.walked (subst (λ told. FromBlocks told (IsDone h p v)) was.blocks next.answer)
+    from_both o (λ held. Walked h p held slots P v) (IsDone h p v) Q (λ held b done. so held b (all-given p h slots P v held b done)) (from_later n o (λ held. Walked h p held slots P v) (only-reads (trie_levels p) n o next.only) was.walked) next.answer
 
 pub walked-end : (p : HamtShape) (h : List ℕ → List ℕ) (slots : List TrieSlot) (at : List ℕ) (m n o : Moment) (v w : Walker) (count : ℕ) → HasWalked h p slots at (λ done. Unit {0}) m v n → Nexts h p n v (Ok None) w o → w.given ≡ count → Checks h p slots at m (Ok count) o
 walked-end p h slots at m n o v w count was next is = record {
@@ -139,7 +140,7 @@ pub stopped : (p : HamtShape) (h : List ℕ → List ℕ) (slots : List TrieSlot
 stopped p h slots at P m n o v w e was next = by e next.answer
   where
     none : ((held : List (List ℕ)) (es : List (List ℕ × Data)) → n.blocks ≡ Some held → Ahead h p held v es → ⊥) → GivesNone h p slots m
-    none no_more held es told r = let u = ((from_told m.blocks (λ held. Walked h p held slots P v) was.walked held told).ahead es).0 r in no_more held u.rest (was.blocks ∙ told) u.ahead
+    none no_more held es told r = let u = ((from_told n (λ held. Walked h p held slots P v) was.walked held (was.blocks ∙ told)).ahead es).0 r in no_more held u.rest (was.blocks ∙ told) u.ahead
 
     by : (e : HamtFault) → NextAnswer h p n v (Err e) w o → StopsWith h p slots m e o
     by F.Store q = rose-later m.faults n.faults o.faults was.later.faults q.0

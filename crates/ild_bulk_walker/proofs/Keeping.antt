@@ -208,8 +208,8 @@ fetch-keeps p h m n v c id why next same r = λ root at on.
       },
     )
 
-pub entered-keeps : (p : HamtShape) (m : Moment) (v w : Walker) (c : Child) (steps : List Step) → suc (length v.path.items) < trie_levels p → GotSteps p m c.id.0 steps → IsEntered v c steps w → StaysOn p m.blocks v w
-entered-keeps p m v w c steps short got e = λ root at on.
+pub entered-keeps : (p : HamtShape) (m n : Moment) (v w : Walker) (c : Child) (steps : List Step) → suc (length v.path.items) < trie_levels p → GotSteps p m c.id.0 steps n → IsEntered v c steps w → StaysOn p m.blocks v w
+entered-keeps p m n v w c steps short got e = λ root at on.
     let long = ap (λ (xs : List Child). length xs) e.children in
     let more = length-append v.path.items (c ∷ []) in
     let todo : walker_todo w ≡ node_todo 0 got.has.slots ++ leave v.given ∷ e.rest = e.todo ∙ ap (λ ts. ts ++ leave v.given ∷ e.rest) got.has.todo in

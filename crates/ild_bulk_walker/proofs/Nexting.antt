@@ -25,7 +25,7 @@ use Rattle.ild_bulk_walker.proofs.Walking.{unchanged-still}
 use Rattle.ild_bulk_walker.specs.Standing.{KeepsOn, RowStands}
 use Rattle.ild_bulk_walker.proofs.Keeping.{StaysOn, FaultOn, keeps-more, few-keeps, stray-keeps, taken-keeps, taken-row, memory-keeps}
 use Rattle.ild_bulk_walker.proofs.Spending.{Passes, passes-itself, spends-none, spends-more, taken-passes, taken-nodes, unchanged-nodes}
-use Rattle.ild_bulk_walker.proofs.Resuming.{read-nothing, read-both, read-from, where-both, where-itself, where-told}
+use Rattle.ild_bulk_walker.proofs.Resuming.{only-reads, read-nothing, read-both, read-from, where-both, where-itself, where-told}
 use Rattle.ild_bulk_walker.specs.Reads.{HasRead, fails_of}
 use Rattle.ild_bulk_walker.specs.declared.row.Row.{Row}
 use Rattle.ild_bulk_walker.specs.declared.step.Child.{Child}
@@ -38,8 +38,8 @@ rose-later a b c le rose = omega arith
 
 refused-before : (p : HamtShape) (m n o : Moment) (id : List ℕ) (why : BlockWhy) → Later m n → n.blocks ≡ m.blocks → IsRefused p n id why o → IsRefused p m id why o
 refused-before p m n o id Missing later blocks r = (subst (λ b. IfTold b (λ bs. block_at bs id ≡ None)) blocks r.0, rose-later m.lacks n.lacks o.lacks later.lacks r.1)
-refused-before p m n o id (Cbor fault) later blocks r = record { block = r.block; at = record { named = r.at.named; held = subst (λ b. IfTold b (λ bs. block_at bs id ≡ Some r.block)) blocks r.at.held }; wrong = r.wrong }
-refused-before p m n o id (NoNode why) later blocks r = record { block = r.block; at = record { named = r.at.named; held = subst (λ b. IfTold b (λ bs. block_at bs id ≡ Some r.block)) blocks r.at.held }; wrong = r.wrong }
+refused-before p m n o id (Cbor fault) later blocks r = record { block = r.block; at = record { named = r.at.named; held = subst (λ b. IfTold b (λ bs. block_at bs id ≡ Some r.block)) blocks r.at.held }; got = r.got; wrong = r.wrong }
+refused-before p m n o id (NoNode why) later blocks r = record { block = r.block; at = record { named = r.at.named; held = subst (λ b. IfTold b (λ bs. block_at bs id ≡ Some r.block)) blocks r.at.held }; got = r.got; wrong = r.wrong }
 
 pub cause-later : (p : HamtShape) (m n o : Moment) (e : HamtFault) → Later m n → n.blocks ≡ m.blocks → IsCause p n e o → IsCause p m e o
 cause-later p m n o (F.Block id why) later blocks c = ⊎_elim (λ r. inl (refused-before p m n o id.0 why later blocks r)) (λ s. inr s) c
@@ -70,7 +70,7 @@ enters-more p a b c m n o u v w r le x y = record {
   only = only-more a b c m n o x.only y.only le;
   on = λ h. keeps-more p h m.blocks m.lacks n.lacks o.lacks u v w r x.only.later.lacks (λ root at on. (x.on h root at on).0) (subst (λ told. KeepsOn p h told n.lacks o.lacks v r w) x.only.blocks (y.on h));
   reads = λ held told. spends-more p held m.gets n.gets o.gets u v w r (x.reads held told) (y.reads held (x.only.blocks ∙ told));
-  read = read-both p (λ blocks. SameWhere p blocks u v) (λ blocks. SameWhere p blocks v w) (λ blocks. SameWhere p blocks u w) (fails_of r) m n o u v w x.only.blocks (where-both p u v w) 0 (fails_of r) (no-fail (fails_of r)) x.read y.read;
+  read = read-both p (λ blocks. SameWhere p blocks u v) (λ blocks. SameWhere p blocks v w) (λ blocks. SameWhere p blocks u w) (fails_of r) m n o u v w x.only.blocks (only-reads b n o y.only) (where-both p u v w) 0 (fails_of r) (no-fail (fails_of r)) x.read y.read;
 }
   where
     failed : (e : HamtFault) → IsCause p n e o × NothingTold p n v → IsCause p m e o × NothingTold p m u
@@ -282,6 +282,7 @@ next-entered p h m n u v w e short l x = record { answer = by e x.answer; counts
       blocks = x.read.blocks;
       bytes = x.read.bytes;
       nodes = x.read.nodes;
+      got = x.read.got;
       held = x.read.held;
       gets = x.read.gets;
       left = λ held k all n. x.read.left held k all (l.nodes held k n);
@@ -339,7 +340,7 @@ next-given p h m n u v w x r short l e g = record {
     same-where : (held : List (List ℕ)) (es : List (List ℕ × Data)) → AreHeld e.read.blocks held → StillAhead h p held u es ↔ StillAhead h p held w es
     same-where held es all = both-ways (l.same h held es) (e.read.says h held es all)
 
-    from : (P : List (List ℕ) → Type 0) → ((held : List (List ℕ)) → AreHeld e.read.blocks held → P held) → FromBlocks m.blocks P
+    from : (P : List (List ℕ) → Type 0) → ((held : List (List ℕ)) → AreHeld e.read.blocks held → P held) → FromBlocks n P
     from P so = read-from p (λ blocks. SameWhere p blocks v w) P 0 m n v w e.read so
 
     short-x : length (walker_path x) < trie_levels p
@@ -366,6 +367,7 @@ next-given p h m n u v w x r short l e g = record {
       blocks = e.read.blocks;
       bytes = e.read.bytes;
       nodes = e.read.nodes;
+      got = e.read.got;
       held = e.read.held;
       gets = besides n.gets m.gets (length e.read.blocks) (fails_of r) e.read.gets;
       left = λ held k all many. let q = e.read.left held k all (l.nodes held k many) in (q.0, q.1, g.nodes held q.0 q.2);

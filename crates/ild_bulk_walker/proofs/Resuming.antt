@@ -6,34 +6,28 @@ use Rattle.ild_data.specs.Bytes.{AreBytes}
 use Rattle.ild_data.specs.Data.{Data}
 use Rattle.ild_data.specs.declared.hamt_shape.HamtShape.{HamtShape}
 use Rattle.ild_data.specs.Spell.{id_of}
-use Rattle.ild_edges.specs.Gained.{AreHeld, FromBlocks}
+use Rattle.ild_data.specs.Trie.{TrieSlot}
+use Rattle.ild_edges.specs.Gained.{AreHeld, FromBlocks, IsGot, OnlyReads}
 use Rattle.ild_edges.specs.Store.{Moment, block_at}
 use Rattle.ild_edges.specs.Told.{IfTold}
+use Rattle.ild_edges.proofs.Reading.{reads_then}
 use Rattle.ild_bulk_walker.specs.Ahead.{StillAhead, SameNodes, SameWhere}
-use Rattle.ild_bulk_walker.specs.Reads.{AreNodes, HasRead}
+use Rattle.ild_bulk_walker.specs.Fetching.{OnlyGets}
+use Rattle.ild_bulk_walker.specs.Gives.{IsNodeOf}
+use Rattle.ild_bulk_walker.specs.Reads.{HasRead}
 use Rattle.ild_bulk_walker.specs.declared.walker.Walker.{Walker}
+use Rattle.ild_bulk_walker.proofs.Opening.{all-join, all-split}
 
 -- ---- blocks that are held
 
 holds-both : (held xs ys : List (List ℕ)) → AreHeld xs held → AreHeld ys held → AreHeld (xs ++ ys) held
-holds-both held [] ys s q = q
-holds-both held (a ∷ xs) ys s q = (s.0, holds-both held xs ys s.1 q)
+holds-both held xs ys = all-join (λ b. block_at held (id_of b) ≡ Some b) xs ys
 
 holds-first : (held xs ys : List (List ℕ)) → AreHeld (xs ++ ys) held → AreHeld xs held
-holds-first held [] ys q = tt
-holds-first held (a ∷ xs) ys q = (q.0, holds-first held xs ys q.1)
+holds-first held xs ys all = (all-split (λ b. block_at held (id_of b) ≡ Some b) xs ys all).0
 
 holds-second : (held xs ys : List (List ℕ)) → AreHeld (xs ++ ys) held → AreHeld ys held
-holds-second held [] ys q = q
-holds-second held (a ∷ xs) ys q = holds-second held xs ys q.1
-
-bytes-both : (xs ys : List (List ℕ)) → AllByRecursion AreBytes xs → AllByRecursion AreBytes ys → AllByRecursion AreBytes (xs ++ ys)
-bytes-both [] ys s q = q
-bytes-both (a ∷ xs) ys s q = (s.0, bytes-both xs ys s.1 q)
-
-nodes-both : (p : HamtShape) (xs ys : List (List ℕ)) → AreNodes p xs → AreNodes p ys → AreNodes p (xs ++ ys)
-nodes-both p [] ys s q = q
-nodes-both p (a ∷ xs) ys s q = (s.0, nodes-both p xs ys s.1 q)
+holds-second held xs ys all = (all-split (λ b. block_at held (id_of b) ≡ Some b) xs ys all).1
 
 told-none : (told : Option (List (List ℕ))) → IfTold told (λ held. AreHeld [] held)
 told-none None = tt
@@ -53,6 +47,15 @@ told-are told held blocks is q = subst (λ o. IfTold o (λ held. AreHeld blocks 
 pub holds-one : (held : List (List ℕ)) (id block : List ℕ) → id_of block ≡ id → AreHeld (block ∷ []) held → block_at held id ≡ Some block
 holds-one held id block named q = subst (λ i. block_at held i ≡ Some block) named q.0
 
+-- ---- blocks that gets gave
+
+pub only-reads : (most : ℕ) (m n : Moment) → OnlyGets most m n → OnlyReads m n
+only-reads most m n x = record { later = x.later; blocks = x.blocks; given = x.given; puts = x.puts }
+
+got-later : (m n : Moment) → OnlyReads m n → (bs : List (List ℕ)) → AllByRecursion (IsGot m) bs → AllByRecursion (IsGot n) bs
+got-later m n only [] all = tt
+got-later m n only (b ∷ bs) all = (record { before = all.0.before; behind = all.0.behind; get = all.0.get; since = reads_then all.0.behind m n all.0.since only }, got-later m n only bs all.1)
+
 -- ---- what was read
 
 no-block : (n : ℕ) → n ≡ 0 + n
@@ -66,19 +69,21 @@ read-nothing p P besides m n v w gets same q = record {
   blocks = [];
   bytes = tt;
   nodes = tt;
+  got = tt;
   held = told-none m.blocks;
   gets = no-get n.gets m.gets besides gets;
   left = λ held k all l. (k, no-block k, same held k l);
   says = q;
 }
 
-pub read-both : (p : HamtShape) (P Q R : List (List ℕ) → Type 0) (besides : ℕ) (m n o : Moment) (u v w : Walker) → n.blocks ≡ m.blocks → ((xs ys : List (List ℕ)) → P xs → Q ys → R (xs ++ ys)) → (a b : ℕ) → a + b ≡ besides → HasRead p P a m u v n → HasRead p Q b n v w o → HasRead p R besides m u w o
-read-both p P Q R besides m n o u v w same both a b sum x y =
+pub read-both : (p : HamtShape) (P Q R : List (List ℕ) → Type 0) (besides : ℕ) (m n o : Moment) (u v w : Walker) → n.blocks ≡ m.blocks → OnlyReads n o → ((xs ys : List (List ℕ)) → P xs → Q ys → R (xs ++ ys)) → (a b : ℕ) → a + b ≡ besides → HasRead p P a m u v n → HasRead p Q b n v w o → HasRead p R besides m u w o
+read-both p P Q R besides m n o u v w same since both a b sum x y =
     let long = length-append x.blocks y.blocks in
     record {
       blocks = x.blocks ++ y.blocks;
-      bytes = bytes-both x.blocks y.blocks x.bytes y.bytes;
-      nodes = nodes-both p x.blocks y.blocks x.nodes y.nodes;
+      bytes = all-join AreBytes x.blocks y.blocks x.bytes y.bytes;
+      nodes = all-join (λ b. (slots : List TrieSlot) × IsNodeOf p b slots) x.blocks y.blocks x.nodes y.nodes;
+      got = all-join (IsGot o) x.blocks y.blocks (got-later n o since x.blocks x.got) y.got;
       held = told-both m.blocks x.blocks y.blocks x.held (subst (λ told. IfTold told (λ held. AreHeld y.blocks held)) same y.held);
       gets = let s = x.gets in let q = y.gets in omega arith;
       left = λ held k all l.
@@ -89,8 +94,8 @@ read-both p P Q R besides m n o u v w same both a b sum x y =
     }
 
 -- what holds wherever the blocks are held follows from them
-pub read-from : (p : HamtShape) (Says : List (List ℕ) → Type 0) (P : List (List ℕ) → Type 0) (besides : ℕ) (m n : Moment) (v w : Walker) → (r : HasRead p Says besides m v w n) → ((held : List (List ℕ)) → AreHeld r.blocks held → P held) → FromBlocks m.blocks P
-read-from p Says P besides m n v w r so = record { blocks = r.blocks; bytes = r.bytes; there = r.held; so = so }
+pub read-from : (p : HamtShape) (Says : List (List ℕ) → Type 0) (P : List (List ℕ) → Type 0) (besides : ℕ) (m n : Moment) (v w : Walker) → (r : HasRead p Says besides m v w n) → ((held : List (List ℕ)) → AreHeld r.blocks held → P held) → FromBlocks n P
+read-from p Says P besides m n v w r so = record { blocks = r.blocks; bytes = r.bytes; got = r.got; so = so }
 
 pub where-itself : (p : HamtShape) (v : Walker) → SameWhere p [] v v
 where-itself p v = λ h held es all. (λ s. s, λ s. s)

@@ -118,9 +118,9 @@ told-block : (m : Moment) (held : List (List ℕ)) (id block : List ℕ) → IfT
 told-block m held id block told is = subst (λ o. IfTold o (λ bs. block_at bs id ≡ Some block)) is told
 
 -- where its block is held, one node fewer is to be read
-pub entered-nodes : (p : HamtShape) (m : Moment) (held : List (List ℕ)) (v w : Walker) (c : Child) (steps : List Step) → suc (length v.path.items) < trie_levels p → (got : GotSteps p m c.id.0 steps) → block_at held c.id.0 ≡ Some got.block → IsEntered v c steps w
+pub entered-nodes : (p : HamtShape) (m o : Moment) (held : List (List ℕ)) (v w : Walker) (c : Child) (steps : List Step) → suc (length v.path.items) < trie_levels p → (got : GotSteps p m c.id.0 steps o) → block_at held c.id.0 ≡ Some got.block → IsEntered v c steps w
     → (n : ℕ) → LeftNodes p held v n → (left : ℕ) × (n ≡ 1 + left) × LeftNodes p held w left
-entered-nodes p m held v w c steps short got here e = λ n l.
+entered-nodes p m o held v w c steps short got here e = λ n l.
     let level : ℕ = length v.path.items in
     let f = first-of p held level c.id.0 c.index e.rest n short (nodes-at p held v (enter c.id.0 c.index ∷ e.rest) n e.was l) in
     let many : SlotsNodes (TreeNodes p held (trie_levels p - suc (suc level))) got.has.slots f.beneath = ⊎_elim
@@ -138,9 +138,9 @@ entered-nodes p m held v w c steps short got here e = λ n l.
           (node-nodes p held (suc level) 0 got.has.slots (leave v.given ∷ e.rest) f.beneath f.more many (subst (λ k. TodoNodes p held k e.rest f.more) (back-level level) f.others)),
     )
 
-pub entered-passes : (p : HamtShape) (m : Moment) (held : List (List ℕ)) (a b : ℕ) (v w : Walker) (c : Child) (steps : List Step) → m.blocks ≡ Some held → suc (length v.path.items) < trie_levels p → b ≤ a + 1 → GotSteps p m c.id.0 steps → IsEntered v c steps w → Passes p held a b v w
-entered-passes p m held a b v w c steps told short one got e = λ n l.
-    let q = entered-nodes p m held v w c steps short got (told-block m held c.id.0 got.block got.at.held told) e n l in
+pub entered-passes : (p : HamtShape) (m o : Moment) (held : List (List ℕ)) (a b : ℕ) (v w : Walker) (c : Child) (steps : List Step) → m.blocks ≡ Some held → suc (length v.path.items) < trie_levels p → b ≤ a + 1 → GotSteps p m c.id.0 steps o → IsEntered v c steps w → Passes p held a b v w
+entered-passes p m o held a b v w c steps told short one got e = λ n l.
+    let q = entered-nodes p m o held v w c steps short got (told-block m held c.id.0 got.block got.at.held told) e n l in
     let is = q.1 in
     record { left = q.0; nodes = q.2; gets = omega arith }
 

@@ -1,12 +1,14 @@
 -- The steps that are gathered from a node.
-use Rattle.std.proofs.Common.{◌≡◌, ℕ, List, [], ◌∷◌, ◌++◌, map, refl, sym, ap, ◌∙◌}
+use Rattle.std.proofs.Common.{◌≡◌, ℕ, List, [], ◌∷◌, ◌++◌, map, Some, refl, sym, ap, ◌∙◌, subst, arith}
 use Rattle.std.specs.Prelude.{reverse, Result, Ok, Err}
 use Rattle.std.proofs.lemmas.List.{map-append, reverse-append}
 use Rattle.ild_data.specs.declared.hamt_shape.HamtShape.{HamtShape}
 use Rattle.ild_data.specs.Data.{Data}
 use Rattle.std.specs.Global.{Vec}
 use Rattle.ild_cbor.specs.declared.why.BlockWhy.TheVariants.{Missing, Cbor, Shape as NoNode}
-use Rattle.ild_edges.specs.Store.{Moment}
+use Rattle.ild_edges.specs.Gained.{IsGot}
+use Rattle.ild_edges.specs.Store.{Moment, Gets}
+use Rattle.ild_edges.proofs.Reading.{reads_none}
 use Rattle.ild_node_slots.specs.declared.fault.HamtFault.{HamtFault}
 use Rattle.ild_node_slots.specs.declared.fault.HamtFault.TheVariants as F
 use Rattle.ild_bulk_walker.specs.Fetching.{ReadsBlock, IsBlockAt, OnlyGets, Fetches}
@@ -36,14 +38,23 @@ steps-turned steps new turned = ap (λ (xs : List Step). reverse (map step_todo 
 
 -- ---- a block that was got
 
-pub fetched : (p : HamtShape) (m n : Moment) (id b : List ℕ) (r : Result (Vec Step) HamtFault) → ReadsBlock p id b r → IsBlockAt m id b → OnlyGets 1 m n → Fetches p m id r n
-fetched p m n id b (Ok steps) reads at only = record { answer = record { block = b; at = at; has = reads }; only = only }
-fetched p m n id b (Err (F.Block i Missing)) reads at only = absurd reads.1
-fetched p m n id b (Err (F.Block i (Cbor fault))) reads at only = record { answer = (reads.0, record { block = b; at = at; wrong = reads.1 }); only = only }
-fetched p m n id b (Err (F.Block i (NoNode why))) reads at only = record { answer = (reads.0, record { block = b; at = at; wrong = reads.1 }); only = only }
-fetched p m n id b (Err F.Exhausted) reads at only = absurd reads
-fetched p m n id b (Err F.Store) reads at only = absurd reads
-fetched p m n id b (Err (F.Clash i kept new)) reads at only = absurd reads
-fetched p m n id b (Err F.Size) reads at only = absurd reads
-fetched p m n id b (Err F.NoKey) reads at only = absurd reads
-fetched p m n id b (Err F.Memory) reads at only = record { answer = tt; only = only }
+got-here : (m n : Moment) (id b : List ℕ) → Gets m id (Ok (Some b)) n → IsGot n b
+got-here m n id b gets = record { before = m; behind = n; get = subst (λ i. Gets m i (Ok (Some b)) n) (sym gets.answer.0) gets; since = reads_none n }
+
+block-here : (m n : Moment) (id b : List ℕ) → Gets m id (Ok (Some b)) n → IsBlockAt m id b
+block-here m n id b gets = record { named = gets.answer.0; held = gets.answer.1 }
+
+one-get : (m n : Moment) (id b : List ℕ) → Gets m id (Ok (Some b)) n → OnlyGets 1 m n
+one-get m n id b gets = record { later = gets.later; blocks = gets.blocks; given = gets.given; puts = gets.puts; gets = let many = gets.gets in omega arith }
+
+pub fetched : (p : HamtShape) (m n : Moment) (id b : List ℕ) (r : Result (Vec Step) HamtFault) → ReadsBlock p id b r → Gets m id (Ok (Some b)) n → Fetches p m id r n
+fetched p m n id b (Ok steps) reads gets = record { answer = record { block = b; at = block-here m n id b gets; got = got-here m n id b gets; has = reads }; only = one-get m n id b gets }
+fetched p m n id b (Err (F.Block i Missing)) reads gets = absurd reads.1
+fetched p m n id b (Err (F.Block i (Cbor fault))) reads gets = record { answer = (reads.0, record { block = b; at = block-here m n id b gets; got = got-here m n id b gets; wrong = reads.1 }); only = one-get m n id b gets }
+fetched p m n id b (Err (F.Block i (NoNode why))) reads gets = record { answer = (reads.0, record { block = b; at = block-here m n id b gets; got = got-here m n id b gets; wrong = reads.1 }); only = one-get m n id b gets }
+fetched p m n id b (Err F.Exhausted) reads gets = absurd reads
+fetched p m n id b (Err F.Store) reads gets = absurd reads
+fetched p m n id b (Err (F.Clash i kept new)) reads gets = absurd reads
+fetched p m n id b (Err F.Size) reads gets = absurd reads
+fetched p m n id b (Err F.NoKey) reads gets = absurd reads
+fetched p m n id b (Err F.Memory) reads gets = record { answer = tt; only = one-get m n id b gets }

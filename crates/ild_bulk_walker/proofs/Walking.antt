@@ -239,9 +239,9 @@ entered-off p h held path i given id block slots rest es short here node g =
 told-held : (m : Moment) (held : List (List ℕ)) (id block : List ℕ) → IfTold m.blocks (λ bs. block_at bs id ≡ Some block) → m.blocks ≡ Some held → block_at held id ≡ Some block
 told-held m held id block told is = subst (λ o. IfTold o (λ bs. block_at bs id ≡ Some block)) is told
 
-entered-still : (p : HamtShape) (m : Moment) (v w : Walker) (c : Child) (steps : List Step) → suc (length (walker_path v)) < trie_levels p → (got : GotSteps p m c.id.0 steps) → IsEntered v c steps w
+entered-still : (p : HamtShape) (m n : Moment) (v w : Walker) (c : Child) (steps : List Step) → suc (length (walker_path v)) < trie_levels p → (got : GotSteps p m c.id.0 steps n) → IsEntered v c steps w
     → (h : List ℕ → List ℕ) (held : List (List ℕ)) (es : List (List ℕ × Data)) → block_at held c.id.0 ≡ Some got.block → StillAhead h p held v es ↔ StillAhead h p held w es
-entered-still p m v w c steps short got e = λ h held es here.
+entered-still p m n v w c steps short got e = λ h held es here.
     let todo : walker_todo w ≡ node_todo 0 got.has.slots ++ leave v.given ∷ e.rest = e.todo ∙ ap (λ ts. ts ++ leave v.given ∷ e.rest) got.has.todo in (
       λ a. record {
         gives = subst (λ ts. StillGives h p held ts (walker_path w) w.given es) (sym todo)
@@ -260,8 +260,8 @@ entered-still p m v w c steps short got e = λ h held es here.
     )
 
 -- over every store: wherever the block is held that was got
-entered-where : (p : HamtShape) (m : Moment) (v w : Walker) (c : Child) (steps : List Step) → suc (length (walker_path v)) < trie_levels p → (got : GotSteps p m c.id.0 steps) → IsEntered v c steps w → SameWhere p (got.block ∷ []) v w
-entered-where p m v w c steps short got e = λ h held es all. entered-still p m v w c steps short got e h held es (holds-one held c.id.0 got.block got.at.named all)
+entered-where : (p : HamtShape) (m n : Moment) (v w : Walker) (c : Child) (steps : List Step) → suc (length (walker_path v)) < trie_levels p → (got : GotSteps p m c.id.0 steps n) → IsEntered v c steps w → SameWhere p (got.block ∷ []) v w
+entered-where p m n v w c steps short got e = λ h held es all. entered-still p m n v w c steps short got e h held es (holds-one held c.id.0 got.block got.at.named all)
 
 pub unchanged-still : (p : HamtShape) (v w : Walker) → IsUnchanged v w → (h : List ℕ → List ℕ) (held : List (List ℕ)) (es : List (List ℕ × Data)) → StillAhead h p held v es ↔ StillAhead h p held w es
 unchanged-still p v w u = λ h held es. (
@@ -301,8 +301,8 @@ entered-refused p m n v c why next short r = λ h held es told a.
     let t = subst (λ left. TreeGives h p held left (suc (length (walker_path v))) c.id.0 g.0) (one-left p (walker_path v) short) g.4 in
     refused p m n held c.id.0 t.block why t.slots told t.here t.node r
 
-pub entered-past : (p : HamtShape) (m : Moment) (v w : Walker) (c : Child) (steps : List Step) → GotSteps p m c.id.0 steps → IsEntered v c steps w → IsPast w.given (walker_todo w)
-entered-past p m v w c steps got e =
+pub entered-past : (p : HamtShape) (m n : Moment) (v w : Walker) (c : Child) (steps : List Step) → GotSteps p m c.id.0 steps n → IsEntered v c steps w → IsPast w.given (walker_todo w)
+entered-past p m n v w c steps got e =
     subst (IsPast w.given) (sym (e.todo ∙ ap (λ ts. ts ++ leave v.given ∷ e.rest) got.has.todo))
     (node-past w.given 0 got.has.slots (leave v.given ∷ e.rest) (let same = e.given in omega arith))
 
@@ -376,20 +376,21 @@ path-longer v w c is = ap (λ (q : List ℕ). length q) is ∙ length-append (wa
 
 pub enter-done : (p : HamtShape) (m n : Moment) (v w : Walker) (c : Child) (steps : Vec Step) (r : Result (Unit {0}) HamtFault) → NextIs (enter c.id.0 c.index) v → suc (length (walker_path v)) < trie_levels p → Fetches p m c.id.0 (Ok steps) n → Opens v c steps.items r w → Enters p 1 m v r w n
 enter-done p m n v w c steps (Ok u) next short f o = record {
-  answer = entered-past p m v w c steps.items f.answer o;
+  answer = entered-past p m n v w c steps.items f.answer o;
   given = o.given;
   short = let long = path-longer v w c o.path in omega arith;
   only = f.only;
-  on = λ h root at on. (entered-keeps p m v w c steps.items (let seen = length-map v.path.items (λ (d : Child). d.index) in omega arith) f.answer o root at on, tt);
-  reads = λ held told. entered-passes p m held m.gets n.gets v w c steps.items told (let seen = length-map v.path.items (λ (d : Child). d.index) in omega arith) f.only.gets f.answer o;
+  on = λ h root at on. (entered-keeps p m n v w c steps.items (let seen = length-map v.path.items (λ (d : Child). d.index) in omega arith) f.answer o root at on, tt);
+  reads = λ held told. entered-passes p m n held m.gets n.gets v w c steps.items told (let seen = length-map v.path.items (λ (d : Child). d.index) in omega arith) f.only.gets f.answer o;
   read = record {
     blocks = f.answer.block ∷ [];
     bytes = (f.answer.has.bytes, tt);
     nodes = ((f.answer.has.slots, f.answer.has.node), tt);
+    got = (f.answer.got, tt);
     held = told-one m.blocks c.id.0 f.answer.block f.answer.at.named f.answer.at.held;
     gets = let one = f.only.gets in omega arith;
-    left = λ held k all l. entered-nodes p m held v w c steps.items (let seen = length-map v.path.items (λ (d : Child). d.index) in omega arith) f.answer (holds-one held c.id.0 f.answer.block f.answer.at.named all) o k l;
-    says = entered-where p m v w c steps.items short f.answer o;
+    left = λ held k all l. entered-nodes p m n held v w c steps.items (let seen = length-map v.path.items (λ (d : Child). d.index) in omega arith) f.answer (holds-one held c.id.0 f.answer.block f.answer.at.named all) o k l;
+    says = entered-where p m n v w c steps.items short f.answer o;
   };
 }
 enter-done p m n v w c steps (Err F.Memory) next short f o = record {

@@ -292,16 +292,17 @@ pub record BeginsWith (h : List ℕ → List ℕ) (p : HamtShape) (held : List (
   pub is : es ≡ (key, value) ∷ rest
   pub ahead : Ahead h p held w rest
 
--- what was ahead were exactly the entries that begin with the row's pair and of whose rest it is ahead now, as follows from blocks
-pub record GivesRow (h : List ℕ → List ℕ) (p : HamtShape) (m : Moment) (v : Walker) (row : Row) (w : Walker) : Type 0 where
+-- what was ahead were exactly the entries that begin with the row's pair and of whose rest it is ahead now, as follows from blocks that
+-- gets gave
+pub record GivesRow (h : List ℕ → List ℕ) (p : HamtShape) (v : Walker) (row : Row) (w : Walker) (n : Moment) : Type 0 where
   pub value : Data
   pub spelled : row.value ≡ spell value
-  pub ahead : FromBlocks m.blocks (λ held. (es : List (List ℕ × Data)) → Ahead h p held v es ↔ BeginsWith h p held row.key value w es)
+  pub ahead : FromBlocks n (λ held. (es : List (List ℕ × Data)) → Ahead h p held v es ↔ BeginsWith h p held row.key value w es)
 
 -- a row is given where what was ahead begins with it, and nothing where nothing was ahead; a block is refused only where no entries were
 abbrev pub NextAnswer : (List ℕ → List ℕ) → HamtShape → Moment → Walker → Result (Option Row) HamtFault → Walker → Moment → Type 0
-NextAnswer h p m v (Ok (Some row)) w n = GivesRow h p m v row w
-NextAnswer h p m v (Ok None) w n = FromBlocks m.blocks (λ held. (es : List (List ℕ × Data)) → Ahead h p held v es ↔ (es ≡ []))
+NextAnswer h p m v (Ok (Some row)) w n = GivesRow h p v row w n
+NextAnswer h p m v (Ok None) w n = FromBlocks n (λ held. (es : List (List ℕ × Data)) → Ahead h p held v es ↔ (es ≡ []))
 NextAnswer h p m v (Err Store) w n = Rose m.faults n.faults × KeepsAhead h p m v w
 NextAnswer h p m v (Err Memory) w n = KeepsAhead h p m v w
 NextAnswer h p m v (Err e) w n = IsCause p m e n × ((held : List (List ℕ)) (es : List (List ℕ × Data)) → m.blocks ≡ Some held → Ahead h p held v es → ⊥) × KeepsAhead h p m v w

@@ -48,7 +48,7 @@ pub record GivesMany (h : List ℕ → List ℕ) (p : HamtShape) (held : List (L
   pub gives : RootGives h p held (trie_levels p - 1) slots entries
 
 abbrev pub CheckAnswer : (List ℕ → List ℕ) → HamtShape → List TrieSlot → Moment → Result ℕ HamtFault → Moment → Type 0
-CheckAnswer h p slots m (Ok count) n = FromBlocks m.blocks (λ held. GivesMany h p held slots count)
+CheckAnswer h p slots m (Ok count) n = FromBlocks n (λ held. GivesMany h p held slots count)
 CheckAnswer h p slots m (Err e) n = StopsWith h p slots m e n
 
 -- a HAMT beneath a root of these slots, which stands in the block `at`, was checked
@@ -77,7 +77,7 @@ abbrev pub InKeyOrder : List Row → Type 0
 InKeyOrder rows = IsSortedBy (λ a b. key_less a.key b.key) rows
 
 abbrev pub WalkAnswer : (List ℕ → List ℕ) → HamtShape → List TrieSlot → Moment → Result (Vec Row) HamtFault → Moment → Type 0
-WalkAnswer h p slots m (Ok rows) n = FromBlocks m.blocks (λ held. GivesRows h p held slots rows.items)
+WalkAnswer h p slots m (Ok rows) n = FromBlocks n (λ held. GivesRows h p held slots rows.items)
 WalkAnswer h p slots m (Err e) n = StopsWith h p slots m e n
 
 -- the rows of a HAMT beneath a root of these slots, which stands in the block `at`, were listed
@@ -104,7 +104,7 @@ pub record Walked (h : List ℕ → List ℕ) (p : HamtShape) (held : List (List
   pub ahead : (es : List (List ℕ × Data)) → RootGives h p held (trie_levels p - 1) slots es ↔ Behind h p held done w es
 
 pub record HasWalked (h : List ℕ → List ℕ) (p : HamtShape) (slots : List TrieSlot) (at : List ℕ) (AreDone : List (List ℕ × Data) → Type 0) (m : Moment) (w : Walker) (n : Moment) : Type 0 where
-  pub walked : FromBlocks m.blocks (λ held. Walked h p held slots AreDone w)
+  pub walked : FromBlocks n (λ held. Walked h p held slots AreDone w)
   pub on : IsOn p m.blocks slots at w
   pub spent : (held : List (List ℕ)) (many : ℕ) → m.blocks ≡ Some held → NodesBeneath p held slots many → Spent p held m.gets n.gets many w
   pub later : Later m n

@@ -10,6 +10,7 @@ use Rattle.ild_cbor.specs.declared.why.BlockWhy.{BlockWhy}
 use Rattle.ild_cbor.specs.declared.why.BlockWhy.TheVariants.{Missing, Cbor, Shape as NoNode}
 use Rattle.ild_cbor.specs.declared.why.Why.TheVariants.{Trie}
 use Rattle.ild_edges.specs.Count.{Rose}
+use Rattle.ild_edges.specs.Gained.{IsGot}
 use Rattle.ild_edges.specs.Store.{Moment, Later, block_at}
 use Rattle.ild_edges.specs.Told.{IfTold}
 use Rattle.ild_node_slots.specs.declared.fault.HamtFault.{HamtFault}
@@ -44,24 +45,28 @@ pub record IsBlockAt (m : Moment) (id b : List ℕ) : Type 0 where
   pub named : id_of b ≡ id
   pub held : IfTold m.blocks (λ blocks. block_at blocks id ≡ Some b)
 
-pub record GotFaulty (p : HamtShape) (m : Moment) (id : List ℕ) (why : BlockWhy) : Type 0 where
+-- a get gave the block under an id, and something is wrong with it
+pub record GotFaulty (p : HamtShape) (m : Moment) (id : List ℕ) (why : BlockWhy) (n : Moment) : Type 0 where
   pub block : List ℕ
   pub at : IsBlockAt m id block
+  pub got : IsGot n block
   pub wrong : IsFaulty p block why
 
 -- why the block under an id is refused: it isn't there, or isn't a node
 abbrev pub IsRefused : HamtShape → Moment → List ℕ → BlockWhy → Moment → Type 0
 IsRefused p m id Missing n = IfTold m.blocks (λ blocks. block_at blocks id ≡ None) × Rose m.lacks n.lacks
-IsRefused p m id (Cbor fault) n = GotFaulty p m id (Cbor fault)
-IsRefused p m id (NoNode why) n = GotFaulty p m id (NoNode why)
+IsRefused p m id (Cbor fault) n = GotFaulty p m id (Cbor fault) n
+IsRefused p m id (NoNode why) n = GotFaulty p m id (NoNode why) n
 
-pub record GotSteps (p : HamtShape) (m : Moment) (id : List ℕ) (steps : List Step) : Type 0 where
+-- a get gave the block under an id, which is read as these steps
+pub record GotSteps (p : HamtShape) (m : Moment) (id : List ℕ) (steps : List Step) (n : Moment) : Type 0 where
   pub block : List ℕ
   pub at : IsBlockAt m id block
+  pub got : IsGot n block
   pub has : HasSteps p block steps
 
 abbrev pub FetchAnswer : HamtShape → Moment → List ℕ → Result (Vec Step) HamtFault → Moment → Type 0
-FetchAnswer p m id (Ok steps) n = GotSteps p m id steps.items
+FetchAnswer p m id (Ok steps) n = GotSteps p m id steps.items n
 FetchAnswer p m id (Err (Block i why)) n = (i.0 ≡ id) × IsRefused p m id why n
 FetchAnswer p m id (Err Store) n = Rose m.faults n.faults
 FetchAnswer p m id (Err Memory) n = Unit {0}

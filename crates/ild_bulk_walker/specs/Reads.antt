@@ -5,7 +5,7 @@ use Rattle.ild_data.specs.Bytes.{AreBytes}
 use Rattle.ild_data.specs.declared.hamt_shape.HamtShape.{HamtShape}
 use Rattle.ild_data.specs.Trie.{TrieSlot, empty, bucket, child}
 use Rattle.ild_data.specs.TrieShape.{trie_levels}
-use Rattle.ild_edges.specs.Gained.{AreHeld}
+use Rattle.ild_edges.specs.Gained.{AreHeld, IsGot}
 use Rattle.ild_edges.specs.Store.{Moment}
 use Rattle.ild_edges.specs.Told.{IfTold}
 use Rattle.ild_node_slots.specs.declared.fault.HamtFault.{HamtFault}
@@ -78,11 +78,12 @@ abbrev pub fails_of : {A : Type 0} → Result A HamtFault → ℕ
 fails_of (Ok x) = 0
 fails_of (Err e) = 1
 
--- nodes were entered, and these are their blocks, with a get for each, and so many gets besides; and what is said of them
+-- nodes were entered, and these are their blocks, which gets gave, with a get for each, and so many gets besides; and what is said of them
 pub record HasRead (p : HamtShape) (Says : List (List ℕ) → Type 0) (besides : ℕ) (m : Moment) (v w : Walker) (n : Moment) : Type 0 where
   pub blocks : List (List ℕ)
   pub bytes : AllByRecursion AreBytes blocks
   pub nodes : AreNodes p blocks
+  pub got : AllByRecursion (IsGot n) blocks
   pub held : IfTold m.blocks (λ held. AreHeld blocks held)
   pub gets : n.gets ≤ m.gets + (length blocks + besides)
   pub left : ReadThem p blocks v w

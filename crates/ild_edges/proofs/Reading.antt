@@ -1,5 +1,5 @@
 -- What gets found out: carried over, joined, and held by the blocks themselves.
-use Rattle.std.proofs.Common.{◌≡◌, ◌≢◌, ◌⊎◌, inl, inr, ⊎_elim, ℕ, List, [], ◌∷◌, ◌++◌, Bool, true, false, cond, Option, Some, None, refl, sym, ap, ◌∙◌, subst}
+use Rattle.std.proofs.Common.{◌≡◌, ◌⊎◌, inl, inr, ⊎_elim, ℕ, List, [], ◌∷◌, ◌++◌, Bool, true, false, cond, Option, Some, Result, Ok, refl, sym, ap, ◌∙◌, subst}
 use Rattle.std.specs.List.{AllByRecursion}
 use Rattle.std.specs.Cmp.Lexicographic.{same_text as texts_same, other_text, nat_list_eq_equiv}
 use Rattle.std.proofs.lemmas.Option.{same_Some, none-some}
@@ -7,12 +7,13 @@ use Rattle.ild_data.specs.Bytes.{AreBytes}
 use Rattle.ild_data.specs.Key.{same_text}
 use Rattle.ild_data.specs.Spell.{id_of}
 use Rattle.ild_edges.specs.Among.{IsIn}
-use Rattle.ild_edges.specs.Collide.{Collide}
-use Rattle.ild_edges.specs.Gained.{AreHeld, FromBlocks, HaveClash}
-use Rattle.ild_edges.specs.Store.{block_at}
+use Rattle.ild_edges.specs.Gained.{AreHeld, FromBlocks, HaveClash, IsGot, OnlyReads}
+use Rattle.ild_edges.specs.Store.{Moment, Gets, block_at}
 use Rattle.ild_edges.specs.Told.{IfTold}
 use Rattle.ild_edges.proofs.Among.{IsIn-contains}
+use Rattle.ild_edges.specs.declared.error.EdgeErr.{EdgeErr}
 use Rattle.ild_edges.proofs.Held.{block_at_id}
+use Rattle.ild_edges.proofs.Later.{Later-refl, Later-trans}
 
 -- ---- blocks that are held
 
@@ -32,46 +33,66 @@ bytes_both : (xs ys : List (List ℕ)) → AllByRecursion AreBytes xs → AllByR
 bytes_both [] ys a b = b
 bytes_both (x ∷ xs) ys a b = (a.0, bytes_both xs ys a.1 b)
 
-told_none : (told : Option (List (List ℕ))) → IfTold told (λ held. AreHeld [] held)
-told_none None = tt
-told_none (Some held) = tt
+got_both : (n : Moment) (xs ys : List (List ℕ)) → AllByRecursion (IsGot n) xs → AllByRecursion (IsGot n) ys → AllByRecursion (IsGot n) (xs ++ ys)
+got_both n [] ys a b = b
+got_both n (x ∷ xs) ys a b = (a.0, got_both n xs ys a.1 b)
 
-told_both : (told : Option (List (List ℕ))) (xs ys : List (List ℕ)) → IfTold told (λ held. AreHeld xs held) → IfTold told (λ held. AreHeld ys held) → IfTold told (λ held. AreHeld (xs ++ ys) held)
-told_both None xs ys a b = tt
-told_both (Some held) xs ys a b = held_both xs ys held a b
+-- ---- gets alone
+
+pub reads_none : (m : Moment) → OnlyReads m m
+reads_none m = record { later = Later-refl m; blocks = refl; given = refl; puts = refl }
+
+pub reads_then : (m k n : Moment) → OnlyReads m k → OnlyReads k n → OnlyReads m n
+reads_then m k n a b = record { later = Later-trans m k n a.later b.later; blocks = b.blocks ∙ a.blocks; given = b.given ∙ a.given; puts = b.puts ∙ a.puts }
+
+pub get_reads : (m n : Moment) (id : List ℕ) (r : Result (Option (List ℕ)) EdgeErr) → Gets m id r n → OnlyReads m n
+get_reads m n id r g = record { later = g.later; blocks = g.blocks; given = g.given; puts = g.puts }
+
+-- what a get gave is held, where the store tells
+got_held : (n : Moment) (b : List ℕ) → IsGot n b → (held : List (List ℕ)) → n.blocks ≡ Some held → block_at held (id_of b) ≡ Some b
+got_held n b g held is = subst (λ o. IfTold o (λ bs. block_at bs (id_of b) ≡ Some b)) (sym g.get.blocks ∙ sym g.since.blocks ∙ is) g.get.answer.1
+
+all_held : (n : Moment) (bs : List (List ℕ)) → AllByRecursion (IsGot n) bs → (held : List (List ℕ)) → n.blocks ≡ Some held → AreHeld bs held
+all_held n [] all held is = tt
+all_held n (b ∷ bs) all held is = (got_held n b all.0 held is, all_held n bs all.1 held is)
+
+all_later : (m n : Moment) → OnlyReads m n → (bs : List (List ℕ)) → AllByRecursion (IsGot m) bs → AllByRecursion (IsGot n) bs
+all_later m n only [] all = tt
+all_later m n only (b ∷ bs) all = (record { before = all.0.before; behind = all.0.behind; get = all.0.get; since = reads_then all.0.behind m n all.0.since only }, all_later m n only bs all.1)
 
 -- ---- what follows from blocks
 
 -- where the store tells, it holds of what the store tells
-pub from_told : (told : Option (List (List ℕ))) (P : List (List ℕ) → Type 0) → FromBlocks told P → (held : List (List ℕ)) → told ≡ Some held → P held
-from_told told P r held is = r.so held (subst (λ o. IfTold o (λ held. AreHeld r.blocks held)) is r.there)
+pub from_told : (n : Moment) (P : List (List ℕ) → Type 0) → FromBlocks n P → (held : List (List ℕ)) → n.blocks ≡ Some held → P held
+from_told n P r held is = r.so held (all_held n r.blocks r.got held is)
 
 -- from none
-pub from_nothing : (told : Option (List (List ℕ))) (P : List (List ℕ) → Type 0) → ((held : List (List ℕ)) → P held) → FromBlocks told P
-from_nothing told P each = record { blocks = []; bytes = tt; there = told_none told; so = λ held all. each held }
+pub from_nothing : (n : Moment) (P : List (List ℕ) → Type 0) → ((held : List (List ℕ)) → P held) → FromBlocks n P
+from_nothing n P each = record { blocks = []; bytes = tt; got = tt; so = λ held all. each held }
 
-pub from_more : (told : Option (List (List ℕ))) (P Q : List (List ℕ) → Type 0) → ((held : List (List ℕ)) → P held → Q held) → FromBlocks told P → FromBlocks told Q
-from_more told P Q f r = record { blocks = r.blocks; bytes = r.bytes; there = r.there; so = λ held all. f held (r.so held all) }
+pub from_more : (n : Moment) (P Q : List (List ℕ) → Type 0) → ((held : List (List ℕ)) → P held → Q held) → FromBlocks n P → FromBlocks n Q
+from_more n P Q f r = record { blocks = r.blocks; bytes = r.bytes; got = r.got; so = λ held all. f held (r.so held all) }
 
-pub from_both : (told : Option (List (List ℕ))) (P Q R : List (List ℕ) → Type 0) → ((held : List (List ℕ)) → P held → Q held → R held) → FromBlocks told P → FromBlocks told Q → FromBlocks told R
-from_both told P Q R f x y = record {
+-- gets alone leave it
+pub from_later : (m n : Moment) (P : List (List ℕ) → Type 0) → OnlyReads m n → FromBlocks m P → FromBlocks n P
+from_later m n P only r = record { blocks = r.blocks; bytes = r.bytes; got = all_later m n only r.blocks r.got; so = r.so }
+
+pub from_both : (n : Moment) (P Q R : List (List ℕ) → Type 0) → ((held : List (List ℕ)) → P held → Q held → R held) → FromBlocks n P → FromBlocks n Q → FromBlocks n R
+from_both n P Q R f x y = record {
   blocks = x.blocks ++ y.blocks;
   bytes = bytes_both x.blocks y.blocks x.bytes y.bytes;
-  there = told_both told x.blocks y.blocks x.there y.there;
+  got = got_both n x.blocks y.blocks x.got y.got;
   so = λ held all. f held (x.so held (held_first x.blocks y.blocks held all)) (y.so held (held_second x.blocks y.blocks held all));
 }
 
--- from the block under an id
-pub from_one : (told : Option (List (List ℕ))) (id b : List ℕ) → AreBytes b → id_of b ≡ id → IfTold told (λ held. block_at held id ≡ Some b) → FromBlocks told (λ held. block_at held id ≡ Some b)
-from_one told id b bytes named there = record {
+-- from the block that a get gave
+pub from_one : (m n : Moment) (id b : List ℕ) → AreBytes b → Gets m id (Ok (Some b)) n → FromBlocks n (λ held. block_at held id ≡ Some b)
+from_one m n id b bytes gets = record {
   blocks = b ∷ [];
   bytes = (bytes, tt);
-  there = one_there told there;
-  so = λ held all. subst (λ i. block_at held i ≡ Some b) named all.0;
-} where
-  one_there : (o : Option (List (List ℕ))) → IfTold o (λ held. block_at held id ≡ Some b) → IfTold o (λ held. AreHeld (b ∷ []) held)
-  one_there None t = tt
-  one_there (Some held) t = (subst (λ i. block_at held i ≡ Some b) (sym named) t, tt)
+  got = (record { before = m; behind = n; get = subst (λ i. Gets m i (Ok (Some b)) n) (sym gets.answer.0) gets; since = reads_none n }, tt);
+  so = λ held all. subst (λ i. block_at held i ≡ Some b) gets.answer.0 all.0;
+}
 
 -- ---- in the blocks themselves
 

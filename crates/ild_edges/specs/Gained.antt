@@ -1,10 +1,10 @@
 -- What a store holds at a moment, and what came to it between two.
-use Rattle.std.specs.Prelude.{◌≡◌, ◌⊎◌, ℕ, List, [], ◌∷◌, Option, Some, IsSome, Contains}
+use Rattle.std.specs.Prelude.{◌≡◌, ◌≢◌, ◌⊎◌, ℕ, List, [], ◌∷◌, Some, Ok, IsSome, Contains}
 use Rattle.std.specs.List.{AllByRecursion}
 use Rattle.ild_data.specs.Bytes.{AreBytes}
 use Rattle.ild_data.specs.Spell.{id_of}
 use Rattle.ild_edges.specs.Collide.{Collide}
-use Rattle.ild_edges.specs.Store.{Moment, Later, block_at}
+use Rattle.ild_edges.specs.Store.{Moment, Later, Gets, block_at}
 use Rattle.ild_edges.specs.Told.{IfTold, BothTold}
 
 -- each of these blocks is held under its id
@@ -39,6 +39,10 @@ CameWhole children was now = (id b : List ℕ) → block_at now id ≡ Some b �
 abbrev pub AddsWhole : Moment → Moment → (List ℕ → List (List (List ℕ))) → Type 0
 AddsWhole m n children = BothTold m.blocks n.blocks (λ was now. CameWhole children was now)
 
+-- under this id other bytes are held than the new ones, which have it too
+abbrev pub Clashes : Moment → List ℕ → List ℕ → List ℕ → Type 0
+Clashes n id kept new = (id_of kept ≡ id) × (id_of new ≡ id) × (kept ≢ new) × IfTold n.blocks (λ held. block_at held id ≡ Some kept)
+
 -- a block that is held collides with one of these
 pub record Collides (m : Moment) (blocks : List (List ℕ)) : Type 0 where
   pub kept : List ℕ
@@ -54,12 +58,19 @@ pub record OnlyReads (m n : Moment) : Type 0 where
   pub given : n.given ≡ m.given
   pub puts : n.puts ≡ m.puts
 
--- Something that was found out by gets, over every store: it holds wherever these blocks are held, each under its own id; and where the
--- store tells what it holds, they are among that.
-pub record FromBlocks (told : Option (List (List ℕ))) (P : List (List ℕ) → Type 0) : Type 0 where
+-- a get gave this block, and from then on until this moment nothing but gets was done
+pub record IsGot (n : Moment) (block : List ℕ) : Type 0 where
+  pub before : Moment
+  pub behind : Moment
+  pub get : Gets before (id_of block) (Ok (Some block)) behind
+  pub since : OnlyReads behind n
+
+-- Something that was found out by gets, over every store: it holds wherever these blocks are held, each under its own id, which gets
+-- gave. A store that tells what it holds has them among that.
+pub record FromBlocks (n : Moment) (P : List (List ℕ) → Type 0) : Type 0 where
   pub blocks : List (List ℕ)
   pub bytes : AllByRecursion AreBytes blocks
-  pub there : IfTold told (λ held. AreHeld blocks held)
+  pub got : AllByRecursion (IsGot n) blocks
   pub so : (held : List (List ℕ)) → AreHeld blocks held → P held
 
 -- two of these blocks collide

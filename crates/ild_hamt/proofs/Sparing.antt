@@ -23,7 +23,7 @@ caused-key m = record { cause = tt; later = Later-refl m }
 
 put-cause : (plan : List (List ℕ)) (m n : Moment) (e : HamtFault) → PutsAll m plan (Err e) n → FaultCause m e n
 put-cause plan m n F.Store p = p.answer
-put-cause plan m n (F.Clash id kept new) p = (p.answer.1, p.answer.2, p.answer.3, p.answer.4)
+put-cause plan m n (F.Clash id kept new) p = p.answer.1
 put-cause plan m n (F.Block id why) p = absurd p.answer
 put-cause plan m n F.Exhausted p = tt
 put-cause plan m n F.Memory p = tt

@@ -1,5 +1,5 @@
 -- What an edit along a trail leaves over every store, whether or not a trie stands beneath the root.
-use Rattle.std.specs.Prelude.{◌≡◌, ◌≢◌, IfErr, ◌⊎◌, ℕ, ◌+◌, ◌≤◌, ◌<◌, Bool, true, false, All, IsSome, List, ◌∷◌, length, Some, None, Result, Ok, Err}
+use Rattle.std.specs.Prelude.{◌≡◌, IfErr, ◌⊎◌, ℕ, ◌+◌, ◌≤◌, ◌<◌, Bool, true, false, All, IsSome, List, ◌∷◌, length, None, Result, Ok, Err}
 use Rattle.std.specs.FinMap.{find}
 use Rattle.std.specs.List.{AllByRecursion}
 use Rattle.ild_data.specs.declared.hamt_shape.HamtShape.{HamtShape}
@@ -7,17 +7,16 @@ use Rattle.ild_data.specs.ByteOrder.{bytewise}
 use Rattle.ild_data.specs.Data.{Data}
 use Rattle.ild_data.specs.TrieShape.{trie_levels}
 use Rattle.ild_data.specs.Trie.{TrieSlot, bucket_entries}
-use Rattle.ild_data.specs.Spell.{id_of}
 use Rattle.ild_edges.specs.Count.{Rose}
-use Rattle.ild_edges.specs.Store.{Moment, Later, block_at}
-use Rattle.ild_edges.specs.Told.{IfTold, BothTold}
+use Rattle.ild_edges.specs.Store.{Moment, Later}
+use Rattle.ild_edges.specs.Told.{BothTold}
 use Rattle.ild_node_slots.specs.Views.{HasSlots}
 use Rattle.ild_node_slots.specs.declared.view.NodeView.{NodeView}
 use Rattle.ild_node_slots.specs.declared.fault.HamtFault.{HamtFault}
 use Rattle.ild_node_slots.specs.declared.fault.HamtFault.TheVariants.{Block, Clash, Exhausted, Memory, NoKey, Size, Store}
 use Rattle.ild_bulk.specs.Build.{any_long}
 use Rattle.ild_bulk.specs.Children.{AddsWhole}
-use Rattle.ild_edges.specs.Gained.{CameFrom}
+use Rattle.ild_edges.specs.Gained.{CameFrom, Clashes}
 use Rattle.ild_bulk.specs.Putting.{PutsAll}
 use Rattle.ild_hamt_climb.specs.NodeBytes.{IsNodeBytes}
 use Rattle.ild_hamt_climb.specs.Planning.{ClimbsOver, HoldsLinksOf, IsWritten, SpellsNode}
@@ -92,7 +91,7 @@ IsPlanFault e = ⊥
 -- the store failed; or it holds a block under the id of another
 abbrev pub FaultCause : Moment → HamtFault → Moment → Type 0
 FaultCause m Store n = Rose m.faults n.faults
-FaultCause m (Clash id kept new) n = (id_of kept ≡ id.0) × (id_of new ≡ id.0) × (kept ≢ new) × IfTold n.blocks (λ held. block_at held id.0 ≡ Some kept)
+FaultCause m (Clash id kept new) n = Clashes n id.0 kept new
 FaultCause m (Block id why) n = ⊥
 FaultCause m e n = Unit {0}
 
