@@ -10,9 +10,13 @@ use Rattle.std.proofs.lemmas.Option.{same_Some, none-some}
 use Rattle.ild_cbor.proofs.Blocks.{one_tree_lem}
 use Rattle.ild_cbor.specs.declared.node.Node.{Node}
 use Rattle.ild_cbor.specs.Nodes.{Stands, block_of}
+use Rattle.ild_cbor.specs.Scalar.{kind_of}
+use Rattle.ild_cbor.specs.declared.kind.Kind.{Kind}
+use Rattle.ild_cbor.specs.declared.kind.Kind.TheVariants as K
 use Rattle.ild_cbor.specs.declared.piece.Piece.{Piece}
 use Rattle.ild_cbor.specs.declared.piece.Piece.TheVariants as P
 use Rattle.ild_cbor.specs.declared.why.BlockWhy.{BlockWhy}
+use Rattle.ild_data.specs.Data as T
 use Rattle.ild_data.specs.Data.{Data}
 use Rattle.ild_data.specs.Spell.{id_of}
 use Rattle.ild_data.specs.declared.id.BlockId.{BlockId}
@@ -91,7 +95,7 @@ module _ (h : List ℕ → List ℕ) (rows : List Row) (s : Slot) (piece : Piece
   read_answer : (Stopped : List ℕ → BlockWhy → Type 0) (t : Data) (r : Result Val OpenFault) → ((id : List ℕ) (why : BlockWhy) → BrokenPart h at rows 96 (s, t) m n id why → Stopped id why)
       → Reads h at rows 96 (s, t) true m r n → DataAnswer h rows s Stopped t m r n
   read_answer Stopped t (Ok val) more x =
-      from_more m.blocks (λ held. HasValue h rows 96 (s, t) true held val) (λ held. IsHeld (block_at held) h rows 96 s t (value_of val))
+      from_more n (λ held. HasValue h rows 96 (s, t) true held val) (λ held. IsHeld (block_at held) h rows 96 s t (value_of val))
       (λ held a. subst (λ v. IsHeld (block_at held) h rows 96 s t v) (sym (a.kept refl)) a.is) x.answer
   read_answer Stopped t (Err (F.Block id why)) more x = (x.answer.0, more id.0 why x.answer.1)
   read_answer Stopped t (Err F.Store) more x = x.answer
@@ -127,6 +131,16 @@ module _ (h : List ℕ → List ℕ) (rows : List Row) (s : Slot) where
       → LoadsPiece h rows s (P.Inline q u) m r n
   loads_inline q u m n r some x = read_shown h rows s (P.Inline q u) (id_of (block_of q)) m n some (StoppedIn h rows s (P.Inline q u) m n) (λ t stands id why b. b) r x
 
+  -- where no block is refused, whatever is said of one
+  pub flat_loads : (piece : Piece) (m n : Moment) (r : Result Val OpenFault) → LoadsFlat h rows s piece m r n → LoadsPiece h rows s piece m r n
+  flat_loads piece m n r x = record { only = x.only; each = λ t stands front. let y = x.each t stands front in record { answer = by t r y.answer; only = y.only; gets = y.gets } }
+    where
+      by : (t : Data) (r : Result Val OpenFault) → DataAnswer h rows s (λ id why. ⊥) t m r n → DataAnswer h rows s (StoppedIn h rows s piece m n t) t m r n
+      by t (Ok val) y = y
+      by t (Err (F.Block id why)) y = absurd y.1
+      by t (Err F.Store) y = y
+      by t (Err F.Memory) y = tt
+
   -- of an item that spells the data
   pub loads_spelled : (q : Node) (d : Data) (m n : Moment) (r : Result Val OpenFault) → Stands q d → LoadsFlat h rows s (P.Node q) m r n → LoadsAlone h rows s d m r n
   loads_spelled q d m n r stands x = record { only = x.only; loads = λ front. x.each d stands front }
@@ -137,6 +151,17 @@ spelled_tree rows s q d stands some = ∥∥₁_map some (λ front. record { tre
 
 pub spelled_flat : (q : Node) (d : Data) → Stands q d → IsFlat d → (t : Data) → Stands q t → IsFlat t
 spelled_flat q d stands flat t other = subst IsFlat (one_tree_lem _ _ _ _ d t stands other) flat
+
+-- data of another kind than lists and maps
+pub flat_kind : (k : Kind) → (k ≡ K.List → ⊥) → (k ≡ K.Map → ⊥) → (t : Data) → k ≡ kind_of t → IsFlat t
+flat_kind k no_list no_map T.null is = tt
+flat_kind k no_list no_map (T.boolean b) is = tt
+flat_kind k no_list no_map (T.integer i) is = tt
+flat_kind k no_list no_map (T.text s) is = tt
+flat_kind k no_list no_map (T.bytes s) is = tt
+flat_kind k no_list no_map (T.link s) is = tt
+flat_kind k no_list no_map (T.list ds) is = absurd (no_list is)
+flat_kind k no_list no_map (T.map ms) is = absurd (no_map is)
 
 -- ---- a view
 

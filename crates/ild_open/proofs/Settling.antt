@@ -15,9 +15,9 @@ use Rattle.ild_data.specs.Spell.{id_of, spell}
 use Rattle.ild_view_doc.specs.Block.{HasRoot}
 use Rattle.ild_view_doc.specs.Docs.{IsShape, block_in}
 use Rattle.ild_view_doc.specs.declared.doc.Doc.{Doc}
-use Rattle.ild_edges.proofs.Reading.{from_both, from_more, from_one}
-use Rattle.ild_edges.specs.Gained.{FromBlocks}
-use Rattle.ild_edges.specs.Store.{Moment, block_at}
+use Rattle.ild_edges.proofs.Reading.{from_both, from_later, from_more, from_one, get_reads, reads_then}
+use Rattle.ild_edges.specs.Gained.{FromBlocks, OnlyReads}
+use Rattle.ild_edges.specs.Store.{Gets, Moment, block_at}
 use Rattle.ild_edges.specs.Told.{IfTold}
 use Rattle.ild_schema.specs.Clear.{IsSafe}
 use Rattle.ild_schema.specs.Legible.{IsLegible}
@@ -35,6 +35,7 @@ use Rattle.ild_typed.specs.Blocks.{nodes}
 use Rattle.ild_typed.specs.Schema.{IsSchema}
 use Rattle.ild_typed.specs.Stands.{Stands, bare, blocks_of}
 use Rattle.ild_open_held.proofs.Roots.{held_stand, standing_are_held}
+use Rattle.ild_bulk_walker.specs.OnTree.{IsAt}
 use Rattle.ild_open_held.specs.Held.{IsHeld}
 use Rattle.ild_open_held.specs.Roots.{IsRooted}
 use Rattle.ild_open_parts.specs.Broken.{HasBrokenBlock}
@@ -42,10 +43,9 @@ use Rattle.ild_open_parts.specs.Reads.{HasValue as HasPart, Reads}
 use Rattle.ild_open_parts.specs.declared.fault.OpenFault.{OpenFault}
 use Rattle.ild_open_parts.specs.declared.fault.OpenFault.TheVariants as F
 use Rattle.ild_open.specs.Broken.{IsWrongRoot}
-use Rattle.ild_open.specs.Found.{FindAnswer, Finds, HasKept, IsKept, ReadsRoot}
+use Rattle.ild_open.specs.Found.{FindAnswer, Finds, HasKept, IsKept, Judges, ReadsRoot}
 use Rattle.ild_open.specs.Opened.{HasOpened, HasValue, StandsInBlock, NoneStands, OpenStops, Opens}
 use Rattle.ild_open_parts.proofs.Breaking.{broken_earlier, rose_later}
-use Rattle.ild_open_parts.proofs.Turning.{only_trans}
 
 some_told : (o : Option (List (List ℕ))) (held : List (List ℕ)) (P : List (List ℕ) → Type 0) → o ≡ Some held → IfTold o P → P held
 some_told o held P is x = subst (λ k. IfTold k P) is x
@@ -125,7 +125,7 @@ module _ (rows : List Row) (schema : IsSchema rows) (h : List ℕ → List ℕ) 
     own r reads = reads t x.answer.root.root.block (x.answer.root.value, x.answer.root.root.front.fits, x.answer.root.root.front.tree)
 
     there : (held : List (List ℕ)) → m.blocks ≡ Some held → block_at held id ≡ Some (block_in d)
-    there held told = some_told m.blocks held (λ blocks. block_at blocks id ≡ Some (block_in d)) told x.answer.at.held
+    there held told = some_told m.blocks held (λ blocks. block_at blocks id ≡ Some (block_in d)) told x.answer.get.answer.1
 
     gets : (r : Result Val OpenFault) → ReadsRoot h rows ty id (block_in d) keep k r n → (held : List (List ℕ)) (v : Value) → m.blocks ≡ Some held → (st : Standing held v) → n.gets ≤ m.gets + length (blocks_of bare h rows ty v st.tree)
     gets r reads held v told st =
@@ -135,17 +135,16 @@ module _ (rows : List Row) (schema : IsSchema rows) (h : List ℕ → List ℕ) 
         omega (arith, a, b, e)
 
     -- its value is that of its data, which follows from its block beside those that were read
-    has_kept : AreBytes (block_in d) → (val : Val) → FromBlocks k.blocks (λ held. HasPart h rows 96 (plainly ty, t) keep held val) → FromBlocks m.blocks (λ held. IsKept h rows ty id held (block_in d) keep val)
-    has_kept bytes val a =
-        from_both m.blocks (λ held. block_at held id ≡ Some (block_in d)) (λ held. HasPart h rows 96 (plainly ty, t) keep held val) (λ held. IsKept h rows ty id held (block_in d) keep val)
-        (λ held here y. record { value = y.value; is = root_stands held (block_in d) t x.answer.at.named here x.answer.root.root.block y.value y.is; kept = y.kept })
-        (from_one m.blocks id (block_in d) bytes x.answer.at.named x.answer.at.held)
-        (subst (λ (o : Option (List (List ℕ))). FromBlocks o (λ held. HasPart h rows 96 (plainly ty, t) keep held val)) x.only.blocks a)
+    has_kept : AreBytes (block_in d) → (val : Val) → OnlyReads k n → FromBlocks n (λ held. HasPart h rows 96 (plainly ty, t) keep held val) → FromBlocks n (λ held. IsKept h rows ty id held (block_in d) keep val)
+    has_kept bytes val only a =
+        from_both n (λ held. block_at held id ≡ Some (block_in d)) (λ held. HasPart h rows 96 (plainly ty, t) keep held val) (λ held. IsKept h rows ty id held (block_in d) keep val)
+        (λ held here y. record { value = y.value; is = root_stands held (block_in d) t x.answer.get.answer.0 here x.answer.root.root.block y.value y.is; kept = y.kept })
+        (from_later k n (λ held. block_at held id ≡ Some (block_in d)) only (from_one m k id (block_in d) bytes x.answer.get)) a
 
-    pub open_goes : AreBytes (block_in d) → (val : Val) → ReadsRoot h rows ty id (block_in d) keep k (Ok val) n → Opens (HasKept h rows ty id m keep) h rows ty id m (Ok (d, val)) n
+    pub open_goes : AreBytes (block_in d) → (val : Val) → ReadsRoot h rows ty id (block_in d) keep k (Ok val) n → Opens (HasKept h rows ty id n keep) h rows ty id m (Ok (d, val)) n
     open_goes bytes val reads = record {
-      answer = record { table = x.answer.table; type = x.answer.type; root = x.answer.at.named; value = has_kept bytes val (own (Ok val) reads).answer };
-      only = only_trans m k n x.only (own (Ok val) reads).only;
+      answer = record { table = x.answer.table; type = x.answer.type; root = x.answer.get.answer.0; value = has_kept bytes val (own (Ok val) reads).only (own (Ok val) reads).answer };
+      only = reads_then m k n x.only (own (Ok val) reads).only;
       gets = gets (Ok val) reads;
     }
 
@@ -155,28 +154,28 @@ module _ (rows : List Row) (schema : IsSchema rows) (h : List ℕ → List ℕ) 
     breaks : (e : OpenFault) → Reads h id rows 96 (plainly ty, t) keep k (Err e) n → OpenStops h rows ty id m e n
     breaks (F.Block at why) y = (
       λ held v told st. y.answer.0 held v (x.only.blocks ∙ told) (is_held held v st (block_in d) t (there held told) x.answer.root.root.block),
-      inr (record { block = block_in d; at = x.answer.at; tree = t; is = x.answer.root.root.block; wrong = broken at.0 why y.answer.1 }),
+      inr (record { block = block_in d; at = record { named = x.answer.get.answer.0; held = x.answer.get.answer.1 }; tree = t; is = x.answer.root.root.block; wrong = broken at.0 why y.answer.1 }),
     )
     breaks F.Store y = rose_later m.faults k.faults n.faults x.only.later.faults y.answer
     breaks F.Memory y = tt
 
     pub open_breaks : {A : Type 0} (Done : A → Type 0) (e : OpenFault) → ReadsRoot h rows ty id (block_in d) keep k (Err e) n → Opens Done h rows ty id m (Err e) n
-    open_breaks Done e reads = record { answer = breaks e (own (Err e) reads); only = only_trans m k n x.only (own (Err e) reads).only; gets = gets (Err e) reads }
+    open_breaks Done e reads = record { answer = breaks e (own (Err e) reads); only = reads_then m k n x.only (own (Err e) reads).only; gets = gets (Err e) reads }
 
 -- ---- what the callers ask for
 
 module _ (h : List ℕ → List ℕ) (rows : List Row) (ty : TypeNo) (id : List ℕ) (m n : Moment) where
-  seen : (keep : Bool) (p : Doc × Val) → FromBlocks m.blocks (λ held. IsKept h rows ty id held (block_in p.0) keep p.1) → FromBlocks m.blocks (λ held. (v : Value) × StandsInBlock h rows ty id held (block_in p.0) v)
+  seen : (keep : Bool) (p : Doc × Val) → FromBlocks n (λ held. IsKept h rows ty id held (block_in p.0) keep p.1) → FromBlocks n (λ held. (v : Value) × StandsInBlock h rows ty id held (block_in p.0) v)
   seen keep p x =
-      from_more m.blocks (λ held. IsKept h rows ty id held (block_in p.0) keep p.1) (λ held. (v : Value) × StandsInBlock h rows ty id held (block_in p.0) v) (λ held a. (a.value, a.is)) x
+      from_more n (λ held. IsKept h rows ty id held (block_in p.0) keep p.1) (λ held. (v : Value) × StandsInBlock h rows ty id held (block_in p.0) v) (λ held a. (a.value, a.is)) x
 
-  kept : (p : Doc × Val) → FromBlocks m.blocks (λ held. IsKept h rows ty id held (block_in p.0) true p.1) → FromBlocks m.blocks (λ held. StandsInBlock h rows ty id held (block_in p.0) (value_of p.1))
+  kept : (p : Doc × Val) → FromBlocks n (λ held. IsKept h rows ty id held (block_in p.0) true p.1) → FromBlocks n (λ held. StandsInBlock h rows ty id held (block_in p.0) (value_of p.1))
   kept p x =
-      from_more m.blocks (λ held. IsKept h rows ty id held (block_in p.0) true p.1) (λ held. StandsInBlock h rows ty id held (block_in p.0) (value_of p.1))
+      from_more n (λ held. IsKept h rows ty id held (block_in p.0) true p.1) (λ held. StandsInBlock h rows ty id held (block_in p.0) (value_of p.1))
       (λ held a. subst (λ v. StandsInBlock h rows ty id held (block_in p.0) v) (sym (a.kept refl)) a.is) x
 
   -- the root alone
-  pub opened_root : (keep : Bool) (p : Doc × Val) → Opens (HasKept h rows ty id m keep) h rows ty id m (Ok p) n → Opens (HasOpened h rows ty id m) h rows ty id m (Ok p.0) n
+  pub opened_root : (keep : Bool) (p : Doc × Val) → Opens (HasKept h rows ty id n keep) h rows ty id m (Ok p) n → Opens (HasOpened h rows ty id n) h rows ty id m (Ok p.0) n
   opened_root keep p x = record {
     answer = record { table = x.answer.table; type = x.answer.type; root = x.answer.root; value = seen keep p x.answer.value };
     only = x.only;
@@ -184,12 +183,32 @@ module _ (h : List ℕ → List ℕ) (rows : List Row) (ty : TypeNo) (id : List 
   }
 
   -- with its value
-  pub opened_value : (p : Doc × Val) → Opens (HasKept h rows ty id m true) h rows ty id m (Ok p) n → Opens (HasValue h rows ty id m) h rows ty id m (Ok p) n
+  pub opened_value : (p : Doc × Val) → Opens (HasKept h rows ty id n true) h rows ty id m (Ok p) n → Opens (HasValue h rows ty id n) h rows ty id m (Ok p) n
   opened_value p x = record {
     answer = record { table = x.answer.table; type = x.answer.type; root = x.answer.root; value = kept p x.answer.value };
     only = x.only;
     gets = x.gets;
   }
+
+-- the block that a get gave is the root block, or why it is none
+pub found : (rows : List Row) (ty : TypeNo) (id b : List ℕ) (m n : Moment) (r : Result Doc OpenFault) → Judges rows ty id b r → Gets m id (Ok (Some b)) n → Finds rows ty id m r n
+found rows ty id b m n r judged got = record { answer = by r judged; only = get_reads m n id (Ok (Some b)) got; gets = let many = got.gets in omega (arith, many) }
+  where
+    here : IsAt m.blocks id b
+    here = record { named = got.answer.0; held = got.answer.1 }
+
+    by : (r : Result Doc OpenFault) → Judges rows ty id b r → FindAnswer rows ty id m r n
+    by (Ok d) j = record {
+      table = j.table;
+      type = j.type;
+      get = subst (λ (x : List ℕ). Gets m id (Ok (Some x)) n) (sym j.block) got;
+      root = subst (HasRoot rows ty) (sym j.block) j.root;
+    }
+    by (Err (F.Block at B.Missing)) j = absurd j.1
+    by (Err (F.Block at (B.Cbor fault))) j = (j.0, (b, here, j.1))
+    by (Err (F.Block at (B.Shape why))) j = (j.0, (b, here, j.1))
+    by (Err F.Store) j = absurd j
+    by (Err F.Memory) j = tt
 
 -- a root block has no fault
 pub root_faultless : (rows : List Row) (ty : TypeNo) (b : List ℕ) → HasRoot rows ty b → fault_of b ≡ None

@@ -11,14 +11,13 @@ use Rattle.ild_view_doc.specs.Docs.{IsDoc, IsShape, block_in, table_in, type_in}
 use Rattle.ild_view_doc.specs.declared.doc.Doc.{Doc}
 use Rattle.ild_edges.specs.Gained.{FromBlocks}
 use Rattle.ild_edges.specs.Count.{Rose}
-use Rattle.ild_edges.specs.Store.{Moment}
+use Rattle.ild_edges.specs.Store.{Moment, Gets}
 use Rattle.ild_schema.specs.Slots.{plainly}
 use Rattle.ild_schema.specs.Value.{Value}
 use Rattle.ild_schema.specs.ValueSeen.{value_of}
 use Rattle.ild_schema.specs.declared.number.TypeNo.{TypeNo}
 use Rattle.ild_schema.specs.declared.row.Row.{Row}
 use Rattle.ild_schema.specs.declared.val.Val.{Val}
-use Rattle.ild_bulk_walker.specs.OnTree.{IsAt}
 use Rattle.ild_open_held.specs.Splits.{HasFront}
 use Rattle.ild_open_parts.specs.Reads.{OnlyReads, Reads}
 use Rattle.ild_open_parts.specs.declared.fault.OpenFault.{OpenFault}
@@ -40,15 +39,15 @@ Judges rows ty id b (Err (F.Block at why)) = (at.0 ≡ id) × IsWrongBlock rows 
 Judges rows ty id b (Err F.Store) = ⊥
 Judges rows ty id b (Err F.Memory) = Unit {0}
 
--- the block under an id, which is one of the type
-pub record HasBlock (rows : List Row) (ty : TypeNo) (id : List ℕ) (m : Moment) (d : Doc) : Type 0 where
+-- a get gave the block under an id, which is one of the type
+pub record HasBlock (rows : List Row) (ty : TypeNo) (id : List ℕ) (m : Moment) (d : Doc) (n : Moment) : Type 0 where
   pub table : table_in d ≡ rows
   pub type : type_in d ≡ ty
-  pub at : IsAt m.blocks id (block_in d)
+  pub get : Gets m id (Ok (Some (block_in d))) n
   pub root : HasRoot rows ty (block_in d)
 
 abbrev pub FindAnswer : List Row → TypeNo → List ℕ → Moment → Result Doc OpenFault → Moment → Type 0
-FindAnswer rows ty id m (Ok d) n = HasBlock rows ty id m d
+FindAnswer rows ty id m (Ok d) n = HasBlock rows ty id m d n
 FindAnswer rows ty id m (Err (F.Block at why)) n = (at.0 ≡ id) × IsWrongRoot rows m.blocks m.lacks n.lacks ty id why
 FindAnswer rows ty id m (Err F.Store) n = Rose m.faults n.faults
 FindAnswer rows ty id m (Err F.Memory) n = Unit {0}
@@ -71,8 +70,8 @@ pub record IsKept (h : List ℕ → List ℕ) (rows : List Row) (ty : TypeNo) (i
   pub is : StandsInBlock h rows ty id held block value
   pub kept : keep ≡ true → value_of val ≡ value
 
-pub record HasKept (h : List ℕ → List ℕ) (rows : List Row) (ty : TypeNo) (id : List ℕ) (m : Moment) (keep : Bool) (result : Doc × Val) : Type 0 where
+pub record HasKept (h : List ℕ → List ℕ) (rows : List Row) (ty : TypeNo) (id : List ℕ) (n : Moment) (keep : Bool) (result : Doc × Val) : Type 0 where
   pub table : table_in result.0 ≡ rows
   pub type : type_in result.0 ≡ ty
   pub root : id_of (block_in result.0) ≡ id
-  pub value : FromBlocks m.blocks (λ held. IsKept h rows ty id held (block_in result.0) keep result.1)
+  pub value : FromBlocks n (λ held. IsKept h rows ty id held (block_in result.0) keep result.1)

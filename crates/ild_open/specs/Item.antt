@@ -28,7 +28,7 @@ pub record HasTree (rows : List Row) (s : Slot) (piece : Piece) : Type 0 where
 
 module _ (h : List ℕ → List ℕ) (rows : List Row) (s : Slot) where
   abbrev pub DataAnswer : (List ℕ → BlockWhy → Type 0) → Data → Moment → Result Val OpenFault → Moment → Type 0
-  DataAnswer Stopped t m (Ok val) n = FromBlocks m.blocks (λ held. IsHeld (block_at held) h rows 96 s t (value_of val))
+  DataAnswer Stopped t m (Ok val) n = FromBlocks n (λ held. IsHeld (block_at held) h rows 96 s t (value_of val))
   DataAnswer Stopped t m (Err e) n = Stops (NoValue h rows 96 (s, t) m) Stopped m e n
 
   -- the value that the data represent is loaded; of a block that is refused, what is said

@@ -48,7 +48,7 @@ IsRefusedAt h view m t id why n =
     (at : List ℕ) × IsInBlock (piece_of view) at × BrokenPart h at (table_of view) 96 (slot_of view, t) m n id why
 
 abbrev pub LoadAnswer : (List ℕ → List ℕ) → View → Moment → Data → Result Val OpenFault → Moment → Type 0
-LoadAnswer h view m t (Ok val) n = FromBlocks m.blocks (λ held. IsValueAt h held view t (value_of val))
+LoadAnswer h view m t (Ok val) n = FromBlocks n (λ held. IsValueAt h held view t (value_of val))
 LoadAnswer h view m t (Err (F.Block id why)) n =
     ((held : List (List ℕ)) (v : Value) → m.blocks ≡ Some held → IsValueAt h held view t v → ⊥) × IsRefusedAt h view m t id.0 why n
 LoadAnswer h view m t (Err F.Store) n = Rose m.faults n.faults

@@ -23,19 +23,19 @@ pub record StandsInBlock (h : List ℕ → List ℕ) (rows : List Row) (ty : Typ
   pub stands : Stands bare (block_at held) h rows ty id v
   pub spelled : block ≡ spell stands.tree
 
--- the root block of a value that stands under the id, as follows from blocks
-pub record HasOpened (h : List ℕ → List ℕ) (rows : List Row) (ty : TypeNo) (id : List ℕ) (m : Moment) (d : Doc) : Type 0 where
+-- the root block of a value that stands under the id, as follows from the blocks that gets gave until now
+pub record HasOpened (h : List ℕ → List ℕ) (rows : List Row) (ty : TypeNo) (id : List ℕ) (n : Moment) (d : Doc) : Type 0 where
   pub table : table_in d ≡ rows
   pub type : type_in d ≡ ty
   pub root : id_of (block_in d) ≡ id
-  pub value : FromBlocks m.blocks (λ held. (v : Value) × StandsInBlock h rows ty id held (block_in d) v)
+  pub value : FromBlocks n (λ held. (v : Value) × StandsInBlock h rows ty id held (block_in d) v)
 
 -- with that value
-pub record HasValue (h : List ℕ → List ℕ) (rows : List Row) (ty : TypeNo) (id : List ℕ) (m : Moment) (result : Doc × Val) : Type 0 where
+pub record HasValue (h : List ℕ → List ℕ) (rows : List Row) (ty : TypeNo) (id : List ℕ) (n : Moment) (result : Doc × Val) : Type 0 where
   pub table : table_in result.0 ≡ rows
   pub type : type_in result.0 ≡ ty
   pub root : id_of (block_in result.0) ≡ id
-  pub value : FromBlocks m.blocks (λ held. StandsInBlock h rows ty id held (block_in result.0) (value_of result.1))
+  pub value : FromBlocks n (λ held. StandsInBlock h rows ty id held (block_in result.0) (value_of result.1))
 
 -- no value stands there, where the store tells what it holds
 abbrev pub NoneStands : (List ℕ → List ℕ) → List Row → TypeNo → List ℕ → Moment → Type 0

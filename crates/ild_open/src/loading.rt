@@ -1,5 +1,7 @@
 //! Loading the value at a view.
-ghost use Rattle.std.specs.Prelude.{◌≡◌, ◌<◌, length, true};
+ghost use Rattle.std.specs.Prelude.{◌≡◌, ◌<◌, length, false, true};
+ghost use Rattle.ild_cbor.specs.Nodes.{Stands};
+ghost use Rattle.ild_cbor.specs.declared.piece.Piece.TheVariants as P;
 ghost use Rattle.ild_data.specs.Data.{Data};
 ghost use Rattle.ild_data.specs.Seen.{data_of};
 ghost use Rattle.ild_data.specs.Spell.{spell};
@@ -12,7 +14,7 @@ ghost use Rattle.ild_typed.proofs.Flat.{IsFlat};
 ghost use Rattle.ild_open.specs.Item.{HasTree, LoadsAlone, LoadsFlat, LoadsPiece};
 ghost use Rattle.ild_open.specs.Loaded.{IsShallow, Loads};
 
-use ild_cbor::{Piece, check};
+use ild_cbor::{Kind, Node, Piece, check};
 use ild_data::{BlockId, KeyHash, Tree, block_id};
 use ild_edges::Store;
 use ild_emit::Emit;
@@ -55,7 +57,8 @@ fn load_flat<K: Store, H: KeyHash>(
     requires flat { (t : Data) → StandsFor acc.now piece.now t → IsFlat t }
     ensures { LoadsFlat H.hash_of acc.now slot piece.now (K.moment store.old) result (K.moment store.new) }
 {
-    match load_in(alloc, acc, slot, piece, block_id(&[]), keys, store) {
+    // No block is at fault, so that any id does.
+    match load_in(alloc, acc, slot, piece, BlockId([0; 32]), keys, store) {
         Ok(val) => Ok(val),
         Err(OpenFault::Block { .. }) => unreachable!(),
         Err(OpenFault::Store) => Err(OpenFault::Store),
@@ -108,6 +111,40 @@ fn load_alone<K: Store, H: KeyHash>(
     load_bytes(alloc, acc, slot, tree, bytes.as_slice(), keys, store)
 }
 
+// Whether an item is a list or a map.
+fn is_nest(node: &Node<'_>) -> bool
+    ensures { result ≡ false → (t : Data) → Stands node.now t → IsFlat t }
+{
+    match node.kind() {
+        Kind::List => true,
+        Kind::Map => true,
+        _ => false,
+    }
+}
+
+// The value for which an item stands. The id of its block is worked out where the item is a list or a map, since only then a block
+// may be at fault.
+fn load_node<K: Store, H: KeyHash>(
+    alloc: Global,
+    acc: &Accepted,
+    slot: Slot,
+    node: &Node<'_>,
+    keys: &H,
+    store: &mut K,
+) -> Result<Val, OpenFault>
+    requires within { slot.ty.0 < length acc.now }
+    requires inlined { IsInlined acc.now slot (P.Node node.now) }
+    requires tree { ∥ HasTree acc.now slot (P.Node node.now) ∥₁ }
+    ensures { LoadsPiece H.hash_of acc.now slot (P.Node node.now) (K.moment store.old) result (K.moment store.new) }
+{
+    let piece = Piece::Node(*node);
+    if is_nest(node) {
+        let at = block_id(node.block());
+        return load_in(alloc, acc, slot, &piece, at, keys, store);
+    }
+    load_flat(alloc, acc, slot, &piece, keys, store)
+}
+
 // The value for which a piece stands.
 fn load_piece<K: Store, H: KeyHash>(
     alloc: Global,
@@ -124,10 +161,7 @@ fn load_piece<K: Store, H: KeyHash>(
     ensures { LoadsPiece H.hash_of acc.now slot piece.now (K.moment store.old) result (K.moment store.new) }
 {
     match piece {
-        Piece::Node(node) => {
-            let at = block_id(node.block());
-            load_in(alloc, acc, slot, piece, at, keys, store)
-        }
+        Piece::Node(node) => load_node(alloc, acc, slot, node, keys, store),
         Piece::Inline(node, _) => {
             let at = block_id(node.block());
             load_in(alloc, acc, slot, piece, at, keys, store)

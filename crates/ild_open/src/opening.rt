@@ -99,7 +99,7 @@ fn open<'s, K: Store, H: KeyHash>(
     store: &mut K,
 ) -> Result<(Doc<'s>, Val), OpenFault>
     requires { ty.0 < length acc.now }
-    ensures { Opens (HasKept H.hash_of acc.now ty id.now.0 (K.moment store.old) keep) H.hash_of acc.now ty id.now.0 (K.moment store.old) result (K.moment store.new) }
+    ensures { Opens (HasKept H.hash_of acc.now ty id.now.0 (K.moment store.new) keep) H.hash_of acc.now ty id.now.0 (K.moment store.old) result (K.moment store.new) }
 {
     // It does no work: its clauses say what acceptance says of the table.
     let _types = acc.types();
@@ -116,7 +116,7 @@ fn open<'s, K: Store, H: KeyHash>(
 }
 
 /// Opens the root under an id: reads the whole tree of blocks of the value of a type that stands there, each block once, and
-/// checks it. Over every store, that the value stands there follows from blocks, each under its own hash. `Block` comes exactly where
+/// checks it. Over every store, that the value stands there follows from blocks that gets gave, each under its own hash. `Block` comes exactly where
 /// no such value stands there, with a block at fault: the root block's form, and then HAMT by HAMT.
 pub fn open_root<'s, K: Store, H: KeyHash>(
     alloc: Global,
@@ -127,7 +127,7 @@ pub fn open_root<'s, K: Store, H: KeyHash>(
     store: &mut K,
 ) -> Result<Doc<'s>, OpenFault>
     requires { ty.0 < length acc.now }
-    ensures { Opens (HasOpened H.hash_of acc.now ty id.now.0 (K.moment store.old)) H.hash_of acc.now ty id.now.0 (K.moment store.old) result (K.moment store.new) }
+    ensures { Opens (HasOpened H.hash_of acc.now ty id.now.0 (K.moment store.new)) H.hash_of acc.now ty id.now.0 (K.moment store.old) result (K.moment store.new) }
 {
     match open(alloc, acc, ty, id, false, keys, store) {
         Ok(opened) => Ok(opened.0),
@@ -145,7 +145,7 @@ pub fn open_value<'s, K: Store, H: KeyHash>(
     store: &mut K,
 ) -> Result<(Doc<'s>, Val), OpenFault>
     requires { ty.0 < length acc.now }
-    ensures { Opens (HasValue H.hash_of acc.now ty id.now.0 (K.moment store.old)) H.hash_of acc.now ty id.now.0 (K.moment store.old) result (K.moment store.new) }
+    ensures { Opens (HasValue H.hash_of acc.now ty id.now.0 (K.moment store.new)) H.hash_of acc.now ty id.now.0 (K.moment store.old) result (K.moment store.new) }
 {
     match open(alloc, acc, ty, id, true, keys, store) {
         Ok(opened) => Ok(opened),

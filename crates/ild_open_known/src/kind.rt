@@ -1,5 +1,6 @@
 //! What a HAMT is read as.
 ghost use Rattle.std.specs.Prelude.{◌≡◌, true};
+ghost use Rattle.ild_open_known.specs.Covers.{Covers};
 
 use ild_data::HamtShape;
 use ild_schema::{Slot, TypeNo};
@@ -33,17 +34,17 @@ fn is_slot(a: Slot, b: Slot) -> bool
 }
 
 impl ReadAs {
-    /// Whether both are the same.
-    pub(crate) fn is(self, other: ReadAs) -> bool
-        ensures { result ≡ true → self ≡ other }
+    /// Whether the other is the same, with no less room.
+    pub(crate) fn covers(self, other: ReadAs) -> bool
+        ensures { result ≡ true → Covers self other }
     {
         self.key.0 == other.key.0
             && is_slot(self.value, other.value)
             && is_shape(self.shape, other.shape)
-            && self.room == other.room
+            && self.room <= other.room
     }
 
-    /// A number for this and for bytes, by which both are found again.
+    /// A number for this and for bytes, by which both are found again, whatever the room.
     pub(crate) fn digest(self, bytes: &[u8]) -> [u8; 32] {
         let mut hasher = Sha256::new();
         hasher.update(&self.key.0.to_be_bytes());
@@ -51,7 +52,6 @@ impl ReadAs {
         hasher.update(&[self.value.nullable as u8]);
         hasher.update(&self.shape.width.to_be_bytes());
         hasher.update(&self.shape.bucket.to_be_bytes());
-        hasher.update(&self.room.to_be_bytes());
         hasher.update(bytes);
         hasher.finalize()
     }

@@ -1,5 +1,6 @@
 //! The table of the HAMTs that were found sound.
 ghost use Rattle.std.specs.Prelude.{◌≡◌, ◌⊎◌, [], true, List, ℕ, Contains};
+ghost use Rattle.ild_open_known.specs.Covers.{IsKnown};
 ghost use Rattle.ild_open_known.specs.Roots.{known_in};
 ghost use Rattle.ild_open_known.specs.declared.kind.ReadAs.{ReadAs as As};
 
@@ -31,12 +32,13 @@ impl Known {
         }
     }
 
-    /// Whether a root with these bytes was found sound, read as this. What was added may be missed where memory was wanting.
+    /// Whether a root with these bytes was found sound, read as this in no greater room. What was added may be missed where memory was
+    /// wanting.
     pub fn has(&self, read_as: ReadAs, bytes: &[u8]) -> bool
-        ensures { result ≡ true → Contains (known_in self.now) (read_as, bytes.now) }
+        ensures { result ≡ true → IsKnown (known_in self.now) read_as bytes.now }
     {
         match self.roots.get(&read_as.digest(bytes)) {
-            Some(root) => root.read_as.is(read_as) && root.bytes.as_slice() == bytes,
+            Some(root) => root.read_as.covers(read_as) && root.bytes.as_slice() == bytes,
             None => false,
         }
     }
@@ -53,7 +55,8 @@ impl Known {
         Ok(())
     }
 
-    /// Adds a root that was found sound, read as this. Where memory is wanting it isn't added.
+    /// Adds a root that was found sound, read as this, in the place of the same one in another room. Where memory is wanting it isn't
+    /// added.
     pub fn add(&mut self, alloc: Global, read_as: ReadAs, bytes: &[u8])
         ensures { (r : As × List ℕ) → Contains (known_in self.new) r → Contains (known_in self.old) r ⊎ (r ≡ (read_as, bytes.now)) }
     {

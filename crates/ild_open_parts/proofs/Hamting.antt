@@ -9,7 +9,7 @@ use Rattle.ild_data.specs.Tree.{IsTree}
 use Rattle.ild_data.specs.Trie.{TrieSlot}
 use Rattle.ild_data.specs.declared.hamt_shape.HamtShape.{HamtShape}
 use Rattle.ild_edges.specs.Store.{Moment, block_at}
-use Rattle.ild_edges.proofs.Reading.{from_both, from_more, from_told}
+use Rattle.ild_edges.proofs.Reading.{from_both, from_later, from_more, from_told, reads_none, reads_then}
 use Rattle.ild_node_slots.specs.Form.{AreTexts}
 use Rattle.ild_node_slots.specs.declared.fault.HamtFault.{HamtFault}
 use Rattle.ild_node_slots.specs.declared.fault.HamtFault.TheVariants as H
@@ -35,10 +35,10 @@ use Rattle.ild_open_rows.specs.Rooted.{AreRows}
 use Rattle.ild_open_rows.proofs.Given.{entries_are_given}
 use Rattle.ild_open_rows.proofs.Rooting.{rows_are_entries}
 use Rattle.ild_open_parts.specs.Hamts.{BrokenRows, BrokenTree, EntriesAnswer, ListsRows, NoEntries, NoRoot, ReadsRows, map_made, told_fault}
-use Rattle.ild_open_parts.specs.Reads.{BrokenPart, FromBlocks, HasValue, HasValues, NoValue, OnlyReads, ReadAnswer, Reads, Stops}
+use Rattle.ild_open_parts.specs.Reads.{BrokenPart, HasValue, HasValues, NoValue, OnlyReads, ReadAnswer, Reads, Stops}
 use Rattle.ild_open_parts.specs.declared.fault.OpenFault.{OpenFault}
 use Rattle.ild_open_parts.specs.declared.fault.OpenFault.TheVariants as F
-use Rattle.ild_open_parts.proofs.Turning.{only_refl, only_trans, stops_later}
+use Rattle.ild_open_parts.proofs.Turning.{stops_later}
 use Rattle.ild_open_parts.proofs.Wrongly.{rows_broken, tree_broken}
 
 -- ---- the rows
@@ -55,7 +55,7 @@ module _ (h : List ℕ → List ℕ) (p : HamtShape) (t : Data) (slots : List Tr
   rows_listed rows w = record {
     answer = (
       (slots, tree, root, w.stand),
-      from_more m.blocks (λ held. GivesRows h p held slots rows.items) (λ held. AreRows h p held t rows.items) (λ held gives. rows_are_entries h p held t slots rows.items root tree gives) w.answer,
+      from_more n (λ held. GivesRows h p held slots rows.items) (λ held. AreRows h p held t rows.items) (λ held gives. rows_are_entries h p held t slots rows.items root tree gives) w.answer,
     );
     only = only_walks (Ok rows) w;
     gets = few_gets (Ok rows) w (Ok rows);
@@ -74,7 +74,7 @@ module _ (h : List ℕ → List ℕ) (p : HamtShape) (t : Data) (slots : List Tr
   rows_stop e w = record { answer = walk_stops e w.answer w.broken; only = only_walks (Err e) w; gets = few_gets (Err e) w (Err (told_fault e)) }
 
 pub rows_want : (h : List ℕ → List ℕ) (p : HamtShape) (at : List ℕ) (t : Data) (m : Moment) → ListsRows h p at t m (Err F.Memory) m
-rows_want h p at t m = record { answer = tt; only = only_refl m; gets = λ held fs told texts x. omega arith }
+rows_want h p at t m = record { answer = tt; only = reads_none m; gets = λ held fs told texts x. omega arith }
 
 -- ---- what the rows spell
 
@@ -114,7 +114,7 @@ module _ (h : List ℕ → List ℕ) (p : HamtShape) (at : List ℕ) (rows : Lis
   -- the root gives no rows
   pub hamt_stops : (m n : Moment) (e : OpenFault) → ListsRows h p at t m (Err e) n → Reads h at rows room (s, t) keep m (Err e) n
   hamt_stops m n e x = record {
-    answer = stops_later (NoRoot h p t m) (NoValue h rows room (s, t) m) (BrokenTree h p at t m n) (BrokenPart h at rows room (s, t) m n) m m n e (only_refl m)
+    answer = stops_later (NoRoot h p t m) (NoValue h rows room (s, t) m) (BrokenTree h p at t m n) (BrokenPart h at rows room (s, t) m n) m m n e (reads_none m)
         (λ none held v told has.
         let y = (split held).entries v has in
         let b = (split held).back y.0 v y.1 has in
@@ -136,9 +136,9 @@ module _ (h : List ℕ → List ℕ) (p : HamtShape) (at : List ℕ) (rows : Lis
     abbrev Values : Val → List (List ℕ × Data) → List (List ℕ) → Type 0
     Values val es held = HasValues h rows less (entry_parts u es) keep held (λ vs. value_of val ≡ map_made h rows less keep key u listed.items es vs)
 
-    hamt_answer : (r : Result Val OpenFault) → EntriesAnswer h rows less keep key u listed.items k r n → ReadAnswer h at rows room (s, t) keep m r n
-    hamt_answer (Ok val) y =
-        from_both m.blocks Listing (Values val y.entries) (λ held. HasValue h rows room (s, t) keep held val)
+    hamt_answer : (r : Result Val OpenFault) → OnlyReads k n → EntriesAnswer h rows less keep key u listed.items k r n → ReadAnswer h at rows room (s, t) keep m r n
+    hamt_answer (Ok val) only y =
+        from_both n Listing (Values val y.entries) (λ held. HasValue h rows room (s, t) keep held val)
         (λ held a c.
         let same : a.entries ≡ y.entries = sym (same_entries y.entries a.entries y.within a.trees (y.spelled.made ∙ sym a.made)) in
         record {
@@ -146,10 +146,10 @@ module _ (h : List ℕ → List ℕ) (p : HamtShape) (at : List ℕ) (rows : Lis
           is = (split held).up y.entries c.values (subst (λ fs. IsRootOf (block_at held) h p t fs) same a.root) y.keys c.are;
           kept = c.kept;
         })
-        x.answer.1 (subst (λ told. FromBlocks told (Values val y.entries)) x.only.blocks y.held)
-    hamt_answer (Err e) y = stops_later (NoEntries h rows less keep key u listed.items k) (NoValue h rows room (s, t) m) (BrokenRows h rows less keep key u listed.items k n) (BrokenPart h at rows room (s, t) m n) m k n e x.only
+        (from_later k n Listing only x.answer.1) y.held
+    hamt_answer (Err e) only y = stops_later (NoEntries h rows less keep key u listed.items k) (NoValue h rows room (s, t) m) (BrokenRows h rows less keep key u listed.items k n) (BrokenPart h at rows room (s, t) m n) m k n e x.only
         (λ none held v told has.
-        let a = from_told m.blocks Listing x.answer.1 held told in
+        let a = from_told k Listing x.answer.1 held (x.only.blocks ∙ told) in
         let b = (split held).back a.entries v a.root has in
         none a.entries (record { made = a.made; trees = a.trees }) b.keys held b.values (x.only.blocks ∙ told) b.held)
         (λ id why broken. rows_broken h p at rows room less s t key key_at u place is left keep listed.items m k n id why x.only x.answer.0 broken) y
@@ -157,10 +157,10 @@ module _ (h : List ℕ → List ℕ) (p : HamtShape) (at : List ℕ) (rows : Lis
     -- the rows were read, and what they spell
     pub hamt_read : (r : Result Val OpenFault) → ReadsRows h rows less keep key u listed.items k r n → Reads h at rows room (s, t) keep m r n
     hamt_read r y = record {
-      answer = hamt_answer r y.answer;
-      only = only_trans m k n x.only y.only;
+      answer = hamt_answer r y.only y.answer;
+      only = reads_then m k n x.only y.only;
       gets = λ held v told has.
-          let a = from_told m.blocks Listing x.answer.1 held told in
+          let a = from_told k Listing x.answer.1 held (x.only.blocks ∙ told) in
           let b = (split held).back a.entries v a.root has in
           let f = x.gets held a.entries told (key_texts rows less key a.entries b.keys) a.root in
           let g = y.gets a.entries (record { made = a.made; trees = a.trees }) held b.values (x.only.blocks ∙ told) b.held in

@@ -4,8 +4,7 @@ use Rattle.std.specs.Prelude.{Result, Ok, Err, IfErr, IfOk}
 use Rattle.ild_cbor.specs.declared.why.BlockWhy.{BlockWhy}
 use Rattle.ild_data.specs.Data.{Data}
 use Rattle.ild_edges.specs.Store.{Moment, block_at}
-use Rattle.ild_edges.proofs.Later.{Later-refl, Later-trans}
-use Rattle.ild_edges.proofs.Reading.{from_both, from_more, from_nothing}
+use Rattle.ild_edges.proofs.Reading.{from_both, from_later, from_more, from_nothing, reads_none, reads_then}
 use Rattle.ild_schema.specs.Value.{Value, union}
 use Rattle.ild_schema.specs.ValueSeen.{value_of}
 use Rattle.ild_schema.specs.declared.number.Slot.{Slot}
@@ -15,17 +14,17 @@ use Rattle.ild_typed.specs.Blocks.{nodes}
 use Rattle.ild_open_held.specs.Held.{IsHeld}
 use Rattle.ild_open_held.specs.Splits.{AreHeld, HasFront, Part, Splits, nodes_in, union_of}
 use Rattle.ild_open_parts.specs.Leaf.{IsUnionWith}
-use Rattle.ild_open_parts.specs.Reads.{BrokenPart, BrokenParts, FromBlocks, HasRead, HasValue, HasValues, NoValue, NoValues, OnlyReads, PartsAnswer, ReadAnswer, Reads, ReadsParts, Stops}
+use Rattle.ild_open_parts.specs.Reads.{BrokenPart, BrokenParts, HasRead, HasValue, HasValues, NoValue, NoValues, OnlyReads, PartsAnswer, ReadAnswer, Reads, ReadsParts, Stops}
 use Rattle.ild_open_parts.specs.declared.fault.OpenFault.{OpenFault}
 use Rattle.ild_open_parts.specs.declared.fault.OpenFault.TheVariants as F
 use Rattle.ild_open_parts.proofs.Breaking.{AreParts, broken_earlier, rose_later, whole_broken}
 use Rattle.ild_open_parts.proofs.Containing.{contains_middle}
 
 pub only_refl : (m : Moment) → OnlyReads m m
-only_refl m = record { later = Later-refl m; blocks = refl; given = refl; puts = refl }
+only_refl m = reads_none m
 
 pub only_trans : (m n o : Moment) → OnlyReads m n → OnlyReads n o → OnlyReads m o
-only_trans m n o x y = record { later = Later-trans m n o x.later y.later; blocks = y.blocks ∙ x.blocks; given = y.given ∙ x.given; puts = y.puts ∙ x.puts }
+only_trans m n o x y = reads_then m n o x y
 
 -- a stop after a later moment
 pub stops_later : (P Q : Type 0) (B C : List ℕ → BlockWhy → Type 0) (m n o : Moment) (e : OpenFault) → OnlyReads m n → (P → Q) → ((id : List ℕ) (why : BlockWhy) → B id why → C id why) → Stops P B n e o → Stops Q C m e o
@@ -80,14 +79,14 @@ module _ (h : List ℕ → List ℕ) (rows : List Row) (room : ℕ) where
   module _ (keep : Bool) where
     pub read_none : (Kept : List Value → Type 0) (m : Moment) → Kept [] → HasRead h rows room [] keep Kept m m
     read_none Kept m kept = record {
-      found = from_nothing m.blocks (λ held. HasValues h rows room [] keep held Kept) (λ held. record { values = []; are = tt; kept = λ k. kept });
-      only = only_refl m;
+      found = from_nothing m (λ held. HasValues h rows room [] keep held Kept) (λ held. record { values = []; are = tt; kept = λ k. kept });
+      only = reads_none m;
       gets = λ held vs told all. omega arith;
     }
 
     pub read_keeps : (ps : List Part) (Kept After : List Value → Type 0) (m n : Moment) → HasRead h rows room ps keep Kept m n → ((vs : List Value) → keep ≡ true → Kept vs → After vs) → HasRead h rows room ps keep After m n
     read_keeps ps Kept After m n x step = record {
-      found = from_more m.blocks (λ held. HasValues h rows room ps keep held Kept) (λ held. HasValues h rows room ps keep held After)
+      found = from_more n (λ held. HasValues h rows room ps keep held Kept) (λ held. HasValues h rows room ps keep held After)
           (λ held a. record { values = a.values; are = a.are; kept = λ k. step a.values k (a.kept k) }) x.found;
       only = x.only;
       gets = x.gets;
@@ -97,14 +96,14 @@ module _ (h : List ℕ → List ℕ) (at : List ℕ) (rows : List Row) (room : �
   pub read_more : (ps : List Part) (p : Part) (Kept After : List Value → Type 0) (m n o : Moment) (val : Val) → HasRead h rows room ps keep Kept m n → Reads h at rows room p keep n (Ok val) o
       → ((vs : List Value) → keep ≡ true → Kept vs → After (vs ++ value_of val ∷ [])) → HasRead h rows room (ps ++ p ∷ []) keep After m o
   read_more ps p Kept After m n o val x y step = record {
-    found = from_both m.blocks (λ held. HasValues h rows room ps keep held Kept) (λ held. HasValue h rows room p keep held val) (λ held. HasValues h rows room (ps ++ p ∷ []) keep held After)
+    found = from_both o (λ held. HasValues h rows room ps keep held Kept) (λ held. HasValue h rows room p keep held val) (λ held. HasValues h rows room (ps ++ p ∷ []) keep held After)
         (λ held a b. record {
           values = a.values ++ b.value ∷ [];
           are = are_append h rows room (block_at held) ps a.values p b.value a.are b.is;
           kept = λ k. subst (λ w. After (a.values ++ w ∷ [])) (b.kept k) (step a.values k (a.kept k));
         })
-        x.found (subst (λ told. FromBlocks told (λ held. HasValue h rows room p keep held val)) x.only.blocks y.answer);
-    only = only_trans m n o x.only y.only;
+        (from_later n o (λ held. HasValues h rows room ps keep held Kept) y.only x.found) y.answer;
+    only = reads_then m n o x.only y.only;
     gets = λ held vs told all.
         let s = are_split h rows room (block_at held) ps (p ∷ []) vs all in
         let f = has_first h rows room (block_at held) p [] s.right s.rest in
@@ -124,7 +123,7 @@ module _ (h : List ℕ → List ℕ) (at : List ℕ) (rows : List Row) (room : �
         let f = has_first h rows room (block_at held) p qs s.right s.rest in
         none held f.value (x.only.blocks ∙ told) f.held)
         (λ id why broken. (p, contains_middle ps qs p, broken_earlier h at rows room p m n o id why x.only broken)) y.answer;
-    only = only_trans m n o x.only y.only;
+    only = reads_then m n o x.only y.only;
     gets = λ held vs told all.
         let s = are_split h rows room (block_at held) ps (p ∷ qs) vs all in
         let f = has_first h rows room (block_at held) p qs s.right s.rest in
@@ -150,7 +149,7 @@ module _ (h : List ℕ → List ℕ) (at : List ℕ) (rows : List Row) (room : �
   pub parts_done : (ps : List Part) (Kept : List Value → Type 0) (make : List Value → Value) (m n : Moment) (val : Val) → HasRead h rows room ps keep Kept m n
       → ((vs : List Value) → keep ≡ true → Kept vs → value_of val ≡ make vs) → ReadsParts h at rows room ps keep make m (Ok val) n
   parts_done ps Kept make m n val x step = record {
-    answer = from_more m.blocks (λ held. HasValues h rows room ps keep held Kept) (λ held. HasValues h rows room ps keep held (λ vs. value_of val ≡ make vs))
+    answer = from_more n (λ held. HasValues h rows room ps keep held Kept) (λ held. HasValues h rows room ps keep held (λ vs. value_of val ≡ make vs))
         (λ held a. record { values = a.values; are = a.are; kept = λ k. step a.values k (a.kept k) }) x.found;
     only = x.only;
     gets = x.gets;
@@ -158,16 +157,16 @@ module _ (h : List ℕ → List ℕ) (at : List ℕ) (rows : List Row) (room : �
 
   -- nothing was read
   pub memory_wants : (p : Part) (m : Moment) → Reads h at rows room p keep m (Err F.Memory) m
-  memory_wants p m = record { answer = tt; only = only_refl m; gets = λ held v told has. omega arith }
+  memory_wants p m = record { answer = tt; only = reads_none m; gets = λ held v told has. omega arith }
 
   pub parts_want : (ps : List Part) (make : List Value → Value) (m : Moment) → ReadsParts h at rows room ps keep make m (Err F.Memory) m
-  parts_want ps make m = record { answer = tt; only = only_refl m; gets = λ held vs told all. omega arith }
+  parts_want ps make m = record { answer = tt; only = reads_none m; gets = λ held vs told all. omega arith }
 
   -- a value that needs nothing of a store
   pub plain_read : (p : Part) (m : Moment) (val : Val) (v : Value) → ((block : List ℕ → Option (List ℕ)) → IsHeld block h rows room p.0 p.1 v) → (keep ≡ true → value_of val ≡ v) → Reads h at rows room p keep m (Ok val) m
   plain_read p m val v is kept = record {
-    answer = from_nothing m.blocks (λ held. HasValue h rows room p keep held val) (λ held. record { value = v; is = is (block_at held); kept = kept });
-    only = only_refl m;
+    answer = from_nothing m (λ held. HasValue h rows room p keep held val) (λ held. record { value = v; is = is (block_at held); kept = kept });
+    only = reads_none m;
     gets = λ held w told has. omega arith;
   }
 
@@ -175,10 +174,10 @@ module _ (h : List ℕ → List ℕ) (at : List ℕ) (rows : List Row) (room : �
 pub whole_answer : (h : List ℕ → List ℕ) (at : List ℕ) (rows : List Row) (room less : ℕ) (keep : Bool) (s : Slot) (t : Data) (ps : List Part) (make : List Value → Value) (m n : Moment) (r : Result Val OpenFault)
     → ((block : List ℕ → Option (List ℕ)) → Splits block h rows room s t less ps make) → AreParts rows room s t less ps → PartsAnswer h at rows less ps keep make m r n → ReadAnswer h at rows room (s, t) keep m r n
 whole_answer h at rows room less keep s t ps make m n (Ok val) split are x =
-    from_more m.blocks (λ held. HasValues h rows less ps keep held (λ vs. value_of val ≡ make vs)) (λ held. HasValue h rows room (s, t) keep held val)
+    from_more n (λ held. HasValues h rows less ps keep held (λ vs. value_of val ≡ make vs)) (λ held. HasValue h rows room (s, t) keep held val)
     (λ held a. record { value = make a.values; is = (split (block_at held)).up a.values a.are; kept = a.kept }) x
 whole_answer h at rows room less keep s t ps make m n (Err e) split are x =
-    stops_later (NoValues h rows less ps m) (NoValue h rows room (s, t) m) (BrokenParts h at rows less ps m n) (BrokenPart h at rows room (s, t) m n) m m n e (only_refl m)
+    stops_later (NoValues h rows less ps m) (NoValue h rows room (s, t) m) (BrokenParts h at rows less ps m n) (BrokenPart h at rows room (s, t) m n) m m n e (reads_none m)
     (λ none held v told has. let b = (split (block_at held)).back v has in none held b.values told b.held) (λ id why broken. whole_broken h at rows room less s t ps m n id why are broken) x
 
 pub whole_read : (h : List ℕ → List ℕ) (at : List ℕ) (rows : List Row) (room less : ℕ) (keep : Bool) (s : Slot) (t : Data) (ps : List Part) (make : List Value → Value) (m n : Moment) (r : Result Val OpenFault)

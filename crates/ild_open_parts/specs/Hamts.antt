@@ -67,7 +67,7 @@ abbrev pub BrokenTree : (List ℕ → List ℕ) → HamtShape → List ℕ → D
 BrokenTree h p at t m n id why = (slots : List TrieSlot) × IsRoot p slots t × IsWrongOnTree h p m.blocks slots at m.lacks n.lacks id why
 
 abbrev pub RowsAnswer : (List ℕ → List ℕ) → HamtShape → List ℕ → Data → Moment → Result (Vec Listed) OpenFault → Moment → Type 0
-RowsAnswer h p at t m (Ok rows) n = RowsStand p at t m rows.items × FromBlocks m.blocks (λ held. AreRows h p held t rows.items)
+RowsAnswer h p at t m (Ok rows) n = RowsStand p at t m rows.items × FromBlocks n (λ held. AreRows h p held t rows.items)
 RowsAnswer h p at t m (Err e) n = Stops (NoRoot h p t m) (BrokenTree h p at t m n) m e n
 
 -- the rows of the HAMT whose root these data are
@@ -131,22 +131,22 @@ module _ (h : List ℕ → List ℕ) (rows : List Row) (room : ℕ) (keep : Bool
 
   -- values for the entries follow, and those that are to be kept make the map
   abbrev pub EntriesHeld : List (List ℕ × Data) → Val → Moment → Type 0
-  EntriesHeld es val m = FromBlocks m.blocks (λ held. HasValues h rows room (entry_parts u es) keep held (λ vs. value_of val ≡ map_made es vs))
+  EntriesHeld es val n = FromBlocks n (λ held. HasValues h rows room (entry_parts u es) keep held (λ vs. value_of val ≡ map_made es vs))
 
   -- something is wrong with the entry of a row, or in its value
   abbrev pub BrokenRows : Moment → Moment → List ℕ → BlockWhy → Type 0
   BrokenRows m n id why = (row : Listed) × Contains listed row × (((id ≡ row.block.0) × IsWrongRow rows room key u row why) ⊎ HasBroken h rows room u row m n id why)
 
   -- the entries that the rows spell, whose keys fit, were read; no others are spelled so, as these are within the limits
-  pub record EntriesRead (val : Val) (m : Moment) : Type 0 where
+  pub record EntriesRead (val : Val) (n : Moment) : Type 0 where
     pub entries : List (List ℕ × Data)
     pub spelled : AreSpelled entries listed
     pub within : AllByRecursion (λ e. IsWithin e.1) entries
     pub keys : AllByRecursion (KeyFits rows room key) entries
-    pub held : EntriesHeld entries val m
+    pub held : EntriesHeld entries val n
 
   abbrev pub EntriesAnswer : Moment → Result Val OpenFault → Moment → Type 0
-  EntriesAnswer m (Ok val) n = EntriesRead val m
+  EntriesAnswer m (Ok val) n = EntriesRead val n
   EntriesAnswer m (Err e) n = Stops (NoEntries m) (BrokenRows m n) m e n
 
   -- the entries that the rows spell were read, and the map is made of their values

@@ -37,7 +37,7 @@ abbrev pub BrokenPart : (List ℕ → List ℕ) → List ℕ → List Row → �
 BrokenPart h at rows room p m n id why = HasBrokenBlock h rows m.blocks m.lacks n.lacks at room p.0 p.1 id why
 
 abbrev pub ReadAnswer : (List ℕ → List ℕ) → List ℕ → List Row → ℕ → Part → Bool → Moment → Result Val OpenFault → Moment → Type 0
-ReadAnswer h at rows room p keep m (Ok val) n = FromBlocks m.blocks (λ held. HasValue h rows room p keep held val)
+ReadAnswer h at rows room p keep m (Ok val) n = FromBlocks n (λ held. HasValue h rows room p keep held val)
 ReadAnswer h at rows room p keep m (Err e) n = Stops (NoValue h rows room p m) (BrokenPart h at rows room p m n) m e n
 
 pub record Reads (h : List ℕ → List ℕ) (at : List ℕ) (rows : List Row) (room : ℕ) (p : Part) (keep : Bool) (m : Moment) (result : Result Val OpenFault) (n : Moment) : Type 0 where
@@ -55,7 +55,7 @@ pub record HasValues (h : List ℕ → List ℕ) (rows : List Row) (room : ℕ) 
 
 -- so far these parts were read
 pub record HasRead (h : List ℕ → List ℕ) (rows : List Row) (room : ℕ) (ps : List Part) (keep : Bool) (Kept : List Value → Type 0) (m n : Moment) : Type 0 where
-  pub found : FromBlocks m.blocks (λ held. HasValues h rows room ps keep held Kept)
+  pub found : FromBlocks n (λ held. HasValues h rows room ps keep held Kept)
   pub only : OnlyReads m n
   pub gets : (held : List (List ℕ)) (vs : List Value) → m.blocks ≡ Some held → AreHeld (block_at held) h rows room ps vs → n.gets ≤ m.gets + nodes_in h rows ps vs
 
@@ -67,7 +67,7 @@ abbrev pub BrokenParts : (List ℕ → List ℕ) → List ℕ → List Row → �
 BrokenParts h at rows room ps m n id why = (p : Part) × Contains ps p × BrokenPart h at rows room p m n id why
 
 abbrev pub PartsAnswer : (List ℕ → List ℕ) → List ℕ → List Row → ℕ → List Part → Bool → (List Value → Value) → Moment → Result Val OpenFault → Moment → Type 0
-PartsAnswer h at rows room ps keep make m (Ok val) n = FromBlocks m.blocks (λ held. HasValues h rows room ps keep held (λ vs. value_of val ≡ make vs))
+PartsAnswer h at rows room ps keep make m (Ok val) n = FromBlocks n (λ held. HasValues h rows room ps keep held (λ vs. value_of val ≡ make vs))
 PartsAnswer h at rows room ps keep make m (Err e) n = Stops (NoValues h rows room ps m) (BrokenParts h at rows room ps m n) m e n
 
 -- all of them are read, and the whole is made of their values

@@ -12,8 +12,8 @@ use ild_schema::{Accepted, Slot, TypeNo};
 use ild_view_walk::{ViewErr, check_item, check_key};
 use std::alloc::Global;
 
-// The fault of a walk, as that of a reader.
-fn walk_fault(fault: &HamtFault) -> OpenFault
+/// The fault of a walk, as that of a reader.
+pub fn walk_fault(fault: &HamtFault) -> OpenFault
     ensures { result ≡ told_fault fault.now }
 {
     match fault {

@@ -1,6 +1,6 @@
 -- What was found sound, and what is remembered of it.
-use Rattle.std.proofs.Common.{◌≡◌, ◌⊎◌, inl, inr, ℕ, ◌+◌, List, [], ◌++◌, length, take, drop, Bool, true, false, Option, sym, ◌∙◌, ap, ap₂, subst, append_assoc, arith}
-use Rattle.std.proofs.Math.Logic.{∥∥₁_elim}
+use Rattle.std.proofs.Common.{◌≡◌, ◌⊎◌, inl, inr, ℕ, ◌+◌, ◌≤◌, List, [], ◌++◌, length, take, drop, Bool, true, false, Some, refl, sym, ◌∙◌, ap, ap₂, subst, append_assoc, arith}
+use Rattle.std.proofs.Math.Logic.{∥∥₁_elim, ∥∥₁_map}
 use Rattle.std.proofs.Math.Seq.{take-append_seam, drop-append_seam}
 use Rattle.std.proofs.Props.{props}
 use Rattle.std.proofs.lemmas.List.{length-append}
@@ -12,31 +12,38 @@ use Rattle.ild_cbor.specs.declared.node.Node.{Node}
 use Rattle.ild_cbor.specs.declared.piece.Piece.{Piece}
 use Rattle.ild_cbor.specs.declared.piece.Piece.TheVariants as P
 use Rattle.ild_data.specs.Data.{Data}
-use Rattle.ild_data.specs.Limits.{IsWithin}
+use Rattle.ild_data.specs.Limits.{IsWithin, deepest}
 use Rattle.ild_data.specs.Spell.{spell}
 use Rattle.ild_data.specs.declared.hamt_shape.HamtShape.{HamtShape}
-use Rattle.ild_edges.specs.Gained.{FromBlocks}
 use Rattle.ild_edges.specs.Store.{Moment}
-use Rattle.ild_edges.proofs.Reading.{from_more}
+use Rattle.ild_edges.proofs.Reading.{from_later, from_more}
 use Rattle.ild_schema.specs.Clear.{IsSafe}
 use Rattle.ild_schema.specs.Copies.{base}
 use Rattle.ild_schema.specs.Legible.{IsLegible}
+use Rattle.ild_schema.specs.Slots.{form_of}
 use Rattle.ild_schema.specs.declared.def.MapForm.TheVariants as MF
+use Rattle.ild_schema.specs.declared.def.TypeDef.{TypeDef}
 use Rattle.ild_schema.specs.declared.def.TypeDef.TheVariants as D
 use Rattle.ild_schema.specs.declared.number.Slot.{Slot}
 use Rattle.ild_schema.specs.declared.number.TypeNo.{TypeNo}
 use Rattle.ild_schema.specs.declared.row.Row.{Row}
 use Rattle.ild_schema.specs.declared.val.Val.{Val}
 use Rattle.ild_schema.specs.declared.val.Val.TheVariants as W
+use Rattle.ild_typed.specs.Pieces.{is_null_there}
 use Rattle.ild_typed.specs.Schema.{IsSchema}
+use Rattle.ild_layer_piece.specs.Pieces.{StandsFor}
+use Rattle.ild_open_known.specs.Covers.{Covers}
 use Rattle.ild_open_known.specs.Roots.{known_in}
 use Rattle.ild_open_known.specs.declared.kind.ReadAs.{ReadAs}
 use Rattle.ild_open_known.specs.declared.table.Known.{Known}
 use Rattle.ild_open_parts.specs.Hamts.{ListsRoot, ReadsHamt, ReadsListed, ReadsRows}
-use Rattle.ild_open_parts.specs.Reads.{HasValue}
+use Rattle.ild_open_parts.specs.Reads.{HasValue, OnlyReads, Reads}
 use Rattle.ild_open_parts.specs.declared.fault.OpenFault.{OpenFault}
 use Rattle.ild_open_parts.proofs.Hamting.{hamt_read}
 use Rattle.ild_open_parts.proofs.Turning.{only_refl}
+use Rattle.ild_open_read.proofs.Alone.{only_of}
+use Rattle.ild_open_read.proofs.Rooming.{has_more}
+use Rattle.ild_open_read.specs.Passing.{ReadsRoot}
 use Rattle.ild_open_read.specs.Sound.{AreSound, HasHeld, IsPassed, IsSound, Remembers}
 
 -- ---- the bytes at which a node stands
@@ -71,43 +78,60 @@ stands_again n b tells t same within = record {
 -- ---- what is known
 
 -- nothing is known
-pub none_known : (h : List ℕ → List ℕ) (rows : List Row) (told : Option (List (List ℕ))) (known : Known) → known_in known ≡ [] → AreSound h rows told known
-none_known h rows told known none = record { each = λ r has. absurd (nowhere r (subst (λ (rs : List (ReadAs × List ℕ)). Contains rs r) none has)) } where
+pub none_known : (h : List ℕ → List ℕ) (rows : List Row) (n : Moment) (known : Known) → known_in known ≡ [] → AreSound h rows n known
+none_known h rows n known none = record { each = λ r has. absurd (nowhere r (subst (λ (rs : List (ReadAs × List ℕ)). Contains rs r) none has)) } where
   nowhere : (r : ReadAs × List ℕ) → Contains [] r → ⊥
   nowhere r x = omega (arith, x.1)
 
--- the store tells the same
-pub known_still : (h : List ℕ → List ℕ) (rows : List Row) (m n : Moment) (known : Known) → n.blocks ≡ m.blocks → AreSound h rows m.blocks known → AreSound h rows n.blocks known
-known_still h rows m n known same x = subst (λ told. AreSound h rows told known) (sym same) x
+-- gets alone leave it
+sound_still : (h : List ℕ → List ℕ) (rows : List Row) (m n : Moment) (r : ReadAs × List ℕ) → OnlyReads m n → IsSound h rows m r → IsSound h rows n r
+sound_still h rows m n r only x = record {
+  holds = λ s t key_at place whole within same is sum le front. from_later m n (λ held. HasHeld held h rows whole s t) only (x.holds s t key_at place whole within same is sum le front);
+}
 
--- reading the rows of a root changes nothing that the store tells
-pub rows_tell : (h : List ℕ → List ℕ) (p : HamtShape) (at : List ℕ) (root : Node) (m n : Moment) (r : Result (Vec Listed) OpenFault) → List Row → ListsRoot h p at (P.Node root) m r n → n.blocks ≡ m.blocks
-rows_tell h p at root m n r rows lists = ∥∥₁_elim root.stands (hlevel props) (λ some. (lists rows some.of some.spells).only.blocks)
+pub known_still : (h : List ℕ → List ℕ) (rows : List Row) (m n : Moment) (known : Known) → OnlyReads m n → AreSound h rows m known → AreSound h rows n known
+known_still h rows m n known only x = record { each = λ r has. sound_still h rows m n r only (x.each r has) }
+
+-- reading the rows of a root is gets alone
+rows_only : (h : List ℕ → List ℕ) (p : HamtShape) (at : List ℕ) (root : Node) (m n : Moment) (r : Result (Vec Listed) OpenFault) → List Row → ListsRoot h p at (P.Node root) m r n → OnlyReads m n
+rows_only h p at root m n r rows lists = only_of m n (∥∥₁_map root.stands (λ some. (lists rows some.of some.spells).only))
 
 -- so what was found sound still is
 pub still_sound : (h : List ℕ → List ℕ) (p : HamtShape) (at : List ℕ) (rows : List Row) (piece : Piece) (root : Node) (m n : Moment) (r : Result (Vec Listed) OpenFault) (known : Known) → piece ≡ P.Node root → ListsRoot h p at piece m r n
-    → AreSound h rows m.blocks known → AreSound h rows n.blocks known
-still_sound h p at rows piece root m n r known is lists sound = known_still h rows m n known (rows_tell h p at root m n r rows (subst (λ q. ListsRoot h p at q m r n) is lists)) sound
+    → AreSound h rows m known → AreSound h rows n known
+still_sound h p at rows piece root m n r known is lists sound = known_still h rows m n known (rows_only h p at root m n r rows (subst (λ q. ListsRoot h p at q m r n) is lists)) sound
 
 -- the rows of a root, and what they spell
+pub root_reads : (h : List ℕ → List ℕ) (p : HamtShape) (at : List ℕ) (rows : List Row) (schema : IsSchema rows) (legible : IsLegible rows) (room : ℕ) (keep : Bool) (key : TypeNo) (value : Slot) (piece : Piece) (listed : Vec Listed) (slice : List Listed) (m k n : Moment) (r : Result Val OpenFault)
+    → slice ≡ listed.items → ListsRoot h p at piece m (Ok listed) k → ReadsListed h rows room keep key value slice k r n → ReadsRoot h p at rows room keep key value piece m r n
+root_reads h p at rows schema legible room keep key value piece listed slice m k n r same lists read = λ s t key_at place whole stands is sum le some.
+    let safe : IsSafe rows value = legible.clear.parts (base rows s.ty.0) (D.Map key key_at value place (MF.Hamt p)) is in
+    hamt_read h p at rows schema whole room keep s t key key_at value place some is sum le listed m k n (lists rows t stands) r (subst (λ xs. ReadsRows h rows room keep key value xs k r n) same (read safe))
+
 pub hamt_reads : (h : List ℕ → List ℕ) (p : HamtShape) (at : List ℕ) (rows : List Row) (schema : IsSchema rows) (legible : IsLegible rows) (room : ℕ) (keep : Bool) (key : TypeNo) (value : Slot) (piece : Piece) (listed : Vec Listed) (slice : List Listed) (m k n : Moment) (r : Result Val OpenFault)
     → slice ≡ listed.items → ListsRoot h p at piece m (Ok listed) k → ReadsListed h rows room keep key value slice k r n → ReadsHamt h p at rows room keep key value piece m r n
 hamt_reads h p at rows schema legible room keep key value piece listed slice m k n r same lists read = λ s t key_at place whole stands is sum le front.
-    let safe : IsSafe rows value = legible.clear.parts (base rows s.ty.0) (D.Map key key_at value place (MF.Hamt p)) is in
-    hamt_read h p at rows schema whole room keep s t key key_at value place front.some is sum le listed m k n (lists rows t stands) r (subst (λ xs. ReadsRows h rows room keep key value xs k r n) same (read safe))
+    root_reads h p at rows schema legible room keep key value piece listed slice m k n r same lists read s t key_at place whole stands is sum le front.some
 
 on_off : {b : Bool} → b ≡ false → b ≡ true → ⊥
 on_off off on = absurd cc
 
 -- ---- a root that is known
 
+-- the form of a HAMT, as that of one that is known
+form_covered : (known asked : ReadAs) → Covers known asked → (key_at place : ℕ) → D.Map asked.key key_at asked.value place (MF.Hamt asked.shape) ≡ D.Map known.key key_at known.value place (MF.Hamt known.shape)
+form_covered known asked x key_at place =
+    ap (λ (k : TypeNo). D.Map k key_at asked.value place (MF.Hamt asked.shape)) (sym x.key)
+    ∙ ap₂ (λ (u : Slot) (p : HamtShape). D.Map known.key key_at u place (MF.Hamt p)) (sym x.value) (sym x.shape)
+
 module _ (h : List ℕ → List ℕ) (rows : List Row) (kind : ReadAs) (root : Node) where
-  passed_node : (at : List ℕ) (keep : Bool) (known : Known) (m : Moment) → AreSound h rows m.blocks known → IsPassed keep known kind root
+  passed_node : (at : List ℕ) (keep : Bool) (known : Known) (m : Moment) → AreSound h rows m known → IsPassed keep known kind root
       → ReadsHamt h kind.shape at rows kind.room keep kind.key kind.value (P.Node root) m (Ok W.Null) m
   passed_node at keep known m sound x = λ s t key_at place whole stands is sum le front. record {
-    answer = from_more m.blocks (λ held. HasHeld held h rows whole s t) (λ held. HasValue h rows whole (s, t) keep held W.Null)
+    answer = from_more m (λ held. HasHeld held h rows whole s t) (λ held. HasValue h rows whole (s, t) keep held W.Null)
         (λ held y. record { value = y.value; is = y.is; kept = λ k. absurd (on_off x.off k) })
-        ((sound.each (kind, x.bytes) x.has).holds s t key_at place whole stands.within (sym (x.tells t stands)) is sum le front);
+        ((sound.each (x.has.kind, x.bytes) x.has.has).holds s t key_at place whole stands.within (sym (x.tells t stands))
+        (is ∙ ap (λ (d : TypeDef). Some d) (form_covered x.has.kind kind x.has.covers key_at place)) (omega (arith, sum, x.has.covers.room)) le front.some);
     only = only_refl m;
     gets = λ held v told has. omega arith;
   }
@@ -116,23 +140,23 @@ module _ (h : List ℕ → List ℕ) (rows : List Row) (kind : ReadAs) (root : N
   Whole at keep m r n piece = ReadsHamt h kind.shape at rows kind.room keep kind.key kind.value piece m r n
 
   -- it is passed over
-  pub passed : (at : List ℕ) (keep : Bool) (known : Known) (m : Moment) (piece : Piece) → piece ≡ P.Node root → AreSound h rows m.blocks known → IsPassed keep known kind root → Whole at keep m (Ok W.Null) m piece
+  pub passed : (at : List ℕ) (keep : Bool) (known : Known) (m : Moment) (piece : Piece) → piece ≡ P.Node root → AreSound h rows m known → IsPassed keep known kind root → Whole at keep m (Ok W.Null) m piece
   passed at keep known m piece is sound x = subst (Whole at keep m (Ok W.Null) m) (sym is) (passed_node at keep known m sound x)
 
   -- one that was read is sound
-  found : (at : List ℕ) (keep : Bool) (m n : Moment) (val : Val) (b : List ℕ) → ((t : Data) → Stands root t → b ≡ spell t) → ReadsHamt h kind.shape at rows kind.room keep kind.key kind.value (P.Node root) m (Ok val) n
-      → IsSound h rows n.blocks (kind, b)
+  found : (at : List ℕ) (keep : Bool) (m n : Moment) (val : Val) (b : List ℕ) → ((t : Data) → Stands root t → b ≡ spell t) → ReadsRoot h kind.shape at rows kind.room keep kind.key kind.value (P.Node root) m (Ok val) n
+      → IsSound h rows n (kind, b)
   found at keep m n val b tells read = record {
-    holds = λ s t key_at place whole within same is sum le front.
-        let y = read s t key_at place whole (stands_again root b tells t same within) is sum le front in
-        subst (λ told. FromBlocks told (λ held. HasHeld held h rows whole s t)) (sym y.only.blocks)
-        (from_more m.blocks (λ held. HasValue h rows whole (s, t) keep held val) (λ held. HasHeld held h rows whole s t) (λ held a. record { value = a.value; is = a.is }) y.answer);
+    holds = λ s t key_at place whole within same is least le some.
+        let y = read s t key_at place (kind.room + 5) (stands_again root b tells t same within) is refl (omega (arith, least, le)) some in
+        from_more n (λ held. HasValue h rows (kind.room + 5) (s, t) keep held val) (λ held. HasHeld held h rows whole s t)
+        (λ held a. has_more h rows (kind.room + 5) whole least s t held (record { value = a.value; is = a.is })) y.answer;
   }
 
   -- and may be remembered
-  pub remembered : (at : List ℕ) (keep : Bool) (m n : Moment) (val : Val) (old new : Known) (piece : Piece) → piece ≡ P.Node root → AreSound h rows n.blocks old → Remembers old new kind root → Whole at keep m (Ok val) n piece
-      → AreSound h rows n.blocks new
+  pub remembered : (at : List ℕ) (keep : Bool) (m n : Moment) (val : Val) (old new : Known) (piece : Piece) → piece ≡ P.Node root → AreSound h rows n old → Remembers old new kind root → ReadsRoot h kind.shape at rows kind.room keep kind.key kind.value piece m (Ok val) n
+      → AreSound h rows n new
   remembered at keep m n val old new piece is sound x read = record { each = λ r has. by r (x.added r has) } where
-    by : (r : ReadAs × List ℕ) → Contains (known_in old) r ⊎ (r ≡ (kind, x.bytes)) → IsSound h rows n.blocks r
+    by : (r : ReadAs × List ℕ) → Contains (known_in old) r ⊎ (r ≡ (kind, x.bytes)) → IsSound h rows n r
     by r (inl was) = sound.each r was
-    by r (inr same) = subst (IsSound h rows n.blocks) (sym same) (found at keep m n val x.bytes x.tells (subst (Whole at keep m (Ok val) n) is read))
+    by r (inr same) = subst (IsSound h rows n) (sym same) (found at keep m n val x.bytes x.tells (subst (λ q. ReadsRoot h kind.shape at rows kind.room keep kind.key kind.value q m (Ok val) n) is read))

@@ -224,13 +224,13 @@ module _ (h : List ℕ → List ℕ) (rows : List Row) (room : ℕ) (keep : Bool
   -- ---- a row that is wrong
 
   -- of the entry of a row its key fits, and a value is held
-  record HasOwn (held : List (List ℕ)) (row : Listed) : Type 0 where
-    tree : Data
-    is : row.value ≡ spell tree
-    sound : IsTree tree
-    keyed : Shows (Fits rows room) rows (plainly key) (text row.key)
-    value : Value
-    own : IsHeld (block_at held) h rows room u tree value
+  pub record HasOwn (held : List (List ℕ)) (row : Listed) : Type 0 where
+    pub tree : Data
+    pub is : row.value ≡ spell tree
+    pub sound : IsTree tree
+    pub keyed : Shows (Fits rows room) rows (plainly key) (text row.key)
+    pub value : Value
+    pub own : IsHeld (block_at held) h rows room u tree value
 
   own_row : (row : Listed) (behind : List Listed) (pairs : Pairs) (m n : Moment) (es : List (List ℕ × Data)) (g : HasGone es (row ∷ behind) pairs m n) → AllByRecursion (KeyFits rows room key) es
       → (held : List (List ℕ)) (vs : List Value) → AreHeld (block_at held) h rows room (entry_parts u es) vs → HasOwn held row
@@ -252,7 +252,7 @@ module _ (h : List ℕ → List ℕ) (rows : List Row) (room : ℕ) (keep : Bool
       }
 
   module _ (schema : IsSchema rows) (legible : IsLegible rows) (safe : IsSafe rows u) where
-    never_wrong : (held : List (List ℕ)) (row : Listed) (x : HasOwn held row) (why : Why) → IsWrongPart rows room key u row.key x.tree why → ⊥
+    pub never_wrong : (held : List (List ℕ)) (row : Listed) (x : HasOwn held row) (why : Why) → IsWrongPart rows room key u row.key x.tree why → ⊥
     never_wrong held row x why (inl w) = refused_sound rows legible.clear legible.delims room 0 (plainly key) (plain_safe rows (plainly key) refl) (text row.key) w.1.refusal w.1.refused x.keyed
     never_wrong held row x why (inr w) =
         let y = values_fronts h rows schema room u x.value x.tree x.own.fits x.own.tree in

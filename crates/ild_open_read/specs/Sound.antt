@@ -1,20 +1,21 @@
 -- HAMTs that were found sound: their values are held, wherever their roots stand as what they were read as.
-use Rattle.std.specs.Prelude.{◌≡◌, ◌⊎◌, ℕ, ◌+◌, ◌≤◌, Bool, false, List, Option, Some, Contains}
+use Rattle.std.specs.Prelude.{◌≡◌, ◌⊎◌, ℕ, ◌+◌, ◌≤◌, Bool, false, List, Some, Contains}
 use Rattle.ild_cbor.specs.Nodes.{Stands}
 use Rattle.ild_cbor.specs.declared.node.Node.{Node}
 use Rattle.ild_data.specs.Data.{Data}
 use Rattle.ild_data.specs.Limits.{IsWithin, deepest}
 use Rattle.ild_data.specs.Spell.{spell}
 use Rattle.ild_edges.specs.Gained.{FromBlocks}
-use Rattle.ild_edges.specs.Store.{block_at}
+use Rattle.ild_edges.specs.Store.{Moment, block_at}
 use Rattle.ild_schema.specs.Slots.{form_of}
 use Rattle.ild_schema.specs.Value.{Value}
 use Rattle.ild_schema.specs.declared.def.MapForm.TheVariants as MF
 use Rattle.ild_schema.specs.declared.def.TypeDef.TheVariants as D
 use Rattle.ild_schema.specs.declared.number.Slot.{Slot}
 use Rattle.ild_schema.specs.declared.row.Row.{Row}
+use Rattle.ild_typed.specs.Pieces.{is_null_there}
 use Rattle.ild_open_held.specs.Held.{IsHeld}
-use Rattle.ild_open_held.specs.Laws.{IsFronted}
+use Rattle.ild_open_known.specs.Covers.{IsKnown}
 use Rattle.ild_open_known.specs.Roots.{known_in}
 use Rattle.ild_open_known.specs.declared.kind.ReadAs.{ReadAs}
 use Rattle.ild_open_known.specs.declared.table.Known.{Known}
@@ -24,21 +25,21 @@ pub record HasHeld (held : List (List ℕ)) (h : List ℕ → List ℕ) (rows : 
   pub value : Value
   pub is : IsHeld (block_at held) h rows room s t value
 
--- of data with these bytes, in each slot whose form is this HAMT and in this room: that a value is held follows from blocks that a
--- store which tells this gave
-pub record IsSound (h : List ℕ → List ℕ) (rows : List Row) (told : Option (List (List ℕ))) (r : ReadAs × List ℕ) : Type 0 where
+-- of data with these bytes, in each slot whose form is this HAMT, in this room and in each greater one: that a value is held follows
+-- from blocks that gets gave until this moment
+pub record IsSound (h : List ℕ → List ℕ) (rows : List Row) (n : Moment) (r : ReadAs × List ℕ) : Type 0 where
   pub holds : (s : Slot) (t : Data) (key_at place whole : ℕ) → IsWithin t → spell t ≡ r.1
-      → form_of rows s ≡ Some (D.Map r.0.key key_at r.0.value place (MF.Hamt r.0.shape)) → whole ≡ r.0.room + 5 → whole ≤ deepest → IsFronted rows whole s t
-      → FromBlocks told (λ held. HasHeld held h rows whole s t)
+      → form_of rows s ≡ Some (D.Map r.0.key key_at r.0.value place (MF.Hamt r.0.shape)) → r.0.room + 5 ≤ whole → whole ≤ deepest → is_null_there s t ≡ false
+      → FromBlocks n (λ held. HasHeld held h rows whole s t)
 
-pub record AreSound (h : List ℕ → List ℕ) (rows : List Row) (told : Option (List (List ℕ))) (known : Known) : Type 0 where
-  pub each : (r : ReadAs × List ℕ) → Contains (known_in known) r → IsSound h rows told r
+pub record AreSound (h : List ℕ → List ℕ) (rows : List Row) (n : Moment) (known : Known) : Type 0 where
+  pub each : (r : ReadAs × List ℕ) → Contains (known_in known) r → IsSound h rows n r
 
--- nothing is kept, and the bytes at which a root stands are known
+-- nothing is kept, and the bytes at which a root stands are known in no greater room
 pub record IsPassed (keep : Bool) (known : Known) (kind : ReadAs) (root : Node) : Type 0 where
   pub off : keep ≡ false
   pub bytes : List ℕ
-  pub has : Contains (known_in known) (kind, bytes)
+  pub has : IsKnown (known_in known) kind bytes
   pub tells : (t : Data) → Stands root t → bytes ≡ spell t
 
 -- at most the bytes at which a root stands came to those that are known

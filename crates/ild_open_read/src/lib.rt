@@ -2,6 +2,7 @@
 #![tactic(auto)]
 
 mod form;
+mod passing;
 mod reader;
 mod reading;
 mod value;

@@ -27,13 +27,11 @@ impl<'k, H: KeyHash> Reader<'k, H> {
         !self.keep && known.has(read_as, bytes)
     }
 
-    /// Remembers that the HAMT of a root is sound, where nothing is kept.
+    /// Remembers that the HAMT of a root is sound.
     pub(crate) fn remembers(&self, known: &mut Known, read_as: ReadAs, root: &Node<'_>)
         ensures { Remembers known.old known.new read_as root.now }
     {
         let bytes = root.spelling();
-        if !self.keep {
-            known.add(self.alloc, read_as, bytes);
-        }
+        known.add(self.alloc, read_as, bytes);
     }
 }

@@ -1,5 +1,6 @@
 //! Reading the value for which a piece stands, part by part.
 ghost use Rattle.std.specs.Prelude.{◌≡◌, ◌<◌, ◌≤◌, [], false, Some, length};
+ghost use Rattle.ild_cbor.specs.declared.piece.Piece.TheVariants as P;
 ghost use Rattle.ild_view_entries.specs.Forms.{MapDelims};
 ghost use Rattle.ild_layer_piece.specs.Pieces.{IsNumbered};
 ghost use Rattle.ild_schema.specs.Kinds.{meant};
@@ -10,13 +11,15 @@ ghost use Rattle.ild_union.specs.Forms.{passes_over};
 ghost use Rattle.ild_layer_parts.specs.Ready.{IsInlined};
 ghost use Rattle.ild_open_parts.specs.Fields.{ReadsPart};
 ghost use Rattle.ild_open_parts.specs.Hamts.{ReadsHamt, ReadsListed};
+ghost use Rattle.ild_open_read.specs.Passing.{ReadsRoot};
 ghost use Rattle.ild_open_read.specs.Sound.{AreSound};
 ghost use Rattle.ild_open_read.specs.Parts.{ReadsElements, ReadsFields, ReadsForm, ReadsLeft, ReadsMember, ReadsSlot};
 
 use crate::form::hamt_shape;
+use crate::passing::{next_row, walk_of};
 use crate::reader::Reader;
 use ild_bulk_walker::Row;
-use ild_cbor::Piece;
+use ild_cbor::{Node, Piece};
 use ild_data::{BlockId, HamtShape, KeyHash};
 use ild_edges::Store;
 use ild_layer_piece::{is_null_there, items};
@@ -46,9 +49,9 @@ fn read_list<'b, K: Store, H: KeyHash>(
 ) -> Result<Val, OpenFault>
     requires within { elem.ty.0 < length acc.now }
     requires room { room ≤ 96 }
-    requires sound { AreSound H.hash_of acc.now (K.moment store.old).blocks known.old }
+    requires sound { AreSound H.hash_of acc.now (K.moment store.old) known.old }
     ensures reads { ReadsElements H.hash_of at.0 acc.now room reader.now.keep elem piece.now (K.moment store.old) result (K.moment store.new) }
-    ensures sound { AreSound H.hash_of acc.now (K.moment store.new).blocks known.new }
+    ensures sound { AreSound H.hash_of acc.now (K.moment store.new) known.new }
 {
     let Some(mut left) = items(piece) else {
         return Err(OpenFault::Memory);
@@ -76,9 +79,9 @@ fn read_pairs<'b, K: Store, H: KeyHash>(
 ) -> Result<Val, OpenFault>
     requires within { value.ty.0 < length acc.now }
     requires room { room ≤ 96 }
-    requires sound { AreSound H.hash_of acc.now (K.moment store.old).blocks known.old }
+    requires sound { AreSound H.hash_of acc.now (K.moment store.old) known.old }
     ensures reads { ReadsLeft H.hash_of at.0 acc.now room reader.now.keep value entries.entry (K.moment store.old) result (K.moment store.new) }
-    ensures sound { AreSound H.hash_of acc.now (K.moment store.new).blocks known.new }
+    ensures sound { AreSound H.hash_of acc.now (K.moment store.new) known.new }
 {
     let mut kept = ValPairs::new(reader.alloc);
     let mut left = entries;
@@ -105,9 +108,9 @@ fn read_rows<'r, K: Store, H: KeyHash>(
     requires keyed { key.0 < length acc.now }
     requires within { value.ty.0 < length acc.now }
     requires room { room ≤ 96 }
-    requires sound { AreSound H.hash_of acc.now (K.moment store.old).blocks known.old }
+    requires sound { AreSound H.hash_of acc.now (K.moment store.old) known.old }
     ensures reads { ReadsListed H.hash_of acc.now room reader.now.keep key value rows.now (K.moment store.old) result (K.moment store.new) }
-    ensures sound { AreSound H.hash_of acc.now (K.moment store.new).blocks known.new }
+    ensures sound { AreSound H.hash_of acc.now (K.moment store.new) known.new }
 {
     // It does no work: its clauses say what acceptance says of the table.
     let _types = acc.types();
@@ -123,7 +126,48 @@ fn read_rows<'r, K: Store, H: KeyHash>(
     Ok(Val::Map(pairs))
 }
 
-// Reads the entries of a HAMT. One that was found sound is passed over, unless it is to be kept.
+// Goes over the rows of a root, each read in its block, and keeps none.
+#[cycle(reads)]
+fn pass_rows<'b, K: Store, H: KeyHash>(
+    reader: &Reader<'_, H>,
+    acc: &'b Accepted,
+    key: TypeNo,
+    value: Slot,
+    shape: HamtShape,
+    root: &Node<'b>,
+    room: u32,
+    at: BlockId,
+    known: &mut Known,
+    store: &mut K,
+) -> Result<Val, OpenFault>
+    requires keyed { key.0 < length acc.now }
+    requires within { value.ty.0 < length acc.now }
+    requires room { room ≤ 96 }
+    requires sound { AreSound H.hash_of acc.now (K.moment store.old) known.old }
+    ensures reads { ReadsRoot H.hash_of shape at.0 acc.now room false key value (P.Node root.now) (K.moment store.old) result (K.moment store.new) }
+    ensures sound { AreSound H.hash_of acc.now (K.moment store.new) known.new }
+{
+    // It does no work: its clauses say what acceptance says of the table.
+    let _types = acc.types();
+    let mut walker = walk_of(reader.alloc, shape, root, at)?;
+    while let Some(row) = next_row(&mut walker, reader.keys, store)? {
+        let item = row_item(reader.alloc, acc, key, value, &row, room)?;
+        read_slot(
+            reader,
+            acc,
+            value,
+            &Piece::Node(item),
+            room,
+            row.block,
+            known,
+            store,
+        )?;
+    }
+    Ok(Val::Null)
+}
+
+// Reads the entries of a HAMT: those that are kept in the order of their keys, and else one after another as the walk gives them. One
+// that was found sound is passed over, unless it is to be kept.
 #[cycle(reads)]
 fn read_hamt<'b, K: Store, H: KeyHash>(
     reader: &Reader<'_, H>,
@@ -140,9 +184,9 @@ fn read_hamt<'b, K: Store, H: KeyHash>(
     requires keyed { key.0 < length acc.now }
     requires within { value.ty.0 < length acc.now }
     requires room { room ≤ 96 }
-    requires sound { AreSound H.hash_of acc.now (K.moment store.old).blocks known.old }
+    requires sound { AreSound H.hash_of acc.now (K.moment store.old) known.old }
     ensures reads { ReadsHamt H.hash_of shape at.0 acc.now room reader.now.keep key value piece.now (K.moment store.old) result (K.moment store.new) }
-    ensures sound { AreSound H.hash_of acc.now (K.moment store.new).blocks known.new }
+    ensures sound { AreSound H.hash_of acc.now (K.moment store.new) known.new }
 {
     // It does no work: its clauses say what acceptance says of the table.
     let _types = acc.types();
@@ -158,8 +202,11 @@ fn read_hamt<'b, K: Store, H: KeyHash>(
     if reader.passes(known, read_as, root) {
         return Ok(Val::Null);
     }
-    let rows = hamt_rows(reader.alloc, shape, piece, at, reader.keys, store)?;
-    let val = read_rows(reader, acc, key, value, rows.as_slice(), room, known, store)?;
+    if reader.keep {
+        let rows = hamt_rows(reader.alloc, shape, piece, at, reader.keys, store)?;
+        return read_rows(reader, acc, key, value, rows.as_slice(), room, known, store);
+    }
+    let val = pass_rows(reader, acc, key, value, shape, root, room, at, known, store)?;
     reader.remembers(known, read_as, root);
     Ok(val)
 }
@@ -183,9 +230,9 @@ fn read_map<'b, K: Store, H: KeyHash>(
     requires numbered { IsNumbered acc.now piece.now }
     requires delims { MapDelims form.now }
     requires room { room ≤ 96 }
-    requires sound { AreSound H.hash_of acc.now (K.moment store.old).blocks known.old }
+    requires sound { AreSound H.hash_of acc.now (K.moment store.old) known.old }
     ensures reads { ReadsForm H.hash_of at.0 acc.now room reader.now.keep key value form.now piece.now (K.moment store.old) result (K.moment store.new) }
-    ensures sound { AreSound H.hash_of acc.now (K.moment store.new).blocks known.new }
+    ensures sound { AreSound H.hash_of acc.now (K.moment store.new) known.new }
 {
     // It does no work: its clauses say what acceptance says of the table.
     let _types = acc.types();
@@ -215,9 +262,9 @@ fn read_field<'b, K: Store, H: KeyHash>(
     requires within { field.now.slot.ty.0 < length acc.now }
     requires plain { HasNumber [] part.now }
     requires room { room ≤ 96 }
-    requires sound { AreSound H.hash_of acc.now (K.moment store.old).blocks known.old }
+    requires sound { AreSound H.hash_of acc.now (K.moment store.old) known.old }
     ensures reads { ReadsPart H.hash_of at.0 acc.now room reader.now.keep field.now part.now (K.moment store.old) result (K.moment store.new) }
-    ensures sound { AreSound H.hash_of acc.now (K.moment store.new).blocks known.new }
+    ensures sound { AreSound H.hash_of acc.now (K.moment store.new) known.new }
 {
     // It does no work: its clauses say what acceptance says of the table.
     let _types = acc.types();
@@ -246,9 +293,9 @@ fn read_struct<'b, K: Store, H: KeyHash>(
     requires parts { IsWithin (length acc.now) (D.Struct def.now) }
     requires numbered { IsNumbered acc.now piece.now }
     requires room { room ≤ 96 }
-    requires sound { AreSound H.hash_of acc.now (K.moment store.old).blocks known.old }
+    requires sound { AreSound H.hash_of acc.now (K.moment store.old) known.old }
     ensures reads { ReadsFields H.hash_of at.0 acc.now room reader.now.keep def.now piece.now (K.moment store.old) result (K.moment store.new) }
-    ensures sound { AreSound H.hash_of acc.now (K.moment store.new).blocks known.new }
+    ensures sound { AreSound H.hash_of acc.now (K.moment store.new) known.new }
 {
     // It does no work: its clauses say what acceptance says of the table.
     let _types = acc.types();
@@ -284,9 +331,9 @@ fn read_union<'b, K: Store, H: KeyHash>(
     requires numbered { IsNumbered acc.now piece.now }
     requires plain { passes_over piece.now ≡ false }
     requires room { room ≤ 96 }
-    requires sound { AreSound H.hash_of acc.now (K.moment store.old).blocks known.old }
+    requires sound { AreSound H.hash_of acc.now (K.moment store.old) known.old }
     ensures reads { ReadsMember H.hash_of at.0 acc.now room reader.now.keep def.now piece.now (K.moment store.old) result (K.moment store.new) }
-    ensures sound { AreSound H.hash_of acc.now (K.moment store.new).blocks known.new }
+    ensures sound { AreSound H.hash_of acc.now (K.moment store.new) known.new }
 {
     let Some((number, slot, part)) = member_of(acc, ty, def, piece) else {
         return Err(OpenFault::Memory);
@@ -311,9 +358,9 @@ pub(crate) fn read_slot<'b, K: Store, H: KeyHash>(
     requires numbered { IsNumbered acc.now piece.now }
     requires inlined { IsInlined acc.now slot piece.now }
     requires room { room ≤ 96 }
-    requires sound { AreSound H.hash_of acc.now (K.moment store.old).blocks known.old }
+    requires sound { AreSound H.hash_of acc.now (K.moment store.old) known.old }
     ensures reads { ReadsSlot H.hash_of at.0 acc.now room reader.now.keep slot piece.now (K.moment store.old) result (K.moment store.new) }
-    ensures sound { AreSound H.hash_of acc.now (K.moment store.new).blocks known.new }
+    ensures sound { AreSound H.hash_of acc.now (K.moment store.new) known.new }
 {
     // It does no work: its clauses say what acceptance says of the table.
     let _types = acc.types();

@@ -15,7 +15,7 @@ use ild_schema::{Accepted, Slot, Val};
 use std::alloc::Global;
 
 /// The value of a slot for which a piece stands, which was checked against the slot, in a room. Its nodes are read from a store; the
-/// value is made only where it is to be kept, and else a HAMT that stands more than once is read once.
+/// value is made only where it is to be kept, and else a HAMT is read again only where it stands deeper than where it was read.
 pub fn read<'b, K: Store, H: KeyHash>(
     alloc: Global,
     acc: &'b Accepted,

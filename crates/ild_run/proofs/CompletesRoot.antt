@@ -114,9 +114,9 @@ no_fault c v given calm t (F.Root id why) taken (inr due) =
 -- the JSON is that of this value's shown form
 same_json : (c : Call) (v : Typed) (given : IsGivenRoot c v) (t : Taking) (json : Option (List ℕ)) → AreTaken c.job c.before.supply t → HasRoot c t json → json_text (shown given.rows (plainly given.type) v) ≡ json
 same_json c v given t json taken has =
-    let P : List Row → TypeNo → List ℕ → Type 0 = IsOfTable (λ rows n root. HasShown hash rows n root c.before.moment json) in
+    let P : List Row → TypeNo → List ℕ → Type 0 = IsOfTable (λ rows n root. HasShown hash rows n root c.after.moment json) in
     let it = said P (work_of c.job t) given.rows has.rows given.type has.type given.root has.root (work_opens c v given t taken) has.work (record { table = has.table; holds = has.shown }) in
-    shown_stands hash given.rows (record { table = it.table; accepted = given.compiles.accepted }) given.type given.root v c.before.moment json given.held given.store given.stands it.holds
+    shown_stands hash given.rows (record { table = it.table; accepted = given.compiles.accepted }) given.type given.root v c.after.moment json given.held (has.reads.blocks ∙ given.store) given.stands it.holds
 
 pub shown_by : (c : Call) (v : Typed) (given : IsGivenRoot c v) → LetsShow c → (t : Taking) (status : Status) → AreTaken c.job c.before.supply t → Says c t status → (status ≡ S.Memory) ⊎ ShowsPlainly c given.rows given.type v status
 shown_by c v given calm t S.Done taken (inl all) = absurd (no_answers (work_of c.job t) given.rows given.type given.root all.rows all.type all.start all.bytes (work_opens c v given t taken) all.work)

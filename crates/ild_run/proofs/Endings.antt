@@ -222,9 +222,9 @@ says_reserved c t status has (inr cut) = says_shown c t status (record { json = 
 says_present : (c : Call) (t : Taking) (rows : List Row) (n : TypeNo) (id : List ℕ) (result : Result (List ℕ) ShowFault) (status : Status) → work_of c.job t ≡ opens rows n id → IsTable rows
     → Shows hash rows n id c.before.moment result c.after.moment → ShownTold result c.before.output status c.after.output → Says c t status
 says_present c t rows n id (Ok json) status work table shows told =
-    says_json c t json status (record { rows = rows; table = table; type = n; root = id; work = work; shown = shows.answer; reads = shows.reads }) told
+    says_json c t json status (record { rows = rows; table = table; type = n; root = id; work = work; shown = shows.answer; reads = shows.reads; gets = shows.gets }) told
 says_present c t rows n id (Err W.Reserved) status work table shows told =
-    says_reserved c t status (record { rows = rows; table = table; type = n; root = id; work = work; shown = shows.answer; reads = shows.reads }) told
+    says_reserved c t status (record { rows = rows; table = table; type = n; root = id; work = work; shown = shows.answer; reads = shows.reads; gets = shows.gets }) told
 says_present c t rows n id (Err (W.Block at why)) status work table shows told =
     says_by c t (F.Root at why) status (inr (record { rows = rows; table = table; type = n; root = id; work = work; refused = shows.answer })) (inr (record { rows = rows; type = n; root = id; work = work; reads = shows.reads })) told.told
 says_present c t rows n id (Err W.Store) status work table shows told =

@@ -24,7 +24,7 @@ use Rattle.ild_run_open.specs.declared.start.StartFault.TheVariants as P
 use Rattle.ild_run_script.specs.Scripts.{AnswersAll as ScriptAll, AnswersSome as ScriptSome}
 use Rattle.ild_cbor.specs.declared.why.BlockWhy.{BlockWhy}
 use Rattle.ild_open_parts.specs.Reads.{OnlyReads}
-use Rattle.ild_run_show.specs.Shows.{HasShown, NotOpened}
+use Rattle.ild_run_show.specs.Shows.{GetsItsBlocks, HasShown, NotOpened}
 use Rattle.ild_run.specs.Shown.{hash, reserved}
 use Rattle.ild_compat.specs.declared.rule.Differ.{Differ}
 use Rattle.ild_run_compare.specs.Compared.{IsTold, IsCutOff}
@@ -206,15 +206,17 @@ pub record CreatesSome (c : Call) (t : Taking) : Type 0 where
   pub created : Created hash rows type bytes c.before.moment c.after.moment root.0
   pub written : AppendsFront c.before.output.written c.after.output.written (reply_text (R.Root root))
 
--- A value of the type stands under the root, its shown form has this JSON, or none, and nothing was asked of the store but to get blocks.
+-- A value of the type stands under the root, its shown form has this JSON, or none, and nothing was asked of the store but to get blocks,
+-- no more of them than the value has that stands there in a store that tells what it holds.
 pub record HasRoot (c : Call) (t : Taking) (json : Option (List ℕ)) : Type 0 where
   pub rows : List Row
   pub table : IsTable rows
   pub type : TypeNo
   pub root : List ℕ
   pub work : work_of c.job t ≡ opens rows type root
-  pub shown : HasShown hash rows type root c.before.moment json
+  pub shown : HasShown hash rows type root c.after.moment json
   pub reads : OnlyReads c.before.moment c.after.moment
+  pub gets : GetsItsBlocks hash rows type root c.before.moment c.after.moment
 
 -- the reply that is due on a JSON, or on none
 abbrev pub reply_on : Option (List ℕ) → Reply

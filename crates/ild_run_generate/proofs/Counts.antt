@@ -38,16 +38,16 @@ module _ (back : HeldAreStanding) (d : Doc) (rows : List Row) (table : rows ≡ 
       (subst (λ (t : TypeNo). Stands bare (block_at held) id_of (table_in d) t id v) (sym type)
       (subst (λ (j : List ℕ). Stands bare (block_at held) id_of (table_in d) (type_in d) j v) (sym root) (back id_of d tests m held v told x)))
 
-  pub none_lacks : (f : OpenFault) → Opens (HasValue id_of rows ty id m) id_of rows ty id m (Err f) n → (at : BlockId) (why : BlockWhy) → f ≡ O.Block at why → CountsEntries d m (Err (F.Block at why)) n
+  pub none_lacks : (f : OpenFault) → Opens (HasValue id_of rows ty id n) id_of rows ty id m (Err f) n → (at : BlockId) (why : BlockWhy) → f ≡ O.Block at why → CountsEntries d m (Err (F.Block at why)) n
   none_lacks f opens at why is =
-      let o = subst (λ (g : OpenFault). Opens (HasValue id_of rows ty id m) id_of rows ty id m (Err g) n) is opens in record {
+      let o = subst (λ (g : OpenFault). Opens (HasValue id_of rows ty id n) id_of rows ty id m (Err g) n) is opens in record {
         reads = o.only;
         failed = λ e. absurd cc;
         told = λ tests v x. let t = told_some m.blocks x.at.told in (o.answer.0) t.0 v t.1 (stood tests v x t.0 t.1);
       }
 
 pub counts : HeldAreStanding → OneStands → IsFrame bare → (d : Doc) (first : List Row) → first ≡ table_in d → IsTable first → IsAccepted first → (rows : List Row) → rows ≡ table_in d → (ty : TypeNo) → ty ≡ type_in d
-    → (id : List ℕ) → id ≡ id_of (block_in d) → (m n : Moment) (opened : Doc × Val) → Opens (HasValue id_of rows ty id m) id_of rows ty id m (Ok opened) n → (count : ℕ) → count ≡ count_in (value_of opened.1) → CountsEntries d m (Ok count) n
+    → (id : List ℕ) → id ≡ id_of (block_in d) → (m n : Moment) (opened : Doc × Val) → Opens (HasValue id_of rows ty id n) id_of rows ty id m (Ok opened) n → (count : ℕ) → count ≡ count_in (value_of opened.1) → CountsEntries d m (Ok count) n
 counts back one frame d first first_is is_table accepted rows table ty type id root m n opened opens count is =
     let schema : IsSchema rows = subst (λ (r : List Row). IsSchema r) (first_is ∙ sym table) (record { table = is_table; accepted = accepted }) in record {
       reads = opens.only;
@@ -55,6 +55,6 @@ counts back one frame d first first_is is_table accepted rows table ty type id r
       told = λ tests v x.
           let t = told_some m.blocks x.at.told in
           let same : value_of opened.1 ≡ v =
-          one bare frame (block_at t.0) id_of rows schema ty id (value_of opened.1) v (from_told m.blocks (λ held. StandsInBlock id_of rows ty id held (block_in opened.0) (value_of opened.1)) opens.answer.value t.0 t.1).stands (stood back d rows table ty type id root m n tests v x t.0 t.1) in
+          one bare frame (block_at t.0) id_of rows schema ty id (value_of opened.1) v (from_told n (λ held. StandsInBlock id_of rows ty id held (block_in opened.0) (value_of opened.1)) opens.answer.value t.0 (opens.only.blocks ∙ t.1)).stands (stood back d rows table ty type id root m n tests v x t.0 t.1) in
           is ∙ ap count_in same;
     }

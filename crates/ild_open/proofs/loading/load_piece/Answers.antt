@@ -3,30 +3,25 @@ use Rattle.ild_cbor.specs.declared.piece.Piece.TheVariants as P
 use Rattle.ild_data.specs.Spell.{id_of}
 use Rattle.ild_open_read.specs.Parts.{ReadsSlot}
 use Rattle.ild_open.specs.Item.{LoadsPiece}
-use Rattle.ild_open.proofs.Carrying.{loads_inline, loads_node}
+use Rattle.ild_open.proofs.Carrying.{loads_inline}
 use Rattle.ild_open.proofs.loading.load_piece.Goals as goal
 
 pub returns-in-Node : goal.returns-in-Node
 returns-in-Node g c =
-    let h = g.H.KeyHash.hash_of in
-    let rows = c.args.acc.now in
     let m = g.K.Store.moment c.args.store.now in
-    let n = g.K.Store.moment c.load_in.new.store in
-    let at = c.block_id-at.ensures ∙ ap id_of c.block.ensures in
-    subst (λ p. LoadsPiece h rows c.args.slot p m c.load_in.result n) (sym c.in-Node.is)
-    (loads_node h rows c.args.slot c.in-Node.node m n c.load_in.result (rw c.in-Node.is at c.requires.tree)
-    (subst (λ (a : List ℕ). ReadsSlot h a rows 96 true c.args.slot (P.Node c.in-Node.node) m c.load_in.result n) at (rw c.in-Node.is at c.load_in.ensures)))
+    let n = g.K.Store.moment c.load_node.new.store in
+    subst (λ p. LoadsPiece g.H.KeyHash.hash_of c.args.acc.now c.args.slot p m c.load_node.result n) (sym c.in-Node.is) c.load_node.ensures
 
 pub returns-in-Inline : goal.returns-in-Inline
 returns-in-Inline g c =
     let h = g.H.KeyHash.hash_of in
     let rows = c.args.acc.now in
     let m = g.K.Store.moment c.args.store.now in
-    let n = g.K.Store.moment c.load_in-in-Inline.new.store in
-    let at = c.block_id-at-in-Inline.ensures ∙ ap id_of c.block-in-Inline.ensures in
-    subst (λ p. LoadsPiece h rows c.args.slot p m c.load_in-in-Inline.result n) (sym c.in-Inline.is)
-    (loads_inline h rows c.args.slot c.in-Inline.node c.in-Inline.field-1 m n c.load_in-in-Inline.result (rw c.in-Inline.is at c.requires.tree)
-    (subst (λ (a : List ℕ). ReadsSlot h a rows 96 true c.args.slot (P.Inline c.in-Inline.node c.in-Inline.field-1) m c.load_in-in-Inline.result n) at (rw c.in-Inline.is at c.load_in-in-Inline.ensures)))
+    let n = g.K.Store.moment c.load_in.new.store in
+    let at = c.block_id-at.ensures ∙ ap id_of c.block.ensures in
+    subst (λ p. LoadsPiece h rows c.args.slot p m c.load_in.result n) (sym c.in-Inline.is)
+    (loads_inline h rows c.args.slot c.in-Inline.node c.in-Inline.field-1 m n c.load_in.result (rw c.in-Inline.is at c.requires.tree)
+    (subst (λ (a : List ℕ). ReadsSlot h a rows 96 true c.args.slot (P.Inline c.in-Inline.node c.in-Inline.field-1) m c.load_in.result n) at (rw c.in-Inline.is at c.load_in.ensures)))
 
 pub returns-in-Text : goal.returns-in-Text
 returns-in-Text g c =

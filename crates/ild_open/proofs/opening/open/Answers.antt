@@ -13,7 +13,7 @@ returns-in-Err g c =
     let rows = c.args.acc.now in
     let m = g.K.Store.moment c.args.store.now in
     open_stops rows (record { table = c.types-types.ensures.table; accepted = c.types-types.ensures.accepted }) h c.args.ty c.args.id.now.0 c.types-types.ensures.legible
-    (HasKept h rows c.args.ty c.args.id.now.0 m c.args.keep) m (g.K.Store.moment c.find.new.store) c.in-Err.fault c.in-Err.ensures
+    (HasKept h rows c.args.ty c.args.id.now.0 (g.K.Store.moment c.find.new.store) c.args.keep) m (g.K.Store.moment c.find.new.store) c.in-Err.fault c.in-Err.ensures
 
 pub read_root-requires-clause-faultless : goal.read_root-requires-clause-faultless
 read_root-requires-clause-faultless g c =
@@ -38,5 +38,5 @@ returns g c =
     let k = g.K.Store.moment c.find.new.store in
     let n = g.K.Store.moment c.read_root.new.store in
     open_breaks rows (record { table = c.types-types.ensures.table; accepted = c.types-types.ensures.accepted }) h c.args.ty c.args.id.now.0 m k n c.in-Ok.doc c.in-Ok.ensures c.args.keep
-    (HasKept h rows c.args.ty c.args.id.now.0 m c.args.keep) c.in-Err-read_root.fault
+    (HasKept h rows c.args.ty c.args.id.now.0 n c.args.keep) c.in-Err-read_root.fault
     (subst (λ (b : List ℕ). ReadsRoot h rows c.args.ty c.args.id.now.0 b c.args.keep k (Err c.in-Err-read_root.fault) n) c.block-block.ensures c.in-Err-read_root.ensures)

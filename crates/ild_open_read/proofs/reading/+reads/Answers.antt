@@ -32,7 +32,10 @@ use Rattle.ild_open_parts.proofs.Membering.{got}
 use Rattle.ild_open_parts.proofs.Making.{form_is}
 use Rattle.ild_open_read.proofs.Pairing.{Pairing, pairing_begins, pairing_ends, pairing_goes, pairing_stops, pairing_wants}
 use Rattle.ild_open_parts.proofs.Hamting.{hamt_stops}
-use Rattle.ild_open_read.proofs.Knowing.{hamt_reads, passed, remembered, still_sound}
+use Rattle.ild_bulk_walker.proofs.Ending.{none-of}
+use Rattle.ild_cbor.specs.declared.piece.Piece.TheVariants as P
+use Rattle.ild_open_read.proofs.Knowing.{hamt_reads, known_still, passed, remembered, still_sound}
+use Rattle.ild_open_read.proofs.Passed.{next_only, root_begins, root_ends, root_fails, root_goes, root_refused, root_stops, root_wants, root_whole}
 use Rattle.ild_open_read.proofs.Rowing.{Rowing, none_left, rowing_begins, rowing_ends, rowing_goes, rowing_refused, rowing_stops, rowing_wants}
 use Rattle.ild_schema.specs.Value.{pairs_list}
 use Rattle.ild_schema.specs.ValueSeen.{value_of}
@@ -159,26 +162,91 @@ read_hamt-read_rows-requires g t c = λ κs le.
     let sound = still_sound g.H.KeyHash.hash_of c.args.shape c.args.at.0 c.args.acc.now c.args.piece.now c.in-Node.root (g.K.Store.moment c.args.store.now) (g.K.Store.moment c.hamt_rows.new.store) c.hamt_rows.result c.args.known.now c.in-Node.is c.hamt_rows.ensures c.requires.sound in
     (omega arith, (le.0, (le.1, (c.requires.keyed, (c.requires.within, (c.requires.room, sound))))))
 
+pub read_hamt-returns-then-reader-clause-reads : goal.read_hamt-returns-then-reader-clause-reads
+read_hamt-returns-then-reader-clause-reads g t c =
+    let schema : IsSchema c.args.acc.now = record { table = c.types-types.ensures.table; accepted = c.types-types.ensures.accepted } in
+    hamt_reads g.H.KeyHash.hash_of c.args.shape c.args.at.0 c.args.acc.now schema c.types-types.ensures.legible c.args.room c.args.reader.now.keep c.args.key c.args.value c.args.piece.now c.in_ok-rows.rows c.as_slice.result.now (g.K.Store.moment c.args.store.now) (g.K.Store.moment c.hamt_rows.new.store) (g.K.Store.moment c.read_rows.new.store)
+    c.read_rows.result c.as_slice.ensures.value c.in_ok-rows.ensures c.read_rows.ensures.reads
+
 pub read_hamt-returns-in_err-val-clause-reads : goal.read_hamt-returns-in_err-val-clause-reads
 read_hamt-returns-in_err-val-clause-reads g t c = λ s d key_at place whole stands is sum le front.
-    let schema : IsSchema c.args.acc.now = record { table = c.types-types.ensures.table; accepted = c.types-types.ensures.accepted } in
     let p = err_from_is_err_and c.from_residual-in_err-val.result c.from_residual-in_err-val.ensures.1 in
-    rw (p.1, p.2) (hamt_reads g.H.KeyHash.hash_of c.args.shape c.args.at.0 c.args.acc.now schema c.types-types.ensures.legible c.args.room c.args.reader.now.keep c.args.key c.args.value c.args.piece.now c.in_ok-rows.rows c.as_slice.result.now (g.K.Store.moment c.args.store.now) (g.K.Store.moment c.hamt_rows.new.store) (g.K.Store.moment c.read_rows.new.store)
-    (Err c.in_err-val.field-0.0) c.as_slice.ensures.value c.in_ok-rows.ensures c.in_err-val.ensures.reads s d key_at place whole stands is sum le front)
+    rw (p.1, p.2) (root_whole g.H.KeyHash.hash_of c.args.shape c.args.at.0 c.args.acc.now c.args.room c.args.key c.args.value c.in-Node.root c.args.reader.now.keep c.args.piece.now _ _ (Err c.in_err-val.field-0.0) c.if-reader.false c.in-Node.is c.in_err-val.ensures.reads s d key_at place whole stands is sum le front)
 
 pub read_hamt-returns-clause-reads : goal.read_hamt-returns-clause-reads
 read_hamt-returns-clause-reads g t c =
-    let schema : IsSchema c.args.acc.now = record { table = c.types-types.ensures.table; accepted = c.types-types.ensures.accepted } in
-    hamt_reads g.H.KeyHash.hash_of c.args.shape c.args.at.0 c.args.acc.now schema c.types-types.ensures.legible c.args.room c.args.reader.now.keep c.args.key c.args.value c.args.piece.now c.in_ok-rows.rows c.as_slice.result.now (g.K.Store.moment c.args.store.now) (g.K.Store.moment c.hamt_rows.new.store) (g.K.Store.moment c.read_rows.new.store)
-    (Ok c.in_ok-val.val) c.as_slice.ensures.value c.in_ok-rows.ensures c.in_ok-val.ensures.reads
+    root_whole g.H.KeyHash.hash_of c.args.shape c.args.at.0 c.args.acc.now c.args.room c.args.key c.args.value c.in-Node.root c.args.reader.now.keep c.args.piece.now _ _ (Ok c.in_ok-val.val) c.if-reader.false c.in-Node.is c.in_ok-val.ensures.reads
 
 pub read_hamt-returns-clause-sound : goal.read_hamt-returns-clause-sound
 read_hamt-returns-clause-sound g t c =
+    remembered g.H.KeyHash.hash_of c.args.acc.now (record { key = c.args.key; value = c.args.value; shape = c.args.shape; room = c.args.room }) c.in-Node.root c.args.at.0 false (g.K.Store.moment c.args.store.now) (g.K.Store.moment c.pass_rows.new.store) c.in_ok-val.val c.pass_rows.new.known c.remembers.new.known (P.Node c.in-Node.root)
+    refl c.in_ok-val.ensures.sound c.remembers.ensures c.in_ok-val.ensures.reads
+
+pub pass_rows-returns-in_err-walker-clause-reads : goal.pass_rows-returns-in_err-walker-clause-reads
+pass_rows-returns-in_err-walker-clause-reads g t c = λ s d key_at place whole stands is sum le some.
+    let p = err_from_is_err_and c.from_residual.result c.from_residual.ensures.1 in
+    rw (p.1, p.2) (root_wants g.H.KeyHash.hash_of c.args.shape c.args.at.0 c.args.acc.now c.args.room c.args.key c.args.value c.args.root.now _ c.in_err-walker.field-0.0 c.in_err-walker.ensures.err s d key_at place whole stands is sum le some)
+
+pub pass_rows-loop-walker-init : goal.pass_rows-loop-walker-init
+pass_rows-loop-walker-init g t c = (
+  root_begins g.H.KeyHash.hash_of c.args.shape c.args.at.0 c.args.acc.now c.args.room c.args.key c.args.value c.args.root.now (g.K.Store.moment c.args.store.now) c.in_ok-walker.walker (λ d stands. c.in_ok-walker.ensures.walk d stands),
+  c.requires.sound,
+)
+
+pub pass_rows-returns-in_err-row-clause-reads : goal.pass_rows-returns-in_err-row-clause-reads
+pass_rows-returns-in_err-row-clause-reads g t c = λ s d key_at place whole stands is sum le some.
     let schema : IsSchema c.args.acc.now = record { table = c.types-types.ensures.table; accepted = c.types-types.ensures.accepted } in
-    remembered g.H.KeyHash.hash_of c.args.acc.now (record { key = c.args.key; value = c.args.value; shape = c.args.shape; room = c.args.room }) c.in-Node.root c.args.at.0 c.args.reader.now.keep (g.K.Store.moment c.args.store.now) (g.K.Store.moment c.read_rows.new.store) c.in_ok-val.val c.read_rows.new.known c.remembers.new.known c.args.piece.now
-    c.in-Node.is c.in_ok-val.ensures.sound c.remembers.ensures
-    (hamt_reads g.H.KeyHash.hash_of c.args.shape c.args.at.0 c.args.acc.now schema c.types-types.ensures.legible c.args.room c.args.reader.now.keep c.args.key c.args.value c.args.piece.now c.in_ok-rows.rows c.as_slice.result.now (g.K.Store.moment c.args.store.now) (g.K.Store.moment c.hamt_rows.new.store) (g.K.Store.moment c.read_rows.new.store)
-    (Ok c.in_ok-val.val) c.as_slice.ensures.value c.in_ok-rows.ensures c.in_ok-val.ensures.reads)
+    let p = err_from_is_err_and c.from_residual-in_err-row.result c.from_residual-in_err-row.ensures.1 in
+    rw (p.1, p.2) (root_stops g.H.KeyHash.hash_of c.args.shape c.args.at.0 c.args.acc.now c.args.room c.args.key c.args.value c.args.root.now _ _ c.loop-walker.walker c.loop-walker.invariant.0 c.next_row.new.walker _ schema c.in_err-row.field-0.0 c.in_err-row.ensures.nexts s d key_at place whole stands is sum le some)
+
+pub pass_rows-returns-in_err-row-clause-sound : goal.pass_rows-returns-in_err-row-clause-sound
+pass_rows-returns-in_err-row-clause-sound g t c =
+    known_still g.H.KeyHash.hash_of c.args.acc.now _ _ c.loop-walker.known (next_only g.H.KeyHash.hash_of _ _ c.loop-walker.walker c.next_row.new.walker _ c.next_row.result c.next_row.ensures.nexts) c.loop-walker.invariant.1
+
+pub pass_rows-returns-in_err-item-clause-reads : goal.pass_rows-returns-in_err-item-clause-reads
+pass_rows-returns-in_err-item-clause-reads g t c = λ s d key_at place whole stands is sum le some.
+    let schema : IsSchema c.args.acc.now = record { table = c.types-types.ensures.table; accepted = c.types-types.ensures.accepted } in
+    let p = err_from_is_err_and c.from_residual-in_err-item.result c.from_residual-in_err-item.ensures.1 in
+    rw (p.1, p.2) (root_refused g.H.KeyHash.hash_of c.args.shape c.args.at.0 c.args.acc.now c.args.room c.args.key c.args.value c.args.root.now _ _ c.loop-walker.walker c.loop-walker.invariant.0 c.next_row.new.walker _ schema c.in-Some.row (rw c.in-Some.is at c.in_ok-row.ensures.nexts) c.types-types.ensures.legible
+    c.in_err-item.field-0.0 c.in_err-item.ensures s d key_at place whole stands is sum le some)
+
+pub pass_rows-returns-in_err-item-clause-sound : goal.pass_rows-returns-in_err-item-clause-sound
+pass_rows-returns-in_err-item-clause-sound g t c =
+    known_still g.H.KeyHash.hash_of c.args.acc.now _ _ c.loop-walker.known (next_only g.H.KeyHash.hash_of _ _ c.loop-walker.walker c.next_row.new.walker _ c.next_row.result c.next_row.ensures.nexts) c.loop-walker.invariant.1
+
+pub pass_rows-read_slot-requires : goal.pass_rows-read_slot-requires
+pass_rows-read_slot-requires g t c = λ κs le.
+    let sound = known_still g.H.KeyHash.hash_of c.args.acc.now _ _ c.loop-walker.known (next_only g.H.KeyHash.hash_of _ _ c.loop-walker.walker c.next_row.new.walker _ c.next_row.result c.next_row.ensures.nexts) c.loop-walker.invariant.1 in
+    (omega arith, (le.0, (le.1, (c.requires.within, (tt, (λ no. absurd cc, (c.requires.room, sound)))))))
+
+pub pass_rows-returns-in_err-read_slot-clause-reads : goal.pass_rows-returns-in_err-read_slot-clause-reads
+pass_rows-returns-in_err-read_slot-clause-reads g t c = λ s d key_at place whole stands is sum le some.
+    let schema : IsSchema c.args.acc.now = record { table = c.types-types.ensures.table; accepted = c.types-types.ensures.accepted } in
+    let y = c.in_ok-item.ensures in
+    let p = err_from_is_err_and c.from_residual-in_err-read_slot.result c.from_residual-in_err-read_slot.ensures.1 in
+    rw (p.1, p.2) (root_fails g.H.KeyHash.hash_of c.args.shape c.args.at.0 c.args.acc.now c.args.room c.args.key c.args.value c.args.root.now _ _ c.loop-walker.walker c.loop-walker.invariant.0 c.next_row.new.walker _ schema c.in-Some.row (rw c.in-Some.is at c.in_ok-row.ensures.nexts) c.args.reader.now.keep c.in_ok-item.item
+    y _ c.in_err-read_slot.field-0.0 (c.in_err-read_slot.ensures.reads y.tree y.stands y.front) s d key_at place whole stands is sum le some)
+
+pub pass_rows-loop-walker-preserved : goal.pass_rows-loop-walker-preserved
+pass_rows-loop-walker-preserved g t c = (
+  let y = c.in_ok-item.ensures in
+      root_goes g.H.KeyHash.hash_of c.args.shape c.args.at.0 c.args.acc.now c.args.room c.args.key c.args.value c.args.root.now _ _ c.loop-walker.walker c.loop-walker.invariant.0 c.next_row.new.walker _ c.in-Some.row (rw c.in-Some.is at c.in_ok-row.ensures.nexts) c.args.reader.now.keep c.in_ok-item.item y _ c.next_row.ensures.shape
+      c.in_ok-read_slot.field-0 (c.in_ok-read_slot.ensures.reads y.tree y.stands y.front),
+  c.in_ok-read_slot.ensures.sound,
+)
+
+pub pass_rows-loop-walker-smaller : goal.pass_rows-loop-walker-smaller
+pass_rows-loop-walker-smaller g t c = let next = rw c.in-Some.is at c.in_ok-row.ensures.nexts in let more = next.counts.0 in let most = next.counts.1 in omega arith
+
+pub pass_rows-returns-clause-reads : goal.pass_rows-returns-clause-reads
+pass_rows-returns-clause-reads g t c =
+    let schema : IsSchema c.args.acc.now = record { table = c.types-types.ensures.table; accepted = c.types-types.ensures.accepted } in
+    let none = none-of c.in_ok-row.field-0 c.in_default.not-Some in
+    root_ends g.H.KeyHash.hash_of c.args.shape c.args.at.0 c.args.acc.now c.args.room c.args.key c.args.value c.args.root.now _ _ c.loop-walker.walker c.loop-walker.invariant.0 c.next_row.new.walker _ schema (rw none at c.in_ok-row.ensures.nexts) W.Null
+
+pub pass_rows-returns-clause-sound : goal.pass_rows-returns-clause-sound
+pass_rows-returns-clause-sound g t c =
+    known_still g.H.KeyHash.hash_of c.args.acc.now _ _ c.loop-walker.known (next_only g.H.KeyHash.hash_of _ _ c.loop-walker.walker c.next_row.new.walker _ c.next_row.result c.next_row.ensures.nexts) c.loop-walker.invariant.1
 
 pub read_rows-loop-row-init : goal.read_rows-loop-row-init
 read_rows-loop-row-init g t c = (

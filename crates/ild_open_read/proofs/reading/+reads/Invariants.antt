@@ -1,4 +1,4 @@
-use Rattle.std.proofs.Common.{List, ℕ, ◌≡◌, ◌+◌, ◌*◌, Option, Some, length}
+use Rattle.std.proofs.Common.{List, ℕ, ◌≡◌, ◌+◌, ◌-◌, ◌*◌, ◌^◌, Option, Some, length}
 use Rattle.std.specs.List.{AllByRecursion}
 use Rattle.ild_data.specs.Data as T
 use Rattle.ild_data.specs.Data.{Data}
@@ -13,6 +13,7 @@ use Rattle.ild_open_read.proofs.Fielding.{Fielding}
 use Rattle.ild_open_read.proofs.Listing.{Listing}
 use Rattle.ild_open_read.proofs.Pairing.{Pairing}
 use Rattle.ild_open_read.proofs.Rowing.{Rowing}
+use Rattle.ild_open_read.proofs.Passed.{PassesRoot}
 use Rattle.ild_open_read.specs.Sound.{AreSound}
 use Rattle.ild_open_read.proofs.reading.+reads.Given as goal
 
@@ -27,7 +28,7 @@ invariant-read_list-loop-item g l =
     (goal.iterator-read_list-loop-item g).can_next l.left ×
     (goal.iterator-read_list-loop-item g).is_finite l.left ×
     ((ds : List Data) → StandsFor l.acc l.piece (T.list (T.items_of ds)) → AllByRecursion (HasFront l.acc l.room) (element_parts l.elem ds)
-    → Listing g.H.KeyHash.hash_of l.at.0 l.acc l.room l.reader.keep l.elem ds l.left l.vals (g.K.Store.moment l.initial.store) (g.K.Store.moment l.store)) × AreSound g.H.KeyHash.hash_of l.acc (g.K.Store.moment l.store).blocks l.known
+    → Listing g.H.KeyHash.hash_of l.at.0 l.acc l.room l.reader.keep l.elem ds l.left l.vals (g.K.Store.moment l.initial.store) (g.K.Store.moment l.store)) × AreSound g.H.KeyHash.hash_of l.acc (g.K.Store.moment l.store) l.known
 
 abbrev pub decreases-read_field : goal.decreases-read_field
 decreases-read_field g l = 4 * l.room + 1
@@ -41,7 +42,7 @@ decreases-read_union g l = 4 * l.room + 1
 abbrev pub invariant-read_struct-loop-i : goal.invariant-read_struct-loop-i
 invariant-read_struct-loop-i g l =
     ((t : Data) (os : List (Option Data)) → StandsFor l.acc l.piece t → composed alone (D.Struct l.def) (L.struct os) ≡ Some t → AllByRecursion (HasFront l.acc l.room) (field_parts l.def.fields os)
-    → Fielding g.H.KeyHash.hash_of l.at.0 l.acc l.room l.reader.keep l.def.fields os l.i l.fields (g.K.Store.moment l.initial.store) (g.K.Store.moment l.store)) × AreSound g.H.KeyHash.hash_of l.acc (g.K.Store.moment l.store).blocks l.known
+    → Fielding g.H.KeyHash.hash_of l.at.0 l.acc l.room l.reader.keep l.def.fields os l.i l.fields (g.K.Store.moment l.initial.store) (g.K.Store.moment l.store)) × AreSound g.H.KeyHash.hash_of l.acc (g.K.Store.moment l.store) l.known
 
 abbrev pub decreases-read_rows : goal.decreases-read_rows
 decreases-read_rows g l = 4 * l.room + 1
@@ -51,10 +52,20 @@ decreases-read_hamt g l = 4 * l.room + 2
 
 abbrev pub invariant-read_rows-loop-row : goal.invariant-read_rows-loop-row
 invariant-read_rows-loop-row g l =
-    Rowing g.H.KeyHash.hash_of l.acc l.room l.reader.keep l.key l.value l.rows l.left l.pairs (g.K.Store.moment l.initial.store) (g.K.Store.moment l.store) × AreSound g.H.KeyHash.hash_of l.acc (g.K.Store.moment l.store).blocks l.known
+    Rowing g.H.KeyHash.hash_of l.acc l.room l.reader.keep l.key l.value l.rows l.left l.pairs (g.K.Store.moment l.initial.store) (g.K.Store.moment l.store) × AreSound g.H.KeyHash.hash_of l.acc (g.K.Store.moment l.store) l.known
 
 abbrev pub decreases-read_rows-loop-row : goal.decreases-read_rows-loop-row
 decreases-read_rows-loop-row g l = length l.left
+
+abbrev pub decreases-pass_rows : goal.decreases-pass_rows
+decreases-pass_rows g l = 4 * l.room + 1
+
+abbrev pub invariant-pass_rows-loop-walker : goal.invariant-pass_rows-loop-walker
+invariant-pass_rows-loop-walker g l =
+    PassesRoot g.H.KeyHash.hash_of l.fn.shape l.fn.at.0 l.acc l.room l.key l.value l.fn.root (g.K.Store.moment l.initial.store) l.walker (g.K.Store.moment l.store) × AreSound g.H.KeyHash.hash_of l.acc (g.K.Store.moment l.store) l.known
+
+abbrev pub decreases-pass_rows-loop-walker : goal.decreases-pass_rows-loop-walker
+decreases-pass_rows-loop-walker g l = 2 ^ 64 - l.walker.given
 
 abbrev pub decreases-read_pairs : goal.decreases-read_pairs
 decreases-read_pairs g l = 4 * l.room + 1
@@ -62,7 +73,7 @@ decreases-read_pairs g l = 4 * l.room + 1
 abbrev pub invariant-read_pairs-loop-key : goal.invariant-read_pairs-loop-key
 invariant-read_pairs-loop-key g l =
     ((es : List (List ℕ × Data)) → AreLeft l.entries es → AllByRecursion (HasFront l.acc l.room) (entry_parts l.value es)
-    → Pairing g.H.KeyHash.hash_of l.at.0 l.acc l.room l.reader.keep l.value es l.left l.kept (g.K.Store.moment l.initial.store) (g.K.Store.moment l.store)) × AreSound g.H.KeyHash.hash_of l.acc (g.K.Store.moment l.store).blocks l.known
+    → Pairing g.H.KeyHash.hash_of l.at.0 l.acc l.room l.reader.keep l.value es l.left l.kept (g.K.Store.moment l.initial.store) (g.K.Store.moment l.store)) × AreSound g.H.KeyHash.hash_of l.acc (g.K.Store.moment l.store) l.known
 
 abbrev pub decreases-read_pairs-loop-key : goal.decreases-read_pairs-loop-key
 decreases-read_pairs-loop-key g l = most_left l.left

@@ -8,7 +8,7 @@ returns-in-Ok-text_of g c =
     let opened = c.in-Ok.ensures in
     let val = value_of c.in-Ok.opened.1 in
     record {
-      answer = has_shown g.H.KeyHash.hash_of c.args.acc.now c.args.ty c.args.id.now.0 (g.K.Store.moment c.args.store.now) val (Some c.in-Ok-text_of.text) (is_opened g.H.KeyHash.hash_of c.args.acc.now c.args.ty c.args.id.now.0 (g.K.Store.moment c.args.store.now) _ val opened.answer.value) c.in-Ok-text_of.ensures.ok;
+      answer = has_shown g.H.KeyHash.hash_of c.args.acc.now c.args.ty c.args.id.now.0 (g.K.Store.moment c.open_value.new.store) val (Some c.in-Ok-text_of.text) (is_opened g.H.KeyHash.hash_of c.args.acc.now c.args.ty c.args.id.now.0 (g.K.Store.moment c.open_value.new.store) _ val opened.answer.value) c.in-Ok-text_of.ensures.ok;
       reads = opened.only;
       gets = opened.gets;
     }
@@ -18,7 +18,7 @@ returns-in-Err-Reserved g c =
     let opened = c.in-Ok.ensures in
     let val = value_of c.in-Ok.opened.1 in
     record {
-      answer = has_shown g.H.KeyHash.hash_of c.args.acc.now c.args.ty c.args.id.now.0 (g.K.Store.moment c.args.store.now) val None (is_opened g.H.KeyHash.hash_of c.args.acc.now c.args.ty c.args.id.now.0 (g.K.Store.moment c.args.store.now) _ val opened.answer.value) (c.in-Err-Reserved.ensures.err c.in-Err-Reserved.field-0-is);
+      answer = has_shown g.H.KeyHash.hash_of c.args.acc.now c.args.ty c.args.id.now.0 (g.K.Store.moment c.open_value.new.store) val None (is_opened g.H.KeyHash.hash_of c.args.acc.now c.args.ty c.args.id.now.0 (g.K.Store.moment c.open_value.new.store) _ val opened.answer.value) (c.in-Err-Reserved.ensures.err c.in-Err-Reserved.field-0-is);
       reads = opened.only;
       gets = opened.gets;
     }
