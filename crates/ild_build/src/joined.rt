@@ -1,5 +1,5 @@
 //! Delimiters that stand elsewhere than at the joints of a text, and the text of a value in text form.
-ghost use Rattle.std.specs.Prelude.{◌≡◌, ◌<◌, IfOk, List, ℕ, Some, false, length};
+ghost use Rattle.std.specs.Prelude.{◌≡◌, ◌<◌, IfOk, List, ℕ, Some, false, length, option_map, string_bytes};
 ghost use Rattle.ild_data.specs.Data.{text};
 ghost use Rattle.ild_schema.specs.Made.{IsTextSlot};
 ghost use Rattle.ild_schema.specs.ValueSeen.{value_of};
@@ -7,7 +7,7 @@ ghost use Rattle.ild_typed.specs.Hamt.{whole};
 ghost use Rattle.ild_typed.specs.Judged.{breaks_delimiter, has_hole};
 ghost use Rattle.ild_typed.specs.Represented.{represented};
 ghost use Rattle.ild_typed.specs.Typed.{Typed};
-ghost use Rattle.ild_build.specs.TextRep.{is_text_layer};
+ghost use Rattle.ild_build.specs.TextRep.{is_text_layer, text_rep};
 
 use crate::form::form_of;
 use crate::leaf::has_leaves;
@@ -79,4 +79,22 @@ pub fn text_of(alloc: Global, acc: &Accepted, slot: Slot, val: &Val) -> Result<T
     let mut out = String::new(alloc);
     add_text(acc, slot, val, &mut out)?;
     Ok(Txt::from_string(out))
+}
+
+/// The text that represents a value, where there is one.
+pub fn represented_text(
+    alloc: Global,
+    acc: &Accepted,
+    slot: Slot,
+    val: &Val,
+) -> Result<Option<String>, AllocError>
+    requires { slot.ty.0 < length acc.now }
+    ensures { IfOk result (λ made. option_map string_bytes made ≡ text_rep acc.now slot (value_of val.now)) }
+{
+    let mut out = String::new(alloc);
+    if add_text(acc, slot, val, &mut out)? {
+        Ok(Some(out))
+    } else {
+        Ok(None)
+    }
 }

@@ -13,8 +13,7 @@ mod room;
 mod text;
 
 pub use form::form_of;
-pub use joined::text_of;
+pub use joined::{represented_text, text_of};
 pub use judgement::{Judged, judge};
 pub use left_out::{is_left_out, text_of_field};
 pub use parts::field_at;
-pub use text::add_text;

@@ -61,7 +61,12 @@ fn add_between(out: &mut String, delim: &str, count: usize) -> Result<(), AllocE
 /// Appends the text that represents the value, and answers whether there is one. Where there is none, or memory is wanting, a
 /// front of some text may have been appended.
 #[cycle(text)]
-pub fn add_text(acc: &Accepted, slot: Slot, val: &Val, out: &mut String) -> Result<bool, AllocError>
+pub(crate) fn add_text(
+    acc: &Accepted,
+    slot: Slot,
+    val: &Val,
+    out: &mut String,
+) -> Result<bool, AllocError>
     requires { slot.ty.0 < length acc.now }
     ensures { IfOk result (λ done. TextAnswer (text_rep acc.now slot (value_of val.now)) (string_bytes out.old) (string_bytes out.new) done) }
 {

@@ -12,7 +12,7 @@ ghost use Rattle.ild_build_leaf.specs.Made.{before_key, entries_major, IsLeaf, m
 ghost use Rattle.ild_build_leaf.specs.Wrote.{Wrote};
 
 use crate::decimal::decimal_of;
-use ild_build::{add_text, form_of};
+use ild_build::{form_of, represented_text};
 use ild_data::Int;
 use ild_emit::Emit;
 use ild_schema::{Accepted, EnumForm, EnumMember, Slot, TypeDef, UnitForm, Val};
@@ -128,11 +128,9 @@ pub fn add_as_text(
     ensures ok { OnOk result (Wrote (option_map spell_text (text_rep acc.now slot (value_of val.now))) out.old out.new) }
     ensures err { OnErr result (out.new ≡ out.old) }
 {
-    let mut text = String::new(alloc);
-    if add_text(acc, slot, val, &mut text)? {
-        out.text(text.as_str())
-    } else {
-        Ok(())
+    match represented_text(alloc, acc, slot, val)? {
+        Some(text) => out.text(text.as_str()),
+        None => Ok(()),
     }
 }
 
