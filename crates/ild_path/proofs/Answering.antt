@@ -1,5 +1,5 @@
 -- The answer of an edit through HAMTs as that of an edit at a place.
-use Rattle.std.proofs.Common.{◌≡◌, ◌⊎◌, inl, inr, ⊎_elim, ℕ, suc, ◌≤◌, ◌<◌, Bool, true, List, [], ◌∷◌, length, Option, Some, None, refl, sym, ap, ◌∙◌, subst, arith, append-nil}
+use Rattle.std.proofs.Common.{◌≡◌, ◌⊎◌, inl, inr, ⊎_elim, ℕ, ◌≤◌, ◌<◌, Bool, true, List, ◌∷◌, length, Option, Some, None, sym, ap, ◌∙◌, subst, append-nil}
 use Rattle.std.specs.Prelude.{Contains, IfOk, Result, Ok, Err}
 use Rattle.std.specs.List.{AllByRecursion}
 use Rattle.std.proofs.lemmas.Bool.{ltb-true}
@@ -10,7 +10,6 @@ use Rattle.ild_data.specs.Limits.{deepest, longest_block}
 use Rattle.ild_data.specs.Spell.{id_of, spell}
 use Rattle.ild_edges.specs.Store.{Keeps, Moment, block_at}
 use Rattle.ild_edges.specs.Told.{BothTold, IfTold}
-use Rattle.ild_edges.proofs.Later.{Later-refl}
 use Rattle.ild_bulk.specs.Build.{any_long}
 use Rattle.ild_edges.specs.Among.{IsIn}
 use Rattle.ild_edges.proofs.Among.{IsIn-contains}
@@ -29,7 +28,6 @@ use Rattle.ild_path.specs.Pieces.{AnswersAs}
 use Rattle.ild_path.proofs.Coming.{came_whole, in_short}
 use Rattle.ild_path.specs.Replaces.{ReplaceAnswer, Replaces, Spares}
 use Rattle.ild_path.specs.declared.fault.EditFault.{EditFault}
-use Rattle.ild_path.specs.declared.fault.EditFault.TheVariants as F
 use Rattle.ild_schema.specs.Slots.{plainly}
 use Rattle.ild_schema.specs.Value.{Value}
 use Rattle.ild_schema.specs.declared.number.TypeNo.{TypeNo}
@@ -47,9 +45,6 @@ use Rattle.ild_typed.proofs.Rooms.{all_more}
 use Rattle.ild_typed_places.specs.Places.{children_in}
 
 -- ---- over every store
-
-pub spares_none : (m : Moment) → Spares m (Err F.Memory) m
-spares_none m = record { cause = tt; later = Later-refl m; gets = refl }
 
 pub spares_of : (m k : Moment) (a : Result (List ℕ) HamtFault) (r : Result (List ℕ) EditFault) → k.gets ≡ m.gets → CausedBy m a k → AnswersAs a r → Spares m r k
 spares_of m k (Ok b) r gets x is = subst (λ y. Spares m y k) (sym is) (record { cause = tt; later = x.later; gets = gets })
@@ -133,9 +128,9 @@ module _ (h : List ℕ → List ℕ) (rows : List Row) (n : TypeNo) (c : Value) 
       (record {
         kept = kept;
         new = new;
-        held = if_map k.blocks (λ held. block_at held id.0 ≡ Some kept) (λ held. (block_at held (id_of kept) ≡ Some kept) × Unit {0}) (λ held y. (ap (block_at held) x.1 ∙ y, tt)) x.4;
-        among = in_short Blocks new (in_blocks new x.0) x.5;
-        collide = record { kept_bytes = is.1; new_bytes = is.2; differ = x.3; one_id = x.1 ∙ sym x.2 };
+        held = if_map k.blocks (λ held. block_at held id.0 ≡ Some kept) (λ held. (block_at held (id_of kept) ≡ Some kept) × Unit {0}) (λ held y. (ap (block_at held) x.2.0 ∙ y, tt)) x.2.3;
+        among = in_short Blocks new (in_blocks new x.0) x.1;
+        collide = record { kept_bytes = is.1; new_bytes = is.2; differ = x.2.2; one_id = x.2.0 ∙ sym x.2.1 };
       })
   answer_is keeps (Err H.Memory) r x is = subst Answers (sym is) tt
   answer_is keeps (Err H.Exhausted) r x is = absurd x

@@ -1,5 +1,5 @@
 -- The pieces of a place.
-use Rattle.std.proofs.Common.{◌≡◌, ℕ, Bool, true, List, [], ◌∷◌, ◌++◌, Option, Some, refl, sym, ap, ◌∙◌, subst}
+use Rattle.std.proofs.Common.{◌≡◌, ℕ, Bool, true, true≢false, List, [], ◌∷◌, ◌++◌, Option, Some, refl, sym, ap, ◌∙◌, subst}
 use Rattle.std.specs.Prelude.{IfOk, Result, Ok, Err}
 use Rattle.std.proofs.Math.Logic.{∥∥₁_map}
 use Rattle.ild_cbor.specs.declared.node.Node.{Node}
@@ -19,6 +19,8 @@ use Rattle.ild_path_entry.specs.declared.entry.Entry.{Entry}
 use Rattle.ild_path_hops.specs.Hops.{AreHops, front_of, key_of}
 use Rattle.ild_path_hops.specs.HopLaws.{path_of_hops}
 use Rattle.ild_path_hops.specs.declared.hop.Hop.{Hop}
+use Rattle.ild_path_place.specs.Comes.{comes}
+use Rattle.ild_path_place.specs.Links.{IsLinked, may_be}
 use Rattle.ild_path_place.specs.Parts.{ArePartsOf}
 use Rattle.ild_path_place.specs.Tells.{root_at, slot_at, table_at}
 use Rattle.ild_path_place.specs.Places.{EndsAt, through}
@@ -28,7 +30,7 @@ use Rattle.ild_path_place.specs.declared.place.End.TheVariants as D
 use Rattle.ild_path_place.specs.declared.place.Place.{Place}
 use Rattle.ild_path_place.specs.declared.verb.Verb.{Verb}
 use Rattle.ild_path.proofs.Safe.{new_safe}
-use Rattle.ild_path.specs.Pieces.{ArePieces}
+use Rattle.ild_path.specs.Pieces.{ArePieces, takes}
 use Rattle.ild_path.specs.Replaced.{ReplacesParts}
 use Rattle.ild_path.specs.Replaces.{ComesBy, IsChanged, IsPart, IsPlaceOf, Replaces}
 use Rattle.ild_path.specs.declared.fault.EditFault.{EditFault}
@@ -61,8 +63,51 @@ has_end (E.Set n) path s ss is = tt
 has_end (E.Insert n) path s ss is = subst (HasEnd (E.Insert n)) (sym is) tt
 has_end E.Delete path s ss is = subst (HasEnd E.Delete) (sym is) tt
 
-pub set_end : (e : PartEdit) (n : Node) (path : List (List ℕ)) → e ≡ E.Set n → HasEnd e path
-set_end e n path is = subst (λ y. HasEnd y path) (sym is) tt
+whole_taken : (e : PartEdit) (path : List (List ℕ)) → takes D.Whole e ≡ true → HasEnd e path
+whole_taken (E.Set n) path is = tt
+whole_taken (E.Insert n) path is = absurd (true≢false (sym is))
+whole_taken E.Delete path is = absurd (true≢false (sym is))
+
+pub whole_end : (e : PartEdit) (end : End) (path : List (List ℕ)) → end ≡ D.Whole → takes end e ≡ true → HasEnd e path
+whole_end e end path is fits = whole_taken e path (subst (λ (y : End). takes y e ≡ true) is fits)
+
+-- ---- what a place lets be done
+
+set_taken : (n : Node) (end : End) → takes end (E.Set n) ≡ true
+set_taken n D.Whole = refl
+set_taken n (D.InBlock path) = refl
+set_taken n (D.AtKey front trail entry) = refl
+
+ins_taken : (n : Node) (end : End) → may_be end V.Ins ≡ true → takes end (E.Insert n) ≡ true
+ins_taken n D.Whole is = is
+ins_taken n (D.InBlock path) is = refl
+ins_taken n (D.AtKey front trail entry) is = refl
+
+del_taken : (end : End) → may_be end V.Del ≡ true → takes end E.Delete ≡ true
+del_taken D.Whole is = is
+del_taken (D.InBlock path) is = refl
+del_taken (D.AtKey front trail entry) is = refl
+
+module _ (place : Place) (parts : Parts) (are : ArePartsOf place parts) where
+  pub linked_of : ∥ IsLinked parts.root parts.hops.items parts.end ∥₁
+  linked_of =
+      subst (λ r. ∥ IsLinked r parts.hops.items parts.end ∥₁) (sym are.root)
+      (subst (λ hs. ∥ IsLinked place.root hs.items parts.end ∥₁) (sym are.hops) (subst (λ e. ∥ IsLinked place.root place.hops.items e ∥₁) (sym are.end) place.linked))
+
+  may : (verb : Verb) → parts.verb ≡ verb → may_be parts.end verb ≡ true
+  may verb is = subst (λ (e : End). may_be e verb ≡ true) (sym are.end) (subst (λ (w : Verb). may_be place.end w ≡ true) (sym are.verb ∙ is) place.whole)
+
+  pub takes_set : (n : Node) → takes parts.end (E.Set n) ≡ true
+  takes_set n = set_taken n parts.end
+
+  pub takes_ins : (n : Node) → parts.verb ≡ V.Ins → takes parts.end (E.Insert n) ≡ true
+  takes_ins n is = ins_taken n parts.end (may V.Ins is)
+
+  pub takes_del : parts.verb ≡ V.Del → takes parts.end E.Delete ≡ true
+  takes_del is = del_taken parts.end (may V.Del is)
+
+  pub comes_by : (verb : Verb) → parts.verb ≡ verb → comes place.verb ≡ true → comes verb ≡ true
+  comes_by verb is = subst (λ (w : Verb). comes w ≡ true) (sym are.verb ∙ is)
 
 -- ---- taken apart
 

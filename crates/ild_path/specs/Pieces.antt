@@ -1,5 +1,5 @@
 -- The pieces of a place in a value that is held, and what an edit there makes.
-use Rattle.std.specs.Prelude.{◌≡◌, ◌++◌, ℕ, Bool, List, Some, Result, Ok, Err}
+use Rattle.std.specs.Prelude.{◌≡◌, ◌++◌, ℕ, Bool, true, false, List, Some, Result, Ok, Err}
 use Rattle.ild_data.specs.Bytes.{AreBytes}
 use Rattle.ild_data.specs.Data.{Data}
 use Rattle.ild_data.specs.Limits.{deepest}
@@ -7,6 +7,7 @@ use Rattle.ild_edges.specs.Store.{Moment}
 use Rattle.ild_node_slots.specs.declared.fault.HamtFault.{HamtFault}
 use Rattle.ild_node_slots.specs.declared.fault.HamtFault.TheVariants as H
 use Rattle.ild_path_block.specs.declared.edit.PartEdit.{PartEdit}
+use Rattle.ild_path_block.specs.declared.edit.PartEdit.TheVariants as E
 use Rattle.ild_path_ends.specs.Ends.{EditsWhole, IsLevel}
 use Rattle.ild_path_ends.specs.Parts.{IsChange}
 use Rattle.ild_path_hops.specs.Hops.{AreHops}
@@ -15,12 +16,21 @@ use Rattle.ild_path_hops.specs.declared.hop.Hop.{Hop}
 use Rattle.ild_path_place.specs.Places.{EndsAt}
 use Rattle.ild_path_place.specs.declared.parts.Parts.{Parts}
 use Rattle.ild_path_place.specs.declared.place.End.{End}
+use Rattle.ild_path_place.specs.declared.place.End.TheVariants as D
 use Rattle.ild_path.specs.declared.fault.EditFault.{EditFault}
 use Rattle.ild_path.specs.declared.fault.EditFault.TheVariants as F
 use Rattle.ild_schema.specs.Value.{Value}
 use Rattle.ild_typed.specs.At.{InSlot}
 use Rattle.ild_view.specs.View.{slot_of, table_of}
 use Rattle.ild_view.specs.declared.view.View.{View}
+
+-- the whole of a value can be set alone
+abbrev pub takes : End → PartEdit → Bool
+takes D.Whole (E.Set part) = true
+takes D.Whole (E.Insert part) = false
+takes D.Whole E.Delete = false
+takes (D.InBlock path) edit = true
+takes (D.AtKey front trail entry) edit = true
 
 -- over a store that tells its blocks and holds the value of the root: the hops lead from it to q, in which the path ends so
 pub record ArePieces (h : List ℕ → List ℕ) (is_key : ℕ → List ℕ → Bool) (was : List (List ℕ)) (root : View) (hops : List Hop) (end : End) (v : Value) (path : List (List ℕ)) : Type 0 where

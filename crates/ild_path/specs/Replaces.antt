@@ -1,7 +1,7 @@
 -- What an edit at a place answers, and what it leaves in a store.
-use Rattle.std.specs.Prelude.{◌≡◌, ◌≢◌, ℕ, ◌+◌, ◌≤◌, ◌<◌, Bool, IfErr, IfOk, List, ◌∷◌, length, Some, Result, Ok, Err, Contains}
+use Rattle.std.specs.Prelude.{◌≡◌, ℕ, ◌+◌, ◌≤◌, ◌<◌, Bool, IfErr, IfOk, List, ◌∷◌, length, Some, Result, Ok, Err, Contains}
 use Rattle.std.specs.List.{AllByRecursion}
-use Rattle.ild_edges.specs.Gained.{AreIdsGiven}
+use Rattle.ild_edges.specs.Gained.{AreIdsGiven, Clashes}
 use Rattle.ild_cbor.specs.Nodes.{Stands as StandsFor}
 use Rattle.ild_cbor.specs.declared.node.Node.{Node}
 use Rattle.ild_data.specs.Data.{Data}
@@ -99,7 +99,7 @@ Erases h place m result k =
 -- over every store: it failed only where faults rose, and only two byte strings with one id clash
 abbrev pub EditCause : Moment → EditFault → Moment → Type 0
 EditCause m F.Store k = Rose m.faults k.faults
-EditCause m (F.Clash id kept new) k = (id_of kept ≡ id.0) × (id_of new ≡ id.0) × (kept ≢ new) × IfTold k.blocks (λ held. block_at held id.0 ≡ Some kept)
+EditCause m (F.Clash id kept new) k = Clashes k id.0 kept new
 EditCause m F.Size k = Unit {0}
 EditCause m F.Memory k = Unit {0}
 

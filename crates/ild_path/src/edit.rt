@@ -1,10 +1,15 @@
 //! Edits at a place.
-ghost use Rattle.std.specs.Prelude.{◌≡◌, IfOk};
+ghost use Rattle.std.specs.Prelude.{◌≡◌, IfOk, true};
 ghost use Rattle.ild_edges.specs.Store.{Moment};
+ghost use Rattle.ild_path.specs.Pieces.{takes};
 ghost use Rattle.ild_path.specs.Replaces.{Brings, Erases, Spares};
 ghost use Rattle.ild_path.specs.Replaced.{ReplacesParts};
 ghost use Rattle.ild_path_ends.specs.Roots.{HasBlock};
+ghost use Rattle.ild_path_place.specs.Comes.{comes};
+ghost use Rattle.ild_path_place.specs.Links.{IsLinked};
+ghost use Rattle.ild_path_place.specs.Parts.{verb_in};
 ghost use Rattle.ild_path_place.specs.Tells.{slot_at, table_at};
+ghost use Rattle.ild_path_place.specs.declared.verb.Verb.TheVariants.{Del};
 ghost use Rattle.ild_schema.specs.Slots.{plainly};
 ghost use Rattle.ild_schema.specs.declared.number.TypeNo.{TypeNo};
 ghost use Rattle.ild_view.specs.View.{slot_of, table_of};
@@ -28,6 +33,8 @@ fn edited<K: Store, H: KeyHash>(
     keys: &H,
     store: &mut K,
 ) -> Result<NamedBlock, EditFault>
+    requires ends { takes parts.end edit.now ≡ true }
+    requires linked { ∥ IsLinked parts.root parts.hops.items parts.end ∥₁ }
     ensures spares { Spares (K.moment store.old) result (K.moment store.new) }
     ensures root { IfOk result (λ b. ∥ HasBlock (table_of parts.entry.root) (slot_of parts.entry.root) b ∥₁) }
     ensures edits { ReplacesParts H.hash_of parts.entry edit.now (K.moment store.old) result (K.moment store.new) }
@@ -43,6 +50,7 @@ pub fn replace<K: Store, H: KeyHash>(
     keys: &H,
     store: &mut K,
 ) -> Result<NamedBlock, EditFault>
+    requires { comes (verb_in place) ≡ true }
     ensures spares { Spares (K.moment store.old) result (K.moment store.new) }
     ensures swaps { (n : TypeNo) → slot_at place.entry ≡ plainly n → IfOk result (λ b. ∥ HasRoot (table_at place.entry) n b ∥₁) }
     ensures brings { Brings H.hash_of place.entry part.now (K.moment store.old) result (K.moment store.new) }
@@ -51,7 +59,8 @@ pub fn replace<K: Store, H: KeyHash>(
     match parts.verb {
         Verb::Set => edited(alloc, parts, &PartEdit::Set(*part), keys, store),
         Verb::Ins => edited(alloc, parts, &PartEdit::Insert(*part), keys, store),
-        Verb::Read | Verb::Del => Err(EditFault::Memory),
+        Verb::Read => unreachable!(),
+        Verb::Del => unreachable!(),
     }
 }
 
@@ -62,13 +71,10 @@ pub fn erase<K: Store, H: KeyHash>(
     keys: &H,
     store: &mut K,
 ) -> Result<NamedBlock, EditFault>
+    requires { verb_in place ≡ Del }
     ensures spares { Spares (K.moment store.old) result (K.moment store.new) }
     ensures swaps { (n : TypeNo) → slot_at place.entry ≡ plainly n → IfOk result (λ b. ∥ HasRoot (table_at place.entry) n b ∥₁) }
     ensures erases { Erases H.hash_of place.entry (K.moment store.old) result (K.moment store.new) }
 {
-    let parts = place.into_parts();
-    match parts.verb {
-        Verb::Del => edited(alloc, parts, &PartEdit::Delete, keys, store),
-        Verb::Read | Verb::Set | Verb::Ins => Err(EditFault::Memory),
-    }
+    edited(alloc, place.into_parts(), &PartEdit::Delete, keys, store)
 }

@@ -104,7 +104,7 @@ module _ (h : List ℕ → List ℕ) (is_key : ℕ → List ℕ → Bool) (was :
   failed F.Size is = ⊎_elim (λ node. inl (long_nodes node)) (λ part. inr (long_whole part)) is
   failed F.Store is = is
   failed F.Memory is = tt
-  failed (F.Clash id kept new) is = (inr (among_of new (nodes h Rows q.0 y.new) (nodes h Rows S c) among is.0), is.1, is.2, is.3, is.4, is.5)
+  failed (F.Clash id kept new) is = (inr (among_of new (nodes h Rows q.0 y.new) (nodes h Rows S c) among is.0), is.1, is.2)
   failed F.Exhausted is = absurd is
   failed F.NoKey is = absurd is
   failed (F.Block id why) is = absurd is

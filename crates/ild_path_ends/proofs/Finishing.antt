@@ -54,7 +54,7 @@ module _ (h : List ℕ → List ℕ) (rows : List Row) (s : Slot) (c : Value) (u
     outward_answer F.Size is = is
     outward_answer F.Store is = is
     outward_answer F.Memory is = tt
-    outward_answer (F.Clash id kept new) is = (inr is.0, is.1, is.2, is.3, is.4, is.5)
+    outward_answer (F.Clash id kept new) is = (inr is.0, is.1, is.2)
     outward_answer F.Exhausted is = absurd is
     outward_answer F.NoKey is = absurd is
     outward_answer (F.Block id why) is = absurd is
@@ -110,7 +110,7 @@ module _ (h : List ℕ → List ℕ) (rows : List Row) (s : Slot) (c : Value) (u
       put_answer : (e : HamtFault) → PutsOne n b (Err e) k → WholeAnswer h rows s c u m (Err e) k
       put_answer F.Store y = rose_later m.faults n.faults k.faults x.later.faults y.answer
       put_answer F.Memory y = tt
-      put_answer (F.Clash id kept new) y = (inl (y.answer.0 ∙ x.answer.0), y.answer.1, y.answer.2, y.answer.3, y.answer.4, subst (λ (z : List ℕ). length z ≤ longest_block) (sym y.answer.0) x.answer.1)
+      put_answer (F.Clash id kept new) y = (inl (y.answer.0 ∙ x.answer.0), subst (λ (z : List ℕ). length z ≤ longest_block) (sym y.answer.0) x.answer.1, y.answer.1)
       put_answer F.Size y = absurd y.answer
       put_answer F.Exhausted y = absurd y.answer
       put_answer F.NoKey y = absurd y.answer
@@ -147,7 +147,7 @@ caused_put m n k b e before x = caused_later m n k e before (record { cause = by
   by : (e : HamtFault) → PutAnswer n b (Err e) k → FaultCause n e k
   by F.Store is = is
   by F.Memory is = tt
-  by (F.Clash id kept new) is = (is.1, is.2, is.3, is.4)
+  by (F.Clash id kept new) is = is.1
   by F.Size is = tt
   by F.Exhausted is = tt
   by F.NoKey is = tt

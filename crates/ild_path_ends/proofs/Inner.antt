@@ -16,7 +16,7 @@ use Rattle.ild_path_outward.specs.Level.{IsLevel}
 use Rattle.ild_path_hops.specs.Hops.{AreHops}
 use Rattle.ild_path_hops.specs.declared.hop.Hop.{Hop}
 use Rattle.ild_path_hops.proofs.Hopping.{hops_end}
-use Rattle.ild_path_outward.proofs.Carrying.{none_or_last}
+use Rattle.ild_path_hops.proofs.Linking.{none_or_last}
 use Rattle.ild_path_outward.proofs.Stepping.{entry_view}
 use Rattle.ild_path_ends.specs.Steps.{IsViewOfEntry}
 

@@ -7,3 +7,4 @@ mod Counting
 mod Keying
 mod AtKeys
 mod Carried
+pub mod Leading

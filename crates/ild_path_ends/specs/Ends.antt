@@ -1,10 +1,10 @@
 -- An edit at the end of a path through HAMTs, and the blocks of the changed value.
-use Rattle.std.specs.Prelude.{◌≡◌, ◌≢◌, ◌⊎◌, ℕ, ◌≤◌, ◌+◌, Bool, true, Contains, IfOk, List, [], ◌∷◌, ◌++◌, length, Some, Result, Ok, Err}
+use Rattle.std.specs.Prelude.{◌≡◌, ◌⊎◌, ℕ, ◌≤◌, ◌+◌, Bool, true, Contains, IfOk, List, [], ◌∷◌, ◌++◌, length, Some, Result, Ok, Err}
 use Rattle.std.specs.List.{AllByRecursion}
-use Rattle.ild_edges.specs.Gained.{AreIdsGiven}
+use Rattle.ild_edges.specs.Gained.{AreIdsGiven, Clashes}
 use Rattle.ild_data.specs.Data.{Data}
 use Rattle.ild_data.specs.Limits.{deepest, longest_block}
-use Rattle.ild_data.specs.Spell.{id_of, spell}
+use Rattle.ild_data.specs.Spell.{spell}
 use Rattle.ild_edges.specs.Count.{Rose}
 use Rattle.ild_edges.specs.Store.{Moment, Later, block_at}
 use Rattle.ild_edges.specs.Told.{IfTold, BothTold}
@@ -56,8 +56,7 @@ abbrev pub WholeAnswer : (List ℕ → List ℕ) → List Row → Slot → Value
 WholeAnswer h rows s c u m (Ok b) n = (b ≡ spell u) × IfTold n.blocks (λ now. IsHeld (block_at now) h rows deepest s u c × IsHeldBlock (block_at now) (spell u))
 WholeAnswer h rows s c u m (Err F.Size) n = (any_long (nodes h rows s c) ≡ true) ⊎ HasLongPart h rows (s, c)
 WholeAnswer h rows s c u m (Err F.Store) n = Rose m.faults n.faults
-WholeAnswer h rows s c u m (Err (F.Clash id kept new)) n =
-    IsIn new (spell u ∷ nodes h rows s c) × (id_of kept ≡ id.0) × (id_of new ≡ id.0) × (kept ≢ new) × IfTold n.blocks (λ held. block_at held id.0 ≡ Some kept) × (length new ≤ longest_block)
+WholeAnswer h rows s c u m (Err (F.Clash id kept new)) n = IsIn new (spell u ∷ nodes h rows s c) × (length new ≤ longest_block) × Clashes n id.0 kept new
 WholeAnswer h rows s c u m (Err F.Memory) n = Unit {0}
 WholeAnswer h rows s c u m (Err e) n = ⊥
 

@@ -4,6 +4,7 @@ ghost use Rattle.ild_edges.specs.Store.{Moment};
 ghost use Rattle.ild_path_ends.specs.Roots.{HasBlock};
 ghost use Rattle.ild_view.specs.View.{slot_of, table_of};
 ghost use Rattle.ild_hamt.specs.Edits.{CausedBy};
+ghost use Rattle.ild_path_hops.specs.Links.{AreLinked, RootBehind};
 ghost use Rattle.ild_path_ends.specs.AtKey.{ChangesAtKey};
 ghost use Rattle.ild_path_ends.specs.Ends.{EditsAtKey};
 
@@ -30,6 +31,7 @@ fn changed_at_key<K: Store, H: KeyHash>(
     keys: &H,
     store: &mut K,
 ) -> Result<Octets, HamtFault>
+    requires { ∥ RootBehind root.now hops.now front.now ∥₁ }
     ensures gets { (K.moment store.new).gets ≡ (K.moment store.old).gets }
     ensures caused { CausedBy (K.moment store.old) result (K.moment store.new) }
     ensures changes { ChangesAtKey H.hash_of root.now hops.now front.now trail edit.now (K.moment store.old) result (K.moment store.new) }
@@ -53,6 +55,8 @@ pub fn edit_at_key<K: Store, H: KeyHash>(
     keys: &H,
     store: &mut K,
 ) -> Result<NamedBlock, HamtFault>
+    requires linked { ∥ AreLinked root.now hops.items ∥₁ }
+    requires leads { ∥ RootBehind root.now hops.items front.now ∥₁ }
     ensures gets { (K.moment store.new).gets ≡ (K.moment store.old).gets }
     ensures caused { CausedBy (K.moment store.old) result (K.moment store.new) }
     ensures root { IfOk result (λ b. ∥ HasBlock (table_of root.now) (slot_of root.now) b ∥₁) }

@@ -4,6 +4,7 @@ ghost use Rattle.ild_edges.specs.Store.{Moment};
 ghost use Rattle.ild_path_ends.specs.Roots.{HasBlock};
 ghost use Rattle.ild_view.specs.View.{slot_of, table_of};
 ghost use Rattle.ild_hamt.specs.Edits.{CausedBy};
+ghost use Rattle.ild_path_hops.specs.Links.{AreLinked};
 ghost use Rattle.ild_path_ends.specs.Finish.{FinishesWhole};
 
 use crate::root::is_block_of;
@@ -26,6 +27,7 @@ pub(crate) fn finish<K: Store, H: KeyHash>(
     keys: &H,
     store: &mut K,
 ) -> Result<NamedBlock, HamtFault>
+    requires { ∥ AreLinked root.now hops.items ∥₁ }
     ensures gets { (K.moment store.new).gets ≡ (K.moment store.old).gets }
     ensures caused { CausedBy (K.moment store.old) result (K.moment store.new) }
     ensures root { IfOk result (λ b. ∥ HasBlock (table_of root.now) (slot_of root.now) b ∥₁) }

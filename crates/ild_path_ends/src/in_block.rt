@@ -5,6 +5,7 @@ ghost use Rattle.ild_edges.specs.Store.{Moment};
 ghost use Rattle.ild_path_ends.specs.Roots.{HasBlock};
 ghost use Rattle.ild_view.specs.View.{slot_of, table_of};
 ghost use Rattle.ild_hamt.specs.Edits.{CausedBy};
+ghost use Rattle.ild_path_hops.specs.Links.{AreLinked};
 ghost use Rattle.ild_path_ends.specs.Ends.{EditsInBlock};
 ghost use Rattle.ild_path_ends.specs.InBlock.{ChangesBlock};
 ghost use Rattle.ild_path_reroot.specs.Reroots.{IsWritingFault};
@@ -63,6 +64,7 @@ pub fn edit_in_block<K: Store, H: KeyHash>(
     keys: &H,
     store: &mut K,
 ) -> Result<NamedBlock, HamtFault>
+    requires { ∥ AreLinked root.now hops.items ∥₁ }
     ensures gets { (K.moment store.new).gets ≡ (K.moment store.old).gets }
     ensures caused { CausedBy (K.moment store.old) result (K.moment store.new) }
     ensures root { IfOk result (λ b. ∥ HasBlock (table_of root.now) (slot_of root.now) b ∥₁) }

@@ -15,7 +15,7 @@ use Rattle.ild_node_slots.specs.declared.fault.HamtFault.{HamtFault}
 use Rattle.ild_node_slots.specs.declared.fault.HamtFault.TheVariants as F
 use Rattle.ild_path_enter.specs.Enters.{EntryAnswer, FailsOnly}
 use Rattle.ild_path_enter.specs.declared.lookup.Entered.{Entered}
-use Rattle.ild_path_entry.specs.Entry.{IsEntry, table_in}
+use Rattle.ild_path_entry.specs.Entry.{IsEntry, room_in, table_in}
 use Rattle.ild_path_entry.specs.declared.entry.Entry.{Entry}
 use Rattle.ild_schema.specs.Value.{Value}
 use Rattle.ild_schema.specs.declared.number.Slot.{Slot}
@@ -57,6 +57,15 @@ entry_fails rows s room node m n (F.Clash id kept new) says = tt
 
 pub entry_table : (rows : List Row) (s : Slot) (room : ℕ) (node : Node) (e : Entry) → ((d : Data) → Stands node d → IsEntry rows s room d e) → table_in e ≡ rows
 entry_table rows s room node e says = ∥∥₁_elim node.stands (hlevel props) (λ st. (says st.of st.spells).table)
+
+pub entry_room : (rows : List Row) (s : Slot) (room : ℕ) (node : Node) (e : Entry) → ((d : Data) → Stands node d → IsEntry rows s room d e) → room_in e ≡ room
+entry_room rows s room node e says = ∥∥₁_elim node.stands (hlevel props) (λ st. (says st.of st.spells).room_is)
+
+pub some_room : (room : ℕ) (o : Option Entry) (e : Entry) → o ≡ Some e → room_in e ≡ room → ForSome o (λ x. room_in x ≡ room)
+some_room room o e is own = λ x there. ap room_in (same_Some x e (sym there ∙ is)) ∙ own
+
+pub none_room : (room : ℕ) (o : Option Entry) → o ≡ None → ForSome o (λ x. room_in x ≡ room)
+none_room room o is = λ x there. absurd (none-some x (sym is ∙ there))
 
 pub some_table : (rows : List Row) (o : Option Entry) (e : Entry) → o ≡ Some e → table_in e ≡ rows → ForSome o (λ x. table_in x ≡ rows)
 some_table rows o e is own = λ x there. ap table_in (same_Some x e (sym there ∙ is)) ∙ own

@@ -37,7 +37,6 @@ use Rattle.ild_path_block.specs.declared.edit.PartEdit.TheVariants as E
 use Rattle.ild_hamt.specs.declared.trail.Trail.{Trail}
 use Rattle.ild_open_held.specs.Held.{IsHeld}
 use Rattle.ild_view.specs.Reaches.{Reaches}
-use Rattle.ild_view.specs.declared.step.NoPath.{NoPath}
 use Rattle.ild_view.specs.declared.step.Step.TheVariants as St
 use Rattle.ild_view.specs.View.{IsView, slot_of, table_of}
 use Rattle.ild_view.specs.declared.view.View.{View}
@@ -120,15 +119,9 @@ module _ (h : List ℕ → List ℕ) (is_key : ℕ → List ℕ → Bool) (was :
   pub root_view : IsView view (front h Rows S v)
   root_view = view_of view (front h Rows S v) t level.root
 
-  -- so the path leads to a view of the HAMT, and nowhere else
+  -- so the path leads to a view of the HAMT
   pub hamt_view : (y : View) → Reaches Rows (reached Rows 0 (S, front h Rows S v) path) (Ok (St.Here y)) → IsView y (hamt set.root)
   hamt_view y is = (subst (λ r. Reaches Rows r (Ok (St.Here y))) reached_hamt is).view
-
-  pub not_entered : (y : View) (n : ℕ) → Reaches Rows (reached Rows 0 (S, front h Rows S v) path) (Ok (St.Enter y n)) → ⊥
-  not_entered y n is = subst (λ r. Reaches Rows r (Ok (St.Enter y n))) reached_hamt is
-
-  pub not_lost : (e : NoPath) → Reaches Rows (reached Rows 0 (S, front h Rows S v) path) (Err e) → ⊥
-  not_lost e is = subst (λ r. Reaches Rows r (Err e)) reached_hamt is
 
   safe_hamt : IsSafe Rows slot
   safe_hamt = λ nullable. ap (λ o. kind_in o K.Null) set.entered.hamt.4
@@ -178,7 +171,7 @@ module _ (h : List ℕ → List ℕ) (is_key : ℕ → List ℕ → Bool) (was :
     failed F.Memory is = tt
     failed F.Store is = is
     failed (F.Block id why) is = absurd is
-    failed (F.Clash id kept new) is = (among_of new (nodes h Rows slot M) (nodes h Rows S C) among is.0, is.1, is.2, is.3, is.4, is.5)
+    failed (F.Clash id kept new) is = (among_of new (nodes h Rows slot M) (nodes h Rows S C) among is.0, is.1, is.2)
 
     pub level_failed : (e : HamtFault) → EditsHamt h set.entered.hamt.3 Rows slot Less k (remove k es) M X m (Err e) n → SetsLevel h set.entered.hamt.3 Rows room S C u k (remove k es) m (Err e) n
     level_failed e x = record { hamt = X; part = part; answer = failed e x.answer; later = x.later; adds = added x.adds; puts = x.puts; given = tt }

@@ -1,20 +1,21 @@
 -- One level of a path: a value in a block whose HAMTs are held, and an entry of one of them that is set.
-use Rattle.std.specs.Prelude.{◌≡◌, ◌≢◌, ℕ, ◌+◌, ◌≤◌, Bool, true, IsUtf8, List, ◌∷◌, length, Some, Result, Ok, Err, is_some}
+use Rattle.std.specs.Prelude.{◌≡◌, ℕ, ◌+◌, ◌≤◌, Bool, true, IsUtf8, List, [], ◌∷◌, length, Some, Result, Ok, Err, is_some}
 use Rattle.std.specs.FinMap.{put as insert}
 use Rattle.ild_data.specs.ByteOrder.{bytewise, without as remove}
 use Rattle.ild_data.specs.Data.{Data}
 use Rattle.ild_data.specs.Key.{value_at}
 use Rattle.ild_data.specs.Limits.{longest_block}
-use Rattle.ild_data.specs.Spell.{id_of, spell}
+use Rattle.ild_data.specs.Spell.{spell}
 use Rattle.ild_data.specs.Trie.{TrieSlot}
 use Rattle.ild_data.specs.TrieShape.{trie_levels}
 use Rattle.ild_data.specs.declared.hamt_shape.HamtShape.{HamtShape}
 use Rattle.ild_edges.specs.Count.{Rose}
+use Rattle.ild_edges.specs.Gained.{Clashes}
 use Rattle.ild_edges.specs.Store.{Moment, Later, block_at}
 use Rattle.ild_edges.specs.Told.{IfTold, BothTold}
 use Rattle.ild_schema.specs.declared.number.Slot.{Slot}
 use Rattle.ild_schema.specs.declared.row.Row.{Row}
-use Rattle.ild_schema.specs.Value.{Value, Pairs, map, pairs_list}
+use Rattle.ild_schema.specs.Value.{Value, Pairs, hamt, map, pairs_list}
 use Rattle.ild_node_slots.specs.declared.fault.HamtFault.{HamtFault}
 use Rattle.ild_node_slots.specs.declared.fault.HamtFault.TheVariants as F
 use Rattle.ild_hamt_trie.specs.Way.{way}
@@ -25,7 +26,7 @@ use Rattle.ild_typed.specs.Node.{IsRoot}
 use Rattle.ild_typed.specs.OfType.{TestsKeys}
 use Rattle.ild_typed.specs.Represented.{represented}
 use Rattle.ild_typed.specs.Schema.{IsSchema}
-use Rattle.ild_view.specs.View.{slot_of, table_of}
+use Rattle.ild_view.specs.View.{IsView, slot_of, table_of}
 use Rattle.ild_view.specs.declared.view.View.{View}
 use Rattle.ild_bulk.specs.Build.{any_long}
 use Rattle.ild_edges.specs.Among.{IsIn}
@@ -34,6 +35,7 @@ use Rattle.ild_hamt.specs.Descending.{IsTrailOf}
 use Rattle.ild_hamt.specs.Given.{GivesWay}
 use Rattle.ild_hamt.specs.declared.trail.Trail.{Trail}
 use Rattle.ild_open_held.specs.Held.{IsHeld}
+use Rattle.ild_path_edits.specs.Stop.{stopped}
 use Rattle.ild_path_within.specs.Within.{with_part}
 use Rattle.ild_typed_fronts.specs.Front.{front}
 use Rattle.ild_path_held.specs.Hamts.{IsTrieIn}
@@ -48,6 +50,14 @@ pub record IsLevel (h : List ℕ → List ℕ) (is_key : ℕ → List ℕ → Bo
   pub keys : TestsKeys (table_of view) is_key
   pub held : IsHeld (block_at was) h (table_of view) room (slot_of view) t v
   pub root : IsRootView view (front h (table_of view) (slot_of view) v) t
+
+-- the path leads from a front of the view to a HAMT, of which it has the root
+pub record LeadsToHamt (view : View) (path : List (List ℕ)) : Type 0 where
+  pub front : Value
+  pub is : IsView view front
+  pub slot : Slot
+  pub tree : Data
+  pub leads : stopped (table_of view) (slot_of view, front) path ≡ record { part = (slot, hamt tree); left = [] }
 
 -- v with the entry set
 abbrev pub with_set : List Row → Slot → Value → List (List ℕ) → Pairs → List ℕ → Value → Value
@@ -90,8 +100,7 @@ abbrev pub LevelAnswer : (List ℕ → List ℕ) → List Row → ℕ → Slot �
 LevelAnswer h rows room s c u x m (Ok b) n = (b ≡ spell u) × (length b ≤ longest_block) × IfTold n.blocks (λ now. IsHeld (block_at now) h rows room s u c)
 LevelAnswer h rows room s c u x m (Err F.Size) n = any_long (spell u ∷ spell x ∷ nodes h rows s c) ≡ true
 LevelAnswer h rows room s c u x m (Err F.Store) n = Rose m.faults n.faults
-LevelAnswer h rows room s c u x m (Err (F.Clash id kept new)) n =
-    IsIn new (nodes h rows s c) × (id_of kept ≡ id.0) × (id_of new ≡ id.0) × (kept ≢ new) × IfTold n.blocks (λ held. block_at held id.0 ≡ Some kept) × (length new ≤ longest_block)
+LevelAnswer h rows room s c u x m (Err (F.Clash id kept new)) n = IsIn new (nodes h rows s c) × (length new ≤ longest_block) × Clashes n id.0 kept new
 LevelAnswer h rows room s c u x m (Err F.Memory) n = Unit {0}
 LevelAnswer h rows room s c u x m (Err e) n = ⊥
 

@@ -1,6 +1,6 @@
 //! One level outward.
 ghost use Rattle.ild_hamt.specs.Edits.{CausedBy};
-ghost use Rattle.std.specs.Prelude.{◌≡◌, ℕ, Bool, IfErr, List, Some};
+ghost use Rattle.std.specs.Prelude.{◌≡◌, ℕ, Bool, IfErr, List, Ok, Some};
 ghost use Rattle.ild_cbor.specs.Nodes.{Stands};
 ghost use Rattle.ild_data.specs.Data.{Data};
 ghost use Rattle.ild_edges.specs.Store.{Moment};
@@ -9,11 +9,15 @@ ghost use Rattle.ild_data.specs.Spell.{spell};
 ghost use Rattle.ild_data.specs.Tree.{IsTree};
 ghost use Rattle.ild_path_block.specs.Edits.{Edits};
 ghost use Rattle.ild_path_block.specs.declared.edit.PartEdit.TheVariants.{Set as SetTo};
-ghost use Rattle.ild_path_reroot.specs.Reroots.{IsWritingFault, MakesRoot};
-ghost use Rattle.ild_path_hop.specs.Levels.{CutsEntry, IsCutThere, IsLevel, IsSetThere, SetsEntry};
+ghost use Rattle.ild_path_reroot.specs.Reroots.{IsHamtView, IsWritingFault, MakesRoot};
+ghost use Rattle.ild_path_hop.specs.Levels.{CutsEntry, IsCutThere, IsLevel, IsSetThere, LeadsToHamt, SetsEntry};
 ghost use Rattle.ild_node.specs.Rows.{NestsIn, deepest_value};
 ghost use Rattle.ild_schema.specs.Value.{Pairs, Value};
 ghost use Rattle.ild_schema.specs.declared.number.Slot.{Slot as Place};
+ghost use Rattle.ild_typed.specs.At.{reached};
+ghost use Rattle.ild_view.specs.Reaches.{Reaches};
+ghost use Rattle.ild_view.specs.View.{IsView, slot_of, table_of};
+ghost use Rattle.ild_view.specs.declared.step.Step.TheVariants.{Here};
 
 use ild_cbor::{Node, check};
 use ild_data::{KeyHash, Octets, Path};
@@ -26,6 +30,19 @@ use ild_path_reroot::{cut_entry, put_entry};
 use ild_splice::SpliceErr;
 use ild_view::{Step, View};
 use std::alloc::Global;
+
+/// The view of the HAMT to which a path leads.
+pub fn hamt_at<'a>(root: &View<'a>, front: &'a Path) -> View<'a>
+    requires { ∥ LeadsToHamt root.now front.now ∥₁ }
+    ensures here { (f : Value) → IsView root.now f → Reaches (table_of root.now) (reached (table_of root.now) 0 (slot_of root.now, f) front.now) (Ok (Here result)) }
+    ensures hamt { ∥ IsHamtView result ∥₁ }
+{
+    match root.at(front, 0) {
+        Ok(Step::Here(view)) => view,
+        Ok(Step::Enter(_, _)) => unreachable!(),
+        Err(_) => unreachable!(),
+    }
+}
 
 // The block with a root map as the part at a path.
 fn with_root<'a>(
@@ -59,18 +76,15 @@ pub fn set_entry<'a, K: Store, H: KeyHash>(
     keys: &H,
     store: &mut K,
 ) -> Result<Octets, HamtFault>
-    requires { NestsIn deepest_value item.now }
+    requires leads { ∥ LeadsToHamt root.now front.now ∥₁ }
+    requires nests { NestsIn deepest_value item.now }
     ensures gets { (K.moment store.new).gets ≡ (K.moment store.old).gets }
     ensures caused { CausedBy (K.moment store.old) result (K.moment store.new) }
     ensures sets { (is_key : ℕ → List ℕ → Bool) (was : List (List ℕ)) (room : ℕ) (v w : Value) (t d u : Data) (slot elem : Place) (ps : Pairs) (es : List (List ℕ × Data)) (k : List ℕ) → (K.moment store.old).blocks ≡ Some was
         → IsLevel H.hash_of is_key was room v t root.now → (set : IsSetThere H.hash_of is_key was room v root.now front.now slot elem ps es k w d u trail) → Stands item.now d
         → SetsEntry H.hash_of set.entered.hamt.3 room v front.now ps es k w d u root.now (K.moment store.old) result (K.moment store.new) }
 {
-    let hamt = match root.at(front, 0) {
-        Ok(Step::Here(view)) => view,
-        Ok(Step::Enter(_, _)) => return Err(HamtFault::Memory),
-        Err(_) => return Err(HamtFault::Memory),
-    };
+    let hamt = hamt_at(root, front);
     let map = put_entry(alloc, &hamt, trail, item, keys, store)?;
     with_root(alloc, root, front, &map)
 }
@@ -84,17 +98,14 @@ pub fn remove_entry<'a, K: Store, H: KeyHash>(
     keys: &H,
     store: &mut K,
 ) -> Result<Octets, HamtFault>
+    requires { ∥ LeadsToHamt root.now front.now ∥₁ }
     ensures gets { (K.moment store.new).gets ≡ (K.moment store.old).gets }
     ensures caused { CausedBy (K.moment store.old) result (K.moment store.new) }
     ensures cuts { (is_key : ℕ → List ℕ → Bool) (was : List (List ℕ)) (room : ℕ) (v : Value) (t u : Data) (slot elem : Place) (ps : Pairs) (es : List (List ℕ × Data)) (k : List ℕ) → (K.moment store.old).blocks ≡ Some was
         → IsLevel H.hash_of is_key was room v t root.now → (cut : IsCutThere H.hash_of is_key was room v root.now front.now slot elem ps es k u trail)
         → CutsEntry H.hash_of cut.entered.hamt.3 room v front.now ps es k u root.now (K.moment store.old) result (K.moment store.new) }
 {
-    let hamt = match root.at(front, 0) {
-        Ok(Step::Here(view)) => view,
-        Ok(Step::Enter(_, _)) => return Err(HamtFault::Memory),
-        Err(_) => return Err(HamtFault::Memory),
-    };
+    let hamt = hamt_at(root, front);
     let map = cut_entry(alloc, &hamt, trail, keys, store)?;
     with_root(alloc, root, front, &map)
 }

@@ -1,1 +1,2 @@
 pub mod Hopping
+pub mod Linking

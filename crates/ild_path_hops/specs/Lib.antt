@@ -1,2 +1,3 @@
 pub mod HopLaws
 pub mod Hops
+pub mod Links

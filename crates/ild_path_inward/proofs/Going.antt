@@ -26,7 +26,7 @@ use Rattle.ild_view.specs.Roots.{root_in}
 use Rattle.ild_view.specs.View.{IsView, slot_of, table_of}
 use Rattle.ild_view.specs.declared.view.View.{View}
 
-take_front : (xs ys : List (List ℕ)) (n : ℕ) → n ≡ length (xs ++ ys) - length ys → take n (xs ++ ys) ≡ xs
+pub take_front : (xs ys : List (List ℕ)) (n : ℕ) → n ≡ length (xs ++ ys) - length ys → take n (xs ++ ys) ≡ xs
 take_front xs ys n e = ap (λ i. take i (xs ++ ys)) (e ∙ lengths xs ys) ∙ takes xs ys where
   takes : (xs ys : List (List ℕ)) → take (length xs) (xs ++ ys) ≡ xs
   takes [] ys = refl

@@ -7,3 +7,6 @@ pub mod Hamts
 pub mod Going
 pub mod Inwarding
 pub mod Failing
+pub mod Leading
+pub mod Refusing
+pub mod Sited

@@ -11,6 +11,7 @@ use Rattle.ild_path_edits.specs.Stop.{stopped}
 use Rattle.ild_path_entry.specs.Entry.{IsEntry}
 use Rattle.ild_path_held.specs.HeldEdits.{room_at}
 use Rattle.ild_path_hops.specs.Hops.{AreHops, front_of, key_of}
+use Rattle.ild_path_hops.specs.Links.{AreLinked, PartBehind}
 use Rattle.ild_path_hops.specs.declared.hop.Hop.{Hop}
 use Rattle.ild_path_inward.specs.Levels.{met_on}
 use Rattle.ild_path_inward.specs.declared.inward.Inward.{Inward}
@@ -45,6 +46,11 @@ pub record IsInward (h : List ℕ → List ℕ) (rows : List Row) (was : List (L
   pub split : through old ++ path ≡ through r.hops.items ++ (r.front ++ r.left.now)
   pub stops : stopped rows q path ≡ record { part = holder; left = r.left.now }
   pub room_is : r.room ≡ room_at rows less inner r.front
+
+-- the HAMTs stand one in the block of another's entry, and the front leads behind them to a part
+pub record IsLinkedInward (root : View) (r : Inward) : Type 0 where
+  pub hops : AreLinked root r.hops.items
+  pub front : PartBehind root r.hops.items r.front
 
 abbrev pub GoesInward : (List ℕ → List ℕ) → List Row → List (List ℕ) → ℕ → InSlot → List Hop → InSlot → List (List ℕ) → Moment → Result Inward HamtFault → Moment → Type 0
 GoesInward h rows was limit p old q path m (Ok r) n = IsInward h rows was limit p old q path r × (n.gets ≤ m.gets + met_on h rows q path)

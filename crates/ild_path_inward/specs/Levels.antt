@@ -13,6 +13,7 @@ use Rattle.ild_path_entered.specs.Entered.{IsEntered}
 use Rattle.ild_path_entry.specs.Entry.{table_in}
 use Rattle.ild_path_held.specs.HeldEdits.{room_at}
 use Rattle.ild_path_hops.specs.Hops.{IsHop, front_of, key_of}
+use Rattle.ild_path_hops.specs.Links.{IsPartAt, IsRootAt, PartBehind, RootBehind}
 use Rattle.ild_path_hops.specs.declared.hop.Hop.{Hop}
 use Rattle.ild_path_inward.specs.declared.halt.Halt.{Halt}
 use Rattle.ild_path_inward.specs.declared.level.Level.{Level}
@@ -62,6 +63,24 @@ IsUnder rows hop = table_in hop.entry ≡ rows
 abbrev pub PassesUnder : List Row → Result Level HamtFault → Type 0
 PassesUnder rows (Ok (L.Passes hop behind room)) = IsUnder rows hop
 PassesUnder rows r = Unit {0}
+
+-- ---- where it leads, which no store says
+
+abbrev pub FrontIs : List (List ℕ) → Result Level HamtFault → Type 0
+FrontIs front (Ok (L.Stops s)) = s.front ≡ front
+FrontIs front (Ok (L.Passes hop behind room)) = front_of hop ≡ front
+FrontIs front (Err e) = Unit {0}
+
+-- to a part of the front, and where the path passes on to the root of a HAMT
+abbrev pub LevelLeads : List Row → InSlot → Result Level HamtFault → Type 0
+LevelLeads rows p (Ok (L.Stops s)) = IsPartAt rows p s.front
+LevelLeads rows p (Ok (L.Passes hop behind room)) = IsRootAt rows p (front_of hop)
+LevelLeads rows p (Err e) = Unit {0}
+
+abbrev pub LevelBehind : View → List Hop → Result Level HamtFault → Type 0
+LevelBehind root hops (Ok (L.Stops s)) = PartBehind root hops s.front
+LevelBehind root hops (Ok (L.Passes hop behind room)) = RootBehind root hops (front_of hop)
+LevelBehind root hops (Err e) = Unit {0}
 
 -- ---- what is known of a block, and what is answered
 

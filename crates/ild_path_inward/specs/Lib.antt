@@ -1,3 +1,4 @@
 pub mod Halts
 pub mod Levels
+pub mod Refuses
 pub mod Inwards

@@ -7,4 +7,4 @@ mod inward;
 mod level;
 
 pub use halt::{Halt, halt_in};
-pub use inward::{Inward, go_inward};
+pub use inward::{Inward, block_under, go_inward};

@@ -2,7 +2,8 @@
 use Rattle.std.proofs.Common.{◌≡◌, ℕ, true, false, List, [], Option, Some, None, refl, sym, ◌∙◌, ap, subst, arith}
 use Rattle.std.proofs.Math.Logic.{∥∥₁_elim}
 use Rattle.std.specs.Borrow.{Bor}
-use Rattle.std.specs.Prelude.{Result, Ok, is_none}
+use Rattle.std.specs.Prelude.{Result, Ok, Err, is_none}
+use Rattle.std.proofs.Props.{props}
 use Rattle.std.proofs.Math.Bool.{Bool-set}
 use Rattle.ild_cbor.proofs.Blocks.{block_again}
 use Rattle.ild_cbor.specs.Block.{IsBlockOf}
@@ -24,6 +25,8 @@ use Rattle.ild_splice.specs.Laws.{ChangesStayWithin, RootsAreAt}
 use Rattle.ild_splice.specs.Made.{Makes}
 use Rattle.ild_splice.specs.Splices.{IsAt}
 use Rattle.ild_splice.specs.declared.error.SpliceErr.{SpliceErr}
+use Rattle.ild_splice.specs.declared.error.SpliceErr.TheVariants.{Size}
+use Rattle.ild_path_item.proofs.Shorter.{gone_shorter}
 use Rattle.ild_splice_changes.specs.TreeChange.{Located, applied, one, remove_entry, unchanged}
 use Rattle.ild_typed.specs.Strings.{map_data}
 
@@ -64,6 +67,15 @@ pub left_faultless : (key : List ℕ) (n m : Node) (b : List ℕ) → ((t : Data
 left_faultless key n m b roots stays made =
     none_of (fault_of b)
     (∥∥₁_elim n.stands (Bool-set (is_none (fault_of b)) true) (λ h. ap is_none (block_again b (applied (one [] (remove_entry key)) h.of) (left_block key m b h.of (roots h.of h.spells) h.spells.within stays made))))
+
+-- it isn't too long
+pub left_short : (key : List ℕ) (n m : Node) → ((t : Data) → Stands n t → IsAt m t [] t) → Applies m (one [] (remove_entry key)) (Err Size) → ⊥
+left_short key n m roots made =
+    ∥∥₁_elim n.stands (hlevel props) (λ h.
+    let long = (made.makes h.of h.of [] (roots h.of h.spells)) in
+    let less = gone_shorter key h.of in
+    let sized = h.spells.within.sized in
+    omega (arith, long, less, sized))
 
 -- the member that stands without the discriminant
 pub left_root : (key : List ℕ) (n m root : Node) (b : List ℕ) (t : Data) → IsWithout (Some key) n t → ((t : Data) → Stands n t → IsAt m t [] t) → ChangesStayWithin → RootsAreAt → Applies m (one [] (remove_entry key)) (Ok b)

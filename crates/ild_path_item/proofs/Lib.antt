@@ -4,6 +4,7 @@ mod Joins
 pub mod Members
 pub mod Parts
 mod Rewriting
+mod Shorter
 mod Upward
 pub mod Verbs
 pub mod Viewing

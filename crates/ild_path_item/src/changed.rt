@@ -56,7 +56,7 @@ fn discriminant(acc: &Accepted, union: u32) -> Option<&str>
     }
 }
 
-// The same of a map without an entry. What is left is no longer than what stands there, so that only memory may be wanting.
+// The same of a map without an entry. What is left is no longer than what stands there.
 fn without_entry(
     alloc: Global,
     node: &Node<'_>,
@@ -70,8 +70,10 @@ fn without_entry(
     nodes_are_at_places();
     changes_stay_within();
     let gone = LastChange::RemoveEntry(key);
-    let Ok(rest) = applied(alloc, &apart(node), &gone, None, None) else {
-        return Err(SpliceErr::Memory);
+    let rest = match applied(alloc, &apart(node), &gone, None, None) {
+        Ok(rest) => rest,
+        Err(SpliceErr::Size) => unreachable!(),
+        Err(SpliceErr::Memory) => return Err(SpliceErr::Memory),
     };
     in_item(alloc, &known_root(rest.as_slice()), change, new)
 }

@@ -48,6 +48,7 @@ use Rattle.ild_path_entry.specs.Entry.{IsEntry}
 use Rattle.ild_path_hop.specs.Levels.{IsRootView, with_set}
 use Rattle.ild_path_hops.specs.Hops.{AreHops, front_of, key_of, step_of}
 use Rattle.ild_path_hops.specs.HopLaws.{IsLastHop, path_of_hops}
+pub use Rattle.ild_path_hops.proofs.Linking.{none_or_last}
 use Rattle.ild_path_hops.specs.declared.hop.Hop.{Hop}
 use Rattle.ild_path_hops.proofs.Hopping.{hops_end, hops_leave, hops_pass, hops_stay}
 use Rattle.ild_path_outward.specs.Outward.{EndAnswer, IsNewEnd, SetsEnd, with_end}
@@ -144,10 +145,6 @@ more_told h rows p r None (Some b) q part x k y = absurd x
 more_told h rows p r (Some a) None q part x k y = absurd x
 more_told h rows p r (Some a) (Some b) None part x k y = absurd y
 more_told h rows p r (Some a) (Some b) (Some z) part x k y = more_nodes h rows p r a b z k part x y
-
-pub none_or_last : (hs : List Hop) → (hs ≡ []) ⊎ ((before : List Hop) × (above : Hop) × (hs ≡ before ++ above ∷ []))
-none_or_last [] = inl refl
-none_or_last (x ∷ hs) = ⊎_elim (λ none. inr ([], x, ap (λ zs. x ∷ zs) none)) (λ z. inr (x ∷ z.0, z.1, ap (λ zs. x ∷ zs) z.2)) (none_or_last hs)
 
 pub met_one : (rows : List Row) (count : InSlot → List ℕ → ℕ) (p : InSlot) (s : List ℕ) → met rows count p (s ∷ []) ≡ count p s
 met_one rows count p s = by (part (seen rows p) s) where
@@ -399,7 +396,7 @@ module _ (h : List ℕ → List ℕ) (is_key : ℕ → List ℕ → Bool) (was :
       failed F.Size z = too_long z.hamt z.part z.answer
       failed F.Store z = rose_later m.faults n.faults k.faults y.later.faults z.answer
       failed F.Memory z = tt
-      failed (F.Clash id kept more) z = (among_of more (nodes h Rows Mid.0 Level) (nodes h Rows S C) among z.answer.0, z.answer.1, z.answer.2, z.answer.3, z.answer.4, z.answer.5)
+      failed (F.Clash id kept more) z = (among_of more (nodes h Rows Mid.0 Level) (nodes h Rows S C) among z.answer.0, z.answer.1, z.answer.2)
       failed F.Exhausted z = absurd z.answer
       failed F.NoKey z = absurd z.answer
       failed (F.Block id why) z = absurd z.answer

@@ -1,14 +1,12 @@
 -- One level outward.
-use Rattle.std.proofs.Common.{◌≡◌, ℕ, ◌-◌, ◌<◌, length-append, Bool, true, List, [], ◌∷◌, ◌++◌, length, Some, inl, refl, sym, ap, ◌∙◌, subst, arith}
+use Rattle.std.proofs.Common.{◌≡◌, ℕ, ◌-◌, Bool, true, List, [], Some, inl, refl, sym, ap, ◌∙◌, subst, arith, ◌≤◌}
 use Rattle.std.specs.Prelude.{Result, Err, is_some, ◌||◌}
-use Rattle.std.specs.List.{slice_get}
-use Rattle.std.proofs.Math.Seq.{get_or-append_seam}
-use Rattle.std.proofs.lemmas.Option.{slice_get-get_or}
-use Rattle.std.proofs.lemmas.Option.{same_Some}
+use Rattle.std.proofs.Math.Logic.{∥∥₁_elim, ∥∥₁_map}
+use Rattle.std.proofs.Props.{props}
 use Rattle.ild_cbor.specs.Block.{IsBlockOf}
 use Rattle.ild_cbor.specs.Nodes.{IsRoot, Stands}
 use Rattle.ild_cbor.specs.declared.node.Node.{Node}
-use Rattle.ild_data.specs.Data.{Data}
+use Rattle.ild_data.specs.Data.{Data, depth}
 use Rattle.ild_data.specs.Spell.{spell}
 use Rattle.ild_data.specs.Key.{value_at}
 use Rattle.ild_data.specs.Tree.{IsTree}
@@ -28,7 +26,7 @@ use Rattle.ild_typed.specs.Schema.{IsSchema}
 use Rattle.ild_typed.proofs.TreeValues.{whole_tree}
 use Rattle.ild_path_edits.specs.Table.{key_fits}
 use Rattle.ild_view.specs.Safe.{is_safe}
-use Rattle.ild_view.specs.View.{slot_of, table_of}
+use Rattle.ild_view.specs.View.{IsView, slot_of, table_of}
 use Rattle.ild_view.specs.Whole.{IsWholeView}
 use Rattle.ild_view.specs.declared.view.View.{View}
 use Rattle.ild_view.proofs.Opening.{safe_is}
@@ -39,11 +37,14 @@ use Rattle.ild_path_entered.specs.EnteredLaws.{fits_key}
 use Rattle.ild_path_entered.proofs.Editing.{hamt_seen}
 use Rattle.ild_path_reroot.specs.Reroots.{AddsNodes}
 use Rattle.ild_hamt.specs.declared.trail.Trail.{Trail}
-use Rattle.ild_path_entry.specs.Entry.{IsEntry, data_in, slot_in, table_in}
+use Rattle.ild_node.specs.Rows.{NestsIn}
+use Rattle.ild_path_entry.specs.Entry.{IsEntry, data_in, room_in, slot_in, table_in}
 use Rattle.ild_path_entry.specs.declared.entry.Entry.{Entry}
-use Rattle.ild_path_hop.specs.Levels.{IsLevel, IsRootView, IsSetThere, SetsEntry, with_set}
+use Rattle.ild_path_hop.specs.Levels.{IsLevel, IsRootView, IsSetThere, LeadsToHamt, SetsEntry, with_set}
 use Rattle.ild_path_hop.proofs.Leveling.{item_stands}
 pub use Rattle.ild_path_hop.proofs.Leveling.{slot_of_path}
+pub use Rattle.ild_path_hops.proofs.Linking.{last_is}
+use Rattle.ild_path_hops.specs.Links.{IsRootAt, RootBehind}
 use Rattle.ild_path_hops.specs.declared.hop.Hop.{Hop}
 use Rattle.ild_path_outward.specs.Steps.{IsStep, SetsIn, SetsStep}
 
@@ -128,13 +129,29 @@ pub sets_at : (h : List ℕ → List ℕ) (rows : List Row) (s : Slot) (view : V
     → SetsIn h (table_of view) (slot_of view) view path trail gives m r n → SetsIn h rows s view path trail gives m r n
 sets_at h rows s view path trail gives m n r table slot is = subst (λ y. SetsIn h y s view path trail gives m r n) table (subst (λ y. SetsIn h (table_of view) y view path trail gives m r n) slot is)
 
--- ---- the last hop
+-- ---- where a path leads
 
-last_get : (before : List Hop) (above x : Hop) → Some x ≡ slice_get (before ++ above ∷ []) (length (before ++ above ∷ []) - 1) → x ≡ above
-last_get before above x e =
-    let at : length (before ++ above ∷ []) - 1 ≡ length before = omega (arith, length-append before (above ∷ [])) in
-    let less : length before < length (before ++ above ∷ []) = omega (arith, length-append before (above ∷ [])) in
-    same_Some x above (e ∙ ap (slice_get (before ++ above ∷ [])) at ∙ slice_get-get_or (before ++ above ∷ []) (length before) above less ∙ ap (λ y. Some y) (get_or-append_seam before above [] above))
+led_view : (v : View) (path : List (List ℕ)) (f : Value) → IsView v f → IsRootAt (table_of v) (slot_of v, f) path → LeadsToHamt v path
+led_view v path f is x = record { front = f; is = is; slot = x.slot; tree = x.tree; leads = x.leads }
 
-pub last_is : (before : List Hop) (above x : Hop) (hops : List Hop) → hops ≡ before ++ above ∷ [] → Some x ≡ slice_get hops (length hops - 1) → x ≡ above
-last_is before above x hops is e = last_get before above x (subst (λ hs. Some x ≡ slice_get hs (length hs - 1)) is e)
+pub leads_root : (root : View) (hops : List Hop) (path : List (List ℕ)) → hops ≡ [] → RootBehind root hops path → ∥ LeadsToHamt root path ∥₁
+leads_root root hops path none x =
+    ∥∥₁_map root.stands (λ s.
+    let is : IsView root s.value = record { room = s.room; tree = s.tree; stands = s.stands; front = s.front } in
+    led_view root path s.value is (x.top none s.value is))
+
+-- in the view of an entry
+pub leads_entry : (e : Entry) (path : List (List ℕ)) (view : View) → table_of view ≡ table_in e → slot_of view ≡ slot_in e
+    → ((f : Value) (room : ℕ) → Front (table_in e) room (slot_in e) f (data_in e) → IsView view f)
+    → ((f : Value) (room : ℕ) → Front (table_in e) room (slot_in e) f (data_in e) → IsRootAt (table_in e) (slot_in e, f) path) → ∥ LeadsToHamt view path ∥₁
+leads_entry e path view table slot stands x =
+    ∥∥₁_map e.stands (λ s.
+    led_view view path s.value (stands s.value e.room s.front)
+    (subst (λ y. IsRootAt (table_of view) (y, s.value) path) (sym slot) (subst (λ y. IsRootAt y (slot_in e, s.value) path) (sym table) (x s.value e.room s.front))))
+
+-- a value in the room of another
+pub entry_nests : (old new : Entry) (item node : Node) (n : ℕ) → room_in old ≤ n → ((t : Data) → Stands item t → IsEntry (table_in old) (slot_in old) (room_in old) t new) → ((t : Data) → Stands node t → depth t ≤ room_in new) → NestsIn n node
+entry_nests old new item node n low is nests = λ t stands.
+    let same : room_in new ≡ room_in old = ∥∥₁_elim item.stands (hlevel props) (λ s. (is s.of s.spells).room_is) in
+    let own = nests t stands in
+    omega (arith, low, same, own)

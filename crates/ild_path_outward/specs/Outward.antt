@@ -1,9 +1,9 @@
 -- An edit beneath HAMTs: from the new block of the innermost value outward to that of the whole.
-use Rattle.std.specs.Prelude.{◌≡◌, ◌≢◌, ◌⊎◌, ℕ, ◌+◌, ◌≤◌, Bool, true, IfOk, List, length, Some, Result, Ok, Err}
-use Rattle.ild_edges.specs.Gained.{AreIdsGiven}
+use Rattle.std.specs.Prelude.{◌≡◌, ◌⊎◌, ℕ, ◌+◌, ◌≤◌, Bool, true, IfOk, List, length, Some, Result, Ok, Err}
+use Rattle.ild_edges.specs.Gained.{AreIdsGiven, Clashes}
 use Rattle.ild_data.specs.Data.{Data}
 use Rattle.ild_data.specs.Limits.{longest_block}
-use Rattle.ild_data.specs.Spell.{id_of, spell}
+use Rattle.ild_data.specs.Spell.{spell}
 use Rattle.ild_edges.specs.Count.{Rose}
 use Rattle.ild_edges.specs.Store.{Moment, Later, block_at}
 use Rattle.ild_edges.specs.Told.{IfTold, BothTold}
@@ -56,8 +56,7 @@ abbrev pub EndAnswer : (List ℕ → List ℕ) → List Row → ℕ → Slot →
 EndAnswer h rows room s c u m (Ok b) n = (b ≡ spell u) × (length b ≤ longest_block) × IfTold n.blocks (λ now. IsHeld (block_at now) h rows room s u c)
 EndAnswer h rows room s c u m (Err F.Size) n = (any_long (nodes h rows s c) ≡ true) ⊎ HasLongPart h rows (s, c)
 EndAnswer h rows room s c u m (Err F.Store) n = Rose m.faults n.faults
-EndAnswer h rows room s c u m (Err (F.Clash id kept new)) n =
-    IsIn new (nodes h rows s c) × (id_of kept ≡ id.0) × (id_of new ≡ id.0) × (kept ≢ new) × IfTold n.blocks (λ held. block_at held id.0 ≡ Some kept) × (length new ≤ longest_block)
+EndAnswer h rows room s c u m (Err (F.Clash id kept new)) n = IsIn new (nodes h rows s c) × (length new ≤ longest_block) × Clashes n id.0 kept new
 EndAnswer h rows room s c u m (Err F.Memory) n = Unit {0}
 EndAnswer h rows room s c u m (Err e) n = ⊥
 

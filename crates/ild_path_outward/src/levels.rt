@@ -2,6 +2,7 @@
 ghost use Rattle.ild_hamt.specs.Edits.{CausedBy};
 ghost use Rattle.std.specs.Prelude.{◌≡◌};
 ghost use Rattle.ild_edges.specs.Store.{Moment};
+ghost use Rattle.ild_path_hops.specs.Links.{AreLinked};
 ghost use Rattle.ild_path_outward.specs.Outward.{CarriesOutward};
 
 use crate::step::set_in;
@@ -22,6 +23,7 @@ pub fn outward<K: Store, H: KeyHash>(
     keys: &H,
     store: &mut K,
 ) -> Result<Octets, HamtFault>
+    requires { ∥ AreLinked root.now hops.items ∥₁ }
     ensures gets { (K.moment store.new).gets ≡ (K.moment store.old).gets }
     ensures caused { CausedBy (K.moment store.old) result (K.moment store.new) }
     ensures carries { CarriesOutward H.hash_of root.now hops.entry.items new (K.moment store.old) result (K.moment store.new) }

@@ -4,5 +4,5 @@
 mod levels;
 mod step;
 
-pub use ild_path_hop::{block_of_edit, remove_entry, set_entry};
+pub use ild_path_hop::{block_of_edit, hamt_at, remove_entry, set_entry};
 pub use levels::outward;

@@ -1,9 +1,11 @@
 //! One level outward.
 ghost use Rattle.ild_hamt.specs.Edits.{CausedBy};
-ghost use Rattle.std.specs.Prelude.{◌≡◌, []};
+ghost use Rattle.std.specs.Prelude.{◌≡◌, ◌≤◌, []};
 ghost use Rattle.ild_cbor.specs.Nodes.{Stands};
 ghost use Rattle.ild_data.specs.Spell.{spell};
 ghost use Rattle.ild_edges.specs.Store.{Moment};
+ghost use Rattle.ild_path_entry.specs.Entry.{room_in};
+ghost use Rattle.ild_path_hops.specs.Links.{RootBehind};
 ghost use Rattle.ild_path_outward.specs.Steps.{SetsBelow, SetsIn};
 ghost use Rattle.ild_node.specs.Rows.{NestsIn, deepest_value};
 ghost use Rattle.ild_view.specs.View.{slot_of, table_of};
@@ -19,9 +21,6 @@ use ild_path_hops::Hop;
 use ild_view::View;
 use std::alloc::Global;
 
-// So deep may the value of an entry nest that there is room for the node around it.
-const DEEPEST_VALUE: u32 = 92;
-
 /// The block of the last of these hops, or of the root where there is none, in which the value at a trail's key of the HAMT at a path is
 /// set to what an item stands for. The new nodes of the HAMT are put, each behind those beneath it.
 pub(crate) fn set_last<'a, K: Store, H: KeyHash>(
@@ -34,7 +33,8 @@ pub(crate) fn set_last<'a, K: Store, H: KeyHash>(
     keys: &H,
     store: &mut K,
 ) -> Result<Octets, HamtFault>
-    requires { NestsIn deepest_value item.now }
+    requires leads { ∥ RootBehind root hops.now front.now ∥₁ }
+    requires nests { NestsIn deepest_value item.now }
     ensures gets { (K.moment store.new).gets ≡ (K.moment store.old).gets }
     ensures caused { CausedBy (K.moment store.old) result (K.moment store.new) }
     ensures root { hops.now ≡ [] → SetsIn H.hash_of (table_of root.entry) (slot_of root.entry) root.entry front.now trail (λ d. Stands item.now d) (K.moment store.old) result (K.moment store.new) }
@@ -49,7 +49,7 @@ pub(crate) fn set_last<'a, K: Store, H: KeyHash>(
     }
 }
 
-/// The same with a new block in place of an item, that of another value of an entry's slot.
+/// The same with a new block in place of an item, that of another value of an entry's slot in its room.
 pub(crate) fn set_in<'a, K: Store, H: KeyHash>(
     alloc: Global,
     root: View<'a>,
@@ -61,6 +61,8 @@ pub(crate) fn set_in<'a, K: Store, H: KeyHash>(
     keys: &H,
     store: &mut K,
 ) -> Result<Octets, HamtFault>
+    requires leads { ∥ RootBehind root hops.now front.now ∥₁ }
+    requires room { room_in entry.now ≤ deepest_value }
     ensures gets { (K.moment store.new).gets ≡ (K.moment store.old).gets }
     ensures caused { CausedBy (K.moment store.old) result (K.moment store.new) }
     ensures root { hops.now ≡ [] → SetsIn H.hash_of (table_of root.entry) (slot_of root.entry) root.entry front.now trail (λ d. new.now ≡ spell d) (K.moment store.old) result (K.moment store.new) }
@@ -74,8 +76,5 @@ pub(crate) fn set_in<'a, K: Store, H: KeyHash>(
         Ok(value) => value,
         Err(_) => return Err(HamtFault::Memory),
     };
-    if value.room() > DEEPEST_VALUE {
-        return Err(HamtFault::Memory);
-    }
     set_last(alloc, root, hops, front, trail, &value.node(), keys, store)
 }

@@ -12,3 +12,5 @@ pub mod Staying
 pub mod PartSlots
 pub mod Failing
 pub mod Holing
+pub mod Linking
+pub mod Refusing

@@ -11,3 +11,5 @@ pub mod Endings
 pub mod Inner
 pub mod Comes
 pub mod Exhausting
+pub mod Links
+pub mod Refuses

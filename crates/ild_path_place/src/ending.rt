@@ -1,10 +1,14 @@
 //! The end of a path, at the holder of its last segment.
-ghost use Rattle.std.specs.Prelude.{◌≡◌, ℕ, IfOk, List, Some};
+ghost use Rattle.std.specs.Prelude.{◌≡◌, ℕ, IfOk, List, None, Some, false};
+ghost use Rattle.ild_data.specs.Data.{Data};
 ghost use Rattle.ild_open_parts.specs.Reads.{OnlyReads};
+ghost use Rattle.ild_open_parts.specs.Sites.{Site};
 ghost use Rattle.ild_path_place.specs.Endings.{CanEndAt, EndsIn, EndsKey, fault_at};
+ghost use Rattle.ild_path_place.specs.Links.{front_at, is_whole};
+ghost use Rattle.ild_path_place.specs.Refuses.{IsHolderSite, RefusesAt};
 ghost use Rattle.ild_path_place.specs.Rooted.{FailsOnly};
 ghost use Rattle.ild_path_place.specs.Slots.{IsPartSlot};
-ghost use Rattle.ild_schema.specs.Value.{Value};
+ghost use Rattle.ild_schema.specs.Value.{Value, hamt};
 ghost use Rattle.ild_typed.specs.At.{InSlot};
 ghost use Rattle.ild_view.specs.View.{IsView, slot_of, table_of};
 
@@ -59,6 +63,8 @@ pub(crate) fn end_in_block<'b>(
     ensures part { IfOk result (λ found. IsPartSlot (table_of holder.now) found.slot) }
     ensures room { IfOk result (λ found. found.room ≡ left) }
     ensures hole { IfOk result (λ found. found.hole ≡ hole) }
+    ensures inside { IfOk result (λ found. is_whole found.end ≡ false) }
+    ensures front { IfOk result (λ found. front_at found.end ≡ None) }
     ensures ends { (f : Value) → IsView holder.now f → EndsIn (table_of holder.now) (slot_of holder.now, f) front last.now k verb result }
 {
     let slot = match slot_in_block(holder, last.as_str(), verb) {
@@ -77,11 +83,12 @@ pub(crate) fn end_in_block<'b>(
     })
 }
 
-/// The end at a key of a HAMT, which leaves this room to the part, and may have a hole then.
+/// The end at a key of a HAMT, whose root stands in this block. It leaves this room to the part, and may have a hole then.
 pub(crate) fn end_at_key<'b, K: Store, H: KeyHash>(
     alloc: Global,
     acc: &'b Accepted,
     holder: &View<'_>,
+    block: &[u8],
     front: Path,
     last: &Txt,
     k: usize,
@@ -92,17 +99,21 @@ pub(crate) fn end_at_key<'b, K: Store, H: KeyHash>(
     keys: &H,
     store: &mut K,
 ) -> Result<Found<'b>, PathFault>
-    requires { table_of holder.now ≡ acc.now }
+    requires table { table_of holder.now ≡ acc.now }
+    requires hamt { ∥ ((t : Data) × IsView holder.now (hamt t)) ∥₁ }
     ensures reads { OnlyReads (K.moment store.old) (K.moment store.new) }
     ensures failed { FailsOnly (K.moment store.old) result (K.moment store.new) }
     ensures part { IfOk result (λ found. IsPartSlot acc.now found.slot) }
     ensures room { IfOk result (λ found. found.room ≡ left) }
     ensures hole { IfOk result (λ found. found.hole ≡ hole) }
+    ensures inside { IfOk result (λ found. is_whole found.end ≡ false) }
+    ensures front { IfOk result (λ found. front_at found.end ≡ Some front) }
+    ensures refused { (z : Site) → IsHolderSite acc.now room holder.now block.now z → RefusesAt H.hash_of acc.now z (K.moment store.old) result (K.moment store.new) }
     ensures told { (was : List (List ℕ)) (limit : ℕ) (q : InSlot) → (K.moment store.old).blocks ≡ Some was → (x : CanEndAt H.hash_of acc.now was limit q front room holder.now)
         → EndsKey H.hash_of acc.now was limit q front room holder.now x last.now k verb (K.moment store.old) result (K.moment store.new) }
 {
     let Some(slot) = value_slot(acc, holder) else {
-        return Err(PathFault::Memory);
+        unreachable!();
     };
     let less = room.saturating_sub(HAMT_LEVELS);
     let Entered { trail, entry } = enter(
@@ -110,6 +121,7 @@ pub(crate) fn end_at_key<'b, K: Store, H: KeyHash>(
         acc,
         slot,
         holder,
+        block,
         last.as_str(),
         less,
         keys,

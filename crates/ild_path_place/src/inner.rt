@@ -1,17 +1,27 @@
 //! The end of a path in the innermost block.
 ghost use Rattle.std.specs.Option.{ForSome};
-ghost use Rattle.std.specs.Prelude.{◌≡◌, ◌≤◌, ℕ, All, IfOk, List, Some};
+ghost use Rattle.std.specs.Prelude.{◌≡◌, ◌≤◌, ℕ, All, IfOk, List, Some, false};
 ghost use Rattle.ild_data.specs.Data.{Data};
+ghost use Rattle.ild_data.specs.Spell.{id_of};
 ghost use Rattle.ild_open_parts.specs.Reads.{OnlyReads};
+ghost use Rattle.ild_path_found.specs.Sites.{block_in};
+ghost use Rattle.ild_path_inward.specs.Halts.{room_stopped};
 ghost use Rattle.ild_path_inward.specs.Inwards.{CanGoOn};
 ghost use Rattle.ild_path_inward.specs.Levels.{IsUnder};
+ghost use Rattle.ild_path_inward.specs.Refuses.{IsDataBehind, block_behind};
 ghost use Rattle.ild_path_place.specs.Holes.{VerbHole};
 ghost use Rattle.ild_path_place.specs.Inner.{CanEnd, EndsThere, LeadsTo};
+ghost use Rattle.ild_path_hops.specs.Links.{PartBehind};
+ghost use Rattle.ild_path_place.specs.Links.{EndBehind, EndFollows, is_whole};
+ghost use Rattle.ild_path_place.specs.Refuses.{RefusesBroken};
 ghost use Rattle.ild_path_place.specs.Rooted.{FailsOnly};
 ghost use Rattle.ild_path_place.specs.Rooms.{HasRoom};
 ghost use Rattle.ild_path_place.specs.Slots.{IsPartSlot};
+ghost use Rattle.ild_schema.specs.Value.{Value};
+ghost use Rattle.ild_schema.specs.declared.number.Slot.{Slot};
 ghost use Rattle.ild_typed.specs.At.{InSlot};
-ghost use Rattle.ild_view.specs.View.{table_of};
+ghost use Rattle.ild_typed.specs.Fits.{Front};
+ghost use Rattle.ild_view.specs.View.{IsView, piece_of, slot_of, table_of};
 
 use crate::ending::{Found, end_at_key, end_in_block};
 use crate::fault::PathFault;
@@ -20,17 +30,19 @@ use crate::room::room_in;
 use crate::verb::Verb;
 use ild_data::{KeyHash, Path, Txt};
 use ild_edges::Store;
+use ild_path_found::{block_of, parts_stand_in_data};
 use ild_path_hops::Hop;
-use ild_path_inward::halt_in;
+use ild_path_inward::{block_under, halt_in};
 use ild_schema::Accepted;
 use ild_view::View;
 use std::alloc::Global;
 
-// The end of a path in the block with this root view: the segments to the holder of its last segment, which has this number.
+// The end of a path in the data of this root view, which stand in this block: the segments to the holder of its last segment, which has this number.
 fn end_of<'b, K: Store, H: KeyHash>(
     alloc: Global,
     acc: &'b Accepted,
     inner: &View<'_>,
+    block: &[u8],
     front: Path,
     last: &Txt,
     k: usize,
@@ -43,18 +55,25 @@ fn end_of<'b, K: Store, H: KeyHash>(
     ensures reads { OnlyReads (K.moment store.old) (K.moment store.new) }
     ensures failed { FailsOnly (K.moment store.old) result (K.moment store.new) }
     ensures part { IfOk result (λ found. IsPartSlot acc.now found.slot) }
+    ensures inside { IfOk result (λ found. is_whole found.end ≡ false) }
+    ensures leads { IfOk result (λ found. EndFollows inner.now front found.end) }
     ensures deep { IfOk result (λ found. ForSome found.room (λ n. n ≤ 96)) }
     ensures room { (was : List (List ℕ)) (limit : ℕ) (q holder : InSlot) (d : Data) → CanEnd H.hash_of acc.now was limit q d inner.now → LeadsTo acc.now limit q front room holder → IfOk result (λ found. HasRoom acc.now holder.0 room last.now found.room) }
     ensures hole { (was : List (List ℕ)) (limit : ℕ) (q holder : InSlot) (d : Data) → CanEnd H.hash_of acc.now was limit q d inner.now → LeadsTo acc.now limit q front room holder → IfOk result (λ found. VerbHole acc.now holder last.now verb found.hole) }
+    ensures refused { (f : Value) (t : Data) (less : ℕ) → IsView inner.now f → Front acc.now less (slot_of inner.now) f t → room ≡ room_stopped acc.now less (slot_of inner.now, f) front
+        → RefusesBroken H.hash_of acc.now (id_of block.now) less (slot_of inner.now) t (K.moment store.old) result (K.moment store.new) }
     ensures told { (was : List (List ℕ)) (limit : ℕ) (q holder : InSlot) (d : Data) → (K.moment store.old).blocks ≡ Some was → CanEnd H.hash_of acc.now was limit q d inner.now → LeadsTo acc.now limit q front room holder
         → EndsThere H.hash_of acc.now was limit q front holder last.now k verb (K.moment store.old) result (K.moment store.new) }
 {
+    // They do no work: their clauses say what acceptance says of the table, and that the parts of a front stand in its data.
+    let _types = acc.types();
+    parts_stand_in_data();
     let holder = halt_in(inner, front.as_slice(), room).view;
     let left = room_in(alloc, acc, &holder, last.as_str(), room)?;
     let hole = leaves(&holder, last.as_str(), verb);
     match holder.hamt() {
         Some(_) => end_at_key(
-            alloc, acc, &holder, front, last, k, room, left, hole, verb, keys, store,
+            alloc, acc, &holder, block, front, last, k, room, left, hole, verb, keys, store,
         ),
         None => end_in_block(alloc, &holder, front, last, k, left, hole, verb),
     }
@@ -78,12 +97,17 @@ pub(crate) fn end_behind<'b, K: Store, H: KeyHash>(
     ensures reads { OnlyReads (K.moment store.old) (K.moment store.new) }
     ensures failed { FailsOnly (K.moment store.old) result (K.moment store.new) }
     ensures part { All (IsUnder acc.now) hops.now → IfOk result (λ found. IsPartSlot acc.now found.slot) }
+    ensures inside { IfOk result (λ found. is_whole found.end ≡ false) }
+    ensures leads { PartBehind root.now hops.now front → IfOk result (λ found. EndBehind root.now hops.now found.end) }
     ensures deep { IfOk result (λ found. ForSome found.room (λ n. n ≤ 96)) }
     ensures room { (was : List (List ℕ)) (limit : ℕ) (q holder : InSlot) (d : Data) → CanGoOn H.hash_of acc.now was limit q d root.now hops.now → LeadsTo acc.now limit q front room holder → IfOk result (λ found. HasRoom acc.now holder.0 room last.now found.room) }
     ensures hole { (was : List (List ℕ)) (limit : ℕ) (q holder : InSlot) (d : Data) → CanGoOn H.hash_of acc.now was limit q d root.now hops.now → LeadsTo acc.now limit q front room holder → IfOk result (λ found. VerbHole acc.now holder last.now verb found.hole) }
+    ensures refused { (s : Slot) (f : Value) (t : Data) (less : ℕ) → IsDataBehind acc.now root.now hops.now less s t f → room ≡ room_stopped acc.now less (s, f) front
+        → RefusesBroken H.hash_of acc.now (id_of (block_behind (block_in (piece_of root.now)) hops.now)) less s t (K.moment store.old) result (K.moment store.new) }
     ensures told { (was : List (List ℕ)) (limit : ℕ) (q holder : InSlot) (d : Data) → (K.moment store.old).blocks ≡ Some was → CanGoOn H.hash_of acc.now was limit q d root.now hops.now → LeadsTo acc.now limit q front room holder
         → EndsThere H.hash_of acc.now was limit q front holder last.now k verb (K.moment store.old) result (K.moment store.new) }
 {
+    let block = block_under(block_of(root), hops);
     match hops.last() {
         Some(hop) => {
             let entry = &hop.entry;
@@ -91,6 +115,7 @@ pub(crate) fn end_behind<'b, K: Store, H: KeyHash>(
                 alloc,
                 entry.schema(),
                 &entry.view(),
+                block,
                 front,
                 last,
                 k,
@@ -100,6 +125,8 @@ pub(crate) fn end_behind<'b, K: Store, H: KeyHash>(
                 store,
             )
         }
-        None => end_of(alloc, acc, root, front, last, k, room, verb, keys, store),
+        None => end_of(
+            alloc, acc, root, block, front, last, k, room, verb, keys, store,
+        ),
     }
 }

@@ -4,15 +4,20 @@ ghost use Rattle.ild_data.specs.Data.{Data};
 ghost use Rattle.ild_data.specs.Spell.{id_of};
 ghost use Rattle.ild_edges.specs.Store.{block_at};
 ghost use Rattle.ild_open_parts.specs.Reads.{OnlyReads};
+ghost use Rattle.ild_path_found.specs.Sites.{block_in as block_of_piece};
 ghost use Rattle.ild_path_inward.specs.Levels.{CanGo};
+ghost use Rattle.ild_path_place.specs.Parts.{verb_in};
 ghost use Rattle.ild_path_place.specs.Places.{LocatesWhole, Locates};
+ghost use Rattle.ild_path_place.specs.Refuses.{RefusesBroken};
 ghost use Rattle.ild_path_place.specs.Rooted.{FailsOnly, IsRootedAt};
 ghost use Rattle.ild_path_place.specs.Tells.{IsPlaceOf, root_at};
 ghost use Rattle.ild_schema.specs.Slots.{plainly};
 ghost use Rattle.ild_schema.specs.Value.{Value};
 ghost use Rattle.ild_typed.specs.At.{InSlot};
+ghost use Rattle.ild_typed.specs.Fits.{Front};
 ghost use Rattle.ild_typed.specs.Stands.{Stands, bare};
-ghost use Rattle.ild_view.specs.View.{slot_of, table_of};
+ghost use Rattle.ild_view.specs.View.{IsView, piece_of, slot_of, table_of};
+ghost use Rattle.ild_view_doc.specs.Block.{IsRootBlock};
 ghost use Rattle.ild_view_doc.specs.Docs.{block_in, table_in, type_in};
 
 use crate::ending::Found;
@@ -33,6 +38,7 @@ use std::alloc::Global;
 fn whole<'b>(alloc: Global, root: View<'b>, verb: Verb) -> Result<Place<'b>, PathFault>
     ensures whole { LocatesWhole (slot_of root.entry) verb result }
     ensures root { IfOk result (λ place. root_at place ≡ root.entry) }
+    ensures done { IfOk result (λ place. verb_in place ≡ verb) }
 {
     match verb {
         Verb::Read | Verb::Set => Ok(Place {
@@ -63,8 +69,11 @@ fn locate_last<'b, K: Store, H: KeyHash>(
 ) -> Result<Place<'b>, PathFault>
     requires { table_of root ≡ acc.now }
     ensures root { IfOk result (λ place. root_at place ≡ root.entry) }
+    ensures done { IfOk result (λ place. verb_in place ≡ verb) }
     ensures reads { OnlyReads (K.moment store.old) (K.moment store.new) }
     ensures failed { FailsOnly (K.moment store.old) result (K.moment store.new) }
+    ensures refused { (f : Value) (t : Data) → IsView root.entry f → Front acc.now 96 (slot_of root.entry) f t
+        → RefusesBroken H.hash_of acc.now (id_of (block_of_piece (piece_of root.entry))) 96 (slot_of root.entry) t (K.moment store.old) result (K.moment store.new) }
     ensures told { (was : List (List ℕ)) (p : InSlot) (d : Data) → (K.moment store.old).blocks ≡ Some was → CanGo H.hash_of acc.now was 96 p d root.entry
         → Locates H.hash_of acc.now was p (front.now ++ last.now ∷ []) verb (K.moment store.old) result (K.moment store.new) }
 {
@@ -112,7 +121,8 @@ fn locate_last<'b, K: Store, H: KeyHash>(
 
 /// The place at which a path ends in a root block's value, for what is to be done there: each HAMT on the way is entered at its key, by
 /// gets alone. `Path` comes exactly where a segment leads nowhere, or nothing may be done at the last one; `Mismatch` where what is to
-/// be deleted can't go. On a store that holds the value no block is refused. A fault of the store comes only where it failed.
+/// be deleted can't go. On a store that holds the value no block is refused, and on any other
+/// only one that is broken, of those that hang on the root's. A fault of the store comes only where it failed.
 pub fn locate<'b, K: Store, H: KeyHash>(
     alloc: Global,
     doc: &'b Doc<'_>,
@@ -124,6 +134,9 @@ pub fn locate<'b, K: Store, H: KeyHash>(
     ensures only { OnlyReads (K.moment store.old) (K.moment store.new) }
     ensures failed { FailsOnly (K.moment store.old) result (K.moment store.new) }
     ensures of { IfOk result (λ place. IsPlaceOf (table_in doc.now) (type_in doc.now) place) }
+    ensures done { IfOk result (λ place. verb_in place ≡ verb) }
+    ensures refused { (f : Value) (root : IsRootBlock (table_in doc.now) (type_in doc.now) (block_in doc.now) f)
+        → RefusesBroken H.hash_of (table_in doc.now) (id_of (block_in doc.now)) 96 (plainly (type_in doc.now)) root.tree (K.moment store.old) result (K.moment store.new) }
     ensures stands { (was : List (List ℕ)) (v : Value) → (K.moment store.old).blocks ≡ Some was → block_at was (id_of (block_in doc.now)) ≡ Some (block_in doc.now)
         → Stands bare (block_at was) H.hash_of (table_in doc.now) (type_in doc.now) (id_of (block_in doc.now)) v
         → Locates H.hash_of (table_in doc.now) was (plainly (type_in doc.now), v) path.now verb (K.moment store.old) result (K.moment store.new) }

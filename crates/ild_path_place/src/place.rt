@@ -1,6 +1,7 @@
 //! Places.
 ghost use Rattle.std.specs.Option.{ForSome};
 ghost use Rattle.std.specs.Prelude.{◌≡◌, ◌<◌, ◌≤◌, length, true};
+ghost use Rattle.ild_path_place.specs.Links.{IsLinked, may_be};
 ghost use Rattle.ild_view.specs.Safe.{is_safe};
 ghost use Rattle.ild_view.specs.View.{table_of};
 
@@ -38,6 +39,8 @@ pub struct Place<'b> {
     ghost within: { slot.ty.0 < length (table_of root) },
     ghost safe: { is_safe (table_of root) slot ≡ true },
     ghost deep: { ForSome room (λ n. n ≤ 96) },
+    ghost whole: { may_be end verb ≡ true },
+    ghost linked: { ∥ IsLinked root hops.items end ∥₁ },
 }
 
 impl<'b> Place<'b> {

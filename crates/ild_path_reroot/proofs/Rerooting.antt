@@ -100,7 +100,7 @@ module _ (h : List ℕ → List ℕ) (p : HamtShape) (rows : List Row) (was : Li
   failed F.Memory is = tt
   failed F.Store is = is.puts.answer
   failed (F.Block id why) is = absurd is.puts.answer
-  failed (F.Clash id kept new) is = let a = is.puts.answer in (of_way new a.0, a.1, a.2, a.3, a.4, short_one new (is.root ∷ way_up h p k fs) is.short (inr a.0))
+  failed (F.Clash id kept new) is = let a = is.puts.answer in (of_way new a.0, short_one new (is.root ∷ way_up h p k fs) is.short (inr a.0), a.1)
 
   abbrev Moves : Type 0
   Moves = Later m n × (n.puts ≤ m.puts + length (way h p k (trie_levels p) 0 fs))

@@ -1,20 +1,21 @@
 -- A HAMT of which one entry is put or goes: the data of its root then, and what a store holds (IPLD HashMap).
-use Rattle.std.specs.Prelude.{◌≡◌, ◌≢◌, ◌⊎◌, ℕ, ◌+◌, ◌≤◌, ◌<◌, true, IsUtf8, List, ◌∷◌, length, Some, Result, Ok, Err, is_some}
+use Rattle.std.specs.Prelude.{◌≡◌, ◌⊎◌, ℕ, ◌+◌, ◌≤◌, ◌<◌, true, IsUtf8, List, ◌∷◌, length, Some, Result, Ok, Err, is_some}
 use Rattle.std.specs.FinMap.{put as insert}
 use Rattle.ild_data.specs.ByteOrder.{bytewise, without as remove}
 use Rattle.ild_data.specs.Data.{Data}
 use Rattle.ild_data.specs.Key.{value_at}
 use Rattle.ild_data.specs.Limits.{longest_block}
-use Rattle.ild_data.specs.Spell.{id_of, spell}
+use Rattle.ild_data.specs.Spell.{spell}
 use Rattle.ild_data.specs.Trie.{TrieSlot}
 use Rattle.ild_data.specs.TrieShape.{trie_levels}
 use Rattle.ild_data.specs.declared.hamt_shape.HamtShape.{HamtShape}
 use Rattle.ild_edges.specs.Count.{Rose}
+use Rattle.ild_edges.specs.Gained.{Clashes}
 use Rattle.ild_edges.specs.Store.{Moment, Later, block_at}
 use Rattle.ild_edges.specs.Told.{IfTold, BothTold}
 use Rattle.ild_schema.specs.declared.number.Slot.{Slot}
 use Rattle.ild_schema.specs.declared.row.Row.{Row}
-use Rattle.ild_schema.specs.Value.{Value, Pairs, map, pairs_list}
+use Rattle.ild_schema.specs.Value.{Value, Pairs, hamt, map, pairs_list}
 use Rattle.ild_node_slots.specs.declared.fault.HamtFault.{HamtFault}
 use Rattle.ild_node_slots.specs.declared.fault.HamtFault.TheVariants as F
 use Rattle.ild_hamt_trie.specs.Way.{way}
@@ -32,6 +33,8 @@ use Rattle.ild_hamt.specs.Descending.{IsTrailOf}
 use Rattle.ild_hamt.specs.Given.{GivesWay}
 use Rattle.ild_hamt.specs.declared.trail.Trail.{Trail}
 use Rattle.ild_open_held.specs.Held.{IsHeld}
+use Rattle.ild_view.specs.View.{IsView}
+use Rattle.ild_view.specs.declared.view.View.{View}
 use Rattle.ild_path_nodes.specs.NodeLaws.{IsHamt}
 use Rattle.ild_path_held.specs.Hamts.{IsTrieIn}
 use Rattle.ild_path_entered.specs.Entered.{with_entry, without_entry}
@@ -42,6 +45,11 @@ MakesRoot bytes (Ok b) = (b ≡ bytes) × (length b ≤ longest_block)
 MakesRoot bytes (Err F.Size) = longest_block < length bytes
 MakesRoot bytes (Err F.Memory) = Unit {0}
 MakesRoot bytes (Err e) = ⊥
+
+-- the view is that of a HAMT, of which it has the root
+pub record IsHamtView (view : View) : Type 0 where
+  pub tree : Data
+  pub is : IsView view (hamt tree)
 
 -- what the writing of a block may answer in place of it
 abbrev pub IsWritingFault : HamtFault → Type 0
@@ -80,8 +88,7 @@ abbrev pub EditAnswer : (List ℕ → List ℕ) → List Row → ℕ → Slot �
 EditAnswer h rows room s v x m (Ok b) n = (b ≡ spell x) × (length b ≤ longest_block) × IfTold n.blocks (λ now. IsHeld (block_at now) h rows room s x v)
 EditAnswer h rows room s v x m (Err F.Size) n = any_long (spell x ∷ nodes h rows s v) ≡ true
 EditAnswer h rows room s v x m (Err F.Store) n = Rose m.faults n.faults
-EditAnswer h rows room s v x m (Err (F.Clash id kept new)) n =
-    IsIn new (nodes h rows s v) × (id_of kept ≡ id.0) × (id_of new ≡ id.0) × (kept ≢ new) × IfTold n.blocks (λ held. block_at held id.0 ≡ Some kept) × (length new ≤ longest_block)
+EditAnswer h rows room s v x m (Err (F.Clash id kept new)) n = IsIn new (nodes h rows s v) × (length new ≤ longest_block) × Clashes n id.0 kept new
 EditAnswer h rows room s v x m (Err F.Memory) n = Unit {0}
 EditAnswer h rows room s v x m (Err e) n = ⊥
 

@@ -5,7 +5,7 @@ ghost use Rattle.ild_data.specs.Data.{Data};
 ghost use Rattle.ild_edges.specs.Store.{Moment};
 ghost use Rattle.ild_node.specs.Rows.{NestsIn, deepest_value};
 ghost use Rattle.ild_cbor.specs.Nodes.{Stands};
-ghost use Rattle.ild_path_reroot.specs.Reroots.{Cuts, IsCut, IsHamtHeld, IsPut, Puts};
+ghost use Rattle.ild_path_reroot.specs.Reroots.{Cuts, IsCut, IsHamtHeld, IsHamtView, IsPut, Puts};
 ghost use Rattle.ild_schema.specs.Value.{Pairs, Value, hamt};
 ghost use Rattle.ild_schema.specs.declared.number.Slot.{Slot as Place};
 ghost use Rattle.ild_schema.specs.declared.row.Row.{Row};
@@ -30,7 +30,8 @@ pub fn put_entry<K: Store, H: KeyHash>(
     keys: &H,
     store: &mut K,
 ) -> Result<Octets, HamtFault>
-    requires { NestsIn deepest_value item.now }
+    requires hamt { ∥ IsHamtView view.now ∥₁ }
+    requires nests { NestsIn deepest_value item.now }
     ensures gets { (K.moment store.new).gets ≡ (K.moment store.old).gets }
     ensures caused { CausedBy (K.moment store.old) result (K.moment store.new) }
     ensures puts { (rows : List Row) (was : List (List ℕ)) (s elem : Place) (t d x : Data) (ps : Pairs) (es : List (List ℕ × Data)) (k : List ℕ) (room : ℕ) (w : Value) → IsView view.now (hamt t)
@@ -39,7 +40,7 @@ pub fn put_entry<K: Store, H: KeyHash>(
 {
     let root = match view.hamt() {
         Some(root) => root,
-        None => return Err(HamtFault::Memory),
+        None => unreachable!(),
     };
     let shape = root.shape();
     let node = trail.set(alloc, root, item, keys, store)?;
@@ -54,6 +55,7 @@ pub fn cut_entry<K: Store, H: KeyHash>(
     keys: &H,
     store: &mut K,
 ) -> Result<Octets, HamtFault>
+    requires { ∥ IsHamtView view.now ∥₁ }
     ensures gets { (K.moment store.new).gets ≡ (K.moment store.old).gets }
     ensures caused { CausedBy (K.moment store.old) result (K.moment store.new) }
     ensures cuts { (rows : List Row) (was : List (List ℕ)) (s elem : Place) (t x : Data) (ps : Pairs) (es : List (List ℕ × Data)) (k : List ℕ) (room : ℕ) → IsView view.now (hamt t)
@@ -62,7 +64,7 @@ pub fn cut_entry<K: Store, H: KeyHash>(
 {
     let root = match view.hamt() {
         Some(root) => root,
-        None => return Err(HamtFault::Memory),
+        None => unreachable!(),
     };
     let shape = root.shape();
     let node = trail.remove(alloc, root, keys, store)?;

@@ -1,13 +1,17 @@
 //! The edits of a club and of a small HAMT by the calls on places, each part as its item in hexadecimals. The items and the roots are those of
 //! tests/paths/rows.py.
+ghost use Rattle.std.specs.Prelude.{◌≡◌, true};
+ghost use Rattle.ild_path_place.specs.Comes.{comes};
+ghost use Rattle.ild_path_place.specs.Parts.{verb_in};
+
 use crate::told::{doc_of, place_verb};
 use hex::decode;
 use ild_cbor::check;
 use ild_compile::compile;
 use ild_data::{NamedBlock, Sha256Keys};
 use ild_edges::MemStore;
-use ild_path::{PathFault, Place, erase, locate, replace};
-use ild_script::{No, Reply, Word, line_of, reply_text};
+use ild_path::{PathFault, Place, Verb, erase, locate, replace};
+use ild_script::{No, Reply, line_of, reply_text};
 use ild_view_doc::Doc;
 use std::alloc::Global;
 use std::test::Fail;
@@ -41,19 +45,27 @@ const ABC_EDITS: [&str; 3] = [
     "del /abc => root bafyreihn72qdqs5xwehgcqeepxbqs3zkocg5l7f4vn3asclloqtrgj3uqe\n",
 ];
 
-/// The root block where an item comes to a place, or the part there goes.
+/// The root block where an item comes to a place.
+fn put_in(alloc: Global, place: Place<'_>, item: &[u8], store: &mut MemStore) -> Option<NamedBlock>
+    requires { comes (verb_in place) ≡ true }
+{
+    let part = check(item).ok()?;
+    replace(alloc, place, &part, &Sha256Keys, store).ok()
+}
+
+/// The same, or where the part there goes.
 fn block_of(
     alloc: Global,
     place: Place<'_>,
-    verb: Word,
     item: &[u8],
     store: &mut MemStore,
 ) -> Option<NamedBlock> {
-    if verb == Word::Del {
-        return erase(alloc, place, &Sha256Keys, store).ok();
+    match place.verb() {
+        Verb::Set => put_in(alloc, place, item, store),
+        Verb::Ins => put_in(alloc, place, item, store),
+        Verb::Del => erase(alloc, place, &Sha256Keys, store).ok(),
+        Verb::Read => None,
     }
-    let part = check(item).ok()?;
-    replace(alloc, place, &part, &Sha256Keys, store).ok()
 }
 
 /// The root block of what a line asks for, or why there is no place.
@@ -67,7 +79,7 @@ fn placed(
     let item = decode(alloc, asked.as_bytes().get(line.json_at..)?).ok()?;
     let verb = place_verb(line.verb);
     match locate(alloc, doc, &line.path, verb, &Sha256Keys, store) {
-        Ok(place) => Some(Ok(block_of(alloc, place, line.verb, &item, store)?)),
+        Ok(place) => Some(Ok(block_of(alloc, place, &item, store)?)),
         Err(PathFault::Path { .. }) => Some(Err(No::Path)),
         Err(PathFault::Mismatch) => Some(Err(No::Mismatch)),
         Err(_) => None,

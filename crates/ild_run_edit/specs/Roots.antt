@@ -16,6 +16,7 @@ use Rattle.ild_typed.specs.At.{InSlot}
 use Rattle.ild_typed.specs.Stands.{Stands, bare}
 use Rattle.ild_path_edits.specs.Edit.{Edit}
 use Rattle.ild_path_edits.specs.Judged.{Tests, AreTests}
+use Rattle.ild_path_place.specs.Parts.{verb_in}
 use Rattle.ild_path_place.specs.Tells.{IsPlaceOf}
 use Rattle.ild_path_around.specs.Telling.{refusal_at}
 use Rattle.ild_path_around.specs.Telling.{IsPlaceIn}
@@ -60,6 +61,11 @@ abbrev pub IsInDoc : Doc → Result Place No → Type 0
 IsInDoc d (Ok place) = IsPlaceOf (table_in d) (type_in d) place
 IsInDoc d (Err refusal) = Unit {0}
 
+-- and one for what is asked
+abbrev pub IsFor : Verb → Result Place No → Type 0
+IsFor verb (Ok place) = verb_in place ≡ verb
+IsFor verb (Err refusal) = Unit {0}
+
 -- a fault of the store, over every store; a line is not refused so, nothing is printed, and nothing put
 abbrev pub FindFails : Moment → Result Place No → Moment → Type 0
 FindFails m (Err N.Store) n = Rose m.faults n.faults
@@ -72,6 +78,7 @@ FindFails m result n = Unit {0}
 pub record Finds (h : List ℕ → List ℕ) (d : Doc) (verb : Verb) (path : List (List ℕ)) (m : Moment) (result : Result Place No) (n : Moment) : Type 0 where
   pub only : OnlyReads m n
   pub of : IsInDoc d result
+  pub done : IsFor verb result
   pub fails : FindFails m result n
   pub stands : (held : List (List ℕ)) (v : Value) → m.blocks ≡ Some held → block_at held (id_of (block_in d)) ≡ Some (block_in d)
       → Stands bare (block_at held) h (table_in d) (type_in d) (id_of (block_in d)) v → FindsIn h (table_in d) held (plainly (type_in d), v) path verb m result n

@@ -1,5 +1,7 @@
 //! A part comes to its place.
-ghost use Rattle.std.specs.Prelude.{◌≡◌, ◌<◌, Err, IfOk, length};
+ghost use Rattle.std.specs.Prelude.{◌≡◌, ◌<◌, Err, IfOk, length, true};
+ghost use Rattle.ild_path_place.specs.Comes.{comes};
+ghost use Rattle.ild_path_place.specs.Parts.{verb_in};
 ghost use Rattle.ild_path_place.specs.Tells.{table_at};
 ghost use Rattle.ild_run_edit.specs.Moves.{ComesTo, PartAnswer};
 ghost use Rattle.ild_run_edit.specs.Naming.{NamesClash};
@@ -48,7 +50,8 @@ pub(crate) fn bring<K: Store, H: KeyHash>(
     store: &mut K,
     clash: &mut Option<BlockId>,
 ) -> Result<NamedBlock, No>
-    requires { acc.now ≡ table_at place }
+    requires table { acc.now ≡ table_at place }
+    requires brings { comes (verb_in place) ≡ true }
     ensures swaps { SwapsTo place.entry result }
     ensures comes { ComesTo H.hash_of place.entry json.now (K.moment store.old) result (K.moment store.new) }
     ensures named { result ≡ Err refusal.Clash → NamesClash clash.new (K.moment store.new) }

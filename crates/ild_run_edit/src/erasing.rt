@@ -1,6 +1,8 @@
 //! A part goes from its place.
 ghost use Rattle.std.specs.Prelude.{◌≡◌, Err};
+ghost use Rattle.ild_path_place.specs.Parts.{verb_in};
 ghost use Rattle.ild_path_place.specs.Tells.{table_at};
+ghost use Rattle.ild_path_place.specs.declared.verb.Verb.TheVariants.{Del};
 ghost use Rattle.ild_run_edit.specs.Moves.{GoesFrom};
 ghost use Rattle.ild_run_edit.specs.Naming.{NamesClash};
 ghost use Rattle.ild_run_edit.specs.Swaps.{SwapsTo};
@@ -25,7 +27,8 @@ pub(crate) fn erase_part<K: Store, H: KeyHash>(
     store: &mut K,
     clash: &mut Option<BlockId>,
 ) -> Result<NamedBlock, No>
-    requires { acc.now ≡ table_at place }
+    requires table { acc.now ≡ table_at place }
+    requires done { verb_in place ≡ Del }
     ensures swaps { SwapsTo place.entry result }
     ensures goes { GoesFrom H.hash_of place.entry (K.moment store.old) result (K.moment store.new) }
     ensures named { result ≡ Err refusal.Clash → NamesClash clash.new (K.moment store.new) }

@@ -5,7 +5,7 @@ ghost use Rattle.ild_run_edit.specs.Judges.{IsPartRefusal, TellsAround, first_to
 ghost use Rattle.ild_schema.specs.ValueSeen.{value_of};
 ghost use Rattle.ild_typed.specs.Typed.{Typed};
 
-use ild_build::{Judged, add_text, judge};
+use ild_build::{Judged, judge, represented_text};
 use ild_path_around::breaks_around;
 use ild_path_place::Place;
 use ild_schema::{Accepted, Val};
@@ -51,12 +51,9 @@ fn breaks_with(
     requires { acc.now ≡ table_at place.now }
     ensures { IfOk result (TellsAround place.now (value_of val.now)) }
 {
-    let mut out = String::new(alloc);
-    let has_text = add_text(acc, place.slot(), val, &mut out)?;
-    if has_text {
-        breaks_around(alloc, place, Some(out.as_str()))
-    } else {
-        breaks_around(alloc, place, None)
+    match represented_text(alloc, acc, place.slot(), val)? {
+        Some(text) => breaks_around(alloc, place, Some(text.as_str())),
+        None => breaks_around(alloc, place, None),
     }
 }
 

@@ -1,5 +1,7 @@
 //! A part is built, and put at its place.
-ghost use Rattle.std.specs.Prelude.{◌≡◌, Err, IfOk};
+ghost use Rattle.std.specs.Prelude.{◌≡◌, Err, IfOk, true};
+ghost use Rattle.ild_path_place.specs.Comes.{comes};
+ghost use Rattle.ild_path_place.specs.Parts.{verb_in};
 ghost use Rattle.ild_path_place.specs.Tells.{slot_in, table_at};
 ghost use Rattle.ild_run_edit.specs.Judges.{IsFreePart};
 ghost use Rattle.ild_run_edit.specs.Moves.{BuildsPart, IsPartBlock, PutsPart};
@@ -63,6 +65,7 @@ pub(crate) fn put_part<K: Store, H: KeyHash>(
     requires table { acc.now ≡ table_at place }
     requires typed { Typed acc.now (slot_in place) (value_of part.now) }
     requires free { IsFreePart place (value_of part.now) }
+    requires brings { comes (verb_in place) ≡ true }
     ensures swaps { SwapsTo place.entry result }
     ensures puts { PutsPart H.hash_of place.entry (value_of part.now) json.now (K.moment store.old) result (K.moment store.new) }
     ensures named { result ≡ Err refusal.Clash → NamesClash clash.new (K.moment store.new) }

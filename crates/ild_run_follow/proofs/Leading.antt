@@ -1,9 +1,9 @@
 -- Where the segments of a path lead in a view, and what is told there.
-use Rattle.std.proofs.Common.{◌≡◌, ℕ, zero, suc, ◌+◌, ◌-◌, ◌*◌, ◌<◌, ◌≤◌, List, [], ◌∷◌, ◌++◌, length, drop, true, false, Option, Some, None, Result, Ok, Err, refl, sym, ap, ◌∙◌, subst, arith}
+use Rattle.std.proofs.Common.{◌≡◌, ℕ, zero, suc, ◌+◌, ◌-◌, ◌*◌, ◌<◌, ◌≤◌, List, [], ◌∷◌, ◌++◌, length, length-drop, drop, true, false, Option, Some, None, Result, Ok, Err, refl, sym, ap, ◌∙◌, subst, arith}
 use Rattle.std.specs.Option.{option_map_or}
 use Rattle.std.specs.Prelude.{slice_get}
 use Rattle.std.proofs.lemmas.Option.{none-some}
-use Rattle.std.proofs.Math.Logic.{∥∥₁_elim}
+use Rattle.std.proofs.Math.Logic.{∥∥₁_elim, ∥∥₁_map}
 use Rattle.std.proofs.Props.{props}
 use Rattle.ild_data.specs.Data.{Data}
 use Rattle.ild_data.specs.declared.tree.Tree.{Tree}
@@ -152,6 +152,41 @@ behind_key rows k p (s ∷ ss) view j reaches = by (part (seen rows p) s) reache
 pub key_behind : (view : View) (k : ℕ) (path : List (List ℕ)) (hamt : View) (j : ℕ) → Steps view k path (Ok (S.Enter hamt j)) → k ≤ j
 key_behind view k path hamt j steps =
     ∥∥₁_elim view.stands (hlevel props) (λ s. behind_key (table_of view) k (slot_of view, s.value) path hamt j (steps s.value (record { room = s.room; tree = s.tree; stands = s.stands; front = s.front })))
+
+-- it is a HAMT, of which the view has the root, and its key a segment of the path
+record IsEntered (view : View) (k n j : ℕ) : Type 0 where
+  tree : Data
+  view_is : IsView view (V.hamt tree)
+  within : j < k + n
+
+entered : (rows : List Row) (k : ℕ) (p : InSlot) (path : List (List ℕ)) (view : View) (j : ℕ) → Reaches rows (reached rows k p path) (Ok (S.Enter view j)) → IsEntered view k (length path) j
+entered rows k p [] view j reaches = absurd reaches
+entered rows k p (s ∷ ss) view j reaches = by (part (seen rows p) s) reaches (λ q. entered rows (suc k) q ss view j) where
+  by_value : (slot : _) (v : Value) → Reaches rows (or_enter k slot v) (Ok (S.Enter view j)) → IsEntered view k (length (s ∷ ss)) j
+  by_value slot (V.hamt d) r = record { tree = d; view_is = r.0.view; within = omega (arith, r.1) }
+  by_value slot v r = absurd r
+
+  by : (o : Option InSlot) → Reaches rows (option_map_or (λ q. reached rows (suc k) q ss) o (or_enter k p.0 p.1)) (Ok (S.Enter view j))
+      → ((q : InSlot) → Reaches rows (reached rows (suc k) q ss) (Ok (S.Enter view j)) → IsEntered view (suc k) (length ss) j) → IsEntered view k (length (s ∷ ss)) j
+  by None r later = by_value p.0 p.1 r
+  by (Some q) r later = let x = later q r in record { tree = x.tree; view_is = x.view_is; within = (let less = x.within in omega (arith, less)) }
+
+pub enters_root : (view : View) (k : ℕ) (path : List (List ℕ)) (hamt : View) (j : ℕ) → Steps view k path (Ok (S.Enter hamt j)) → ∥ ((t : Data) × IsView hamt (V.hamt t)) ∥₁
+enters_root view k path hamt j steps =
+    ∥∥₁_map view.stands (λ s.
+    let x = entered (table_of view) k (slot_of view, s.value) path hamt j (steps s.value (record { room = s.room; tree = s.tree; stands = s.stands; front = s.front })) in (x.tree, x.view_is))
+
+pub enters_within : (view : View) (k : ℕ) (all : List (List ℕ)) (hamt : View) (j : ℕ) → k ≤ j → Steps view k (drop k all) (Ok (S.Enter hamt j)) → j < length all
+enters_within view k all hamt j behind steps =
+    ∥∥₁_elim view.stands (hlevel props) (λ s.
+    let x = entered (table_of view) k (slot_of view, s.value) (drop k all) hamt j (steps s.value (record { room = s.room; tree = s.tree; stands = s.stands; front = s.front })) in
+    let less = x.within in
+    omega (arith, less, behind, length-drop k all))
+
+pub never_past : (xs : List (List ℕ)) (k : ℕ) → k < length xs → None ≡ slice_get xs k → ⊥
+never_past [] k less e = omega (arith, less)
+never_past (y ∷ xs) zero less e = none-some y e
+never_past (y ∷ xs) (suc k) less e = never_past xs k (omega (arith, less)) e
 
 zero_plus : (n : ℕ) → 0 + n ≡ n
 zero_plus n = omega arith

@@ -1,6 +1,6 @@
 -- A trail through a HAMT, and the value at its end.
-use Rattle.std.proofs.Common.{◌≡◌, ℕ, List, Option, Some, Result, Ok, Err, sym, ◌∙◌, subst}
-use Rattle.std.proofs.lemmas.Option.{same_Some}
+use Rattle.std.proofs.Common.{◌≡◌, ℕ, List, Option, Some, None, Result, Ok, Err, refl, sym, ap, ◌∙◌, subst}
+use Rattle.std.proofs.lemmas.Option.{none-some, same_Some}
 use Rattle.ild_cbor.specs.declared.node.Node.{Node}
 use Rattle.ild_cbor.specs.declared.why.BlockWhy.{BlockWhy}
 use Rattle.ild_cbor.specs.declared.why.Why.{Why}
@@ -10,6 +10,8 @@ use Rattle.ild_data.specs.declared.id.BlockId.{BlockId}
 use Rattle.ild_edges.specs.Store.{Moment}
 use Rattle.ild_hamt.specs.Descending.{DescendAnswer, Descends, TrailIs}
 use Rattle.ild_hamt.specs.declared.trail.Trail.{Trail}
+use Rattle.ild_schema.specs.Slots.{form_of}
+use Rattle.ild_schema.specs.Value as V
 use Rattle.ild_schema.specs.declared.def.TypeDef.{TypeDef}
 use Rattle.ild_schema.specs.declared.number.Slot.{Slot}
 use Rattle.ild_schema.specs.declared.number.TypeNo.{TypeNo}
@@ -17,14 +19,18 @@ use Rattle.ild_schema.specs.declared.row.Row.{Row}
 use Rattle.ild_node_slots.specs.declared.fault.HamtFault.{HamtFault}
 use Rattle.ild_node_slots.specs.declared.fault.HamtFault.TheVariants as H
 use Rattle.ild_data.specs.declared.hamt_shape.HamtShape.{HamtShape}
+use Rattle.ild_typed.proofs.FormOf.{hamt_form}
+use Rattle.ild_typed.proofs.OneLayer.{in_layer}
 use Rattle.ild_typed.specs.Fits.{Fits}
+use Rattle.ild_typed.specs.Layer as Y
 use Rattle.ild_typed.specs.Layers.{Shows}
+use Rattle.ild_typed.specs.OfType.{OfType}
 use Rattle.ild_typed.specs.Schema.{IsSchema}
 use Rattle.ild_typed.specs.WhyLaws.{RefusedHaveNoFront}
-use Rattle.ild_view.specs.View.{Views}
+use Rattle.ild_view.specs.View.{IsView, Views, slot_of, table_of}
 use Rattle.ild_view.specs.declared.view.View.{View}
 use Rattle.ild_view_walk.specs.Checks.{IsRefusal}
-use Rattle.ild_path_room.specs.ValueSlot.{IsValueSlot}
+use Rattle.ild_path_room.specs.ValueSlot.{IsValueSlot, value_in}
 use Rattle.ild_run_follow.specs.Enters.{ChecksEntry, EnterAnswer, EntersTrie}
 use Rattle.ild_run_follow.specs.Faults.{hamt_fault}
 use Rattle.ild_run_follow.specs.Tells.{FailsOnly}
@@ -68,3 +74,11 @@ module _ (rows : List Row) (schema : IsSchema rows) (never : RefusedHaveNoFront)
       let same : s ≡ slot = same_Some s slot (sym e ∙ is.0) in
       let f : Shows (Fits rows 96) rows slot t = subst (λ (u : Slot). Shows (Fits rows 96) rows u t) same shows in
       never rows schema 96 slot (safe_is rows slot is.2) t v.refusal v.refused f.0 (record { fits = f.1; tree = f.2 })
+
+-- the type of a HAMT says what its values are
+pub hamt_valued : (rows : List Row) (v : View) → table_of v ≡ rows → (t : Data) → IsView v (V.hamt t) → value_in (form_of rows (slot_of v)) ≡ None → ⊥
+hamt_valued rows v table t is none =
+    let fits : Fits rows is.room (slot_of v) (V.hamt t) = subst (λ (r : List Row). Fits r is.room (slot_of v) (V.hamt t)) table is.front.fits in
+    let x = in_layer rows (slot_of v) (V.hamt t) (Y.hamt t) refl (is.room, fits) in
+    let y = hamt_form rows (OfType rows) x.ty t x.holds in
+    none-some y.2 (sym none ∙ ap value_in x.form ∙ ap (λ d. value_in (Some d)) y.5)

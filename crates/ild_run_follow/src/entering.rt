@@ -6,7 +6,8 @@ ghost use Rattle.ild_data.specs.Trie.{TrieSlot};
 ghost use Rattle.ild_schema.specs.Slots.{form_of};
 ghost use Rattle.ild_node_slots.specs.Views.{HasSlots};
 ghost use Rattle.ild_data.specs.declared.hamt_shape.HamtShape.{HamtShape};
-ghost use Rattle.ild_view.specs.View.{slot_of, table_of};
+ghost use Rattle.ild_schema.specs.Value.{hamt as root_of};
+ghost use Rattle.ild_view.specs.View.{IsView, slot_of, table_of};
 ghost use Rattle.ild_run_follow.specs.Enters.{ChecksEntry, EntersTrie};
 
 use crate::fault::{ReadFault, of_hamt};
@@ -45,6 +46,7 @@ pub(crate) fn entry_view<'b>(
     hamt: &View<'b>,
     node: Node<'b>,
 ) -> Result<View<'b>, ReadFault>
+    requires { ∥ ((t : Data) × IsView hamt.now (root_of t)) ∥₁ }
     ensures { (d : Data) → Stands node.entry d → ChecksEntry (table_of hamt.now) (form_of (table_of hamt.now) (slot_of hamt.now)) node.entry d result }
 {
     let acc = hamt.schema();
@@ -52,7 +54,7 @@ pub(crate) fn entry_view<'b>(
     let _types = acc.types();
     refused_have_no_front();
     let Some(slot) = value_slot(acc, hamt) else {
-        return Err(ReadFault::Memory);
+        unreachable!();
     };
     match View::check(alloc, acc, slot, node, ROOM) {
         Ok(view) => Ok(view),

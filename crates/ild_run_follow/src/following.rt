@@ -1,7 +1,10 @@
 //! A path followed from block to block.
-ghost use Rattle.std.specs.Prelude.{◌≤◌, drop};
+ghost use Rattle.std.specs.Prelude.{◌<◌, ◌≤◌, drop, length};
+ghost use Rattle.ild_data.specs.Data.{Data};
 ghost use Rattle.ild_open.specs.Loaded.{IsShallow};
 ghost use Rattle.ild_run_follow.specs.Tells.{TellsFrom, TellsIn};
+ghost use Rattle.ild_schema.specs.Value.{hamt as root_of};
+ghost use Rattle.ild_view.specs.View.{IsView};
 
 use crate::absent::absent;
 use crate::entering::{entry_view, trail_of};
@@ -36,7 +39,7 @@ fn tell_from<'b, K: Store, H: KeyHash>(
     }
 }
 
-// The same of the segments from the key of a HAMT on.
+// The same of the segments from the key of a HAMT on, whose root the view has.
 #[cycle(follow)]
 fn tell_in<'b, K: Store, H: KeyHash>(
     alloc: Global,
@@ -47,16 +50,18 @@ fn tell_in<'b, K: Store, H: KeyHash>(
     keys: &H,
     store: &mut K,
 ) -> Result<Tree, ReadFault>
+    requires root { ∥ ((t : Data) × IsView hamt (root_of t)) ∥₁ }
+    requires within { k < length path.now }
     ensures { TellsIn H.hash_of hamt.entry (drop k path.now) tell (K.moment store.old) result (K.moment store.new) }
 {
     // They do no work, as above: the count says that a number behind a segment's is one.
     let _types = hamt.schema().types();
     let _count = path.len();
     let Some(root) = hamt.hamt() else {
-        return Err(ReadFault::Memory);
+        unreachable!();
     };
     let Some(key) = path.get(k) else {
-        return Err(ReadFault::Memory);
+        unreachable!();
     };
     let trail = trail_of(alloc, root, key.as_str(), keys, store)?;
     let Some(node) = trail.found(root) else {

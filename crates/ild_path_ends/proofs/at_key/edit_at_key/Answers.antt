@@ -1,3 +1,6 @@
+use Rattle.std.proofs.Common.{List, sym, subst}
+use Rattle.ild_path_hops.specs.Links.{RootBehind}
+use Rattle.ild_path_hops.specs.declared.hop.Hop.{Hop}
 use Rattle.std.proofs.lemmas.Result.{err_from_is_err_and}
 use Rattle.ild_path_ends.proofs.Carried.{Next, key_done, key_end, key_failed}
 use Rattle.ild_path_ends.proofs.Finishing.{caused_then}
@@ -22,3 +25,6 @@ returns-clause-edits g c = λ is_key was v w x t u q less k told level leads key
     let now = Next h is_key was v t c.args.root.now c.args.hops.items q less level leads _ x u change.tree change.fits m n told _ y in
     key_done h is_key was v t c.args.root.now c.args.hops.items q less level leads _ x u change.tree change.fits m n told _ y (g.K.Store.moment c.finish.new.store) c.finish.result y.ends.given
     (c.finish.ensures.finishes is_key now.0 v y.new t u now.1 (key_end h is_key was v t c.args.root.now c.args.hops.items q less level leads _ x u change.tree change.fits m n told _ y c.in_ok-block.block y.ends.answer))
+
+pub changed_at_key-requires : goal.changed_at_key-requires
+changed_at_key-requires g c = subst (λ (hs : List Hop). ∥ RootBehind c.args.root.now hs c.args.front.now ∥₁) (sym c.as_slice.ensures.value) c.requires.leads

@@ -3,29 +3,15 @@ use Rattle.ild_typed_fronts.specs.Front.{front}
 use Rattle.ild_view.specs.View.{slot_of, table_of}
 use Rattle.ild_path_entered.specs.Entered.{without_entry}
 use Rattle.ild_path_hop.specs.Levels.{with_cut}
-use Rattle.ild_path_hop.proofs.Cutting.{X, Less, edits, hamt_held, hamt_cut, hamt_view, level_done, level_failed, not_entered, not_lost, root_view, tree_x}
+use Rattle.ild_path_hop.proofs.Cutting.{X, Less, edits, hamt_held, hamt_cut, hamt_view, level_done, level_failed, root_view, tree_x}
 use Rattle.ild_path_reroot.proofs.Causing.{caused_after}
 use Rattle.ild_path_hop.proofs.level.remove_entry.Goals as goal
 
-pub returns-in-Ok-Enter-clause-cuts : goal.returns-in-Ok-Enter-clause-cuts
-returns-in-Ok-Enter-clause-cuts g c = λ is_key was room v t u slot elem ps es k told level set.
-    let h = g.H.KeyHash.hash_of in
-    let root = c.args.root.now in
-    let path = c.args.front.now in
-    let view = root_view h is_key was room v t u root path slot elem ps es k c.args.trail level set in
-    let entered = rw c.in-Ok-Enter.field-0-is at (c.in-Ok-Enter.ensures (front h (table_of root) (slot_of root) v) view) in
-    absurd (not_entered h is_key was room v t u root path slot elem ps es k c.args.trail level set c.in-Ok-Enter.field-0-0 c.in-Ok-Enter.field-0-1 entered)
-
-pub returns-in-Err-clause-cuts : goal.returns-in-Err-clause-cuts
-returns-in-Err-clause-cuts g c = λ is_key was room v t u slot elem ps es k told level set.
-    absurd (not_lost g.H.KeyHash.hash_of is_key was room v t u c.args.root.now c.args.front.now slot elem ps es k c.args.trail level set c.in-Err.field-0
-    (c.in-Err.ensures (front g.H.KeyHash.hash_of (table_of c.args.root.now) (slot_of c.args.root.now) v) (root_view g.H.KeyHash.hash_of is_key was room v t u c.args.root.now c.args.front.now slot elem ps es k c.args.trail level set)))
-
 pub returns-in_err-map-clause-cuts : goal.returns-in_err-map-clause-cuts
 returns-in_err-map-clause-cuts g c = λ is_key was room v t u slot elem ps es k told level set.
-    let y = hamt_view g.H.KeyHash.hash_of is_key was room v t u c.args.root.now c.args.front.now slot elem ps es k c.args.trail level set c.in-Ok-Here.view
-    (rw c.in-Ok-Here.field-0-is at (c.in-Ok-Here.ensures (front g.H.KeyHash.hash_of (table_of c.args.root.now) (slot_of c.args.root.now) v)
-    (root_view g.H.KeyHash.hash_of is_key was room v t u c.args.root.now c.args.front.now slot elem ps es k c.args.trail level set))) in
+    let y = hamt_view g.H.KeyHash.hash_of is_key was room v t u c.args.root.now c.args.front.now slot elem ps es k c.args.trail level set c.hamt_at-hamt.result
+    (c.hamt_at-hamt.ensures.here (front g.H.KeyHash.hash_of (table_of c.args.root.now) (slot_of c.args.root.now) v)
+    (root_view g.H.KeyHash.hash_of is_key was room v t u c.args.root.now c.args.front.now slot elem ps es k c.args.trail level set)) in
     let p = err_from_is_err_and c.from_residual.result c.from_residual.ensures.1 in
     rw (p.1, p.2) (level_failed g.H.KeyHash.hash_of is_key was room v t u c.args.root.now c.args.front.now slot elem ps es k c.args.trail level set (g.K.Store.moment c.args.store.now) (g.K.Store.moment c.cut_entry.new.store) told
     c.in_err-map.field-0.0
@@ -36,9 +22,9 @@ returns-in_err-map-clause-cuts g c = λ is_key was room v t u slot elem ps es k 
 
 pub returns-clause-cuts : goal.returns-clause-cuts
 returns-clause-cuts g c = λ is_key was room v t u slot elem ps es k told level set.
-    let y = hamt_view g.H.KeyHash.hash_of is_key was room v t u c.args.root.now c.args.front.now slot elem ps es k c.args.trail level set c.in-Ok-Here.view
-    (rw c.in-Ok-Here.field-0-is at (c.in-Ok-Here.ensures (front g.H.KeyHash.hash_of (table_of c.args.root.now) (slot_of c.args.root.now) v)
-    (root_view g.H.KeyHash.hash_of is_key was room v t u c.args.root.now c.args.front.now slot elem ps es k c.args.trail level set))) in
+    let y = hamt_view g.H.KeyHash.hash_of is_key was room v t u c.args.root.now c.args.front.now slot elem ps es k c.args.trail level set c.hamt_at-hamt.result
+    (c.hamt_at-hamt.ensures.here (front g.H.KeyHash.hash_of (table_of c.args.root.now) (slot_of c.args.root.now) v)
+    (root_view g.H.KeyHash.hash_of is_key was room v t u c.args.root.now c.args.front.now slot elem ps es k c.args.trail level set)) in
     let x = c.in_ok-map.ensures.cuts (table_of c.args.root.now) was slot elem set.root (X g.H.KeyHash.hash_of is_key was room v t u c.args.root.now c.args.front.now slot elem ps es k c.args.trail level set) ps es k
     (Less g.H.KeyHash.hash_of is_key was room v t u c.args.root.now c.args.front.now slot elem ps es k c.args.trail level set) y told
     (hamt_held g.H.KeyHash.hash_of is_key was room v t u c.args.root.now c.args.front.now slot elem ps es k c.args.trail level set)

@@ -3,29 +3,15 @@ use Rattle.ild_typed_fronts.specs.Front.{front}
 use Rattle.ild_view.specs.View.{slot_of, table_of}
 use Rattle.ild_path_entered.specs.Entered.{with_entry}
 use Rattle.ild_path_hop.specs.Levels.{with_set}
-use Rattle.ild_path_hop.proofs.Leveling.{X, Less, edits, hamt_held, hamt_put, hamt_view, level_done, level_failed, not_entered, not_lost, root_view, tree_x}
+use Rattle.ild_path_hop.proofs.Leveling.{X, Less, edits, hamt_held, hamt_put, hamt_view, level_done, level_failed, root_view, tree_x}
 use Rattle.ild_path_reroot.proofs.Causing.{caused_after}
 use Rattle.ild_path_hop.proofs.level.set_entry.Goals as goal
 
-pub returns-in-Ok-Enter-clause-sets : goal.returns-in-Ok-Enter-clause-sets
-returns-in-Ok-Enter-clause-sets g c = λ is_key was room v w t d u slot elem ps es k told level set stands.
-    let h = g.H.KeyHash.hash_of in
-    let root = c.args.root.now in
-    let path = c.args.front.now in
-    let view = root_view h is_key was room v w t d u root path slot elem ps es k c.args.trail level set in
-    let entered = rw c.in-Ok-Enter.field-0-is at (c.in-Ok-Enter.ensures (front h (table_of root) (slot_of root) v) view) in
-    absurd (not_entered h is_key was room v w t d u root path slot elem ps es k c.args.trail level set c.in-Ok-Enter.field-0-0 c.in-Ok-Enter.field-0-1 entered)
-
-pub returns-in-Err-clause-sets : goal.returns-in-Err-clause-sets
-returns-in-Err-clause-sets g c = λ is_key was room v w t d u slot elem ps es k told level set stands.
-    absurd (not_lost g.H.KeyHash.hash_of is_key was room v w t d u c.args.root.now c.args.front.now slot elem ps es k c.args.trail level set c.in-Err.field-0
-    (c.in-Err.ensures (front g.H.KeyHash.hash_of (table_of c.args.root.now) (slot_of c.args.root.now) v) (root_view g.H.KeyHash.hash_of is_key was room v w t d u c.args.root.now c.args.front.now slot elem ps es k c.args.trail level set)))
-
 pub returns-in_err-map-clause-sets : goal.returns-in_err-map-clause-sets
 returns-in_err-map-clause-sets g c = λ is_key was room v w t d u slot elem ps es k told level set stands.
-    let y = hamt_view g.H.KeyHash.hash_of is_key was room v w t d u c.args.root.now c.args.front.now slot elem ps es k c.args.trail level set c.in-Ok-Here.view
-    (rw c.in-Ok-Here.field-0-is at (c.in-Ok-Here.ensures (front g.H.KeyHash.hash_of (table_of c.args.root.now) (slot_of c.args.root.now) v)
-    (root_view g.H.KeyHash.hash_of is_key was room v w t d u c.args.root.now c.args.front.now slot elem ps es k c.args.trail level set))) in
+    let y = hamt_view g.H.KeyHash.hash_of is_key was room v w t d u c.args.root.now c.args.front.now slot elem ps es k c.args.trail level set c.hamt_at-hamt.result
+    (c.hamt_at-hamt.ensures.here (front g.H.KeyHash.hash_of (table_of c.args.root.now) (slot_of c.args.root.now) v)
+    (root_view g.H.KeyHash.hash_of is_key was room v w t d u c.args.root.now c.args.front.now slot elem ps es k c.args.trail level set)) in
     let p = err_from_is_err_and c.from_residual.result c.from_residual.ensures.1 in
     rw (p.1, p.2) (level_failed g.H.KeyHash.hash_of is_key was room v w t d u c.args.root.now c.args.front.now slot elem ps es k c.args.trail level set (g.K.Store.moment c.args.store.now) (g.K.Store.moment c.put_entry.new.store)
     told c.in_err-map.field-0.0
@@ -36,9 +22,9 @@ returns-in_err-map-clause-sets g c = λ is_key was room v w t d u slot elem ps e
 
 pub returns-clause-sets : goal.returns-clause-sets
 returns-clause-sets g c = λ is_key was room v w t d u slot elem ps es k told level set stands.
-    let y = hamt_view g.H.KeyHash.hash_of is_key was room v w t d u c.args.root.now c.args.front.now slot elem ps es k c.args.trail level set c.in-Ok-Here.view
-    (rw c.in-Ok-Here.field-0-is at (c.in-Ok-Here.ensures (front g.H.KeyHash.hash_of (table_of c.args.root.now) (slot_of c.args.root.now) v)
-    (root_view g.H.KeyHash.hash_of is_key was room v w t d u c.args.root.now c.args.front.now slot elem ps es k c.args.trail level set))) in
+    let y = hamt_view g.H.KeyHash.hash_of is_key was room v w t d u c.args.root.now c.args.front.now slot elem ps es k c.args.trail level set c.hamt_at-hamt.result
+    (c.hamt_at-hamt.ensures.here (front g.H.KeyHash.hash_of (table_of c.args.root.now) (slot_of c.args.root.now) v)
+    (root_view g.H.KeyHash.hash_of is_key was room v w t d u c.args.root.now c.args.front.now slot elem ps es k c.args.trail level set)) in
     let x = c.in_ok-map.ensures.puts (table_of c.args.root.now) was slot elem set.root d (X g.H.KeyHash.hash_of is_key was room v w t d u c.args.root.now c.args.front.now slot elem ps es k c.args.trail level set) ps es k
     (Less g.H.KeyHash.hash_of is_key was room v w t d u c.args.root.now c.args.front.now slot elem ps es k c.args.trail level set) w y told
     (hamt_held g.H.KeyHash.hash_of is_key was room v w t d u c.args.root.now c.args.front.now slot elem ps es k c.args.trail level set)

@@ -2,8 +2,12 @@ use Rattle.std.proofs.Common.{[], None, subst, sym}
 use Rattle.std.specs.Prelude.{Ok}
 use Rattle.ild_path_apply.specs.Applies.{Applies}
 use Rattle.ild_splice_changes.specs.TreeChange.{one, remove_entry}
-use Rattle.ild_path_item.proofs.Blocks.{gone_part, left_faultless, left_root}
+use Rattle.ild_path_item.proofs.Blocks.{gone_part, left_faultless, left_root, left_short}
 use Rattle.ild_path_item.proofs.changed.without_entry.Goals as goal
+
+pub unreachable-requires : goal.unreachable-requires
+unreachable-requires c =
+    left_short c.args.key.now c.args.node.now c.apart.result c.apart.ensures (rw c.in-Err-Size.field-0-is at (c.in-Err-Size.ensures None None (gone_part c.args.key)))
 
 pub known_root-requires : goal.known_root-requires
 known_root-requires c =

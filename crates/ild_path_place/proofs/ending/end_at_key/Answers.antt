@@ -1,5 +1,8 @@
 use Rattle.std.proofs.Common.{◌∙◌, IsUtf8, Result, Ok, Err, refl, sym, subst}
+use Rattle.std.proofs.Math.Logic.{∥∥₁_elim}
+use Rattle.std.proofs.Props.{props}
 use Rattle.std.proofs.lemmas.Result.{err_from_is_err_and}
+use Rattle.ild_path_inward.proofs.Leading.{hamt_valued}
 use Rattle.ild_view.specs.View.{slot_of}
 use Rattle.ild_path_inward.proofs.Reading.{only_viewed}
 use Rattle.ild_schema.specs.Value.{map}
@@ -20,6 +23,8 @@ use Rattle.ild_path_place.specs.Slots.{IsPartSlot}
 use Rattle.ild_path_place.proofs.Failing.{path_fails, refused_fails}
 use Rattle.ild_path_place.proofs.PartSlots.{key_fits}
 use Rattle.ild_path_place.proofs.Keying.{can, ends_refused, ends_there, ends_wrong, fitted, slotted}
+use Rattle.ild_path_place.proofs.Refusing.{refused_at, refuses_at, site_at}
+use Rattle.ild_path_place.specs.Refuses.{RefusesAt}
 use Rattle.ild_path_place.proofs.ending.end_at_key.Goals as goal
 
 pub returns-in_err-trail-clause-reads : goal.returns-in_err-trail-clause-reads
@@ -117,3 +122,21 @@ returns-clause-part g c =
     let is = c.in-Some.ensures in
     subst (λ (z : Result Slot Refusal). IfOk z (IsPartSlot rows)) c.in-Ok.is
     (key_fits rows c.in-Some.slot (is.1, is.2) c.is_some-there.result c.args.verb c.slot_at_key.result c.slot_at_key.ensures)
+
+pub unreachable-requires : goal.unreachable-requires
+unreachable-requires g c =
+    ∥∥₁_elim c.requires.hamt (hlevel props) (λ x. hamt_valued c.args.acc.now c.args.holder.now c.requires.table x.0 x.1 c.in_default.ensures)
+
+pub returns-in_err-trail-clause-refused : goal.returns-in_err-trail-clause-refused
+returns-in_err-trail-clause-refused g c =
+    let h = g.H.KeyHash.hash_of in
+    let rows = c.args.acc.now in
+    let r = err_from_is_err_and c.from_residual.result c.from_residual.ensures.1 in
+    rw (r.1, r.2) (λ z x. refuses_at Found h rows c.args.block.now c.as_str.result.now z (g.K.Store.moment c.args.store.now) (g.K.Store.moment c.enter.new.store) c.in_err-trail.field-0.0
+    (c.in_err-trail.ensures.refused z (site_at rows c.args.room c.args.holder.now c.args.block.now z x c.requires.table c.in-Some.slot c.saturating_sub-less.result c.in-Some.ensures c.saturating_sub-less.ensures)))
+
+pub returns-in-Err-clause-refused : goal.returns-in-Err-clause-refused
+returns-in-Err-clause-refused g c = λ z x.
+    let m = g.K.Store.moment c.args.store.now in
+    let n = g.K.Store.moment c.enter.new.store in
+    subst (λ (e : PathFault). RefusesAt {A = Found} g.H.KeyHash.hash_of c.args.acc.now z m (Err e) n) (sym c.refused.ensures) (refused_at Found g.H.KeyHash.hash_of c.args.acc.now z m n c.args.k c.in-Err.refusal)

@@ -7,9 +7,13 @@ use Rattle.ild_path_place.specs.Slots.{IsPartSlot}
 use Rattle.ild_path_place.specs.declared.ending.Found.{Found}
 use Rattle.ild_schema.specs.declared.row.Row.{Row}
 use Rattle.ild_path_place.proofs.Failing.{block_fails}
+use Rattle.ild_path_place.proofs.Linking.{follows_key, follows_none, rooted_hamt}
 use Rattle.ild_path_place.proofs.AtEnd.{can_end_at, ends_at_key, ends_in_block, hole_kept, hole_there, of_holder, room_kept, room_low}
 use Rattle.ild_path_place.specs.Holes.{VerbHole}
 use Rattle.ild_path_place.specs.Rooms.{HasRoom}
+use Rattle.ild_data.specs.Spell.{id_of}
+use Rattle.ild_path_place.proofs.Refusing.{breaks, holder_site, none_breaks, root_there}
+use Rattle.ild_typed.specs.Schema.{IsSchema}
 use Rattle.ild_path_place.proofs.inner.end_of.Goals as goal
 
 pub returns-in-Some-clause-told : goal.returns-in-Some-clause-told
@@ -83,3 +87,34 @@ returns-in-None-clause-hole g c = λ was limit q holder d x to.
     let has = of_holder h rows was limit q d view x c.args.front c.args.room holder to c.halt_in.result halts c.as_str.result.now c.in_ok-left.left (c.in_ok-left.ensures.room low) in
     let own = hole_there h rows was limit q d view x c.args.front c.args.room holder to c.halt_in.result halts c.as_str-2.result.now c.args.verb c.leaves-hole.result has.form has.form_is c.leaves-hole.ensures in
     hole_kept rows holder c.args.last.now c.args.verb c.leaves-hole.result c.end_in_block.result c.end_in_block.ensures.hole (subst (λ (s : List ℕ). VerbHole rows holder s c.args.verb c.leaves-hole.result) c.as_str-2.ensures.same own)
+
+pub end_at_key-requires-clause-hamt : goal.end_at_key-requires-clause-hamt
+end_at_key-requires-clause-hamt g c = rooted_hamt c.halt_in.result.view _ c.in-Some.field-0 c.in-Some.ensures
+
+pub returns-in-Some-clause-leads : goal.returns-in-Some-clause-leads
+returns-in-Some-clause-leads g c =
+    let view = c.args.inner.now in
+    let halts : (f : Value) → IsView view f → HaltsAt (table_of view) c.args.room (slot_of view, f) c.args.front c.halt_in.result = λ f is. subst (λ (p : List (List ℕ)). HaltsAt (table_of view) c.args.room (slot_of view, f) p c.halt_in.result) c.as_slice.ensures (c.halt_in.ensures.halts f is) in
+    follows_key view c.args.room c.args.front c.halt_in.result halts _ c.in-Some.field-0 c.in-Some.ensures c.end_at_key.result c.end_at_key.ensures.front
+
+pub returns-in-None-clause-leads : goal.returns-in-None-clause-leads
+returns-in-None-clause-leads g c = follows_none c.args.inner.now c.args.front c.end_in_block.result c.end_in_block.ensures.front
+
+pub returns-in-Some-clause-refused : goal.returns-in-Some-clause-refused
+returns-in-Some-clause-refused g c = λ f t less is front own.
+    let h = g.H.KeyHash.hash_of in
+    let rows = c.args.acc.now in
+    let view = c.args.inner.now in
+    let s = slot_of view in
+    let schema : IsSchema rows = record { table = c.types-types.ensures.table; accepted = c.types-types.ensures.accepted } in
+    let halts = subst (λ (r : List Row). HaltsAt r c.args.room (s, f) c.args.front c.halt_in.result) c.requires (subst (λ (p : List (List ℕ)). HaltsAt (table_of view) c.args.room (s, f) p c.halt_in.result) c.as_slice.ensures (c.halt_in.ensures.halts f is)) in
+    let m = g.K.Store.moment c.args.store.now in
+    let n = g.K.Store.moment c.end_at_key.new.store in
+    let law = c.parts_stand_in_data.ensures in
+    breaks law h rows schema c.args.block.now less c.args.room c.args.room s f t front c.args.front own c.halt_in.result halts (λ e stands. root_there c.halt_in.result.view _ c.in-Some.field-0 e (c.in-Some.ensures e stands)) Found m n c.end_at_key.result
+    (c.end_at_key.ensures.refused _ (holder_site law h rows schema c.args.block.now less c.args.room c.args.room s f t front c.args.front own c.halt_in.result halts (λ e stands. root_there c.halt_in.result.view _ c.in-Some.field-0 e (c.in-Some.ensures e stands))))
+
+pub returns-in-None-clause-refused : goal.returns-in-None-clause-refused
+returns-in-None-clause-refused g c = λ f t less is front own.
+    let m = g.K.Store.moment c.args.store.now in
+    none_breaks c.halt_in.result.view c.args.front c.args.last.now c.args.k c.args.verb g.H.KeyHash.hash_of c.args.acc.now (id_of c.args.block.now) less (slot_of c.args.inner.now) t m m c.end_in_block.result c.end_in_block.ensures.ends

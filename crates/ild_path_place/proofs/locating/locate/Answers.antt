@@ -1,4 +1,4 @@
-use Rattle.std.proofs.Common.{◌-◌, List, ℕ, [], ◌∷◌, ◌++◌, take, sym, subst, ◌∙◌, length}
+use Rattle.std.proofs.Common.{◌-◌, ap, List, ℕ, [], ◌∷◌, ◌++◌, take, sym, subst, ◌∙◌, length}
 use Rattle.ild_schema.specs.declared.row.Row.{Row}
 use Rattle.ild_schema.specs.Slots.{plainly}
 use Rattle.ild_typed.specs.At.{InSlot}
@@ -10,6 +10,13 @@ use Rattle.ild_path_place.proofs.Failing.{whole_fails}
 use Rattle.ild_path_place.proofs.Docked.{can_go, rooted}
 use Rattle.ild_path_place.proofs.Located.{empty, split_last}
 use Rattle.ild_path_place.proofs.Whole.{locates_whole}
+use Rattle.ild_data.specs.Spell.{id_of}
+use Rattle.ild_path_found.specs.Sites.{block_in as block_in_piece}
+use Rattle.ild_path_place.proofs.Refusing.{breaks_in, whole_block, whole_breaks}
+use Rattle.ild_path_place.specs.declared.place.Place.{Place}
+use Rattle.ild_schema.specs.declared.number.Slot.{Slot}
+use Rattle.ild_typed.specs.Fits.{Front}
+use Rattle.ild_view.specs.View.{piece_of, slot_of}
 use Rattle.ild_path_place.proofs.locating.locate.Goals as goal
 
 pub returns-in-Some-clause-stands : goal.returns-in-Some-clause-stands
@@ -59,3 +66,19 @@ returns-in-None-clause-rooted g c = λ was v told own st.
     let view = c.view-in-None.result in
     let go = can_go h rows schema was n b v st own view c.view-in-None.ensures.table c.view-in-None.ensures.slot c.view-in-None.ensures.front in
     rooted h rows schema was n b v st own view go c.view-in-None.ensures.whole c.whole.result c.whole.ensures.root
+
+pub returns-in-Some-clause-refused : goal.returns-in-Some-clause-refused
+returns-in-Some-clause-refused g c = λ f x.
+    let h = g.H.KeyHash.hash_of in
+    let rows = table_in c.args.doc.now in
+    let view = c.view.result in
+    let acc = c.schema-in-Some.result.now in
+    let same = c.schema-in-Some.ensures in
+    let front = subst (λ (r : List Row). Front r 96 (slot_of view) f x.tree) (sym same) (subst (λ (u : Slot). Front rows 96 u f x.tree) (sym c.view.ensures.slot) x.front) in
+    breaks_in Place h acc rows (id_of (block_in_piece (piece_of view))) (id_of (block_in c.args.doc.now)) 96 (slot_of view) (plainly (type_in c.args.doc.now)) x.tree (g.K.Store.moment c.args.store.now) (g.K.Store.moment c.locate_last.new.store) c.locate_last.result
+    same (ap id_of (whole_block view (block_in c.args.doc.now) x.tree x.block (c.view.ensures.whole x.tree x.block))) c.view.ensures.slot (c.locate_last.ensures.refused f x.tree (c.view.ensures.front f x) front)
+
+pub returns-in-None-clause-refused : goal.returns-in-None-clause-refused
+returns-in-None-clause-refused g c = λ f x.
+    let m = g.K.Store.moment c.args.store.now in
+    whole_breaks _ (plainly (type_in c.args.doc.now)) c.args.verb g.H.KeyHash.hash_of (table_in c.args.doc.now) (id_of (block_in c.args.doc.now)) 96 x.tree m m c.whole.result c.whole.ensures.whole

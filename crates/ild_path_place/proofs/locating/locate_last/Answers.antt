@@ -1,13 +1,26 @@
-use Rattle.std.proofs.Common.{List, refl, sym, subst, ◌∙◌}
+use Rattle.std.proofs.Common.{◌≡◌, arith, true, List, refl, sym, subst, ◌∙◌}
+use Rattle.std.specs.List.{All}
 use Rattle.std.proofs.lemmas.Result.{err_from_is_err_and}
+use Rattle.ild_path_hops.specs.Links.{PartBehind}
 use Rattle.ild_path_hops.specs.declared.hop.Hop.{Hop}
 use Rattle.ild_path_inward.specs.Inwards.{CanGoOn}
+use Rattle.ild_path_inward.specs.Levels.{IsUnder}
 use Rattle.std.proofs.Common.{Err}
 use Rattle.ild_path_inward.specs.declared.inward.Inward.{Inward}
 use Rattle.ild_path_place.specs.declared.ending.Found.{Found}
 use Rattle.ild_path_place.specs.declared.place.Place.{Place}
 use Rattle.ild_path_place.proofs.Failing.{later_fails, path_fails, same_fails}
+use Rattle.ild_path_place.proofs.Linking.{inside_may}
+use Rattle.ild_path_place.specs.Links.{EndBehind}
 use Rattle.ild_path_place.proofs.Located.{ends_there, ends_wrong, fails, goes_on, leads, nil_by, nowhere}
+use Rattle.ild_schema.specs.declared.row.Row.{Row}
+use Rattle.ild_view.specs.Safe.{is_safe}
+use Rattle.ild_data.specs.Spell.{id_of}
+use Rattle.ild_path_found.specs.Sites.{block_in}
+use Rattle.ild_path_inward.specs.Refuses.{IsDataBehind, block_behind}
+use Rattle.ild_path_place.proofs.Refusing.{end_breaks, inward_breaks}
+use Rattle.ild_path_place.specs.Refuses.{RefusesBroken}
+use Rattle.ild_view.specs.View.{piece_of, slot_of}
 use Rattle.ild_path_place.proofs.locating.locate_last.Goals as goal
 
 pub returns-in_err-hops-clause-told : goal.returns-in_err-hops-clause-told
@@ -63,3 +76,44 @@ returns-in_err-end-clause-failed g c =
     let e = c.in_err-end.field-0.0 in
     let r = err_from_is_err_and c.from_residual-in_err-end.result c.from_residual-in_err-end.ensures.1 in
     rw (r.1, r.2) (later_fails Place (g.K.Store.moment c.args.store.now) k n c.go_inward.ensures.reads (Err e) (same_fails Found Place k n e c.in_err-end.ensures.failed))
+
+pub invariant_of-result-clause-safe : goal.invariant_of-result-clause-safe
+invariant_of-result-clause-safe g c =
+    let slot = c.in_ok-end.field-0.slot in
+    let part = c.in_ok-end.ensures.part (subst (λ (hs : List Hop). All (IsUnder c.args.acc.now) hs) (sym c.deref.ensures.value) c.in_ok-hops.ensures.under) in
+    subst (λ (r : List Row). is_safe r slot ≡ true) (sym c.requires) part.1
+
+pub invariant_of-result-clause-whole : goal.invariant_of-result-clause-whole
+invariant_of-result-clause-whole g c = inside_may c.in_ok-end.field-0.end c.args.verb c.in_ok-end.ensures.inside
+
+pub invariant_of-result-clause-linked : goal.invariant_of-result-clause-linked
+invariant_of-result-clause-linked g c =
+    let root = c.args.root in
+    let own = c.in_ok-hops.field-0 in
+    let x = c.in_ok-hops.ensures.leads in
+    let end = c.in_ok-end.field-0.end in
+    let leads = c.in_ok-end.ensures.leads (subst (λ (hs : List Hop). PartBehind root hs own.front) (sym c.deref.ensures.value) x.front) in
+    ∣ record { hops_are = x.hops; leads = subst (λ (hs : List Hop). EndBehind root hs end) c.deref.ensures.value leads } ∣₁
+
+pub returns-in_err-hops-clause-refused : goal.returns-in_err-hops-clause-refused
+returns-in_err-hops-clause-refused g c = λ f t is front.
+    let h = g.H.KeyHash.hash_of in
+    let rows = c.args.acc.now in
+    let at = id_of (block_in (piece_of c.args.root)) in
+    let r = err_from_is_err_and c.from_residual.result c.from_residual.ensures.1 in
+    rw (r.1, r.2) (inward_breaks Inward Place h rows at 96 (slot_of c.args.root) t (g.K.Store.moment c.args.store.now) (g.K.Store.moment c.go_inward.new.store) c.in_err-hops.field-0.0 (c.in_err-hops.ensures.refused f t is front (omega arith)))
+
+pub returns-in_err-end-clause-refused : goal.returns-in_err-end-clause-refused
+returns-in_err-end-clause-refused g c = λ f t is front.
+    let h = g.H.KeyHash.hash_of in
+    let rows = c.args.acc.now in
+    let root = c.args.root in
+    let block = block_in (piece_of root) in
+    let m = g.K.Store.moment c.args.store.now in
+    let k = g.K.Store.moment c.go_inward.new.store in
+    let n = g.K.Store.moment c.end_behind.new.store in
+    let x = c.in_ok-hops.ensures.deeper f t is front (omega arith) in
+    let z = c.in_err-end.ensures.refused x.slot x.value x.tree x.less (subst (λ (gs : List Hop). IsDataBehind rows root gs x.less x.slot x.tree x.value) (sym c.deref.ensures.value) x.behind) x.room_is in
+    let own = subst (λ (gs : List Hop). RefusesBroken {A = Found} h rows (id_of (block_behind block gs)) x.less x.slot x.tree k (Err c.in_err-end.field-0.0) n) c.deref.ensures.value z in
+    let r = err_from_is_err_and c.from_residual-in_err-end.result c.from_residual-in_err-end.ensures.1 in
+    rw (r.1, r.2) (end_breaks Found Place h rows root block (id_of block) 96 (slot_of root) t m k n c.go_inward.ensures.reads c.in_ok-hops.field-0 x c.in_err-end.field-0.0 own)

@@ -1,4 +1,6 @@
 use Rattle.std.proofs.Common.{subst, ◌∙◌}
+use Rattle.std.proofs.Math.Logic.{∥∥₁_elim}
+use Rattle.std.proofs.Props.{props}
 use Rattle.std.specs.Prelude.{Ok, Err}
 use Rattle.std.proofs.lemmas.Result.{err_from_is_err_and}
 use Rattle.ild_data.specs.ByteOrder.{without}
@@ -37,3 +39,7 @@ returns-clause-cuts g c = λ rows was s elem t x ps es k room view told at new.
 
 pub returns-clause-caused : goal.returns-clause-caused
 returns-clause-caused g c = caused_after _ _ c.in_ok-node.node c.root_around.result c.in_ok-node.ensures.caused c.root_around.ensures.fault
+
+-- the view is that of a HAMT
+pub unreachable-requires : goal.unreachable-requires
+unreachable-requires g c = ∥∥₁_elim c.requires (hlevel props) (λ x. c.in-None.ensures (hamt x.tree) x.is)

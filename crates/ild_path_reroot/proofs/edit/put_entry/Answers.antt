@@ -1,4 +1,6 @@
 use Rattle.std.proofs.Common.{ap, subst, ◌∙◌}
+use Rattle.std.proofs.Math.Logic.{∥∥₁_elim}
+use Rattle.std.proofs.Props.{props}
 use Rattle.std.specs.Prelude.{is_some}
 use Rattle.std.specs.FinMap.{put}
 use Rattle.std.proofs.lemmas.Result.{err_from_is_err_and}
@@ -37,8 +39,8 @@ returns-clause-puts g c = λ rows was s elem t d x ps es k room w view told at n
     (tree_node g.H.KeyHash.hash_of at.hamt.3 rows was s room (with_entry k w ps) x k es (put bytewise k d es) ready (g.K.Store.moment c.args.store.now) (g.K.Store.moment c.set.new.store))))
 
 -- the view is that of a HAMT
-pub returns-in-None-clause-puts : goal.returns-in-None-clause-puts
-returns-in-None-clause-puts g c = λ rows was s elem t d x ps es k room w view told at new stands. absurd (c.in-None.ensures (hamt t) view)
+pub unreachable-requires : goal.unreachable-requires
+unreachable-requires g c = ∥∥₁_elim c.requires.hamt (hlevel props) (λ x. c.in-None.ensures (hamt x.tree) x.is)
 
 pub returns-clause-caused : goal.returns-clause-caused
 returns-clause-caused g c = caused_after _ _ c.in_ok-node.node c.root_around.result c.in_ok-node.ensures.caused c.root_around.ensures.fault

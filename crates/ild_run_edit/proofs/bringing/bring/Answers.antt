@@ -6,20 +6,20 @@ use Rattle.ild_run_edit.proofs.Reading.{part_as, typed_as, schema_as}
 use Rattle.ild_run_edit.proofs.bringing.bring.Goals as goal
 
 pub returns-in-Err-clause-comes : goal.returns-in-Err-clause-comes
-returns-in-Err-clause-comes g c = no_part _ _ _ _ _ (part_as _ _ _ _ c.args.json.now (Err c.in-Err.refusal) c.requires c.slot.ensures.same c.in-Err.ensures.answer)
+returns-in-Err-clause-comes g c = no_part _ _ _ _ _ (part_as _ _ _ _ c.args.json.now (Err c.in-Err.refusal) c.requires.table c.slot.ensures.same c.in-Err.ensures.answer)
 
 pub put_part-requires-clause-free : goal.put_part-requires-clause-free
 put_part-requires-clause-free g c = free_part _ _ c.in-Ok-None.field-0 c.in-Ok-None.ensures c.in-Ok-None.field-0-is
 
 pub returns-in-Ok-None-clause-comes : goal.returns-in-Ok-None-clause-comes
 returns-in-Ok-None-clause-comes g c =
-    let_comes _ _ _ _ c.in-Ok-None.field-0 (schema_as _ _ c.requires c.types.ensures.table c.types.ensures.accepted) (typed_as _ _ _ _ _ c.requires c.slot.ensures.same c.in-Ok.ensures.typed) c.in-Ok-None.ensures
-    (part_as _ _ _ _ c.args.json.now (Ok c.in-Ok.part) c.requires c.slot.ensures.same c.in-Ok.ensures.answer) _ _ _ c.in-Ok-None.field-0-is c.put_part.ensures.puts
+    let_comes _ _ _ _ c.in-Ok-None.field-0 (schema_as _ _ c.requires.table c.types.ensures.table c.types.ensures.accepted) (typed_as _ _ _ _ _ c.requires.table c.slot.ensures.same c.in-Ok.ensures.typed) c.in-Ok-None.ensures
+    (part_as _ _ _ _ c.args.json.now (Ok c.in-Ok.part) c.requires.table c.slot.ensures.same c.in-Ok.ensures.answer) _ _ _ c.in-Ok-None.field-0-is c.put_part.ensures.puts
 
 pub returns-in-Ok-Some-clause-comes : goal.returns-in-Ok-Some-clause-comes
 returns-in-Ok-Some-clause-comes g c =
-    refused_comes _ _ _ _ c.in-Ok-Some.field-0 (schema_as _ _ c.requires c.types.ensures.table c.types.ensures.accepted) (typed_as _ _ _ _ _ c.requires c.slot.ensures.same c.in-Ok.ensures.typed) c.in-Ok-Some.ensures
-    (part_as _ _ _ _ c.args.json.now (Ok c.in-Ok.part) c.requires c.slot.ensures.same c.in-Ok.ensures.answer) _ _ c.in-Ok-Some.field-0-is
+    refused_comes _ _ _ _ c.in-Ok-Some.field-0 (schema_as _ _ c.requires.table c.types.ensures.table c.types.ensures.accepted) (typed_as _ _ _ _ _ c.requires.table c.slot.ensures.same c.in-Ok.ensures.typed) c.in-Ok-Some.ensures
+    (part_as _ _ _ _ c.args.json.now (Ok c.in-Ok.part) c.requires.table c.slot.ensures.same c.in-Ok.ensures.answer) _ _ c.in-Ok-Some.field-0-is
 
 pub returns-in-Err-clause-named : goal.returns-in-Err-clause-named
 returns-in-Err-clause-named g c = λ e. absurd (part_unclashed c.args.acc.now c.slot.result c.args.json.now c.in-Err.refusal c.in-Err.ensures.answer e)

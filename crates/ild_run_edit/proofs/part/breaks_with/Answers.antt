@@ -1,17 +1,18 @@
-use Rattle.std.proofs.Common.{ap, ◌∙◌, None, Some}
+use Rattle.std.proofs.Common.{ap, ◌∙◌, sym, None, Some}
+use Rattle.std.specs.Prelude.{option_map, string_bytes}
 use Rattle.ild_schema.specs.ValueSeen.{value_of}
-use Rattle.ild_run_edit.proofs.Around.{tells_around, text_is, no_text, text_as}
+use Rattle.ild_run_edit.proofs.Around.{tells_around, text_as}
 use Rattle.ild_run_edit.proofs.Reading.{safe_here}
 use Rattle.ild_run_edit.proofs.part.breaks_with.Goals as goal
 
-pub returns-then-has_text : goal.returns-then-has_text
-returns-then-has_text c =
+pub returns-in-Some : goal.returns-in-Some
+returns-in-Some c =
     tells_around c.args.place.now (value_of c.args.val.now) (Some c.as_str.result) _ (safe_here _ _ _ c.slot.ensures.same c.slot.ensures.safe)
-    (ap Some c.as_str.ensures.value ∙ text_is _ _ _ _ c.new-out.ensures.bytes (text_as _ _ _ _ _ _ _ _ c.requires c.slot.ensures.same c.in_ok-has_text.ensures) c.if-has_text.true)
+    (ap Some c.as_str.ensures.value ∙ ap (option_map string_bytes) (sym c.in-Some.is) ∙ text_as _ _ _ _ _ _ c.requires c.slot.ensures.same c.in_ok-text.ensures)
     c.breaks_around.ensures.coming
 
-pub returns : goal.returns
-returns c =
+pub returns-in-None : goal.returns-in-None
+returns-in-None c =
     tells_around c.args.place.now (value_of c.args.val.now) None _ (safe_here _ _ _ c.slot.ensures.same c.slot.ensures.safe)
-    (no_text _ _ _ _ (text_as _ _ _ _ _ _ _ _ c.requires c.slot.ensures.same c.in_ok-has_text.ensures) c.if-has_text.false)
-    c.breaks_around-else-has_text.ensures.coming
+    (ap (option_map string_bytes) (sym c.in-None.is) ∙ text_as _ _ _ _ _ _ c.requires c.slot.ensures.same c.in_ok-text.ensures)
+    c.breaks_around-in-None.ensures.coming

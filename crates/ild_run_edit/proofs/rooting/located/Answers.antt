@@ -5,7 +5,7 @@ use Rattle.ild_run_edit.proofs.Finding.{finds_none, finds_place}
 use Rattle.ild_run_edit.proofs.rooting.located.Goals as goal
 
 pub returns-in-Ok : goal.returns-in-Ok
-returns-in-Ok g c = finds_place _ _ _ _ _ _ c.places_tell.ensures _ c.in-Ok.ensures.only c.in-Ok.ensures.of c.in-Ok.ensures.rooted c.in-Ok.ensures.stands
+returns-in-Ok g c = finds_place _ _ _ _ _ _ c.places_tell.ensures _ c.in-Ok.ensures.only c.in-Ok.ensures.of c.in-Ok.ensures.done c.in-Ok.ensures.rooted c.in-Ok.ensures.stands
 
 pub returns-in-Err : goal.returns-in-Err
 returns-in-Err g c =

@@ -2,6 +2,7 @@ use Rattle.std.proofs.Common.{subst, sym}
 use Rattle.std.specs.Prelude.{Ok, Err}
 use Rattle.ild_run_edit.specs.Roots.{Finds}
 use Rattle.ild_run_edit.proofs.Composing.{IsBringing, refused_root, come_root, go_root, swaps_as}
+use Rattle.ild_run_edit.proofs.Finding.{del_goes, ins_comes, set_comes}
 use Rattle.ild_run_edit.proofs.Naming.{nowhere_unclashed}
 use Rattle.ild_run_edit.proofs.rooting.new_root.Goals as goal
 
@@ -33,3 +34,12 @@ pub returns-in-Del-clause-makes : goal.returns-in-Del-clause-makes
 returns-in-Del-clause-makes g c =
     go_root c.held_are_standing.ensures _ _ c.args.path.now c.args.json.now c.are_texts.ensures c.args.verb c.in-Del.is _ _ _ c.in-Ok.place _
     (subst (λ u. Finds g.H.KeyHash.hash_of c.args.doc.now u c.args.path.now (g.K.Store.moment c.args.store.now) (Ok c.in-Ok.place) (g.K.Store.moment c.located.new.store)) c.verb_as.ensures c.in-Ok.ensures) c.erase_part.ensures.goes
+
+pub bring-requires-clause-brings : goal.bring-requires-clause-brings
+bring-requires-clause-brings g c = set_comes c.in-Ok.place c.args.verb c.verb_as.result c.in-Ok.ensures.done c.verb_as.ensures c.in-Set.is
+
+pub bring-requires-in-Ins-clause-brings : goal.bring-requires-in-Ins-clause-brings
+bring-requires-in-Ins-clause-brings g c = ins_comes c.in-Ok.place c.args.verb c.verb_as.result c.in-Ok.ensures.done c.verb_as.ensures c.in-Ins.is
+
+pub erase_part-requires-clause-done : goal.erase_part-requires-clause-done
+erase_part-requires-clause-done g c = del_goes c.in-Ok.place c.args.verb c.verb_as.result c.in-Ok.ensures.done c.verb_as.ensures c.in-Del.is

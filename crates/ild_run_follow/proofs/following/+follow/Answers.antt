@@ -1,9 +1,11 @@
 use Rattle.std.proofs.Common.{Some, Ok, Err, drop, length, refl, ap, ◌∙◌, subst, arith}
-use Rattle.std.proofs.Math.Logic.{∥∥₁_map}
+use Rattle.std.proofs.Math.Logic.{∥∥₁_elim, ∥∥₁_map}
+use Rattle.std.proofs.Props.{props}
 use Rattle.std.proofs.lemmas.Result.{err_from_is_err_and}
 use Rattle.ild_schema.specs.Slots.{form_of}
+use Rattle.ild_schema.specs.Value.{hamt}
 use Rattle.ild_typed.specs.Schema.{IsSchema}
-use Rattle.ild_run_follow.proofs.Leading.{below_length, enters_lower, key_behind, on_lower, stepped, tells_here, tells_in, tells_none}
+use Rattle.ild_run_follow.proofs.Leading.{below_length, enters_lower, enters_root, enters_within, key_behind, never_past, on_lower, stepped, tells_here, tells_in, tells_none}
 use Rattle.ild_view.specs.View.{slot_of, table_of}
 use Rattle.ild_run_follow.proofs.Shallow.{shallow_entry, shallow_here}
 use Rattle.ild_run_follow.proofs.Within.{tells_absent, tells_on, tells_refused, tells_stopped}
@@ -11,10 +13,13 @@ use Rattle.ild_run_follow.proofs.following.+follow.Goals as goal
 
 pub tell_from-tell_in-requires : goal.tell_from-tell_in-requires
 tell_from-tell_in-requires g t c = λ κs le.
-    let behind = key_behind c.args.view c.args.from (drop c.args.from c.args.path.now) c.in-Ok-Enter.hamt c.in-Ok-Enter.k
-    (stepped c.args.view c.args.from (drop c.args.from c.args.path.now) c.in-Ok-Enter.field-0 _ c.in-Ok-Enter.field-0-is c.in-Ok-Enter.ensures) in
+    let rest = drop c.args.from c.args.path.now in
+    let step = stepped c.args.view c.args.from rest c.in-Ok-Enter.field-0 _ c.in-Ok-Enter.field-0-is c.in-Ok-Enter.ensures in
+    let behind = key_behind c.args.view c.args.from rest c.in-Ok-Enter.hamt c.in-Ok-Enter.k step in
     let lower = enters_lower (length c.args.path.now) c.args.from c.in-Ok-Enter.k behind in
-    (omega (arith, lower), le)
+    let root = enters_root c.args.view c.args.from rest c.in-Ok-Enter.hamt c.in-Ok-Enter.k step in
+    let within = enters_within c.args.view c.args.from c.args.path.now c.in-Ok-Enter.hamt c.in-Ok-Enter.k behind step in
+    (omega (arith, lower), (le.0, (le.1, (root, within))))
 
 pub tell_from-returns-in-Ok-Here : goal.tell_from-returns-in-Ok-Here
 tell_from-returns-in-Ok-Here g t c =
@@ -91,3 +96,9 @@ tell_in-returns g t c =
     tells_refused g.H.KeyHash.hash_of c.args.hamt schema (g.K.Store.moment c.args.store.now) c.args.path.now c.args.k c.args.tell c.in-Some.root c.in-Some.ensures c.as_str.result.now here (Ok c.in_ok-trail.trail)
     (g.K.Store.moment c.trail_of.new.store) c.in_ok-trail.ensures c.in_ok-trail.trail refl c.found.result (λ p slots es has is. c.found.ensures g.H.KeyHash.hash_of p c.as_str.result.now slots es has is) c.in-Some-found.node
     c.in-Err.fault c.in-Some-found.is c.in-Err.ensures
+
+pub tell_in-unreachable-requires : goal.tell_in-unreachable-requires
+tell_in-unreachable-requires g t c = ∥∥₁_elim c.requires.root (hlevel props) (λ x. c.in_default.ensures (hamt x.0) x.1)
+
+pub tell_in-unreachable-requires-in_default-get : goal.tell_in-unreachable-requires-in_default-get
+tell_in-unreachable-requires-in_default-get g t c = never_past c.args.path.now c.args.k c.requires.within c.in_default-get.ensures
