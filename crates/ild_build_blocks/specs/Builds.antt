@@ -10,7 +10,7 @@ use Rattle.ild_edges.specs.Count.{Rose}
 pub use Rattle.ild_edges.specs.Gained.{AddsOnly, Holds}
 use Rattle.ild_edges.specs.Store.{Moment, Later}
 use Rattle.ild_edges.specs.Told.{BothTold}
-use Rattle.ild_bulk.specs.Children.{AddsWhole}
+use Rattle.ild_bulk.specs.Children.{AddsLinked}
 use Rattle.ild_bulk.specs.Putting.{GivesAll}
 use Rattle.ild_schema.specs.declared.number.Slot.{Slot}
 use Rattle.ild_schema.specs.declared.row.Row.{Row}
@@ -47,7 +47,7 @@ pub record IsTooLong (h : List ℕ → List ℕ) (rows : List Row) (slot : Slot)
 -- ---- what a store holds
 
 -- a block that is held collides with one of these, under this id
-pub record Collides (m : Moment) (blocks : List (List ℕ)) (id kept new : List ℕ) : Type 0 where
+pub record CollidesUnder (m : Moment) (blocks : List (List ℕ)) (id kept new : List ℕ) : Type 0 where
   pub held : Holds m (kept ∷ [])
   pub among : Contains blocks new
   pub named : id_of new ≡ id
@@ -59,7 +59,7 @@ pub record PutsSome (m : Moment) (blocks : List (List ℕ)) (n : Moment) : Type 
   pub gets : n.gets ≡ m.gets
   pub puts : n.puts ≤ m.puts + length blocks
   pub adds : AddsOnly m n blocks
-  pub children : BothTold m.blocks n.blocks AddsWhole
+  pub children : BothTold m.blocks n.blocks AddsLinked
 
 -- ---- the answer
 
@@ -75,7 +75,7 @@ BuildAnswer h rows slot v m (Ok b) n = IsBuilt h rows slot v m b n
 BuildAnswer h rows slot v m (Err B.Exhausted) n = (exhausts h rows slot v ≡ true) × (n ≡ m)
 BuildAnswer h rows slot v m (Err B.Size) n = IsTooLong h rows slot v × (n ≡ m)
 BuildAnswer h rows slot v m (Err B.Store) n = Rose m.faults n.faults × HasBlocks h rows slot v
-BuildAnswer h rows slot v m (Err (B.Clash id kept new)) n = Collides n (nodes h rows slot v) id.0 kept new × HasBlocks h rows slot v
+BuildAnswer h rows slot v m (Err (B.Clash id kept new)) n = CollidesUnder n (nodes h rows slot v) id.0 kept new × HasBlocks h rows slot v
 BuildAnswer h rows slot v m (Err B.Memory) n = (n ≡ m) ⊎ HasBlocks h rows slot v
 
 -- From the moment m of a store, a value is built into the block of its representation, or not; and of its other blocks some are put.

@@ -14,7 +14,7 @@ use Rattle.ild_typed.proofs.TrieTells.{SlotWay, nothing, few, many, slot_way}
 use Rattle.ild_edges.specs.Store.{Moment, block_at}
 use Rattle.ild_edges.specs.Told.{BothTold}
 use Rattle.ild_node_slots.specs.declared.fault.HamtFault.{HamtFault}
-use Rattle.ild_bulk.specs.Children.{IsIdAmong, ChildIn, IsNodeOver, Follows, AddsWhole}
+use Rattle.ild_bulk.specs.Children.{IsIdAmong, ChildIn, IsNodeOver, Follows, AddsLinked}
 use Rattle.ild_bulk.specs.Planned.{planned, slot_plan}
 use Rattle.ild_edges.specs.Gained.{AreHeld}
 use Rattle.ild_edges.specs.Among.{IsIn}
@@ -132,15 +132,15 @@ first_over (suc k) before (c ∷ bs) now b follows done held is =
 next_is : (k : ℕ) → k + 1 ≡ suc k
 next_is k = omega arith
 
-stopped_whole : (bs : List (List ℕ)) (k : ℕ) (was now : List (List ℕ)) → Follows [] bs → StopsAfter bs k was now → AddsWhole was now
+stopped_whole : (bs : List (List ℕ)) (k : ℕ) (was now : List (List ℕ)) → Follows [] bs → StopsAfter bs k was now → AddsLinked was now
 stopped_whole bs k was now follows stops id b held =
     ⊎_elim (λ before. inl before)
     (λ among. inr (first_over k [] bs now b follows tt stops.held (subst (λ (n : ℕ). IsIn b (take n bs)) (next_is k) (IsIn-of b (take (k + 1) bs) among))))
     (stops.adds id b held)
 
-pub puts-whole : (m n : Moment) (bs : List (List ℕ)) (r : Result (Unit {0}) HamtFault) → Follows [] bs → PutsAll m bs r n → BothTold m.blocks n.blocks AddsWhole
+pub puts-whole : (m n : Moment) (bs : List (List ℕ)) (r : Result (Unit {0}) HamtFault) → Follows [] bs → PutsAll m bs r n → BothTold m.blocks n.blocks AddsLinked
 puts-whole m n bs r follows puts =
-    told-map m.blocks n.blocks (StopsAfter bs puts.stops.0) AddsWhole (λ was now s. stopped_whole bs puts.stops.0 was now follows s) puts.stops.1
+    told-map m.blocks n.blocks (StopsAfter bs puts.stops.0) AddsLinked (λ was now s. stopped_whole bs puts.stops.0 was now follows s) puts.stops.1
 
-pub nothing-added : (m : Moment) → BothTold m.blocks m.blocks AddsWhole
-nothing-added m = told-same m.blocks m.blocks AddsWhole refl (λ a id b held. inl held)
+pub nothing-added : (m : Moment) → BothTold m.blocks m.blocks AddsLinked
+nothing-added m = told-same m.blocks m.blocks AddsLinked refl (λ a id b held. inl held)

@@ -29,5 +29,5 @@ Follows before [] = Unit {0}
 Follows before (b ∷ bs) = IsNodeOver (IsIdAmong before) b × Follows (before ++ b ∷ []) bs
 
 -- each block that is held now was held, or is that of a node whose children are all held
-abbrev pub AddsWhole : List (List ℕ) → List (List ℕ) → Type 0
-AddsWhole was now = (id b : List ℕ) → block_at now id ≡ Some b → (block_at was id ≡ Some b) ⊎ IsNodeOver (λ c. IsSome (block_at now c)) b
+abbrev pub AddsLinked : List (List ℕ) → List (List ℕ) → Type 0
+AddsLinked was now = (id b : List ℕ) → block_at now id ≡ Some b → (block_at was id ≡ Some b) ⊎ IsNodeOver (λ c. IsSome (block_at now c)) b

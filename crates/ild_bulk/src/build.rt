@@ -6,7 +6,7 @@ ghost use Rattle.ild_edges.specs.Told.{BothTold};
 ghost use Rattle.ild_node.specs.Rows.{AreRows};
 ghost use Rattle.ild_typed.specs.Nested.{IsBlock};
 ghost use Rattle.ild_bulk.specs.Build.{Builds, is_long, any_long, plan_of};
-ghost use Rattle.ild_bulk.specs.Children.{AddsWhole};
+ghost use Rattle.ild_bulk.specs.Children.{AddsLinked};
 ghost use Rattle.ild_bulk.specs.Planned.{PlansNode};
 
 use crate::entries::entries_of;
@@ -64,7 +64,7 @@ pub fn from_entries<K: Store, H: KeyHash>(
     // The root and the blocks beneath it are such as a reader of blocks accepts.
     ensures within { IfOk result (λ root. AllByRecursion IsBlock (root ∷ plan_of H.hash_of shape entries.now)) }
     // However it ends, each block that it added has all its children held.
-    ensures children { BothTold (K.moment store.old).blocks (K.moment store.new).blocks AddsWhole }
+    ensures children { BothTold (K.moment store.old).blocks (K.moment store.new).blocks AddsLinked }
 {
     let mut blocks = Vec::new(alloc);
     let root = plan_rows(alloc, shape, entries, keys, &mut blocks)?;

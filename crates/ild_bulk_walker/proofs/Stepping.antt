@@ -6,12 +6,12 @@ use Rattle.ild_data.specs.declared.hamt_shape.HamtShape.{HamtShape}
 use Rattle.ild_data.specs.Data.{Data}
 use Rattle.std.specs.Global.{Vec}
 use Rattle.ild_cbor.specs.declared.why.BlockWhy.TheVariants.{Missing, Cbor, Shape as NoNode}
-use Rattle.ild_edges.specs.Gained.{IsGot}
+use Rattle.ild_edges.specs.Gained.{IsUnder, IsGot}
 use Rattle.ild_edges.specs.Store.{Moment, Gets}
 use Rattle.ild_edges.proofs.Reading.{reads_none}
 use Rattle.ild_node_slots.specs.declared.fault.HamtFault.{HamtFault}
 use Rattle.ild_node_slots.specs.declared.fault.HamtFault.TheVariants as F
-use Rattle.ild_bulk_walker.specs.Fetching.{ReadsBlock, IsBlockAt, OnlyGets, Fetches}
+use Rattle.ild_bulk_walker.specs.Fetching.{ReadsBlock, OnlyGets, Fetches}
 use Rattle.ild_bulk_walker.specs.Steps.{step_todo, steps_todo, entry_key, entry_value}
 use Rattle.ild_bulk_walker.specs.Todo.{give}
 use Rattle.ild_bulk_walker.specs.declared.step.Step.{Step}
@@ -41,7 +41,7 @@ steps-turned steps new turned = ap (λ (xs : List Step). reverse (map step_todo 
 got-here : (m n : Moment) (id b : List ℕ) → Gets m id (Ok (Some b)) n → IsGot n b
 got-here m n id b gets = record { before = m; behind = n; get = subst (λ i. Gets m i (Ok (Some b)) n) (sym gets.answer.0) gets; since = reads_none n }
 
-block-here : (m n : Moment) (id b : List ℕ) → Gets m id (Ok (Some b)) n → IsBlockAt m id b
+block-here : (m n : Moment) (id b : List ℕ) → Gets m id (Ok (Some b)) n → IsUnder m.blocks id b
 block-here m n id b gets = record { named = gets.answer.0; held = gets.answer.1 }
 
 one-get : (m n : Moment) (id b : List ℕ) → Gets m id (Ok (Some b)) n → OnlyGets 1 m n

@@ -3,14 +3,13 @@ use Rattle.std.specs.Prelude.{◌≡◌, ◌≤◌, ◌+◌, ℕ, List, Some, No
 use Rattle.std.specs.Global.{Vec}
 use Rattle.ild_data.specs.Bytes.{AreBytes}
 use Rattle.ild_data.specs.declared.hamt_shape.HamtShape.{HamtShape}
-use Rattle.ild_data.specs.Spell.{id_of}
 use Rattle.ild_data.specs.Trie.{TrieSlot}
 use Rattle.ild_cbor.specs.Reading.{fault_of}
 use Rattle.ild_cbor.specs.declared.why.BlockWhy.{BlockWhy}
 use Rattle.ild_cbor.specs.declared.why.BlockWhy.TheVariants.{Missing, Cbor, Shape as NoNode}
 use Rattle.ild_cbor.specs.declared.why.Why.TheVariants.{Trie}
 use Rattle.ild_edges.specs.Count.{Rose}
-use Rattle.ild_edges.specs.Gained.{IsGot}
+use Rattle.ild_edges.specs.Gained.{IsGot, IsUnder}
 use Rattle.ild_edges.specs.Store.{Moment, Later, block_at}
 use Rattle.ild_edges.specs.Told.{IfTold}
 use Rattle.ild_node_slots.specs.declared.fault.HamtFault.{HamtFault}
@@ -40,15 +39,10 @@ ReadsBlock p id b (Err (Block i why)) = (i.0 ≡ id) × IsFaulty p b why
 ReadsBlock p id b (Err Memory) = Unit {0}
 ReadsBlock p id b (Err e) = ⊥
 
--- a block under an id, where blocks are told
-pub record IsBlockAt (m : Moment) (id b : List ℕ) : Type 0 where
-  pub named : id_of b ≡ id
-  pub held : IfTold m.blocks (λ blocks. block_at blocks id ≡ Some b)
-
 -- a get gave the block under an id, and something is wrong with it
 pub record GotFaulty (p : HamtShape) (m : Moment) (id : List ℕ) (why : BlockWhy) (n : Moment) : Type 0 where
   pub block : List ℕ
-  pub at : IsBlockAt m id block
+  pub at : IsUnder m.blocks id block
   pub got : IsGot n block
   pub wrong : IsFaulty p block why
 
@@ -61,7 +55,7 @@ IsRefused p m id (NoNode why) n = GotFaulty p m id (NoNode why) n
 -- a get gave the block under an id, which is read as these steps
 pub record GotSteps (p : HamtShape) (m : Moment) (id : List ℕ) (steps : List Step) (n : Moment) : Type 0 where
   pub block : List ℕ
-  pub at : IsBlockAt m id block
+  pub at : IsUnder m.blocks id block
   pub got : IsGot n block
   pub has : HasSteps p block steps
 

@@ -2,7 +2,6 @@
 use Rattle.std.specs.Prelude.{◌≡◌, ◌⊎◌, ℕ, zero, suc, ◌+◌, ◌-◌, ◌≤◌, false, List, [], ◌∷◌, length, reverse, slice_get, Option, Some, None}
 use Rattle.ild_data.specs.declared.hamt_shape.HamtShape.{HamtShape}
 use Rattle.ild_data.specs.Data.{Data}
-use Rattle.ild_data.specs.Spell.{id_of}
 use Rattle.ild_data.specs.Trie.{TrieSlot, empty, bucket, child}
 use Rattle.ild_data.specs.TrieShape.{trie_levels}
 use Rattle.ild_cbor.specs.Reading.{fault_of}
@@ -10,20 +9,16 @@ use Rattle.ild_cbor.specs.declared.why.BlockWhy.{BlockWhy}
 use Rattle.ild_cbor.specs.declared.why.BlockWhy.TheVariants.{Missing, Cbor, Shape as NoNode}
 use Rattle.ild_cbor.specs.declared.why.Why.TheVariants.{Trie}
 use Rattle.ild_edges.specs.Count.{Rose}
+use Rattle.ild_edges.specs.Gained.{IsUnder}
 use Rattle.ild_edges.specs.Store.{block_at}
 use Rattle.ild_edges.specs.Told.{IfTold}
 use Rattle.ild_bulk_walker.specs.Gives.{IsNodeOf}
 use Rattle.ild_bulk_walker.specs.Todo.{fits}
 
--- a block under an id: the one that is held, where the store tells what it holds
-pub record IsAt (told : Option (List (List ℕ))) (id block : List ℕ) : Type 0 where
-  pub named : id_of block ≡ id
-  pub held : IfTold told (λ blocks. block_at blocks id ≡ Some block)
-
 -- the block under an id is the node of these slots
 pub record IsNodeAt (p : HamtShape) (told : Option (List (List ℕ))) (id : List ℕ) (slots : List TrieSlot) : Type 0 where
   pub block : List ℕ
-  pub at : IsAt told id block
+  pub at : IsUnder told id block
   pub node : IsNodeOf p block slots
 
 -- the slots of a node on the tree: at no index those of the root, else those of the block under its id
@@ -91,7 +86,7 @@ IsUncollapsed p told (i ∷ up) slots = HasFew p told (i ∷ up) slots
 -- the block is no node
 pub record IsNoNode (p : HamtShape) (told : Option (List (List ℕ))) (id : List ℕ) : Type 0 where
   pub block : List ℕ
-  pub at : IsAt told id block
+  pub at : IsUnder told id block
   pub none : (slots : List TrieSlot) → IsNodeOf p block slots → ⊥
 
 -- it is one, with something in it that a trie hasn't there
@@ -103,5 +98,5 @@ pub record IsWrongNode (h : List ℕ → List ℕ) (p : HamtShape) (told : Optio
 -- why the block under an id is refused: it lacks; it is no spelling; it isn't the node that a trie asks there
 abbrev pub IsWrong : (List ℕ → List ℕ) → HamtShape → Option (List (List ℕ)) → List TrieSlot → ℕ → ℕ → List ℕ → List ℕ → BlockWhy → Type 0
 IsWrong h p told root before now up id Missing = IfTold told (λ blocks. block_at blocks id ≡ None) × Rose before now
-IsWrong h p told root before now up id (Cbor fault) = (block : List ℕ) × IsAt told id block × (fault_of block ≡ Some fault)
+IsWrong h p told root before now up id (Cbor fault) = (block : List ℕ) × IsUnder told id block × (fault_of block ≡ Some fault)
 IsWrong h p told root before now up id (NoNode why) = (why ≡ Trie) × (IsNoNode p told id ⊎ IsWrongNode h p told root up id)

@@ -218,7 +218,9 @@ impl Walker {
     {
         match self.steps.last() {
             Some(Step::Give(entry)) => entry.row(self.alloc, self.here()),
-            _ => Err(AllocError),
+            Some(Step::Enter(_)) => unreachable!(),
+            Some(Step::Leave(_)) => unreachable!(),
+            None => unreachable!(),
         }
     }
 

@@ -17,7 +17,7 @@ use Rattle.ild_edges.proofs.Among.{IsIn-left, IsIn-right, IsIn-contains, IsIn-of
 use Rattle.ild_dirty.specs.Own.{index_at}
 use Rattle.ild_dirty.specs.Beneath.{Place, Places, place, no_places, beside, block_of, kind_of, IsTree, AreTrees, HasPlace, HasPlaceBelow, IsTreeAt, AgreesWith, blocks_in, blocks_below, places_in, places_below}
 use Rattle.ild_dirty.specs.Walk.{own_block, Leads, LeadOn, is_in, is_done, are_done, is_ready, HasReady, Follows, AreStuck, IsPlan}
-use Rattle.ild_dirty.specs.Flush.{PutsAnswer, PutsAll, StopsAfter, AreCarried, IsWhole, AddsWhole, FlushAnswer, Flushes}
+use Rattle.ild_dirty.specs.Flush.{PutsAnswer, PutsAll, StopsAfter, AreCarried, IsWholeIn, CameWholeIn, FlushAnswer, Flushes}
 use Rattle.ild_dirty.specs.declared.fault.FlushFault.{FlushFault}
 use Rattle.ild_dirty.specs.declared.fault.FlushFault.TheVariants as F
 use Rattle.ild_dirty.proofs.Indexed.{block_at-none}
@@ -204,7 +204,7 @@ mutual
 
 -- a block that came has its children held
 whole_of : (own was now : List (List ℕ)) (children : ℕ → List ℕ → List (List ℕ × ℕ)) (spots : List (ℕ × ℕ)) (t : Place) → IsTree children t → AreCarried was own (places_in t) → Keeps was now → ((s : ℕ × ℕ) → IsIn s spots → HasPlace t (own_block own s.0) s.1)
-    → (b : List ℕ) → Stood own children spots now b → IsWhole children t now b
+    → (b : List ℕ) → Stood own children spots now b → IsWholeIn children t now b
 whole_of own was now children spots t tree carried keeps places b stood =
     let here : HasPlace t b stood.ready.kind = subst (λ (x : List ℕ). HasPlace t x stood.ready.kind) stood.block (places (stood.number, stood.ready.kind) stood.ready.reached) in
     let ready : are_done own stood.front (children stood.ready.kind b) ≡ true = ap (λ (x : List ℕ). are_done own stood.front (children stood.ready.kind x)) (sym stood.block) ∙ stood.ready.ready in
@@ -250,7 +250,7 @@ flushed own children id kind order m result n plan puts t tree agrees =
       answer = answered own (map (own_block own) order) t m result n puts.later inside (λ was now put keeps carried. tree_held own was now children plan.spots order plan.reached.closed plan.stuck put keeps t tree.tree agrees carried root) puts.answer;
       adds = told-map m.blocks n.blocks (StopsAfter (map (own_block own) order) puts.stops.0) (CameFrom (blocks_in t))
           (λ was now stops id b held. ⊎_elim (λ before. inl before) (λ among. inr (IsIn-contains b (blocks_in t) (inside b (in_take b (suc puts.stops.0) (map (own_block own) order) (IsIn-of b (take (suc puts.stops.0) (map (own_block own) order)) among))))) (stops.adds id b held)) puts.stops.1;
-      whole = told-both m.blocks n.blocks (StopsAfter (map (own_block own) order) puts.stops.0) Keeps (λ was now. AreCarried was own (places_in t) → AddsWhole children t was now)
+      whole = told-both m.blocks n.blocks (StopsAfter (map (own_block own) order) puts.stops.0) Keeps (λ was now. AreCarried was own (places_in t) → CameWholeIn children t was now)
           (λ was now stops keeps carried id b held. ⊎_elim (λ before. inl before)
           (λ among. inr (whole_of own was now children plan.spots t tree.tree carried keeps places b (stood_at own children plan.spots now [] order puts.stops.0 plan.follows tt stops.held b (IsIn-of b (take (suc puts.stops.0) (map (own_block own) order)) among)))) (stops.adds id b held)) puts.stops.1 puts.later.keeps;
     }

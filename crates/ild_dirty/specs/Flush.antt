@@ -50,14 +50,14 @@ abbrev pub AreCarried : List (List ℕ) → List (List ℕ) → List (List ℕ �
 AreCarried held own places = AllByRecursion (λ p. Contains own p.0 ⊎ AreHeld p.1 held) places
 
 -- at one of its places the children of a block are all held
-pub record IsWhole (children : ℕ → List ℕ → List (List ℕ × ℕ)) (t : Place) (held : List (List ℕ)) (b : List ℕ) : Type 0 where
+pub record IsWholeIn (children : ℕ → List ℕ → List (List ℕ × ℕ)) (t : Place) (held : List (List ℕ)) (b : List ℕ) : Type 0 where
   pub kind : ℕ
   pub place : HasPlace t b kind
   pub children_held : AllByRecursion (λ c. IsSome (block_at held c.0)) (children kind b)
 
 -- each block that is held now was held, or has its children held
-abbrev pub AddsWhole : (ℕ → List ℕ → List (List ℕ × ℕ)) → Place → List (List ℕ) → List (List ℕ) → Type 0
-AddsWhole children t was now = (id b : List ℕ) → block_at now id ≡ Some b → (block_at was id ≡ Some b) ⊎ IsWhole children t now b
+abbrev pub CameWholeIn : (ℕ → List ℕ → List (List ℕ × ℕ)) → Place → List (List ℕ) → List (List ℕ) → Type 0
+CameWholeIn children t was now = (id b : List ℕ) → block_at now id ≡ Some b → (block_at was id ≡ Some b) ⊎ IsWholeIn children t now b
 
 abbrev pub FlushAnswer : List (List ℕ) → Place → Moment → Result (Unit {0}) FlushFault → Moment → Type 0
 FlushAnswer own t m (Ok u) n = BothTold m.blocks n.blocks (λ was now. AreCarried was own (places_in t) → AreHeld (blocks_in t) now)
@@ -73,7 +73,7 @@ AreAmong blocks others = (b : List ℕ) → IsIn b blocks → IsIn b others
 pub record Flushes (own : List (List ℕ)) (children : ℕ → List ℕ → List (List ℕ × ℕ)) (t : Place) (m : Moment) (result : Result (Unit {0}) FlushFault) (n : Moment) : Type 0 where
   pub answer : FlushAnswer own t m result n
   pub adds : BothTold m.blocks n.blocks (CameFrom (blocks_in t))
-  pub whole : BothTold m.blocks n.blocks (λ was now. AreCarried was own (places_in t) → AddsWhole children t was now)
+  pub whole : BothTold m.blocks n.blocks (λ was now. AreCarried was own (places_in t) → CameWholeIn children t was now)
   -- each block once at most, however often it stands in the tree
   pub puts : (blocks : List (List ℕ)) → AreAmong (blocks_in t) blocks → n.puts ≤ m.puts + length blocks
 

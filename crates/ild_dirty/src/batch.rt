@@ -2,7 +2,7 @@
 ghost use Rattle.std.specs.Prelude.{◌≡◌, ◌∷◌, ◌++◌, [], ◌⊎◌};
 ghost use Rattle.ild_data.specs.Spell.{id_of};
 ghost use Rattle.ild_edges.specs.Store.{Gets, Puts, Moment};
-ghost use Rattle.ild_dirty.specs.Batch.{batch_moment, AsksOnce};
+ghost use Rattle.ild_dirty.specs.Batch.{AsksOnce, batch_at};
 
 use crate::OwnBlocks;
 use ild_data::{BlockId, Octets};
@@ -41,10 +41,10 @@ impl<'k, K: Store> Batch<'k, K> {
 }
 
 impl<'k, K: Store> Store for Batch<'k, K> {
-    ghost moment = { λ t. batch_moment (K.moment t.store.now) t.own.now t.gets t.puts (t.store.ghost_name, t.own.ghost_name) };
+    ghost moment = { λ t. batch_at K.moment t };
 
     fn get(&mut self, id: &BlockId) -> Result<Option<Octets>, EdgeErr>
-        ensures gets { Gets (batch_moment (K.moment self.old.store.now) self.old.own.now self.old.gets self.old.puts (self.old.store.ghost_name, self.old.own.ghost_name)) id.now.0 result (batch_moment (K.moment self.new.store.now) self.new.own.now self.new.gets self.new.puts (self.new.store.ghost_name, self.new.own.ghost_name)) }
+        ensures gets { Gets (batch_at K.moment self.old) id.now.0 result (batch_at K.moment self.new) }
         ensures asks { AsksOnce (K.moment self.old.store.now) (K.moment self.new.store.now) }
         ensures own { self.new.own.now ≡ self.old.own.now }
         ensures same_references { (self.new.store.ghost_name ≡ self.old.store.ghost_name) × (self.new.own.ghost_name ≡ self.old.own.ghost_name) }
@@ -58,7 +58,7 @@ impl<'k, K: Store> Store for Batch<'k, K> {
 
     fn put(&mut self, id: &BlockId, bytes: &[u8]) -> Result<Option<Octets>, EdgeErr>
         requires { id.now.0 ≡ id_of bytes.now }
-        ensures puts { Puts (batch_moment (K.moment self.old.store.now) self.old.own.now self.old.gets self.old.puts (self.old.store.ghost_name, self.old.own.ghost_name)) bytes.now result (batch_moment (K.moment self.new.store.now) self.new.own.now self.new.gets self.new.puts (self.new.store.ghost_name, self.new.own.ghost_name)) }
+        ensures puts { Puts (batch_at K.moment self.old) bytes.now result (batch_at K.moment self.new) }
         ensures asks { AsksOnce (K.moment self.old.store.now) (K.moment self.new.store.now) }
         ensures own { (self.new.own.now ≡ self.old.own.now) ⊎ (self.new.own.now ≡ self.old.own.now ++ bytes.now ∷ []) }
         ensures same_references { (self.new.store.ghost_name ≡ self.old.store.ghost_name) × (self.new.own.ghost_name ≡ self.old.own.ghost_name) }

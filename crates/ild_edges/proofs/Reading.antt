@@ -1,6 +1,8 @@
 -- What gets found out: carried over, joined, and held by the blocks themselves.
 use Rattle.std.proofs.Common.{◌≡◌, ◌⊎◌, inl, inr, ⊎_elim, ℕ, List, [], ◌∷◌, ◌++◌, Bool, true, false, cond, Option, Some, Result, Ok, refl, sym, ap, ◌∙◌, subst}
-use Rattle.std.specs.List.{AllByRecursion}
+use Rattle.std.proofs.Math.Logic.{∥∥₁_elim, ∥∥₁_map}
+use Rattle.std.proofs.Props.{props}
+use Rattle.std.specs.List.{AllByRecursion, slice_get}
 use Rattle.std.specs.Cmp.Lexicographic.{same_text as texts_same, other_text, nat_list_eq_equiv}
 use Rattle.std.proofs.lemmas.Option.{same_Some, none-some}
 use Rattle.ild_data.specs.Bytes.{AreBytes}
@@ -8,12 +10,12 @@ use Rattle.ild_data.specs.Key.{same_text}
 use Rattle.ild_data.specs.Spell.{id_of}
 use Rattle.ild_edges.specs.Among.{IsIn}
 use Rattle.ild_edges.specs.Gained.{AreHeld, FromBlocks, HaveClash, IsGot, OnlyReads}
-use Rattle.ild_edges.specs.Store.{Moment, Gets, block_at}
-use Rattle.ild_edges.specs.Told.{IfTold}
+use Rattle.ild_edges.specs.Store.{Keeps, Moment, Gets, StaysGiven, asked_over, block_at}
+use Rattle.ild_edges.specs.Told.{BothTold, IfTold}
 use Rattle.ild_edges.proofs.Among.{IsIn-contains}
 use Rattle.ild_edges.specs.declared.error.EdgeErr.{EdgeErr}
 use Rattle.ild_edges.proofs.Held.{block_at_id}
-use Rattle.ild_edges.proofs.Later.{Later-refl, Later-trans}
+use Rattle.ild_edges.proofs.Later.{Later-refl, Later-trans, below_of, given_refl, keeps_refl}
 
 -- ---- blocks that are held
 
@@ -38,6 +40,32 @@ got_both n [] ys a b = b
 got_both n (x ∷ xs) ys a b = (a.0, got_both n xs ys a.1 b)
 
 -- ---- gets alone
+
+kept_same : (a b : Option (List (List ℕ))) → b ≡ a → BothTold a b Keeps
+kept_same a b is = subst (λ (x : Option (List (List ℕ))). BothTold a x Keeps) (sym is) (keeps_refl a)
+
+given_same : (a b : Option (List (List ℕ))) → b ≡ a → BothTold a b StaysGiven
+given_same a b is = subst (λ (x : Option (List (List ℕ))). BothTold a x StaysGiven) (sym is) (given_refl a)
+
+-- of which it is known that they were
+pub only_of : (m n : Moment) → ∥ OnlyReads m n ∥₁ → OnlyReads m n
+only_of m n some =
+    let blocks : n.blocks ≡ m.blocks = ∥∥₁_elim some (hlevel props) (λ o. o.blocks) in
+    let given : n.given ≡ m.given = ∥∥₁_elim some (hlevel props) (λ o. o.given) in
+    record {
+      blocks = blocks;
+      given = given;
+      puts = ∥∥₁_elim some (hlevel props) (λ o. o.puts);
+      later = record {
+        keeps = kept_same m.blocks n.blocks blocks;
+        given = given_same m.given n.given given;
+        gets = ∥∥₁_elim some (hlevel props) (λ o. o.later.gets);
+        puts = ∥∥₁_elim some (hlevel props) (λ o. o.later.puts);
+        lacks = ∥∥₁_elim some (hlevel props) (λ o. o.later.lacks);
+        faults = ∥∥₁_elim some (hlevel props) (λ o. o.later.faults);
+        beneath = λ i. below_of (asked_over m i) (asked_over n i) (slice_get m.beneath i) (slice_get n.beneath i) (∥∥₁_map some (λ o. o.later.beneath i));
+      };
+    }
 
 pub reads_none : (m : Moment) → OnlyReads m m
 reads_none m = record { later = Later-refl m; blocks = refl; given = refl; puts = refl }

@@ -1,5 +1,5 @@
 -- What a store holds at a moment, and what came to it between two.
-use Rattle.std.specs.Prelude.{◌≡◌, ◌≢◌, ◌⊎◌, ℕ, List, [], ◌∷◌, Some, Ok, IsSome, Contains}
+use Rattle.std.specs.Prelude.{◌≡◌, ◌≢◌, ◌⊎◌, ℕ, List, [], ◌∷◌, Option, Some, Ok, IsSome, Contains}
 use Rattle.std.specs.List.{AllByRecursion}
 use Rattle.ild_data.specs.Bytes.{AreBytes}
 use Rattle.ild_data.specs.Spell.{id_of}
@@ -10,6 +10,11 @@ use Rattle.ild_edges.specs.Told.{IfTold, BothTold}
 -- each of these blocks is held under its id
 abbrev pub AreHeld : List (List ℕ) → List (List ℕ) → Type 0
 AreHeld blocks held = AllByRecursion (λ b. block_at held (id_of b) ≡ Some b) blocks
+
+-- a block under an id: the one that is held, where the store tells what it holds
+pub record IsUnder (told : Option (List (List ℕ))) (id block : List ℕ) : Type 0 where
+  pub named : id_of block ≡ id
+  pub held : IfTold told (λ blocks. block_at blocks id ≡ Some block)
 
 abbrev pub Holds : Moment → List (List ℕ) → Type 0
 Holds m blocks = IfTold m.blocks (λ held. AreHeld blocks held)
@@ -58,7 +63,8 @@ pub record OnlyReads (m n : Moment) : Type 0 where
   pub given : n.given ≡ m.given
   pub puts : n.puts ≡ m.puts
 
--- a get gave this block, and from then on until this moment nothing but gets was done
+-- A get gave this block, and from then on until this moment nothing but gets was done. Where a store tells nothing this holds of any block
+-- under its own hash, once a get was made.
 pub record IsGot (n : Moment) (block : List ℕ) : Type 0 where
   pub before : Moment
   pub behind : Moment

@@ -23,7 +23,7 @@ use Rattle.ild_node_slots.specs.declared.view.NodeView.{NodeView}
 use Rattle.ild_node_slots.specs.declared.fault.HamtFault.{HamtFault}
 use Rattle.ild_node_slots.specs.declared.fault.HamtFault.TheVariants as F
 use Rattle.ild_bulk.specs.Build.{any_long}
-use Rattle.ild_bulk.specs.Children.{AddsWhole}
+use Rattle.ild_bulk.specs.Children.{AddsLinked}
 use Rattle.ild_edges.specs.Gained.{CameFrom, AreHeld}
 use Rattle.ild_edges.proofs.Among.{IsIn-contains, IsIn-of}
 use Rattle.ild_bulk.specs.Putting.{PutsAll, StopsAfter}
@@ -65,9 +65,9 @@ rises p h k slots es fs root was is d has below =
     (way-over h p k was is.left 0 es fs new.0 d (inl (slots, is.node)) new.1 (subst (λ (n : ℕ). HoldsBelow h p was n 0 es) is.all below)))
 
 whole-after : (p : HamtShape) (h : List ℕ → List ℕ) (k : List ℕ) (slots : List TrieSlot) (es fs : List (List ℕ × Data)) (root : List ℕ) (m n : Moment) (r : Result (Unit {0}) HamtFault) → IsRootOf h p es slots → DiffersAt k es fs
-    → HasRoot h p fs root → PutsAll m (way_up h p k fs) r n → BothTold m.blocks n.blocks (λ was now. HoldsBelow h p was (trie_levels p) 0 es → AddsWhole was now)
+    → HasRoot h p fs root → PutsAll m (way_up h p k fs) r n → BothTold m.blocks n.blocks (λ was now. HoldsBelow h p was (trie_levels p) 0 es → AddsLinked was now)
 whole-after p h k slots es fs root m n r is d has puts =
-    told-both m.blocks n.blocks Keeps (StopsAfter (way_up h p k fs) puts.stops.0) (λ was now. HoldsBelow h p was (trie_levels p) 0 es → AddsWhole was now)
+    told-both m.blocks n.blocks Keeps (StopsAfter (way_up h p k fs) puts.stops.0) (λ was now. HoldsBelow h p was (trie_levels p) 0 es → AddsLinked was now)
     (λ was now keeps stops below. stopped-whole (way_up h p k fs) puts.stops.0 was now keeps (rises p h k slots es fs root was is d has below) stops) puts.later.keeps puts.stops.1
 
 -- what was added is on the way
@@ -84,14 +84,14 @@ nodes-after p h k fs m n r puts =
 stops-after : (p : HamtShape) (h : List ℕ → List ℕ) (k : List ℕ) (slots : List TrieSlot) (es fs : List (List ℕ × Data)) (root : List ℕ) (m n : Moment) (e : HamtFault) → IsRootOf h p es slots → DiffersAt k es fs
     → HasRoot h p fs root → PutsAll m (way_up h p k fs) (Err e) n → BothTold m.blocks n.blocks (HoldsAfter h p es fs (Err e))
 stops-after p h k slots es fs root m n e is d has puts =
-    told-both m.blocks n.blocks (CameFrom (nodes_beneath h p (trie_levels p) 0 fs)) (λ was now. HoldsBelow h p was (trie_levels p) 0 es → AddsWhole was now) (HoldsAfter h p es fs (Err e))
+    told-both m.blocks n.blocks (CameFrom (nodes_beneath h p (trie_levels p) 0 fs)) (λ was now. HoldsBelow h p was (trie_levels p) 0 es → AddsLinked was now) (HoldsAfter h p es fs (Err e))
     (λ was now a f. record { nodes = a; held = λ below. tt; whole = f }) (nodes-after p h k fs m n (Err e) puts) (whole-after p h k slots es fs root m n (Err e) is d has puts)
 
 -- all was put
 done-after : (p : HamtShape) (h : List ℕ → List ℕ) (k : List ℕ) (view : NodeView) (slots : List TrieSlot) (es fs : List (List ℕ × Data)) (root : List ℕ) (m n : Moment) → HasSlots p view slots → IsRootOf h p es slots → DiffersAt k es fs → KeepsSound es fs
     → HasRoot h p fs root → any_long (root ∷ way_up h p k fs) ≡ false → PutsAll m (way_up h p k fs) (Ok tt) n → BothTold m.blocks n.blocks (HoldsAfter h p es fs (Ok root))
 done-after p h k view slots es fs root m n has_slots is d sound has short puts =
-    told-both m.blocks n.blocks (λ was now. Keeps was now × AreHeld (way_up h p k fs) now) (λ was now. CameFrom (nodes_beneath h p (trie_levels p) 0 fs) was now × (HoldsBelow h p was (trie_levels p) 0 es → AddsWhole was now)) (HoldsAfter h p es fs (Ok root))
+    told-both m.blocks n.blocks (λ was now. Keeps was now × AreHeld (way_up h p k fs) now) (λ was now. CameFrom (nodes_beneath h p (trie_levels p) 0 fs) was now × (HoldsBelow h p was (trie_levels p) 0 es → AddsLinked was now)) (HoldsAfter h p es fs (Ok root))
     (λ was now kept f. record {
       nodes = f.0;
       held = λ below.
@@ -101,8 +101,8 @@ done-after p h k view slots es fs root m n has_slots is d sound has short puts =
       whole = f.1;
     })
     (told-both m.blocks n.blocks Keeps (λ was now. AreHeld (way_up h p k fs) now) (λ was now. Keeps was now × AreHeld (way_up h p k fs) now) (λ was now a b. (a, b)) puts.later.keeps puts.answer.0)
-    (told-both m.blocks n.blocks (CameFrom (nodes_beneath h p (trie_levels p) 0 fs)) (λ was now. HoldsBelow h p was (trie_levels p) 0 es → AddsWhole was now)
-    (λ was now. CameFrom (nodes_beneath h p (trie_levels p) 0 fs) was now × (HoldsBelow h p was (trie_levels p) 0 es → AddsWhole was now)) (λ was now a b. (a, b))
+    (told-both m.blocks n.blocks (CameFrom (nodes_beneath h p (trie_levels p) 0 fs)) (λ was now. HoldsBelow h p was (trie_levels p) 0 es → AddsLinked was now)
+    (λ was now. CameFrom (nodes_beneath h p (trie_levels p) 0 fs) was now × (HoldsBelow h p was (trie_levels p) 0 es → AddsLinked was now)) (λ was now a b. (a, b))
     (nodes-after p h k fs m n (Ok tt) puts) (whole-after p h k slots es fs root m n (Ok tt) is d has puts))
 
 pub holds-after : (p : HamtShape) (h : List ℕ → List ℕ) (k : List ℕ) (view : NodeView) (slots : List TrieSlot) (es fs : List (List ℕ × Data)) (m n : Moment) (r : Result (List ℕ) HamtFault) → HasSlots p view slots → IsRootOf h p es slots

@@ -17,7 +17,7 @@ use Rattle.ild_node_slots.proofs.Shapes.{levels_some}
 use Rattle.ild_node_slots.specs.declared.fault.HamtFault.{HamtFault}
 use Rattle.ild_node_slots.specs.declared.fault.HamtFault.TheVariants as F
 use Rattle.ild_bulk.specs.Build.{is_long, any_long}
-use Rattle.ild_bulk.specs.Children.{AddsWhole}
+use Rattle.ild_bulk.specs.Children.{AddsLinked}
 use Rattle.ild_bulk.specs.Planned.{PlansSlot}
 use Rattle.ild_edges.specs.Gained.{CameFrom}
 use Rattle.ild_edges.proofs.Among.{IsIn-contains, IsIn-of}
@@ -70,7 +70,7 @@ pub record Leaves (p : HamtShape) (bs plan : List (List ℕ)) (m n : Moment) : T
   pub gets : n.gets ≡ m.gets
   pub puts : n.puts ≤ m.puts + length plan
   pub adds : BothTold m.blocks n.blocks (CameFrom plan)
-  pub whole : BothTold m.blocks n.blocks (λ was now. All (HoldsLinksOf p was) bs → AddsWhole was now)
+  pub whole : BothTold m.blocks n.blocks (λ was now. All (HoldsLinksOf p was) bs → AddsLinked was now)
 
 leaves-all : (p : HamtShape) (bs plan : List (List ℕ)) (m : Moment) → Leaves p bs plan m m
 leaves-all p bs plan m = record {
@@ -78,7 +78,7 @@ leaves-all p bs plan m = record {
   gets = refl;
   puts = omega arith;
   adds = told-same m.blocks m.blocks (CameFrom plan) refl (λ was id b held. inl held);
-  whole = told-same m.blocks m.blocks (λ was now. All (HoldsLinksOf p was) bs → AddsWhole was now) refl (λ was all id b held. inl held);
+  whole = told-same m.blocks m.blocks (λ was now. All (HoldsLinksOf p was) bs → AddsLinked was now) refl (λ was all id b held. inl held);
 }
 
 leaves-same : (p : HamtShape) (bs plan : List (List ℕ)) (m n : Moment) → n ≡ m → Leaves p bs plan m n
@@ -91,7 +91,7 @@ leaves-puts p bs plan m r n rises puts = record {
   puts = puts.puts;
   adds = told-map m.blocks n.blocks (StopsAfter plan puts.stops.0) (CameFrom plan)
       (λ was now stops id b held. ⊎_elim (λ before. inl before) (λ among. inr (IsIn-contains b plan (among-take b (puts.stops.0 + 1) plan (IsIn-of b (take (puts.stops.0 + 1) plan) among)))) (stops.adds id b held)) puts.stops.1;
-  whole = told-both m.blocks n.blocks Keeps (StopsAfter plan puts.stops.0) (λ was now. All (HoldsLinksOf p was) bs → AddsWhole was now)
+  whole = told-both m.blocks n.blocks Keeps (StopsAfter plan puts.stops.0) (λ was now. All (HoldsLinksOf p was) bs → AddsLinked was now)
       (λ was now keeps stops all. stopped-whole plan puts.stops.0 was now keeps (rises was all) stops) puts.later.keeps puts.stops.1;
 }
 

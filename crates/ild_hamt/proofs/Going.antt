@@ -7,6 +7,7 @@ use Rattle.ild_data.specs.Data.{Data}
 use Rattle.ild_data.specs.Spell.{spell, id_of}
 use Rattle.ild_cbor.specs.Reading.{fault_of}
 use Rattle.ild_cbor.proofs.Blocks.{one_spelling_within, block_again}
+use Rattle.ild_edges.specs.Gained.{IsUnder}
 use Rattle.ild_edges.specs.Store.{Moment, Later, block_at}
 use Rattle.ild_edges.specs.Told.{IfTold}
 use Rattle.ild_edges.proofs.Later.{Later-refl, Later-trans}
@@ -28,7 +29,7 @@ use Rattle.ild_cbor.specs.declared.why.BlockWhy.TheVariants.{Missing, Cbor, Shap
 use Rattle.ild_node_slots.specs.declared.fault.HamtFault.{HamtFault}
 use Rattle.ild_node_slots.specs.declared.fault.HamtFault.TheVariants.{Exhausted, Block, Store, Clash, Size, NoKey, Memory}
 use Rattle.ild_hamt.specs.declared.trail.Trail.{Trail}
-use Rattle.ild_hamt.specs.Fetching.{Fetches, BlockCause, IsBlockAt}
+use Rattle.ild_hamt.specs.Fetching.{Fetches, BlockCause}
 use Rattle.ild_edges.specs.Gained.{AreHeld}
 use Rattle.ild_bulk_walker.specs.Gives.{IsNodeOf}
 use Rattle.ild_bulk_walker.specs.Trees.{HoldsBelow}
@@ -245,7 +246,7 @@ told-push None bs b all is = tt
 told-push (Some a) bs b all is = held-more bs a b all is
 
 -- a moment with the same blocks
-block-back : (m k : Moment) (id b : List ℕ) → k.blocks ≡ m.blocks → IsBlockAt k id b → IsBlockAt m id b
+block-back : (m k : Moment) (id b : List ℕ) → k.blocks ≡ m.blocks → IsUnder k.blocks id b → IsUnder m.blocks id b
 block-back m k id b same at = record { named = at.named; held = subst (λ (o : Option (List (List ℕ))). IfTold o (λ blocks. block_at blocks id ≡ Some b)) same at.held }
 
 cause-back : (p : HamtShape) (m k : Moment) (id : List ℕ) (why : BlockWhy) (n : Moment) → k.blocks ≡ m.blocks → m.lacks ≤ k.lacks → BlockCause p k id why n → BlockCause p m id why n

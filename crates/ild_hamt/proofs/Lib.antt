@@ -1,6 +1,7 @@
 pub mod After
 pub mod Beneath
 pub mod Edited
+pub mod Found
 pub mod Fulling
 pub mod Giving
 pub mod Going

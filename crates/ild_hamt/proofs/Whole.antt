@@ -15,7 +15,7 @@ use Rattle.ild_hamt_trie.proofs.Node.{slots-node, no_node}
 use Rattle.ild_hamt_trie.proofs.Slots.{slot_at}
 use Rattle.ild_hamt_trie.proofs.Way.{way_is}
 use Rattle.ild_typed.proofs.TrieTells.{SlotWay, nothing, few, many, slot_way}
-use Rattle.ild_bulk.specs.Children.{IsIdAmong, ChildIn, IsNodeOver, AddsWhole}
+use Rattle.ild_bulk.specs.Children.{IsIdAmong, ChildIn, IsNodeOver, AddsLinked}
 use Rattle.ild_edges.specs.Gained.{AreHeld}
 use Rattle.ild_edges.specs.Among.{IsIn}
 use Rattle.ild_edges.proofs.Among.{IsIn-of}
@@ -169,7 +169,7 @@ first-over (suc k) was before (c ∷ bs) now b keeps rises done held is =
 next_is : (k : ℕ) → k + 1 ≡ suc k
 next_is k = omega arith
 
-pub stopped-whole : (bs : List (List ℕ)) (k : ℕ) (was now : List (List ℕ)) → Keeps was now → Rising was [] bs → StopsAfter bs k was now → AddsWhole was now
+pub stopped-whole : (bs : List (List ℕ)) (k : ℕ) (was now : List (List ℕ)) → Keeps was now → Rising was [] bs → StopsAfter bs k was now → AddsLinked was now
 stopped-whole bs k was now keeps rises stops id b held =
     ⊎_elim (λ before. inl before)
     (λ among. inr (first-over k was [] bs now b keeps rises tt stops.held (subst (λ (n : ℕ). IsIn b (take n bs)) (next_is k) (IsIn-of b (take (k + 1) bs) among))))

@@ -15,7 +15,7 @@ use Rattle.ild_node_slots.specs.declared.view.NodeView.{NodeView}
 use Rattle.ild_node_slots.specs.declared.fault.HamtFault.{HamtFault}
 use Rattle.ild_node_slots.specs.declared.fault.HamtFault.TheVariants.{Block, Clash, Exhausted, Memory, NoKey, Size, Store}
 use Rattle.ild_bulk.specs.Build.{any_long}
-use Rattle.ild_bulk.specs.Children.{AddsWhole}
+use Rattle.ild_bulk.specs.Children.{AddsLinked}
 use Rattle.ild_edges.specs.Gained.{CameFrom, Clashes}
 use Rattle.ild_bulk.specs.Putting.{PutsAll}
 use Rattle.ild_hamt_climb.specs.NodeBytes.{IsNodeBytes}
@@ -67,7 +67,7 @@ pub record Edits (p : HamtShape) (bs : List (List ℕ)) (full : Bool) (m : Momen
   pub gets : n.gets ≡ m.gets
   pub puts : n.puts ≤ m.puts + length plan
   pub adds : BothTold m.blocks n.blocks (CameFrom plan)
-  pub whole : BothTold m.blocks n.blocks (λ was now. All (HoldsLinksOf p was) bs → AddsWhole was now)
+  pub whole : BothTold m.blocks n.blocks (λ was now. All (HoldsLinksOf p was) bs → AddsLinked was now)
 
 -- the removal of a key from among the entries at the end: it isn't there, and nothing is done, or such an edit
 abbrev pub RemovesAlong : HamtShape → List ℕ → List (List ℕ × Data) → List (List ℕ) → Moment → Result (List ℕ) HamtFault → Moment → Type 0

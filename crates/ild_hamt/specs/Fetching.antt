@@ -1,10 +1,10 @@
 -- Reading one node from a store.
 use Rattle.std.specs.Prelude.{◌≡◌, ℕ, List, Option, Some, None, Result, Ok, Err}
 use Rattle.ild_data.specs.Data.{Data}
-use Rattle.ild_data.specs.Spell.{id_of}
 use Rattle.ild_cbor.specs.Block.{IsBlockOf}
 use Rattle.ild_cbor.specs.Reading.{fault_of}
 use Rattle.ild_edges.specs.Count.{Rose, bumped}
+use Rattle.ild_edges.specs.Gained.{IsUnder}
 use Rattle.ild_edges.specs.Store.{Moment, Later, block_at}
 use Rattle.ild_edges.specs.Told.{IfTold}
 use Rattle.ild_data.specs.declared.hamt_shape.HamtShape.{HamtShape}
@@ -30,15 +30,10 @@ Judges p b (Some Missing) = ⊥
 Judges p b (Some (Cbor fault)) = fault_of b ≡ Some fault
 Judges p b (Some (NoNode why)) = (why ≡ Trie) × IsOtherBlock p b
 
--- the block under an id
-pub record IsBlockAt (m : Moment) (id b : List ℕ) : Type 0 where
-  pub named : id_of b ≡ id
-  pub held : IfTold m.blocks (λ blocks. block_at blocks id ≡ Some b)
-
 -- a block under the id, with this wrong in it
 pub record IsWrong (p : HamtShape) (m : Moment) (id : List ℕ) (why : BlockWhy) : Type 0 where
   pub block : List ℕ
-  pub at : IsBlockAt m id block
+  pub at : IsUnder m.blocks id block
   pub wrong : Judges p block (Some why)
 
 abbrev pub BlockCause : HamtShape → Moment → List ℕ → BlockWhy → Moment → Type 0
@@ -47,7 +42,7 @@ BlockCause p m id (Cbor fault) n = IsWrong p m id (Cbor fault)
 BlockCause p m id (NoNode why) n = IsWrong p m id (NoNode why)
 
 abbrev pub FetchAnswer : HamtShape → Moment → List ℕ → Result (List ℕ) HamtFault → Moment → Type 0
-FetchAnswer p m id (Ok b) n = IsBlockAt m id b × IsNodeBlock p b
+FetchAnswer p m id (Ok b) n = IsUnder m.blocks id b × IsNodeBlock p b
 FetchAnswer p m id (Err (Block i why)) n = (i.0 ≡ id) × BlockCause p m id why n
 FetchAnswer p m id (Err Store) n = Rose m.faults n.faults
 FetchAnswer p m id (Err Memory) n = Unit {0}

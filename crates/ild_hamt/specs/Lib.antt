@@ -7,4 +7,5 @@ pub mod Holding
 pub mod Rewriting
 pub mod Removing
 pub mod Edits
+pub mod Found
 pub mod Given

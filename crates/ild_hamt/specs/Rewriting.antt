@@ -8,7 +8,7 @@ use Rattle.ild_data.specs.TrieBlocks.{nodes_beneath}
 use Rattle.ild_node_slots.specs.Views.{HasSlots}
 use Rattle.ild_node_slots.specs.declared.view.NodeView.{NodeView}
 use Rattle.ild_node_slots.specs.declared.fault.HamtFault.{HamtFault}
-use Rattle.ild_bulk.specs.Children.{AddsWhole}
+use Rattle.ild_bulk.specs.Children.{AddsLinked}
 use Rattle.ild_edges.specs.Gained.{CameFrom}
 use Rattle.ild_bulk_walker.specs.Trees.{HoldsBelow}
 use Rattle.ild_hamt.specs.Descending.{IsTrailOf}
@@ -24,4 +24,4 @@ pub record IsTrailFrom (p : HamtShape) (root : NodeView) (t : Trail) (h : List �
 pub record HoldsAfter (h : List ℕ → List ℕ) (p : HamtShape) (es fs : List (List ℕ × Data)) (result : Result (List ℕ) HamtFault) (was now : List (List ℕ)) : Type 0 where
   pub nodes : CameFrom (nodes_beneath h p (trie_levels p) 0 fs) was now
   pub held : HoldsBelow h p was (trie_levels p) 0 es → IfOk result (λ root. HoldsBelow h p now (trie_levels p) 0 fs)
-  pub whole : HoldsBelow h p was (trie_levels p) 0 es → AddsWhole was now
+  pub whole : HoldsBelow h p was (trie_levels p) 0 es → AddsLinked was now

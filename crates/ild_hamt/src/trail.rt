@@ -38,6 +38,7 @@ impl Trail {
     ghost use Rattle.ild_node.specs.Rows.{NestsIn, deepest_value};
     ghost use Rattle.ild_node_slots.specs.Views.{HasSlots};
     ghost use Rattle.ild_hamt.specs.Descending.{IsTrail, IsTrailOf, trail_blocks, trail_shape};
+    ghost use Rattle.ild_hamt.specs.Found.{FindsAtEnd};
     ghost use Rattle.ild_hamt.specs.Given.{GivesWay};
     ghost use Rattle.ild_hamt.specs.Edits.{CausedBy, Edits, IsTrailAlong, RemovesAlong, entries_at_end, is_full_at_end};
     ghost use Rattle.ild_hamt.specs.Removing.{Removes, RestIs};
@@ -55,8 +56,10 @@ impl Trail {
 
     /// The value at the key, or `None` where there is none. The root has to be the one whose children were read.
     pub fn found<'a>(&'a self, root: NodeView<'a>) -> Option<Node<'a>>
-        ensures { (h : List ℕ → List ℕ) (p : HamtShape) (k : List ℕ) (slots : List TrieSlot) (es : List (List ℕ × Data)) → HasSlots p root.entry slots
+        ensures trie { (h : List ℕ → List ℕ) (p : HamtShape) (k : List ℕ) (slots : List TrieSlot) (es : List (List ℕ × Data)) → HasSlots p root.entry slots
             → IsTrailOf h p k slots es self.now → ValueIs (find bytewise k es) result }
+        // Whatever trie the nodes on the way are of: that of the entry which the last of them has at the key.
+        ensures at_end { FindsAtEnd self.now root.entry result }
     {
         match end_slot(self.shape, root, &self.blocks, &self.hash, self.depth) {
             NodeSlot::Bucket(bucket) => bucket.find(self.key.as_str()),

@@ -19,7 +19,7 @@ use Rattle.ild_typed.specs.Stands.{bare, Storable}
 use Rattle.ild_edges.specs.Told.{BothTold}
 use Rattle.ild_bulk_places.specs.Leaving.{AddsPlaced}
 use Rattle.ild_typed_places.specs.Places.{places_in}
-use Rattle.ild_build_blocks.specs.Builds.{Holds, Collides, PutsSome}
+use Rattle.ild_build_blocks.specs.Builds.{Holds, CollidesUnder, PutsSome}
 use Rattle.ild_build_blocks.specs.declared.fault.BuildFault.{BuildFault}
 use Rattle.ild_build_blocks.specs.declared.fault.BuildFault.TheVariants as B
 use Rattle.ild_value.specs.declared.fault.ShownErr.{ShownErr}
@@ -90,7 +90,7 @@ pub record TriesNodes (h : List ℕ → List ℕ) (rows : List Row) (n : TypeNo)
 pub record CollidesAt (m : Moment) (blocks : List (List ℕ)) (id : List ℕ) : Type 0 where
   pub kept : List ℕ
   pub new : List ℕ
-  pub is : Collides m blocks id kept new
+  pub is : CollidesUnder m blocks id kept new
 
 abbrev pub BlockAnswer : (List ℕ → List ℕ) → List Row → TypeNo → Value → Moment → Result (List ℕ) CreateFault → Moment → Type 0
 BlockAnswer h rows n v m (Ok block) k = (tries : TriesNodes h rows n v m k) × (block ≡ spell tries.tree) × Holds k (nodes h rows (plainly n) v)

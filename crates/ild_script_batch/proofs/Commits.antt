@@ -80,7 +80,7 @@ module _ (w : Setting) (v : Value) (t : B.Place) (of : IsTreeOf w v t) where
 
   -- ---- children
 
-  whole_of : (children : ℕ → List ℕ → List (List ℕ × ℕ)) (held : List (List ℕ)) (b : List ℕ) → IsTree children t → L.IsWhole children t held b → IsWhole held (value_children w v b)
+  whole_of : (children : ℕ → List ℕ → List (List ℕ × ℕ)) (held : List (List ℕ)) (b : List ℕ) → IsTree children t → L.IsWholeIn children t held b → IsWhole held (value_children w v b)
   whole_of children held b tree x =
       let k : HasKind children (each_place (put_before t nowhere)) b x.kind = kind_at children t nowhere tree b x.kind x.place in
       let ids : AllByRecursion (λ i. IsSome (block_at held i)) (ids_at k.at) =
@@ -138,7 +138,7 @@ module _ (w : Setting) (children : ℕ → List ℕ → List (List ℕ × ℕ)) 
   gains : Gains m Line n
   gains = record {
     adds = told-map m.blocks n.blocks (CameFrom (B.blocks_in t)) (Came (λ b held. Contains (value_blocks w v) b)) (λ was now came id b held. ⊎_elim (λ before. inl before) (λ new. inr (of_value w v t of b (IsIn-of b (B.blocks_in t) new))) (came id b held)) flushes.adds;
-    whole = told_if m.blocks n.blocks (λ was. L.AreCarried was own (B.places_in t)) (λ was now. L.AreCarried was own (B.places_in t) → L.AddsWhole children t was now) (Came (λ b held. IsWhole held (value_children w v b)))
+    whole = told_if m.blocks n.blocks (λ was. L.AreCarried was own (B.places_in t)) (λ was now. L.AreCarried was own (B.places_in t) → L.CameWholeIn children t was now) (Came (λ b held. IsWhole held (value_children w v b)))
         (λ was now carried came id b held. ⊎_elim (λ before. inl before) (λ new. inr (whole_of w v t of children now b tree new)) (came carried id b held)) dirty flushes.whole;
   }
 
