@@ -1,6 +1,6 @@
 -- The value of data, as that of a piece and of a view.
 use Rattle.std.proofs.Common.{◌≡◌, ℕ, ◌≤◌, List, length, Bool, true, false, Some, None, Option, refl, sym, ◌∙◌, ap, subst, arith}
-use Rattle.std.specs.Prelude.{◌||◌, not, slice_get, Result, Ok, Err}
+use Rattle.std.specs.Prelude.{◌||◌, not, Result, Ok, Err}
 use Rattle.std.specs.Option.{option_map_or}
 use Rattle.std.proofs.Math.Bool.{Bool-set}
 use Rattle.std.proofs.Math.Logic.{∥∥₁_elim, ∥∥₁_map}
@@ -9,7 +9,7 @@ use Rattle.std.proofs.lemmas.Bool.{false≢true}
 use Rattle.std.proofs.lemmas.Option.{same_Some, none-some}
 use Rattle.ild_cbor.proofs.Blocks.{one_tree_lem}
 use Rattle.ild_cbor.specs.declared.node.Node.{Node}
-use Rattle.ild_cbor.specs.Nodes.{Stands, block_of}
+use Rattle.ild_cbor.specs.Nodes.{Stands}
 use Rattle.ild_cbor.specs.Scalar.{kind_of}
 use Rattle.ild_cbor.specs.declared.kind.Kind.{Kind}
 use Rattle.ild_cbor.specs.declared.kind.Kind.TheVariants as K
@@ -18,12 +18,9 @@ use Rattle.ild_cbor.specs.declared.piece.Piece.TheVariants as P
 use Rattle.ild_cbor.specs.declared.why.BlockWhy.{BlockWhy}
 use Rattle.ild_data.specs.Data as T
 use Rattle.ild_data.specs.Data.{Data}
-use Rattle.ild_data.specs.Spell.{id_of}
 use Rattle.ild_data.specs.declared.id.BlockId.{BlockId}
-use Rattle.ild_edges.proofs.Later.{below_of}
-use Rattle.ild_edges.proofs.Reading.{from_more}
-use Rattle.ild_edges.specs.Store.{Keeps, Moment, StaysGiven, asked_over, block_at}
-use Rattle.ild_edges.specs.Told.{BothTold}
+use Rattle.ild_edges.proofs.Reading.{from_more, only_of}
+use Rattle.ild_edges.specs.Store.{Moment, block_at}
 use Rattle.ild_layer_parts.specs.Ready as R
 use Rattle.ild_layer_parts.specs.Ready.{IsInlined}
 use Rattle.ild_layer_piece.specs.Pieces.{IsNumbered, StandsFor}
@@ -52,42 +49,14 @@ use Rattle.ild_view.specs.declared.body.Body.TheVariants as VB
 use Rattle.ild_view.specs.declared.view.View.{View}
 use Rattle.ild_open_held.specs.Held.{IsHeld}
 use Rattle.ild_open_held.specs.Splits.{HasFront}
-use Rattle.ild_open_parts.specs.Reads.{BrokenPart, HasValue, OnlyReads, Reads}
+use Rattle.ild_open_parts.specs.Checked.{IsChecked}
+use Rattle.ild_open_parts.specs.Reads.{BrokenPart, HasValue, Reads}
 use Rattle.ild_open_parts.specs.declared.fault.OpenFault.{OpenFault}
 use Rattle.ild_open_parts.specs.declared.fault.OpenFault.TheVariants as F
 use Rattle.ild_open_read.specs.Parts.{ReadsSlot}
-use Rattle.ild_open.specs.Item.{DataAnswer, HasTree, LoadsAlone, LoadsData, LoadsFlat, LoadsPiece, LoadsShown, StoppedIn}
-use Rattle.ild_open.specs.Loaded.{IsInBlock, IsRefusedAt, IsShallow, IsShown, LoadAnswer, Loads}
+use Rattle.ild_open.specs.Item.{DataAnswer, LoadsAlone, LoadsData, LoadsFlat, LoadsPiece, LoadsShown}
+use Rattle.ild_open.specs.Loaded.{IsShallow, IsShown, LoadAnswer, Loads}
 use Rattle.ild_open.proofs.Flatly.{no_broken}
-
--- ---- gets alone, of which it is known that they were
-
-kept_same : (a b : Option (List (List ℕ))) → b ≡ a → BothTold a b Keeps
-kept_same None b is = subst (λ (x : Option (List (List ℕ))). BothTold None x Keeps) (sym is) tt
-kept_same (Some held) b is = subst (λ (x : Option (List (List ℕ))). BothTold (Some held) x Keeps) (sym is) (λ id c here. here)
-
-given_same : (a b : Option (List (List ℕ))) → b ≡ a → BothTold a b StaysGiven
-given_same None b is = subst (λ (x : Option (List (List ℕ))). BothTold None x StaysGiven) (sym is) tt
-given_same (Some held) b is = subst (λ (x : Option (List (List ℕ))). BothTold (Some held) x StaysGiven) (sym is) (λ id here. here)
-
-pub only_of : (m n : Moment) → ∥ OnlyReads m n ∥₁ → OnlyReads m n
-only_of m n some =
-    let blocks : n.blocks ≡ m.blocks = ∥∥₁_elim some (hlevel props) (λ o. o.blocks) in
-    let given : n.given ≡ m.given = ∥∥₁_elim some (hlevel props) (λ o. o.given) in
-    record {
-      blocks = blocks;
-      given = given;
-      puts = ∥∥₁_elim some (hlevel props) (λ o. o.puts);
-      later = record {
-        keeps = kept_same m.blocks n.blocks blocks;
-        given = given_same m.given n.given given;
-        gets = ∥∥₁_elim some (hlevel props) (λ o. o.later.gets);
-        puts = ∥∥₁_elim some (hlevel props) (λ o. o.later.puts);
-        lacks = ∥∥₁_elim some (hlevel props) (λ o. o.later.lacks);
-        faults = ∥∥₁_elim some (hlevel props) (λ o. o.later.faults);
-        beneath = λ i. below_of (asked_over m i) (asked_over n i) (slice_get m.beneath i) (slice_get n.beneath i) (∥∥₁_map some (λ o. o.later.beneath i));
-      };
-    }
 
 -- ---- the data of a piece
 
@@ -104,7 +73,7 @@ module _ (h : List ℕ → List ℕ) (rows : List Row) (s : Slot) (piece : Piece
   abbrev Read : Result Val OpenFault → Type 0
   Read r = ReadsSlot h at rows 96 true s piece m r n
 
-  pub read_shown : ∥ HasTree rows s piece ∥₁ → (Stopped : Data → List ℕ → BlockWhy → Type 0)
+  pub read_shown : ∥ IsChecked rows 96 s piece ∥₁ → (Stopped : Data → List ℕ → BlockWhy → Type 0)
       → ((t : Data) → StandsFor rows piece t → (id : List ℕ) (why : BlockWhy) → BrokenPart h at rows 96 (s, t) m n id why → Stopped t id why)
       → (r : Result Val OpenFault) → Read r → LoadsShown h rows s piece Stopped m r n
   read_shown some Stopped more r x = record {
@@ -115,27 +84,23 @@ module _ (h : List ℕ → List ℕ) (rows : List Row) (s : Slot) (piece : Piece
   }
 
   -- data that are no list and no map
-  pub flat_shown : ∥ HasTree rows s piece ∥₁ → ((t : Data) → StandsFor rows piece t → IsFlat t) → (r : Result Val OpenFault) → Read r → LoadsFlat h rows s piece m r n
+  pub flat_shown : ∥ IsChecked rows 96 s piece ∥₁ → ((t : Data) → StandsFor rows piece t → IsFlat t) → (r : Result Val OpenFault) → Read r → LoadsFlat h rows s piece m r n
   flat_shown some flat r x = read_shown some (λ t id why. ⊥) (λ t stands id why b. no_broken h rows m.blocks m.lacks n.lacks at 96 s t id why (flat t stands) b) r x
 
   -- of which no block is refused
-  pub never_refused : ∥ HasTree rows s piece ∥₁ → ((t : Data) → StandsFor rows piece t → IsFlat t) → (id : BlockId) (why : BlockWhy) → Read (Err (F.Block id why)) → ⊥
+  pub never_refused : ∥ IsChecked rows 96 s piece ∥₁ → ((t : Data) → StandsFor rows piece t → IsFlat t) → (id : BlockId) (why : BlockWhy) → Read (Err (F.Block id why)) → ⊥
   never_refused some flat id why x =
       ∥∥₁_elim some (hlevel props) (λ y. no_broken h rows m.blocks m.lacks n.lacks at 96 s y.tree id.0 why (flat y.tree y.stands) (x y.tree y.stands y.front).answer.1)
 
 module _ (h : List ℕ → List ℕ) (rows : List Row) (s : Slot) where
-  pub loads_node : (q : Node) (m n : Moment) (r : Result Val OpenFault) → ∥ HasTree rows s (P.Node q) ∥₁ → ReadsSlot h (id_of (block_of q)) rows 96 true s (P.Node q) m r n → LoadsPiece h rows s (P.Node q) m r n
-  loads_node q m n r some x = read_shown h rows s (P.Node q) (id_of (block_of q)) m n some (StoppedIn h rows s (P.Node q) m n) (λ t stands id why b. b) r x
-
-  pub loads_inline : (q : Node) (u : ℕ) (m n : Moment) (r : Result Val OpenFault) → ∥ HasTree rows s (P.Inline q u) ∥₁ → ReadsSlot h (id_of (block_of q)) rows 96 true s (P.Inline q u) m r n
-      → LoadsPiece h rows s (P.Inline q u) m r n
-  loads_inline q u m n r some x = read_shown h rows s (P.Inline q u) (id_of (block_of q)) m n some (StoppedIn h rows s (P.Inline q u) m n) (λ t stands id why b. b) r x
+  pub loads_piece : (at : List ℕ) (piece : Piece) (m n : Moment) (r : Result Val OpenFault) → ∥ IsChecked rows 96 s piece ∥₁ → ReadsSlot h at rows 96 true s piece m r n → LoadsPiece h rows s at piece m r n
+  loads_piece at piece m n r some x = read_shown h rows s piece at m n some (λ t id why. BrokenPart h at rows 96 (s, t) m n id why) (λ t stands id why b. b) r x
 
   -- where no block is refused, whatever is said of one
-  pub flat_loads : (piece : Piece) (m n : Moment) (r : Result Val OpenFault) → LoadsFlat h rows s piece m r n → LoadsPiece h rows s piece m r n
-  flat_loads piece m n r x = record { only = x.only; each = λ t stands front. let y = x.each t stands front in record { answer = by t r y.answer; only = y.only; gets = y.gets } }
+  pub flat_loads : (at : List ℕ) (piece : Piece) (m n : Moment) (r : Result Val OpenFault) → LoadsFlat h rows s piece m r n → LoadsPiece h rows s at piece m r n
+  flat_loads at piece m n r x = record { only = x.only; each = λ t stands front. let y = x.each t stands front in record { answer = by t r y.answer; only = y.only; gets = y.gets } }
     where
-      by : (t : Data) (r : Result Val OpenFault) → DataAnswer h rows s (λ id why. ⊥) t m r n → DataAnswer h rows s (StoppedIn h rows s piece m n t) t m r n
+      by : (t : Data) (r : Result Val OpenFault) → DataAnswer h rows s (λ id why. ⊥) t m r n → DataAnswer h rows s (λ id why. BrokenPart h at rows 96 (s, t) m n id why) t m r n
       by t (Ok val) y = y
       by t (Err (F.Block id why)) y = absurd y.1
       by t (Err F.Store) y = y
@@ -146,7 +111,7 @@ module _ (h : List ℕ → List ℕ) (rows : List Row) (s : Slot) where
   loads_spelled q d m n r stands x = record { only = x.only; loads = λ front. x.each d stands front }
 
 -- the item of bytes that spell the data
-pub spelled_tree : (rows : List Row) (s : Slot) (q : Node) (d : Data) → Stands q d → ∥ HasFront rows 96 (s, d) ∥₁ → ∥ HasTree rows s (P.Node q) ∥₁
+pub spelled_tree : (rows : List Row) (s : Slot) (q : Node) (d : Data) → Stands q d → ∥ HasFront rows 96 (s, d) ∥₁ → ∥ IsChecked rows 96 s (P.Node q) ∥₁
 spelled_tree rows s q d stands some = ∥∥₁_map some (λ front. record { tree = d; stands = stands; front = front })
 
 pub spelled_flat : (q : Node) (d : Data) → Stands q d → IsFlat d → (t : Data) → Stands q t → IsFlat t
@@ -205,45 +170,39 @@ module _ (rows : List Row) (s : Slot) where
         by false o e over = absurd (false≢true over)
 
 -- the piece of a view has a tree where the view shows data
-pub shown_tree : (view : View) (p : Piece) → piece_of view ≡ Some p → ∥ IsShallow view ∥₁ → ∥ HasTree (table_of view) (slot_of view) p ∥₁
+pub shown_tree : (view : View) (p : Piece) → piece_of view ≡ Some p → ∥ IsShallow view ∥₁ → ∥ IsChecked (table_of view) 96 (slot_of view) p ∥₁
 shown_tree view p is some =
     ∥∥₁_map some (λ y. record { tree = y.tree; stands = subst (λ b. BodyStands (table_of view) b y.tree) (held_piece (body_of view) p is) y.shown.stands; front = y.shown.front })
 
-module _ (h : List ℕ → List ℕ) (view : View) (m n : Moment) where
+module _ (h : List ℕ → List ℕ) (view : View) (at : List ℕ) (m n : Moment) where
   abbrev rows : List Row
   rows = table_of view
 
   abbrev s : Slot
   s = slot_of view
 
-  in_block : (at : List ℕ) (t : Data) (id : List ℕ) (why : BlockWhy) → IsInBlock (piece_of view) at → BrokenPart h at rows 96 (s, t) m n id why → IsRefusedAt h view m t id why n
-  in_block at t id why here x = (at, here, x)
+  abbrev Broken : Data → List ℕ → BlockWhy → Type 0
+  Broken t id why = BrokenPart h at rows 96 (s, t) m n id why
 
-  stopped : (p : Piece) → piece_of view ≡ Some p → (t : Data) (id : List ℕ) (why : BlockWhy) → StoppedIn h rows s p m n t id why → IsRefusedAt h view m t id why n
-  stopped (P.Node q) is t id why x = in_block (id_of (block_of q)) t id why (subst (λ o. IsInBlock o (id_of (block_of q))) (sym is) refl) x
-  stopped (P.Inline q u) is t id why x = in_block (id_of (block_of q)) t id why (subst (λ o. IsInBlock o (id_of (block_of q))) (sym is) refl) x
-  stopped (P.Text b) is t id why x = absurd x
-  stopped (P.Bytes b) is t id why x = absurd x
-
-  answered : (Stopped : List ℕ → BlockWhy → Type 0) (t : Data) → ((id : List ℕ) (why : BlockWhy) → Stopped id why → IsRefusedAt h view m t id why n) → (r : Result Val OpenFault) → DataAnswer h rows s Stopped t m r n
-      → LoadAnswer h view m t r n
+  answered : (Stopped : List ℕ → BlockWhy → Type 0) (t : Data) → ((id : List ℕ) (why : BlockWhy) → Stopped id why → Broken t id why) → (r : Result Val OpenFault) → DataAnswer h rows s Stopped t m r n
+      → LoadAnswer h view at m t r n
   answered Stopped t more (Ok val) x = x
   answered Stopped t more (Err (F.Block id why)) x = (x.0, more id.0 why x.1)
   answered Stopped t more (Err F.Store) x = x
   answered Stopped t more (Err F.Memory) x = tt
 
-  pub loads_view : (p : Piece) → piece_of view ≡ Some p → (r : Result Val OpenFault) → LoadsPiece h rows s p m r n → Loads h view m r n
+  pub loads_view : (p : Piece) → piece_of view ≡ Some p → (r : Result Val OpenFault) → LoadsPiece h rows s at p m r n → Loads h view at m r n
   loads_view p is r x =
-      let own : (t : Data) → IsShown view t → LoadsData h rows s (StoppedIn h rows s p m n t) t m r n =
+      let own : (t : Data) → IsShown view t → LoadsData h rows s (Broken t) t m r n =
       λ t shown. x.each t (subst (λ b. BodyStands rows b t) (held_piece (body_of view) p is) shown.stands) shown.front in
       record {
-        answer = λ t shown. answered (StoppedIn h rows s p m n t) t (λ id why y. stopped p is t id why y) r (own t shown).answer;
+        answer = λ t shown. answered (Broken t) t (λ id why y. y) r (own t shown).answer;
         only = x.only;
         gets = λ t held v shown. (own t shown).gets held v;
       }
 
   -- of a value that the block leaves out
-  pub loads_scalar : (d : Data) → ((t : Data) → BodyStands rows (body_of view) t → d ≡ t) → (r : Result Val OpenFault) → LoadsAlone h rows s d m r n → Loads h view m r n
+  pub loads_scalar : (d : Data) → ((t : Data) → BodyStands rows (body_of view) t → d ≡ t) → (r : Result Val OpenFault) → LoadsAlone h rows s d m r n → Loads h view at m r n
   loads_scalar d same r x =
       let own : (t : Data) → IsShown view t → LoadsData h rows s (λ id why. ⊥) t m r n =
       λ t shown. let is = same t shown.stands in subst (λ u. LoadsData h rows s (λ id why. ⊥) u m r n) is (x.loads (subst (λ u. HasFront rows 96 (s, u)) (sym is) shown.front)) in

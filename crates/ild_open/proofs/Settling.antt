@@ -16,7 +16,7 @@ use Rattle.ild_view_doc.specs.Block.{HasRoot}
 use Rattle.ild_view_doc.specs.Docs.{IsShape, block_in}
 use Rattle.ild_view_doc.specs.declared.doc.Doc.{Doc}
 use Rattle.ild_edges.proofs.Reading.{from_both, from_later, from_more, from_one, get_reads, reads_then}
-use Rattle.ild_edges.specs.Gained.{FromBlocks, OnlyReads}
+use Rattle.ild_edges.specs.Gained.{IsUnder, FromBlocks, OnlyReads}
 use Rattle.ild_edges.specs.Store.{Gets, Moment, block_at}
 use Rattle.ild_edges.specs.Told.{IfTold}
 use Rattle.ild_schema.specs.Clear.{IsSafe}
@@ -35,7 +35,6 @@ use Rattle.ild_typed.specs.Blocks.{nodes}
 use Rattle.ild_typed.specs.Schema.{IsSchema}
 use Rattle.ild_typed.specs.Stands.{Stands, bare, blocks_of}
 use Rattle.ild_open_held.proofs.Roots.{held_stand, standing_are_held}
-use Rattle.ild_bulk_walker.specs.OnTree.{IsAt}
 use Rattle.ild_open_held.specs.Held.{IsHeld}
 use Rattle.ild_open_held.specs.Roots.{IsRooted}
 use Rattle.ild_open_parts.specs.Broken.{HasBrokenBlock}
@@ -194,7 +193,7 @@ module _ (h : List ℕ → List ℕ) (rows : List Row) (ty : TypeNo) (id : List 
 pub found : (rows : List Row) (ty : TypeNo) (id b : List ℕ) (m n : Moment) (r : Result Doc OpenFault) → Judges rows ty id b r → Gets m id (Ok (Some b)) n → Finds rows ty id m r n
 found rows ty id b m n r judged got = record { answer = by r judged; only = get_reads m n id (Ok (Some b)) got; gets = let many = got.gets in omega (arith, many) }
   where
-    here : IsAt m.blocks id b
+    here : IsUnder m.blocks id b
     here = record { named = got.answer.0; held = got.answer.1 }
 
     by : (r : Result Doc OpenFault) → Judges rows ty id b r → FindAnswer rows ty id m r n

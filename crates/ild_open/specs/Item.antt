@@ -1,11 +1,8 @@
 -- What is loaded of data in a slot, in a room of 96: the value, or the block for which there is none.
 use Rattle.std.specs.Prelude.{◌≡◌, ◌+◌, ◌≤◌, ℕ, List, length, Some, Result, Ok, Err}
-use Rattle.ild_cbor.specs.Nodes.{block_of}
 use Rattle.ild_cbor.specs.declared.piece.Piece.{Piece}
-use Rattle.ild_cbor.specs.declared.piece.Piece.TheVariants as P
 use Rattle.ild_cbor.specs.declared.why.BlockWhy.{BlockWhy}
 use Rattle.ild_data.specs.Data.{Data}
-use Rattle.ild_data.specs.Spell.{id_of}
 use Rattle.ild_edges.specs.Gained.{FromBlocks}
 use Rattle.ild_edges.specs.Store.{Moment, block_at}
 use Rattle.ild_layer_piece.specs.Pieces.{StandsFor}
@@ -19,12 +16,6 @@ use Rattle.ild_open_held.specs.Held.{IsHeld}
 use Rattle.ild_open_held.specs.Splits.{HasFront}
 use Rattle.ild_open_parts.specs.Reads.{BrokenPart, NoValue, OnlyReads, Stops}
 use Rattle.ild_open_parts.specs.declared.fault.OpenFault.{OpenFault}
-
--- a piece stands for data with a front that nests at most 96 levels
-pub record HasTree (rows : List Row) (s : Slot) (piece : Piece) : Type 0 where
-  pub tree : Data
-  pub stands : StandsFor rows piece tree
-  pub front : HasFront rows 96 (s, tree)
 
 module _ (h : List ℕ → List ℕ) (rows : List Row) (s : Slot) where
   abbrev pub DataAnswer : (List ℕ → BlockWhy → Type 0) → Data → Moment → Result Val OpenFault → Moment → Type 0
@@ -51,12 +42,6 @@ module _ (h : List ℕ → List ℕ) (rows : List Row) (s : Slot) where
   abbrev pub LoadsFlat : Piece → Moment → Result Val OpenFault → Moment → Type 0
   LoadsFlat piece m r n = LoadsShown piece (λ t id why. ⊥) m r n
 
-  -- why a block is refused: something is wrong with a HAMT in the data
-  abbrev pub StoppedIn : Piece → Moment → Moment → Data → List ℕ → BlockWhy → Type 0
-  StoppedIn (P.Node n) m k t id why = BrokenPart h (id_of (block_of n)) rows 96 (s, t) m k id why
-  StoppedIn (P.Inline n u) m k t id why = BrokenPart h (id_of (block_of n)) rows 96 (s, t) m k id why
-  StoppedIn (P.Text b) m k t id why = ⊥
-  StoppedIn (P.Bytes b) m k t id why = ⊥
-
-  abbrev pub LoadsPiece : Piece → Moment → Result Val OpenFault → Moment → Type 0
-  LoadsPiece piece m r n = LoadsShown piece (StoppedIn piece m n) m r n
+  -- which stand in the block `at`: a block is refused where something is wrong with a HAMT in the data
+  abbrev pub LoadsPiece : List ℕ → Piece → Moment → Result Val OpenFault → Moment → Type 0
+  LoadsPiece at piece m r n = LoadsShown piece (λ t id why. BrokenPart h at rows 96 (s, t) m n id why) m r n

@@ -1,11 +1,6 @@
 -- What loading a view answers: the value at it, which follows from the blocks that gets gave, or the block for which there is none.
 use Rattle.std.specs.Prelude.{◌≡◌, ℕ, ◌+◌, ◌≤◌, List, length, Option, Some, Result, Ok, Err}
-use Rattle.ild_cbor.specs.Nodes.{block_of}
-use Rattle.ild_cbor.specs.declared.piece.Piece.{Piece}
-use Rattle.ild_cbor.specs.declared.piece.Piece.TheVariants as P
-use Rattle.ild_cbor.specs.declared.why.BlockWhy.{BlockWhy}
 use Rattle.ild_data.specs.Data.{Data}
-use Rattle.ild_data.specs.Spell.{id_of}
 use Rattle.ild_edges.specs.Gained.{FromBlocks}
 use Rattle.ild_edges.specs.Count.{Rose}
 use Rattle.ild_edges.specs.Store.{Moment, block_at}
@@ -14,7 +9,7 @@ use Rattle.ild_schema.specs.ValueSeen.{value_of}
 use Rattle.ild_schema.specs.declared.val.Val.{Val}
 use Rattle.ild_typed.specs.Blocks.{nodes}
 use Rattle.ild_view.specs.Body.{BodyStands}
-use Rattle.ild_view.specs.View.{body_of, piece_of, slot_of, table_of}
+use Rattle.ild_view.specs.View.{body_of, slot_of, table_of}
 use Rattle.ild_view.specs.declared.view.View.{View}
 use Rattle.ild_open_held.specs.Held.{IsHeld}
 use Rattle.ild_open_held.specs.Splits.{HasFront}
@@ -36,27 +31,17 @@ pub record IsShallow (view : View) : Type 0 where
 abbrev pub IsValueAt : (List ℕ → List ℕ) → List (List ℕ) → View → Data → Value → Type 0
 IsValueAt h held view t v = IsHeld (block_at held) h (table_of view) 96 (slot_of view) t v
 
--- the block in which an item stands
-abbrev pub IsInBlock : Option Piece → List ℕ → Type 0
-IsInBlock (Some (P.Node n)) at = at ≡ id_of (block_of n)
-IsInBlock (Some (P.Inline n u)) at = at ≡ id_of (block_of n)
-IsInBlock p at = ⊥
+-- of data that stand in the block `at`: a block is refused where something is wrong with a HAMT in them
+abbrev pub LoadAnswer : (List ℕ → List ℕ) → View → List ℕ → Moment → Data → Result Val OpenFault → Moment → Type 0
+LoadAnswer h view at m t (Ok val) n = FromBlocks n (λ held. IsValueAt h held view t (value_of val))
+LoadAnswer h view at m t (Err (F.Block id why)) n =
+    ((held : List (List ℕ)) (v : Value) → m.blocks ≡ Some held → IsValueAt h held view t v → ⊥) × BrokenPart h at (table_of view) 96 (slot_of view, t) m n id.0 why
+LoadAnswer h view at m t (Err F.Store) n = Rose m.faults n.faults
+LoadAnswer h view at m t (Err F.Memory) n = Unit {0}
 
--- why a block is refused: something is wrong with a HAMT in the value
-abbrev pub IsRefusedAt : (List ℕ → List ℕ) → View → Moment → Data → List ℕ → BlockWhy → Moment → Type 0
-IsRefusedAt h view m t id why n =
-    (at : List ℕ) × IsInBlock (piece_of view) at × BrokenPart h at (table_of view) 96 (slot_of view, t) m n id why
-
-abbrev pub LoadAnswer : (List ℕ → List ℕ) → View → Moment → Data → Result Val OpenFault → Moment → Type 0
-LoadAnswer h view m t (Ok val) n = FromBlocks n (λ held. IsValueAt h held view t (value_of val))
-LoadAnswer h view m t (Err (F.Block id why)) n =
-    ((held : List (List ℕ)) (v : Value) → m.blocks ≡ Some held → IsValueAt h held view t v → ⊥) × IsRefusedAt h view m t id.0 why n
-LoadAnswer h view m t (Err F.Store) n = Rose m.faults n.faults
-LoadAnswer h view m t (Err F.Memory) n = Unit {0}
-
--- the value at a view is loaded: by gets alone, no more of them than it has nodes of HAMTs
-pub record Loads (h : List ℕ → List ℕ) (view : View) (m : Moment) (result : Result Val OpenFault) (n : Moment) : Type 0 where
-  pub answer : (t : Data) → IsShown view t → LoadAnswer h view m t result n
+-- the value at a view, in the block `at`, is loaded: by gets alone, no more of them than it has nodes of HAMTs
+pub record Loads (h : List ℕ → List ℕ) (view : View) (at : List ℕ) (m : Moment) (result : Result Val OpenFault) (n : Moment) : Type 0 where
+  pub answer : (t : Data) → IsShown view t → LoadAnswer h view at m t result n
   pub only : OnlyReads m n
   pub gets : (t : Data) (held : List (List ℕ)) (v : Value) → IsShown view t → m.blocks ≡ Some held → IsValueAt h held view t v
       → n.gets ≤ m.gets + length (nodes h (table_of view) (slot_of view) v)

@@ -4,14 +4,15 @@ ghost use Rattle.ild_cbor.specs.Nodes.{Stands};
 ghost use Rattle.ild_cbor.specs.declared.piece.Piece.TheVariants as P;
 ghost use Rattle.ild_data.specs.Data.{Data};
 ghost use Rattle.ild_data.specs.Seen.{data_of};
-ghost use Rattle.ild_data.specs.Spell.{spell};
+ghost use Rattle.ild_data.specs.Spell.{id_of, spell};
 ghost use Rattle.ild_data.specs.Tree.{IsTree};
 ghost use Rattle.ild_layer_parts.specs.Ready.{IsInlined};
 ghost use Rattle.ild_layer_piece.specs.Pieces.{IsNumbered, StandsFor};
 ghost use Rattle.ild_open_held.specs.Splits.{HasFront};
+ghost use Rattle.ild_open_parts.specs.Checked.{IsChecked};
 ghost use Rattle.ild_open_read.specs.Parts.{ReadsSlot};
 ghost use Rattle.ild_typed.proofs.Flat.{IsFlat};
-ghost use Rattle.ild_open.specs.Item.{HasTree, LoadsAlone, LoadsFlat, LoadsPiece};
+ghost use Rattle.ild_open.specs.Item.{LoadsAlone, LoadsFlat, LoadsPiece};
 ghost use Rattle.ild_open.specs.Loaded.{IsShallow, Loads};
 
 use ild_cbor::{Kind, Node, Piece, check};
@@ -36,6 +37,7 @@ fn load_in<K: Store, H: KeyHash>(
     requires within { slot.ty.0 < length acc.now }
     requires numbered { IsNumbered acc.now piece.now }
     requires inlined { IsInlined acc.now slot piece.now }
+    requires tree { ∥ IsChecked acc.now 96 slot piece.now ∥₁ }
     ensures { ReadsSlot H.hash_of at.0 acc.now 96 true slot piece.now (K.moment store.old) result (K.moment store.new) }
 {
     read(alloc, acc, slot, piece, 96, true, at, keys, store)
@@ -53,7 +55,7 @@ fn load_flat<K: Store, H: KeyHash>(
     requires within { slot.ty.0 < length acc.now }
     requires numbered { IsNumbered acc.now piece.now }
     requires inlined { IsInlined acc.now slot piece.now }
-    requires tree { ∥ HasTree acc.now slot piece.now ∥₁ }
+    requires tree { ∥ IsChecked acc.now 96 slot piece.now ∥₁ }
     requires flat { (t : Data) → StandsFor acc.now piece.now t → IsFlat t }
     ensures { LoadsFlat H.hash_of acc.now slot piece.now (K.moment store.old) result (K.moment store.new) }
 {
@@ -122,48 +124,50 @@ fn is_nest(node: &Node<'_>) -> bool
     }
 }
 
-// The value for which an item stands. The id of its block is worked out where the item is a list or a map, since only then a block
-// may be at fault.
+// The value for which an item stands. The id of its block, which is handed in, is worked out where the item is a list or a map, since
+// only then a block may be at fault.
 fn load_node<K: Store, H: KeyHash>(
     alloc: Global,
     acc: &Accepted,
     slot: Slot,
     node: &Node<'_>,
+    block: &[u8],
     keys: &H,
     store: &mut K,
 ) -> Result<Val, OpenFault>
     requires within { slot.ty.0 < length acc.now }
     requires inlined { IsInlined acc.now slot (P.Node node.now) }
-    requires tree { ∥ HasTree acc.now slot (P.Node node.now) ∥₁ }
-    ensures { LoadsPiece H.hash_of acc.now slot (P.Node node.now) (K.moment store.old) result (K.moment store.new) }
+    requires tree { ∥ IsChecked acc.now 96 slot (P.Node node.now) ∥₁ }
+    ensures { LoadsPiece H.hash_of acc.now slot (id_of block.now) (P.Node node.now) (K.moment store.old) result (K.moment store.new) }
 {
     let piece = Piece::Node(*node);
     if is_nest(node) {
-        let at = block_id(node.block());
+        let at = block_id(block);
         return load_in(alloc, acc, slot, &piece, at, keys, store);
     }
     load_flat(alloc, acc, slot, &piece, keys, store)
 }
 
-// The value for which a piece stands.
+// The value for which a piece stands, in this block.
 fn load_piece<K: Store, H: KeyHash>(
     alloc: Global,
     acc: &Accepted,
     slot: Slot,
     piece: &Piece<'_>,
+    block: &[u8],
     keys: &H,
     store: &mut K,
 ) -> Result<Val, OpenFault>
     requires within { slot.ty.0 < length acc.now }
     requires numbered { IsNumbered acc.now piece.now }
     requires inlined { IsInlined acc.now slot piece.now }
-    requires tree { ∥ HasTree acc.now slot piece.now ∥₁ }
-    ensures { LoadsPiece H.hash_of acc.now slot piece.now (K.moment store.old) result (K.moment store.new) }
+    requires tree { ∥ IsChecked acc.now 96 slot piece.now ∥₁ }
+    ensures { LoadsPiece H.hash_of acc.now slot (id_of block.now) piece.now (K.moment store.old) result (K.moment store.new) }
 {
     match piece {
-        Piece::Node(node) => load_node(alloc, acc, slot, node, keys, store),
-        Piece::Inline(node, _) => {
-            let at = block_id(node.block());
+        Piece::Node(node) => load_node(alloc, acc, slot, node, block, keys, store),
+        Piece::Inline(_, _) => {
+            let at = block_id(block);
             load_in(alloc, acc, slot, piece, at, keys, store)
         }
         Piece::Text(_) => load_flat(alloc, acc, slot, piece, keys, store),
@@ -171,20 +175,29 @@ fn load_piece<K: Store, H: KeyHash>(
     }
 }
 
-/// The value at a view, all of whose HAMTs are read from the store, each block once. `Block` comes exactly where the store doesn't
-/// hold them, or where the value nests more than 96 levels with them. By itself the view's block nests no deeper: views are checked in
-/// a room of at most 96.
+/// The value at a view, whose data stand in this block, and all of whose HAMTs are read from the store, each block once. `Block` comes
+/// exactly where the store doesn't hold them, or where the value nests more than 96 levels with them. By itself the view's block nests no
+/// deeper: views are checked in a room of at most 96.
 pub fn load<K: Store, H: KeyHash>(
     alloc: Global,
     view: &View<'_>,
+    block: &[u8],
     keys: &H,
     store: &mut K,
 ) -> Result<Val, OpenFault>
     requires shallow { ∥ IsShallow view.now ∥₁ }
-    ensures { Loads H.hash_of view.now (K.moment store.old) result (K.moment store.new) }
+    ensures { Loads H.hash_of view.now (id_of block.now) (K.moment store.old) result (K.moment store.new) }
 {
     match view.piece() {
-        Some(piece) => load_piece(alloc, view.schema(), view.slot(), &piece, keys, store),
+        Some(piece) => load_piece(
+            alloc,
+            view.schema(),
+            view.slot(),
+            &piece,
+            block,
+            keys,
+            store,
+        ),
         None => {
             let tree = view.rep(alloc)?;
             load_alone(alloc, view.schema(), view.slot(), &tree, keys, store)

@@ -2,6 +2,7 @@
 ghost use Rattle.std.specs.Prelude.{◌≡◌, ◌<◌, None, length};
 ghost use Rattle.ild_cbor.specs.Reading.{fault_of};
 ghost use Rattle.ild_data.specs.Bytes.{AreBytes};
+ghost use Rattle.ild_view_doc.specs.Block.{HasRoot};
 ghost use Rattle.ild_open.specs.Found.{Finds, HasKept, Judges, ReadsRoot};
 ghost use Rattle.ild_open.specs.Opened.{HasOpened, HasValue, Opens};
 
@@ -78,6 +79,7 @@ fn read_root<K: Store, H: KeyHash>(
 ) -> Result<Val, OpenFault>
     requires within { ty.0 < length acc.now }
     requires faultless { fault_of block.now ≡ None }
+    requires root { ∥ HasRoot acc.now ty block.now ∥₁ }
     ensures { ReadsRoot H.hash_of acc.now ty at.0 block.now keep (K.moment store.old) result (K.moment store.new) }
 {
     let root = Piece::Node(known_root(block));

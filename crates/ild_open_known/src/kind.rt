@@ -2,7 +2,7 @@
 ghost use Rattle.std.specs.Prelude.{◌≡◌, true};
 ghost use Rattle.ild_open_known.specs.Covers.{Covers};
 
-use ild_data::HamtShape;
+use ild_data::{BlockId, HamtShape};
 use ild_schema::{Slot, TypeNo};
 use sha2::{Digest, Sha256};
 
@@ -44,15 +44,29 @@ impl ReadAs {
             && self.room <= other.room
     }
 
-    /// A number for this and for bytes, by which both are found again, whatever the room.
-    pub(crate) fn digest(self, bytes: &[u8]) -> [u8; 32] {
+    // The hash of this so far, whatever the room.
+    fn begun(self) -> Sha256 {
         let mut hasher = Sha256::new();
         hasher.update(&self.key.0.to_be_bytes());
         hasher.update(&self.value.ty.0.to_be_bytes());
         hasher.update(&[self.value.nullable as u8]);
         hasher.update(&self.shape.width.to_be_bytes());
         hasher.update(&self.shape.bucket.to_be_bytes());
+        hasher
+    }
+
+    /// A number for this and for bytes, by which both are found again, whatever the room.
+    pub(crate) fn digest(self, bytes: &[u8]) -> [u8; 32] {
+        let mut hasher = self.begun();
         hasher.update(bytes);
+        hasher.finalize()
+    }
+
+    /// The same for this and for a node at the end of a way.
+    pub(crate) fn digest_at(self, id: BlockId, way: &[u8]) -> [u8; 32] {
+        let mut hasher = self.begun();
+        hasher.update(&id.0);
+        hasher.update(way);
         hasher.finalize()
     }
 }

@@ -1,4 +1,5 @@
-//! HAMTs that were found sound, by what they were read as and by the bytes of their roots.
+//! HAMTs that were found sound, by what they were read as and by the bytes of their roots, and nodes beneath roots, by their ids and by
+//! the ways that lead to them.
 #![tactic(auto)]
 
 mod kind;

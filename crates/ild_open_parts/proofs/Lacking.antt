@@ -1,6 +1,7 @@
 -- Fields for which no piece stands, and pieces in which nothing is passed over.
 use Rattle.std.proofs.Common.{◌≡◌, List, [], Bool, true, false, Option, Some, None, ◌⊎◌, inl, inr, refl, sym, ◌∙◌, ap, subst, arith}
-use Rattle.std.specs.Prelude.{Ok, Err}
+use Rattle.std.specs.Prelude.{Ok, Err, is_some}
+use Rattle.std.proofs.lemmas.Bool.{false≢true}
 use Rattle.ild_cbor.specs.declared.node.Node.{Node}
 use Rattle.ild_cbor.specs.declared.piece.Piece.{Piece}
 use Rattle.ild_cbor.specs.declared.piece.Piece.TheVariants as C
@@ -15,11 +16,12 @@ use Rattle.ild_struct.specs.Parts.{IsPart}
 use Rattle.ild_struct.specs.declared.part.Part.{Part}
 use Rattle.ild_struct.specs.declared.part.Part.TheVariants as P
 use Rattle.ild_union.specs.Forms.{passes_over}
+use Rattle.ild_open_parts.specs.Checked.{IsHandedOut, is_out}
 use Rattle.ild_open_parts.specs.Fields.{FieldFits, LeftOut, ReadsField}
 use Rattle.ild_open_parts.specs.Leaf.{IsImplied}
 use Rattle.ild_open_parts.specs.declared.fault.OpenFault.TheVariants as F
 use Rattle.ild_open_parts.proofs.Handing.{absent_part, implicit_part}
-use Rattle.ild_open_parts.proofs.Leaving.{implied_read}
+use Rattle.ild_open_parts.proofs.Leaving.{given_scalar, implied_read}
 use Rattle.ild_open_parts.proofs.Turning.{memory_wants}
 
 -- ---- pieces
@@ -62,9 +64,14 @@ some_there rows f None P.Implicit there h = absurd h
 some_there rows f None (P.Null n) there h = absurd h
 some_there rows f None (P.Held p) there h = absurd h
 
-pub null_there : (part : Part) → ((n : Node) × (part ≡ P.Null n)) ⊎ ((p : Piece) × (part ≡ P.Held p)) → is_absent part ≡ false
-null_there part (inl x) = ap is_absent x.1
-null_there part (inr x) = ap is_absent x.1
+-- a piece stands for one that isn't left out
+pub never_out : (part : Part) → ((n : Node) × (part ≡ P.Null n)) ⊎ ((p : Piece) × (part ≡ P.Held p)) → is_out part ≡ true → ⊥
+never_out part (inl x) out = false≢true (sym (ap is_out x.1) ∙ out)
+never_out part (inr x) out = false≢true (sym (ap is_out x.1) ∙ out)
+
+-- the field that is left out has a value of its own
+pub implied_some : (f : Field) (part : Part) → part ≡ P.Implicit → IsHandedOut f part → is_some f.implicit ≡ true
+implied_some f part is h = let x = implicit_part h.rows f h.tree part is h.is in ap is_some (given_scalar f.implicit x.0 x.2).1
 
 -- of a field that is there, none is made where memory is wanting
 pub wanting_left : (f : Field) (part : Part) → is_absent part ≡ false → LeftOut f part (Err F.Memory)

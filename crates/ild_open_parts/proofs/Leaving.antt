@@ -76,7 +76,7 @@ module _ (block : List ℕ → Option (List ℕ)) (h : List ℕ → List ℕ) (r
   scalar_held (C.Text x) (Some D.Text) is fits front = leaves_are_held block h rows schema room s (scalar_data (C.Text x)) (record { some = refl; shows = front }) D.Text (L.text x) (V.text x) is refl refl
   scalar_held sc o is fits front = absurd cc
 
-given_scalar : (o : Option Scalar) (d : Data) → is_implicit o d ≡ true → (sc : Scalar) × (o ≡ Some sc) × (d ≡ scalar_data sc)
+pub given_scalar : (o : Option Scalar) (d : Data) → is_implicit o d ≡ true → (sc : Scalar) × (o ≡ Some sc) × (d ≡ scalar_data sc)
 given_scalar None d e = absurd cc
 given_scalar (Some sc) d e = (sc, refl, scalar_same sc d e)
 

@@ -5,8 +5,10 @@ pub mod Hamting
 pub mod Handing
 pub mod Lacking
 pub mod Leaving
+pub mod Limited
 pub mod Making
 pub mod Membering
 pub mod Refusing
 pub mod Turning
+pub mod Typing
 pub mod Wrongly

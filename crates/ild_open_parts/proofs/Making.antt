@@ -1,5 +1,5 @@
 -- Leaves: the layer that a piece is tells the value.
-use Rattle.std.proofs.Common.{◌≡◌, ℕ, List, Bool, Option, Some, option_map, refl, sym, ◌∙◌, ap, subst}
+use Rattle.std.proofs.Common.{◌≡◌, ℕ, List, Bool, Option, Some, None, option_map, refl, sym, ◌∙◌, ap, subst}
 use Rattle.std.specs.Prelude.{ℤ, option_and_then}
 use Rattle.std.proofs.lemmas.Option.{same_Some, none-some}
 use Rattle.ild_cbor.specs.Scalar.{boolean_of, int_of, link_of}
@@ -21,7 +21,7 @@ use Rattle.ild_typed.specs.Layer as L
 use Rattle.ild_typed.specs.Layer.{Layer, as_any}
 use Rattle.ild_typed.specs.Schema.{IsSchema}
 use Rattle.ild_typed.specs.Strings.{bytes_in, text_in}
-use Rattle.ild_typed.proofs.Basics.{then_from}
+use Rattle.ild_typed.proofs.Basics.{map_from, then_from}
 use Rattle.ild_layer_piece.specs.Answers.{Layered}
 use Rattle.ild_open_held.specs.Leaves.{leaf_of}
 use Rattle.ild_open_held.proofs.Plainly.{leaves_are_held}
@@ -90,3 +90,10 @@ form_is rows s b def own same there is = ap (def_at rows) (sym same) ∙ there �
 
 pub mapped_is : {A : Type 0} {B : Type 0} (f : A → B) (o : Option A) (a : A) (p : Option B) → o ≡ Some a → option_map f o ≡ p → Some (f a) ≡ p
 mapped_is f o a p is e = ap (option_map f) (sym is) ∙ e
+
+pub none_mapped : {A : Type 0} {B : Type 0} (f : A → B) (o : Option A) (p : Option B) → o ≡ None → option_map f o ≡ p → None ≡ p
+none_mapped f o p is e = sym (ap (option_map f) is) ∙ e
+
+-- data that were made of something show it
+pub shows_one : {X : Type 0} (make : X → Data) (read : Data → Option X) (o : Option X) (t : Data) → ((x : X) → read (make x) ≡ Some x) → option_map make o ≡ Some t → None ≡ read t → ⊥
+shows_one make read o t shows made none = let y = map_from make o t made in none-some y.item (none ∙ ap read (sym (same_Some (make y.item) t y.made)) ∙ shows y.item)

@@ -21,6 +21,12 @@ abbrev pub FieldFits : List Row → ℕ → Slot → Option Data → Type 0
 FieldFits rows room s None = Unit {0}
 FieldFits rows room s (Some d) = HasFront rows room (s, d)
 
+-- what was handed out of a field stands for data with a front, where it is there
+pub record HasFieldFront (rows : List Row) (room : ℕ) (field : Field) (part : Part) : Type 0 where
+  pub tree : Option Data
+  pub is : IsPart rows field tree part
+  pub front : FieldFits rows room field.slot tree
+
 abbrev pub ReadsField : (List ℕ → List ℕ) → List ℕ → List Row → ℕ → Slot → Option Data → Bool → Moment → Result (Option Val) OpenFault → Moment → Type 0
 ReadsField h at rows room s None keep m r n = (r ≡ Ok None) × (n ≡ m)
 ReadsField h at rows room s (Some d) keep m (Ok None) n = ⊥

@@ -81,6 +81,11 @@ ListsRoot h p at piece m r n = (rows : List Row) (t : Data) → StandsFor rows p
 
 -- ---- one row
 
+-- the row spells data within the limits of a block
+pub record IsSpelledRow (row : Listed) : Type 0 where
+  pub tree : Data
+  pub is : IsBlockOf row.value tree
+
 -- the refusal of a key or of a value that stands in a block
 abbrev pub part_fault : BlockId → ViewErr → OpenFault
 part_fault id (E.Shape ty why at) = F.Block id (B.Shape why)

@@ -1,6 +1,9 @@
 -- Values without parts that are values, as a reader answers them.
 use Rattle.std.specs.Prelude.{◌≡◌, ℕ, Bool, true, false, List, Option, Some}
+use Rattle.std.specs.Option.{option_map_or}
+use Rattle.ild_cbor.specs.declared.piece.Piece.{Piece}
 use Rattle.ild_data.specs.Data.{Data}
+use Rattle.ild_schema.specs.Slots.{form_of}
 use Rattle.ild_schema.specs.Value as V
 use Rattle.ild_schema.specs.Value.{Value}
 use Rattle.ild_schema.specs.ValueSeen.{value_of}
@@ -14,6 +17,7 @@ use Rattle.ild_schema.specs.declared.row.Row.{Row}
 use Rattle.ild_schema.specs.declared.val.Val.{Val}
 use Rattle.ild_open_held.specs.Held.{IsHeld}
 use Rattle.ild_open_held.specs.Laws.{IsFronted}
+use Rattle.ild_open_parts.specs.Checked.{IsLayered}
 
 -- the value is held, whatever a store holds
 abbrev pub IsLeafOf : List Row → Slot → Data → Val → Type 0
@@ -35,6 +39,14 @@ is_leaf (D.Link target) = true
 is_leaf (D.Unit form) = true
 is_leaf (D.Enum e) = true
 is_leaf d = false
+
+-- the values of the slot's type have no parts
+abbrev pub IsLeafSlot : List Row → Slot → Type 0
+IsLeafSlot rows s = option_map_or is_leaf (form_of rows s) false ≡ true
+
+-- a piece stands for data that are a layer of the slot's type
+abbrev pub StandsAsLayer : List Row → Slot → Piece → Type 0
+StandsAsLayer rows s piece = (d : TypeDef) → form_of rows s ≡ Some d → ∥ IsLayered rows d piece ∥₁
 
 -- ---- values that are left out
 

@@ -1,5 +1,6 @@
 pub mod Around
 pub mod Broken
+pub mod Checked
 pub mod Fields
 pub mod Hamts
 pub mod Leaf

@@ -1,10 +1,13 @@
 //! The rows of a HAMT, and what stands in each.
-ghost use Rattle.std.specs.Prelude.{◌≡◌, ◌<◌, length};
-ghost use Rattle.ild_open_parts.specs.Hamts.{ListsRoot, RowAnswer, part_fault, told_fault};
+ghost use Rattle.std.specs.Prelude.{◌≡◌, ◌<◌, IfOk, length};
+ghost use Rattle.std.specs.List.{AllByRecursion};
+ghost use Rattle.ild_cbor.specs.declared.piece.Piece.TheVariants as P;
+ghost use Rattle.ild_open_parts.specs.Checked.{IsHamtRoot};
+ghost use Rattle.ild_open_parts.specs.Hamts.{IsSpelledRow, ListsRoot, RowAnswer, part_fault, told_fault};
 
 use crate::fault::OpenFault;
 use ild_bulk_walker::{Row, walk};
-use ild_cbor::{BlockWhy, Node, Piece, check};
+use ild_cbor::{BlockWhy, Node, check};
 use ild_data::{BlockId, HamtShape, KeyHash};
 use ild_edges::Store;
 use ild_node_slots::{HamtFault, root_of};
@@ -27,25 +30,24 @@ pub fn walk_fault(fault: &HamtFault) -> OpenFault
     }
 }
 
-/// The entries of a HAMT whose root a piece is, in the order of their keys; its nodes are read from a store.
+/// The entries of a HAMT with this root, in the order of their keys; its nodes are read from a store.
 pub fn hamt_rows<'b, K: Store, H: KeyHash>(
     alloc: Global,
     shape: HamtShape,
-    piece: &Piece<'b>,
+    root: &Node<'b>,
     at: BlockId,
     keys: &H,
     store: &mut K,
 ) -> Result<Vec<Row>, OpenFault>
-    ensures { ListsRoot H.hash_of shape at.0 piece.now (K.moment store.old) result (K.moment store.new) }
+    requires root { ∥ IsHamtRoot shape root.now ∥₁ }
+    ensures rows { ListsRoot H.hash_of shape at.0 (P.Node root.now) (K.moment store.old) result (K.moment store.new) }
+    ensures spelled { IfOk result (λ rows. ∥ AllByRecursion IsSpelledRow rows.items ∥₁) }
 {
-    let Piece::Node(node) = piece else {
-        return Err(OpenFault::Memory);
+    let view = match root_of(*root, shape) {
+        Ok(view) => view,
+        Err(_) => unreachable!(),
     };
-    let root = match root_of(*node, shape) {
-        Ok(root) => root,
-        Err(_) => return Err(OpenFault::Memory),
-    };
-    match walk(alloc, root, at, keys, store) {
+    match walk(alloc, view, at, keys, store) {
         Ok(rows) => Ok(rows),
         Err(fault) => Err(walk_fault(&fault)),
     }
@@ -75,11 +77,12 @@ pub fn row_item<'r>(
 ) -> Result<Node<'r>, OpenFault>
     requires keyed { key.0 < length acc.now }
     requires within { value.ty.0 < length acc.now }
+    requires spelled { ∥ IsSpelledRow row.now ∥₁ }
     ensures { RowAnswer acc.now room key value row.now result }
 {
     let item = match check(row.value.as_slice()) {
         Ok(item) => item,
-        Err(_) => return Err(OpenFault::Memory),
+        Err(_) => unreachable!(),
     };
     if let Err(fault) = check_key(alloc, acc, key, row.key.as_str(), room) {
         return Err(part_fault(row.block, fault));

@@ -1,5 +1,5 @@
 //! Parts of a value that are kept, where it is to be kept.
-ghost use Rattle.std.specs.Prelude.{◌≡◌, ◌++◌, ◌∷◌, [], true, OnOk, IfErr, IfOk};
+ghost use Rattle.std.specs.Prelude.{◌≡◌, ◌++◌, ◌∷◌, [], is_some, true, OnOk, IfErr, IfOk};
 ghost use Rattle.ild_schema.specs.Value.{optionals_list, pairs_list, values_list};
 ghost use Rattle.ild_schema.specs.ValueSeen.{optional_of, value_of};
 ghost use Rattle.ild_open_parts.specs.Leaf.{IsImplied, IsUnionWith, scalar_value};
@@ -72,11 +72,12 @@ fn scalar_val(scalar: &Scalar) -> Result<Val, AllocError>
 
 /// The value of a field that is left out.
 pub(crate) fn implied(field: &Field) -> Result<Val, OpenFault>
+    requires { is_some field.now.implicit ≡ true }
     ensures ok { IfOk result (IsImplied field.now) }
     ensures err { IfErr result (λ e. e ≡ Memory) }
 {
     match &field.implicit {
         Some(scalar) => Ok(scalar_val(scalar)?),
-        None => Err(OpenFault::Memory),
+        None => unreachable!(),
     }
 }

@@ -141,6 +141,11 @@ module _ (h : List ℕ → List ℕ) (at : List ℕ) (rows : List Row) (room : �
           whole = whole_is i vals m n x ∙ ap (λ gs. field_parts x.done x.held ++ field_parts gs x.left) a.is ∙ ap (λ ps. field_parts x.done x.held ++ field_parts (f ∷ a.others) ps) b.is;
         }
 
+    -- it has a front, where it is there
+    pub fielding_front : (o : Option Data) → Fielding i vals m n → slice_get os i ≡ Some o → FieldFits rows room f.slot o
+    fielding_front None x there = tt
+    fielding_front (Some d) x there = (next (Some d) x there).fronts.0
+
     grown : (xs : List Field) → length xs ≡ i → length (xs ++ f ∷ []) ≡ i + 1
     grown xs same = let a = length-append xs (f ∷ []) in omega (arith, same, a)
 

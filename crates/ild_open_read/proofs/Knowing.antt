@@ -1,5 +1,5 @@
 -- What was found sound, and what is remembered of it.
-use Rattle.std.proofs.Common.{◌≡◌, ◌⊎◌, inl, inr, ℕ, ◌+◌, ◌≤◌, List, [], ◌++◌, length, take, drop, Bool, true, false, Some, refl, sym, ◌∙◌, ap, ap₂, subst, append_assoc, arith}
+use Rattle.std.proofs.Common.{◌≡◌, ◌⊎◌, inl, inr, ℕ, ◌+◌, List, [], ◌∷◌, ◌++◌, length, take, drop, Bool, true, false, Some, refl, sym, ◌∙◌, ap, ap₂, subst, append_assoc, arith}
 use Rattle.std.proofs.Math.Logic.{∥∥₁_elim, ∥∥₁_map}
 use Rattle.std.proofs.Math.Seq.{take-append_seam, drop-append_seam}
 use Rattle.std.proofs.Props.{props}
@@ -12,15 +12,16 @@ use Rattle.ild_cbor.specs.declared.node.Node.{Node}
 use Rattle.ild_cbor.specs.declared.piece.Piece.{Piece}
 use Rattle.ild_cbor.specs.declared.piece.Piece.TheVariants as P
 use Rattle.ild_data.specs.Data.{Data}
-use Rattle.ild_data.specs.Limits.{IsWithin, deepest}
+use Rattle.ild_data.specs.Limits.{IsWithin}
 use Rattle.ild_data.specs.Spell.{spell}
+use Rattle.ild_data.specs.Trie.{TrieSlot, child}
 use Rattle.ild_data.specs.declared.hamt_shape.HamtShape.{HamtShape}
 use Rattle.ild_edges.specs.Store.{Moment}
-use Rattle.ild_edges.proofs.Reading.{from_later, from_more}
+use Rattle.ild_edges.specs.Gained.{FromBlocks}
+use Rattle.ild_edges.proofs.Reading.{from_later, from_more, only_of}
 use Rattle.ild_schema.specs.Clear.{IsSafe}
 use Rattle.ild_schema.specs.Copies.{base}
 use Rattle.ild_schema.specs.Legible.{IsLegible}
-use Rattle.ild_schema.specs.Slots.{form_of}
 use Rattle.ild_schema.specs.declared.def.MapForm.TheVariants as MF
 use Rattle.ild_schema.specs.declared.def.TypeDef.{TypeDef}
 use Rattle.ild_schema.specs.declared.def.TypeDef.TheVariants as D
@@ -29,22 +30,20 @@ use Rattle.ild_schema.specs.declared.number.TypeNo.{TypeNo}
 use Rattle.ild_schema.specs.declared.row.Row.{Row}
 use Rattle.ild_schema.specs.declared.val.Val.{Val}
 use Rattle.ild_schema.specs.declared.val.Val.TheVariants as W
-use Rattle.ild_typed.specs.Pieces.{is_null_there}
 use Rattle.ild_typed.specs.Schema.{IsSchema}
-use Rattle.ild_layer_piece.specs.Pieces.{StandsFor}
-use Rattle.ild_open_known.specs.Covers.{Covers}
-use Rattle.ild_open_known.specs.Roots.{known_in}
+use Rattle.ild_open_known.specs.Covers.{Covers, IsKnownNode}
+use Rattle.ild_open_known.specs.Roots.{known_in, nodes_in}
 use Rattle.ild_open_known.specs.declared.kind.ReadAs.{ReadAs}
 use Rattle.ild_open_known.specs.declared.table.Known.{Known}
 use Rattle.ild_open_parts.specs.Hamts.{ListsRoot, ReadsHamt, ReadsListed, ReadsRows}
-use Rattle.ild_open_parts.specs.Reads.{HasValue, OnlyReads, Reads}
+use Rattle.ild_open_parts.specs.Reads.{HasValue, OnlyReads}
 use Rattle.ild_open_parts.specs.declared.fault.OpenFault.{OpenFault}
 use Rattle.ild_open_parts.proofs.Hamting.{hamt_read}
 use Rattle.ild_open_parts.proofs.Turning.{only_refl}
-use Rattle.ild_open_read.proofs.Alone.{only_of}
-use Rattle.ild_open_read.proofs.Rooming.{has_more}
+use Rattle.ild_open_nodes.specs.Nodes.{SlotOwned}
+use Rattle.ild_open_read.proofs.Rooming.{has_more, slot_more}
 use Rattle.ild_open_read.specs.Passing.{ReadsRoot}
-use Rattle.ild_open_read.specs.Sound.{AreSound, HasHeld, IsPassed, IsSound, Remembers}
+use Rattle.ild_open_read.specs.Sound.{AreSound, HasHeld, IsPassed, IsSound, IsSoundNode, Remembers}
 
 -- ---- the bytes at which a node stands
 
@@ -77,11 +76,15 @@ stands_again n b tells t same within = record {
 
 -- ---- what is known
 
+nowhere : {A : Type 0} (x : A) → Contains [] x → ⊥
+nowhere x among = omega (arith, among.1)
+
 -- nothing is known
-pub none_known : (h : List ℕ → List ℕ) (rows : List Row) (n : Moment) (known : Known) → known_in known ≡ [] → AreSound h rows n known
-none_known h rows n known none = record { each = λ r has. absurd (nowhere r (subst (λ (rs : List (ReadAs × List ℕ)). Contains rs r) none has)) } where
-  nowhere : (r : ReadAs × List ℕ) → Contains [] r → ⊥
-  nowhere r x = omega (arith, x.1)
+pub none_known : (h : List ℕ → List ℕ) (rows : List Row) (n : Moment) (known : Known) → known_in known ≡ [] → nodes_in known ≡ [] → AreSound h rows n known
+none_known h rows n known none nodes = record {
+  each = λ r has. absurd (nowhere r (subst (λ (rs : List (ReadAs × List ℕ)). Contains rs r) none has));
+  nodes = λ r has. absurd (nowhere r (subst (λ (rs : List (ReadAs × List ℕ × List ℕ)). Contains rs r) nodes has));
+}
 
 -- gets alone leave it
 sound_still : (h : List ℕ → List ℕ) (rows : List Row) (m n : Moment) (r : ReadAs × List ℕ) → OnlyReads m n → IsSound h rows m r → IsSound h rows n r
@@ -89,17 +92,20 @@ sound_still h rows m n r only x = record {
   holds = λ s t key_at place whole within same is sum le front. from_later m n (λ held. HasHeld held h rows whole s t) only (x.holds s t key_at place whole within same is sum le front);
 }
 
+node_still : (h : List ℕ → List ℕ) (rows : List Row) (m n : Moment) (r : ReadAs × List ℕ × List ℕ) → OnlyReads m n → IsSoundNode h rows m r → IsSoundNode h rows n r
+node_still h rows m n r only x = record { holds = λ way i is. from_later m n (λ held. SlotOwned h r.0.shape rows r.0.room r.0.key r.0.value held way i (child r.1)) only (x.holds way i is) }
+
 pub known_still : (h : List ℕ → List ℕ) (rows : List Row) (m n : Moment) (known : Known) → OnlyReads m n → AreSound h rows m known → AreSound h rows n known
-known_still h rows m n known only x = record { each = λ r has. sound_still h rows m n r only (x.each r has) }
+known_still h rows m n known only x = record { each = λ r has. sound_still h rows m n r only (x.each r has); nodes = λ r has. node_still h rows m n r only (x.nodes r has) }
 
 -- reading the rows of a root is gets alone
 rows_only : (h : List ℕ → List ℕ) (p : HamtShape) (at : List ℕ) (root : Node) (m n : Moment) (r : Result (Vec Listed) OpenFault) → List Row → ListsRoot h p at (P.Node root) m r n → OnlyReads m n
 rows_only h p at root m n r rows lists = only_of m n (∥∥₁_map root.stands (λ some. (lists rows some.of some.spells).only))
 
 -- so what was found sound still is
-pub still_sound : (h : List ℕ → List ℕ) (p : HamtShape) (at : List ℕ) (rows : List Row) (piece : Piece) (root : Node) (m n : Moment) (r : Result (Vec Listed) OpenFault) (known : Known) → piece ≡ P.Node root → ListsRoot h p at piece m r n
+pub still_sound : (h : List ℕ → List ℕ) (p : HamtShape) (at : List ℕ) (rows : List Row) (root : Node) (m n : Moment) (r : Result (Vec Listed) OpenFault) (known : Known) → ListsRoot h p at (P.Node root) m r n
     → AreSound h rows m known → AreSound h rows n known
-still_sound h p at rows piece root m n r known is lists sound = known_still h rows m n known (rows_only h p at root m n r rows (subst (λ q. ListsRoot h p at q m r n) is lists)) sound
+still_sound h p at rows root m n r known lists sound = known_still h rows m n known (rows_only h p at root m n r rows lists) sound
 
 -- the rows of a root, and what they spell
 pub root_reads : (h : List ℕ → List ℕ) (p : HamtShape) (at : List ℕ) (rows : List Row) (schema : IsSchema rows) (legible : IsLegible rows) (room : ℕ) (keep : Bool) (key : TypeNo) (value : Slot) (piece : Piece) (listed : Vec Listed) (slice : List Listed) (m k n : Moment) (r : Result Val OpenFault)
@@ -156,7 +162,40 @@ module _ (h : List ℕ → List ℕ) (rows : List Row) (kind : ReadAs) (root : N
   -- and may be remembered
   pub remembered : (at : List ℕ) (keep : Bool) (m n : Moment) (val : Val) (old new : Known) (piece : Piece) → piece ≡ P.Node root → AreSound h rows n old → Remembers old new kind root → ReadsRoot h kind.shape at rows kind.room keep kind.key kind.value piece m (Ok val) n
       → AreSound h rows n new
-  remembered at keep m n val old new piece is sound x read = record { each = λ r has. by r (x.added r has) } where
+  remembered at keep m n val old new piece is sound x read = record {
+    each = λ r has. by r (x.added r has);
+    nodes = λ r has. sound.nodes r (subst (λ (rs : List (ReadAs × List ℕ × List ℕ)). Contains rs r) x.nodes has);
+  } where
     by : (r : ReadAs × List ℕ) → Contains (known_in old) r ⊎ (r ≡ (kind, x.bytes)) → IsSound h rows n r
     by r (inl was) = sound.each r was
     by r (inr same) = subst (IsSound h rows n) (sym same) (found at keep m n val x.bytes x.tells (subst (λ q. ReadsRoot h kind.shape at rows kind.room keep kind.key kind.value q m (Ok val) n) is read))
+
+-- ---- nodes
+
+-- what is held of a node in a HAMT that was read so is held in one that is asked for
+covered : (h : List ℕ → List ℕ) (rows : List Row) (known asked : ReadAs) → Covers known asked → (held : List (List ℕ)) (way : List ℕ) (i : ℕ) (s : TrieSlot) → SlotOwned h known.shape rows known.room known.key known.value held way i s
+    → SlotOwned h asked.shape rows asked.room asked.key asked.value held way i s
+covered h rows known asked x held way i s o =
+    subst (λ p. SlotOwned h p rows asked.room asked.key asked.value held way i s) x.shape
+    (subst (λ k. SlotOwned h known.shape rows asked.room k asked.value held way i s) x.key
+    (subst (λ u. SlotOwned h known.shape rows asked.room known.key u held way i s) x.value
+    (slot_more h known.shape rows known.room asked.room x.room known.key known.value held way i s o)))
+
+module _ (h : List ℕ → List ℕ) (rows : List Row) (kind : ReadAs) (id way : List ℕ) where
+  -- it is passed over
+  pub node_passed : (known : Known) (m : Moment) → AreSound h rows m known → IsKnownNode (nodes_in known) kind id way → (above : List ℕ) (i : ℕ) → way ≡ above ++ i ∷ []
+      → FromBlocks m (λ held. SlotOwned h kind.shape rows kind.room kind.key kind.value held above i (child id))
+  node_passed known m sound x above i is =
+      from_more m (λ held. SlotOwned h x.kind.shape rows x.kind.room x.kind.key x.kind.value held above i (child id)) (λ held. SlotOwned h kind.shape rows kind.room kind.key kind.value held above i (child id))
+      (λ held o. covered h rows x.kind kind x.covers held above i (child id) o) ((sound.nodes (x.kind, id, way) x.has).holds above i is)
+
+  -- one that was gone over may be remembered
+  pub node_remembered : (n : Moment) (old new : Known) → AreSound h rows n old → ((r : ReadAs × List ℕ × List ℕ) → Contains (nodes_in new) r → Contains (nodes_in old) r ⊎ (r ≡ (kind, id, way))) → known_in new ≡ known_in old
+      → ((above : List ℕ) (i : ℕ) → way ≡ above ++ i ∷ [] → FromBlocks n (λ held. SlotOwned h kind.shape rows kind.room kind.key kind.value held above i (child id))) → AreSound h rows n new
+  node_remembered n old new sound added roots own = record {
+    each = λ r has. sound.each r (subst (λ (rs : List (ReadAs × List ℕ)). Contains rs r) roots has);
+    nodes = λ r has. by r (added r has);
+  } where
+    by : (r : ReadAs × List ℕ × List ℕ) → Contains (nodes_in old) r ⊎ (r ≡ (kind, id, way)) → IsSoundNode h rows n r
+    by r (inl was) = sound.nodes r was
+    by r (inr same) = subst (IsSoundNode h rows n) (sym same) (record { holds = own })

@@ -1,13 +1,13 @@
-pub mod Alone
+pub mod Checking
 pub mod Fielding
 pub mod Going
 pub mod Knowing
 pub mod Listing
+pub mod Noded
 pub mod Ordered
 pub mod Passed
 pub mod Pairing
 pub mod Readying
 pub mod Rooming
 pub mod Rowing
-pub mod Walking
 pub mod Wholly

@@ -6,6 +6,7 @@ use Rattle.ild_cbor.specs.Nodes.{Stands}
 use Rattle.ild_cbor.specs.Steps.{HasItems, ItemStep}
 use Rattle.ild_cbor.specs.declared.items.Items.{Items}
 use Rattle.ild_cbor.specs.declared.node.Node.{Node}
+use Rattle.ild_cbor.specs.declared.piece.Piece.TheVariants as P
 use Rattle.ild_data.specs.Data as T
 use Rattle.ild_data.specs.Data.{Data}
 use Rattle.ild_data.proofs.Lists.{items_list-items_of}
@@ -19,6 +20,7 @@ use Rattle.ild_schema.specs.declared.row.Row.{Row}
 use Rattle.ild_schema.specs.declared.val.Val.{Val}
 use Rattle.ild_typed.specs.Named.{items_in}
 use Rattle.ild_open_held.specs.Splits.{HasFront, element_parts}
+use Rattle.ild_open_parts.specs.Checked.{IsChecked}
 use Rattle.ild_open_parts.specs.Reads.{HasRead, Reads, ReadsParts}
 use Rattle.ild_open_parts.specs.declared.fault.OpenFault.{OpenFault}
 use Rattle.ild_open_parts.specs.declared.fault.OpenFault.TheVariants as F
@@ -71,6 +73,13 @@ module _ (h : List ℕ → List ℕ) (at : List ℕ) (rows : List Row) (room : �
   next_item (d ∷ ds) left after item give has =
       let x = give (T.item d (T.items_of ds)) has in
       record { first = d; others = ds; is = refl; stands = x.stands; left = x.left }
+
+  -- it has a front
+  pub listing_front : (ds : List Data) (left after : Items) (vals : Values) (m n : Moment) (item : Node) → Listing ds left vals m n → Give left (Some item) after → IsChecked rows room u (P.Node item)
+  listing_front ds left after vals m n item x give =
+      let y = next_item x.rest left after item give x.items in
+      let fronts = subst (λ r. AllByRecursion (HasFront rows room) (element_parts u r)) y.is x.fronts in
+      record { tree = y.first; stands = y.stands; front = fronts.0 }
 
   none_left : (rest : List Data) (left after : Items) → Give left None after → HasItems left (T.items_of rest) → rest ≡ []
   none_left [] left after give has = refl

@@ -16,6 +16,7 @@ use Rattle.ild_schema.specs.declared.number.Slot.{Slot}
 use Rattle.ild_schema.specs.declared.row.Row.{Row}
 use Rattle.ild_schema.specs.declared.val.Val.{Val}
 use Rattle.ild_open_held.specs.Splits.{HasFront, entry_parts}
+use Rattle.ild_open_parts.specs.Checked.{IsChecked}
 use Rattle.ild_open_parts.specs.Reads.{Reads, ReadsParts}
 use Rattle.ild_open_parts.specs.declared.fault.OpenFault.{OpenFault}
 use Rattle.ild_open_parts.specs.declared.fault.OpenFault.TheVariants as F
@@ -76,6 +77,13 @@ module _ (h : List ℕ → List ℕ) (at : List ℕ) (rows : List Row) (room : �
   next_entry : (rest : List (List ℕ × Data)) (left : EntriesLeft) (x : Bor (List ℕ) × Piece × EntriesLeft) → Give left (Some x) → AreLeft left rest → NextEntry rest x
   next_entry [] left x give has = absurd (give [] has)
   next_entry (d ∷ ds) left x give has = let y = give (d ∷ ds) has in record { first = d; others = ds; is = refl; key = y.key; stands = y.stands rows; left = y.left }
+
+  -- the entry that is next has a front
+  pub pairing_front : (es : List (List ℕ × Data)) (left : EntriesLeft) (pairs : Pairs) (m n : Moment) (x : Bor (List ℕ) × Piece × EntriesLeft) → Pairing es left pairs m n → Give left (Some x) → IsChecked rows room u x.1
+  pairing_front es left pairs m n x before give =
+      let y = next_entry before.rest left x give before.entries in
+      let fronts = subst (λ r. AllByRecursion (HasFront rows room) (entry_parts u r)) y.is before.entering.fronts in
+      record { tree = y.first.1; stands = y.stands; front = fronts.0 }
 
   none_left : (rest : List (List ℕ × Data)) (left : EntriesLeft) → Give left None → AreLeft left rest → rest ≡ []
   none_left [] left give has = refl

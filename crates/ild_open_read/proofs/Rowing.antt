@@ -37,7 +37,7 @@ use Rattle.ild_open_held.specs.Entries.{KeyFits}
 use Rattle.ild_open_held.specs.Held.{IsHeld}
 use Rattle.ild_open_held.specs.Splits.{AreHeld, entry_parts}
 use Rattle.ild_open_parts.specs.Broken.{IsWrongPart}
-use Rattle.ild_open_parts.specs.Hamts.{AreSpelled, BrokenRows, IsItemOf, IsWrongRow, NoEntries, ReadsRows, RowAnswer}
+use Rattle.ild_open_parts.specs.Hamts.{AreSpelled, BrokenRows, IsItemOf, IsSpelledRow, IsWrongRow, NoEntries, ReadsRows, RowAnswer}
 use Rattle.ild_open_parts.specs.Reads.{BrokenPart, OnlyReads, Reads, ReadsParts, Stops}
 use Rattle.ild_open_parts.specs.declared.fault.OpenFault.{OpenFault}
 use Rattle.ild_open_parts.specs.declared.fault.OpenFault.TheVariants as F
@@ -137,6 +137,10 @@ module _ (h : List ℕ → List ℕ) (rows : List Row) (room : ℕ) (keep : Bool
     only = only_refl m;
     each = λ es x. record { rest = es; spelled = x; going = going_begins Meets h rows room keep u es m };
   }
+
+  -- the next row spells data
+  pub rowing_spelled : (row : Listed) (behind : List Listed) (pairs : Pairs) (m n : Moment) → Rowing (row ∷ behind) pairs m n → AllByRecursion IsSpelledRow listed → IsSpelledRow row
+  rowing_spelled row behind pairs m n x all = (all_split IsSpelledRow x.done (row ∷ behind) (subst (AllByRecursion IsSpelledRow) x.is all)).1.0
 
   abbrev Answers : Moment → OpenFault → Moment → Type 0
   Answers m e n = ReadsRows h rows room keep key u listed m (Err e) n

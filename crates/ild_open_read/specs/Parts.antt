@@ -30,6 +30,12 @@ use Rattle.ild_typed.specs.Levels.{map_levels}
 use Rattle.ild_open_parts.specs.Reads.{Reads, ReadsParts}
 use Rattle.ild_open_parts.specs.declared.fault.OpenFault.{OpenFault}
 
+-- the entries that are left have fronts
+pub record HasFronts (rows : List Row) (room : ℕ) (value : Slot) (left : EntriesLeft) : Type 0 where
+  pub entries : List (List ℕ × Data)
+  pub are : AreLeft left entries
+  pub fronts : AllByRecursion (HasFront rows room) (entry_parts value entries)
+
 module _ (h : List ℕ → List ℕ) (at : List ℕ) (rows : List Row) (room : ℕ) (keep : Bool) where
   -- the elements of a list
   abbrev pub ReadsElements : Slot → Piece → Moment → Result Val OpenFault → Moment → Type 0

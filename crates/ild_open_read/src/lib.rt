@@ -7,5 +7,5 @@ mod reader;
 mod reading;
 mod value;
 
-pub use ild_open_parts::{OpenFault, leaf};
+pub use ild_open_parts::OpenFault;
 pub use value::read;

@@ -1,23 +1,29 @@
 //! Reading the value for which a piece stands, part by part.
-ghost use Rattle.std.specs.Prelude.{◌≡◌, ◌<◌, ◌≤◌, [], false, Some, length};
+mod nodes;
+
+ghost use Rattle.std.specs.Prelude.{◌≡◌, ◌<◌, ◌≤◌, [], false, Some, length, ℕ};
+ghost use Rattle.std.specs.List.{AllByRecursion};
 ghost use Rattle.ild_cbor.specs.declared.piece.Piece.TheVariants as P;
 ghost use Rattle.ild_view_entries.specs.Forms.{MapDelims};
 ghost use Rattle.ild_layer_piece.specs.Pieces.{IsNumbered};
 ghost use Rattle.ild_schema.specs.Kinds.{meant};
 ghost use Rattle.ild_schema.specs.Table.{IsWithin};
+ghost use Rattle.ild_schema.specs.declared.def.MapForm.TheVariants as MF;
 ghost use Rattle.ild_schema.specs.declared.def.TypeDef.TheVariants as D;
 ghost use Rattle.ild_struct.specs.Parts.{HasNumber};
 ghost use Rattle.ild_union.specs.Forms.{passes_over};
 ghost use Rattle.ild_layer_parts.specs.Ready.{IsInlined};
-ghost use Rattle.ild_open_parts.specs.Fields.{ReadsPart};
-ghost use Rattle.ild_open_parts.specs.Hamts.{ReadsHamt, ReadsListed};
+ghost use Rattle.ild_open_parts.specs.Checked.{IsChecked, IsHamtRoot, IsTyped};
+ghost use Rattle.ild_open_parts.specs.Fields.{HasFieldFront, ReadsPart};
+ghost use Rattle.ild_open_parts.specs.Hamts.{IsSpelledRow, ReadsHamt, ReadsListed};
 ghost use Rattle.ild_open_read.specs.Passing.{ReadsRoot};
 ghost use Rattle.ild_open_read.specs.Sound.{AreSound};
-ghost use Rattle.ild_open_read.specs.Parts.{ReadsElements, ReadsFields, ReadsForm, ReadsLeft, ReadsMember, ReadsSlot};
+ghost use Rattle.ild_open_read.specs.Parts.{HasFronts, ReadsElements, ReadsFields, ReadsForm, ReadsLeft, ReadsMember, ReadsSlot};
 
 use crate::form::hamt_shape;
-use crate::passing::{next_row, walk_of};
+use crate::passing::root_view;
 use crate::reader::Reader;
+use crate::reading::nodes::pass_slots;
 use ild_bulk_walker::Row;
 use ild_cbor::{Node, Piece};
 use ild_data::{BlockId, HamtShape, KeyHash};
@@ -49,12 +55,15 @@ fn read_list<'b, K: Store, H: KeyHash>(
 ) -> Result<Val, OpenFault>
     requires within { elem.ty.0 < length acc.now }
     requires room { room ≤ 96 }
+    requires typed { ∥ ((place : ℕ) × IsTyped acc.now room (D.List elem place) piece.now) ∥₁ }
     requires sound { AreSound H.hash_of acc.now (K.moment store.old) known.old }
     ensures reads { ReadsElements H.hash_of at.0 acc.now room reader.now.keep elem piece.now (K.moment store.old) result (K.moment store.new) }
     ensures sound { AreSound H.hash_of acc.now (K.moment store.new) known.new }
 {
+    // It does no work: its clauses say what acceptance says of the table.
+    let _types = acc.types();
     let Some(mut left) = items(piece) else {
-        return Err(OpenFault::Memory);
+        unreachable!()
     };
     let mut vals = Vals::new(reader.alloc);
     while let Some(item) = left.next() {
@@ -79,6 +88,7 @@ fn read_pairs<'b, K: Store, H: KeyHash>(
 ) -> Result<Val, OpenFault>
     requires within { value.ty.0 < length acc.now }
     requires room { room ≤ 96 }
+    requires fronts { ∥ HasFronts acc.now room value entries ∥₁ }
     requires sound { AreSound H.hash_of acc.now (K.moment store.old) known.old }
     ensures reads { ReadsLeft H.hash_of at.0 acc.now room reader.now.keep value entries.entry (K.moment store.old) result (K.moment store.new) }
     ensures sound { AreSound H.hash_of acc.now (K.moment store.new) known.new }
@@ -108,6 +118,7 @@ fn read_rows<'r, K: Store, H: KeyHash>(
     requires keyed { key.0 < length acc.now }
     requires within { value.ty.0 < length acc.now }
     requires room { room ≤ 96 }
+    requires spelled { ∥ AllByRecursion IsSpelledRow rows.now ∥₁ }
     requires sound { AreSound H.hash_of acc.now (K.moment store.old) known.old }
     ensures reads { ReadsListed H.hash_of acc.now room reader.now.keep key value rows.now (K.moment store.old) result (K.moment store.new) }
     ensures sound { AreSound H.hash_of acc.now (K.moment store.new) known.new }
@@ -126,7 +137,7 @@ fn read_rows<'r, K: Store, H: KeyHash>(
     Ok(Val::Map(pairs))
 }
 
-// Goes over the rows of a root, each read in its block, and keeps none.
+// Goes over the nodes of a HAMT, the entries of each read in its block, and keeps none.
 #[cycle(reads)]
 fn pass_rows<'b, K: Store, H: KeyHash>(
     reader: &Reader<'_, H>,
@@ -143,31 +154,26 @@ fn pass_rows<'b, K: Store, H: KeyHash>(
     requires keyed { key.0 < length acc.now }
     requires within { value.ty.0 < length acc.now }
     requires room { room ≤ 96 }
+    requires root { ∥ IsHamtRoot shape root.now ∥₁ }
     requires sound { AreSound H.hash_of acc.now (K.moment store.old) known.old }
     ensures reads { ReadsRoot H.hash_of shape at.0 acc.now room false key value (P.Node root.now) (K.moment store.old) result (K.moment store.new) }
     ensures sound { AreSound H.hash_of acc.now (K.moment store.new) known.new }
 {
     // It does no work: its clauses say what acceptance says of the table.
     let _types = acc.types();
-    let mut walker = walk_of(reader.alloc, shape, root, at)?;
-    while let Some(row) = next_row(&mut walker, reader.keys, store)? {
-        let item = row_item(reader.alloc, acc, key, value, &row, room)?;
-        read_slot(
-            reader,
-            acc,
-            value,
-            &Piece::Node(item),
-            room,
-            row.block,
-            known,
-            store,
-        )?;
-    }
+    let view = root_view(shape, root);
+    let read_as = ReadAs {
+        key,
+        value,
+        shape,
+        room,
+    };
+    pass_slots(reader, acc, read_as, view, &[], at, known, store)?;
     Ok(Val::Null)
 }
 
-// Reads the entries of a HAMT: those that are kept in the order of their keys, and else one after another as the walk gives them. One
-// that was found sound is passed over, unless it is to be kept.
+// Reads the entries of a HAMT: those that are kept in the order of their keys, and else node by node. One that was found sound is passed
+// over, unless it is to be kept.
 #[cycle(reads)]
 fn read_hamt<'b, K: Store, H: KeyHash>(
     reader: &Reader<'_, H>,
@@ -184,6 +190,8 @@ fn read_hamt<'b, K: Store, H: KeyHash>(
     requires keyed { key.0 < length acc.now }
     requires within { value.ty.0 < length acc.now }
     requires room { room ≤ 96 }
+    requires plain { passes_over piece.now ≡ false }
+    requires typed { ∥ ((key_at place : ℕ) × IsTyped acc.now room (D.Map key key_at value place (MF.Hamt shape)) piece.now) ∥₁ }
     requires sound { AreSound H.hash_of acc.now (K.moment store.old) known.old }
     ensures reads { ReadsHamt H.hash_of shape at.0 acc.now room reader.now.keep key value piece.now (K.moment store.old) result (K.moment store.new) }
     ensures sound { AreSound H.hash_of acc.now (K.moment store.new) known.new }
@@ -191,7 +199,7 @@ fn read_hamt<'b, K: Store, H: KeyHash>(
     // It does no work: its clauses say what acceptance says of the table.
     let _types = acc.types();
     let Piece::Node(root) = piece else {
-        return Err(OpenFault::Memory);
+        unreachable!()
     };
     let read_as = ReadAs {
         key,
@@ -203,7 +211,7 @@ fn read_hamt<'b, K: Store, H: KeyHash>(
         return Ok(Val::Null);
     }
     if reader.keep {
-        let rows = hamt_rows(reader.alloc, shape, piece, at, reader.keys, store)?;
+        let rows = hamt_rows(reader.alloc, shape, root, at, reader.keys, store)?;
         return read_rows(reader, acc, key, value, rows.as_slice(), room, known, store);
     }
     let val = pass_rows(reader, acc, key, value, shape, root, room, at, known, store)?;
@@ -230,6 +238,8 @@ fn read_map<'b, K: Store, H: KeyHash>(
     requires numbered { IsNumbered acc.now piece.now }
     requires delims { MapDelims form.now }
     requires room { room ≤ 96 }
+    requires plain { passes_over piece.now ≡ false }
+    requires typed { ∥ ((key_at place : ℕ) × IsTyped acc.now room (D.Map key key_at value place form.now) piece.now) ∥₁ }
     requires sound { AreSound H.hash_of acc.now (K.moment store.old) known.old }
     ensures reads { ReadsForm H.hash_of at.0 acc.now room reader.now.keep key value form.now piece.now (K.moment store.old) result (K.moment store.new) }
     ensures sound { AreSound H.hash_of acc.now (K.moment store.new) known.new }
@@ -243,7 +253,7 @@ fn read_map<'b, K: Store, H: KeyHash>(
     }
     match form_entries(acc, form, piece) {
         Some(entries) => read_pairs(reader, acc, value, entries, room, at, known, store),
-        None => Err(OpenFault::Memory),
+        None => unreachable!(),
     }
 }
 
@@ -262,6 +272,7 @@ fn read_field<'b, K: Store, H: KeyHash>(
     requires within { field.now.slot.ty.0 < length acc.now }
     requires plain { HasNumber [] part.now }
     requires room { room ≤ 96 }
+    requires front { ∥ HasFieldFront acc.now room field.now part.now ∥₁ }
     requires sound { AreSound H.hash_of acc.now (K.moment store.old) known.old }
     ensures reads { ReadsPart H.hash_of at.0 acc.now room reader.now.keep field.now part.now (K.moment store.old) result (K.moment store.new) }
     ensures sound { AreSound H.hash_of acc.now (K.moment store.new) known.new }
@@ -293,6 +304,7 @@ fn read_struct<'b, K: Store, H: KeyHash>(
     requires parts { IsWithin (length acc.now) (D.Struct def.now) }
     requires numbered { IsNumbered acc.now piece.now }
     requires room { room ≤ 96 }
+    requires typed { ∥ IsTyped acc.now room (D.Struct def.now) piece.now ∥₁ }
     requires sound { AreSound H.hash_of acc.now (K.moment store.old) known.old }
     ensures reads { ReadsFields H.hash_of at.0 acc.now room reader.now.keep def.now piece.now (K.moment store.old) result (K.moment store.new) }
     ensures sound { AreSound H.hash_of acc.now (K.moment store.new) known.new }
@@ -301,7 +313,7 @@ fn read_struct<'b, K: Store, H: KeyHash>(
     let _types = acc.types();
     let parts = match layer(acc, ty, *piece) {
         Ok(parts) => parts,
-        Err(_) => return Err(OpenFault::Memory),
+        Err(_) => unreachable!(),
     };
     let mut fields = ValFields::new(reader.alloc);
     for (i, field) in def.fields.as_slice().iter().enumerate() {
@@ -331,13 +343,14 @@ fn read_union<'b, K: Store, H: KeyHash>(
     requires numbered { IsNumbered acc.now piece.now }
     requires plain { passes_over piece.now ≡ false }
     requires room { room ≤ 96 }
+    requires typed { ∥ IsTyped acc.now room (D.Union def.now) piece.now ∥₁ }
     requires sound { AreSound H.hash_of acc.now (K.moment store.old) known.old }
     ensures reads { ReadsMember H.hash_of at.0 acc.now room reader.now.keep def.now piece.now (K.moment store.old) result (K.moment store.new) }
     ensures sound { AreSound H.hash_of acc.now (K.moment store.new) known.new }
 {
-    let Some((number, slot, part)) = member_of(acc, ty, def, piece) else {
-        return Err(OpenFault::Memory);
-    };
+    // It does no work: its clauses say what acceptance says of the table.
+    let _types = acc.types();
+    let (number, slot, part) = member_of(acc, ty, def, piece);
     let val = read_slot(reader, acc, slot, &part, room, at, known, store)?;
     union_with(reader.alloc, reader.keep, number, val)
 }
@@ -358,6 +371,7 @@ pub(crate) fn read_slot<'b, K: Store, H: KeyHash>(
     requires numbered { IsNumbered acc.now piece.now }
     requires inlined { IsInlined acc.now slot piece.now }
     requires room { room ≤ 96 }
+    requires checked { ∥ IsChecked acc.now room slot piece.now ∥₁ }
     requires sound { AreSound H.hash_of acc.now (K.moment store.old) known.old }
     ensures reads { ReadsSlot H.hash_of at.0 acc.now room reader.now.keep slot piece.now (K.moment store.old) result (K.moment store.new) }
     ensures sound { AreSound H.hash_of acc.now (K.moment store.new) known.new }
@@ -370,7 +384,7 @@ pub(crate) fn read_slot<'b, K: Store, H: KeyHash>(
     let ty = slot.ty;
     let def = acc.def(acc.base(ty));
     let Some(less) = room.checked_sub(levels(def)) else {
-        return Err(OpenFault::Memory);
+        unreachable!()
     };
     match def {
         TypeDef::List { elem, .. } => read_list(reader, acc, *elem, piece, less, at, known, store),

@@ -1,5 +1,6 @@
 //! The value for which a piece stands.
 ghost use Rattle.std.specs.Prelude.{◌<◌, ◌≤◌, length};
+ghost use Rattle.ild_open_parts.specs.Checked.{IsChecked};
 ghost use Rattle.ild_layer_parts.specs.Ready.{IsInlined};
 ghost use Rattle.ild_layer_piece.specs.Pieces.{IsNumbered};
 ghost use Rattle.ild_open_read.specs.Parts.{ReadsSlot};
@@ -31,6 +32,7 @@ pub fn read<'b, K: Store, H: KeyHash>(
     requires numbered { IsNumbered acc.now piece.now }
     requires inlined { IsInlined acc.now slot piece.now }
     requires room { room ≤ 96 }
+    requires checked { ∥ IsChecked acc.now room slot piece.now ∥₁ }
     ensures { ReadsSlot H.hash_of at.0 acc.now room keep slot piece.now (K.moment store.old) result (K.moment store.new) }
 {
     let reader = Reader { alloc, keep, keys };

@@ -16,6 +16,13 @@ pub(crate) const AT_A: &[u8] =
 pub(crate) const AT_B: &[u8] =
     b"\x82\x58\x20\0\0\0\0\0\0\0\0\0\0\0\0\x04\0\0\0\0\0\0\0\0\0\0\0\0\0\0\0\0\0\0\0\x81\xd8\x2a\x58\x25\0\x01\x71\x12\x20";
 
+/// The first bytes of a root node with nodes in both slots, up to the id of the first.
+const AT_BOTH: &[u8] =
+    b"\x82\x58\x20\0\0\0\0\0\0\0\0\0\0\0\0\x06\0\0\0\0\0\0\0\0\0\0\0\0\0\0\0\0\0\0\0\x82\xd8\x2a\x58\x25\0\x01\x71\x12\x20";
+
+/// The first bytes of a link to a node.
+const LINK: &[u8] = b"\xd8\x2a\x58\x25\0\x01\x71\x12\x20";
+
 /// The first bytes of a node whose keys end with a, b, c and d, up to the first of its entries.
 const NODE: &[u8] =
     b"\x82\x58\x20\0\0\0\0\0\0\0\0\0\0\0\0\x1e\0\0\0\0\0\0\0\0\0\0\0\0\0\0\0\0\0\0\0\x84";
@@ -52,5 +59,21 @@ pub(crate) fn root_over(
     store.add(node).ok()?;
     let mut root = front.to_vec(alloc).ok()?;
     root.extend_from_slice(&block_id(node).0).ok()?;
+    root_map(alloc, &root)
+}
+
+/// The root map over a node in the slot of a and one in that of b. Both are added to a store.
+pub(crate) fn root_over_both(
+    alloc: Global,
+    one: &[u8],
+    other: &[u8],
+    store: &mut MemStore,
+) -> Option<Vec<u8>> {
+    store.add(one).ok()?;
+    store.add(other).ok()?;
+    let mut root = AT_BOTH.to_vec(alloc).ok()?;
+    root.extend_from_slice(&block_id(one).0).ok()?;
+    root.extend_from_slice(LINK).ok()?;
+    root.extend_from_slice(&block_id(other).0).ok()?;
     root_map(alloc, &root)
 }

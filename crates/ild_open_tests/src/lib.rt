@@ -8,4 +8,6 @@ mod hamts;
 #[cfg(test)]
 mod nested;
 #[cfg(test)]
+mod shared;
+#[cfg(test)]
 mod told;

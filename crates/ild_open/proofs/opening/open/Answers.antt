@@ -2,6 +2,7 @@ use Rattle.std.proofs.Common.{◌≡◌, ℕ, List, None, sym, subst}
 use Rattle.std.specs.Prelude.{Ok, Err}
 use Rattle.ild_cbor.specs.Reading.{fault_of}
 use Rattle.ild_data.specs.Bytes.{AreBytes}
+use Rattle.ild_view_doc.specs.Block.{HasRoot}
 use Rattle.ild_view_doc.specs.Docs.{block_in}
 use Rattle.ild_open.specs.Found.{HasKept, ReadsRoot}
 use Rattle.ild_open.proofs.Settling.{open_breaks, open_goes, open_stops, root_faultless}
@@ -18,6 +19,10 @@ returns-in-Err g c =
 pub read_root-requires-clause-faultless : goal.read_root-requires-clause-faultless
 read_root-requires-clause-faultless g c =
     subst (λ (b : List ℕ). fault_of b ≡ None) (sym c.block-block.ensures) (root_faultless c.args.acc.now c.args.ty (block_in c.in-Ok.doc) c.in-Ok.ensures.answer.root)
+
+pub read_root-requires-clause-root : goal.read_root-requires-clause-root
+read_root-requires-clause-root g c =
+    ∣ subst (λ (b : List ℕ). HasRoot c.args.acc.now c.args.ty b) (sym c.block-block.ensures) c.in-Ok.ensures.answer.root ∣₁
 
 pub returns-in-Ok-read_root : goal.returns-in-Ok-read_root
 returns-in-Ok-read_root g c =

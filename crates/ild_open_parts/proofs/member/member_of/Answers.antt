@@ -1,12 +1,21 @@
 use Rattle.std.proofs.Common.{◌≡◌, List, get_or, length, Some, refl, ◌∙◌, ap}
 use Rattle.std.specs.Prelude.{slice_get}
+use Rattle.std.proofs.Math.Logic.{∥∥₁_elim}
+use Rattle.std.proofs.Props.{props}
 use Rattle.ild_schema.specs.Copies.{base}
 use Rattle.ild_schema.specs.declared.def.Member.{Member}
+use Rattle.ild_schema.specs.declared.def.TypeDef.TheVariants as D
 use Rattle.ild_schema.specs.declared.row.Row.{Row}
 use Rattle.ild_typed.specs.Schema.{IsSchema}
 use Rattle.ild_view_walk.proofs.Finding.{member_inlined, member_low, union_part}
 use Rattle.ild_open_parts.proofs.Membering.{got, shows_member}
+use Rattle.ild_open_parts.proofs.Typing.{never_refused}
 use Rattle.ild_open_parts.proofs.member.member_of.Goals as goal
+
+pub unreachable-requires : goal.unreachable-requires
+unreachable-requires c =
+    ∥∥₁_elim c.requires.layered (hlevel props)
+    (λ x. never_refused c.args.acc.now c.types-types.ensures.legible c.args.ty.0 (D.Union c.args.def.now) c.args.piece.now c.requires.known x c.in-Err.field-0 (c.in-Err.ensures.answer x.tree x.stands))
 
 pub returns : goal.returns
 returns c =
