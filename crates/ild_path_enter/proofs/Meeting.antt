@@ -1,5 +1,5 @@
 -- What a key meets in a HAMT, over every store.
-use Rattle.std.proofs.Common.{◌≡◌, inl, inr, ℕ, List, length, Option, Some, None, Ok, Err, refl, sym, ap, ◌∙◌, subst, arith}
+use Rattle.std.proofs.Common.{◌≡◌, inl, inr, ℕ, List, length, Some, None, Ok, Err, refl, sym, ap, ◌∙◌, subst, arith}
 use Rattle.std.specs.Prelude.{Result}
 use Rattle.std.proofs.lemmas.Option.{none-some, same_Some}
 use Rattle.ild_cbor.specs.Nodes.{Stands}
@@ -11,6 +11,7 @@ use Rattle.ild_data.specs.Trie.{TrieSlot}
 use Rattle.ild_data.specs.declared.hamt_shape.HamtShape.{HamtShape}
 use Rattle.ild_edges.specs.Store.{Moment}
 use Rattle.ild_hamt.specs.Descending.{Descends, trail_blocks}
+use Rattle.ild_hamt.specs.Found.{FindsAtEnd, IsItemIn}
 use Rattle.ild_hamt.specs.declared.trail.Trail.{Trail}
 use Rattle.ild_hamt_climb.specs.Way.{slot_for}
 use Rattle.ild_node_slots.specs.Views.{HasSlots}
@@ -20,15 +21,14 @@ use Rattle.ild_node_slots.specs.declared.view.NodeView.{NodeView}
 use Rattle.ild_open_parts.specs.Sites.{HasEntry, Site}
 use Rattle.ild_path_entry.specs.Entry.{IsEntry, data_in}
 use Rattle.ild_path_entry.specs.declared.entry.Entry.{Entry}
-use Rattle.ild_path_found.specs.Items.{FindsAtEnd, IsItemIn}
 use Rattle.ild_path_found.specs.Sites.{IsSiteOf, end_block}
 use Rattle.ild_path_found.proofs.Finding.{finds_last}
+use Rattle.ild_path_found.proofs.Rooted.{site_slots}
 use Rattle.ild_path_found.proofs.Walking.{descent_wrong, entry_there, entry_wrong}
 use Rattle.ild_schema.specs.Slots.{form_of}
 use Rattle.ild_schema.specs.declared.number.Slot.{Slot}
 use Rattle.ild_schema.specs.declared.number.TypeNo.{TypeNo}
 use Rattle.ild_schema.specs.declared.row.Row.{Row}
-use Rattle.ild_typed.proofs.WalkSound.{one_root}
 use Rattle.ild_view.specs.Forms.{shape_in}
 use Rattle.ild_view.specs.Roots.{RootIs}
 use Rattle.ild_view.specs.View.{slot_of, table_of}
@@ -39,17 +39,14 @@ use Rattle.ild_path_enter.specs.declared.lookup.Entered.{Entered}
 
 module _ (h : List ℕ → List ℕ) (rows : List Row) (slot : Slot) (room : ℕ) (view : View) (block k : List ℕ) (z : Site) (m n : Moment) (x : IsSiteOf rows slot room view block z) (root : NodeView)
     (is : RootIs (shape_in (form_of (table_of view) (slot_of view))) (Some x.tree) (Some root)) where
-  site_slots : HasSlots z.shape root z.slots
-  site_slots =
-      let form : shape_in (form_of (table_of view) (slot_of view)) ≡ Some z.shape = ap (λ (rs : List Row). shape_in (form_of rs (slot_of view))) x.table ∙ ap shape_in x.site.form in
-      let here = subst (λ (o : Option HamtShape). RootIs o (Some x.tree) (Some root)) form is in
-      subst (HasSlots z.shape root) (one_root z.shape here.0 z.slots x.tree here.1 x.site.root) here.2
+  has_slots : HasSlots z.shape root z.slots
+  has_slots = site_slots rows slot room view block z x root is
 
   abbrev Says : Result Trail HamtFault → Type 0
   Says r = (p : HamtShape) (slots : List TrieSlot) → HasSlots p root slots → Descends h p k slots m r n
 
   pub meets_trail : (e : HamtFault) → Says (Err e) → MeetsSite h rows block k z m (Err e) n
-  meets_trail (F.Block id why) says = inl (descent_wrong h z.shape m n z.slots z.block k block id why x.block_is (says z.shape z.slots site_slots))
+  meets_trail (F.Block id why) says = inl (descent_wrong h z.shape m n z.slots z.block k block id why x.block_is (says z.shape z.slots has_slots))
   meets_trail F.Store says = tt
   meets_trail F.Memory says = tt
   meets_trail F.Exhausted says = tt
@@ -59,15 +56,15 @@ module _ (h : List ℕ → List ℕ) (rows : List Row) (slot : Slot) (room : ℕ
 
   module _ (trail : Trail) (says : Says (Ok trail)) where
     abbrev Way : Descends h z.shape k z.slots m (Ok trail) n
-    Way = says z.shape z.slots site_slots
+    Way = says z.shape z.slots has_slots
 
-    item_of : (item : Node) → FindsAtEnd h trail root k (Some item) → IsItemIn (slot_for z.shape (h k) (length Way.bs) Way.last) k item
-    item_of item finds = (finds_last h z.shape k z.slots root trail (Some item) site_slots finds m n Way).there item refl
+    item_of : (item : Node) → FindsAtEnd trail root (Some item) → IsItemIn (slot_for z.shape (h k) (length Way.bs) Way.last) k item
+    item_of item finds = (finds_last h z.shape k z.slots root trail m n has_slots Way (Some item) finds).there item refl
 
     same_end : id_of (end_block block (trail_blocks trail)) ≡ id_of (end_block block Way.bs)
     same_end = ap (λ (bs : List (List ℕ)). id_of (end_block block bs)) Way.answer.blocks
 
-    module _ (item : Node) (finds : FindsAtEnd h trail root k (Some item)) where
+    module _ (item : Node) (finds : FindsAtEnd trail root (Some item)) where
       refused : (d : Data) (ty : TypeNo) (cause : Why) → IsRefusal rows room slot d ty cause → IsRefusal rows z.room z.value d ty cause
       refused d ty cause w =
           let left = x.site.left in

@@ -18,7 +18,7 @@ use ild_edges::Store;
 use ild_hamt::{Trail, descend};
 use ild_node::HamtFault;
 use ild_path_entry::Entry;
-use ild_path_found::{end_of, found};
+use ild_path_found::end_of;
 use ild_schema::{Accepted, Slot};
 use ild_view::View;
 use std::alloc::Global;
@@ -60,7 +60,7 @@ pub fn enter<'s, K: Store, H: KeyHash>(
         None => unreachable!(),
     };
     let trail = descend(alloc, root, key, keys, store)?;
-    let entry = match found(&trail, root, key, keys) {
+    let entry = match trail.found(root) {
         Some(item) => {
             let end = end_of(&trail, block);
             Some(entry_in(alloc, acc, slot, &item, end, room)?)

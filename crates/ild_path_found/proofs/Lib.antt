@@ -1,3 +1,4 @@
 pub mod Finding
+pub mod Rooted
 pub mod Siting
 pub mod Walking

@@ -26,7 +26,7 @@ use Rattle.ild_node_slots.specs.declared.fault.HamtFault.TheVariants as F
 use Rattle.ild_data.specs.declared.id.BlockId.{BlockId}
 use Rattle.ild_open_parts.specs.Broken.{IsWrongEntry}
 use Rattle.ild_open_parts.specs.Sites.{HasEntry, Site}
-use Rattle.ild_path_found.specs.Items.{IsItemIn}
+use Rattle.ild_hamt.specs.Found.{IsItemIn}
 use Rattle.ild_path_found.specs.Sites.{end_block}
 use Rattle.ild_schema.specs.declared.number.TypeNo.{TypeNo}
 use Rattle.ild_schema.specs.declared.row.Row.{Row}

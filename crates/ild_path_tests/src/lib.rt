@@ -11,6 +11,8 @@ mod failing;
 #[cfg(test)]
 mod forest;
 #[cfg(test)]
+mod inner;
+#[cfg(test)]
 mod missing;
 #[cfg(test)]
 mod places;

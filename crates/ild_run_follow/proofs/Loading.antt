@@ -43,24 +43,24 @@ abbrev pub loaded_as : Result Val OpenFault → Result Val ReadFault
 loaded_as (Ok v) = Ok v
 loaded_as (Err e) = Err (open_fault e)
 
-module _ (h : List ℕ → List ℕ) (view : View) (schema : IsSchema (table_of view)) (m n : Moment) where
+module _ (h : List ℕ → List ℕ) (view : View) (schema : IsSchema (table_of view)) (at : List ℕ) (m n : Moment) where
   is_shown : (t : Data) (v : Value) → IsAt h view m t v → IsShown view t
   is_shown t v x = let f = values_fronts h (table_of view) schema 96 (slot_of view) v t x.value.fits x.value.tree in record { stands = x.stands; front = (f.0, f.1.fits, f.1.tree) }
 
-  load_answer : OnlyReads m n → (t : Data) (v : Value) (x : IsAt h view m t v) (r : Result Val OpenFault) → L.LoadAnswer h view m t r n → LoadAnswer v m (loaded_as r) n
+  load_answer : OnlyReads m n → (t : Data) (v : Value) (x : IsAt h view m t v) (r : Result Val OpenFault) → L.LoadAnswer h view at m t r n → LoadAnswer v m (loaded_as r) n
   load_answer only t v x (Ok val) a =
       one_is_held (block_at x.held) h (table_of view) schema 96 (omega arith) (slot_of view) t (value_of val) v (safe_is (table_of view) (slot_of view) view.safe) (from_told n (λ held. L.IsValueAt h held view t (value_of val)) a x.held (only.blocks ∙ x.told)) x.value
   load_answer only t v x (Err (O.Block id why)) a = absurd (a.0 x.held v x.told x.value)
   load_answer only t v x (Err O.Store) a = a
   load_answer only t v x (Err O.Memory) a = tt
 
-  load_failed : ∥ IsShallow view ∥₁ → (r : Result Val OpenFault) → Loads h view m r n → FailsOnly m (loaded_as r) n
+  load_failed : ∥ IsShallow view ∥₁ → (r : Result Val OpenFault) → Loads h view at m r n → FailsOnly m (loaded_as r) n
   load_failed some (Ok val) l = tt
   load_failed some (Err (O.Block id why)) l = tt
   load_failed some (Err O.Store) l = ∥∥₁_elim some (hlevel props) (λ y. l.answer y.tree y.shown)
   load_failed some (Err O.Memory) l = tt
 
-  pub loads : ∥ IsShallow view ∥₁ → (r : Result Val OpenFault) → Loads h view m r n → LoadsPart h view m (loaded_as r) n
+  pub loads : ∥ IsShallow view ∥₁ → (r : Result Val OpenFault) → Loads h view at m r n → LoadsPart h view m (loaded_as r) n
   loads some r l = record {
     answer = λ t v x. load_answer l.only t v x r (l.answer t (is_shown t v x));
     gets = λ t v x. l.gets t x.held v (is_shown t v x) x.told x.value;

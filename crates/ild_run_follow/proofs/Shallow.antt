@@ -24,19 +24,19 @@ use Rattle.ild_view.specs.View.{body_of, slot_of, table_of}
 use Rattle.ild_view.specs.declared.step.Step.TheVariants as S
 use Rattle.ild_view.specs.declared.view.View.{View}
 use Rattle.ild_open.proofs.Carrying.{held_piece}
-use Rattle.ild_open.specs.Loaded.{IsShallow}
+use Rattle.ild_open.specs.Loaded.{IsShallow, IsShown}
 use Rattle.ild_open_held_parts.proofs.Parting.{part_fits}
 use Rattle.ild_run_follow.specs.Enters.{ChecksEntry}
 use Rattle.ild_run_follow.proofs.Leading.{Steps}
 
-shallow_part : (rows : List Row) (q : InSlot) (w : View) → IsPartView rows q w → Fits rows 96 q.0 q.1 → IsShallow w
-shallow_part rows q w x fits = record {
-  tree = x.view.tree;
-  shown = record {
-    stands = x.view.stands;
-    front = (q.1, subst (λ (r : List Row). Fits r 96 (slot_of w) q.1) (sym x.table) (subst (λ (s : Slot). Fits rows 96 s q.1) (sym x.slot) fits), x.view.front.tree);
-  };
+pub shown_part : (rows : List Row) (q : InSlot) (w : View) (x : IsPartView rows q w) → Fits rows 96 q.0 q.1 → IsShown w x.view.tree
+shown_part rows q w x fits = record {
+  stands = x.view.stands;
+  front = (q.1, subst (λ (r : List Row). Fits r 96 (slot_of w) q.1) (sym x.table) (subst (λ (s : Slot). Fits rows 96 s q.1) (sym x.slot) fits), x.view.front.tree);
 }
+
+shallow_part : (rows : List Row) (q : InSlot) (w : View) → IsPartView rows q w → Fits rows 96 q.0 q.1 → IsShallow w
+shallow_part rows q w x fits = record { tree = x.view.tree; shown = shown_part rows q w x fits }
 
 no_entry : (rows : List Row) (k : ℕ) (s : Slot) (v : Value) (w : View) → Reaches rows (or_enter k s v) (Ok (S.Here w)) → ⊥
 no_entry rows k s (V.hamt d) w r = r

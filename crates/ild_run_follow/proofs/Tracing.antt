@@ -3,8 +3,10 @@ use Rattle.std.proofs.Common.{◌≡◌, ℕ, List, Option, Some, None, Result, 
 use Rattle.std.proofs.lemmas.Option.{none-some, same_Some}
 use Rattle.ild_cbor.specs.declared.node.Node.{Node}
 use Rattle.ild_cbor.specs.declared.why.BlockWhy.{BlockWhy}
+use Rattle.ild_cbor.specs.declared.why.BlockWhy.TheVariants as B
 use Rattle.ild_cbor.specs.declared.why.Why.{Why}
 use Rattle.ild_data.specs.Data.{Data}
+use Rattle.ild_data.specs.Spell.{id_of}
 use Rattle.ild_data.specs.Trie.{TrieSlot}
 use Rattle.ild_data.specs.declared.id.BlockId.{BlockId}
 use Rattle.ild_edges.specs.Store.{Moment}
@@ -31,16 +33,11 @@ use Rattle.ild_view.specs.View.{IsView, Views, slot_of, table_of}
 use Rattle.ild_view.specs.declared.view.View.{View}
 use Rattle.ild_view_walk.specs.Checks.{IsRefusal}
 use Rattle.ild_path_room.specs.ValueSlot.{IsValueSlot, value_in}
-use Rattle.ild_run_follow.specs.Enters.{ChecksEntry, EnterAnswer, EntersTrie}
-use Rattle.ild_run_follow.specs.Faults.{hamt_fault}
+use Rattle.ild_run_follow.specs.Enters.{ChecksEntry, EnterAnswer, EntersTrie, RefusesEntry}
+use Rattle.ild_run_follow.specs.Faults.{entered_as}
 use Rattle.ild_run_follow.specs.Tells.{FailsOnly}
-use Rattle.ild_run_follow.specs.declared.fault.ReadFault.{ReadFault}
 use Rattle.ild_run_follow.specs.declared.fault.ReadFault.TheVariants as F
 use Rattle.ild_view.proofs.Opening.{safe_is}
-
-abbrev pub entered_as : Result Trail HamtFault → Result Trail ReadFault
-entered_as (Ok t) = Ok t
-entered_as (Err e) = Err (hamt_fault e)
 
 module _ (h : List ℕ → List ℕ) (p : HamtShape) (k : List ℕ) (slots : List TrieSlot) (m n : Moment) where
   enter_answer : (es : List (List ℕ × Data)) (r : Result Trail HamtFault) (bs : List (List ℕ)) (last : List TrieSlot) → DescendAnswer h p k m bs last r n → TrailIs h p k slots es r → EnterAnswer h p k slots es m (entered_as r) n
@@ -74,6 +71,11 @@ module _ (rows : List Row) (schema : IsSchema rows) (never : RefusedHaveNoFront)
       let same : s ≡ slot = same_Some s slot (sym e ∙ is.0) in
       let f : Shows (Fits rows 96) rows slot t = subst (λ (u : Slot). Shows (Fits rows 96) rows u t) same shows in
       never rows schema 96 slot (safe_is rows slot is.2) t v.refusal v.refused f.0 (record { fits = f.1; tree = f.2 })
+
+-- what is refused of an entry
+pub refuses_entry : (rows : List Row) (d : Option TypeDef) (slot : Slot) (is : IsValueSlot rows d (Some slot)) (block : List ℕ) (t : Data) (id : BlockId) (why : Why) (ty : TypeNo) → id.0 ≡ id_of block → IsRefusal rows 96 slot t ty why
+    → RefusesEntry rows d block t (Err (F.Block id (B.Shape why)))
+refuses_entry rows d slot is block t id why ty named refused = record { named = named; slot = slot; is = is.0; cause = why; told = refl; type = ty; refused = refused }
 
 -- the type of a HAMT says what its values are
 pub hamt_valued : (rows : List Row) (v : View) → table_of v ≡ rows → (t : Data) → IsView v (V.hamt t) → value_in (form_of rows (slot_of v)) ≡ None → ⊥

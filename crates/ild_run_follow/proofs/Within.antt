@@ -18,6 +18,7 @@ use Rattle.ild_data.specs.TrieShape.{trie_levels}
 use Rattle.ild_data.specs.declared.hamt_shape.HamtShape.{HamtShape}
 use Rattle.ild_data.specs.declared.tree.Tree.{Tree}
 use Rattle.ild_edges.specs.Count.{Rose}
+use Rattle.ild_edges.proofs.Reading.{only_of}
 use Rattle.ild_edges.specs.Store.{Moment, block_at}
 use Rattle.ild_open_held_roots.proofs.Entering.{root_front, roots_are_entered}
 use Rattle.ild_open_held_roots.specs.Enters.{DataOf, IsEntered}
@@ -58,7 +59,6 @@ use Rattle.ild_run_follow.specs.declared.fault.ReadFault.{ReadFault}
 use Rattle.ild_run_follow.specs.declared.fault.ReadFault.TheVariants as F
 use Rattle.ild_run_follow.specs.declared.kind.Tell.{Tell}
 use Rattle.ild_run_follow.proofs.Leading.{none_answer, nothing_fails, only_none, only_then}
-use Rattle.ild_open.proofs.Carrying.{only_of}
 use Rattle.ild_run_follow.proofs.Standing.{viewed}
 
 drop_at : (xs : List (List ℕ)) (k : ℕ) (x : List ℕ) → Some x ≡ slice_get xs k → drop k xs ≡ x ∷ drop (suc k) xs

@@ -8,7 +8,7 @@ ghost use Rattle.ild_node_slots.specs.Views.{HasSlots};
 ghost use Rattle.ild_data.specs.declared.hamt_shape.HamtShape.{HamtShape};
 ghost use Rattle.ild_schema.specs.Value.{hamt as root_of};
 ghost use Rattle.ild_view.specs.View.{IsView, slot_of, table_of};
-ghost use Rattle.ild_run_follow.specs.Enters.{ChecksEntry, EntersTrie};
+ghost use Rattle.ild_run_follow.specs.Enters.{ChecksEntry, EntersTrie, RefusesEntry, WalksTrie};
 
 use crate::fault::{ReadFault, of_hamt};
 use ild_cbor::{BlockWhy, Node};
@@ -32,7 +32,8 @@ pub(crate) fn trail_of<K: Store, H: KeyHash>(
     keys: &H,
     store: &mut K,
 ) -> Result<Trail, ReadFault>
-    ensures { (p : HamtShape) (slots : List TrieSlot) → HasSlots p root.entry slots → EntersTrie H.hash_of p key.now slots (K.moment store.old) result (K.moment store.new) }
+    ensures enters { (p : HamtShape) (slots : List TrieSlot) → HasSlots p root.entry slots → EntersTrie H.hash_of p key.now slots (K.moment store.old) result (K.moment store.new) }
+    ensures walks { (p : HamtShape) (slots : List TrieSlot) → HasSlots p root.entry slots → WalksTrie H.hash_of p key.now slots (K.moment store.old) result (K.moment store.new) }
 {
     match descend(alloc, root, key, keys, store) {
         Ok(trail) => Ok(trail),
@@ -40,14 +41,17 @@ pub(crate) fn trail_of<K: Store, H: KeyHash>(
     }
 }
 
-/// The view of the value of an entry in a HAMT, which is checked against the slot of its values.
+/// The view of the value of an entry in a HAMT, which is checked against the slot of its values. Where it is none of them, the block in
+/// which it stands is refused: the one that is handed in.
 pub(crate) fn entry_view<'b>(
     alloc: Global,
     hamt: &View<'b>,
     node: Node<'b>,
+    block: &[u8],
 ) -> Result<View<'b>, ReadFault>
     requires { ∥ ((t : Data) × IsView hamt.now (root_of t)) ∥₁ }
-    ensures { (d : Data) → Stands node.entry d → ChecksEntry (table_of hamt.now) (form_of (table_of hamt.now) (slot_of hamt.now)) node.entry d result }
+    ensures checks { (d : Data) → Stands node.entry d → ChecksEntry (table_of hamt.now) (form_of (table_of hamt.now) (slot_of hamt.now)) node.entry d result }
+    ensures refused { (d : Data) → Stands node.entry d → RefusesEntry (table_of hamt.now) (form_of (table_of hamt.now) (slot_of hamt.now)) block.now d result }
 {
     let acc = hamt.schema();
     // They do no work: their clauses say what acceptance says of the table, and that what is refused has no front.
@@ -59,7 +63,7 @@ pub(crate) fn entry_view<'b>(
     match View::check(alloc, acc, slot, node, ROOM) {
         Ok(view) => Ok(view),
         Err(ViewErr::Shape { ty: _, why, at: _ }) => Err(ReadFault::Block {
-            id: block_id(node.block()),
+            id: block_id(block),
             why: BlockWhy::Shape(why),
         }),
         Err(ViewErr::Memory) => Err(ReadFault::Memory),

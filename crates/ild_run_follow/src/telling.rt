@@ -1,9 +1,13 @@
 //! What is told of the part at a view.
 ghost use Rattle.std.specs.Prelude.{◌≡◌, ◌<◌, IfOk, length, true};
+ghost use Rattle.ild_data.specs.Data.{Data};
 ghost use Rattle.ild_data.specs.Seen.{data_of};
-ghost use Rattle.ild_open.specs.Loaded.{IsShallow};
+ghost use Rattle.ild_data.specs.Spell.{id_of};
+ghost use Rattle.ild_open.specs.Loaded.{IsShallow, IsShown};
+ghost use Rattle.ild_run_follow.specs.Refuses.{RefusesPart};
 ghost use Rattle.ild_run_follow.specs.Tells.{LoadsPart, TellsHere, ToldBy};
 ghost use Rattle.ild_run_follow.specs.Told.{is_loaded};
+ghost use Rattle.ild_view.specs.View.{slot_of, table_of};
 
 use crate::fault::{ReadFault, of_open};
 use crate::kind::Tell;
@@ -16,19 +20,21 @@ use ild_value_shown::shown;
 use ild_view::View;
 use std::alloc::{AllocError, Global};
 
-// The value at a view.
+// The value at a view, whose data stand in this block.
 fn loaded<K: Store, H: KeyHash>(
     alloc: Global,
     view: &View<'_>,
+    block: &[u8],
     keys: &H,
     store: &mut K,
 ) -> Result<Val, ReadFault>
     requires shallow { ∥ IsShallow view.now ∥₁ }
-    ensures { LoadsPart H.hash_of view.now (K.moment store.old) result (K.moment store.new) }
+    ensures loads { LoadsPart H.hash_of view.now (K.moment store.old) result (K.moment store.new) }
+    ensures refused { (t : Data) → IsShown view.now t → RefusesPart H.hash_of (table_of view.now) (id_of block.now) (slot_of view.now) t (K.moment store.old) result (K.moment store.new) }
 {
     // It does no work: its clauses say what acceptance says of the table.
     let _types = view.schema().types();
-    match load(alloc, view, keys, store) {
+    match load(alloc, view, block, keys, store) {
         Ok(val) => Ok(val),
         Err(fault) => Err(of_open(&fault)),
     }
@@ -61,39 +67,43 @@ fn told_by(
 fn tell_loaded<K: Store, H: KeyHash>(
     alloc: Global,
     view: &View<'_>,
+    block: &[u8],
     tell: Tell,
     keys: &H,
     store: &mut K,
 ) -> Result<Tree, ReadFault>
     requires loads { is_loaded tell ≡ true }
     requires shallow { ∥ IsShallow view.now ∥₁ }
-    ensures { TellsHere H.hash_of view.now tell (K.moment store.old) result (K.moment store.new) }
+    ensures tells { TellsHere H.hash_of view.now tell (K.moment store.old) result (K.moment store.new) }
+    ensures refused { (t : Data) → IsShown view.now t → RefusesPart H.hash_of (table_of view.now) (id_of block.now) (slot_of view.now) t (K.moment store.old) result (K.moment store.new) }
 {
-    let val = loaded(alloc, view, keys, store)?;
+    let val = loaded(alloc, view, block, keys, store)?;
     match told_by(alloc, view.schema(), view.slot(), &val, tell)? {
         Some(tree) => Ok(tree),
         None => Err(ReadFault::Path),
     }
 }
 
-/// What is told of the part at a view.
+/// What is told of the part at a view, whose data stand in this block.
 pub(crate) fn tell_here<K: Store, H: KeyHash>(
     alloc: Global,
     view: &View<'_>,
+    block: &[u8],
     tell: Tell,
     keys: &H,
     store: &mut K,
 ) -> Result<Tree, ReadFault>
     requires shallow { ∥ IsShallow view.now ∥₁ }
-    ensures { TellsHere H.hash_of view.now tell (K.moment store.old) result (K.moment store.new) }
+    ensures tells { TellsHere H.hash_of view.now tell (K.moment store.old) result (K.moment store.new) }
+    ensures refused { (t : Data) → IsShown view.now t → RefusesPart H.hash_of (table_of view.now) (id_of block.now) (slot_of view.now) t (K.moment store.old) result (K.moment store.new) }
 {
     // It does no work, as above.
     let _types = view.schema().types();
     match tell {
         Tell::Presence => Ok(Tree::Bool(true)),
         Tell::Representation => Ok(view.rep(alloc)?),
-        Tell::Shown => tell_loaded(alloc, view, Tell::Shown, keys, store),
-        Tell::Count => tell_loaded(alloc, view, Tell::Count, keys, store),
-        Tell::Parts => tell_loaded(alloc, view, Tell::Parts, keys, store),
+        Tell::Shown => tell_loaded(alloc, view, block, Tell::Shown, keys, store),
+        Tell::Count => tell_loaded(alloc, view, block, Tell::Count, keys, store),
+        Tell::Parts => tell_loaded(alloc, view, block, Tell::Parts, keys, store),
     }
 }
