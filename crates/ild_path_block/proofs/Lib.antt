@@ -1,4 +1,5 @@
 pub mod Allowing
+mod Beneath
 mod Changing
 mod Numbering
 mod Replacing

@@ -1,5 +1,5 @@
 -- What an edit changes in the last holder of its path, and what is known where that is told.
-use Rattle.std.specs.Prelude.{◌≡◌, ℕ, Bool, List, ◌∷◌, Option, Some, None}
+use Rattle.std.specs.Prelude.{◌≡◌, ℕ, Bool, List, ◌∷◌, Option, Some, None, IsSomeAnd, true}
 use Rattle.ild_cbor.specs.declared.node.Node.{Node}
 use Rattle.ild_data.specs.Data.{Data}
 use Rattle.ild_path_edits.specs.Table.{refusal_to_delete, slot_to_insert, slot_to_set}
@@ -11,7 +11,7 @@ use Rattle.ild_path_changes.specs.LiftLaws.{edit_seen}
 use Rattle.ild_path_block.specs.Edits.{IsPart, Makes, edit_of}
 use Rattle.ild_path_block.specs.declared.edit.PartEdit.{PartEdit}
 use Rattle.ild_path_block.specs.declared.edit.PartEdit.TheVariants as E
-use Rattle.ild_path_holder.specs.Along.{LeadAlong, holder_at, last_of}
+use Rattle.ild_path_holder.specs.Along.{LeadAlong, holder_at, last_of, is_holder}
 use Rattle.ild_path_holder.specs.Edited.{IsEdited, IsTold}
 use Rattle.ild_schema.specs.Value.{Value}
 use Rattle.ild_schema.specs.declared.number.Slot.{Slot}
@@ -21,6 +21,8 @@ use Rattle.ild_typed.specs.At.{InSlot, changed_in, last_holder, seen}
 use Rattle.ild_typed.specs.Hamt.{alone}
 use Rattle.ild_typed.specs.Holder.{Holder}
 use Rattle.ild_typed.specs.Represented.{represented}
+use Rattle.ild_view.specs.Parts.{IsPartView}
+use Rattle.ild_view.specs.declared.view.View.{View}
 
 -- what it does to the last holder
 abbrev pub in_last : PartEdit → Value → LastEdit
@@ -47,6 +49,12 @@ pub record IsChange (rows : List Row) (e : LastEdit) (q : InSlot) (s : List ℕ)
   pub part_is : NewIs new part
   pub of_some : last_seen alone rows e s q ≡ located change (Some some) (becomes rows q.0 (e.made (seen rows q) s))
   pub of_part : last_seen alone rows e s q ≡ located change part (becomes rows q.0 (e.made (seen rows q) s))
+
+-- it is told of each holder that the view is of, where the table lets the edit be done
+abbrev pub TellsChange : View → List ℕ → PartEdit → Option LastChange → Type 0
+TellsChange v s edit result =
+    (rows : List Row) (q : InSlot) (w : Value) → IsPartView rows q v → is_holder (seen rows q) ≡ true → Allows rows edit (seen rows q) s w
+    → IsSomeAnd result (IsChange rows (in_last edit w) q s (node_of edit))
 
 -- What is known of an edit whose change of the last holder is told: where the steps lead, what the law of edits says, and that the edit at
 -- the rest of the path makes the value that each holder becomes.

@@ -1,6 +1,7 @@
 -- What is answered of an edit in one block.
-use Rattle.std.specs.Prelude.{◌≡◌, ◌<◌, ℕ, Bool, List, drop, length, Option, Some, None, Result, Ok, Err, take}
-use Rattle.ild_splice_changes.specs.TreeChange.{TreeStep, changed, one, replace}
+use Rattle.std.specs.Prelude.{◌≡◌, ◌<◌, ℕ, Bool, List, drop, length, Option, Some, None, Result, Ok, Err, take, [], false}
+use Rattle.ild_splice_changes.specs.TreeChange.{TreeStep, applied as tree_with, changed, one, part_at, replace}
+use Rattle.ild_cbor.specs.declared.node.Node.{Node}
 use Rattle.ild_data.specs.Data.{Data}
 use Rattle.ild_data.specs.Spell.{spell}
 use Rattle.ild_path_changes.specs.LiftLaws.{edit_seen}
@@ -18,6 +19,13 @@ use Rattle.ild_splice.specs.declared.error.SpliceErr.TheVariants.{Memory, Size}
 use Rattle.ild_typed.specs.At.{InSlot, at}
 use Rattle.ild_typed.specs.Hamt.{alone}
 use Rattle.ild_typed.specs.Represented.{represented}
+use Rattle.ild_path_apply.specs.Applies.{is_whole}
+use Rattle.ild_path_block.specs.Changes.{IsReady}
+use Rattle.ild_path_changes.specs.Lift.{lift_within}
+use Rattle.ild_path_last.specs.Change.{NewIs, located}
+use Rattle.ild_path_last.specs.declared.change.LastChange.{LastChange}
+use Rattle.ild_path_replaced.specs.Seen.{all_steps}
+use Rattle.ild_path_steps.specs.declared.steps.PartSteps.{PartSteps}
 
 -- The holder to which so many segments of the path lead: what the edit at the others makes of it has data, the edit's one change in the
 -- block's data t is that its item is replaced by them, and so t become u.
@@ -51,8 +59,35 @@ Answers rows is_key edit w p path t u (Ok (Some (S.Holder r))) = IsReplaced rows
 Answers rows is_key edit w p path t u (Err Size) = MakesBlock (spell u) (Err Size)
 Answers rows is_key edit w p path t u (Err Memory) = Unit {0}
 
+-- a holder is replaced only on a path with segments
+abbrev pub IsBeneath : List (List ℕ) → Result (Option Spliced) SpliceErr → Type 0
+IsBeneath path (Ok None) = Unit {0}
+IsBeneath path (Ok (Some (S.Block b))) = Unit {0}
+IsBeneath path (Ok (Some (S.Holder r))) = 0 < length path
+IsBeneath path (Err e) = Unit {0}
+
 -- the holder with this number, whose item has the data d, at a place
 abbrev pub IsHolderAt : Data → List TreeStep → Data → ℕ → Option Spliced → Type 0
 IsHolderAt t place d n None = ⊥
 IsHolderAt t place d n (Some (S.Block b)) = ⊥
 IsHolderAt t place d n (Some (S.Holder r)) = (r.holder ≡ n) × IsAt r.item t place d
+
+-- ---- by the steps to the last holder and the change there
+
+-- where that is seen in the holder's item, the block with it
+abbrev pub AnswersWithin : Node → List PartSteps → LastChange → Option Node → Result (Option Spliced) SpliceErr → Type 0
+AnswersWithin root steps change new result =
+    (t d : Data) (x u : Option Data) → IsAt root t [] t → part_at (all_steps steps) t ≡ Some d → is_whole change ≡ false → NewIs new x
+    → AnswersBlock (spell (tree_with (lift_within (all_steps steps) (located change x u)) t)) result
+
+-- of each edit that is ready, the block of the data that it makes, or the holder whose item it replaces
+abbrev pub AnswersReady : Node → List PartSteps → LastChange → Option Node → Result (Option Spliced) SpliceErr → Type 0
+AnswersReady root steps change new result =
+    (rows : List Row) (is_key : ℕ → List ℕ → Bool) (edit : PartEdit) (w : Value) (p : InSlot) (path : List (List ℕ)) (t u : Data) → IsAt root t [] t
+    → IsReady rows is_key edit w p path steps change new t u → Answers rows is_key edit w p path t u result
+
+-- with the spelling of what a holder becomes, the block of the data that the edit makes
+abbrev pub MakesWith : Replaced → List ℕ → Result (List ℕ) SpliceErr → Type 0
+MakesWith r new result =
+    (rows : List Row) (is_key : ℕ → List ℕ → Bool) (edit : PartEdit) (w : Value) (p : InSlot) (path : List (List ℕ)) (t u : Data) (held : IsReplaced rows is_key edit w p path t u r)
+    → new ≡ spell held.new → MakesBlock (spell u) result

@@ -1,21 +1,11 @@
 //! The answer, by the change of the last holder and the steps to it.
-ghost use Rattle.std.specs.Prelude.{◌≡◌, ◌≤◌, ℕ, [], Bool, List, Option, Some, false, length, take};
-ghost use Rattle.ild_path_apply.specs.Applies.{is_whole};
-ghost use Rattle.ild_cbor.specs.Nodes.{Stands};
-ghost use Rattle.ild_splice_changes.specs.TreeChange.{applied as tree_with, part_at};
+ghost use Rattle.std.specs.Prelude.{◌≡◌, ◌≤◌, ℕ, [], List, Option, Some, length, take};
+ghost use Rattle.ild_splice_changes.specs.TreeChange.{part_at};
 ghost use Rattle.ild_data.specs.Data.{Data};
-ghost use Rattle.ild_data.specs.Spell.{spell};
-ghost use Rattle.ild_path_last.specs.Change.{NewIs, located};
-ghost use Rattle.ild_path_changes.specs.Lift.{lift_within};
-ghost use Rattle.ild_path_block.specs.Changes.{IsReady};
-ghost use Rattle.ild_path_block.specs.declared.edit.PartEdit.{PartEdit};
-ghost use Rattle.ild_path_block.specs.Spliced.{Answers, AnswersBlock, IsHolderAt, IsReplaced};
-ghost use Rattle.ild_schema.specs.Value.{Value};
-ghost use Rattle.ild_schema.specs.declared.row.Row.{Row};
+ghost use Rattle.ild_path_block.specs.Spliced.{AnswersBlock, IsHolderAt, AnswersReady, AnswersWithin, IsBeneath, MakesWith};
 ghost use Rattle.ild_path_replaced.specs.Seen.{all_steps};
 ghost use Rattle.ild_splice.specs.Made.{Makes};
 ghost use Rattle.ild_splice.specs.Splices.{IsAt};
-ghost use Rattle.ild_typed.specs.At.{InSlot};
 
 use ild_cbor::Node;
 use ild_data::Octets;
@@ -24,7 +14,7 @@ use ild_path_holder::steps_stand;
 use ild_path_last::LastChange;
 use ild_path_replaced::{node_along, replaced};
 use ild_path_steps::PartSteps;
-use ild_splice::{SpliceErr, replace};
+use ild_splice::{SpliceErr, replace_with};
 use std::alloc::Global;
 
 /// What an edit makes of a block.
@@ -46,11 +36,11 @@ pub struct Replaced<'b> {
 }
 
 impl<'b> Replaced<'b> {
-    /// The new block, by the item of what the holder becomes, which is copied from its own block.
-    pub fn block_with(&self, alloc: Global, new: &Node<'_>) -> Result<Octets, SpliceErr>
-        ensures { (rows : List Row) (is_key : ℕ → List ℕ → Bool) (edit : PartEdit) (w : Value) (p : InSlot) (path : List (List ℕ)) (t u : Data) (held : IsReplaced rows is_key edit w p path t u self.now) → Stands new.now held.new → Makes (spell u) result }
+    /// The new block, by the spelling of the item of what the holder becomes.
+    pub fn block_with(&self, alloc: Global, new: &[u8]) -> Result<Octets, SpliceErr>
+        ensures { MakesWith self.now new.now result }
     {
-        replace(alloc, &self.item, new)
+        replace_with(alloc, &self.item, new)
     }
 }
 
@@ -65,7 +55,8 @@ fn whole<'b>(root: &Node<'b>, steps: &[PartSteps<'_>], holder: usize) -> Option<
 
 /// What is made is the block.
 pub(crate) fn block<'b>(made: Result<Octets, SpliceErr>) -> Result<Option<Spliced<'b>>, SpliceErr>
-    ensures { (bytes : List ℕ) → Makes bytes made → AnswersBlock bytes result }
+    ensures made { (bytes : List ℕ) → Makes bytes made → AnswersBlock bytes result }
+    ensures beneath { IsBeneath [] result }
 {
     Ok(Some(Spliced::Block(made?)))
 }
@@ -78,7 +69,7 @@ fn within<'b>(
     change: &LastChange<'_>,
     new: Option<Node<'_>>,
 ) -> Result<Option<Spliced<'b>>, SpliceErr>
-    ensures { (t d : Data) (x u : Option Data) → IsAt root.now t [] t → part_at (all_steps steps.now) t ≡ Some d → is_whole change.now ≡ false → NewIs new.entry x → AnswersBlock (spell (tree_with (lift_within (all_steps steps.now) (located change.now x u)) t)) result }
+    ensures { AnswersWithin root.now steps.now change.now new.entry result }
 {
     match node_along(*root, steps) {
         Some(item) => block(applied(alloc, &item, change, new, None)),
@@ -94,7 +85,7 @@ pub(crate) fn told<'b>(
     change: &LastChange<'_>,
     new: Option<Node<'_>>,
 ) -> Result<Option<Spliced<'b>>, SpliceErr>
-    ensures { (rows : List Row) (is_key : ℕ → List ℕ → Bool) (edit : PartEdit) (w : Value) (p : InSlot) (path : List (List ℕ)) (t u : Data) → IsAt root.now t [] t → IsReady rows is_key edit w p path steps.now change.now new.entry t u → Answers rows is_key edit w p path t u result }
+    ensures { AnswersReady root.now steps.now change.now new.entry result }
 {
     // It does no work: its clause says that there is an item at the end of the steps.
     steps_stand();

@@ -1,11 +1,6 @@
 //! What is done to a part, and what it changes in the part's holder.
-ghost use Rattle.std.specs.Prelude.{◌≡◌, IsSomeAnd, List, true};
-ghost use Rattle.ild_path_block.specs.Changes.{Allows, IsChange, in_last, node_of};
-ghost use Rattle.ild_path_holder.specs.Along.{is_holder};
-ghost use Rattle.ild_schema.specs.Value.{Value};
-ghost use Rattle.ild_schema.specs.declared.row.Row.{Row};
-ghost use Rattle.ild_typed.specs.At.{InSlot, seen};
-ghost use Rattle.ild_view.specs.Parts.{IsPartView};
+ghost use Rattle.std.specs.Prelude.{◌≡◌};
+ghost use Rattle.ild_path_block.specs.Changes.{node_of, TellsChange};
 
 use ild_cbor::Node;
 use ild_path_last::{LastChange, delete_change, insert_change, set_change};
@@ -39,7 +34,7 @@ pub fn change_of<'a>(
     segment: &'a str,
     edit: &PartEdit<'_>,
 ) -> Option<LastChange<'a>>
-    ensures { (rows : List Row) (q : InSlot) (w : Value) → IsPartView rows q view.now → is_holder (seen rows q) ≡ true → Allows rows edit.now (seen rows q) segment.now w → IsSomeAnd result (IsChange rows (in_last edit.now w) q segment.now (node_of edit.now)) }
+    ensures { TellsChange view.now segment.now edit.now result }
 {
     let Some(piece) = view.piece() else {
         return None;

@@ -250,6 +250,10 @@ module _ (rows : List Row) (is_key : ℕ → List ℕ → Bool) (schema : IsSche
 
 -- ---- the root
 
+pub not_empty : (xs : List (List ℕ)) → nat_eq (length xs) 0 ≡ false → 0 < length xs
+not_empty [] e = absurd cc
+not_empty (x ∷ xs) e = omega arith
+
 pub is_nil : (xs : List (List ℕ)) → nat_eq (length xs) 0 ≡ true → xs ≡ []
 is_nil [] e = refl
 is_nil (x ∷ xs) e = let z = eqb-true (length (x ∷ xs)) 0 e in absurd (omega (arith, z))

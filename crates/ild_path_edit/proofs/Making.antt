@@ -1,7 +1,7 @@
 -- What is made of the holders on the path of an edit, from the last one up.
-use Rattle.std.proofs.Common.{◌≡◌, ◌<◌, ◌≤◌, ◌+◌, ◌-◌, ℕ, zero, suc, List, [], ◌∷◌, ◌++◌, length, length-append, take, drop, Bool, true, false, Some, refl, sym, ◌∙◌, ap, subst, arith}
+use Rattle.std.proofs.Common.{◌≡◌, ◌<◌, ◌≤◌, ◌+◌, ◌-◌, ℕ, zero, suc, List, [], ◌∷◌, ◌++◌, length, length-append, take, drop, Bool, true, Some, sym, ◌∙◌, ap, subst, arith}
 use Rattle.std.specs.List.{AllByRecursion}
-use Rattle.std.specs.Prelude.{Err, IsSomeAnd, IsUtf8, Ok, Result, nat_eq, slice_get}
+use Rattle.std.specs.Prelude.{Err, IsSomeAnd, IsUtf8, Ok, Result, slice_get}
 use Rattle.ild_cbor.specs.Block.{IsBlockOf}
 use Rattle.ild_cbor.specs.Nodes.{IsRoot, Stands}
 use Rattle.ild_cbor.specs.declared.node.Node.{Node}
@@ -14,10 +14,8 @@ use Rattle.ild_path_block.specs.Items.{becoming}
 use Rattle.ild_path_block.specs.Spliced.{Answers, IsReplaced}
 use Rattle.ild_path_block.specs.declared.answer.Replaced.{Replaced}
 use Rattle.ild_path_block.specs.declared.edit.PartEdit.{PartEdit}
-use Rattle.ild_path_changes.proofs.HaveTrees.{has_trees}
-use Rattle.ild_path_changes.specs.LiftLaws.{of_fronts}
 use Rattle.ild_path_edit.proofs.Numbering.{at_next, known_at, one, rest_of, segment_there, two}
-use Rattle.ild_path_edit.proofs.Stepping.{Next, at_last, made_typed, part_made, part_typed, to_next}
+use Rattle.ild_path_edit.proofs.Stepping.{Next, at_last, part_made, part_typed, to_next}
 use Rattle.ild_path_edit.specs.Made.{MakesBlock}
 use Rattle.ild_path_edit.specs.Holders.{AreHolders, IsMade, PartIs}
 use Rattle.ild_path_holder.proofs.Written.{has_part}
@@ -29,7 +27,6 @@ use Rattle.ild_schema.specs.Value.{Value}
 use Rattle.ild_schema.specs.declared.number.Slot.{Slot}
 use Rattle.ild_schema.specs.declared.row.Row.{Row}
 use Rattle.ild_typed.specs.At.{InSlot, at, seen}
-use Rattle.ild_typed.specs.Hamt.{alone}
 use Rattle.ild_typed.specs.OfType.{TestsKeys}
 use Rattle.ild_splice_changes.proofs.Spans.{changes_are_spliced}
 use Rattle.ild_splice_changes.specs.TreeChange.{TreeStep, changed, part_at, replace}
@@ -147,12 +144,6 @@ module _ (rows : List Row) (is_key : ℕ → List ℕ → Bool) (schema : IsSche
         let it = known a.tree a.next in
         clause rows a.holder a.slot a.segment a.value a.tree d (views k a.holder m.before a.leads) a.there a.holds a.is it.0
 
-  -- they are those of a tree
-  pub made_tree : (k : ℕ) (d : Data) → Made k d → IsTree d
-  made_tree k d m =
-      let typed = made_typed rows is_key schema keys edit w m.holder (drop k path) m.value edit (texts_from path k texts) m.brings m.typed m.makes in
-      has_trees alone rows (of_fronts refl) schema.table.texts.spelled m.holder.0 m.value d typed m.shown
-
 -- a holder that is replaced is made so
 pub replaced_made : (v : View) (is_key : ℕ → List ℕ → Bool) (path : List (List ℕ)) (edit : PartEdit) (f w c : Value) (t u : Data) → IsSchema (table_of v) → Edits is_key v path edit f w c t u → (r : Replaced)
     → (held : IsReplaced (table_of v) is_key edit w (slot_of v, f) path t u r) → IsMade (table_of v) is_key edit w (slot_of v, f) path r.holder held.new
@@ -166,10 +157,6 @@ replaced_made v is_key path edit f w c t u schema e r held =
 pub failed : (xs ys : List ℕ) (e : SpliceErr) → length xs ≤ length ys → MakesBlock xs (Err e) → MakesBlock ys (Err e)
 failed xs ys Size le h = omega (arith, le, h)
 failed xs ys Memory le h = tt
-
-pub not_empty : (xs : List (List ℕ)) → nat_eq (length xs) 0 ≡ false → 0 < length xs
-not_empty [] e = absurd cc
-not_empty (x ∷ xs) e = omega arith
 
 pub answer_failed : (rows : List Row) (is_key : ℕ → List ℕ → Bool) (edit : PartEdit) (w : Value) (p : InSlot) (path : List (List ℕ)) (t u : Data) (e : SpliceErr) → Answers rows is_key edit w p path t u (Err e) → MakesBlock (spell u) (Err e)
 answer_failed rows is_key edit w p path t u Size h = h

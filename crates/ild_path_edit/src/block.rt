@@ -1,5 +1,5 @@
 //! The block of an edit.
-ghost use Rattle.std.specs.Prelude.{ℕ, Bool, List};
+ghost use Rattle.std.specs.Prelude.{◌<◌, ℕ, Bool, List, length};
 ghost use Rattle.ild_path_edit.specs.Made.{MakesBlock};
 ghost use Rattle.ild_data.specs.Data.{Data};
 ghost use Rattle.ild_data.specs.Spell.{spell};
@@ -9,8 +9,6 @@ ghost use Rattle.ild_schema.specs.Value.{Value};
 ghost use Rattle.ild_view.specs.View.{slot_of, table_of};
 
 use crate::item::item_at;
-use crate::views::are_texts;
-use ild_cbor::check;
 use ild_data::{Octets, Path};
 use ild_path_block::{PartEdit, Replaced, Spliced, spliced};
 use ild_splice::SpliceErr;
@@ -25,16 +23,13 @@ fn with_holder<'a>(
     edit: &PartEdit<'_>,
     holder: &Replaced<'_>,
 ) -> Result<Octets, SpliceErr>
+    requires { 0 < length path.now }
     ensures { (is_key : ℕ → List ℕ → Bool) (f w c : Value) (t u : Data) → Edits is_key root.now path.now edit.now f w c t u → IsReplaced (table_of root.now) is_key edit.now w (slot_of root.now, f) path.now t u holder.now → MakesBlock (spell u) result }
 {
-    // They do no work: their clauses say what acceptance says of the table, and that segments are texts.
+    // It does no work: its clauses say what acceptance says of the table.
     let _types = root.schema().types();
-    are_texts(path);
     let item = item_at(alloc, root, path, edit, holder.holder)?;
-    match check(item.as_slice()) {
-        Ok(new) => holder.block_with(alloc, &new),
-        Err(_) => Err(SpliceErr::Memory),
-    }
+    holder.block_with(alloc, item.as_slice())
 }
 
 /// The block of what an edit of the part at a path makes of the value of a root view.

@@ -1,5 +1,5 @@
 //! The item of what a holder on the path of an edit becomes.
-ghost use Rattle.std.specs.Prelude.{◌≡◌, ℕ, Bool, IsSomeAnd, List, Some, slice_get, true};
+ghost use Rattle.std.specs.Prelude.{◌≡◌, ◌<◌, ℕ, Bool, IsSomeAnd, List, Some, length, slice_get, true};
 ghost use Rattle.ild_data.specs.Data.{Data};
 ghost use Rattle.ild_data.specs.Spell.{spell};
 ghost use Rattle.ild_path_block.specs.Changes.{Allows};
@@ -32,9 +32,10 @@ fn changed(
     k: usize,
     edit: &PartEdit<'_>,
 ) -> Result<Octets, SpliceErr>
+    requires { k < length segments.now }
     ensures { (rows : List Row) (q : InSlot) (s : List ℕ) (w : Value) (d : Data) → IsSomeAnd (slice_get views.now k) (IsPartView rows q) → slice_get segments.now k ≡ Some s → is_holder (seen rows q) ≡ true → Allows rows edit.now (seen rows q) s w → becoming rows edit.now w q s ≡ Some d → MakesBlock (spell d) result }
 {
-    if k < views.len() && k < segments.len() {
+    if k < views.len() {
         match new_item(alloc, &views[k], segments[k].as_str(), edit)? {
             Some(item) => Ok(item),
             None => Err(SpliceErr::Memory),
@@ -52,6 +53,7 @@ fn above(
     k: usize,
     part: &Octets,
 ) -> Result<Octets, SpliceErr>
+    requires { k < length segments.now }
     ensures { (rows : List Row) (q : InSlot) (slot : Slot) (s : List ℕ) (c : Value) (x d : Data) → IsSomeAnd (slice_get views.now k) (IsPartView rows q) → slice_get segments.now k ≡ Some s → is_holder (seen rows q) ≡ true → PartIs rows q s slot c x d → part.now ≡ spell x → MakesBlock (spell d) result }
 {
     match check(part.as_slice()) {
@@ -68,6 +70,7 @@ pub(crate) fn item_at<'a>(
     edit: &PartEdit<'_>,
     from: usize,
 ) -> Result<Octets, SpliceErr>
+    requires { 0 < length path.now }
     ensures { (is_key : ℕ → List ℕ → Bool) (f w c : Value) (t u d : Data) → Edits is_key root.now path.now edit.now f w c t u → IsMade (table_of root.now) is_key edit.now w (slot_of root.now, f) path.now from d → MakesBlock (spell d) result }
 {
     // They do no work: their clauses say what acceptance says of the table, and that segments are texts.
@@ -75,9 +78,6 @@ pub(crate) fn item_at<'a>(
     are_texts(path);
     let views = holders(alloc, root, path)?;
     let segments = path.as_slice();
-    if segments.is_empty() {
-        return Err(SpliceErr::Memory);
-    }
     let mut k = segments.len() - 1;
     let mut item = changed(alloc, &views, segments, k, edit)?;
     while from < k {

@@ -44,7 +44,7 @@ pub fn hamt_at<'a>(root: &View<'a>, front: &'a Path) -> View<'a>
     }
 }
 
-// The block with a root map as the part at a path.
+// The block with a root map as the part at a path. Only one that nests deeper than a block may is no block.
 fn with_root<'a>(
     alloc: Global,
     root: &View<'a>,

@@ -50,6 +50,8 @@ pub(crate) fn set_last<'a, K: Store, H: KeyHash>(
 }
 
 /// The same with a new block in place of an item, that of another value of an entry's slot in its room.
+/// Bytes that nest deeper than a block may, and a value that is none of the slot in the room, are told as want of memory: a part that keeps
+/// to its place's room makes neither of a value that the store holds.
 pub(crate) fn set_in<'a, K: Store, H: KeyHash>(
     alloc: Global,
     root: View<'a>,

@@ -1,11 +1,10 @@
 -- Blocks among others, and blocks that are too long.
-use Rattle.std.proofs.Common.{◌≡◌, inl, inr, ⊎_elim, ℕ, zero, suc, ◌<◌, ◌≤◌, Bool, true, false, ◌||◌, List, [], ◌∷◌, ◌++◌, length, refl, sym, ap, ◌∙◌, subst, arith, slice_index_or, pos, codes}
+use Rattle.std.proofs.Common.{◌≡◌, inl, inr, ⊎_elim, ℕ, ◌≤◌, Bool, true, false, ◌||◌, List, [], ◌∷◌, ◌++◌, length, refl, sym, ap, ◌∙◌, subst, arith, pos, codes}
 use Rattle.std.proofs.lemmas.Bool.{or_cases, ltb-false}
 use Rattle.std.proofs.lemmas.List.{length-append}
 use Rattle.ild_data.specs.Data.{Data, integer, members_of}
 use Rattle.ild_data.specs.Limits.{longest_block}
 use Rattle.ild_data.specs.Spell.{head, spell, spell_members, spell_text}
-use Rattle.ild_data.specs.Tree.{IsTree}
 use Rattle.ild_data.specs.declared.hamt_shape.HamtShape.{HamtShape}
 use Rattle.ild_typed.specs.Hamt.{root_map}
 use Rattle.ild_bulk.specs.Build.{any_long, is_long}
@@ -51,6 +50,3 @@ root_longer p node =
     let rest = spell_members (members_of ((codes "hashAlg", integer (pos 18)) ∷ (codes "bucketSize", integer (pos p.bucket)) ∷ [])) in
     let key = spell_text (codes "hamt") in
     omega (arith, length-append (head 5 3) (key ++ spell node ++ rest), length-append (key ++ spell node) rest, length-append key (spell node))
-
-pub node_tree : (p : HamtShape) (node : Data) → IsTree (root_map p node) → IsTree node
-node_tree p node is = is.1

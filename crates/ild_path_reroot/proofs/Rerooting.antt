@@ -11,7 +11,6 @@ use Rattle.ild_data.specs.Data.{Data}
 use Rattle.ild_data.specs.Key.{value_at}
 use Rattle.ild_data.specs.Limits.{longest_block}
 use Rattle.ild_data.specs.Spell.{spell}
-use Rattle.ild_data.specs.Tree.{IsTree}
 use Rattle.ild_data.specs.Trie.{TrieSlot}
 use Rattle.ild_data.specs.TrieBlocks.{nodes_beneath}
 use Rattle.ild_data.specs.TrieShape.{trie_levels}
@@ -30,7 +29,6 @@ use Rattle.ild_hamt_trie.specs.Way.{way}
 use Rattle.ild_typed.specs.Blocks.{nodes}
 use Rattle.ild_typed.specs.Hamt.{root_map}
 use Rattle.ild_typed.specs.Node.{IsRoot}
-use Rattle.ild_typed.proofs.TreeValues.{whole_tree}
 use Rattle.ild_typed_places.specs.Places.{places_in}
 use Rattle.ild_bulk.specs.Build.{any_long, is_long}
 use Rattle.ild_edges.specs.Among.{IsIn}
@@ -55,13 +53,12 @@ use Rattle.ild_path_reroot.specs.Reroots.{AddsNodes, EditAnswer, EditsHamt, IsCu
 use Rattle.ild_path_children.specs.Ways.{AddsPlaced, WayIn}
 use Rattle.ild_path_children.proofs.Leaving.{leave_ways}
 use Rattle.ild_path_children.proofs.Mapping.{are_cut, are_put}
-use Rattle.ild_path_reroot.proofs.Among.{among_of, long_root, long_one, long_any, node_tree, root_longer, short_one}
+use Rattle.ild_path_reroot.proofs.Among.{among_of, long_root, long_one, long_any, root_longer, short_one}
 
 -- v is the HAMT of the new entries, and is held where their nodes are; the nodes of the old entries are held, and the new ones on the
 -- way of the key stand over them
 pub record Ready (h : List ℕ → List ℕ) (p : HamtShape) (rows : List Row) (was : List (List ℕ)) (s : Slot) (room : ℕ) (v : Value) (x : Data) (k : List ℕ) (es fs : List (List ℕ × Data)) : Type 0 where
   pub has : HasTrie h p rows s v x fs
-  pub tree : IsTree x
   pub holds : HoldsBelow h p was (trie_levels p) 0 es
   pub placed : WayIn (places_in h rows s v) was (way h p k (trie_levels p) 0 fs)
   pub made : (now : List (List ℕ)) → Keeps was now → HoldsBelow h p now (trie_levels p) 0 fs → IsHeld (block_at now) h rows room s (root_map p has.node) v
@@ -78,9 +75,6 @@ module _ (h : List ℕ → List ℕ) (p : HamtShape) (rows : List Row) (was : Li
 
   pub same_node : (root : List ℕ) → HasRoot h p fs root → root ≡ spell ready.has.node
   same_node root has = has.spelled ∙ ap spell (same_Some has.node ready.has.node (sym has.is ∙ ready.has.is_node))
-
-  pub tree_node : IsTree ready.has.node
-  tree_node = node_tree p ready.has.node (subst IsTree ready.has.root ready.tree)
 
   long_map : (root : List ℕ) → HasRoot h p fs root → is_long root ≡ true → is_long (spell x) ≡ true
   long_map root has is =
@@ -178,7 +172,6 @@ put_ready h rows was s elem t d x ps es k room w trail at put =
     let has = (hamts_have_tries h rows was s elem t x ps es k at.hamt at.trie).0 w d put.held.tree put.tree in
     record {
       has = has;
-      tree = (whole_tree h rows at.schema.table.texts.spelled room s (with_entry k w ps) x put.fits put.tree).tree;
       holds = at.trie.holds;
       placed = are_put h rows was at.before put.less s elem t d x ps es k w at.hamt at.held at.trie put.held put.tree;
       made = λ now keeps holds. hamts_are_put h rows was now keeps at.before room put.less s elem t t d has.node ps es k w at.hamt at.held at.trie at.utf8 (held_stays h rows was now put.less elem d w keeps put.held) put.fits has.is_node holds;
@@ -190,7 +183,6 @@ cut_ready h rows was s elem t x ps es k room trail at cut =
     let has = (hamts_have_tries h rows was s elem t x ps es k at.hamt at.trie).1 cut.tree in
     record {
       has = has;
-      tree = (whole_tree h rows at.schema.table.texts.spelled room s (without_entry k ps) x cut.fits cut.tree).tree;
       holds = at.trie.holds;
       placed = are_cut h rows was at.before s elem t x ps es k at.hamt at.held at.trie cut.tree;
       made = λ now keeps holds. hamts_are_cut h rows was now keeps at.before room s elem t t has.node ps es k at.hamt at.held at.trie cut.fits has.is_node holds;

@@ -13,7 +13,7 @@ ghost use Rattle.ild_typed.specs.Typed.{Typed};
 
 use crate::faults::{built_fault, done_fault};
 use ild_build_blocks::build;
-use ild_cbor::check;
+use ild_cbor::known_root;
 use ild_data::{BlockId, KeyHash, NamedBlock, Octets};
 use ild_edges::Store;
 use ild_path::replace;
@@ -77,10 +77,7 @@ pub(crate) fn put_part<K: Store, H: KeyHash>(
         Ok(block) => block,
         Err(refusal) => return Err(refusal),
     };
-    let item = match check(block.as_slice()) {
-        Ok(item) => item,
-        Err(_) => return Err(No::Memory),
-    };
+    let item = known_root(block.as_slice());
     match replace(alloc, place, &item, keys, store) {
         Ok(root) => Ok(root),
         Err(fault) => Err(done_fault(&fault, clash)),

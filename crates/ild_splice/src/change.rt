@@ -22,9 +22,9 @@ use ild_cbor::Node;
 use ild_data::Octets;
 use std::alloc::Global;
 
-/// The block in which an item stands, with another item in its place, which is copied from its own block.
-pub fn replace(alloc: Global, part: &Node<'_>, new: &Node<'_>) -> Result<Octets, SpliceErr>
-    ensures { (e : Data) → Stands new.now e → Splices part.now (replace e) result }
+/// The block in which an item stands, with the item of this spelling in its place, which may nest deeper than a block may.
+pub fn replace_with(alloc: Global, part: &Node<'_>, new: &[u8]) -> Result<Octets, SpliceErr>
+    ensures { (e : Data) → new.now ≡ spell e → Splices part.now (replace e) result }
 {
     let (front, behind) = around(part);
     made(
@@ -34,11 +34,18 @@ pub fn replace(alloc: Global, part: &Node<'_>, new: &Node<'_>) -> Result<Octets,
             head: NewHead::Same,
             before: &[],
             lead: Lead::Nothing,
-            new: new.spelling(),
+            new,
             after: &[],
             behind,
         },
     )
+}
+
+/// The same with another item, which is copied from its own block.
+pub fn replace(alloc: Global, part: &Node<'_>, new: &Node<'_>) -> Result<Octets, SpliceErr>
+    ensures { (e : Data) → Stands new.now e → Splices part.now (replace e) result }
+{
+    replace_with(alloc, part, new.spelling())
 }
 
 // The block in which a list stands, with one more item, which is spelled as the lead says and then as another is.

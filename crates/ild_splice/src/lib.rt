@@ -10,7 +10,9 @@ mod piece;
 mod size;
 mod write;
 
-pub use change::{insert_entry, insert_item, insert_pair, remove_entry, remove_item, replace};
+pub use change::{
+    insert_entry, insert_item, insert_pair, remove_entry, remove_item, replace, replace_with,
+};
 pub use entry::entries_around;
 pub use error::SpliceErr;
 pub use laws::{changes_stay_within, nodes_are_at_places};

@@ -1,7 +1,8 @@
-use Rattle.std.proofs.Common.{◌≡◌, ◌-◌, None, Some, length, refl, sym, ◌∙◌, subst}
+use Rattle.std.proofs.Common.{◌≡◌, ◌-◌, None, Some, length, refl, ap, sym, ◌∙◌, subst, arith}
 use Rattle.std.specs.Prelude.{slice_get}
 use Rattle.ild_data.specs.Spell.{spell}
 use Rattle.ild_path_block.proofs.Allowing.{last_allowed, made_ready, no_last, root_at, root_set, some_last, view_of}
+use Rattle.ild_path_block.proofs.Beneath.{never_held, on_path}
 use Rattle.ild_path_block.proofs.Replacing.{block_answers}
 use Rattle.ild_path_block.specs.Changes.{Allows, IsChange, in_last, node_of}
 use Rattle.ild_path_holder.specs.Along.{LeadAlong, last_of}
@@ -12,17 +13,17 @@ use Rattle.ild_typed.specs.Schema.{IsSchema}
 use Rattle.ild_view.specs.View.{slot_of, table_of}
 use Rattle.ild_path_block.proofs.along.spliced.Goals as goal
 
-pub returns-in_default-last : goal.returns-in_default-last
-returns-in_default-last c = λ is_key f w d t u e.
+pub returns-in_default-last-clause-answers : goal.returns-in_default-last-clause-answers
+returns-in_default-last-clause-answers c = λ is_key f w d t u e.
     let v = c.args.root.now in
     let path = c.args.path.now in
     let edit = c.args.edit.now in
     let none = no_last path (subst (λ y. None ≡ slice_get y (length y - 1)) c.as_slice.ensures c.in_default-last.ensures.value) in
     let at = root_at v f t c.in-Some-Node.node e.root (rw c.in-Some-Node.field-0-is at c.in-Some-Node.ensures) c.nodes_are_at_places.ensures.root in
-    block_answers (table_of v) is_key edit w (slot_of v, f) path t u (spell u) c.at_root.result refl (c.at_root.ensures t u at (root_set v is_key path edit f w d t u e none))
+    block_answers (table_of v) is_key edit w (slot_of v, f) path t u (spell u) c.at_root.result refl (c.at_root.ensures.set t u at (root_set v is_key path edit f w d t u e none))
 
-pub returns-in_default-2 : goal.returns-in_default-2
-returns-in_default-2 c = λ is_key f w d t u e.
+pub returns-in_default-2-clause-answers : goal.returns-in_default-2-clause-answers
+returns-in_default-2-clause-answers c = λ is_key f w d t u e.
     let v = c.args.root.now in
     let path = c.args.path.now in
     let edit = c.args.edit.now in
@@ -30,8 +31,8 @@ returns-in_default-2 c = λ is_key f w d t u e.
     let a = last_allowed v is_key path edit f w d t u e x.0 x.1 x.2 in
     rw c.in_default-2.is at (c.in_ok-last.ensures f x.0 x.1 a.last (view_of v f t e.root) x.2 a.at a.holds)
 
-pub returns-in-Some-change_of : goal.returns-in-Some-change_of
-returns-in-Some-change_of c = λ is_key f w d t u e.
+pub returns-in-Some-change_of-clause-answers : goal.returns-in-Some-change_of-clause-answers
+returns-in-Some-change_of-clause-answers c = λ is_key f w d t u e.
     let v = c.args.root.now in
     let rows = table_of v in
     let path = c.args.path.now in
@@ -49,8 +50,8 @@ returns-in-Some-change_of c = λ is_key f w d t u e.
     c.told.ensures rows is_key edit w (slot_of v, f) path t u at
     (made_ready v is_key path edit f w d t u e x.0 x.1 x.2 c.are_texts.ensures c.edits_are_edited.ensures.changes schema a.last a.at c.deref.result.now lead c.in-Some-change_of.change c.node_of.result there_too)
 
-pub returns : goal.returns
-returns c = λ is_key f w d t u e.
+pub returns-clause-answers : goal.returns-clause-answers
+returns-clause-answers c = λ is_key f w d t u e.
     let v = c.args.root.now in
     let rows = table_of v in
     let path = c.args.path.now in
@@ -60,3 +61,13 @@ returns c = λ is_key f w d t u e.
     let last = rw c.in-Some-2.is at (c.in_ok-last.ensures f x.0 x.1 a.last (view_of v f t e.root) x.2 a.at a.holds) in
     let segment : c.as_str.result.now ≡ last_of x.0 x.1 = c.as_str.ensures.same ∙ x.3 in
     c.in-None.ensures rows a.last w last.view a.holds (subst (λ y. Allows rows edit (seen rows a.last) y w) (sym segment) a.allows)
+
+-- a holder is replaced only on a path with segments
+pub returns-in_default-last-clause-beneath : goal.returns-in_default-last-clause-beneath
+returns-in_default-last-clause-beneath c = never_held c.args.path.now c.at_root.result c.at_root.ensures.beneath
+
+pub returns-in-Some-change_of-clause-beneath : goal.returns-in-Some-change_of-clause-beneath
+returns-in-Some-change_of-clause-beneath c =
+    let path = c.args.path.now in
+    let x = some_last path c.in-Some.segment.now (subst (λ y. Some c.in-Some.segment.now ≡ slice_get y (length y - 1)) c.as_slice.ensures c.in-Some.ensures.value) in
+    on_path path c.told.result (let long = ap length x.2 in omega (arith, long))

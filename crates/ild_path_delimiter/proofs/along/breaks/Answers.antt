@@ -1,11 +1,10 @@
 use Rattle.std.proofs.Common.{◌≡◌, ◌<◌, ◌-◌, ◌∙◌, ℕ, Some, suc, length, ap, refl, subst, sym, arith}
 use Rattle.std.specs.Prelude.{Bool, IfOk, Result}
 use Rattle.std.specs.declared.alloc.AllocError.{AllocError}
-use Rattle.ild_path_delimiter.proofs.Climbing.{Changed, Claim, LevelClause, above_done, broken_root, free_root, is_nil, last_done, not_free, root_free, text_root}
+use Rattle.ild_path_delimiter.proofs.Climbing.{Changed, Claim, LevelClause, above_done, broken_root, free_root, is_nil, last_done, not_empty, not_free, root_free, text_root}
 use Rattle.ild_path_delimiter.proofs.Reaching.{Makes}
 use Rattle.ild_path_delimiter.specs.TextEdits.{TextIs}
 use Rattle.ild_path_delimiter.specs.declared.level.Level.TheVariants as V
-use Rattle.ild_path_edit.proofs.Making.{not_empty}
 use Rattle.ild_path_item.specs.Texts.{text_of}
 use Rattle.ild_schema.specs.Value.{Value}
 use Rattle.ild_schema.specs.Accept.{IsAccepted}

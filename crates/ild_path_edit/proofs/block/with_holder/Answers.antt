@@ -1,11 +1,10 @@
 use Rattle.std.proofs.Common.{◌∙◌, subst}
 use Rattle.std.proofs.lemmas.Result.{err_from_is_err_and}
 use Rattle.ild_data.specs.Spell.{spell}
-use Rattle.ild_path_edit.proofs.Making.{failed, item_stands, made_block, made_tree, replaced_made, replaced_short}
+use Rattle.ild_path_edit.proofs.Making.{failed, made_block, replaced_made, replaced_short}
 use Rattle.ild_schema.specs.Accept.{IsAccepted}
 use Rattle.ild_schema.specs.Table.{IsTable}
 use Rattle.ild_typed.specs.Schema.{IsSchema}
-use Rattle.ild_typed.specs.At.{InSlot}
 use Rattle.ild_view.specs.View.{slot_of, table_of}
 use Rattle.ild_path_edit.proofs.block.with_holder.Goals as goal
 
@@ -17,14 +16,10 @@ returns-in_err-item c = λ is_key f w x t u e held.
     let r = err_from_is_err_and c.from_residual.result c.from_residual.ensures.1 in
     rw (r.1, r.2) (failed (spell held.new) (spell u) c.in_err-item.field-0.0 (replaced_short held.place t held.old held.new u held.item.part held.is) (c.in_err-item.ensures is_key f w x t u held.new e made))
 
-pub returns-in-Ok : goal.returns-in-Ok
-returns-in-Ok c = λ is_key f w x t u e held.
+pub returns : goal.returns
+returns c = λ is_key f w x t u e held.
     let rows = table_of c.args.root.now in
     let schema : IsSchema rows = record { table = subst IsTable c.schema.ensures c.types-types.ensures.table; accepted = subst IsAccepted c.schema.ensures c.types-types.ensures.accepted } in
     let made = replaced_made c.args.root.now is_key c.args.path.now c.args.edit.now f w x t u schema e c.args.holder.now held in
-    let found = c.in-Ok.ensures.found in
     let it = c.in_ok-item.ensures is_key f w x t u held.new e made in
-    let q : InSlot = (slot_of c.args.root.now, f) in
-    let tree = made_tree rows is_key schema e.keys c.args.edit.now w q c.args.path.now c.are_texts.ensures c.args.holder.now.holder held.new made in
-    let item = item_stands c.as_slice.result.now c.in-Ok.new found.0 held.new found.1 found.2 (c.as_slice.ensures.same ∙ it.0) tree in
-    made_block (spell u) c.block_with.result (c.block_with.ensures rows is_key c.args.edit.now w q c.args.path.now t u held item)
+    made_block (spell u) c.block_with.result (c.block_with.ensures rows is_key c.args.edit.now w (slot_of c.args.root.now, f) c.args.path.now t u held (c.as_slice.ensures.same ∙ it.0))

@@ -1,9 +1,9 @@
-use Rattle.std.proofs.Common.{◌≡◌, ◌-◌, ◌∙◌, ℕ, suc, length, ap, subst, sym, arith}
+use Rattle.std.proofs.Common.{◌≡◌, ◌-◌, ℕ, suc, length, ap, subst, arith}
 use Rattle.std.proofs.lemmas.Result.{err_from_is_err_and}
 use Rattle.std.specs.Prelude.{Err, Ok}
 use Rattle.ild_data.specs.Spell.{spell}
 use Rattle.ild_path_block.proofs.Allowing.{view_of}
-use Rattle.ild_path_edit.proofs.Making.{AboveClause, ChangedClause, above_done, down_to, failed, last_done, not_empty}
+use Rattle.ild_path_edit.proofs.Making.{AboveClause, ChangedClause, above_done, down_to, failed, last_done}
 use Rattle.ild_path_edit.specs.Holders.{IsMade}
 use Rattle.ild_schema.specs.Accept.{IsAccepted}
 use Rattle.ild_schema.specs.Table.{IsTable}
@@ -27,9 +27,12 @@ returns-in_err-item c = λ is_key f w x t u d e made.
     let r = err_from_is_err_and c.from_residual-in_err-item.result c.from_residual-in_err-item.ensures.1 in
     rw (r.1, r.2) (failed (spell y.0) (spell d) c.in_err-item.field-0.0 y.2 (last_done rows is_key schema e.keys edit w (slot_of c.args.root.now, f) path c.are_texts.ensures c.in_ok-views.views.items views last y.0 (Err c.in_err-item.field-0.0) end y.1 clause))
 
+pub changed-requires : goal.changed-requires
+changed-requires c = omega (arith, ap length c.as_slice-segments.ensures, c.requires)
+
 pub loop-k-init : goal.loop-k-init
 loop-k-init c = (
-  omega (arith, ap length c.as_slice-segments.ensures, not_empty c.as_slice-segments.result.now (sym c.is_empty.ensures ∙ c.if-is_empty.false)),
+  omega (arith, ap length c.as_slice-segments.ensures, c.requires),
   λ less. omega (arith, ap length c.as_slice-segments.ensures, less),
   λ is_key f w x t u d e made.
       let rows = table_of c.args.root.now in

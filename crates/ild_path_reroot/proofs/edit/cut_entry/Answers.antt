@@ -10,7 +10,7 @@ use Rattle.ild_hamt.specs.Rewriting.{IsTrailFrom}
 use Rattle.ild_schema.specs.Value.{hamt}
 use Rattle.ild_path_entered.specs.Entered.{without_entry}
 use Rattle.ild_path_reroot.specs.Reroots.{MakesRoot}
-use Rattle.ild_path_reroot.proofs.Rerooting.{cut_rewrites, edit_done, edit_failed, cut_ready, same_node, root_has, tree_node}
+use Rattle.ild_path_reroot.proofs.Rerooting.{cut_rewrites, edit_done, edit_failed, cut_ready, same_node, root_has}
 use Rattle.ild_path_reroot.proofs.Causing.{caused_after}
 use Rattle.ild_path_reroot.proofs.edit.cut_entry.Goals as goal
 
@@ -34,8 +34,7 @@ returns-clause-cuts g c = λ rows was s elem t x ps es k room view told at new.
     let after = c.in_ok-node.ensures.held at.hamt.3 k has.slots es from in
     let gives = c.in_ok-node.ensures.gives at.hamt.3 k has.slots es from in
     edit_done g.H.KeyHash.hash_of at.hamt.3 rows was s room (without_entry k ps) x k es (without k es) ready (g.K.Store.moment c.args.store.now) (g.K.Store.moment c.remove.new.store) told c.in_ok-node.node sets after gives c.root_around.result
-    (subst (λ q. MakesRoot (spell (root_map q ready.has.node)) c.root_around.result) (c.shape-shape.ensures ∙ has.has.shape) (c.root_around.ensures.made ready.has.node (same_node g.H.KeyHash.hash_of at.hamt.3 rows was s room (without_entry k ps) x k es (without k es) ready (g.K.Store.moment c.args.store.now) (g.K.Store.moment c.remove.new.store) c.in_ok-node.node sets.0)
-    (tree_node g.H.KeyHash.hash_of at.hamt.3 rows was s room (without_entry k ps) x k es (without k es) ready (g.K.Store.moment c.args.store.now) (g.K.Store.moment c.remove.new.store))))
+    (subst (λ q. MakesRoot (spell (root_map q ready.has.node)) c.root_around.result) (c.shape-shape.ensures ∙ has.has.shape) (c.root_around.ensures.made ready.has.node (same_node g.H.KeyHash.hash_of at.hamt.3 rows was s room (without_entry k ps) x k es (without k es) ready (g.K.Store.moment c.args.store.now) (g.K.Store.moment c.remove.new.store) c.in_ok-node.node sets.0)))
 
 pub returns-clause-caused : goal.returns-clause-caused
 returns-clause-caused g c = caused_after _ _ c.in_ok-node.node c.root_around.result c.in_ok-node.ensures.caused c.root_around.ensures.fault

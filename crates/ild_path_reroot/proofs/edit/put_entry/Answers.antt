@@ -11,7 +11,7 @@ use Rattle.ild_hamt.specs.Rewriting.{IsTrailFrom}
 use Rattle.ild_schema.specs.Value.{hamt}
 use Rattle.ild_path_entered.specs.Entered.{with_entry}
 use Rattle.ild_path_reroot.specs.Reroots.{MakesRoot}
-use Rattle.ild_path_reroot.proofs.Rerooting.{edit_done, edit_failed, put_ready, same_node, root_has, tree_node}
+use Rattle.ild_path_reroot.proofs.Rerooting.{edit_done, edit_failed, put_ready, same_node, root_has}
 use Rattle.ild_path_reroot.proofs.Causing.{caused_after}
 use Rattle.ild_path_reroot.proofs.edit.put_entry.Goals as goal
 
@@ -35,8 +35,7 @@ returns-clause-puts g c = λ rows was s elem t d x ps es k room w view told at n
     let after = c.in_ok-node.ensures.held at.hamt.3 k d has.slots es from stands (ap is_some ready.has.is_node) in
     let gives = c.in_ok-node.ensures.gives at.hamt.3 k d has.slots es from stands (ap is_some ready.has.is_node) in
     edit_done g.H.KeyHash.hash_of at.hamt.3 rows was s room (with_entry k w ps) x k es (put bytewise k d es) ready (g.K.Store.moment c.args.store.now) (g.K.Store.moment c.set.new.store) told c.in_ok-node.node sets after gives c.root_around.result
-    (subst (λ q. MakesRoot (spell (root_map q ready.has.node)) c.root_around.result) (c.shape-shape.ensures ∙ has.has.shape) (c.root_around.ensures.made ready.has.node (same_node g.H.KeyHash.hash_of at.hamt.3 rows was s room (with_entry k w ps) x k es (put bytewise k d es) ready (g.K.Store.moment c.args.store.now) (g.K.Store.moment c.set.new.store) c.in_ok-node.node sets.0)
-    (tree_node g.H.KeyHash.hash_of at.hamt.3 rows was s room (with_entry k w ps) x k es (put bytewise k d es) ready (g.K.Store.moment c.args.store.now) (g.K.Store.moment c.set.new.store))))
+    (subst (λ q. MakesRoot (spell (root_map q ready.has.node)) c.root_around.result) (c.shape-shape.ensures ∙ has.has.shape) (c.root_around.ensures.made ready.has.node (same_node g.H.KeyHash.hash_of at.hamt.3 rows was s room (with_entry k w ps) x k es (put bytewise k d es) ready (g.K.Store.moment c.args.store.now) (g.K.Store.moment c.set.new.store) c.in_ok-node.node sets.0)))
 
 -- the view is that of a HAMT
 pub unreachable-requires : goal.unreachable-requires

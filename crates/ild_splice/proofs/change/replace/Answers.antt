@@ -1,6 +1,4 @@
-use Rattle.std.proofs.Common.{append-nil, ◌∙◌}
-use Rattle.ild_splice.proofs.Joining.{splices}
 use Rattle.ild_splice.proofs.change.replace.Goals as goal
 
 pub returns : goal.returns
-returns c = λ e stands. splices c.args.part.now _ _ _ _ c.made.result c.made.ensures c.around.ensures.front c.around.ensures.behind (λ d here. append-nil _ ∙ c.spelling.ensures e stands)
+returns c = λ e stands. c.replace_with.ensures e (c.spelling.ensures e stands)

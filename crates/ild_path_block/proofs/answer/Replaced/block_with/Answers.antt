@@ -4,5 +4,5 @@ use Rattle.ild_splice.specs.Made.{Makes}
 use Rattle.ild_path_block.proofs.answer.Replaced.block_with.Goals as goal
 
 pub returns : goal.returns
-returns c = λ rows is_key edit w p path t u held stands.
-    subst (λ y. Makes (spell y) c.replace.result) (sym held.is) ((c.replace.ensures held.new stands).makes t held.old held.place held.item)
+returns c = λ rows is_key edit w p path t u held is.
+    subst (λ y. Makes (spell y) c.replace_with.result) (sym held.is) ((c.replace_with.ensures held.new is).makes t held.old held.place held.item)
