@@ -16,4 +16,6 @@ mod keys;
 #[cfg(test)]
 mod large;
 #[cfg(test)]
+mod many;
+#[cfg(test)]
 mod splice;

@@ -7,11 +7,11 @@ use std::process::Abort;
 use std::test::Fail;
 
 /// The root of a block.
-fn root(block: &[u8]) -> Result<Node<'_>, &'static str> {
+pub(crate) fn root(block: &[u8]) -> Result<Node<'_>, &'static str> {
     check(block).ok().ok_or("a block")
 }
 
-fn gives(rt: &impl Abort, made: Option<Octets>, block: &[u8]) {
+pub(crate) fn gives(rt: &impl Abort, made: Option<Octets>, block: &[u8]) {
     match made {
         Some(made) => assert_eq!(rt; made.as_slice(), block),
         None => assert!(rt; false),
@@ -19,7 +19,7 @@ fn gives(rt: &impl Abort, made: Option<Octets>, block: &[u8]) {
 }
 
 /// A list with one more item, where it has the place.
-fn with_item(alloc: Global, list: &Node<'_>, at: u64, new: &Node<'_>) -> Option<Octets> {
+pub(crate) fn with_item(alloc: Global, list: &Node<'_>, at: u64, new: &Node<'_>) -> Option<Octets> {
     let (Kind::List, Some(count)) = (list.kind(), list.count()) else {
         return None;
     };
@@ -30,7 +30,7 @@ fn with_item(alloc: Global, list: &Node<'_>, at: u64, new: &Node<'_>) -> Option<
 }
 
 /// A list without an item, where it has that.
-fn without_item(alloc: Global, list: &Node<'_>, at: u64) -> Option<Octets> {
+pub(crate) fn without_item(alloc: Global, list: &Node<'_>, at: u64) -> Option<Octets> {
     let (Kind::List, Some(count)) = (list.kind(), list.count()) else {
         return None;
     };
@@ -41,7 +41,12 @@ fn without_item(alloc: Global, list: &Node<'_>, at: u64) -> Option<Octets> {
 }
 
 /// A map with one more entry, where it has none of the key.
-fn with_entry(alloc: Global, map: &Node<'_>, key: &str, new: &Node<'_>) -> Option<Octets> {
+pub(crate) fn with_entry(
+    alloc: Global,
+    map: &Node<'_>,
+    key: &str,
+    new: &Node<'_>,
+) -> Option<Octets> {
     let Kind::Map = map.kind() else {
         return None;
     };
@@ -52,7 +57,7 @@ fn with_entry(alloc: Global, map: &Node<'_>, key: &str, new: &Node<'_>) -> Optio
 }
 
 /// A map without an entry, where it has that.
-fn without_entry(alloc: Global, map: &Node<'_>, key: &str) -> Option<Octets> {
+pub(crate) fn without_entry(alloc: Global, map: &Node<'_>, key: &str) -> Option<Octets> {
     let Kind::Map = map.kind() else {
         return None;
     };

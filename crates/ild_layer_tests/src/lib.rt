@@ -4,6 +4,8 @@
 #[cfg(test)]
 mod asked;
 #[cfg(test)]
+mod docs;
+#[cfg(test)]
 mod enums;
 #[cfg(test)]
 mod said;
@@ -11,6 +13,8 @@ mod said;
 mod seen;
 #[cfg(test)]
 mod structs;
+#[cfg(test)]
+mod trees;
 #[cfg(test)]
 mod unions;
 #[cfg(test)]

@@ -19,7 +19,12 @@ pub type Row = (
     (&'static str, &'static [u8]),
 );
 
-fn view_of<'b>(alloc: Global, acc: &'b Accepted, name: &str, root: Node<'b>) -> Option<View<'b>> {
+pub(crate) fn view_of<'b>(
+    alloc: Global,
+    acc: &'b Accepted,
+    name: &str,
+    root: Node<'b>,
+) -> Option<View<'b>> {
     let ty = acc.type_named(name)?;
     if ty.0 >= acc.types() {
         return None;
@@ -31,7 +36,7 @@ fn view_of<'b>(alloc: Global, acc: &'b Accepted, name: &str, root: Node<'b>) -> 
     View::check(alloc, acc, slot, root, 96).ok()
 }
 
-fn path_of(alloc: Global, segments: &[&str]) -> Option<Path> {
+pub(crate) fn path_of(alloc: Global, segments: &[&str]) -> Option<Path> {
     let mut path = Path::new(alloc);
     for segment in segments {
         path.push(Txt::of(alloc, segment).ok()?).ok()?;

@@ -5,6 +5,8 @@
 #[cfg(test)]
 mod joins;
 #[cfg(test)]
+mod large;
+#[cfg(test)]
 mod overlaps;
 #[cfg(test)]
 mod rules;
