@@ -1,4 +1,5 @@
 pub mod Judged
+pub mod Last
 pub mod Search
 pub mod Verdict
 pub mod Held

@@ -1,15 +1,10 @@
 //! The rules that look at one type after the other.
 ghost use Rattle.std.specs.Prelude.{◌≡◌, ◌<◌, IfOk, Some, length};
-ghost use Rattle.std.specs.Option.{option_or};
 ghost use Rattle.ild_schema.specs.Accept.{fails_at, first_failing, type_fault};
-ghost use Rattle.ild_schema.specs.Clashes.{name_fault};
-ghost use Rattle.ild_schema.specs.Delimiters.{delim_fault};
-ghost use Rattle.ild_schema.specs.Prefixes.{prefix_fault};
-ghost use Rattle.ild_schema.specs.Rules.{implicit_fault, inline_fault, key_fault, kind_fault, null_fault, optional_fault, strategy_fault, text_fault};
 ghost use Rattle.ild_schema.specs.Table.{def_at};
-ghost use Rattle.ild_schema.specs.declared.rule.Rule.TheVariants as R;
 ghost use Rattle.ild_accept.specs.Judged.{Tells};
 ghost use Rattle.ild_accept.specs.Held.{HoldsKinds};
+ghost use Rattle.ild_accept.specs.Last.{last_fault, later_fault};
 
 use crate::AcceptErr;
 use crate::beside::{kind_fault, optional_fault};
@@ -40,7 +35,7 @@ fn last_rules(
     requires kinds { HoldsKinds schema.now kinds.now }
     requires within { ty.0 < length schema.now }
     requires def { def_at schema.now ty.0 ≡ Some def.now }
-    ensures { IfOk result (λ fault. fault ≡ option_or (fails_at R.NameClash (name_fault schema.now at def.now)) (option_or (fails_at R.InlineMember (inline_fault schema.now def.now)) (option_or (fails_at R.MapKey (key_fault schema.now def.now)) (fails_at R.Strategy (strategy_fault at def.now))))) }
+    ensures { IfOk result (λ fault. fault ≡ last_fault schema.now at def.now) }
 {
     let name = fails_at(Rule::NameClash, name_fault(alloc, schema, ty, at, def)?);
     if name.is_some() {
@@ -69,14 +64,7 @@ fn later_rules(
     requires kinds { HoldsKinds schema.now kinds.now }
     requires within { ty.0 < length schema.now }
     requires def { def_at schema.now ty.0 ≡ Some def.now }
-    ensures { IfOk result (λ fault. fault ≡
-        option_or (fails_at R.Delim (delim_fault at def.now)) (
-        option_or (fails_at R.NotText (text_fault schema.now def.now)) (
-        option_or (fails_at R.OptionalPlace (optional_fault def.now)) (
-        option_or (fails_at R.Implicit (implicit_fault schema.now def.now)) (
-        option_or (fails_at R.NameClash (name_fault schema.now at def.now)) (
-        option_or (fails_at R.InlineMember (inline_fault schema.now def.now)) (
-        option_or (fails_at R.MapKey (key_fault schema.now def.now)) (fails_at R.Strategy (strategy_fault at def.now))))))))) }
+    ensures { IfOk result (λ fault. fault ≡ later_fault schema.now at def.now) }
 {
     let delim = fails_at(Rule::Delim, delim_fault(at, def));
     if delim.is_some() {

@@ -12,7 +12,7 @@ ghost use Rattle.ild_schema.specs.Places.{first_beside};
 ghost use Rattle.ild_schema.specs.Table.{def_at, parts_of};
 ghost use Rattle.ild_schema.specs.declared.def.EnumForm.TheVariants as E;
 ghost use Rattle.ild_schema.specs.declared.def.TypeDef.TheVariants as D;
-ghost use Rattle.ild_accept_rules.specs.Seen.{first_named, first_spelled, is_before, is_one, is_seen};
+ghost use Rattle.ild_accept_rules.specs.Seen.{first_named, first_spelled, is_before, is_one, is_seen, is_member_seen, is_told_before};
 
 use crate::decimal::decimal_of;
 use crate::seen::{is_before, see_first, see_number};
@@ -227,7 +227,7 @@ fn is_told_before(
     member: &Member,
 ) -> bool
     requires { ty.0 < length schema.now }
-    ensures { result ≡ option_map_or (λ text. is_before part (first_spelled schema.now ty.0 text)) (discriminant_of form.now member.now) false }
+    ensures { result ≡ is_told_before schema.now ty.0 part form.now member.now }
 {
     match discriminant_of(form, member) {
         None => false,
@@ -275,7 +275,7 @@ fn is_member_seen(
 ) -> bool
     requires within { ty.0 < length schema.now }
     requires room { IfSome (def_at schema.now ty.0) (λ def. parts_of def ≤ length names.old) }
-    ensures was { result ≡ is_marked form.now member.now && ((is_seen names.old (first_named schema.now ty.0 member.now.name) || option_map_or (λ text. is_before part (first_spelled schema.now ty.0 text)) (discriminant_of form.now member.now) false) || is_key_taken schema.now form.now member.now) }
+    ensures was { result ≡ is_member_seen schema.now ty.0 part names.old form.now member.now }
     ensures size { length names.new ≡ length names.old }
     ensures names { (o : Option ℕ) → is_seen names.new o ≡ cond (is_marked form.now member.now && is_one o (first_named schema.now ty.0 member.now.name)) true (is_seen names.old o) }
 {

@@ -4,4 +4,5 @@ pub mod Fronts
 pub mod Weights
 pub mod Placed
 pub mod Writes
+pub mod Written
 pub mod Fitting

@@ -5,10 +5,10 @@ ghost use Rattle.ild_schema.specs.Value as V;
 ghost use Rattle.ild_schema.specs.Value.{values_list};
 ghost use Rattle.ild_typed.specs.Hamt.{whole};
 ghost use Rattle.ild_build_leaf.specs.Made.{made};
-ghost use Rattle.ild_build_pass.specs.Made.{counted, items_made};
 ghost use Rattle.ild_build_pass.specs.Fitting.{FitsIn, ItemsFit};
-ghost use Rattle.ild_build_pass.specs.Weights.{items_weight, weigh};
+ghost use Rattle.ild_build_pass.specs.Weights.{weigh};
 ghost use Rattle.ild_build_pass.specs.Writes.{Writes};
+ghost use Rattle.ild_build_pass.specs.Written.{WritesItems};
 
 use crate::pass::add;
 use ild_build::form_of;
@@ -54,7 +54,7 @@ fn add_items<H: KeyHash>(
 ) -> Result<(), AllocError>
     requires within { elem.ty.0 < length acc.now }
     requires fits { ItemsFit acc.now elem (values_list vals.now) }
-    ensures ok { OnOk result (Writes H.hash_of acc.now (counted 4 (length (values_list vals.now)) (items_made (whole H.hash_of) acc.now elem (values_list vals.now))) (λ μ. items_weight μ acc.now elem (values_list vals.now)) out.old out.new nodes.old nodes.new) }
+    ensures ok { OnOk result (WritesItems H.hash_of acc.now elem (values_list vals.now) out.old out.new nodes.old nodes.new) }
     ensures err { OnErr result (IsGrown out.old out.new) }
 {
     out.head(4, vals.len() as u64)?;

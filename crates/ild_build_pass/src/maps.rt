@@ -1,15 +1,16 @@
 //! Maps, written: as maps, as lists of pairs, as texts and as HAMTs.
-ghost use Rattle.std.specs.Prelude.{◌≡◌, ◌+◌, ◌<◌, OnOk, OnErr, length, List, ℕ, option_map, slice_get};
+ghost use Rattle.std.specs.Prelude.{◌≡◌, ◌<◌, OnOk, OnErr, length, List, ℕ, option_map, slice_get};
 ghost use Rattle.ild_emit.specs.Grown.{IsGrown};
 ghost use Rattle.ild_schema.specs.Value as V;
 ghost use Rattle.ild_schema.specs.Value.{Value, pairs_list};
 ghost use Rattle.ild_schema.specs.ValueSeen.{value_of};
 ghost use Rattle.ild_typed.specs.Hamt.{whole};
-ghost use Rattle.ild_build_leaf.specs.Made.{entries_major, made};
-ghost use Rattle.ild_build_pass.specs.Made.{counted, entries_made, entry_made};
+ghost use Rattle.ild_build_leaf.specs.Made.{made};
+ghost use Rattle.ild_build_pass.specs.Made.{entry_made};
 ghost use Rattle.ild_build_pass.specs.Fitting.{EntriesFit, FitsIn, HamtFits};
-ghost use Rattle.ild_build_pass.specs.Weights.{entries_weight, hamt_made, weigh};
+ghost use Rattle.ild_build_pass.specs.Weights.{weigh};
 ghost use Rattle.ild_build_pass.specs.Writes.{Writes};
+ghost use Rattle.ild_build_pass.specs.Written.{WritesEntries, WritesHamt};
 
 use crate::fronts::open_entry;
 use crate::pass::add;
@@ -77,7 +78,7 @@ fn add_pairs<H: KeyHash>(
 ) -> Result<(), AllocError>
     requires within { value.ty.0 < length acc.now }
     requires fits { EntriesFit acc.now value (pairs_list pairs.now) }
-    ensures ok { OnOk result (Writes H.hash_of acc.now (counted (entries_major paired) (length (pairs_list pairs.now)) (entries_made (whole H.hash_of) acc.now paired value (pairs_list pairs.now))) (λ μ. entries_weight μ acc.now value (pairs_list pairs.now)) out.old out.new nodes.old nodes.new) }
+    ensures ok { OnOk result (WritesEntries H.hash_of acc.now value (pairs_list pairs.now) paired out.old out.new nodes.old nodes.new) }
     ensures err { OnErr result (IsGrown out.old out.new) }
 {
     add_count(paired, pairs.len(), out)?;
@@ -104,7 +105,7 @@ fn add_hamt<H: KeyHash>(
 ) -> Result<(), AllocError>
     requires within { value.ty.0 < length acc.now }
     requires fits { HamtFits acc.now value (pairs_list pairs.now) }
-    ensures ok { OnOk result (Writes H.hash_of acc.now (hamt_made H.hash_of shape acc.now value pairs.now) (λ μ. μ shape value pairs.now + entries_weight μ acc.now value (pairs_list pairs.now)) out.old out.new nodes.old nodes.new) }
+    ensures ok { OnOk result (WritesHamt H.hash_of acc.now value shape pairs.now out.old out.new nodes.old nodes.new) }
     ensures err { OnErr result (IsGrown out.old out.new) }
 {
     let _legible = acc.types();

@@ -10,12 +10,10 @@ ghost use Rattle.ild_schema.specs.ValueSeen.{value_of};
 ghost use Rattle.ild_schema.specs.declared.def.TypeDef.TheVariants as D;
 ghost use Rattle.ild_typed.specs.Hamt.{whole};
 ghost use Rattle.ild_build_leaf.specs.Made.{made};
-ghost use Rattle.ild_build_pass.specs.Made.{counted, fields_made, tuple_made};
-ghost use Rattle.ild_build_leaf.specs.Kept.{count_present, count_written};
-ghost use Rattle.ild_build_pass.specs.Places.{map_made, written_made, written_of};
 ghost use Rattle.ild_build_pass.specs.Fitting.{FitsIn, PlacesFit};
-ghost use Rattle.ild_build_pass.specs.Weights.{fields_weight, places_weight, weigh};
+ghost use Rattle.ild_build_pass.specs.Weights.{weigh};
 ghost use Rattle.ild_build_pass.specs.Writes.{Writes};
+ghost use Rattle.ild_build_pass.specs.Written.{WritesFields, WritesPairs, WritesPlaces, WritesTuple};
 
 use crate::fronts::begin_fields;
 use crate::maps::add_entry;
@@ -73,7 +71,7 @@ fn add_tuple<H: KeyHash>(
 ) -> Result<(), AllocError>
     requires within { IsWithin (length acc.now) (D.Struct def.now) }
     requires fits { PlacesFit acc.now def.now.fields (optionals_list vals.now) }
-    ensures ok { OnOk result (Writes H.hash_of acc.now (counted 4 (count_present (optionals_list vals.now)) (tuple_made (whole H.hash_of) acc.now def.now.fields (optionals_list vals.now))) (λ μ. fields_weight μ acc.now def.now.fields (optionals_list vals.now)) out.old out.new nodes.old nodes.new) }
+    ensures ok { OnOk result (WritesTuple H.hash_of acc.now def.now.fields (optionals_list vals.now) out.old out.new nodes.old nodes.new) }
     ensures err { OnErr result (IsGrown out.old out.new) }
 {
     out.head(4, present(vals) as u64)?;
@@ -99,7 +97,7 @@ fn add_listed<H: KeyHash>(
 ) -> Result<(), AllocError>
     requires within { IsWithin (length acc.now) (D.Struct def.now) }
     requires fits { PlacesFit acc.now def.now.fields (optionals_list vals.now) }
-    ensures ok { OnOk result (Writes H.hash_of acc.now (counted 4 (count_written def.now.fields (optionals_list vals.now)) (fields_made (whole H.hash_of) acc.now true def.now.fields (optionals_list vals.now))) (λ μ. fields_weight μ acc.now def.now.fields (optionals_list vals.now)) out.old out.new nodes.old nodes.new) }
+    ensures ok { OnOk result (WritesPairs H.hash_of acc.now def.now.fields (optionals_list vals.now) out.old out.new nodes.old nodes.new) }
     ensures err { OnErr result (IsGrown out.old out.new) }
 {
     out.head(4, written(&def.fields, vals) as u64)?;
@@ -130,7 +128,7 @@ fn add_fields<H: KeyHash>(
     requires within { IsWithin (length acc.now) (D.Struct def.now) }
     requires fits { PlacesFit acc.now def.now.fields (optionals_list vals.now) }
     requires apart { AreNamesApart def.now.fields }
-    ensures ok { OnOk result (Writes H.hash_of acc.now (map_made (whole H.hash_of) acc.now def.now.fields (optionals_list vals.now)) (λ μ. fields_weight μ acc.now def.now.fields (optionals_list vals.now)) out.old out.new nodes.old nodes.new) }
+    ensures ok { OnOk result (WritesFields H.hash_of acc.now def.now.fields (optionals_list vals.now) out.old out.new nodes.old nodes.new) }
     ensures err { OnErr result (IsGrown out.old out.new) }
 {
     let places = begin_fields(acc, slot, def, vals, out)?;
@@ -151,7 +149,7 @@ pub(crate) fn add_places<H: KeyHash>(
 ) -> Result<(), AllocError>
     requires within { IsWithin (length acc.now) (D.Struct def.now) }
     requires fits { PlacesFit acc.now def.now.fields (optionals_list vals.now) }
-    ensures ok { OnOk result (Writes H.hash_of acc.now (written_made (whole H.hash_of) acc.now def.now.fields (optionals_list vals.now) places.now) (λ μ. places_weight μ acc.now def.now.fields (optionals_list vals.now) (written_of def.now.fields (optionals_list vals.now) places.now)) out.old out.new nodes.old nodes.new) }
+    ensures ok { OnOk result (WritesPlaces H.hash_of acc.now def.now.fields (optionals_list vals.now) places.now out.old out.new nodes.old nodes.new) }
     ensures err { OnErr result (IsGrown out.old out.new) }
 {
     for place in places {

@@ -1,6 +1,5 @@
 //! Unions, written: the member with what tells it.
-ghost use Rattle.std.specs.Prelude.{◌≡◌, ◌<◌, OnOk, OnErr, length, option_map, option_and_then, false, true};
-ghost use Rattle.ild_data.specs.Spell.{spell};
+ghost use Rattle.std.specs.Prelude.{◌≡◌, ◌<◌, OnOk, OnErr, length, false, true};
 ghost use Rattle.ild_emit.specs.Grown.{IsGrown};
 ghost use Rattle.ild_schema.specs.Clear.{KeysApart};
 ghost use Rattle.ild_schema.specs.Made.{MadeMember};
@@ -9,15 +8,13 @@ ghost use Rattle.ild_schema.specs.Slots.{form_of, plainly};
 ghost use Rattle.ild_schema.specs.Value as V;
 ghost use Rattle.ild_schema.specs.ValueSeen.{value_of};
 ghost use Rattle.ild_schema.specs.declared.def.UnionForm.TheVariants as UF;
-ghost use Rattle.ild_typed.specs.Composed.{member_form};
 ghost use Rattle.ild_typed.specs.Hamt.{whole};
-ghost use Rattle.ild_typed.specs.Represented.{represented};
 ghost use Rattle.ild_build_leaf.specs.Made.{made};
-ghost use Rattle.ild_build_pass.specs.Made.{marked_made};
 ghost use Rattle.ild_build_pass.specs.Fitting.{FitsIn, IsApartFrom};
 ghost use Rattle.ild_build_pass.specs.Fronts.{IsWrapped};
 ghost use Rattle.ild_build_pass.specs.Weights.{weigh};
 ghost use Rattle.ild_build_pass.specs.Writes.{Writes};
+ghost use Rattle.ild_build_pass.specs.Written.{WritesMarked, WritesMember};
 
 use crate::fronts::{add_behind_prefix, begin_inline, begin_member, end_member};
 use crate::pass::add;
@@ -80,7 +77,7 @@ fn add_member<H: KeyHash>(
     requires made { MadeMember acc.now form.now member.now }
     requires apart { KeysApart form.now }
     requires fits { FitsIn acc.now (plainly member.now.ty) part.now }
-    ensures ok { OnOk result (Writes H.hash_of acc.now (option_map spell (option_and_then (λ d. member_form form.now d member.now) (represented (whole H.hash_of) acc.now (plainly member.now.ty) part.now))) (λ μ. weigh μ acc.now (plainly member.now.ty) part.now) out.old out.new nodes.old nodes.new) }
+    ensures ok { OnOk result (WritesMember H.hash_of acc.now form.now member.now part.now out.old out.new nodes.old nodes.new) }
     ensures err { OnErr result (IsGrown out.old out.new) }
 {
     let slot = Slot {
@@ -126,7 +123,7 @@ fn add_wrapped<H: KeyHash>(
     requires within { slot.ty.0 < length acc.now }
     requires form { IsWrapped form.now }
     requires fits { FitsIn acc.now slot (value_of val.now) }
-    ensures ok { OnOk result (Writes H.hash_of acc.now (marked_made (whole H.hash_of) acc.now form.now slot (value_of val.now) name.now) (λ μ. weigh μ acc.now slot (value_of val.now)) out.old out.new nodes.old nodes.new) }
+    ensures ok { OnOk result (WritesMarked H.hash_of acc.now slot form.now name.now (value_of val.now) out.old out.new nodes.old nodes.new) }
     ensures err { OnErr result (IsGrown out.old out.new) }
 {
     begin_member(form, name, out)?;
@@ -151,7 +148,7 @@ fn add_inline<H: KeyHash>(
     requires map { is_map_struct (form_of acc.now slot) ≡ true }
     requires fits { FitsIn acc.now slot (value_of val.now) }
     requires apart { IsApartFrom acc.now tag.key.now slot }
-    ensures ok { OnOk result (Writes H.hash_of acc.now (marked_made (whole H.hash_of) acc.now (UF.Inline tag.entry.key.now) slot (value_of val.now) tag.entry.name.now) (λ μ. weigh μ acc.now slot (value_of val.now)) out.old out.new nodes.old nodes.new) }
+    ensures ok { OnOk result (WritesMarked H.hash_of acc.now slot (UF.Inline tag.entry.key.now) tag.entry.name.now (value_of val.now) out.old out.new nodes.old nodes.new) }
     ensures err { OnErr result (IsGrown out.old out.new) }
 {
     let _legible = acc.types();
@@ -180,7 +177,7 @@ fn add_prefixed<H: KeyHash>(
 ) -> Result<(), AllocError>
     requires within { slot.ty.0 < length acc.now }
     requires fits { FitsIn acc.now slot (value_of val.now) }
-    ensures ok { OnOk result (Writes H.hash_of acc.now (marked_made (whole H.hash_of) acc.now UF.BytesPrefix slot (value_of val.now) digits.now) (λ μ. weigh μ acc.now slot (value_of val.now)) out.old out.new nodes.old nodes.new) }
+    ensures ok { OnOk result (WritesMarked H.hash_of acc.now slot UF.BytesPrefix digits.now (value_of val.now) out.old out.new nodes.old nodes.new) }
     ensures err { OnErr result (out.new ≡ out.old) }
 {
     let mut member = Emit::new(alloc);

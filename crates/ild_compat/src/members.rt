@@ -9,7 +9,7 @@ ghost use Rattle.ild_schema.specs.declared.def.TypeDef.TheVariants as D;
 ghost use Rattle.ild_schema.specs.declared.def.EnumForm.TheVariants as E;
 ghost use Rattle.ild_compat.specs.Fields.{has_member, has_same_mark, has_same_value, has_value, is_same_int, is_same_kind, is_same_text, member_named, value_named};
 ghost use Rattle.ild_compat.specs.Same.{enum_of, union_of};
-ghost use Rattle.ild_compat.specs.Table.{agree, enums_agree, unions_agree};
+ghost use Rattle.ild_compat.specs.Table.{agree, enums_agree, unions_agree, members_agree};
 
 use ild_accept_rules::{bytes_of_hex, member_integer, member_text};
 use ild_data::{Octets, Txt};
@@ -304,7 +304,7 @@ pub(crate) fn members_agree(
 ) -> Result<bool, AllocError>
     requires first { x.0 < length first.now }
     requires next { y.0 < length next.now }
-    ensures { IfOk result (λ b. b ≡ agree unions_agree (option_and_then union_of (def_at first.now x.0)) (option_and_then union_of (def_at next.now y.0)) && agree enums_agree (option_and_then enum_of (def_at first.now x.0)) (option_and_then enum_of (def_at next.now y.0))) }
+    ensures { IfOk result (λ b. b ≡ members_agree (def_at first.now x.0) (def_at next.now y.0)) }
 {
     let unions = unions_agree(alloc, first, x, next, y)?;
     Ok(unions && enums_agree(first, x, next, y))

@@ -1,14 +1,11 @@
 //! The first cause for which names with values are no struct's.
 ghost use Rattle.std.specs.List.{list_any};
-ghost use Rattle.std.specs.Prelude.{◌≡◌, ◌<◌, ◌≤◌, ◌&&◌, ◌++◌, ◌∷◌, [], ℕ, List, length, nat_eq, not, option_map};
+ghost use Rattle.std.specs.Prelude.{◌≡◌, ◌<◌, ◌≤◌, ◌&&◌, ℕ, List, length, nat_eq, not, option_map};
 ghost use Rattle.ild_data.specs.Data.{Data};
 ghost use Rattle.ild_layer_piece.specs.Answers.{told};
-ghost use Rattle.ild_layer_piece.specs.Pieces.{StandsFor};
 ghost use Rattle.ild_schema.specs.Clear.{AreNamesApart};
-ghost use Rattle.ild_schema.specs.declared.row.Row.{Row};
-ghost use Rattle.ild_typed.specs.Named.{has_twice};
-ghost use Rattle.ild_typed.specs.StructWhy.{has_stranger, is_out_of_order, lacks_field, must_stand, place_of, writes_implicit};
-ghost use Rattle.ild_layer_fields.specs.Causes.{Noted, first_cause};
+ghost use Rattle.ild_typed.specs.StructWhy.{lacks_field, must_stand};
+ghost use Rattle.ild_layer_fields.specs.Causes.{Noted, first_cause, NotesEntry, NotesName, NotesPlaced, TellsCause};
 ghost use Rattle.ild_layer_fields.specs.Notes.{IsNoted};
 
 use crate::fields::{Fields, is_implicit_at};
@@ -19,7 +16,7 @@ use ild_schema::Field;
 impl Notes {
     /// One name more.
     pub(crate) fn note_name(&mut self, fields: &Fields<'_>, name: &str)
-        ensures { AreNamesApart fields.now.def.now.fields → (ks : List (List ℕ)) (es : List (List ℕ × Data)) → Noted fields.now.def.now.fields ks es self.old → Noted fields.now.def.now.fields (ks ++ name.now ∷ []) es self.new }
+        ensures { NotesName fields.now.def.now.fields name.now self.old self.new }
     {
         let place = fields.place_left(name, self);
         self.note(place, fields.def.fields.len());
@@ -27,7 +24,7 @@ impl Notes {
 
     /// One name with a value more.
     pub(crate) fn note_entry(&mut self, fields: &Fields<'_>, name: &str, value: &Piece<'_>)
-        ensures { AreNamesApart fields.now.def.now.fields → (rows : List Row) (d : Data) → StandsFor rows value.now d → (ks : List (List ℕ)) (es : List (List ℕ × Data)) → Noted fields.now.def.now.fields ks es self.old → Noted fields.now.def.now.fields (ks ++ name.now ∷ []) (es ++ (name.now, d) ∷ []) self.new }
+        ensures { NotesEntry fields.now.def.now.fields name.now value.now self.old self.new }
     {
         let place = fields.place_left(name, self);
         self.note_placed(fields, place, value);
@@ -37,7 +34,7 @@ impl Notes {
     #[inline(always)]
     pub(crate) fn note_placed(&mut self, fields: &Fields<'_>, place: usize, value: &Piece<'_>)
         requires { place ≤ length fields.now.def.now.fields }
-        ensures { AreNamesApart fields.now.def.now.fields → (name : List ℕ) → place ≡ place_of fields.now.def.now.fields name → (rows : List Row) (d : Data) → StandsFor rows value.now d → (ks : List (List ℕ)) (es : List (List ℕ × Data)) → Noted fields.now.def.now.fields ks es self.old → Noted fields.now.def.now.fields (ks ++ name ∷ []) (es ++ (name, d) ∷ []) self.new }
+        ensures { NotesPlaced fields.now.def.now.fields place value.now self.old self.new }
     {
         self.needless |= is_implicit_at(fields.def.fields.as_slice(), place, value);
         self.note(place, fields.def.fields.len());
@@ -68,7 +65,7 @@ impl Notes {
     /// the order may matter.
     pub fn first_cause(&self, fields: &[Field], miscounted: bool, ordered: bool) -> Option<Why>
         requires { length fields.now ≤ 1024 }
-        ensures { AreNamesApart fields.now → (ks : List (List ℕ)) (es : List (List ℕ × Data)) → Noted fields.now ks es self.now → option_map told result ≡ first_cause (has_stranger fields.now ks) (lacks_field fields.now ks) miscounted (ordered && is_out_of_order fields.now ks) (has_twice ks) (writes_implicit fields.now es) }
+        ensures { TellsCause fields.now self.now miscounted ordered (option_map told result) }
     {
         let causes = Causes {
             name: self.stranger,

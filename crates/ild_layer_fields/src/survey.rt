@@ -1,16 +1,14 @@
 //! What one pass over names with values finds, form by form.
-ghost use Rattle.std.specs.List.{AllByRecursion};
-ghost use Rattle.std.specs.Prelude.{◌≡◌, ◌++◌, ◌∷◌, [], ℕ, List, true};
+ghost use Rattle.std.specs.Prelude.{◌≡◌, ◌∷◌, [], ℕ, List, true};
 ghost use Rattle.ild_cbor.specs.Steps.{HasItems};
 ghost use Rattle.ild_data.specs.Data.{Data, Items as Parts, items_list};
 ghost use Rattle.ild_layer_piece.specs.Entries.{HasLeft};
 ghost use Rattle.ild_schema.specs.Clear.{AreNamesApart};
 ghost use Rattle.ild_text.specs.Parts.{pairs_in};
-ghost use Rattle.ild_typed.specs.Named.{entry_of, is_pair, is_two, items_or, name_of, names};
-ghost use Rattle.ild_layer_fields.specs.Causes.{Noted, PairsNoted};
-ghost use Rattle.ild_layer_fields.specs.Entries.{by_place, text_entries};
-ghost use Rattle.ild_layer_fields.specs.Pairs.{IsPairOf};
-ghost use Rattle.ild_layer_fields.specs.Told.{IsToldAt};
+ghost use Rattle.ild_typed.specs.Named.{names};
+ghost use Rattle.ild_layer_fields.specs.Causes.{Noted, PairsNoted, NotesPair};
+ghost use Rattle.ild_layer_fields.specs.Entries.{text_entries};
+ghost use Rattle.ild_layer_fields.specs.Told.{AreTold};
 
 use crate::fields::Fields;
 use crate::notes::Notes;
@@ -23,7 +21,7 @@ use ild_text::PairParts;
 /// What one pass over the entries of a map finds, and whether their kinds tell that all are values of their fields.
 pub fn note_entries(fields: &Fields<'_>, entries: MapEntries<'_>) -> (Notes, bool)
     ensures noted { AreNamesApart fields.now.def.now.fields → (es : List (List ℕ × Data)) → HasLeft entries.entry es → Noted fields.now.def.now.fields (names es) es result.0 }
-    ensures told { result.1 ≡ true → AreNamesApart fields.now.def.now.fields → (es : List (List ℕ × Data)) → HasLeft entries.entry es → AllByRecursion (IsToldAt fields.now.acc.now fields.now.def.now.fields) (by_place fields.now.def.now.fields es) }
+    ensures told { result.1 ≡ true → AreTold fields.now.acc.now fields.now.def.now.fields entries.entry }
 {
     let order = fields.acc.in_key_order(fields.base);
     let mut notes = Notes::new();
@@ -42,7 +40,7 @@ pub fn note_entries(fields: &Fields<'_>, entries: MapEntries<'_>) -> (Notes, boo
 impl Notes {
     // One pair more that is none but a list with a name, where it has any items: whether it has two.
     fn note_pair(&mut self, fields: &Fields<'_>, pair: &Pair<'_>) -> bool
-        ensures { AreNamesApart fields.now.def.now.fields → (d : Data) → IsPairOf d pair.now → is_pair d ≡ true → (ks : List (List ℕ)) (es : List (List ℕ × Data)) → Noted fields.now.def.now.fields ks es self.old → (result ≡ is_two d) × Noted fields.now.def.now.fields (ks ++ name_of (items_or d)) (es ++ entry_of (items_or d)) self.new }
+        ensures { NotesPair fields.now.def.now.fields pair.now self.old result self.new }
     {
         match pair {
             Pair::Odd | Pair::Empty => false,

@@ -3,3 +3,4 @@ pub mod Edited
 pub mod Edits
 pub mod Holders
 pub mod Standing
+pub mod Viewed

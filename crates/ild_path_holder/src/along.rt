@@ -1,10 +1,6 @@
 //! The steps along a path.
-ghost use Rattle.std.specs.Prelude.{◌≡◌, ◌∷◌, ℕ, IfOk, IsSomeAnd, List, Some, true};
-ghost use Rattle.ild_path_holder.specs.Along.{LeadAlong, holder_at, is_holder};
-ghost use Rattle.ild_path_holder.specs.Holders.{IsLast};
-ghost use Rattle.ild_schema.specs.Value.{Value};
-ghost use Rattle.ild_typed.specs.At.{InSlot, seen};
-ghost use Rattle.ild_view.specs.View.{IsView, slot_of, table_of};
+ghost use Rattle.std.specs.Prelude.{Some};
+ghost use Rattle.ild_path_holder.specs.Viewed.{FindsLast, FindsSteps};
 
 use crate::part::part_steps;
 use ild_data::Path;
@@ -27,7 +23,7 @@ pub fn last_holder<'a>(
     root: &View<'a>,
     path: &'a Path,
 ) -> Result<Option<LastHolder<'a>>, AllocError>
-    ensures { (f : Value) (s : List ℕ) (ss : List (List ℕ)) (l : InSlot) → IsView root.now f → path.now ≡ s ∷ ss → holder_at (table_of root.now) (slot_of root.now, f) s ss ≡ Some l → is_holder (seen (table_of root.now) l) ≡ true → IfOk result (λ r. IsSomeAnd r (IsLast (table_of root.now) (slot_of root.now, f) l s ss)) }
+    ensures { FindsLast root.now path.now result }
 {
     // It does no work: its clauses say what acceptance says of the table.
     let _types = root.schema().types();
@@ -57,7 +53,7 @@ pub fn steps_along<'a>(
     root: &View<'a>,
     path: &'a Path,
 ) -> Result<Option<Vec<PartSteps<'a>>>, AllocError>
-    ensures { (f : Value) (s : List ℕ) (ss : List (List ℕ)) (l : InSlot) → IsView root.now f → path.now ≡ s ∷ ss → holder_at (table_of root.now) (slot_of root.now, f) s ss ≡ Some l → is_holder (seen (table_of root.now) l) ≡ true → IfOk result (λ r. IsSomeAnd r (λ steps. LeadAlong (table_of root.now) (slot_of root.now, f) s ss steps.items)) }
+    ensures { FindsSteps root.now path.now result }
 {
     match last_holder(alloc, root, path)? {
         Some(last) => Ok(Some(last.steps)),

@@ -9,6 +9,7 @@ pub mod Parts
 pub mod Rooted
 pub mod Endings
 pub mod Inner
+pub mod Innermost
 pub mod Comes
 pub mod Exhausting
 pub mod Links

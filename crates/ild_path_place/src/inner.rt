@@ -1,27 +1,14 @@
 //! The end of a path in the innermost block.
 ghost use Rattle.std.specs.Option.{ForSome};
-ghost use Rattle.std.specs.Prelude.{◌≡◌, ◌≤◌, ℕ, All, IfOk, List, Some, false};
-ghost use Rattle.ild_data.specs.Data.{Data};
-ghost use Rattle.ild_data.specs.Spell.{id_of};
+ghost use Rattle.std.specs.Prelude.{◌≡◌, ◌≤◌, All, IfOk, Some, false};
 ghost use Rattle.ild_open_parts.specs.Reads.{OnlyReads};
-ghost use Rattle.ild_path_found.specs.Sites.{block_in};
-ghost use Rattle.ild_path_inward.specs.Halts.{room_stopped};
-ghost use Rattle.ild_path_inward.specs.Inwards.{CanGoOn};
 ghost use Rattle.ild_path_inward.specs.Levels.{IsUnder};
-ghost use Rattle.ild_path_inward.specs.Refuses.{IsDataBehind, block_behind};
-ghost use Rattle.ild_path_place.specs.Holes.{VerbHole};
-ghost use Rattle.ild_path_place.specs.Inner.{CanEnd, EndsThere, LeadsTo};
 ghost use Rattle.ild_path_hops.specs.Links.{PartBehind};
 ghost use Rattle.ild_path_place.specs.Links.{EndBehind, EndFollows, is_whole};
-ghost use Rattle.ild_path_place.specs.Refuses.{RefusesBroken};
 ghost use Rattle.ild_path_place.specs.Rooted.{FailsOnly};
-ghost use Rattle.ild_path_place.specs.Rooms.{HasRoom};
 ghost use Rattle.ild_path_place.specs.Slots.{IsPartSlot};
-ghost use Rattle.ild_schema.specs.Value.{Value};
-ghost use Rattle.ild_schema.specs.declared.number.Slot.{Slot};
-ghost use Rattle.ild_typed.specs.At.{InSlot};
-ghost use Rattle.ild_typed.specs.Fits.{Front};
-ghost use Rattle.ild_view.specs.View.{IsView, piece_of, slot_of, table_of};
+ghost use Rattle.ild_view.specs.View.{table_of};
+ghost use Rattle.ild_path_place.specs.Innermost.{FindsEnd, FindsEndBehind, RefusesAtEnd, RefusesBehind, TellsHole, TellsHoleBehind, TellsRoom, TellsRoomBehind};
 
 use crate::ending::{Found, end_at_key, end_in_block};
 use crate::fault::PathFault;
@@ -58,12 +45,10 @@ fn end_of<'b, K: Store, H: KeyHash>(
     ensures inside { IfOk result (λ found. is_whole found.end ≡ false) }
     ensures leads { IfOk result (λ found. EndFollows inner.now front found.end) }
     ensures deep { IfOk result (λ found. ForSome found.room (λ n. n ≤ 96)) }
-    ensures room { (was : List (List ℕ)) (limit : ℕ) (q holder : InSlot) (d : Data) → CanEnd H.hash_of acc.now was limit q d inner.now → LeadsTo acc.now limit q front room holder → IfOk result (λ found. HasRoom acc.now holder.0 room last.now found.room) }
-    ensures hole { (was : List (List ℕ)) (limit : ℕ) (q holder : InSlot) (d : Data) → CanEnd H.hash_of acc.now was limit q d inner.now → LeadsTo acc.now limit q front room holder → IfOk result (λ found. VerbHole acc.now holder last.now verb found.hole) }
-    ensures refused { (f : Value) (t : Data) (less : ℕ) → IsView inner.now f → Front acc.now less (slot_of inner.now) f t → room ≡ room_stopped acc.now less (slot_of inner.now, f) front
-        → RefusesBroken H.hash_of acc.now (id_of block.now) less (slot_of inner.now) t (K.moment store.old) result (K.moment store.new) }
-    ensures told { (was : List (List ℕ)) (limit : ℕ) (q holder : InSlot) (d : Data) → (K.moment store.old).blocks ≡ Some was → CanEnd H.hash_of acc.now was limit q d inner.now → LeadsTo acc.now limit q front room holder
-        → EndsThere H.hash_of acc.now was limit q front holder last.now k verb (K.moment store.old) result (K.moment store.new) }
+    ensures room { TellsRoom H.hash_of acc.now inner.now front last.now room result }
+    ensures hole { TellsHole H.hash_of acc.now inner.now front last.now room verb result }
+    ensures refused { RefusesAtEnd H.hash_of acc.now inner.now block.now front room (K.moment store.old) result (K.moment store.new) }
+    ensures told { FindsEnd H.hash_of acc.now inner.now front last.now k room verb (K.moment store.old) result (K.moment store.new) }
 {
     // They do no work: their clauses say what acceptance says of the table, and that the parts of a front stand in its data.
     let _types = acc.types();
@@ -100,12 +85,10 @@ pub(crate) fn end_behind<'b, K: Store, H: KeyHash>(
     ensures inside { IfOk result (λ found. is_whole found.end ≡ false) }
     ensures leads { PartBehind root.now hops.now front → IfOk result (λ found. EndBehind root.now hops.now found.end) }
     ensures deep { IfOk result (λ found. ForSome found.room (λ n. n ≤ 96)) }
-    ensures room { (was : List (List ℕ)) (limit : ℕ) (q holder : InSlot) (d : Data) → CanGoOn H.hash_of acc.now was limit q d root.now hops.now → LeadsTo acc.now limit q front room holder → IfOk result (λ found. HasRoom acc.now holder.0 room last.now found.room) }
-    ensures hole { (was : List (List ℕ)) (limit : ℕ) (q holder : InSlot) (d : Data) → CanGoOn H.hash_of acc.now was limit q d root.now hops.now → LeadsTo acc.now limit q front room holder → IfOk result (λ found. VerbHole acc.now holder last.now verb found.hole) }
-    ensures refused { (s : Slot) (f : Value) (t : Data) (less : ℕ) → IsDataBehind acc.now root.now hops.now less s t f → room ≡ room_stopped acc.now less (s, f) front
-        → RefusesBroken H.hash_of acc.now (id_of (block_behind (block_in (piece_of root.now)) hops.now)) less s t (K.moment store.old) result (K.moment store.new) }
-    ensures told { (was : List (List ℕ)) (limit : ℕ) (q holder : InSlot) (d : Data) → (K.moment store.old).blocks ≡ Some was → CanGoOn H.hash_of acc.now was limit q d root.now hops.now → LeadsTo acc.now limit q front room holder
-        → EndsThere H.hash_of acc.now was limit q front holder last.now k verb (K.moment store.old) result (K.moment store.new) }
+    ensures room { TellsRoomBehind H.hash_of acc.now root.now hops.now front last.now room result }
+    ensures hole { TellsHoleBehind H.hash_of acc.now root.now hops.now front last.now room verb result }
+    ensures refused { RefusesBehind H.hash_of acc.now root.now hops.now front room (K.moment store.old) result (K.moment store.new) }
+    ensures told { FindsEndBehind H.hash_of acc.now root.now hops.now front last.now k room verb (K.moment store.old) result (K.moment store.new) }
 {
     let block = block_under(block_of(root), hops);
     match hops.last() {

@@ -1,6 +1,6 @@
 -- How many levels a part may nest at the end of a path, so that the whole value stays within its limit: what the limit leaves, and
 -- whether a key may stand there by itself.
-use Rattle.std.specs.Prelude.{◌≡◌, ◌↔◌, ℕ, List, [], ◌∷◌, Bool, Option, Some, None}
+use Rattle.std.specs.Prelude.{◌≡◌, ◌↔◌, ℕ, List, [], ◌∷◌, Bool, Option, Some, None, ◌-◌, Result, IfOk}
 use Rattle.std.specs.Option.{option_map_or}
 use Rattle.ild_data.specs.Data as T
 use Rattle.ild_schema.specs.declared.def.TypeDef.{TypeDef}
@@ -8,7 +8,7 @@ use Rattle.ild_schema.specs.declared.def.TypeDef.TheVariants as D
 use Rattle.ild_schema.specs.declared.number.Slot.{Slot}
 use Rattle.ild_schema.specs.declared.row.Row.{Row}
 use Rattle.ild_schema.specs.Prelude.{number}
-use Rattle.ild_schema.specs.Slots.{plainly}
+use Rattle.ild_schema.specs.Slots.{plainly, form_of}
 use Rattle.ild_schema.specs.Value.{Value}
 use Rattle.ild_typed.specs.At.{InSlot, seen, last_holder, changed_in}
 use Rattle.ild_typed.specs.Fits.{Fits}
@@ -16,8 +16,11 @@ use Rattle.ild_typed.specs.Holder.{Holder, entries}
 use Rattle.ild_typed.specs.Layers.{Shows}
 use Rattle.ild_typed.specs.OfType.{OfType, TestsKeys}
 use Rattle.ild_typed.specs.Segment.{part, set_part}
-use Rattle.ild_path_edits.specs.Along.{room_below}
+use Rattle.ild_path_edits.specs.Along.{room_below, taken}
 use Rattle.ild_path_edits.specs.Table.{MayStand, slot_to_set, slot_to_insert, insert_part}
+use Rattle.std.specs.declared.alloc.AllocError.{AllocError}
+use Rattle.ild_view.specs.View.{IsView, slot_of, table_of}
+use Rattle.ild_view.specs.declared.view.View.{View}
 
 -- how a part comes to its place
 pub data Coming : Type 0 where
@@ -67,3 +70,17 @@ TellsRoom rows limit p path o =
     (is_key : ℕ → List ℕ → Bool) → TestsKeys rows is_key → (how : Coming) (s : List ℕ) (ss : List (List ℕ)) (l : Holder × List ℕ) (slot : Slot) (w : Value)
     → path ≡ s ∷ ss → last_holder rows p s ss ≡ Some l → slot_for how l.0 l.1 ≡ Some slot → MayStand is_key l.0 l.1 → OfType rows slot w
     → Fits rows limit p.0 (changed_in rows (brought how w) p s ss) ↔ FitsIn rows slot w o
+
+-- ---- in a view
+
+-- what is answered is the room that the last holder, which is the view's item, leaves to a part at a segment
+abbrev pub LeavesIn : View → List ℕ → ℕ → Result (Option ℕ) AllocError → Type 0
+LeavesIn v s room result =
+    (f : Value) → IsView v f → HasPlace (seen (table_of v) (slot_of v, f)) s
+    → IfOk result (IsRoom (table_of v) (room - taken (form_of (table_of v) (slot_of v))) (seen (table_of v) (slot_of v, f)) s)
+
+-- it is what a limit leaves at the end of a path from the view's item, where there is a place for a part
+abbrev pub LeavesAt : View → List (List ℕ) → ℕ → Result (Option ℕ) AllocError → Type 0
+LeavesAt root path limit result =
+    (f : Value) (s : List ℕ) (ss : List (List ℕ)) (l : Holder × List ℕ) → IsView root f → path ≡ s ∷ ss → last_holder (table_of root) (slot_of root, f) s ss ≡ Some l → HasPlace l.0 l.1
+    → IfOk result (IsRoom (table_of root) (room_left (table_of root) limit (slot_of root, f) path) l.0 l.1)

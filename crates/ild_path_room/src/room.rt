@@ -1,13 +1,10 @@
 //! How many levels a path leaves to the part at its end.
-ghost use Rattle.std.specs.Prelude.{◌≡◌, ◌<◌, ◌↔◌, ◌-◌, ◌∷◌, [], ℕ, IfOk, List, Ok, Some, length, true};
-ghost use Rattle.ild_path_edits.specs.Along.{taken};
-ghost use Rattle.ild_path_room.specs.Room.{FormKeyFits, HasPlace, IsRoom, TellsRoom, room_left};
+ghost use Rattle.std.specs.Prelude.{◌≡◌, ◌<◌, ◌↔◌, ◌-◌, [], IfOk, Ok, Some, length, true};
+ghost use Rattle.ild_path_room.specs.Room.{FormKeyFits, TellsRoom, room_left, LeavesIn, LeavesAt};
 ghost use Rattle.ild_schema.specs.Slots.{form_of};
 ghost use Rattle.ild_schema.specs.Table.{IsWithin};
 ghost use Rattle.ild_schema.specs.Value.{Value};
-ghost use Rattle.ild_typed.specs.At.{last_holder, seen};
 ghost use Rattle.ild_typed.specs.Fits.{Fits};
-ghost use Rattle.ild_typed.specs.Holder.{Holder};
 ghost use Rattle.ild_view.specs.View.{IsView, slot_of, table_of};
 
 use crate::form::{form_of, levels};
@@ -41,7 +38,7 @@ fn last_room(
     segment: &str,
     room: u32,
 ) -> Result<Option<u32>, AllocError>
-    ensures { (f : Value) → IsView view.now f → HasPlace (seen (table_of view.now) (slot_of view.now, f)) segment.now → IfOk result (IsRoom (table_of view.now) (room - taken (form_of (table_of view.now) (slot_of view.now))) (seen (table_of view.now) (slot_of view.now, f)) segment.now) }
+    ensures { LeavesIn view.now segment.now room result }
 {
     let left = room.saturating_sub(levels(view));
     if key_fits(alloc, view.schema(), form_of(view), segment, left)? {
@@ -58,7 +55,7 @@ fn room_at(
     segments: &[Txt],
     limit: u32,
 ) -> Result<Option<u32>, AllocError>
-    ensures { (f : Value) (s : List ℕ) (ss : List (List ℕ)) (l : Holder × List ℕ) → IsView root.now f → segments.now ≡ s ∷ ss → last_holder (table_of root.now) (slot_of root.now, f) s ss ≡ Some l → HasPlace l.0 l.1 → IfOk result (IsRoom (table_of root.now) (room_left (table_of root.now) limit (slot_of root.now, f) segments.now) l.0 l.1) }
+    ensures { LeavesAt root.now segments.now limit result }
 {
     let mut left = segments;
     let mut view = *root;
@@ -87,7 +84,7 @@ pub fn room_left(
     limit: u32,
 ) -> Result<Option<u32>, AllocError>
     ensures whole { path.now ≡ [] → result ≡ Ok (Some limit) }
-    ensures room { (f : Value) (s : List ℕ) (ss : List (List ℕ)) (l : Holder × List ℕ) → IsView root.now f → path.now ≡ s ∷ ss → last_holder (table_of root.now) (slot_of root.now, f) s ss ≡ Some l → HasPlace l.0 l.1 → IfOk result (IsRoom (table_of root.now) (room_left (table_of root.now) limit (slot_of root.now, f) path.now) l.0 l.1) }
+    ensures room { LeavesAt root.now path.now limit result }
     ensures tells { (f : Value) → IsView root.now f → Fits (table_of root.now) limit (slot_of root.now) f → IfOk result (TellsRoom (table_of root.now) limit (slot_of root.now, f) path.now) }
 {
     // It does no work: its clauses say what acceptance says of the table.

@@ -20,6 +20,11 @@ use Rattle.ild_schema.specs.declared.number.Slot.{Slot}
 use Rattle.ild_schema.specs.declared.number.TypeNo.{TypeNo}
 use Rattle.ild_schema.specs.declared.row.Row.{Row}
 use Rattle.ild_typed.specs.Holder.{Holder, any_elements, any_entries, elements, entries, fields, member, nothing}
+use Rattle.ild_path_edits.specs.Table.{key_fits}
+use Rattle.ild_typed.specs.At.{seen}
+use Rattle.ild_typed.specs.OfType.{TestsKeys}
+use Rattle.ild_view.specs.View.{IsView, slot_of, table_of}
+use Rattle.ild_view.specs.declared.view.View.{View}
 
 -- the fields of a struct, each with its value or none
 pub record HoldsFields (rows : List Row) (s : Slot) (def : StructDef) (h : Holder) : Type 0 where
@@ -98,3 +103,13 @@ key_in (elements slot vs) = None
 key_in (any_entries ms) = None
 key_in (any_elements ds) = None
 key_in (nothing v) = None
+
+-- ---- in a view
+
+-- the view's item is a map, and its keys have this type
+abbrev pub HasKeys : View → ℕ → Type 0
+HasKeys v key = (f : Value) → IsView v f → Some key ≡ key_in (seen (table_of v) (slot_of v, f))
+
+-- what is answered is whether a segment may be a key in the view's item
+abbrev pub JudgesKey : View → List ℕ → Bool → Type 0
+JudgesKey v s fits = (f : Value) (is_key : ℕ → List ℕ → Bool) → IsView v f → TestsKeys (table_of v) is_key → fits ≡ key_fits is_key (seen (table_of v) (slot_of v, f)) s

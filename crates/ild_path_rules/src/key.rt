@@ -1,10 +1,9 @@
 //! What may be a key.
-ghost use Rattle.std.specs.Prelude.{◌≡◌, ◌<◌, Bool, IfOk, IfSome, List, Some, length, option_map, ℕ};
-ghost use Rattle.ild_path_rules.specs.Form.{key_in};
+ghost use Rattle.std.specs.Prelude.{◌≡◌, ◌<◌, IfOk, IfSome, Some, length, option_map};
+ghost use Rattle.ild_path_rules.specs.Form.{key_in, HasKeys, JudgesKey};
 ghost use Rattle.ild_path_edits.specs.Table.{key_fits};
 ghost use Rattle.ild_schema.specs.Value.{Value};
 ghost use Rattle.ild_typed.specs.At.{seen};
-ghost use Rattle.ild_typed.specs.OfType.{TestsKeys};
 ghost use Rattle.ild_view.specs.View.{IsView, slot_of, table_of};
 
 use crate::form::{Form, form_of_view};
@@ -36,7 +35,7 @@ fn is_there_or_fits(
     segment: &str,
 ) -> Result<bool, AllocError>
     requires { key.0 < length (table_of view.now) }
-    ensures { ((f : Value) → IsView view.now f → Some key.0 ≡ key_in (seen (table_of view.now) (slot_of view.now, f))) → IfOk result (λ fits. (f : Value) (is_key : ℕ → List ℕ → Bool) → IsView view.now f → TestsKeys (table_of view.now) is_key → fits ≡ key_fits is_key (seen (table_of view.now) (slot_of view.now, f)) segment.now) }
+    ensures { HasKeys view.now key.0 → IfOk result (λ fits. JudgesKey view.now segment.now fits) }
 {
     if is_there(view, segment) {
         Ok(true)
@@ -48,7 +47,7 @@ fn is_there_or_fits(
 /// Whether a segment may be a key: in a map whose keys have a type it is one that is there, or a text of that type. In all else it may.
 /// An error is want of memory, which a key of many parts may take.
 pub fn key_fits(alloc: Global, view: &View<'_>, segment: &str) -> Result<bool, AllocError>
-    ensures { IfOk result (λ fits. (f : Value) (is_key : ℕ → List ℕ → Bool) → IsView view.now f → TestsKeys (table_of view.now) is_key → fits ≡ key_fits is_key (seen (table_of view.now) (slot_of view.now, f)) segment.now) }
+    ensures { IfOk result (λ fits. JudgesKey view.now segment.now fits) }
 {
     match key_of(view) {
         Some(key) => is_there_or_fits(alloc, view, key, segment),

@@ -1,5 +1,5 @@
 -- What the steps to a part do to a change of the part: where it is seen in the data of the holder.
-use Rattle.std.specs.Prelude.{◌≡◌, ℕ, Bool, false, List, [], ◌∷◌, Option, Some, None, slice_get, if◌then◌else◌}
+use Rattle.std.specs.Prelude.{◌≡◌, ℕ, Bool, false, List, [], ◌∷◌, Option, Some, None, slice_get, if◌then◌else◌, IsSomeAnd}
 use Rattle.std.specs.Option.{option_map_or}
 use Rattle.ild_splice_changes.specs.TreeChange.{nth, key, Located, part_at}
 use Rattle.ild_data.specs.Data as T
@@ -25,10 +25,12 @@ use Rattle.ild_typed.specs.Hamt.{alone}
 use Rattle.ild_typed.specs.Holder.{Holder, value_of}
 use Rattle.ild_typed.specs.Layer as L
 use Rattle.ild_typed.specs.Represented.{represented}
-use Rattle.ild_typed.specs.Segment.{set_part}
+use Rattle.ild_typed.specs.Segment.{set_part, part}
 use Rattle.ild_typed.specs.Strings.{map_data}
 use Rattle.ild_path_steps.specs.declared.steps.PartSteps.{PartSteps}
 use Rattle.ild_path_steps.specs.declared.steps.PartSteps.TheVariants as P
+use Rattle.ild_cbor.specs.declared.piece.Piece.{Piece}
+use Rattle.ild_layer_piece.specs.Pieces.{StandsFor}
 
 -- the change in the holder's data, where those become w
 abbrev pub carried : PartSteps → Option Data → Located → Located
@@ -121,3 +123,18 @@ is_left_out d s x = false
 pub record StepsTo (rows : List Row) (p : InSlot) (s : List ℕ) (q : InSlot) (steps : PartSteps) : Type 0 where
   pub each : (c : Value) (x : Data) (e : Located) → represented alone rows q.0 c ≡ Some x → is_left_out (form_of rows p.0) s x ≡ false
       → lift alone rows p s c e ≡ carried steps (represented alone rows p.0 (value_of (set_part (seen rows p) s c))) e
+
+-- whatever value of the slot stands as the piece, with data t, and whatever part q of it the segment leads to, with data d which
+-- a block does not leave out
+abbrev pub EachPart : List Row → Slot → Piece → List ℕ → (Value → Data → Data → InSlot → Type 0) → Type 0
+EachPart rows slot piece s P =
+    (f : Value) (t d : Data) (q : InSlot) → represented alone rows slot f ≡ Some t → StandsFor rows piece t → part (seen rows (slot, f)) s ≡ Some q
+    → represented alone rows q.0 q.1 ≡ Some d → is_left_out (form_of rows slot) s d ≡ false → P f t d q
+
+-- the steps to it are found, and each change is seen as they say
+abbrev pub LiftsPart : List Row → Slot → Piece → List ℕ → Option PartSteps → Type 0
+LiftsPart rows slot piece s result = EachPart rows slot piece s (λ f t d q. IsSomeAnd result (StepsTo rows (slot, f) s q))
+
+-- they lead from the data of the value to those of the part
+abbrev pub LeadsPart : List Row → Slot → Piece → List ℕ → Option PartSteps → Type 0
+LeadsPart rows slot piece s result = EachPart rows slot piece s (λ f t d q. FoundLead result t d)

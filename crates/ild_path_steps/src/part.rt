@@ -1,14 +1,6 @@
 //! The parts of a value, by the form of its type.
-ghost use Rattle.std.specs.Prelude.{◌≡◌, ◌<◌, IsSomeAnd, Some, false, length};
-ghost use Rattle.ild_data.specs.Data.{Data};
-ghost use Rattle.ild_layer_piece.specs.Pieces.{StandsFor};
-ghost use Rattle.ild_schema.specs.Slots.{form_of};
-ghost use Rattle.ild_schema.specs.Value.{Value};
-ghost use Rattle.ild_path_steps.specs.Steps.{FoundLead, StepsTo, is_left_out};
-ghost use Rattle.ild_typed.specs.At.{InSlot, seen};
-ghost use Rattle.ild_typed.specs.Hamt.{alone};
-ghost use Rattle.ild_typed.specs.Represented.{represented};
-ghost use Rattle.ild_typed.specs.Segment.{part};
+ghost use Rattle.std.specs.Prelude.{◌<◌, Some, length};
+ghost use Rattle.ild_path_steps.specs.Steps.{LiftsPart, LeadsPart};
 
 use crate::any::{any_steps, item_steps};
 use crate::map::map_steps;
@@ -27,8 +19,8 @@ pub fn steps_to<'a>(
     segment: &'a str,
 ) -> Option<PartSteps<'a>>
     requires { slot.ty.0 < length acc.now }
-    ensures lifts { (f : Value) (t d : Data) (q : InSlot) → represented alone acc.now slot f ≡ Some t → StandsFor acc.now piece.now t → part (seen acc.now (slot, f)) segment.now ≡ Some q → represented alone acc.now q.0 q.1 ≡ Some d → is_left_out (form_of acc.now slot) segment.now d ≡ false → IsSomeAnd result (StepsTo acc.now (slot, f) segment.now q) }
-    ensures leads { (f : Value) (t d : Data) (q : InSlot) → represented alone acc.now slot f ≡ Some t → StandsFor acc.now piece.now t → part (seen acc.now (slot, f)) segment.now ≡ Some q → represented alone acc.now q.0 q.1 ≡ Some d → is_left_out (form_of acc.now slot) segment.now d ≡ false → FoundLead result t d }
+    ensures lifts { LiftsPart acc.now slot piece.now segment.now result }
+    ensures leads { LeadsPart acc.now slot piece.now segment.now result }
 {
     // It does no work: its clauses say what acceptance says of the table.
     let _types = acc.types();

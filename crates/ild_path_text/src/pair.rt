@@ -1,9 +1,9 @@
 //! The text of pairs of which one is set, comes or goes (IPLD Schemas, "stringpairs").
-ghost use Rattle.std.specs.List.{AllByRecursion, list_all};
-ghost use Rattle.std.specs.Prelude.{◌≡◌, ◌<◌, IfOk, List, ℕ, Some, insert, length, map, option_map, remove, string_bytes};
-ghost use Rattle.ild_schema.specs.Joins.{IsPair, joined, pair_text};
+ghost use Rattle.std.specs.List.{list_all};
+ghost use Rattle.std.specs.Prelude.{◌≡◌, ◌<◌, IfOk, List, ℕ, Some, length, option_map, remove, string_bytes};
+ghost use Rattle.ild_schema.specs.Joins.{joined};
 ghost use Rattle.ild_typed.specs.Texts.{is_parted, join_pairs};
-ghost use Rattle.ild_path_text.specs.Changed.{changed, value_set};
+ghost use Rattle.ild_path_text.specs.Changed.{changed, SetsValue, InsertsPair};
 ghost use Rattle.ild_path_text.specs.Left.{parts_left};
 
 use crate::PairChange;
@@ -25,7 +25,7 @@ fn with_value(
 ) -> Result<String, AllocError>
     requires inner_some { 0 < length inner.now }
     requires entry_some { 0 < length entry.now }
-    ensures { (pairs : List (List ℕ × List ℕ)) → map (pair_text inner.now) pairs ≡ parts_left entry.now (option_map (λ t. t.now) left.entry) → AllByRecursion (IsPair inner.now) pairs → IfOk result (λ out. string_bytes out ≡ joined entry.now (map (pair_text inner.now) (value_set place new.now pairs))) }
+    ensures { SetsValue inner.now entry.now (option_map (λ t. t.now) left.entry) place new.now result }
 {
     let mut out = String::new(alloc);
     let Some(rest) = add_front(&mut out, left, entry, place)? else {
@@ -51,7 +51,7 @@ fn with_pair(
     new: &str,
 ) -> Result<String, AllocError>
     requires { 0 < length entry.now }
-    ensures { (pairs : List (List ℕ × List ℕ)) → map (pair_text inner.now) pairs ≡ parts_left entry.now (option_map (λ t. t.now) left.entry) → IfOk result (λ out. string_bytes out ≡ joined entry.now (map (pair_text inner.now) (insert pairs place (key.now, new.now)))) }
+    ensures { InsertsPair inner.now entry.now (option_map (λ t. t.now) left.entry) place key.now new.now result }
 {
     let mut out = String::new(alloc);
     let rest = add_front(&mut out, left, entry, place)?;

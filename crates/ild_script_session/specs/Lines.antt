@@ -56,3 +56,17 @@ module _ {V : Type 0} (Stood Stands : Meaning V → Stage V → Type 0) where
     pub ran : (M : Meaning V) (s : Stage V) → Stood M s → Ran M (Stands M) m s first replies n
     pub later : Later m n
     pub written : AppendsFront was now (texts replies)
+
+-- ---- the same where what `Stood` and `Stands` say goes by what the store holds, at each of the two moments
+
+abbrev pub AnswersLine : {V : Type 0} (Stood Stands : Moment → Meaning V → Stage V → Type 0) → Moment → List ℕ → Moment → Option (List ℕ) → Option (List ℕ) → Bool → Type 0
+AnswersLine Stood Stands m line n was now refused = LineDone (Stood m) (Stands n) m line n was now refused
+
+abbrev pub CutsLine : {V : Type 0} (Stood Stands : Moment → Meaning V → Stage V → Type 0) → Moment → List ℕ → Moment → Option (List ℕ) → Option (List ℕ) → Type 0
+CutsLine Stood Stands m line n was now = LineCut (Stood m) (Stands n) m line n was now
+
+abbrev pub AnswersLines : {V : Type 0} (Stood Stands : Moment → Meaning V → Stage V → Type 0) → Moment → List (List ℕ) → Moment → Option (List ℕ) → Option (List ℕ) → Bool → Type 0
+AnswersLines Stood Stands m lines n was now refused = LinesDone (Stood m) (Stands n) m lines n was now refused
+
+abbrev pub CutsLines : {V : Type 0} (Stood Stands : Moment → Meaning V → Stage V → Type 0) → Moment → List (List ℕ) → Moment → Option (List ℕ) → Option (List ℕ) → Type 0
+CutsLines Stood Stands m lines n was now = LinesCut (Stood m) (Stands n) m lines n was now

@@ -4,7 +4,7 @@ ghost use Rattle.ild_edges.specs.Count.{Rose};
 ghost use Rattle.ild_edges.specs.Sink.{Appends, AppendsFront};
 ghost use Rattle.ild_script.specs.Line.{lines_of, is_feed};
 ghost use Rattle.ild_script.specs.Reply.{reply_text, is_no};
-ghost use Rattle.ild_script_session.specs.Lines.{lines_left, bytes_left, LineDone, LineCut, LinesDone, LinesCut};
+ghost use Rattle.ild_script_session.specs.Lines.{lines_left, bytes_left, AnswersLine, AnswersLines, CutsLine, CutsLines};
 ghost use Rattle.ild_script_session.specs.declared.cut.Cut.TheVariants as cut;
 
 use crate::{Cut, Session, write};
@@ -60,8 +60,8 @@ fn answer_and_write<S: Session, K: Store, W: Sink>(
     store: &mut K,
     out: &mut W,
 ) -> Result<bool, Cut>
-    ensures done { IfOk result (λ refused. LineDone (S.stands session.old (K.moment store.old)) (S.stands session.new (K.moment store.new)) (K.moment store.old) line.now (K.moment store.new) (W.output out.old).written (W.output out.new).written refused) }
-    ensures part { OnErr result (LineCut (S.stands session.old (K.moment store.old)) (S.stands session.new (K.moment store.new)) (K.moment store.old) line.now (K.moment store.new) (W.output out.old).written (W.output out.new).written) }
+    ensures done { IfOk result (λ refused. AnswersLine (S.stands session.old) (S.stands session.new) (K.moment store.old) line.now (K.moment store.new) (W.output out.old).written (W.output out.new).written refused) }
+    ensures part { OnErr result (CutsLine (S.stands session.old) (S.stands session.new) (K.moment store.old) line.now (K.moment store.new) (W.output out.old).written (W.output out.new).written) }
     ensures same { S.subject session.new ≡ S.subject session.old }
     ensures faults { (W.output out.old).faults ≤ (W.output out.new).faults }
     ensures sink { IsErrOf result cut.Sink → Rose (W.output out.old).faults (W.output out.new).faults }
@@ -83,8 +83,8 @@ pub fn answer_all<S: Session, K: Store, W: Sink>(
     store: &mut K,
     out: &mut W,
 ) -> Result<bool, Cut>
-    ensures done { IfOk result (λ refused. LinesDone (S.stands session.old (K.moment store.old)) (S.stands session.new (K.moment store.new)) (K.moment store.old) (lines_of script.now) (K.moment store.new) (W.output out.old).written (W.output out.new).written refused) }
-    ensures part { OnErr result (LinesCut (S.stands session.old (K.moment store.old)) (S.stands session.new (K.moment store.new)) (K.moment store.old) (lines_of script.now) (K.moment store.new) (W.output out.old).written (W.output out.new).written) }
+    ensures done { IfOk result (λ refused. AnswersLines (S.stands session.old) (S.stands session.new) (K.moment store.old) (lines_of script.now) (K.moment store.new) (W.output out.old).written (W.output out.new).written refused) }
+    ensures part { OnErr result (CutsLines (S.stands session.old) (S.stands session.new) (K.moment store.old) (lines_of script.now) (K.moment store.new) (W.output out.old).written (W.output out.new).written) }
     ensures same { S.subject session.new ≡ S.subject session.old }
     ensures faults { (W.output out.old).faults ≤ (W.output out.new).faults }
     ensures sink { IsErrOf result cut.Sink → Rose (W.output out.old).faults (W.output out.new).faults }
