@@ -1,5 +1,5 @@
--- How many entries stand in a node and beneath it, where more than a bucket takes stand beneath each child (IPLD HashMap, "no node may
--- hold so few entries that a bucket takes them").
+-- How many entries stand in a node and beneath it, where more than a bucket takes stand beneath each child (IPLD HashMap, "Canonical form":
+-- a child whose entries a bucket takes is folded into one).
 use Rattle.std.specs.Prelude.{ℕ, ◌+◌, List, [], ◌∷◌, length}
 use Rattle.ild_data.specs.Trie.{TrieSlot, empty, bucket, child}
 use Rattle.ild_data.specs.declared.hamt_shape.HamtShape.{HamtShape}

@@ -39,29 +39,7 @@ impl Model for Schema {
     ghost invariant = { λ a. IsHeld a.rows.items a.names.items a.numbers.items a.ends.items a.parts.items };
 }
 
-/// The declared names of a table.
-fn names_in(alloc: Global, rows: &[Row]) -> Result<Vec<Txt>, AllocError>
-    ensures { IfOk result (λ names. names.items ≡ declared_names rows.now) }
-{
-    let mut names = Vec::new(alloc);
-    for row in rows {
-        if row.origin.is_declared() {
-            names.push(row.name.copy()?)?;
-        }
-    }
-    Ok(names)
-}
-
 impl Schema {
-    /// The schema of a table.
-    pub fn of(alloc: Global, rows: Vec<Row>) -> Result<Schema, AllocError>
-        requires { IsTable rows.items }
-        ensures { IfOk result (λ schema. schema ≡ rows.items) }
-    {
-        let names = names_in(alloc, &rows)?;
-        Schema::with_names(alloc, rows, names)
-    }
-
     /// The schema of a table whose declared names are listed.
     pub fn with_names(alloc: Global, rows: Vec<Row>, names: Vec<Txt>) -> Result<Schema, AllocError>
         requires table { IsTable rows.items }
