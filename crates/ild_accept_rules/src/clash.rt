@@ -14,35 +14,15 @@ ghost use Rattle.ild_schema.specs.declared.def.EnumForm.TheVariants as E;
 ghost use Rattle.ild_schema.specs.declared.def.TypeDef.TheVariants as D;
 ghost use Rattle.ild_accept_rules.specs.Seen.{first_named, first_spelled, is_before, is_one, is_seen, is_member_seen, is_told_before};
 
-use crate::decimal::decimal_of;
 use crate::seen::{is_before, see_first, see_number};
 use ild_data::Txt;
 use ild_schema::{
     EnumDef, EnumForm, EnumMember, Field, Mark, Member, Schema, StructDef, TypeDef, TypeNo,
-    UnionDef, UnionForm,
+    UnionDef, UnionForm, text_of_field, text_of_member,
 };
+use ild_text::decimal_of;
 use std::alloc::{AllocError, Global};
 use std::collections::BTreeSet;
-
-/// The name of a field in a block: the text that it is renamed to, or its name.
-pub fn field_text(field: &Field) -> &Txt
-    ensures { result.now ≡ field_text field.now }
-{
-    match &field.rename {
-        Some(text) => text,
-        None => &field.name,
-    }
-}
-
-/// The text of an enum's member in a block: the one behind it, or its name.
-pub fn member_text(member: &EnumMember) -> &Txt
-    ensures { result.now ≡ member_text member.now }
-{
-    match &member.text {
-        Some(text) => text,
-        None => &member.name,
-    }
-}
 
 /// Whether a part before this one has a name.
 fn is_named_before(schema: &Schema, ty: TypeNo, part: usize, name: &Txt) -> bool
@@ -53,11 +33,11 @@ fn is_named_before(schema: &Schema, ty: TypeNo, part: usize, name: &Txt) -> bool
 }
 
 /// Whether a part before this one stands in a block under a text.
-fn is_spelled_before(schema: &Schema, ty: TypeNo, part: usize, text: &Txt) -> bool
+fn is_spelled_before(schema: &Schema, ty: TypeNo, part: usize, text: &str) -> bool
     requires { ty.0 < length schema.now }
     ensures { result ≡ is_before part (first_spelled schema.now ty.0 text.now) }
 {
-    is_before(part, schema.part_spelled(ty, text.as_str()))
+    is_before(part, schema.part_spelled(ty, text))
 }
 
 /// Whether a field has the name, or the name in a block, of one before it.
@@ -66,7 +46,7 @@ fn is_field_again(schema: &Schema, ty: TypeNo, part: usize, field: &Field) -> bo
     ensures { result ≡ is_before part (first_named schema.now ty.0 field.now.name) || is_before part (first_spelled schema.now ty.0 (field_text field.now)) }
 {
     is_named_before(schema, ty, part, &field.name)
-        || is_spelled_before(schema, ty, part, field_text(field))
+        || is_spelled_before(schema, ty, part, text_of_field(field))
 }
 
 fn field_again(schema: &Schema, ty: TypeNo, def: &StructDef) -> Option<usize>
@@ -88,7 +68,7 @@ fn is_text_again(schema: &Schema, ty: TypeNo, part: usize, member: &EnumMember) 
     ensures { result ≡ is_before part (first_named schema.now ty.0 member.now.name) || is_before part (first_spelled schema.now ty.0 (member_text member.now)) }
 {
     is_named_before(schema, ty, part, &member.name)
-        || is_spelled_before(schema, ty, part, member_text(member))
+        || is_spelled_before(schema, ty, part, text_of_member(member))
 }
 
 fn text_again(schema: &Schema, ty: TypeNo, def: &EnumDef) -> Option<usize>

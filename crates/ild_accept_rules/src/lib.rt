@@ -3,14 +3,13 @@
 #![tactic(auto)]
 
 mod clash;
-mod decimal;
 mod delimiter;
 mod hex;
 mod prefix;
 mod seen;
 mod strategy;
 
-pub use clash::{field_text, member_integer, member_text, name_fault};
+pub use clash::{member_integer, name_fault};
 pub use delimiter::delim_fault;
 pub use hex::bytes_of_hex;
 pub use prefix::prefix_fault;

@@ -194,8 +194,7 @@ pub(crate) fn open_union<'b>(
     ensures parted { (t : Data) → StandsFor acc.now piece.now t → Parted acc.now (union_parts def.now.form def.now.members t) result }
     ensures ready { IsReady acc.now result }
 {
-    // It does no work: its clauses say what acceptance says of the union.
-    let _types = acc.types();
+    acc.recall();
     match &def.form {
         UnionForm::Keyed => keyed(acc, base, def, piece),
         UnionForm::Kinded => kinded(acc, def, piece),

@@ -88,8 +88,7 @@ fn open_struct<'b>(
     ensures parted { (t : Data) → StandsFor acc.now piece.now t → Parted acc.now (struct_parts def.now.form def.now.fields t) result }
     ensures ready { IsReady acc.now result }
 {
-    // It does no work: its clauses say what acceptance says of the struct.
-    let _types = acc.types();
+    acc.recall();
     match &def.form {
         StructForm::Map => match entries(acc, piece) {
             Some(entries) => Opened::Named(Fields { acc, base, def }, entries),

@@ -42,8 +42,7 @@ pub(crate) fn push_slot<'b>(
     requires inlined { PassesInStruct acc.now slot piece.now }
     ensures { (t : Data) → StandsFor acc.now piece.now t → Pushes result out.old.items out.new.items (found acc.now steps slot t) }
 {
-    // It does no work: its clauses say how many types there are at most.
-    let _types = acc.types();
+    acc.recall();
     if steps == 0 {
         return Ok(());
     }

@@ -46,7 +46,7 @@ pub(crate) fn breaks_delimiter(
     requires { slot.ty.0 < length acc.now }
     ensures { IfOk result (λ b. Typed acc.now slot (value_of val.now) → has_hole acc.now slot (value_of val.now) ≡ false → b ≡ breaks_delimiter acc.now slot (value_of val.now)) }
 {
-    let _legible = acc.types();
+    acc.recall();
     let def = form_of(acc, slot);
     if is_text_layer(def, val) {
         buffer.clear();
@@ -74,8 +74,7 @@ pub fn text_of(alloc: Global, acc: &Accepted, slot: Slot, val: &Val) -> Result<T
     requires delimiter { breaks_delimiter acc.now slot (value_of val.now) ≡ false }
     ensures { IfOk result (λ t. (h : List ℕ → List ℕ) → represented (whole h) acc.now slot (value_of val.now) ≡ Some (text t)) }
 {
-    // It does no work: its clauses say that parts of texts are texts.
-    acc.types();
+    acc.recall();
     let mut out = String::new(alloc);
     add_text(acc, slot, val, &mut out)?;
     Ok(Txt::from_string(out))

@@ -2,22 +2,11 @@
 ghost use Rattle.std.specs.Prelude.{◌≡◌, List, Some, true, false};
 ghost use Rattle.ild_data.specs.Data.{Data};
 ghost use Rattle.ild_schema.specs.Fitting.{ImplicitFits};
-ghost use Rattle.ild_schema.specs.Marks.{field_text};
 ghost use Rattle.ild_schema.specs.ValueSeen.{value_of};
 ghost use Rattle.ild_schema.specs.declared.row.Row.{Row};
 ghost use Rattle.ild_build.specs.LeftOut.{is_left_out};
 
 use ild_schema::{Field, Scalar, Val};
-
-/// The name of a field in a block.
-pub fn text_of_field(field: &Field) -> &str
-    ensures { result.now ≡ field_text field.now }
-{
-    match &field.rename {
-        Some(rename) => rename.as_str(),
-        None => field.name.as_str(),
-    }
-}
 
 /// Whether the value is the one that stands for the field where it is left out.
 #[inline(always)]

@@ -15,5 +15,5 @@ mod text;
 pub use form::form_of;
 pub use joined::{represented_text, text_of};
 pub use judgement::{Judged, judge};
-pub use left_out::{is_left_out, text_of_field};
+pub use left_out::is_left_out;
 pub use parts::field_at;

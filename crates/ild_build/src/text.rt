@@ -1,7 +1,6 @@
 //! The texts of values in text form.
 ghost use Rattle.std.specs.Prelude.{◌≡◌, ◌<◌, ◌++◌, IfOk, OnOk, Some, length, string_bytes, option_and_then};
 ghost use Rattle.ild_schema.specs.Fitting.{FittingType};
-ghost use Rattle.ild_schema.specs.Marks.{member_text};
 ghost use Rattle.ild_schema.specs.Table.{IsWithin};
 ghost use Rattle.ild_schema.specs.Value.{optionals_list, pairs_list};
 ghost use Rattle.ild_schema.specs.ValueSeen.{value_of};
@@ -13,25 +12,15 @@ ghost use Rattle.ild_build.specs.TextParts.{entry_texts, field_pairs, field_text
 
 use crate::delims::Delims;
 use crate::form::form_of;
-use crate::left_out::{is_left_out, text_of_field};
+use crate::left_out::is_left_out;
 use crate::parts::field_at;
 use ild_data::Tree;
 use ild_path_text::{is_joined, is_parted};
 use ild_schema::{
-    Accepted, EnumForm, EnumMember, KindWord, MapForm, Mark, Slot, StructDef, StructForm, TypeDef,
-    UnionDef, UnionForm, Val, ValFields, ValPairs, ValPart,
+    Accepted, EnumForm, KindWord, MapForm, Mark, Slot, StructDef, StructForm, TypeDef, UnionDef,
+    UnionForm, Val, ValFields, ValPairs, ValPart, text_of_field, text_of_member,
 };
 use std::alloc::AllocError;
-
-// The text of an enum's member in a block.
-fn text_of_member(member: &EnumMember) -> &str
-    ensures { result.now ≡ member_text member.now }
-{
-    match &member.text {
-        Some(text) => text.as_str(),
-        None => member.name.as_str(),
-    }
-}
 
 // Appends a text.
 fn add(out: &mut String, text: &str) -> Result<bool, AllocError>
@@ -70,7 +59,7 @@ pub(crate) fn add_text(
     requires { slot.ty.0 < length acc.now }
     ensures { IfOk result (λ done. TextAnswer (text_rep acc.now slot (value_of val.now)) (string_bytes out.old) (string_bytes out.new) done) }
 {
-    let _legible = acc.types();
+    acc.recall();
     match (form_of(acc, slot), val) {
         (TypeDef::Text, Val::Text(text)) => add(out, text.as_str()),
         (TypeDef::Any, Val::Any(Tree::Text(text))) => add(out, text.as_str()),

@@ -32,7 +32,7 @@ pub(crate) fn plan<H: KeyHash>(
     requires fits { Fits acc.now deepest slot (value_of val.now) }
     ensures { Plans H.hash_of acc.now slot (value_of val.now) result }
 {
-    acc.types();
+    acc.recall();
     let mut nodes = Nodes {
         blocks: Vec::new(alloc),
         exhausted: false,

@@ -2,7 +2,8 @@
 ghost use Rattle.std.specs.Prelude.{◌≡◌, ◌<◌, ◌++◌, OnOk, OnErr, length, option_map};
 ghost use Rattle.ild_data.specs.Spell.{head, spell, spell_text};
 ghost use Rattle.ild_emit.specs.Grown.{IsGrown};
-ghost use Rattle.ild_schema.specs.Marks.{member_integer, member_text};
+ghost use Rattle.ild_schema.specs.Decimal.{decimal_of};
+ghost use Rattle.ild_schema.specs.Marks.{member_integer};
 ghost use Rattle.ild_schema.specs.Value.{unit, enum};
 ghost use Rattle.ild_schema.specs.ValueSeen.{value_of};
 ghost use Rattle.ild_typed.specs.Composed.{enum_form, unit_data};
@@ -11,11 +12,11 @@ ghost use Rattle.ild_build.specs.TextRep.{text_rep};
 ghost use Rattle.ild_build_leaf.specs.Made.{before_key, entries_major, IsLeaf, made};
 ghost use Rattle.ild_build_leaf.specs.Wrote.{Wrote};
 
-use crate::decimal::decimal_of;
 use ild_build::{form_of, represented_text};
 use ild_data::Int;
 use ild_emit::Emit;
-use ild_schema::{Accepted, EnumForm, EnumMember, Slot, TypeDef, UnitForm, Val};
+use ild_schema::{Accepted, EnumForm, EnumMember, Slot, TypeDef, UnitForm, Val, text_of_member};
+use ild_text::decimal_of;
 use std::alloc::{AllocError, Global};
 
 // Appends a unit of a form.
@@ -44,13 +45,13 @@ fn add_unit(acc: &Accepted, slot: Slot, out: &mut Emit) -> Result<(), AllocError
     }
 }
 
-// The text of an enum's member in a block.
-fn text_of_member(member: &EnumMember) -> &str
-    ensures { result.now ≡ member_text member.now }
+// The integer of a block that a text is in decimal.
+fn integer_in(text: &[u8]) -> Option<Int>
+    ensures { result ≡ decimal_of text.now }
 {
-    match &member.text {
-        Some(text) => text.as_str(),
-        None => member.name.as_str(),
+    match decimal_of(text) {
+        Some(n) => Int::new(n),
+        None => None,
     }
 }
 
@@ -59,7 +60,7 @@ fn integer_of(member: &EnumMember) -> Option<Int>
     ensures { result ≡ member_integer member.now }
 {
     match &member.text {
-        Some(text) => decimal_of(text.as_str().as_bytes()),
+        Some(text) => integer_in(text.as_str().as_bytes()),
         None => None,
     }
 }

@@ -2,7 +2,6 @@
 //! fields of a struct are written, in which order (IPLD Schemas, "Representations").
 #![tactic(auto)]
 
-mod decimal;
 mod hex;
 mod leaf;
 mod order;

@@ -5,9 +5,9 @@ ghost use Rattle.ild_schema.specs.Value.{optionals_list};
 ghost use Rattle.ild_schema.specs.ValueSeen.{value_of};
 ghost use Rattle.ild_build_leaf.specs.Kept.{count_present, count_written, is_before, kept_at};
 
-use ild_build::{field_at, is_left_out, text_of_field};
+use ild_build::{field_at, is_left_out};
 use ild_data::key_less;
-use ild_schema::{Field, Fields, Val, ValFields};
+use ild_schema::{Field, Fields, Val, ValFields, text_of_field};
 
 /// How many values are there.
 pub fn present(vals: &ValFields) -> usize

@@ -52,7 +52,7 @@ pub(crate) fn add_map<H: KeyHash>(
     ensures ok { OnOk result (Writes H.hash_of acc.now (made (whole H.hash_of) acc.now slot (V.map pairs.now)) (λ μ. weigh μ acc.now slot (V.map pairs.now)) out.old out.new nodes.old nodes.new) }
     ensures err { OnErr result (IsGrown out.old out.new) }
 {
-    let _legible = acc.types();
+    acc.recall();
     match form_of(acc, slot) {
         TypeDef::Map { value, form, .. } => match form {
             MapForm::Map => add_pairs(alloc, acc, keys, *value, pairs, false, nodes, out),
@@ -108,7 +108,7 @@ fn add_hamt<H: KeyHash>(
     ensures ok { OnOk result (WritesHamt H.hash_of acc.now value shape pairs.now out.old out.new nodes.old nodes.new) }
     ensures err { OnErr result (IsGrown out.old out.new) }
 {
-    let _legible = acc.types();
+    acc.recall();
     let mut entries = no_entries(alloc, pairs.len())?;
     for i in 0..pairs.len() {
         let Some((key, val)) = entry_at(pairs, i) else {

@@ -18,12 +18,12 @@ ghost use Rattle.ild_build_pass.specs.Written.{WritesFields, WritesPairs, Writes
 use crate::fronts::begin_fields;
 use crate::maps::add_entry;
 use crate::pass::add;
-use ild_build::{field_at, form_of, text_of_field};
+use ild_build::{field_at, form_of};
 use ild_build_entries::Nodes;
 use ild_build_leaf::{add_as_text, kept_at, present, written};
 use ild_data::KeyHash;
 use ild_emit::Emit;
-use ild_schema::{Accepted, Slot, StructDef, StructForm, TypeDef, Val, ValFields};
+use ild_schema::{Accepted, Slot, StructDef, StructForm, TypeDef, Val, ValFields, text_of_field};
 use std::alloc::{AllocError, Global};
 
 // Appends a struct.
@@ -45,7 +45,7 @@ pub(crate) fn add_struct<H: KeyHash>(
     ensures ok { OnOk result (Writes H.hash_of acc.now (made (whole H.hash_of) acc.now slot (V.struct vals.now)) (λ μ. weigh μ acc.now slot (V.struct vals.now)) out.old out.new nodes.old nodes.new) }
     ensures err { OnErr result (IsGrown out.old out.new) }
 {
-    let _legible = acc.types();
+    acc.recall();
     match form_of(acc, slot) {
         TypeDef::Struct(def) => match def.form {
             StructForm::Map => add_fields(alloc, acc, keys, slot, def, vals, nodes, out),

@@ -47,7 +47,7 @@ pub(crate) fn add_union<H: KeyHash>(
     ensures ok { OnOk result (Writes H.hash_of acc.now (made (whole H.hash_of) acc.now slot (V.union number part.now)) (λ μ. weigh μ acc.now slot (V.union number part.now)) out.old out.new nodes.old nodes.new) }
     ensures err { OnErr result (IsGrown out.old out.new) }
 {
-    let _legible = acc.types();
+    acc.recall();
     match form_of(acc, slot) {
         TypeDef::Union(def) => match &def.form {
             UnionForm::StringPrefix => add_as_text(alloc, acc, slot, val, out),
@@ -151,7 +151,7 @@ fn add_inline<H: KeyHash>(
     ensures ok { OnOk result (WritesMarked H.hash_of acc.now slot (UF.Inline tag.entry.key.now) tag.entry.name.now (value_of val.now) out.old out.new nodes.old nodes.new) }
     ensures err { OnErr result (IsGrown out.old out.new) }
 {
-    let _legible = acc.types();
+    acc.recall();
     match (form_of(acc, slot), val) {
         (TypeDef::Struct(def), Val::Struct(vals)) => {
             let sides = begin_inline(acc, slot, def, vals, tag.key, out)?;

@@ -63,8 +63,7 @@ pub fn compare_trees<K: Store, L: Store, H: KeyHash>(
     requires one_type { type_in right.now ≡ type_in left.now }
     ensures { Compares H.hash_of left.now right.now (K.moment left_store.old) (L.moment right_store.old) result (K.moment left_store.new) (L.moment right_store.new) }
 {
-    // It does no work: its clauses say what acceptance says of the table.
-    let _types = left.schema().types();
+    left.schema().recall();
     if roots_differ(left, right) {
         return Ok(Compared::Other);
     }

@@ -8,8 +8,7 @@ ghost use Rattle.ild_compat.specs.Same.{struct_of};
 ghost use Rattle.ild_compat.specs.Table.{agree, extras_agree, fields_agree, implicits_agree, optionals_agree};
 
 use crate::same::is_same_implicit;
-use ild_accept_rules::field_text;
-use ild_schema::{Accepted, Field, StructDef, StructForm, TypeDef, TypeNo};
+use ild_schema::{Accepted, Field, StructDef, StructForm, TypeDef, TypeNo, text_of_field};
 
 /// The struct that a type is, if it is one.
 pub(crate) fn struct_at<'s>(schema: &'s Accepted, ty: TypeNo) -> Option<&'s StructDef>
@@ -57,7 +56,7 @@ fn has_field(schema: &Accepted, ty: TypeNo, def: &StructDef, field: &Field) -> b
     ensures { result ≡ has_field def.now.fields field.now }
 {
     match field_named(schema, ty, def, field.name.as_str()) {
-        Some(other) => field_text(field).as_str() == field_text(other).as_str(),
+        Some(other) => text_of_field(field) == text_of_field(other),
         None => false,
     }
 }

@@ -11,11 +11,11 @@ ghost use Rattle.ild_compat.specs.Fields.{has_member, has_same_mark, has_same_va
 ghost use Rattle.ild_compat.specs.Same.{enum_of, union_of};
 ghost use Rattle.ild_compat.specs.Table.{agree, enums_agree, unions_agree, members_agree};
 
-use ild_accept_rules::{bytes_of_hex, member_integer, member_text};
+use ild_accept_rules::{bytes_of_hex, member_integer};
 use ild_data::{Octets, Txt};
 use ild_schema::{
     Accepted, EnumDef, EnumForm, EnumMember, KindWord, Mark, Member, TypeDef, TypeNo, UnionDef,
-    UnionForm,
+    UnionForm, text_of_member,
 };
 use std::alloc::{AllocError, Global};
 
@@ -209,7 +209,7 @@ fn has_same_value(form: EnumForm, member: &EnumMember, other: &EnumMember) -> bo
     ensures { result ≡ has_same_value form member.now other.now }
 {
     match form {
-        EnumForm::Text => member_text(member).as_str() == member_text(other).as_str(),
+        EnumForm::Text => text_of_member(member) == text_of_member(other),
         EnumForm::Int => is_same_int(member_integer(member), member_integer(other)),
     }
 }

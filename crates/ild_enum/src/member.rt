@@ -53,7 +53,7 @@ fn by_integer(acc: &Accepted, ty: TypeNo, piece: &Piece<'_>) -> Result<usize, Wh
     let Some(integer) = int(piece) else {
         return Err(Why::Kind);
     };
-    let _types = acc.types();
+    acc.recall();
     let mut buffer = Buffer::new();
     match acc.part_spelled(ty, decimal(&mut buffer, integer)) {
         Some(number) => Ok(number),

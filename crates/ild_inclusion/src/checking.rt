@@ -78,6 +78,6 @@ pub fn verify<H: KeyHash>(
 {
     // They do no work: their clauses say that there is one outcome, under the table of an accepted schema.
     proofs_say_one_thing();
-    let _types = acc.types();
+    acc.recall();
     walk(alloc, acc, ty, root, path, proof.blocks(), keys)
 }

@@ -27,7 +27,7 @@ pub(crate) fn fronted<'b>(
     ensures { (t : Data) → Stands node.entry t → HasMemory result → Fronted acc.now room at slot t (FrontGiven acc.now slot result) (RefusedGiven result) }
 {
     // They do no work: their clauses say what acceptance says of the table, and that what is refused has no front.
-    let _types = acc.types();
+    acc.recall();
     refused_have_no_front();
     match View::check(alloc, acc, slot, node, room) {
         Ok(view) => Ok(view),

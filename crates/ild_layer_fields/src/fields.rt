@@ -15,7 +15,7 @@ use crate::notes::Notes;
 use ild_cbor::Piece;
 use ild_data::key_order;
 use ild_layer_piece::{boolean, int, text};
-use ild_schema::{Accepted, Field, Scalar, StructDef, TypeNo};
+use ild_schema::{Accepted, Field, Scalar, StructDef, TypeNo, text_of_field};
 
 /// The fields of a struct, which is the type with a number in a table.
 #[derive(Clone, Copy)]
@@ -192,16 +192,6 @@ fn is_named(fields: &[Field], place: usize, name: &str) -> bool
     match fields.get(place) {
         Some(field) => text_of_field(field) == name,
         None => false,
-    }
-}
-
-/// The name of a field in a block.
-pub fn text_of_field(field: &Field) -> &str
-    ensures { result.now ≡ field_text field.now }
-{
-    match &field.rename {
-        Some(rename) => rename.as_str(),
-        None => field.name.as_str(),
     }
 }
 

@@ -10,7 +10,7 @@ mod pair;
 mod survey;
 mod told;
 
-pub use fields::{Fields, is_implicit, text_of_field};
+pub use fields::{Fields, is_implicit};
 pub use notes::Notes;
 pub use pair::Pair;
 pub use survey::{note_entries, note_pairs, note_texts};

@@ -10,9 +10,8 @@ ghost use Rattle.ild_layer_parts.specs.Fields.{HasFields, count_there, is_there,
 ghost use Rattle.ild_layer_parts.specs.Ways.{LeadsWay};
 
 use crate::fields::Fields;
-use ild_layer_fields::text_of_field;
 use ild_layer_places::Way;
-use ild_schema::{Field, StructForm};
+use ild_schema::{Field, StructForm, text_of_field};
 use ild_struct::Part as Held;
 
 // Whether a field stands in the data.

@@ -17,8 +17,7 @@ pub(crate) fn leaf_kind(acc: &Accepted, slot: Slot) -> Option<Kind>
     requires { IsIn acc.now slot }
     ensures { IfSome result (FitsOfKind acc.now slot) }
 {
-    // It does no work: its clauses say what acceptance says of the table.
-    let _types = acc.types();
+    acc.recall();
     match acc.def(acc.base(slot.ty)) {
         TypeDef::Bool => Some(Kind::Bool),
         TypeDef::Text => Some(Kind::Text),

@@ -40,8 +40,7 @@ fn past_all<'b>(acc: &'b Accepted, fields: Fields<'b>) -> Fields<'b>
     ensures passes { (ps : List Spot) → HasFields acc.now fields.entry ps → Passes acc.now ps (HasFields acc.now result) }
     ensures def { result.def.now ≡ fields.entry.def.now }
 {
-    // It does no work: its clauses say what acceptance says of the table.
-    let _types = acc.types();
+    acc.recall();
     Fields {
         def: fields.def,
         parts: fields.parts,

@@ -103,8 +103,7 @@ fn open<'s, K: Store, H: KeyHash>(
     requires { ty.0 < length acc.now }
     ensures { Opens (HasKept H.hash_of acc.now ty id.now.0 (K.moment store.new) keep) H.hash_of acc.now ty id.now.0 (K.moment store.old) result (K.moment store.new) }
 {
-    // It does no work: its clauses say what acceptance says of the table.
-    let _types = acc.types();
+    acc.recall();
     let doc = match find(alloc, acc, ty, id, store) {
         Ok(doc) => doc,
         Err(fault) => return Err(fault),

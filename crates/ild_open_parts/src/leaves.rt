@@ -42,8 +42,7 @@ fn leaf<'b>(
     ensures ok { (t : Data) → StandsFor acc.now piece.now t → IfOk result (IsLeafOf acc.now slot t) }
     ensures err { IfErr result (λ e. e ≡ Memory) }
 {
-    // It does no work: its clauses say what acceptance says of the table.
-    let _types = acc.types();
+    acc.recall();
     match acc.def(acc.base(slot.ty)) {
         TypeDef::Bool => match boolean(piece) {
             Some(truth) => Ok(Val::Bool(truth)),
@@ -93,8 +92,7 @@ pub fn kept_leaf<'b>(
     ensures ok { (t : Data) (room : ℕ) → StandsFor acc.now piece.now t → IsFronted acc.now room slot t → IfOk result (HasLeaf acc.now room slot t keep) }
     ensures err { IfErr result (λ e. e ≡ Memory) }
 {
-    // It does no work: its clauses say what acceptance says of the table.
-    let _types = acc.types();
+    acc.recall();
     if keep {
         return leaf(alloc, acc, slot, piece);
     }

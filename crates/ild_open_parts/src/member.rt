@@ -27,8 +27,7 @@ pub fn member_of<'b>(
     requires layered { ∥ IsLayered acc.now (D.Union def.now) piece.now ∥₁ }
     ensures { IsMemberOf acc.now def.now piece.now result }
 {
-    // It does no work: its clauses say what acceptance says of the table.
-    let _types = acc.types();
+    acc.recall();
     let (number, part) = match layer(acc, ty, *piece) {
         Ok(found) => found,
         Err(_) => unreachable!(),

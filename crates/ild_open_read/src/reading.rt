@@ -60,8 +60,7 @@ fn read_list<'b, K: Store, H: KeyHash>(
     ensures reads { ReadsElements H.hash_of at.0 acc.now room reader.now.keep elem piece.now (K.moment store.old) result (K.moment store.new) }
     ensures sound { AreSound H.hash_of acc.now (K.moment store.new) known.new }
 {
-    // It does no work: its clauses say what acceptance says of the table.
-    let _types = acc.types();
+    acc.recall();
     let Some(mut left) = items(piece) else {
         unreachable!()
     };
@@ -123,8 +122,7 @@ fn read_rows<'r, K: Store, H: KeyHash>(
     ensures reads { ReadsListed H.hash_of acc.now room reader.now.keep key value rows.now (K.moment store.old) result (K.moment store.new) }
     ensures sound { AreSound H.hash_of acc.now (K.moment store.new) known.new }
 {
-    // It does no work: its clauses say what acceptance says of the table.
-    let _types = acc.types();
+    acc.recall();
     let mut pairs = ValPairs::new(reader.alloc);
     let mut left = rows;
     while let Some((row, behind)) = left.split_first() {
@@ -159,8 +157,7 @@ fn pass_rows<'b, K: Store, H: KeyHash>(
     ensures reads { ReadsRoot H.hash_of shape at.0 acc.now room false key value (P.Node root.now) (K.moment store.old) result (K.moment store.new) }
     ensures sound { AreSound H.hash_of acc.now (K.moment store.new) known.new }
 {
-    // It does no work: its clauses say what acceptance says of the table.
-    let _types = acc.types();
+    acc.recall();
     let view = root_view(shape, root);
     let read_as = ReadAs {
         key,
@@ -196,8 +193,7 @@ fn read_hamt<'b, K: Store, H: KeyHash>(
     ensures reads { ReadsHamt H.hash_of shape at.0 acc.now room reader.now.keep key value piece.now (K.moment store.old) result (K.moment store.new) }
     ensures sound { AreSound H.hash_of acc.now (K.moment store.new) known.new }
 {
-    // It does no work: its clauses say what acceptance says of the table.
-    let _types = acc.types();
+    acc.recall();
     let Piece::Node(root) = piece else {
         unreachable!()
     };
@@ -244,8 +240,7 @@ fn read_map<'b, K: Store, H: KeyHash>(
     ensures reads { ReadsForm H.hash_of at.0 acc.now room reader.now.keep key value form.now piece.now (K.moment store.old) result (K.moment store.new) }
     ensures sound { AreSound H.hash_of acc.now (K.moment store.new) known.new }
 {
-    // It does no work: its clauses say what acceptance says of the table.
-    let _types = acc.types();
+    acc.recall();
     if let Some(shape) = hamt_shape(form) {
         return read_hamt(
             reader, acc, key, value, shape, piece, room, at, known, store,
@@ -277,8 +272,7 @@ fn read_field<'b, K: Store, H: KeyHash>(
     ensures reads { ReadsPart H.hash_of at.0 acc.now room reader.now.keep field.now part.now (K.moment store.old) result (K.moment store.new) }
     ensures sound { AreSound H.hash_of acc.now (K.moment store.new) known.new }
 {
-    // It does no work: its clauses say what acceptance says of the table.
-    let _types = acc.types();
+    acc.recall();
     let Some(piece) = part_piece(part) else {
         return left_out(field, part);
     };
@@ -309,8 +303,7 @@ fn read_struct<'b, K: Store, H: KeyHash>(
     ensures reads { ReadsFields H.hash_of at.0 acc.now room reader.now.keep def.now piece.now (K.moment store.old) result (K.moment store.new) }
     ensures sound { AreSound H.hash_of acc.now (K.moment store.new) known.new }
 {
-    // It does no work: its clauses say what acceptance says of the table.
-    let _types = acc.types();
+    acc.recall();
     let parts = match layer(acc, ty, *piece) {
         Ok(parts) => parts,
         Err(_) => unreachable!(),
@@ -348,8 +341,7 @@ fn read_union<'b, K: Store, H: KeyHash>(
     ensures reads { ReadsMember H.hash_of at.0 acc.now room reader.now.keep def.now piece.now (K.moment store.old) result (K.moment store.new) }
     ensures sound { AreSound H.hash_of acc.now (K.moment store.new) known.new }
 {
-    // It does no work: its clauses say what acceptance says of the table.
-    let _types = acc.types();
+    acc.recall();
     let (number, slot, part) = member_of(acc, ty, def, piece);
     let val = read_slot(reader, acc, slot, &part, room, at, known, store)?;
     union_with(reader.alloc, reader.keep, number, val)
@@ -376,8 +368,7 @@ pub(crate) fn read_slot<'b, K: Store, H: KeyHash>(
     ensures reads { ReadsSlot H.hash_of at.0 acc.now room reader.now.keep slot piece.now (K.moment store.old) result (K.moment store.new) }
     ensures sound { AreSound H.hash_of acc.now (K.moment store.new) known.new }
 {
-    // It does no work: its clauses say what acceptance says of the table.
-    let _types = acc.types();
+    acc.recall();
     if is_null_there(slot, piece) {
         return Ok(Val::Null);
     }

@@ -58,7 +58,7 @@ pub fn spliced<'a>(
     ensures beneath { IsBeneath path.now result }
 {
     // They do no work: their clauses say what acceptance says of the table, and what an edit is in a block's data.
-    let _types = root.schema().types();
+    root.schema().recall();
     are_texts(path);
     edits_are_edited();
     nodes_are_at_places();

@@ -33,7 +33,7 @@ pub(crate) fn breaks(
     ensures { AreHoldersOf root.now path.now views.now → TellsOfTextEdit root.now path.now edit.entry result }
 {
     // They do no work: their clauses say what acceptance says of the table, and that segments are texts.
-    let _types = root.schema().types();
+    root.schema().recall();
     are_texts(path);
     let segments = path.as_slice();
     if segments.is_empty() {

@@ -26,8 +26,7 @@ fn with_holder<'a>(
     requires { 0 < length path.now }
     ensures { (is_key : ℕ → List ℕ → Bool) (f w c : Value) (t u : Data) → Edits is_key root.now path.now edit.now f w c t u → IsReplaced (table_of root.now) is_key edit.now w (slot_of root.now, f) path.now t u holder.now → MakesBlock (spell u) result }
 {
-    // It does no work: its clauses say what acceptance says of the table.
-    let _types = root.schema().types();
+    root.schema().recall();
     let item = item_at(alloc, root, path, edit, holder.holder)?;
     holder.block_with(alloc, item.as_slice())
 }

@@ -74,7 +74,7 @@ pub(crate) fn item_at<'a>(
     ensures { (is_key : ℕ → List ℕ → Bool) (f w c : Value) (t u d : Data) → Edits is_key root.now path.now edit.now f w c t u → IsMade (table_of root.now) is_key edit.now w (slot_of root.now, f) path.now from d → MakesBlock (spell d) result }
 {
     // They do no work: their clauses say what acceptance says of the table, and that segments are texts.
-    let _types = root.schema().types();
+    root.schema().recall();
     are_texts(path);
     let views = holders(alloc, root, path)?;
     let segments = path.as_slice();

@@ -112,8 +112,7 @@ impl<'s> Entry<'s> {
         ensures stands { Stands result (data_in self.now) }
         ensures nests { (t : Data) → Stands result t → depth t ≤ room_in self.now }
     {
-        // It does no work: its clauses say what acceptance says of the table.
-        let _types = self.acc.types();
+        self.acc.recall();
         known_root(self.item.as_slice())
     }
 }

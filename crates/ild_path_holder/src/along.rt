@@ -25,8 +25,7 @@ pub fn last_holder<'a>(
 ) -> Result<Option<LastHolder<'a>>, AllocError>
     ensures { FindsLast root.now path.now result }
 {
-    // It does no work: its clauses say what acceptance says of the table.
-    let _types = root.schema().types();
+    root.schema().recall();
     let segments = path.as_slice();
     let mut steps = Vec::new(alloc);
     let mut view = *root;

@@ -148,7 +148,7 @@ pub(crate) fn go_in<'s, 'p, K: Store, H: KeyHash>(
         → GoesIn H.hash_of acc.now was room p segments.now (K.moment store.old) result (K.moment store.new) }
 {
     // They do no work: their clauses say what acceptance says of the table, and that the parts of a front stand in its data.
-    let _types = acc.types();
+    acc.recall();
     parts_stand_in_data();
     let halt = halt_in(root, segments, room);
     let front = path_of(alloc, &segments[..segments.len() - halt.left.len()])?;

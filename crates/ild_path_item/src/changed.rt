@@ -109,8 +109,7 @@ pub(crate) fn changed_item(
     ensures { (d : Def) → form_of (table_of view.now) (slot_of view.now) ≡ Some d → is_refusing (Some d) ≡ false → AnswersItem view.now segment.now edit.now result }
 {
     let acc = view.schema();
-    // It does no work: its clauses say what acceptance says of the table.
-    let _types = acc.types();
+    acc.recall();
     let Some(piece) = view.piece() else {
         return Ok(None);
     };

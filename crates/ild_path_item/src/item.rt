@@ -71,8 +71,7 @@ fn of_texts(
 ) -> Result<Option<Octets>, SpliceErr>
     ensures { (d : Def) → form_of (table_of view.now) (slot_of view.now) ≡ Some d → is_text_form d ≡ true → AnswersItem view.now segment.now edit.now result }
 {
-    // It does no work: its clauses say what acceptance says of the table.
-    let _types = view.schema().types();
+    view.schema().recall();
     let Some(new) = new_part(edit) else {
         return Ok(None);
     };
@@ -96,8 +95,7 @@ pub fn new_item(
     ensures { AnswersItem view.now segment.now edit.now result }
 {
     let acc = view.schema();
-    // It does no work: its clauses say what acceptance says of the table.
-    let _types = acc.types();
+    acc.recall();
     let base = acc.base(view.slot().ty);
     let def = acc.def(base);
     if is_text_form(def) {

@@ -69,8 +69,7 @@ fn struct_text(
     requires within { number < length def.now.fields }
     ensures { AnswersText view.now segment.now (text_of new.entry) result }
 {
-    // It does no work: its clauses say what acceptance says of the table.
-    let _types = view.schema().types();
+    view.schema().recall();
     match &def.form {
         StructForm::StringPairs(_, _) => pairs_text(alloc, view, segment, new),
         StructForm::StringJoin(delimiter) => {
@@ -98,8 +97,7 @@ pub fn new_text(
     ensures { AnswersText view.now segment.now (text_of new.entry) result }
 {
     let acc = view.schema();
-    // It does no work: its clauses say what acceptance says of the table.
-    let _types = acc.types();
+    acc.recall();
     let base = acc.base(view.slot().ty);
     match acc.def(base) {
         TypeDef::Union(def) => member_text(alloc, def, acc.part_named(base, segment), new),

@@ -23,8 +23,7 @@ pub(crate) fn named_change<'a>(
     requires numbered { IsNumbered acc.now piece.now }
     ensures { ChangesNamed acc.now (StandsFor acc.now piece.now) (NewIs new.entry) slot segment.now result }
 {
-    // It does no work: its clauses say what acceptance says of the table.
-    let _types = acc.types();
+    acc.recall();
     let base = acc.base(slot.ty);
     match acc.def(base) {
         TypeDef::Any => key_change(acc, piece, segment, is_there(new)),

@@ -6,38 +6,6 @@ use Rattle.std.specs.Prelude.{is_some, option_and_then, option_map}
 use Rattle.std.proofs.lemmas.Option.{same_Some}
 use Rattle.ild_schema.specs.Hex.{bytes_of_hex, hex_byte}
 
-one_more : (bytes : List ℕ) (byte : ℕ) (o : Option (List ℕ)) → option_map (λ more. bytes ++ more) (option_map (λ rest. byte ∷ rest) o) ≡ option_map (λ more. (bytes ++ byte ∷ []) ++ more) o
-one_more bytes byte None = refl
-one_more bytes byte (Some rest) = ap Some (sym (append_assoc bytes (byte ∷ []) rest))
-
--- two digits at the head
-two_more : (rest : List ℕ) → 2 ≤ length rest → rest ≡ get_or rest 0 0 ∷ get_or rest 1 0 ∷ take (length rest - 2) (drop 2 rest)
-two_more [] h = absurd (omega arith)
-two_more (a ∷ []) h = absurd (omega arith)
-two_more (a ∷ b ∷ more) h = ap (λ xs. a ∷ b ∷ xs) (sym (take_all (length (a ∷ b ∷ more) - 2) more (omega arith)))
-
-hex_step : (r : Option (List ℕ)) (bytes new : List ℕ) (a b byte : ℕ) (rest more : List ℕ) → rest ≡ a ∷ b ∷ more → hex_byte a b ≡ Some byte → new ≡ bytes ++ byte ∷ []
-    → r ≡ option_map (λ more. bytes ++ more) (bytes_of_hex rest) → r ≡ option_map (λ more. new ++ more) (bytes_of_hex more)
-hex_step r bytes new a b byte rest more there is grown so_far =
-    let one : bytes_of_hex (a ∷ b ∷ more) ≡ option_map (λ rest. byte ∷ rest) (bytes_of_hex more) = rw is refl in
-    so_far ∙ ap (λ xs. option_map (λ more. bytes ++ more) (bytes_of_hex xs)) there ∙ ap (option_map (λ more. bytes ++ more)) one
-    ∙ one_more bytes byte (bytes_of_hex more) ∙ ap (λ xs. option_map (λ more. xs ++ more) (bytes_of_hex more)) (sym grown)
-
-pub hex_next : (r : Option (List ℕ)) (bytes new : List ℕ) (byte : ℕ) (rest : List ℕ) → 2 ≤ length rest → hex_byte (get_or rest 0 0) (get_or rest 1 0) ≡ Some byte → new ≡ bytes ++ byte ∷ []
-    → r ≡ option_map (λ more. bytes ++ more) (bytes_of_hex rest) → r ≡ option_map (λ more. new ++ more) (bytes_of_hex (take (length rest - 2) (drop 2 rest)))
-hex_next r bytes new byte rest long is grown so_far = hex_step r bytes new (get_or rest 0 0) (get_or rest 1 0) byte rest (take (length rest - 2) (drop 2 rest)) (two_more rest long) is grown so_far
-
-pub hex_passes : (rest : List ℕ) (byte : ℕ) → 2 ≤ length rest → hex_byte (get_or rest 0 0) (get_or rest 1 0) ≡ Some byte
-    → is_some (bytes_of_hex rest) ≡ is_some (bytes_of_hex (take (length rest - 2) (drop 2 rest)))
-hex_passes rest byte long is = ap (λ xs. is_some (bytes_of_hex xs)) (two_more rest long) ∙ by (take (length rest - 2) (drop 2 rest)) (hex_byte (get_or rest 0 0) (get_or rest 1 0)) is
-  where
-    same : (o : Option (List ℕ)) → is_some (option_map (λ more. byte ∷ more) o) ≡ is_some o
-    same None = refl
-    same (Some more) = refl
-
-    by : (more : List ℕ) (o : Option ℕ) → o ≡ Some byte → is_some (option_and_then (λ b. option_map (λ more. b ∷ more) (bytes_of_hex more)) o) ≡ is_some (bytes_of_hex more)
-    by more o e = rw e (same (bytes_of_hex more))
-
 -- two digits a byte
 length_at : (a b : ℕ) (more s : List ℕ) (o : Option ℕ) (p : Option (List ℕ)) → ((rest : List ℕ) → p ≡ Some rest → length more ≡ 2 * length rest)
     → option_and_then (λ byte. option_map (λ rest. byte ∷ rest) p) o ≡ Some s → length (a ∷ b ∷ more) ≡ 2 * length s

@@ -8,12 +8,13 @@ ghost use Rattle.ild_path_marked.specs.Tells.{Tells, Writes};
 ghost use Rattle.ild_schema.specs.declared.def.UnionForm.TheVariants as F;
 ghost use Rattle.ild_typed.specs.Composed.{marked_form};
 
-use crate::hex::{hex_count, is_hex};
+use crate::hex::hex_count;
 use crate::part::Part;
 use crate::write::made;
 use ild_cbor::Node;
 use ild_data::Octets;
 use ild_splice::SpliceErr;
+use ild_text::is_hex;
 use std::alloc::Global;
 
 // The text that a prefix and another text are together.

@@ -28,8 +28,7 @@ pub fn pairs_text(
     ensures { are_pairs (form_of (table_of view.now) (slot_of view.now)) ≡ true → AnswersText view.now segment.now (text_of new.entry) result }
 {
     let acc = view.schema();
-    // It does no work: its clause says what acceptance says of the table.
-    let _types = acc.types();
+    acc.recall();
     let Some(piece) = view.piece() else {
         return Ok(None);
     };

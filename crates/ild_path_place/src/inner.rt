@@ -51,7 +51,7 @@ fn end_of<'b, K: Store, H: KeyHash>(
     ensures told { FindsEnd H.hash_of acc.now inner.now front last.now k room verb (K.moment store.old) result (K.moment store.new) }
 {
     // They do no work: their clauses say what acceptance says of the table, and that the parts of a front stand in its data.
-    let _types = acc.types();
+    acc.recall();
     parts_stand_in_data();
     let holder = halt_in(inner, front.as_slice(), room).view;
     let left = room_in(alloc, acc, &holder, last.as_str(), room)?;

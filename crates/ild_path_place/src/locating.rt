@@ -144,8 +144,7 @@ pub fn locate<'b, K: Store, H: KeyHash>(
         → Stands bare (block_at was) H.hash_of (table_in doc.now) (type_in doc.now) (id_of (block_in doc.now)) v
         → IfOk result (IsRootedAt H.hash_of (table_in doc.now) was (plainly (type_in doc.now), v)) }
 {
-    // It does no work: its clauses say what acceptance says of the table.
-    let _types = doc.schema().types();
+    doc.schema().recall();
     let segments = path.as_slice();
     match segments.last() {
         Some(last) => locate_last(

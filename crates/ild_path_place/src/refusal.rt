@@ -57,8 +57,7 @@ pub(crate) fn slot_in_block(holder: &View<'_>, segment: &str, verb: Verb) -> Res
     ensures answer { (f : Value) → IsView holder.now f → SlotAnswer (table_of holder.now) (slot_of holder.now, f) segment.now verb result }
     ensures part { IfOk result (IsPartSlot (table_of holder.now)) }
 {
-    // It does no work: its clauses say what acceptance says of the table.
-    let _types = holder.schema().types();
+    holder.schema().recall();
     match verb {
         Verb::Read => slot_there(holder, segment),
         Verb::Set => slot_or(slot_to_set(holder, segment)),

@@ -87,8 +87,7 @@ pub fn room_left(
     ensures room { LeavesAt root.now path.now limit result }
     ensures tells { (f : Value) → IsView root.now f → Fits (table_of root.now) limit (slot_of root.now) f → IfOk result (TellsRoom (table_of root.now) limit (slot_of root.now, f) path.now) }
 {
-    // It does no work: its clauses say what acceptance says of the table.
-    let _types = root.schema().types();
+    root.schema().recall();
     let segments = path.as_slice();
     if segments.is_empty() {
         return Ok(Some(limit));

@@ -13,8 +13,7 @@ pub fn value_slot(acc: &Accepted, view: &View<'_>) -> Option<Slot>
     requires { table_of view.now ≡ acc.now }
     ensures { IsValueSlot acc.now (form_of acc.now (slot_of view.now)) result }
 {
-    // It does no work: its clauses say what acceptance says of the table.
-    let _types = acc.types();
+    acc.recall();
     match form_of(view) {
         TypeDef::Map { value, .. } => Some(*value),
         _ => None,

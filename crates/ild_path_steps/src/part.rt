@@ -22,8 +22,7 @@ pub fn steps_to<'a>(
     ensures lifts { LiftsPart acc.now slot piece.now segment.now result }
     ensures leads { LeadsPart acc.now slot piece.now segment.now result }
 {
-    // It does no work: its clauses say what acceptance says of the table.
-    let _types = acc.types();
+    acc.recall();
     let base = acc.base(slot.ty);
     match acc.def(base) {
         TypeDef::Any => any_steps(piece, segment),

@@ -112,8 +112,7 @@ fn make<K: Store, W: Sink>(
     requires within { ty.0 < length schema.now }
     ensures { MadeAs schema.now ty bytes.now (K.moment store.old) (W.output out.old) result (K.moment store.new) (W.output out.new) }
 {
-    // It does no work: its clauses say that the types are a table.
-    schema.types();
+    schema.recall();
     match create(alloc, schema, ty, bytes, &Sha256Keys, store) {
         Ok(id) => match write_reply(alloc, &Reply::Root(id), out) {
             Ok(()) => Status::Done,
@@ -146,8 +145,7 @@ fn present<K: Store, W: Sink>(
     requires within { ty.0 < length schema.now }
     ensures { ShownAs schema.now ty root.now.0 (K.moment store.old) (W.output out.old) result (K.moment store.new) (W.output out.new) }
 {
-    // It does no work: its clauses say that the types are a table.
-    schema.types();
+    schema.recall();
     match show(alloc, schema, ty, root, &Sha256Keys, store) {
         Ok(json) => reply(alloc, &Reply::Ok(json), Status::Done, out),
         Err(ShowFault::Reserved) => reply(alloc, &Reply::No(No::Reserved), Status::Refused, out),
@@ -183,8 +181,7 @@ fn answer<K: Store, W: Sink>(
     requires within { ty.0 < length schema.now }
     ensures { AnsweredAs schema.now ty start script.now (K.moment store.old) (W.output out.old) result (K.moment store.new) (W.output out.new) }
 {
-    // It does no work: its clauses say that the types are a table.
-    schema.types();
+    schema.recall();
     match run_script(alloc, schema, ty, start, script, store, out) {
         Ok(false) => Status::Done,
         Ok(true) => Status::Refused,

@@ -27,7 +27,7 @@ fn tell<K: Store>(alloc: Global, doc: &Doc<'_>, path: &Path, what: Tell, store: 
     standing_are_held();
     held_are_standing();
     reads_are_replies();
-    let _types = doc.schema().types();
+    doc.schema().recall();
     let view = doc.view();
     read(alloc, &view, path, what, &Sha256Keys, store)
 }

@@ -17,6 +17,6 @@ pub fn commit<K: Store>(doc: &Doc<'_>, own: &mut OwnBlocks, store: &mut K) -> Re
 {
     // These two do no work: their clauses say that the places of a value are told by blocks, and what acceptance says of the table.
     trees_stand();
-    let _types = doc.schema().types();
+    doc.schema().recall();
     commit_along(doc, 0, &ByTypes::of(doc.schema(), doc.ty()), own, store)
 }

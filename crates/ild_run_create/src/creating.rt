@@ -35,8 +35,7 @@ pub fn create<K: Store, H: KeyHash>(
     requires within { ty.0 < length acc.now }
     ensures { Creates H.hash_of acc.now ty bytes.now (K.moment store.old) result (K.moment store.new) }
 {
-    // It does no work: its clauses say what acceptance says of the types.
-    acc.types();
+    acc.recall();
     let val = match given(alloc, acc, ty, bytes) {
         Ok(val) => val,
         Err(fault) => return Err(fault),

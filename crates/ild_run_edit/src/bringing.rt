@@ -56,8 +56,7 @@ pub(crate) fn bring<K: Store, H: KeyHash>(
     ensures comes { ComesTo H.hash_of place.entry json.now (K.moment store.old) result (K.moment store.new) }
     ensures named { result ≡ Err refusal.Clash → NamesClash clash.new (K.moment store.new) }
 {
-    // It does no work: its clauses say what acceptance says of the types.
-    acc.types();
+    acc.recall();
     let part = match part_of(alloc, acc, place.slot(), json) {
         Ok(part) => part,
         Err(refusal) => return Err(refusal),

@@ -33,8 +33,7 @@ pub(crate) fn erase_part<K: Store, H: KeyHash>(
     ensures goes { GoesFrom H.hash_of place.entry (K.moment store.old) result (K.moment store.new) }
     ensures named { result ≡ Err refusal.Clash → NamesClash clash.new (K.moment store.new) }
 {
-    // It does no work: its clauses say what acceptance says of the types.
-    acc.types();
+    acc.recall();
     if place.hole() {
         return Err(No::Hole);
     }

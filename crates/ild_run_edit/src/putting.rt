@@ -42,7 +42,7 @@ fn built_part<K: Store, H: KeyHash>(
     ensures named { result ≡ Err refusal.Clash → NamesClash clash.new (K.moment store.new) }
 {
     // These two do no work: their clauses say what acceptance says of the types, and how little room a place leaves at most.
-    acc.types();
+    acc.recall();
     place.room();
     match build(alloc, acc, place.slot(), part, keys, store) {
         Ok(block) => Ok(block),
@@ -71,7 +71,7 @@ pub(crate) fn put_part<K: Store, H: KeyHash>(
     ensures named { result ≡ Err refusal.Clash → NamesClash clash.new (K.moment store.new) }
 {
     // These two do no work: their clauses say what acceptance says of the types, and that a place stays one.
-    acc.types();
+    acc.recall();
     places_tell_on();
     let block = match built_part(alloc, &place, acc, part, json, keys, store, clash) {
         Ok(block) => block,

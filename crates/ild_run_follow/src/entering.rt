@@ -55,7 +55,7 @@ pub(crate) fn entry_view<'b>(
 {
     let acc = hamt.schema();
     // They do no work: their clauses say what acceptance says of the table, and that what is refused has no front.
-    let _types = acc.types();
+    acc.recall();
     refused_have_no_front();
     let Some(slot) = value_slot(acc, hamt) else {
         unreachable!();

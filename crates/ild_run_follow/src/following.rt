@@ -42,7 +42,7 @@ fn tell_from<'b, K: Store, H: KeyHash>(
         → RefusesAlong H.hash_of (table_of view.entry) (id_of block.now) (slot_of view.entry) t (K.moment store.old) result (K.moment store.new) }
 {
     // They do no work: their clauses say what acceptance says of the table, and that the parts of a front stand in its data.
-    let _types = view.schema().types();
+    view.schema().recall();
     parts_stand_in_data();
     match view.at(path, from) {
         Ok(Step::Here(part)) => tell_here(alloc, &part, block, tell, keys, store),
@@ -69,7 +69,7 @@ fn tell_in<'b, K: Store, H: KeyHash>(
     ensures refused { (slot : Slot) (room : ℕ) (z : Site) → IsSiteOf (table_of hamt.entry) slot room hamt.entry block.now z → RefusesIn H.hash_of (table_of hamt.entry) z (K.moment store.old) result (K.moment store.new) }
 {
     // They do no work, as above: the count says that a number behind a segment's is one.
-    let _types = hamt.schema().types();
+    hamt.schema().recall();
     let _count = path.len();
     let Some(root) = hamt.hamt() else {
         unreachable!();

@@ -32,8 +32,7 @@ fn loaded<K: Store, H: KeyHash>(
     ensures loads { LoadsPart H.hash_of view.now (K.moment store.old) result (K.moment store.new) }
     ensures refused { (t : Data) → IsShown view.now t → RefusesPart H.hash_of (table_of view.now) (id_of block.now) (slot_of view.now) t (K.moment store.old) result (K.moment store.new) }
 {
-    // It does no work: its clauses say what acceptance says of the table.
-    let _types = view.schema().types();
+    view.schema().recall();
     match load(alloc, view, block, keys, store) {
         Ok(val) => Ok(val),
         Err(fault) => Err(of_open(&fault)),
@@ -97,8 +96,7 @@ pub(crate) fn tell_here<K: Store, H: KeyHash>(
     ensures tells { TellsHere H.hash_of view.now tell (K.moment store.old) result (K.moment store.new) }
     ensures refused { (t : Data) → IsShown view.now t → RefusesPart H.hash_of (table_of view.now) (id_of block.now) (slot_of view.now) t (K.moment store.old) result (K.moment store.new) }
 {
-    // It does no work, as above.
-    let _types = view.schema().types();
+    view.schema().recall();
     match tell {
         Tell::Presence => Ok(Tree::Bool(true)),
         Tell::Representation => Ok(view.rep(alloc)?),

@@ -36,7 +36,7 @@ pub(crate) fn count_entries<K: Store>(
     held_are_standing();
     bare_roots_are_frames();
     one_stands();
-    doc.schema().types();
+    doc.schema().recall();
     match open_value(
         alloc,
         doc.schema(),

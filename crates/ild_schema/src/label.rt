@@ -17,8 +17,8 @@ pub(crate) enum Label {
     Text,
 }
 
-// The name of a field in a block.
-fn text_of_field(field: &Field) -> &str
+/// The name of a field in a block: the text that it is renamed to, or else its name (IPLD Schemas, "rename").
+pub fn text_of_field(field: &Field) -> &str
     ensures { result.now ≡ field_text field.now }
 {
     match &field.rename {
@@ -27,8 +27,8 @@ fn text_of_field(field: &Field) -> &str
     }
 }
 
-// The text of an enum's member in a block.
-fn text_of_value(member: &EnumMember) -> &str
+/// The text of an enum's member in a block: the one behind it, or else its name.
+pub fn text_of_member(member: &EnumMember) -> &str
     ensures { result.now ≡ member_text member.now }
 {
     match &member.text {
@@ -102,7 +102,7 @@ fn value_spelled(members: &EnumMembers, part: usize) -> Option<&str>
     ensures { option_map (λ s. s.now) result ≡ option_and_then (λ m. Some (member_text m)) (slice_get members.now part) }
 {
     match members.get(part) {
-        Some(member) => Some(text_of_value(member)),
+        Some(member) => Some(text_of_member(member)),
         None => None,
     }
 }

@@ -24,6 +24,7 @@ pub use def::{
 };
 pub use ild_data::List;
 pub use kinds::Kinds;
+pub use label::{text_of_field, text_of_member};
 pub use laws::{accepted_are_legible, kinds_are_told};
 pub use number::{Slot, TypeNo};
 pub use prelude::prelude_rows;

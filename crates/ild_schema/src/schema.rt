@@ -58,7 +58,7 @@ impl Schema {
         })
     }
 
-    /// How many types the table has. A caller that needs the facts of the table makes this call, which does no work.
+    /// How many types the table has. Its clauses recall that it is a table.
     pub fn types(&self) -> u32
         ensures count { result ≡ length self.now }
         ensures table { IsTable self.now }

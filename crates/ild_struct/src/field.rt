@@ -15,9 +15,8 @@ use crate::parts::StructParts;
 use crate::source::Source;
 use crate::texts::text_value;
 use ild_cbor::{Kind, Node, Piece};
-use ild_layer_fields::text_of_field;
 use ild_layer_piece::entry;
-use ild_schema::Field;
+use ild_schema::{Field, text_of_field};
 
 // A part that is written.
 fn held(node: Node<'_>) -> Part<'_>
@@ -93,8 +92,7 @@ impl<'b> StructParts<'b> {
         ensures part { (rows : List Row) (ty : ℕ) (t : Data) (os : List (Option Data)) → ArePartsOf rows ty t os self.now → IsFieldOf rows (fields_of self.now) os i result }
         ensures numbered { (rows : List Row) → HasNumber rows result }
     {
-        // It does no work: its clauses say that the names of fields are apart.
-        self.fields.acc.types();
+        self.fields.acc.recall();
         let field = &self.fields.def.fields.as_slice()[i];
         match &self.source {
             Source::Map(piece) => keyed(field, entry(self.fields.acc, piece, text_of_field(field))),

@@ -72,8 +72,7 @@ pub fn layer<'b>(acc: &'b Accepted, ty: TypeNo, piece: Piece<'b>) -> Result<Stru
     ensures fields { IfOk result (λ parts. (s : Struct) → IsStruct acc.now ty.0 s → fields_of parts ≡ s.fields) }
     ensures refused { IfErr result (λ why. (t : Data) → StandsFor acc.now piece.entry t → Refused acc.now ty.0 t why) }
 {
-    // It does no work: its clauses say what acceptance says of the struct.
-    acc.types();
+    acc.recall();
     let base = acc.base(ty);
     match acc.def(base) {
         TypeDef::Struct(def) => {

@@ -17,8 +17,7 @@ impl<'b> StructParts<'b> {
     fn all(&self) -> Left<'b>
         ensures { (rows : List Row) (ty : ℕ) (t : Data) (os : List (Option Data)) → ArePartsOf rows ty t os self.now → Starts (fields_of self.now) os result }
     {
-        // It does no work: its clauses say that the names of fields are apart.
-        self.fields.acc.types();
+        self.fields.acc.recall();
         match &self.source {
             Source::Map(piece) => match entries(self.fields.acc, piece) {
                 Some(entries) => Left::Map(entries, 0),

@@ -1,9 +1,10 @@
 //! What stands behind the prefix of one member.
 ghost use Rattle.std.specs.Prelude.{◌≡◌, ◌≤◌, List, MatchOption, length, option_map, ℕ};
-ghost use Rattle.ild_schema.specs.Hex.{hex_byte, bytes_of_hex, hex_digit};
+ghost use Rattle.ild_schema.specs.Hex.{bytes_of_hex};
 ghost use Rattle.ild_schema.specs.Marks.{text_of};
 ghost use Rattle.ild_text.specs.Prefix.{bytes_mark, IsBehind, Passes, Strips};
 
+use crate::hex::hex_byte;
 use ild_schema::Mark;
 
 /// What stands behind the text of a mark.
@@ -14,27 +15,6 @@ pub fn behind_text<'b>(text: &'b str, mark: &Mark) -> Option<&'b str>
         Mark::Text(prefix) => text.strip_prefix(prefix.as_str()),
         Mark::Bare | Mark::Kind(_) => None,
     }
-}
-
-/// The number of a hexadecimal digit, of either case.
-fn hex_digit(c: u8) -> Option<u8>
-    ensures { result ≡ hex_digit c }
-{
-    match c {
-        b'0'..=b'9' => Some(c - b'0'),
-        b'A'..=b'F' => Some(c - b'A' + 10),
-        b'a'..=b'f' => Some(c - b'a' + 10),
-        _ => None,
-    }
-}
-
-/// The byte that two hexadecimal digits stand for.
-fn hex_byte(high: u8, low: u8) -> Option<u8>
-    ensures { result ≡ hex_byte high low }
-{
-    let high = hex_digit(high)?;
-    let low = hex_digit(low)?;
-    Some(16 * high + low)
 }
 
 /// One byte of a prefix is passed over: what stands behind it, and the digits that are left.

@@ -75,7 +75,7 @@ pub(crate) fn envelope<'b>(
     ensures within { IfOk result (λ p. IsPartOf acc.now ty.0 p.0) }
     ensures plain { IfOk result (λ p. passes_over p.1 ≡ false) }
 {
-    let _types = acc.types();
+    acc.recall();
     let Some(left) = entries(acc, piece) else {
         return Err(Why::Kind);
     };

@@ -22,7 +22,7 @@ pub fn from_shown(alloc: Global, acc: &Accepted, slot: Slot, tree: Tree) -> Resu
     ensures none { IfErr result (MeansNone acc.now slot (data_of tree)) }
 {
     // These two do no work: their clauses say what acceptance says of the types, and that the data are a tree.
-    acc.types();
+    acc.recall();
     tree.well_formed();
     tree_value(alloc, acc, slot, tree)
 }

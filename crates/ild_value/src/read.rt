@@ -167,8 +167,7 @@ fn fields(
     ensures ok { IfOk result (λ fields. Means acc.now slot (D.map entries) (V.struct fields)) }
     ensures err { IfErr result (IsRefused acc.now slot (D.map entries)) }
 {
-    // It does no work: its clauses say what acceptance says of the struct.
-    acc.types();
+    acc.recall();
     if !are_named(acc, slot, def, &entries) {
         return Err(ShownErr::Mismatch {
             ty: slot.ty,

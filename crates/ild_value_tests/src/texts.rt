@@ -71,8 +71,7 @@ fn value_slot(acc: &Accepted, name: &str) -> Result<Slot, &'static str>
     ensures text { IfOk result (IsTextSlot acc.now) }
 {
     let map = slot_of(acc, name)?;
-    // It does no work: its clauses say that such values are texts.
-    acc.types();
+    acc.recall();
     match acc.def(map.ty) {
         TypeDef::Map { value, form, .. } => match form {
             MapForm::StringPairs(_, _) => Ok(*value),

@@ -39,8 +39,7 @@ impl<'b> View<'b> {
                 None
             };
         }
-        // It does no work: its clauses say what acceptance says of the table.
-        let _types = self.acc.types();
+        self.acc.recall();
         match index(segment) {
             Some(i) => self.item(i),
             None => None,

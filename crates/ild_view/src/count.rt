@@ -98,8 +98,7 @@ impl<'b> View<'b> {
     pub fn len(&self) -> Option<u64>
         ensures { (f : Value) → IsView self.now f → result ≡ count_in (seen (table_of self.now) (slot_of self.now, f)) }
     {
-        // It does no work: its clauses say what acceptance says of the table.
-        let _types = self.acc.types();
+        self.acc.recall();
         if self.is_null_there() {
             return None;
         }

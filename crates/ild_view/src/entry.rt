@@ -17,8 +17,7 @@ impl<'b> View<'b> {
     pub fn entry(&self, key: &str) -> Option<View<'b>>
         ensures { (f : Value) → IsView self.now f → HandsOut (table_of self.now) (entry_at (seen (table_of self.now) (slot_of self.now, f)) key.now) result }
     {
-        // It does no work: its clauses say what acceptance says of the table.
-        let _types = self.acc.types();
+        self.acc.recall();
         if self.is_null_there() {
             return None;
         }

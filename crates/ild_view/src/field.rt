@@ -54,8 +54,7 @@ impl<'b> View<'b> {
     pub fn field(&self, name: &str) -> Option<View<'b>>
         ensures { (f : Value) → IsView self.now f → HandsOut (table_of self.now) (field_named (seen (table_of self.now) (slot_of self.now, f)) name.now) result }
     {
-        // It does no work: its clauses say what acceptance says of the table.
-        let _types = self.acc.types();
+        self.acc.recall();
         if self.is_null_there() {
             return None;
         }

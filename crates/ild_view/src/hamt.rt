@@ -40,8 +40,7 @@ impl<'b> View<'b> {
     pub fn hamt(&self) -> Option<NodeView<'b>>
         ensures { (f : Value) → IsView self.now f → RootIs (shape_in (form_of (table_of self.now) (slot_of self.now))) (root_in f) result }
     {
-        // It does no work: its clauses say what acceptance says of the table.
-        let _types = self.acc.types();
+        self.acc.recall();
         if self.is_null_there() {
             return None;
         }

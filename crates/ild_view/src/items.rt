@@ -87,8 +87,7 @@ impl<'b> View<'b> {
     pub fn items(&self) -> Option<ViewItems<'b>>
         ensures { (f : Value) → IsView self.now f → FindsItems (table_of self.now) (elements_in (seen (table_of self.now) (slot_of self.now, f))) result }
     {
-        // It does no work: its clauses say what acceptance says of the table.
-        let _types = self.acc.types();
+        self.acc.recall();
         if self.is_null_there() {
             return None;
         }

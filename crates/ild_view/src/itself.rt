@@ -13,8 +13,7 @@ impl<'b> View<'b> {
     pub(crate) fn itself(&self) -> Option<Body<'b>>
         ensures { (f : Value) → IsView self.now f → Embodies (table_of self.now) (itself f) result }
     {
-        // It does no work: its clauses say what acceptance says of the table.
-        let _types = self.acc.types();
+        self.acc.recall();
         if self.is_null_there() {
             return Some(self.body);
         }

@@ -16,8 +16,7 @@ impl<'b> View<'b> {
     pub fn member(&self) -> Option<(&'b str, View<'b>)>
         ensures { (f : Value) → IsView self.now f → HandsOutMember (table_of self.now) (member_held (seen (table_of self.now) (slot_of self.now, f))) result }
     {
-        // It does no work: its clauses say what acceptance says of the table.
-        let _types = self.acc.types();
+        self.acc.recall();
         if self.is_null_there() {
             return None;
         }

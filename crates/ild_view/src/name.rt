@@ -16,8 +16,7 @@ impl<'b> View<'b> {
     pub fn enum_name(&self) -> Option<&'b str>
         ensures { (f : Value) → IsView self.now f → option_map (λ s. s.now) result ≡ enum_name_of (form_of (table_of self.now) (slot_of self.now)) f }
     {
-        // It does no work: its clauses say what acceptance says of the table.
-        let _types = self.acc.types();
+        self.acc.recall();
         if self.is_null_there() {
             return None;
         }

@@ -16,8 +16,7 @@ impl<'b> View<'b> {
     pub fn is_null(&self) -> bool
         ensures { (f : Value) → IsView self.now f → (result ≡ true) ↔ (f ≡ null) }
     {
-        // It does no work: its clauses say what acceptance says of the table.
-        let _types = self.acc.types();
+        self.acc.recall();
         self.is_null_there()
     }
 

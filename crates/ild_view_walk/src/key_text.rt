@@ -30,8 +30,7 @@ pub fn fits_text(
     requires { ty.0 < length acc.now }
     ensures { IfOk result (λ b. (b ≡ true) ↔ Shows (Fits acc.now room) acc.now (plainly ty) (T.text text.now)) }
 {
-    // It does no work: its clauses say what acceptance says of the table.
-    let _types = acc.types();
+    acc.recall();
     match check_key(alloc, acc, ty, text, room) {
         Ok(()) => Ok(true),
         Err(ViewErr::Shape { .. }) => Ok(false),
@@ -51,8 +50,7 @@ pub fn check_key(
     requires { ty.0 < length acc.now }
     ensures { KeyChecks acc.now room ty text.now result }
 {
-    // It does no work: its clauses say what acceptance says of the table.
-    let _types = acc.types();
+    acc.recall();
     let slot = Slot {
         ty,
         nullable: false,

@@ -48,7 +48,7 @@ pub(crate) fn open_enum<'b>(
     ensures many { OpensMany result }
 {
     let _room = room;
-    let _types = acc.types();
+    acc.recall();
     match layer(acc, ty, *piece) {
         Ok(_) => Ok(None),
         Err(why) => Err(Stop::Why(why)),
@@ -69,7 +69,7 @@ pub(crate) fn open_unit<'b>(
     ensures ready { IsOpening acc.now room result }
     ensures many { OpensMany result }
 {
-    let _types = acc.types();
+    acc.recall();
     match unit(acc, ty, *piece) {
         Ok(()) => {
             if room < 1 {

@@ -47,8 +47,7 @@ fn open_into<'b>(
     ensures ready { OnOk result (AllByRecursion (IsReady acc.now) todo.old.items → AllByRecursion (IsReady acc.now) todo.new.items) }
     ensures spreads { IfOk result (λ b. (p : Spot) → IsSpotted acc.now part.entry p → IsPlain acc.now p → Spreads acc.now p todo.old.items todo.new.items b) }
 {
-    // It does no work: its clauses say what acceptance says of the table.
-    let _types = acc.types();
+    acc.recall();
     if is_null_there(part.slot, &part.piece) {
         return Ok(true);
     }

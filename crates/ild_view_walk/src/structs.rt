@@ -45,8 +45,7 @@ pub(crate) fn open_struct<'b>(
     ensures ready { IsOpening acc.now room result }
     ensures many { OpensMany result }
 {
-    // It does no work: its clauses say what acceptance says of the struct.
-    let _types = acc.types();
+    acc.recall();
     let parts = match layer(acc, ty, *piece) {
         Ok(parts) => parts,
         Err(why) => return Err(Stop::Why(why)),

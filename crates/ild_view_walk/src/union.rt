@@ -52,8 +52,7 @@ pub(crate) fn open_union<'b>(
     ensures ready { IsOpening acc.now room result }
     ensures inside { IsOpenInside acc.now ty.0 piece.now result }
 {
-    // It does no work: its clauses say what acceptance says of the union.
-    let _types = acc.types();
+    acc.recall();
     let (number, part) = match layer(acc, ty, *piece) {
         Ok(found) => found,
         Err(why) => return Err(Stop::Why(why)),

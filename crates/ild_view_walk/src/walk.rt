@@ -45,8 +45,7 @@ pub(crate) fn open_piece<'b>(
     ensures ready { IsOpening acc.now room result }
     ensures inside { IsOpenInside acc.now slot.ty.0 piece.now result }
 {
-    // It does no work: its clauses say what acceptance says of the table.
-    let _types = acc.types();
+    acc.recall();
     match acc.def(acc.base(slot.ty)) {
         TypeDef::Bool => open_scalar(Kind::Bool, piece, room),
         TypeDef::Text => open_scalar(Kind::Text, piece, room),
@@ -96,8 +95,7 @@ pub(crate) fn check_piece<'b>(
     ensures checks { (t : Data) → StandsFor acc.now piece.now t → IsTree t → Checks acc.now room slot t result }
     ensures place { (t : Data) → StandsFor acc.now piece.now t → IsTree t → IfErr result (TellsPlaceIn acc.now room slot piece.now t) }
 {
-    // It does no work: its clauses say what acceptance says of the table.
-    let _types = acc.types();
+    acc.recall();
     if is_null_there(slot, piece) {
         return Ok(());
     }

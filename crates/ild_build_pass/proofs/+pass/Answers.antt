@@ -179,7 +179,7 @@ maps::add_map-returns-in-ListPairs g t c = record {
 
 pub maps::add_map-returns-in-StringPairs : goal.maps::add_map-returns-in-StringPairs
 maps::add_map-returns-in-StringPairs g t c = record {
-  ok = map_text g.H.KeyHash.hash_of c.args.acc.now c.types-legible.ensures.legible c.add_as_text.result c.args.out.now c.add_as_text.new.out c.args.nodes.now c.args.slot (value_of c.args.val.now) c.args.pairs.now c.requires.same c.requires.fits
+  ok = map_text g.H.KeyHash.hash_of c.args.acc.now c.recall.ensures.legible c.add_as_text.result c.args.out.now c.add_as_text.new.out c.args.nodes.now c.args.slot (value_of c.args.val.now) c.args.pairs.now c.requires.same c.requires.fits
       c.in-Map.key c.in-Map.key_at c.in-Map.value c.in-Map.at c.in-Map.form _ c.form_of.result.now c.form_of.ensures.same c.in-Map.is c.in-StringPairs.is refl c.add_as_text.ensures.ok;
   err = unchanged c.add_as_text.result c.args.out.now c.add_as_text.new.out c.add_as_text.ensures.err;
 }
@@ -255,7 +255,7 @@ maps::add_hamt-add-requires g t c = λ κs le.
 pub maps::add_hamt-loop-i-preserved : goal.maps::add_hamt-loop-i-preserved
 maps::add_hamt-loop-i-preserved g t c =
     let b = c.in_ok-begun.ensures in
-    marked_round g.H.KeyHash.hash_of c.args.acc.now c.args.value c.types-legible.ensures.legible.made c.types-legible.ensures.table.texts.spelled (pairs_list c.args.pairs.now) c.requires.fits c.loop-i.i c.in-Some.key.now (value_of c.in-Some.val.now) (sym c.in-Some.ensures) c.loop-i.entries _ c.end_entry.new.entries
+    marked_round g.H.KeyHash.hash_of c.args.acc.now c.args.value c.recall.ensures.legible.made c.recall.ensures.table.texts.spelled (pairs_list c.args.pairs.now) c.requires.fits c.loop-i.i c.in-Some.key.now (value_of c.in-Some.val.now) (sym c.in-Some.ensures) c.loop-i.entries _ c.end_entry.new.entries
     c.args.nodes.now c.loop-i.nodes c.add.new.nodes c.end_entry.new.nodes _ c.in_ok-begun.begun.from c.in_ok-begun.begun.value_from c.loop-i.invariant b.begins b.marks c.in_ok-add.ensures.ok b.at b.value_at c.in_ok-end_entry.ensures
 
 pub maps::add_hamt-returns-in_default : goal.maps::add_hamt-returns-in_default
@@ -295,7 +295,7 @@ pub structs::add_struct-add_fields-requires : goal.structs::add_struct-add_field
 structs::add_struct-add_fields-requires g t c = λ κs le.
     let parts = fields_in c.args.acc.now c.args.slot c.form_of.result.now c.form_of.ensures.same c.form_of.ensures.within c.in-Struct.def c.args.vals.now c.in-Struct.is c.requires.fits in
     let is = c.form_of.ensures.same ∙ ap Some c.in-Struct.is in
-    (omega arith, (le, (c.requires.within, (is, (parts.low, (parts.each, names_apart c.args.acc.now c.types-legible.ensures.legible c.args.slot c.in-Struct.def is c.in-Map.is))))))
+    (omega arith, (le, (c.requires.within, (is, (parts.low, (parts.each, names_apart c.args.acc.now c.recall.ensures.legible c.args.slot c.in-Struct.def is c.in-Map.is))))))
 
 pub structs::add_struct-add_tuple-requires : goal.structs::add_struct-add_tuple-requires
 structs::add_struct-add_tuple-requires g t c = λ κs le.
@@ -309,31 +309,31 @@ structs::add_struct-add_listed-requires g t c = λ κs le.
 
 pub structs::add_struct-returns-in-Map : goal.structs::add_struct-returns-in-Map
 structs::add_struct-returns-in-Map g t c = record {
-  ok = fields_layer g.H.KeyHash.hash_of c.args.acc.now c.add_fields.result c.args.out.now c.add_fields.new.out c.args.nodes.now c.add_fields.new.nodes c.types-legible.ensures.legible c.args.slot c.in-Struct.def c.args.vals.now c.form_of.result.now c.form_of.ensures.same c.in-Struct.is c.in-Map.is c.add_fields.ensures.ok;
+  ok = fields_layer g.H.KeyHash.hash_of c.args.acc.now c.add_fields.result c.args.out.now c.add_fields.new.out c.args.nodes.now c.add_fields.new.nodes c.recall.ensures.legible c.args.slot c.in-Struct.def c.args.vals.now c.form_of.result.now c.form_of.ensures.same c.in-Struct.is c.in-Map.is c.add_fields.ensures.ok;
   err = c.add_fields.ensures.err;
 }
 
 pub structs::add_struct-returns-in-Tuple : goal.structs::add_struct-returns-in-Tuple
 structs::add_struct-returns-in-Tuple g t c = record {
-  ok = tuple_layer g.H.KeyHash.hash_of c.args.acc.now c.add_tuple.result c.args.out.now c.add_tuple.new.out c.args.nodes.now c.add_tuple.new.nodes c.types-legible.ensures.legible c.args.slot c.in-Struct.def c.args.vals.now c.form_of.result.now c.form_of.ensures.same c.in-Struct.is c.in-Tuple.is c.add_tuple.ensures.ok;
+  ok = tuple_layer g.H.KeyHash.hash_of c.args.acc.now c.add_tuple.result c.args.out.now c.add_tuple.new.out c.args.nodes.now c.add_tuple.new.nodes c.recall.ensures.legible c.args.slot c.in-Struct.def c.args.vals.now c.form_of.result.now c.form_of.ensures.same c.in-Struct.is c.in-Tuple.is c.add_tuple.ensures.ok;
   err = c.add_tuple.ensures.err;
 }
 
 pub structs::add_struct-returns-in-ListPairs : goal.structs::add_struct-returns-in-ListPairs
 structs::add_struct-returns-in-ListPairs g t c = record {
-  ok = listed_layer g.H.KeyHash.hash_of c.args.acc.now c.add_listed.result c.args.out.now c.add_listed.new.out c.args.nodes.now c.add_listed.new.nodes c.types-legible.ensures.legible c.args.slot c.in-Struct.def c.args.vals.now c.form_of.result.now c.form_of.ensures.same c.in-Struct.is c.in-ListPairs.is c.add_listed.ensures.ok;
+  ok = listed_layer g.H.KeyHash.hash_of c.args.acc.now c.add_listed.result c.args.out.now c.add_listed.new.out c.args.nodes.now c.add_listed.new.nodes c.recall.ensures.legible c.args.slot c.in-Struct.def c.args.vals.now c.form_of.result.now c.form_of.ensures.same c.in-Struct.is c.in-ListPairs.is c.add_listed.ensures.ok;
   err = c.add_listed.ensures.err;
 }
 
 pub structs::add_struct-returns-in-StringPairs : goal.structs::add_struct-returns-in-StringPairs
 structs::add_struct-returns-in-StringPairs g t c = record {
-  ok = struct_text g.H.KeyHash.hash_of c.args.acc.now c.types-legible.ensures.legible c.add_as_text.result c.args.out.now c.add_as_text.new.out c.args.nodes.now c.args.slot (value_of c.args.val.now) c.args.vals.now c.requires.same c.requires.fits c.in-Struct.def c.form_of.result.now c.form_of.ensures.same c.in-Struct.is (ap is_text_struct c.in-StringPairs.is) c.add_as_text.ensures.ok;
+  ok = struct_text g.H.KeyHash.hash_of c.args.acc.now c.recall.ensures.legible c.add_as_text.result c.args.out.now c.add_as_text.new.out c.args.nodes.now c.args.slot (value_of c.args.val.now) c.args.vals.now c.requires.same c.requires.fits c.in-Struct.def c.form_of.result.now c.form_of.ensures.same c.in-Struct.is (ap is_text_struct c.in-StringPairs.is) c.add_as_text.ensures.ok;
   err = unchanged c.add_as_text.result c.args.out.now c.add_as_text.new.out c.add_as_text.ensures.err;
 }
 
 pub structs::add_struct-returns-in-StringJoin : goal.structs::add_struct-returns-in-StringJoin
 structs::add_struct-returns-in-StringJoin g t c = record {
-  ok = struct_text g.H.KeyHash.hash_of c.args.acc.now c.types-legible.ensures.legible c.add_as_text-in-StringJoin.result c.args.out.now c.add_as_text-in-StringJoin.new.out c.args.nodes.now c.args.slot (value_of c.args.val.now) c.args.vals.now c.requires.same c.requires.fits
+  ok = struct_text g.H.KeyHash.hash_of c.args.acc.now c.recall.ensures.legible c.add_as_text-in-StringJoin.result c.args.out.now c.add_as_text-in-StringJoin.new.out c.args.nodes.now c.args.slot (value_of c.args.val.now) c.args.vals.now c.requires.same c.requires.fits
       c.in-Struct.def c.form_of.result.now c.form_of.ensures.same c.in-Struct.is (ap is_text_struct c.in-StringJoin.is) c.add_as_text-in-StringJoin.ensures.ok;
   err = unchanged c.add_as_text-in-StringJoin.result c.args.out.now c.add_as_text-in-StringJoin.new.out c.add_as_text-in-StringJoin.ensures.err;
 }
@@ -450,12 +450,12 @@ structs::add_places-returns-in_err-add_entry g t c = record { ok = no_ok c.from_
 
 pub unions::add_union-add_member-requires : goal.unions::add_union-add_member-requires
 unions::add_union-add_member-requires g t c = λ κs le.
-    let member = member_in c.args.acc.now c.args.slot c.form_of.result.now c.form_of.ensures.same c.form_of.ensures.within c.types-legible.ensures.legible c.in-Union.def c.args.number c.in-Some.member.now c.args.part.now c.in-Union.is c.in-Some.ensures c.requires.fits in
+    let member = member_in c.args.acc.now c.args.slot c.form_of.result.now c.form_of.ensures.same c.form_of.ensures.within c.recall.ensures.legible c.in-Union.def c.args.number c.in-Some.member.now c.args.part.now c.in-Union.is c.in-Some.ensures c.requires.fits in
     (omega arith, (le, (member.low, ((λ e. c.in_default-form.not-StringPrefix e), (member.made, (member.apart, member.fits))))))
 
 pub unions::add_union-returns-in-StringPrefix : goal.unions::add_union-returns-in-StringPrefix
 unions::add_union-returns-in-StringPrefix g t c = record {
-  ok = prefix_text g.H.KeyHash.hash_of c.args.acc.now c.types-legible.ensures.legible c.add_as_text.result c.args.out.now c.add_as_text.new.out c.args.nodes.now c.args.slot (value_of c.args.val.now) c.args.number c.args.part.now c.requires.same c.requires.fits c.in-Union.def c.form_of.result.now c.form_of.ensures.same c.in-Union.is c.in-StringPrefix.is c.add_as_text.ensures.ok;
+  ok = prefix_text g.H.KeyHash.hash_of c.args.acc.now c.recall.ensures.legible c.add_as_text.result c.args.out.now c.add_as_text.new.out c.args.nodes.now c.args.slot (value_of c.args.val.now) c.args.number c.args.part.now c.requires.same c.requires.fits c.in-Union.def c.form_of.result.now c.form_of.ensures.same c.in-Union.is c.in-StringPrefix.is c.add_as_text.ensures.ok;
   err = unchanged c.add_as_text.result c.args.out.now c.add_as_text.new.out c.add_as_text.ensures.err;
 }
 
@@ -568,7 +568,7 @@ unions::add_inline-returns-in_ok-add_tag-in-Struct-Struct g t c =
     let sides = c.in_ok-sides-in-Struct-Struct in
     let last = c.add_places-in-Struct-Struct in
     record {
-      ok = inline_layer g.H.KeyHash.hash_of c.args.acc.now c.args.slot h.def h.vals c.args.tag.key.now c.args.tag.name.now last.result (value_of c.args.val.now) c.form_of.result.now c.types-legible.ensures.legible c.form_of.ensures.same h.is-0 (ap value_of h.is-1) c.requires.map c.requires.apart
+      ok = inline_layer g.H.KeyHash.hash_of c.args.acc.now c.args.slot h.def h.vals c.args.tag.key.now c.args.tag.name.now last.result (value_of c.args.val.now) c.form_of.result.now c.recall.ensures.legible c.form_of.ensures.same h.is-0 (ap value_of h.is-1) c.requires.map c.requires.apart
           sides.sides.before.now sides.sides.behind.now sides.ensures.sides c.args.out.now c.begin_inline.new.out c.add_places.new.out c.add_tag.new.out last.new.out c.args.nodes.now c.add_places.new.nodes last.new.nodes
           sides.ensures.ok c.in_ok-add_places-in-Struct-Struct.ensures.ok c.in_ok-add_tag-in-Struct-Struct.ensures.ok last.ensures.ok;
       err = failed_on last.result c.args.out.now c.add_tag.new.out last.new.out (grown_around c.args.out.now c.begin_inline.new.out c.add_places.new.out c.add_tag.new.out _ _ c.in_ok-sides-in-Struct-Struct.ensures.ok c.in_ok-add_places-in-Struct-Struct.ensures.ok.grown c.in_ok-add_tag-in-Struct-Struct.ensures.ok) last.ensures.err;

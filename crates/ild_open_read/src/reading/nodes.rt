@@ -41,8 +41,7 @@ fn pass_entry<'b, K: Store, H: KeyHash>(
     ensures passes { PassesBucketEntry H.hash_of read_as.shape acc.now read_as.room read_as.key read_as.value way.now at.0 i key.now item.entry (K.moment store.old) result (K.moment store.new) }
     ensures sound { AreSound H.hash_of acc.now (K.moment store.new) known.new }
 {
-    // It does no work: its clauses say what acceptance says of the table.
-    let _types = acc.types();
+    acc.recall();
     if !fits(reader.keys, read_as.shape, way, i, key) {
         return Err(no_trie(at));
     }

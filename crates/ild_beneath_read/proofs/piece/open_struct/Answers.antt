@@ -9,14 +9,14 @@ returns-in-Some-clause-parted c = λ t stands. named_parted c.args.def.now.form 
 
 pub returns-in-Some-clause-ready : goal.returns-in-Some-clause-ready
 returns-in-Some-clause-ready c =
-    (clear_named c.args.def.now c.in-Map.is (c.types-types.ensures.legible.clear.types c.args.base.0 (D.Struct c.args.def.now) c.requires.known), fields_in c.args.acc.now c.args.def.now c.requires.parts)
+    (clear_named c.args.def.now c.in-Map.is (c.recall.ensures.legible.clear.types c.args.base.0 (D.Struct c.args.def.now) c.requires.known), fields_in c.args.acc.now c.args.def.now c.requires.parts)
 
 pub returns-in-Some-items-clause-parted : goal.returns-in-Some-items-clause-parted
 returns-in-Some-items-clause-parted c = λ t stands. listed_parted c.args.def.now.form c.args.def.now.fields t c.in-Some-items.items c.in-ListPairs.is (c.in-Some-items.ensures c.args.acc.now t stands)
 
 pub returns-in-Some-items-clause-ready : goal.returns-in-Some-items-clause-ready
 returns-in-Some-items-clause-ready c =
-    (clear_listed c.args.def.now c.in-ListPairs.is (c.types-types.ensures.legible.clear.types c.args.base.0 (D.Struct c.args.def.now) c.requires.known), fields_in c.args.acc.now c.args.def.now c.requires.parts)
+    (clear_listed c.args.def.now c.in-ListPairs.is (c.recall.ensures.legible.clear.types c.args.base.0 (D.Struct c.args.def.now) c.requires.known), fields_in c.args.acc.now c.args.def.now c.requires.parts)
 
 pub returns-in-Some-items-2-clause-parted : goal.returns-in-Some-items-2-clause-parted
 returns-in-Some-items-2-clause-parted c = λ t stands.

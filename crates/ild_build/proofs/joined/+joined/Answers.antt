@@ -15,7 +15,7 @@ returns-then-is_text_layer t c =
     let rows = c.args.acc.now in
     let v = value_of c.args.val.now in
     let layer = text_layer rows c.args.slot v c.form_of-def.result.now c.form_of-def.ensures.same (sym c.is_text_layer.ensures ∙ c.if-is_text_layer.true) in
-    λ typed hole. answer_joined rows c.types-legible.ensures.legible.made c.args.slot v layer typed hole _ _ c.in_ok-add_text.field-0 c.in_ok-add_text.ensures
+    λ typed hole. answer_joined rows c.recall.ensures.legible.made c.args.slot v layer typed hole _ _ c.in_ok-add_text.field-0 c.in_ok-add_text.ensures
 
 pub breaks_delimiter-requires : goal.breaks_delimiter-requires
 breaks_delimiter-requires t c =

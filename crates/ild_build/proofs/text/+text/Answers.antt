@@ -173,13 +173,13 @@ add_text-add_joined-requires t c =
     let rows = c.args.acc.now in
     let h = c.in-Struct-Struct in
     let lower = ap (λ v. height (value_of v)) h.is-1 in
-    let some = join_given rows c.types-legible.ensures.legible c.args.slot h.def c.in-StringJoin.delim (c.form_of.ensures.same ∙ ap Some h.is-0) c.in-StringJoin.is in
+    let some = join_given rows c.recall.ensures.legible c.args.slot h.def c.in-StringJoin.delim (c.form_of.ensures.same ∙ ap Some h.is-0) c.in-StringJoin.is in
     (omega arith, (subst (IsWithin (length rows)) h.is-0 c.form_of.ensures.within, subst (λ d. 0 < length d) (sym c.as_str-in-StringJoin.ensures.same) some))
 
 pub add_text-invariant_of-delims : goal.add_text-invariant_of-delims
 add_text-invariant_of-delims t c =
     let h = c.in-Struct-Struct in
-    let some = fields_given c.args.acc.now c.types-legible.ensures.legible c.args.slot h.def c.in-StringPairs.inner c.in-StringPairs.entry (c.form_of.ensures.same ∙ ap Some h.is-0) c.in-StringPairs.is in
+    let some = fields_given c.args.acc.now c.recall.ensures.legible c.args.slot h.def c.in-StringPairs.inner c.in-StringPairs.entry (c.form_of.ensures.same ∙ ap Some h.is-0) c.in-StringPairs.is in
     record {
       inner_some = subst (λ d. 0 < length d) (sym c.as_str-in-StringPairs.ensures.same) some.0;
       entry_some = subst (λ d. 0 < length d) (sym c.as_str-in-StringPairs-2.ensures.same) some.1;
@@ -190,13 +190,13 @@ add_text-add_fields-requires t c =
     let rows = c.args.acc.now in
     let h = c.in-Struct-Struct in
     let lower = ap (λ v. height (value_of v)) h.is-1 in
-    (omega arith, (subst (IsWithin (length rows)) h.is-0 c.form_of.ensures.within, fitting rows c.types-legible.ensures.legible c.args.slot h.def (c.form_of.ensures.same ∙ ap Some h.is-0)))
+    (omega arith, (subst (IsWithin (length rows)) h.is-0 c.form_of.ensures.within, fitting rows c.recall.ensures.legible c.args.slot h.def (c.form_of.ensures.same ∙ ap Some h.is-0)))
 
 pub add_text-invariant_of-delims-in-StringPairs-form : goal.add_text-invariant_of-delims-in-StringPairs-form
 add_text-invariant_of-delims-in-StringPairs-form t c =
     let h = c.in-Map-Map in
     let k = c.in-StringPairs-form in
-    let some = map_given c.args.acc.now c.types-legible.ensures.legible c.args.slot h.key-0 h.key_at-0 h.value h.at-0 h.form k.inner k.entry (c.form_of.ensures.same ∙ ap Some h.is-0) k.is in
+    let some = map_given c.args.acc.now c.recall.ensures.legible c.args.slot h.key-0 h.key_at-0 h.value h.at-0 h.form k.inner k.entry (c.form_of.ensures.same ∙ ap Some h.is-0) k.is in
     record {
       inner_some = subst (λ d. 0 < length d) (sym c.as_str-in-StringPairs-form.ensures.same) some.0;
       entry_some = subst (λ d. 0 < length d) (sym c.as_str-in-StringPairs-form-2.ensures.same) some.1;
@@ -217,7 +217,7 @@ add_text-returns-in-StringPairs t c =
     let k = c.in-StringPairs in
     let is = c.form_of.ensures.same ∙ ap Some h.is-0 in
     answered _ _ _ _ _
-    (ap (λ v. text_rep rows c.args.slot (value_of v)) h.is-1 ∙ fields_rep rows c.args.slot h.fields h.def k.inner k.entry (fitting rows c.types-legible.ensures.legible c.args.slot h.def is) is k.is
+    (ap (λ v. text_rep rows c.args.slot (value_of v)) h.is-1 ∙ fields_rep rows c.args.slot h.fields h.def k.inner k.entry (fitting rows c.recall.ensures.legible c.args.slot h.def is) is k.is
     ∙ ap (λ d. option_and_then (join_pairs d k.entry) (field_pairs rows h.def.fields (optionals_list h.fields))) (sym c.as_str-in-StringPairs.ensures.same)
     ∙ ap (λ d. option_and_then (join_pairs c.as_str-in-StringPairs.result.now d) (field_pairs rows h.def.fields (optionals_list h.fields))) (sym c.as_str-in-StringPairs-2.ensures.same)) c.add_fields.ensures
 

@@ -13,5 +13,5 @@ pub returns-in-Err-Shape : goal.returns-in-Err-Shape
 returns-in-Err-Shape c = λ t stands memory.
     let r = rw c.in-Err-Shape.field-0-is at (c.in-Err-Shape.ensures.views t stands) in
     not_found
-    (λ f front. absurd (c.refused_have_no_front.ensures c.args.acc.now (record { table = c.types-types.ensures.table; accepted = c.types-types.ensures.accepted }) c.args.room c.args.slot (safe_is c.args.acc.now c.args.slot c.requires.safe) t r.refusal r.refused f front))
+    (λ f front. absurd (c.refused_have_no_front.ensures c.args.acc.now (record { table = c.recall.ensures.table; accepted = c.recall.ensures.accepted }) c.args.room c.args.slot (safe_is c.args.acc.now c.args.slot c.requires.safe) t r.refusal r.refused f front))
     refl

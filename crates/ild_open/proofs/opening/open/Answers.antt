@@ -13,7 +13,7 @@ returns-in-Err g c =
     let h = g.H.KeyHash.hash_of in
     let rows = c.args.acc.now in
     let m = g.K.Store.moment c.args.store.now in
-    open_stops rows (record { table = c.types-types.ensures.table; accepted = c.types-types.ensures.accepted }) h c.args.ty c.args.id.now.0 c.types-types.ensures.legible
+    open_stops rows (record { table = c.recall.ensures.table; accepted = c.recall.ensures.accepted }) h c.args.ty c.args.id.now.0 c.recall.ensures.legible
     (HasKept h rows c.args.ty c.args.id.now.0 (g.K.Store.moment c.find.new.store) c.args.keep) m (g.K.Store.moment c.find.new.store) c.in-Err.fault c.in-Err.ensures
 
 pub read_root-requires-clause-faultless : goal.read_root-requires-clause-faultless
@@ -31,7 +31,7 @@ returns-in-Ok-read_root g c =
     let m = g.K.Store.moment c.args.store.now in
     let k = g.K.Store.moment c.find.new.store in
     let n = g.K.Store.moment c.read_root.new.store in
-    open_goes rows (record { table = c.types-types.ensures.table; accepted = c.types-types.ensures.accepted }) h c.args.ty c.args.id.now.0 m k n c.in-Ok.doc c.in-Ok.ensures c.args.keep
+    open_goes rows (record { table = c.recall.ensures.table; accepted = c.recall.ensures.accepted }) h c.args.ty c.args.id.now.0 m k n c.in-Ok.doc c.in-Ok.ensures c.args.keep
     (subst AreBytes c.block-block.ensures c.are_bytes.ensures) c.in-Ok-read_root.val
     (subst (λ (b : List ℕ). ReadsRoot h rows c.args.ty c.args.id.now.0 b c.args.keep k (Ok c.in-Ok-read_root.val) n) c.block-block.ensures c.in-Ok-read_root.ensures)
 
@@ -42,6 +42,6 @@ returns g c =
     let m = g.K.Store.moment c.args.store.now in
     let k = g.K.Store.moment c.find.new.store in
     let n = g.K.Store.moment c.read_root.new.store in
-    open_breaks rows (record { table = c.types-types.ensures.table; accepted = c.types-types.ensures.accepted }) h c.args.ty c.args.id.now.0 m k n c.in-Ok.doc c.in-Ok.ensures c.args.keep
+    open_breaks rows (record { table = c.recall.ensures.table; accepted = c.recall.ensures.accepted }) h c.args.ty c.args.id.now.0 m k n c.in-Ok.doc c.in-Ok.ensures c.args.keep
     (HasKept h rows c.args.ty c.args.id.now.0 n c.args.keep) c.in-Err-read_root.fault
     (subst (λ (b : List ℕ). ReadsRoot h rows c.args.ty c.args.id.now.0 b c.args.keep k (Err c.in-Err-read_root.fault) n) c.block-block.ensures c.in-Err-read_root.ensures)

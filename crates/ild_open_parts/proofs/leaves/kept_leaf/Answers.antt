@@ -14,6 +14,6 @@ returns-then-keep-clause-ok c = λ t room stands front. leaf_answer c.args.acc.n
 pub returns-clause-ok : goal.returns-clause-ok
 returns-clause-ok c = λ t room stands front.
     let rows : List Row = c.args.acc.now in
-    let schema : IsSchema rows = record { table = c.types-types.ensures.table; accepted = c.types-types.ensures.accepted } in
+    let schema : IsSchema rows = record { table = c.recall.ensures.table; accepted = c.recall.ensures.accepted } in
     let x = some_leaf (form_of rows c.args.slot) c.requires.plain in
     subst (λ k. HasLeaf rows room c.args.slot t k W.Null) (sym c.if-keep.false) (leaf_passed rows schema room c.args.slot t x.0 x.1 x.2 W.Null front)

@@ -19,50 +19,50 @@ use Rattle.ild_open_parts.proofs.leaves.leaf.Goals as goal
 pub returns-in-Some-clause-ok : goal.returns-in-Some-clause-ok
 returns-in-Some-clause-ok c = λ t stands.
     let rows : List Row = c.args.acc.now in
-    let schema : IsSchema rows = record { table = c.types-types.ensures.table; accepted = c.types-types.ensures.accepted } in
+    let schema : IsSchema rows = record { table = c.recall.ensures.table; accepted = c.recall.ensures.accepted } in
     boolean_leaf rows schema c.args.slot t c.in-Some.truth (form_is rows c.args.slot c.base.result.0 c.def.result.now D.Bool c.base.ensures.same c.def.ensures.same c.in-Bool.is) (sym c.in-Some.is ∙ c.boolean.ensures rows t stands)
 
 pub returns-in-Some-int-clause-ok : goal.returns-in-Some-int-clause-ok
 returns-in-Some-int-clause-ok c = λ t stands.
     let rows : List Row = c.args.acc.now in
-    let schema : IsSchema rows = record { table = c.types-types.ensures.table; accepted = c.types-types.ensures.accepted } in
+    let schema : IsSchema rows = record { table = c.recall.ensures.table; accepted = c.recall.ensures.accepted } in
     int_leaf rows schema c.args.slot t c.in-Some-int.integer (form_is rows c.args.slot c.base.result.0 c.def.result.now D.Int c.base.ensures.same c.def.ensures.same c.in-Int.is) (sym c.in-Some-int.is ∙ c.int.ensures rows t stands)
 
 pub returns-in_ok-of-in-Some-text-clause-ok : goal.returns-in_ok-of-in-Some-text-clause-ok
 returns-in_ok-of-in-Some-text-clause-ok c = λ t stands.
     let rows : List Row = c.args.acc.now in
-    let schema : IsSchema rows = record { table = c.types-types.ensures.table; accepted = c.types-types.ensures.accepted } in
+    let schema : IsSchema rows = record { table = c.recall.ensures.table; accepted = c.recall.ensures.accepted } in
     text_leaf rows schema c.args.slot t c.in_ok-of-in-Some-text.field-0 c.in-Some-text.text.now (form_is rows c.args.slot c.base.result.0 c.def.result.now D.Text c.base.ensures.same c.def.ensures.same c.in-Text.is) (mapped_is (λ s. s.now) c.text.result c.in-Some-text.text _ c.in-Some-text.is (c.text.ensures rows t stands)) c.in_ok-of-in-Some-text.ensures
 
 pub returns-in_ok-of-in-Some-bytes-clause-ok : goal.returns-in_ok-of-in-Some-bytes-clause-ok
 returns-in_ok-of-in-Some-bytes-clause-ok c = λ t stands.
     let rows : List Row = c.args.acc.now in
-    let schema : IsSchema rows = record { table = c.types-types.ensures.table; accepted = c.types-types.ensures.accepted } in
+    let schema : IsSchema rows = record { table = c.recall.ensures.table; accepted = c.recall.ensures.accepted } in
     bytes_leaf rows schema c.args.slot t c.in_ok-of-in-Some-bytes.field-0 c.in-Some-bytes.bytes.now (form_is rows c.args.slot c.base.result.0 c.def.result.now D.Bytes c.base.ensures.same c.def.ensures.same c.in-Bytes.is) (mapped_is (λ s. s.now) c.bytes.result c.in-Some-bytes.bytes _ c.in-Some-bytes.is (c.bytes.ensures rows t stands)) c.in_ok-of-in-Some-bytes.ensures
 
 pub returns-in_ok-own-in-Some-link-clause-ok : goal.returns-in_ok-own-in-Some-link-clause-ok
 returns-in_ok-own-in-Some-link-clause-ok c = λ t stands.
     let rows : List Row = c.args.acc.now in
-    let schema : IsSchema rows = record { table = c.types-types.ensures.table; accepted = c.types-types.ensures.accepted } in
+    let schema : IsSchema rows = record { table = c.recall.ensures.table; accepted = c.recall.ensures.accepted } in
     link_leaf rows schema c.args.slot t c.in-Link.field-0 c.in_ok-own-in-Some-link.field-0 (cid_bytes c.in-Some-link.cid)
     (form_is rows c.args.slot c.base.result.0 c.def.result.now (D.Link c.in-Link.field-0) c.base.ensures.same c.def.ensures.same c.in-Link.is) (mapped_is cid_bytes c.link.result c.in-Some-link.cid _ c.in-Some-link.is (c.link.ensures rows t stands)) c.in_ok-own-in-Some-link.ensures
 
 pub returns-in-Ok-clause-ok : goal.returns-in-Ok-clause-ok
 returns-in-Ok-clause-ok c = λ t stands.
     let rows : List Row = c.args.acc.now in
-    let schema : IsSchema rows = record { table = c.types-types.ensures.table; accepted = c.types-types.ensures.accepted } in
+    let schema : IsSchema rows = record { table = c.recall.ensures.table; accepted = c.recall.ensures.accepted } in
     layered_leaf rows schema c.args.slot t (D.Unit c.in-Unit.field-0) L.unit V.unit (form_is rows c.args.slot c.base.result.0 c.def.result.now (D.Unit c.in-Unit.field-0) c.base.ensures.same c.def.ensures.same c.in-Unit.is) refl (c.in-Ok.ensures t stands)
 
 pub returns-in-Ok-layer-clause-ok : goal.returns-in-Ok-layer-clause-ok
 returns-in-Ok-layer-clause-ok c = λ t stands.
     let rows : List Row = c.args.acc.now in
-    let schema : IsSchema rows = record { table = c.types-types.ensures.table; accepted = c.types-types.ensures.accepted } in
+    let schema : IsSchema rows = record { table = c.recall.ensures.table; accepted = c.recall.ensures.accepted } in
     layered_leaf rows schema c.args.slot t (D.Enum c.in-Enum.field-0) (L.enum c.in-Ok-layer.number) (V.enum c.in-Ok-layer.number) (form_is rows c.args.slot c.base.result.0 c.def.result.now (D.Enum c.in-Enum.field-0) c.base.ensures.same c.def.ensures.same c.in-Enum.is) refl (c.in-Ok-layer.ensures.answer t stands)
 
 pub returns-in_ok-piece_tree-in-Any-clause-ok : goal.returns-in_ok-piece_tree-in-Any-clause-ok
 returns-in_ok-piece_tree-in-Any-clause-ok c = λ t stands.
     let rows : List Row = c.args.acc.now in
-    let schema : IsSchema rows = record { table = c.types-types.ensures.table; accepted = c.types-types.ensures.accepted } in
+    let schema : IsSchema rows = record { table = c.recall.ensures.table; accepted = c.recall.ensures.accepted } in
     any_leaf rows schema c.args.slot t (data_of c.in_ok-piece_tree-in-Any.field-0) (form_is rows c.args.slot c.base.result.0 c.def.result.now D.Any c.base.ensures.same c.def.ensures.same c.in-Any.is) (c.in_ok-piece_tree-in-Any.ensures t stands)
 
 pub unreachable-requires : goal.unreachable-requires
@@ -93,12 +93,12 @@ unreachable-requires-in-None-link c =
 pub unreachable-requires-in-Err : goal.unreachable-requires-in-Err
 unreachable-requires-in-Err c =
     let is = form_is c.args.acc.now c.args.slot c.base.result.0 c.def.result.now (D.Unit c.in-Unit.field-0) c.base.ensures.same c.def.ensures.same c.in-Unit.is in
-    ∥∥₁_elim (c.requires.layered (D.Unit c.in-Unit.field-0) is) (hlevel props) (λ x. never_refused c.args.acc.now c.types-types.ensures.legible c.args.slot.ty.0 (D.Unit c.in-Unit.field-0) c.args.piece.now is x c.in-Err.field-0 (c.in-Err.ensures x.tree x.stands))
+    ∥∥₁_elim (c.requires.layered (D.Unit c.in-Unit.field-0) is) (hlevel props) (λ x. never_refused c.args.acc.now c.recall.ensures.legible c.args.slot.ty.0 (D.Unit c.in-Unit.field-0) c.args.piece.now is x c.in-Err.field-0 (c.in-Err.ensures x.tree x.stands))
 
 pub unreachable-requires-in-Err-layer : goal.unreachable-requires-in-Err-layer
 unreachable-requires-in-Err-layer c =
     let is = form_is c.args.acc.now c.args.slot c.base.result.0 c.def.result.now (D.Enum c.in-Enum.field-0) c.base.ensures.same c.def.ensures.same c.in-Enum.is in
-    ∥∥₁_elim (c.requires.layered (D.Enum c.in-Enum.field-0) is) (hlevel props) (λ x. never_refused c.args.acc.now c.types-types.ensures.legible c.args.slot.ty.0 (D.Enum c.in-Enum.field-0) c.args.piece.now is x c.in-Err-layer.field-0 (c.in-Err-layer.ensures.answer x.tree x.stands))
+    ∥∥₁_elim (c.requires.layered (D.Enum c.in-Enum.field-0) is) (hlevel props) (λ x. never_refused c.args.acc.now c.recall.ensures.legible c.args.slot.ty.0 (D.Enum c.in-Enum.field-0) c.args.piece.now is x c.in-Err-layer.field-0 (c.in-Err-layer.ensures.answer x.tree x.stands))
 
 pub unreachable-requires-in_default : goal.unreachable-requires-in_default
 unreachable-requires-in_default c =

@@ -84,13 +84,13 @@ read_list-loop-item-init g t c = (
 
 pub read_list-unreachable-requires : goal.read_list-unreachable-requires
 read_list-unreachable-requires g t c =
-    let schema : IsSchema c.args.acc.now = record { table = c.types-types.ensures.table; accepted = c.types-types.ensures.accepted } in
+    let schema : IsSchema c.args.acc.now = record { table = c.recall.ensures.table; accepted = c.recall.ensures.accepted } in
     ∥∥₁_elim c.requires.typed (hlevel props) (λ x. let y = list_elements c.args.acc.now schema c.args.room c.args.piece.now c.args.elem x.0 x.1 in c.in_default.ensures c.args.acc.now (T.list (T.items_of y.items)) y.stands)
 
 pub read_list-read_slot-requires : goal.read_list-read_slot-requires
 read_list-read_slot-requires g t c = λ κs le.
     let rows : List Row = c.args.acc.now in
-    let schema : IsSchema rows = record { table = c.types-types.ensures.table; accepted = c.types-types.ensures.accepted } in
+    let schema : IsSchema rows = record { table = c.recall.ensures.table; accepted = c.recall.ensures.accepted } in
     let checked = ∥∥₁_map c.requires.typed (λ x.
     let y = list_elements rows schema c.args.room c.args.piece.now c.args.elem x.0 x.1 in
     listing_front g.H.KeyHash.hash_of c.args.at.0 rows c.args.room c.args.reader.now.keep c.args.elem y.items c.loop-item.left c.next.new.self c.loop-item.vals _ _ c.in-Some-next.item (c.loop-item.invariant.2 y.items y.stands y.fronts) c.in-Some-next.ensures.steps) in
@@ -187,7 +187,7 @@ pub read_slot-returns-in-List-clause-reads : goal.read_slot-returns-in-List-clau
 read_slot-returns-in-List-clause-reads g t c = λ d stands shows.
     let h : List ℕ → List ℕ = g.H.KeyHash.hash_of in
     let rows : List Row = c.args.acc.now in
-    let schema : IsSchema rows = record { table = c.types-types.ensures.table; accepted = c.types-types.ensures.accepted } in
+    let schema : IsSchema rows = record { table = c.recall.ensures.table; accepted = c.recall.ensures.accepted } in
     let front : IsFronted rows c.args.room c.args.slot d = record { some = sym (c.is_null_there.ensures rows d stands) ∙ c.if-is_null_there.false; shows = shows } in
     let own : TypeDef = D.List c.in-List.elem c.in-List.at in
     let is : form_of rows c.args.slot ≡ Some own = form_is rows c.args.slot c.base.result.0 c.def-def.result.now own c.base.ensures.same c.def-def.ensures.same c.in-List.is in
@@ -210,7 +210,7 @@ pub read_slot-returns-in-Struct-clause-reads : goal.read_slot-returns-in-Struct-
 read_slot-returns-in-Struct-clause-reads g t c = λ d stands shows.
     let h : List ℕ → List ℕ = g.H.KeyHash.hash_of in
     let rows : List Row = c.args.acc.now in
-    let schema : IsSchema rows = record { table = c.types-types.ensures.table; accepted = c.types-types.ensures.accepted } in
+    let schema : IsSchema rows = record { table = c.recall.ensures.table; accepted = c.recall.ensures.accepted } in
     let front : IsFronted rows c.args.room c.args.slot d = record { some = sym (c.is_null_there.ensures rows d stands) ∙ c.if-is_null_there.false; shows = shows } in
     let own : TypeDef = D.Struct c.in-Struct.def in
     let is : form_of rows c.args.slot ≡ Some own = form_is rows c.args.slot c.base.result.0 c.def-def.result.now own c.base.ensures.same c.def-def.ensures.same c.in-Struct.is in
@@ -222,7 +222,7 @@ pub read_slot-returns-in-Union-clause-reads : goal.read_slot-returns-in-Union-cl
 read_slot-returns-in-Union-clause-reads g t c = λ d stands shows.
     let h : List ℕ → List ℕ = g.H.KeyHash.hash_of in
     let rows : List Row = c.args.acc.now in
-    let schema : IsSchema rows = record { table = c.types-types.ensures.table; accepted = c.types-types.ensures.accepted } in
+    let schema : IsSchema rows = record { table = c.recall.ensures.table; accepted = c.recall.ensures.accepted } in
     let front : IsFronted rows c.args.room c.args.slot d = record { some = sym (c.is_null_there.ensures rows d stands) ∙ c.if-is_null_there.false; shows = shows } in
     let own : TypeDef = D.Union c.in-Union.def in
     let is : form_of rows c.args.slot ≡ Some own = form_is rows c.args.slot c.base.result.0 c.def-def.result.now own c.base.ensures.same c.def-def.ensures.same c.in-Union.is in
@@ -251,7 +251,7 @@ read_hamt-returns-then-passes-clause-reads g t c =
 pub read_hamt-returns-in_err-rows-clause-reads : goal.read_hamt-returns-in_err-rows-clause-reads
 read_hamt-returns-in_err-rows-clause-reads g t c = λ s d key_at place whole stands is sum le front.
     let rows : List Row = c.args.acc.now in
-    let schema : IsSchema rows = record { table = c.types-types.ensures.table; accepted = c.types-types.ensures.accepted } in
+    let schema : IsSchema rows = record { table = c.recall.ensures.table; accepted = c.recall.ensures.accepted } in
     let p = err_from_is_err_and c.from_residual.result c.from_residual.ensures.1 in
     rw (p.1, p.2) (hamt_stops g.H.KeyHash.hash_of c.args.shape c.args.at.0 rows schema whole c.args.room c.args.reader.now.keep s d c.args.key key_at c.args.value place front.some is sum le _ _ c.in_err-rows.field-0.0 (c.in_err-rows.ensures.rows rows d (subst (λ q. StandsFor rows q d) c.in-Node.is stands)))
 
@@ -267,12 +267,12 @@ read_hamt-read_rows-requires g t c = λ κs le.
 
 pub read_hamt-returns-then-reader-clause-reads : goal.read_hamt-returns-then-reader-clause-reads
 read_hamt-returns-then-reader-clause-reads g t c =
-    let schema : IsSchema c.args.acc.now = record { table = c.types-types.ensures.table; accepted = c.types-types.ensures.accepted } in
+    let schema : IsSchema c.args.acc.now = record { table = c.recall.ensures.table; accepted = c.recall.ensures.accepted } in
     let h = g.H.KeyHash.hash_of in
     let m = g.K.Store.moment c.args.store.now in
     let n = g.K.Store.moment c.read_rows.new.store in
     subst (λ q. ReadsHamt h c.args.shape c.args.at.0 c.args.acc.now c.args.room c.args.reader.now.keep c.args.key c.args.value q m c.read_rows.result n) (sym c.in-Node.is)
-    (hamt_reads h c.args.shape c.args.at.0 c.args.acc.now schema c.types-types.ensures.legible c.args.room c.args.reader.now.keep c.args.key c.args.value (P.Node c.in-Node.root) c.in_ok-rows.rows c.as_slice.result.now m (g.K.Store.moment c.hamt_rows.new.store) n
+    (hamt_reads h c.args.shape c.args.at.0 c.args.acc.now schema c.recall.ensures.legible c.args.room c.args.reader.now.keep c.args.key c.args.value (P.Node c.in-Node.root) c.in_ok-rows.rows c.as_slice.result.now m (g.K.Store.moment c.hamt_rows.new.store) n
     c.read_rows.result c.as_slice.ensures.value c.in_ok-rows.ensures.rows c.read_rows.ensures.reads)
 
 pub read_hamt-returns-in_err-val-clause-reads : goal.read_hamt-returns-in_err-val-clause-reads
@@ -291,15 +291,15 @@ read_hamt-returns-clause-sound g t c =
 
 pub pass_rows-returns-in_err-pass_slots-clause-reads : goal.pass_rows-returns-in_err-pass_slots-clause-reads
 pass_rows-returns-in_err-pass_slots-clause-reads g t c = λ s d key_at place whole stands is sum le some.
-    let schema : IsSchema c.args.acc.now = record { table = c.types-types.ensures.table; accepted = c.types-types.ensures.accepted } in
+    let schema : IsSchema c.args.acc.now = record { table = c.recall.ensures.table; accepted = c.recall.ensures.accepted } in
     let p = err_from_is_err_and c.from_residual.result c.from_residual.ensures.1 in
-    rw (p.1, p.2) (root_stops g.H.KeyHash.hash_of c.args.shape c.args.at.0 c.args.acc.now c.args.room c.args.key c.args.value c.args.root.now schema c.types-types.ensures.legible c.root_view-view.result c.root_view-view.ensures _ _
+    rw (p.1, p.2) (root_stops g.H.KeyHash.hash_of c.args.shape c.args.at.0 c.args.acc.now c.args.room c.args.key c.args.value c.args.root.now schema c.recall.ensures.legible c.root_view-view.result c.root_view-view.ensures _ _
     c.in_err-pass_slots.field-0.0 (λ slots has. c.in_err-pass_slots.ensures.passes slots has) s d key_at place whole stands is sum le some)
 
 pub pass_rows-returns-clause-reads : goal.pass_rows-returns-clause-reads
 pass_rows-returns-clause-reads g t c =
-    let schema : IsSchema c.args.acc.now = record { table = c.types-types.ensures.table; accepted = c.types-types.ensures.accepted } in
-    root_ends g.H.KeyHash.hash_of c.args.shape c.args.at.0 c.args.acc.now c.args.room c.args.key c.args.value c.args.root.now schema c.types-types.ensures.legible c.root_view-view.result c.root_view-view.ensures _ _ W.Null
+    let schema : IsSchema c.args.acc.now = record { table = c.recall.ensures.table; accepted = c.recall.ensures.accepted } in
+    root_ends g.H.KeyHash.hash_of c.args.shape c.args.at.0 c.args.acc.now c.args.room c.args.key c.args.value c.args.root.now schema c.recall.ensures.legible c.root_view-view.result c.root_view-view.ensures _ _ W.Null
     (λ slots has. c.in_ok-pass_slots.ensures.passes slots has)
 
 pub read_rows-loop-row-init : goal.read_rows-loop-row-init
@@ -321,10 +321,10 @@ read_rows-read_slot-requires g t c = λ κs le.
 pub read_rows-returns-in_err-item-clause-reads : goal.read_rows-returns-in_err-item-clause-reads
 read_rows-returns-in_err-item-clause-reads g t c = λ safe.
     let rows : List Row = c.args.acc.now in
-    let schema : IsSchema rows = record { table = c.types-types.ensures.table; accepted = c.types-types.ensures.accepted } in
+    let schema : IsSchema rows = record { table = c.recall.ensures.table; accepted = c.recall.ensures.accepted } in
     let x = subst (λ xs. Rowing g.H.KeyHash.hash_of rows c.args.room c.args.reader.now.keep c.args.key c.args.value c.args.rows.now xs c.loop-row.pairs (g.K.Store.moment c.args.store.now) (g.K.Store.moment c.loop-row.store)) c.in-Some.ensures.cases.0 c.loop-row.invariant.0 in
     let p = err_from_is_err_and c.from_residual.result c.from_residual.ensures.1 in
-    rw (p.1, p.2) (rowing_refused g.H.KeyHash.hash_of rows c.args.room c.args.reader.now.keep c.args.key c.args.value c.args.rows.now schema c.types-types.ensures.legible safe _ _ c.loop-row.pairs _ _ x c.in_err-item.field-0.0 c.in_err-item.ensures)
+    rw (p.1, p.2) (rowing_refused g.H.KeyHash.hash_of rows c.args.room c.args.reader.now.keep c.args.key c.args.value c.args.rows.now schema c.recall.ensures.legible safe _ _ c.loop-row.pairs _ _ x c.in_err-item.field-0.0 c.in_err-item.ensures)
 
 pub read_rows-returns-in_err-val-clause-reads : goal.read_rows-returns-in_err-val-clause-reads
 read_rows-returns-in_err-val-clause-reads g t c = λ safe.
@@ -361,7 +361,7 @@ pub read_struct-unreachable-requires : goal.read_struct-unreachable-requires
 read_struct-unreachable-requires g t c =
     ∥∥₁_elim c.requires.typed (hlevel props) (λ x.
     let y = typed_layered c.args.acc.now c.args.room (D.Struct c.args.def.now) c.args.piece.now x in
-    never_refused c.args.acc.now c.types-types.ensures.legible c.args.ty.0 (D.Struct c.args.def.now) c.args.piece.now c.requires.known y c.in-Err.field-0 (c.in-Err.ensures.refused y.tree y.stands))
+    never_refused c.args.acc.now c.recall.ensures.legible c.args.ty.0 (D.Struct c.args.def.now) c.args.piece.now c.requires.known y c.in-Err.field-0 (c.in-Err.ensures.refused y.tree y.stands))
 
 pub read_struct-loop-i-init : goal.read_struct-loop-i-init
 read_struct-loop-i-init g t c = (
@@ -375,13 +375,13 @@ pub read_struct-loop-i-preserved : goal.read_struct-loop-i-preserved
 read_struct-loop-i-preserved g t c = (
   λ d os stands made fronts.
       let rows : List Row = c.args.acc.now in
-      let schema : IsSchema rows = record { table = c.types-types.ensures.table; accepted = c.types-types.ensures.accepted } in
+      let schema : IsSchema rows = record { table = c.recall.ensures.table; accepted = c.recall.ensures.accepted } in
       let f : Field = c.field-item.result in
       let known : slice_get c.args.def.now.fields c.loop-i.i ≡ Some f = got c.as_slice-field-items.result.now c.args.def.now.fields c.loop-i.i f c.as_slice-field-items.ensures (omega arith) c.field-item.is in
       let x = c.in-Ok.ensures.parts d stands in
       let same = parts_same rows schema c.args.ty c.args.def.now c.requires.known d os c.in-Ok.parts made x in
       let y = field_at rows _ c.args.def.now.fields x.0 os c.loop-i.i f c.field-part.result (c.in-Ok.ensures.fields c.args.def.now c.requires.known) same known (c.field-part.ensures.part rows c.args.ty.0 d x.0 x.1) in
-      let fitting = all_at (ImplicitFits rows) c.args.def.now.fields c.loop-i.i f (c.types-types.ensures.legible.fitting (base rows c.args.ty.0) (D.Struct c.args.def.now) c.requires.known) known in
+      let fitting = all_at (ImplicitFits rows) c.args.def.now.fields c.loop-i.i f (c.recall.ensures.legible.fitting (base rows c.args.ty.0) (D.Struct c.args.def.now) c.requires.known) known in
       fielding_goes g.H.KeyHash.hash_of c.args.at.0 rows c.args.room c.args.reader.now.keep c.args.def.now.fields os c.loop-i.i c.loop-i.fields _ _ f known (c.loop-i.invariant.0 d os stands made fronts) _ y.held y.at c.in_ok-val.val c.add_field.new.fields
       (λ fits. c.in_ok-val.ensures.reads y.held fitting y.is fits) (λ k. c.in_ok-add_field.ensures k),
   c.in_ok-val.ensures.sound,
@@ -390,13 +390,13 @@ read_struct-loop-i-preserved g t c = (
 pub read_struct-returns-in_err-val-clause-reads : goal.read_struct-returns-in_err-val-clause-reads
 read_struct-returns-in_err-val-clause-reads g t c = λ d os stands made fronts.
     let rows : List Row = c.args.acc.now in
-    let schema : IsSchema rows = record { table = c.types-types.ensures.table; accepted = c.types-types.ensures.accepted } in
+    let schema : IsSchema rows = record { table = c.recall.ensures.table; accepted = c.recall.ensures.accepted } in
     let f : Field = c.field-item.result in
     let known : slice_get c.args.def.now.fields c.loop-i.i ≡ Some f = got c.as_slice-field-items.result.now c.args.def.now.fields c.loop-i.i f c.as_slice-field-items.ensures (omega arith) c.field-item.is in
     let x = c.in-Ok.ensures.parts d stands in
     let same = parts_same rows schema c.args.ty c.args.def.now c.requires.known d os c.in-Ok.parts made x in
     let y = field_at rows _ c.args.def.now.fields x.0 os c.loop-i.i f c.field-part.result (c.in-Ok.ensures.fields c.args.def.now c.requires.known) same known (c.field-part.ensures.part rows c.args.ty.0 d x.0 x.1) in
-    let fitting = all_at (ImplicitFits rows) c.args.def.now.fields c.loop-i.i f (c.types-types.ensures.legible.fitting (base rows c.args.ty.0) (D.Struct c.args.def.now) c.requires.known) known in
+    let fitting = all_at (ImplicitFits rows) c.args.def.now.fields c.loop-i.i f (c.recall.ensures.legible.fitting (base rows c.args.ty.0) (D.Struct c.args.def.now) c.requires.known) known in
     let p = err_from_is_err_and c.from_residual.result c.from_residual.ensures.1 in
     rw (p.1, p.2) (fielding_stops g.H.KeyHash.hash_of c.args.at.0 rows c.args.room c.args.reader.now.keep c.args.def.now.fields os c.loop-i.i c.loop-i.fields _ _ f known (c.loop-i.invariant.0 d os stands made fronts) _ y.held y.at c.in_err-val.field-0.0
     (λ fits. c.in_err-val.ensures.reads y.held fitting y.is fits))
@@ -404,13 +404,13 @@ read_struct-returns-in_err-val-clause-reads g t c = λ d os stands made fronts.
 pub read_struct-returns-in_err-add_field-clause-reads : goal.read_struct-returns-in_err-add_field-clause-reads
 read_struct-returns-in_err-add_field-clause-reads g t c = λ d os stands made fronts.
     let rows : List Row = c.args.acc.now in
-    let schema : IsSchema rows = record { table = c.types-types.ensures.table; accepted = c.types-types.ensures.accepted } in
+    let schema : IsSchema rows = record { table = c.recall.ensures.table; accepted = c.recall.ensures.accepted } in
     let f : Field = c.field-item.result in
     let known : slice_get c.args.def.now.fields c.loop-i.i ≡ Some f = got c.as_slice-field-items.result.now c.args.def.now.fields c.loop-i.i f c.as_slice-field-items.ensures (omega arith) c.field-item.is in
     let x = c.in-Ok.ensures.parts d stands in
     let same = parts_same rows schema c.args.ty c.args.def.now c.requires.known d os c.in-Ok.parts made x in
     let y = field_at rows _ c.args.def.now.fields x.0 os c.loop-i.i f c.field-part.result (c.in-Ok.ensures.fields c.args.def.now c.requires.known) same known (c.field-part.ensures.part rows c.args.ty.0 d x.0 x.1) in
-    let fitting = all_at (ImplicitFits rows) c.args.def.now.fields c.loop-i.i f (c.types-types.ensures.legible.fitting (base rows c.args.ty.0) (D.Struct c.args.def.now) c.requires.known) known in
+    let fitting = all_at (ImplicitFits rows) c.args.def.now.fields c.loop-i.i f (c.recall.ensures.legible.fitting (base rows c.args.ty.0) (D.Struct c.args.def.now) c.requires.known) known in
     let p = err_from_is_err_and c.from_residual-in_err-add_field.result c.from_residual-in_err-add_field.ensures.1 in
     rw (p.1, p.2) (fielding_wants g.H.KeyHash.hash_of c.args.at.0 rows c.args.room c.args.reader.now.keep c.args.def.now.fields os c.loop-i.i c.loop-i.fields _ _ f known (c.loop-i.invariant.0 d os stands made fronts) _ y.held y.at c.in_ok-val.val
     (λ fits. c.in_ok-val.ensures.reads y.held fitting y.is fits))
@@ -437,14 +437,14 @@ read_slot-read_map-requires g t c = λ κs le.
     let plain = plain_piece rows c.args.slot own is refl c.args.piece.now c.requires.inlined in
     let key = key_low rows c.def-def.result.now c.in-Map.key c.in-Map.key_at c.in-Map.value c.in-Map.at c.in-Map.form c.in-Map.is c.def-def.ensures.within in
     let value = value_low rows c.def-def.result.now c.in-Map.key c.in-Map.key_at c.in-Map.value c.in-Map.at c.in-Map.form c.in-Map.is c.def-def.ensures.within in
-    let delims = map_delims rows c.types-types.ensures.legible c.base.result.0 c.in-Map.key c.in-Map.key_at c.in-Map.value c.in-Map.at c.in-Map.form (c.def-def.ensures.same ∙ ap Some c.in-Map.is) in
+    let delims = map_delims rows c.recall.ensures.legible c.base.result.0 c.in-Map.key c.in-Map.key_at c.in-Map.value c.in-Map.at c.in-Map.form (c.def-def.ensures.same ∙ ap Some c.in-Map.is) in
     let least = some_map_levels c.in-Map.form in
     (omega (arith, left, least), (le.0, (le.1, (key, (value, (c.requires.numbered, (delims, (omega (arith, left, c.requires.room), (plain, (typed, c.requires.sound))))))))))
 
 pub read_struct-read_field-requires : goal.read_struct-read_field-requires
 read_struct-read_field-requires g t c = λ κs le.
     let rows : List Row = c.args.acc.now in
-    let schema : IsSchema rows = record { table = c.types-types.ensures.table; accepted = c.types-types.ensures.accepted } in
+    let schema : IsSchema rows = record { table = c.recall.ensures.table; accepted = c.recall.ensures.accepted } in
     let f : Field = c.field-item.result in
     let known : slice_get c.args.def.now.fields c.loop-i.i ≡ Some f = got c.as_slice-field-items.result.now c.args.def.now.fields c.loop-i.i f c.as_slice-field-items.ensures (omega arith) c.field-item.is in
     let front = ∥∥₁_map c.requires.typed (λ z.
@@ -507,14 +507,14 @@ read_map-returns-in-Some-clause-reads g t c = λ s d key_at place whole stands i
 pub read_map-returns-clause-reads : goal.read_map-returns-clause-reads
 read_map-returns-clause-reads g t c = λ s d key_at place whole stands is sum le front.
     let rows : List Row = c.args.acc.now in
-    let schema : IsSchema rows = record { table = c.types-types.ensures.table; accepted = c.types-types.ensures.accepted } in
+    let schema : IsSchema rows = record { table = c.recall.ensures.table; accepted = c.recall.ensures.accepted } in
     let plain : is_hamt c.args.form.now ≡ false = c.in_default.ensures in
     map_whole g.H.KeyHash.hash_of c.args.at.0 rows schema whole c.args.room c.args.reader.now.keep s d front _ _ c.read_pairs.result c.args.key key_at c.args.value place c.args.form.now plain is sum
     (λ es made fronts. c.read_pairs.ensures.reads es (left_there c.args.form.now plain es d c.in-Some-form_entries.entries made (c.in-Some-form_entries.ensures d es stands)) fronts)
 
 pub read_map-unreachable-requires : goal.read_map-unreachable-requires
 read_map-unreachable-requires g t c =
-    let schema : IsSchema c.args.acc.now = record { table = c.types-types.ensures.table; accepted = c.types-types.ensures.accepted } in
+    let schema : IsSchema c.args.acc.now = record { table = c.recall.ensures.table; accepted = c.recall.ensures.accepted } in
     ∥∥₁_elim c.requires.typed (hlevel props) (λ x. has_entries c.args.acc.now schema c.args.room c.args.piece.now c.args.key x.0 c.args.value x.1 c.args.form.now c.in_default.ensures x.2 (λ d es stands shows. c.in-None.ensures d es stands shows))
 
 pub read_map-read_hamt-requires : goal.read_map-read_hamt-requires
@@ -525,7 +525,7 @@ read_map-read_hamt-requires g t c = λ κs le.
 
 pub read_map-read_pairs-requires : goal.read_map-read_pairs-requires
 read_map-read_pairs-requires g t c = λ κs le.
-    let schema : IsSchema c.args.acc.now = record { table = c.types-types.ensures.table; accepted = c.types-types.ensures.accepted } in
+    let schema : IsSchema c.args.acc.now = record { table = c.recall.ensures.table; accepted = c.recall.ensures.accepted } in
     let fronts = ∥∥₁_map c.requires.typed (λ x.
     map_entries c.args.acc.now schema c.args.room c.args.piece.now c.args.key x.0 c.args.value x.1 c.args.form.now c.in_default.ensures x.2 c.in-Some-form_entries.entries (λ d es stands shows. c.in-Some-form_entries.ensures d es stands shows)) in
     (omega arith, (le.0, (le.1, (c.requires.within, (c.requires.room, (fronts, c.requires.sound))))))
@@ -535,7 +535,7 @@ read_field-left_out-requires-clause-handed g t c = ∥∥₁_map c.requires.fron
 
 pub read_field-returns-in_default-clause-reads : goal.read_field-returns-in_default-clause-reads
 read_field-returns-in_default-clause-reads g t c =
-    c.left_out.ensures g.H.KeyHash.hash_of c.args.at.0 c.args.acc.now c.args.room c.args.reader.now.keep (g.K.Store.moment c.args.store.now) (record { table = c.types-types.ensures.table; accepted = c.types-types.ensures.accepted })
+    c.left_out.ensures g.H.KeyHash.hash_of c.args.at.0 c.args.acc.now c.args.room c.args.reader.now.keep (g.K.Store.moment c.args.store.now) (record { table = c.recall.ensures.table; accepted = c.recall.ensures.accepted })
 
 pub read_field-read_slot-requires : goal.read_field-read_slot-requires
 read_field-read_slot-requires g t c = λ κs le.
@@ -566,7 +566,7 @@ read_union-member_of-number-requires-clause-layered g t c = ∥∥₁_map c.requ
 pub read_union-read_slot-requires : goal.read_union-read_slot-requires
 read_union-read_slot-requires g t c = λ κs le.
     let rows : List Row = c.args.acc.now in
-    let schema : IsSchema rows = record { table = c.types-types.ensures.table; accepted = c.types-types.ensures.accepted } in
+    let schema : IsSchema rows = record { table = c.recall.ensures.table; accepted = c.recall.ensures.accepted } in
     let r = c.member_of-number.result in
     let checked = ∥∥₁_map c.requires.typed (λ x.
     let y = union_member rows schema c.args.room c.args.piece.now c.args.def.now x in
@@ -788,9 +788,9 @@ nodes::pass_entry-returns-then-not-fits-clause-passes g t c = λ slots es j e th
 
 pub nodes::pass_entry-returns-in_err-entry_fits-clause-passes : goal.nodes::pass_entry-returns-in_err-entry_fits-clause-passes
 nodes::pass_entry-returns-in_err-entry_fits-clause-passes g t c = λ slots es j e there here same text stands.
-    let schema : IsSchema c.args.acc.now = record { table = c.types-types.ensures.table; accepted = c.types-types.ensures.accepted } in
+    let schema : IsSchema c.args.acc.now = record { table = c.recall.ensures.table; accepted = c.recall.ensures.accepted } in
     let p = err_from_is_err_and c.from_residual.result c.from_residual.ensures.1 in
-    rw (p.1, p.2) (entry_refused g.H.KeyHash.hash_of c.args.read_as.shape c.args.acc.now c.args.read_as.room c.args.read_as.key c.args.read_as.value c.args.way.now c.args.at.0 slots c.args.i es j e there here schema c.types-types.ensures.legible _ c.args.at c.args.key.now
+    rw (p.1, p.2) (entry_refused g.H.KeyHash.hash_of c.args.read_as.shape c.args.acc.now c.args.read_as.room c.args.read_as.key c.args.read_as.value c.args.way.now c.args.at.0 slots c.args.i es j e there here schema c.recall.ensures.legible _ c.args.at c.args.key.now
     c.in_err-entry_fits.field-0.0 refl same (c.in_err-entry_fits.ensures e.1 stands))
 
 pub nodes::pass_entry-read_slot-requires : goal.nodes::pass_entry-read_slot-requires

@@ -45,7 +45,7 @@ returns-in-Some-change_of-clause-answers c = λ is_key f w d t u e.
     let change = c.in-Some-change_of.ensures rows a.last w last.view a.holds (subst (λ y. Allows rows edit (seen rows a.last) y w) (sym segment) a.allows) in
     let there = subst (λ y. IsChange rows (in_last edit w) a.last y (node_of edit) c.in-Some-change_of.change) segment change in
     let there_too = subst (λ o. IsChange rows (in_last edit w) a.last (last_of x.0 x.1) o c.in-Some-change_of.change) (sym c.node_of.ensures) there in
-    let schema : IsSchema rows = record { table = subst IsTable c.schema.ensures c.types-types.ensures.table; accepted = subst IsAccepted c.schema.ensures c.types-types.ensures.accepted } in
+    let schema : IsSchema rows = record { table = subst IsTable c.schema.ensures c.recall.ensures.table; accepted = subst IsAccepted c.schema.ensures c.recall.ensures.accepted } in
     let lead = subst (λ y. LeadAlong rows (slot_of v, f) x.0 x.1 y) (sym c.deref.ensures.value) last.lead in
     c.told.ensures rows is_key edit w (slot_of v, f) path t u at
     (made_ready v is_key path edit f w d t u e x.0 x.1 x.2 c.are_texts.ensures c.edits_are_edited.ensures.changes schema a.last a.at c.deref.result.now lead c.in-Some-change_of.change c.node_of.result there_too)

@@ -30,7 +30,7 @@ loop-k-init c = (
       let path = c.args.path.now in
       let edit = c.args.edit in
       let p : InSlot = (slot_of c.args.root.now, f) in
-      let schema : IsSchema rows = record { table = subst IsTable c.schema.ensures c.types-types.ensures.table; accepted = subst IsAccepted c.schema.ensures c.types-types.ensures.accepted } in
+      let schema : IsSchema rows = record { table = subst IsTable c.schema.ensures c.recall.ensures.table; accepted = subst IsAccepted c.schema.ensures c.recall.ensures.accepted } in
       let texts = c.are_texts.ensures in
       let views = has f view in
       let count : length c.as_slice-segments.result.now ≡ length path = ap length c.as_slice-segments.ensures in
@@ -49,7 +49,7 @@ loop-k-preserved c = (
       let path = c.args.path.now in
       let edit = c.args.edit in
       let p : InSlot = (slot_of c.args.root.now, f) in
-      let schema : IsSchema rows = record { table = subst IsTable c.schema.ensures c.types-types.ensures.table; accepted = subst IsAccepted c.schema.ensures c.types-types.ensures.accepted } in
+      let schema : IsSchema rows = record { table = subst IsTable c.schema.ensures c.recall.ensures.table; accepted = subst IsAccepted c.schema.ensures c.recall.ensures.accepted } in
       let texts = c.are_texts.ensures in
       let views = has f view in
       let n : ℕ = c.loop-k.k - 1 in
@@ -68,7 +68,7 @@ returns-in-Free c = λ has is_key f x w keys view free brings makes.
     let path = c.args.path.now in
     let edit = c.args.edit in
     let p : InSlot = (slot_of c.args.root.now, f) in
-    let schema : IsSchema rows = record { table = subst IsTable c.schema.ensures c.types-types.ensures.table; accepted = subst IsAccepted c.schema.ensures c.types-types.ensures.accepted } in
+    let schema : IsSchema rows = record { table = subst IsTable c.schema.ensures c.recall.ensures.table; accepted = subst IsAccepted c.schema.ensures c.recall.ensures.accepted } in
     let texts = c.are_texts.ensures in
     let root : (0 < length path) → Changed rows is_key edit w p path 0 x = λ less. record { holder = p; before = less; leads = refl; typed = (view.room, view.front.fits); free = free; old = view.tree; was = view.front.tree; brings = brings; makes = makes } in
     let k = c.loop-k.k in
@@ -80,7 +80,7 @@ returns-in-Broken c = λ has is_key f x w keys view free brings makes.
     let path = c.args.path.now in
     let edit = c.args.edit in
     let p : InSlot = (slot_of c.args.root.now, f) in
-    let schema : IsSchema rows = record { table = subst IsTable c.schema.ensures c.types-types.ensures.table; accepted = subst IsAccepted c.schema.ensures c.types-types.ensures.accepted } in
+    let schema : IsSchema rows = record { table = subst IsTable c.schema.ensures c.recall.ensures.table; accepted = subst IsAccepted c.schema.ensures c.recall.ensures.accepted } in
     let texts = c.are_texts.ensures in
     let root : (0 < length path) → Changed rows is_key edit w p path 0 x = λ less. record { holder = p; before = less; leads = refl; typed = (view.room, view.front.fits); free = free; old = view.tree; was = view.front.tree; brings = brings; makes = makes } in
     let k = c.loop-k.k in
@@ -92,7 +92,7 @@ returns c = λ has is_key f x w keys view free brings makes.
     let path = c.args.path.now in
     let edit = c.args.edit in
     let p : InSlot = (slot_of c.args.root.now, f) in
-    let schema : IsSchema rows = record { table = subst IsTable c.schema.ensures c.types-types.ensures.table; accepted = subst IsAccepted c.schema.ensures c.types-types.ensures.accepted } in
+    let schema : IsSchema rows = record { table = subst IsTable c.schema.ensures c.recall.ensures.table; accepted = subst IsAccepted c.schema.ensures c.recall.ensures.accepted } in
     let texts = c.are_texts.ensures in
     let root : (0 < length path) → Changed rows is_key edit w p path 0 x = λ less. record { holder = p; before = less; leads = refl; typed = (view.room, view.front.fits); free = free; old = view.tree; was = view.front.tree; brings = brings; makes = makes } in
     let k = c.loop-k.k in

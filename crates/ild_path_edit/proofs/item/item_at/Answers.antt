@@ -16,7 +16,7 @@ returns-in_err-item c = λ is_key f w x t u d e made.
     let rows = table_of c.args.root.now in
     let path = c.args.path.now in
     let edit = c.args.edit.now in
-    let schema : IsSchema rows = record { table = subst IsTable c.schema.ensures c.types-types.ensures.table; accepted = subst IsAccepted c.schema.ensures c.types-types.ensures.accepted } in
+    let schema : IsSchema rows = record { table = subst IsTable c.schema.ensures c.recall.ensures.table; accepted = subst IsAccepted c.schema.ensures c.recall.ensures.accepted } in
     let views = c.in_ok-views.ensures f (view_of c.args.root.now f t e.root) in
     let count : length c.as_slice-segments.result.now ≡ length path = ap length c.as_slice-segments.ensures in
     let last : ℕ = length c.as_slice-segments.result.now - 1 in
@@ -38,7 +38,7 @@ loop-k-init c = (
       let rows = table_of c.args.root.now in
       let path = c.args.path.now in
       let edit = c.args.edit.now in
-      let schema : IsSchema rows = record { table = subst IsTable c.schema.ensures c.types-types.ensures.table; accepted = subst IsAccepted c.schema.ensures c.types-types.ensures.accepted } in
+      let schema : IsSchema rows = record { table = subst IsTable c.schema.ensures c.recall.ensures.table; accepted = subst IsAccepted c.schema.ensures c.recall.ensures.accepted } in
       let views = c.in_ok-views.ensures f (view_of c.args.root.now f t e.root) in
       let count : length c.as_slice-segments.result.now ≡ length path = ap length c.as_slice-segments.ensures in
       let last : ℕ = length c.as_slice-segments.result.now - 1 in
@@ -53,7 +53,7 @@ returns-in_err-item-2 c = λ is_key f w x t u d e made.
     let rows = table_of c.args.root.now in
     let path = c.args.path.now in
     let edit = c.args.edit.now in
-    let schema : IsSchema rows = record { table = subst IsTable c.schema.ensures c.types-types.ensures.table; accepted = subst IsAccepted c.schema.ensures c.types-types.ensures.accepted } in
+    let schema : IsSchema rows = record { table = subst IsTable c.schema.ensures c.recall.ensures.table; accepted = subst IsAccepted c.schema.ensures c.recall.ensures.accepted } in
     let views = c.in_ok-views.ensures f (view_of c.args.root.now f t e.root) in
     let k : ℕ = c.loop-k.k - 1 in
     let more = c.loop-k-test.true in
@@ -74,7 +74,7 @@ loop-k-preserved c = (
       let rows = table_of c.args.root.now in
       let path = c.args.path.now in
       let edit = c.args.edit.now in
-      let schema : IsSchema rows = record { table = subst IsTable c.schema.ensures c.types-types.ensures.table; accepted = subst IsAccepted c.schema.ensures c.types-types.ensures.accepted } in
+      let schema : IsSchema rows = record { table = subst IsTable c.schema.ensures c.recall.ensures.table; accepted = subst IsAccepted c.schema.ensures c.recall.ensures.accepted } in
       let views = c.in_ok-views.ensures f (view_of c.args.root.now f t e.root) in
       let k : ℕ = c.loop-k.k - 1 in
       let more = c.loop-k-test.true in

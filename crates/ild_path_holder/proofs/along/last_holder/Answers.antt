@@ -9,7 +9,7 @@ loop-k-init c = (omega arith, λ f s ss to v is at holds. walked_begins c.args.r
 
 pub returns-in_default : goal.returns-in_default
 returns-in_default c = λ f s ss to v is at holds.
-    let legible : IsLegible (table_of c.args.root.now) = subst IsLegible c.schema.ensures c.types-types.ensures.legible in
+    let legible : IsLegible (table_of c.args.root.now) = subst IsLegible c.schema.ensures c.recall.ensures.legible in
     let path = c.args.path.now in
     let count : length c.as_slice-segments.result.now ≡ length path = ap length c.as_slice-segments.ensures in
     let one = c.loop-k.invariant.0 in
@@ -19,7 +19,7 @@ returns-in_default c = λ f s ss to v is at holds.
 
 pub returns-in_default-part_steps : goal.returns-in_default-part_steps
 returns-in_default-part_steps c = λ f s ss to v is at holds.
-    let legible : IsLegible (table_of c.args.root.now) = subst IsLegible c.schema.ensures c.types-types.ensures.legible in
+    let legible : IsLegible (table_of c.args.root.now) = subst IsLegible c.schema.ensures c.recall.ensures.legible in
     let path = c.args.path.now in
     let count : length c.as_slice-segments.result.now ≡ length path = ap length c.as_slice-segments.ensures in
     let one = c.loop-k.invariant.0 in
@@ -32,7 +32,7 @@ pub loop-k-preserved : goal.loop-k-preserved
 loop-k-preserved c = (
   omega (arith, c.loop-k.invariant.0),
   λ f s ss to v is at holds.
-      let legible : IsLegible (table_of c.args.root.now) = subst IsLegible c.schema.ensures c.types-types.ensures.legible in
+      let legible : IsLegible (table_of c.args.root.now) = subst IsLegible c.schema.ensures c.recall.ensures.legible in
       let path = c.args.path.now in
       let count : length c.as_slice-segments.result.now ≡ length path = ap length c.as_slice-segments.ensures in
       let one = c.loop-k.invariant.0 in

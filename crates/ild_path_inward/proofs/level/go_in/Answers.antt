@@ -43,7 +43,7 @@ returns-in-Some-clause-refused g c = λ f t is front low.
     let h = g.H.KeyHash.hash_of in
     let rows = c.args.acc.now in
     let s = slot_of c.args.root.now in
-    let schema : IsSchema rows = record { table = c.types-types.ensures.table; accepted = c.types-types.ensures.accepted } in
+    let schema : IsSchema rows = record { table = c.recall.ensures.table; accepted = c.recall.ensures.accepted } in
     let halts = subst (λ (r : List Row). HaltsAt r c.args.room (s, f) c.args.segments.now c.halt_in-halt.result) c.requires (c.halt_in-halt.ensures.halts f is) in
     let m = g.K.Store.moment c.args.store.now in
     let n = g.K.Store.moment c.enter_at.new.store in

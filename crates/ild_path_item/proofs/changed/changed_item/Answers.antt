@@ -30,7 +30,7 @@ returns c = λ d known plain f w view holds allows.
     let edit = c.args.edit.now in
     let tree = view.tree in
     let is = c.in-Some-change_of.ensures rows q w (record { table = refl; slot = refl; view = view }) holds allows in
-    let schema : IsSchema rows = record { table = subst IsTable c.schema-acc.ensures c.types-types.ensures.table; accepted = subst IsAccepted c.schema-acc.ensures c.types-types.ensures.accepted } in
+    let schema : IsSchema rows = record { table = subst IsTable c.schema-acc.ensures c.recall.ensures.table; accepted = subst IsAccepted c.schema-acc.ensures c.recall.ensures.accepted } in
     let stands = subst (λ rs. StandsFor rs c.in-Some.piece tree) (sym c.schema-acc.ensures) (piece_stands v f view c.in-Some.piece (sym c.in-Some.is ∙ c.piece.ensures)) in
     let new = subst (λ o. NewIs o is.part) (sym c.node_of.ensures) is.part_is in
     let parts = there rows q s d known plain tree view.front.tree holds in

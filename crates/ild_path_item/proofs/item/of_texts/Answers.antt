@@ -14,7 +14,7 @@ returns-in_default c = λ d known text f w view holds allows.
     let v = c.args.view.now in
     let rows = table_of v in
     let q : InSlot = (slot_of v, f) in
-    let legible = subst IsLegible c.schema.ensures c.types-types.ensures.legible in
+    let legible = subst IsLegible c.schema.ensures c.recall.ensures.legible in
     let x : Comes rows legible q view.tree d known text (held_by rows (slot_of v) view.tree d known f view.front.tree) holds c.args.edit.now w c.args.segment.now =
     comes rows legible q view.tree d known text (held_by rows (slot_of v) view.tree d known f view.front.tree) holds c.args.edit.now w c.args.segment.now allows in
     absurd (rw c.in_default.is at (c.new_part.ensures x.new x.node))
@@ -25,7 +25,7 @@ returns c = λ d known text f w view holds allows.
     let rows = table_of v in
     let q : InSlot = (slot_of v, f) in
     let s = c.args.segment.now in
-    let legible = subst IsLegible c.schema.ensures c.types-types.ensures.legible in
+    let legible = subst IsLegible c.schema.ensures c.recall.ensures.legible in
     let held = held_by rows (slot_of v) view.tree d known f view.front.tree in
     let x : Comes rows legible q view.tree d known text held holds c.args.edit.now w s = comes rows legible q view.tree d known text held holds c.args.edit.now w s allows in
     of_text_told rows legible q view.tree d known text held holds c.args.edit.now w s x (text_of c.in-Some.new) c.in_ok-text.text c.item_of.result (rw c.in-Some.is at (c.new_part.ensures x.new x.node)) view.front.tree c.item_of.ensures

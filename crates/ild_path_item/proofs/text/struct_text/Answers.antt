@@ -16,7 +16,7 @@ use Rattle.ild_view.specs.View.{slot_of, table_of}
 pub joined_text-requires : goal.joined_text-requires
 joined_text-requires c =
     let v = c.args.view.now in
-    let legible = subst IsLegible c.schema.ensures c.types-types.ensures.legible in
+    let legible = subst IsLegible c.schema.ensures c.recall.ensures.legible in
     given c.args.def.now.form c.args.def.now.fields c.as_str.result.now (c.in-StringJoin.is ∙ ap S.StringJoin (sym c.as_str.ensures.same)) (legible.delims (base (table_of v) (slot_of v).ty.0) (D.Struct c.args.def.now) c.requires.known)
 
 pub returns-in-StringPairs : goal.returns-in-StringPairs

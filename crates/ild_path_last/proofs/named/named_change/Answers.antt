@@ -23,7 +23,7 @@ returns-in-Map c = λ f t new d x u made stands parts makes new_is shown.
 pub returns-in-Some : goal.returns-in-Some
 returns-in-Some c = λ f t new d x u made stands parts makes new_is shown.
     let known : form_of c.args.acc.now c.args.slot ≡ Some c.def.result.now = ap (def_at c.args.acc.now) (sym c.base-base.ensures.same) ∙ c.def.ensures.same in
-    field_named_so c.args.acc.now c.args.slot f t c.args.segment.now new d x u made parts makes c.def.result.now known c.struct_change.result c.in-Struct.def c.in-Struct.is c.types-types.ensures.legible.clear (StandsFor c.args.acc.now c.args.piece.now)
+    field_named_so c.args.acc.now c.args.slot f t c.args.segment.now new d x u made parts makes c.def.result.now known c.struct_change.result c.in-Struct.def c.in-Struct.is c.recall.ensures.legible.clear (StandsFor c.args.acc.now c.args.piece.now)
     (NewIs c.args.new) c.in-Some.number (c.in-Some.ensures.same ∙ ap (option_and_then (part_named c.args.segment.now)) c.def.ensures.same) stands new_is shown c.struct_change.ensures
 
 pub returns-in-None : goal.returns-in-None

@@ -23,12 +23,12 @@ returns-in_default-text c = λ pairs f o j view holder made lets.
 pub in_map-requires : goal.in_map-requires
 in_map-requires c =
     let known : form_of c.schema-acc.result.now c.slot.result ≡ Some c.def.result.now = ap (def_at c.schema-acc.result.now) (sym c.base-base.ensures.same) ∙ c.def.ensures.same in
-    map_given c.schema-acc.result.now c.types-types.ensures.legible c.slot.result c.in-Map.key c.in-Map.key_at c.in-Map.value c.in-Map.at c.in-Map.form c.def.result.now known c.in-Map.is
+    map_given c.schema-acc.result.now c.recall.ensures.legible c.slot.result c.in-Map.key c.in-Map.key_at c.in-Map.value c.in-Map.at c.in-Map.form c.def.result.now known c.in-Map.is
 
 pub in_struct-requires-clause-given : goal.in_struct-requires-clause-given
 in_struct-requires-clause-given c =
     let known : form_of c.schema-acc.result.now c.slot.result ≡ Some c.def.result.now = ap (def_at c.schema-acc.result.now) (sym c.base-base.ensures.same) ∙ c.def.ensures.same in
-    struct_given c.schema-acc.result.now c.types-types.ensures.legible c.slot.result c.in-Struct.def c.def.result.now known c.in-Struct.is
+    struct_given c.schema-acc.result.now c.recall.ensures.legible c.slot.result c.in-Struct.def c.def.result.now known c.in-Struct.is
 
 pub returns-in-Map : goal.returns-in-Map
 returns-in-Map c = λ pairs f o j view holder made lets.
@@ -49,7 +49,7 @@ returns-in-Some-part_named c = λ pairs f o j view holder made lets.
     let text_is = text_same view.tree j c.in-Some-text.text.now is (c.in-Some-text.ensures (table_of v) view.tree (piece_stands v f view c.in-Some.piece c.in-Some.ensures)) in
     let numbered = c.in-Some-part_named.ensures.same ∙ ap (option_and_then (part_named c.args.segment.now)) c.def.ensures.same in
     struct_answers (table_of v) (slot_of v) f o (text_of c.args.new) view.tree c.args.segment.now c.in_struct.result view.front.tree holder lets c.def.result.now known_here pairs c.in-Struct.def c.in-Struct.is
-    (subst IsLegible c.schema-acc.ensures c.types-types.ensures.legible) c.in-Some-part_named.number c.in-Some-text.text.now numbered text_is c.in_struct.ensures
+    (subst IsLegible c.schema-acc.ensures c.recall.ensures.legible) c.in-Some-part_named.number c.in-Some-text.text.now numbered text_is c.in_struct.ensures
 
 pub returns-in-None : goal.returns-in-None
 returns-in-None c = λ pairs f o j view holder made lets.

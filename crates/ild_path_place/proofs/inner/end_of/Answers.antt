@@ -106,7 +106,7 @@ returns-in-Some-clause-refused g c = λ f t less is front own.
     let rows = c.args.acc.now in
     let view = c.args.inner.now in
     let s = slot_of view in
-    let schema : IsSchema rows = record { table = c.types-types.ensures.table; accepted = c.types-types.ensures.accepted } in
+    let schema : IsSchema rows = record { table = c.recall.ensures.table; accepted = c.recall.ensures.accepted } in
     let halts = subst (λ (r : List Row). HaltsAt r c.args.room (s, f) c.args.front c.halt_in.result) c.requires (subst (λ (p : List (List ℕ)). HaltsAt (table_of view) c.args.room (s, f) p c.halt_in.result) c.as_slice.ensures (c.halt_in.ensures.halts f is)) in
     let m = g.K.Store.moment c.args.store.now in
     let n = g.K.Store.moment c.end_at_key.new.store in

@@ -24,7 +24,7 @@ returns-in-Some-clause-stands g c = λ was v told own st.
     let h = g.H.KeyHash.hash_of in
     let rows = table_in c.args.doc.now in
     let p : InSlot = (plainly (type_in c.args.doc.now), v) in
-    let schema = subst IsSchema c.schema.ensures (record { table = c.types-types.ensures.table; accepted = c.types-types.ensures.accepted }) in
+    let schema = subst IsSchema c.schema.ensures (record { table = c.recall.ensures.table; accepted = c.recall.ensures.accepted }) in
     let go = can_go h rows schema was (type_in c.args.doc.now) (block_in c.args.doc.now) v st own c.view.result c.view.ensures.table c.view.ensures.slot c.view.ensures.front in
     let same = c.schema-in-Some.ensures in
     let own = c.locate_last.ensures.told was p st.tree told (subst (λ (r : List Row). CanGo h r was 96 p st.tree c.view.result) (sym same) go) in
@@ -52,7 +52,7 @@ returns-in-Some-clause-rooted g c = λ was v told own st.
     let rows = table_in c.args.doc.now in
     let n = type_in c.args.doc.now in
     let b = block_in c.args.doc.now in
-    let schema = subst IsSchema c.schema.ensures (record { table = c.types-types.ensures.table; accepted = c.types-types.ensures.accepted }) in
+    let schema = subst IsSchema c.schema.ensures (record { table = c.recall.ensures.table; accepted = c.recall.ensures.accepted }) in
     let go = can_go h rows schema was n b v st own c.view.result c.view.ensures.table c.view.ensures.slot c.view.ensures.front in
     rooted h rows schema was n b v st own c.view.result go c.view.ensures.whole c.locate_last.result c.locate_last.ensures.root
 
@@ -62,7 +62,7 @@ returns-in-None-clause-rooted g c = λ was v told own st.
     let rows = table_in c.args.doc.now in
     let n = type_in c.args.doc.now in
     let b = block_in c.args.doc.now in
-    let schema = subst IsSchema c.schema.ensures (record { table = c.types-types.ensures.table; accepted = c.types-types.ensures.accepted }) in
+    let schema = subst IsSchema c.schema.ensures (record { table = c.recall.ensures.table; accepted = c.recall.ensures.accepted }) in
     let view = c.view-in-None.result in
     let go = can_go h rows schema was n b v st own view c.view-in-None.ensures.table c.view-in-None.ensures.slot c.view-in-None.ensures.front in
     rooted h rows schema was n b v st own view go c.view-in-None.ensures.whole c.whole.result c.whole.ensures.root

@@ -26,33 +26,33 @@ returns-in-Map-clause-lifts c = λ f t d q made stands there partly out.
 pub returns-in-Some-clause-lifts : goal.returns-in-Some-clause-lifts
 returns-in-Some-clause-lifts c = λ f t d q made stands there partly out.
     let known : form_of c.args.acc.now c.args.slot ≡ Some c.def.result.now = ap (def_at c.args.acc.now) (sym c.base-base.ensures.same) ∙ c.def.ensures.same in
-    leads_field c.args.acc.now c.args.slot f t d q c.args.segment.now made there partly out c.def.result.now known c.struct_steps.result c.types-types.ensures.legible.clear c.args.piece.now stands c.in-Struct.def c.in-Struct.is c.in-Some.number
+    leads_field c.args.acc.now c.args.slot f t d q c.args.segment.now made there partly out c.def.result.now known c.struct_steps.result c.recall.ensures.legible.clear c.args.piece.now stands c.in-Struct.def c.in-Struct.is c.in-Some.number
     (c.in-Some.ensures.same ∙ ap (option_and_then (part_named c.args.segment.now)) c.def.ensures.same) (c.struct_steps.ensures.lifts c.args.acc.now)
 
 pub returns-in-None-clause-lifts : goal.returns-in-None-clause-lifts
 returns-in-None-clause-lifts c = λ f t d q made stands there partly out.
     let known : form_of c.args.acc.now c.args.slot ≡ Some c.def.result.now = ap (def_at c.args.acc.now) (sym c.base-base.ensures.same) ∙ c.def.ensures.same in
-    has_field c.args.acc.now c.args.slot f t d q c.args.segment.now made there partly out c.def.result.now known None c.types-types.ensures.legible.clear c.args.piece.now stands c.in-Struct.def c.in-Struct.is
+    has_field c.args.acc.now c.args.slot f t d q c.args.segment.now made there partly out c.def.result.now known None c.recall.ensures.legible.clear c.args.piece.now stands c.in-Struct.def c.in-Struct.is
     (c.in-None.ensures.same ∙ ap (option_and_then (part_named c.args.segment.now)) c.def.ensures.same)
 
 pub returns-in-Some-part_named-clause-lifts : goal.returns-in-Some-part_named-clause-lifts
 returns-in-Some-part_named-clause-lifts c = λ f t d q made stands there partly out.
     let known : form_of c.args.acc.now c.args.slot ≡ Some c.def.result.now = ap (def_at c.args.acc.now) (sym c.base-base.ensures.same) ∙ c.def.ensures.same in
-    let apart = (told c.args.acc.now (record { table = c.types-types.ensures.table; accepted = c.types-types.ensures.accepted })).apart in
+    let apart = (told c.args.acc.now (record { table = c.recall.ensures.table; accepted = c.recall.ensures.accepted })).apart in
     leads_member c.args.acc.now c.args.slot f t d q c.args.segment.now made there partly out c.def.result.now known c.union_steps.result apart c.in-Union.def c.in-Union.is c.in-Some-part_named.number
     (c.in-Some-part_named.ensures.same ∙ ap (option_and_then (part_named c.args.segment.now)) c.def.ensures.same) c.union_steps.ensures.lifts
 
 pub returns-in-None-part_named-clause-lifts : goal.returns-in-None-part_named-clause-lifts
 returns-in-None-part_named-clause-lifts c = λ f t d q made stands there partly out.
     let known : form_of c.args.acc.now c.args.slot ≡ Some c.def.result.now = ap (def_at c.args.acc.now) (sym c.base-base.ensures.same) ∙ c.def.ensures.same in
-    let apart = (told c.args.acc.now (record { table = c.types-types.ensures.table; accepted = c.types-types.ensures.accepted })).apart in
+    let apart = (told c.args.acc.now (record { table = c.recall.ensures.table; accepted = c.recall.ensures.accepted })).apart in
     has_member c.args.acc.now c.args.slot f t d q c.args.segment.now made there partly out c.def.result.now known None apart c.in-Union.def c.in-Union.is
     (c.in-None-part_named.ensures.same ∙ ap (option_and_then (part_named c.args.segment.now)) c.def.ensures.same)
 
 pub returns-in-Any-clause-leads : goal.returns-in-Any-clause-leads
 returns-in-Any-clause-leads c = λ f t d q made stands there partly out.
     let known : form_of c.args.acc.now c.args.slot ≡ Some c.def.result.now = ap (def_at c.args.acc.now) (sym c.base-base.ensures.same) ∙ c.def.ensures.same in
-    let facts = told c.args.acc.now (record { table = c.types-types.ensures.table; accepted = c.types-types.ensures.accepted }) in
+    let facts = told c.args.acc.now (record { table = c.recall.ensures.table; accepted = c.recall.ensures.accepted }) in
     any_found c.args.acc.now c.args.slot f t d q c.args.segment.now made there partly out c.def.result.now known c.any_steps.result facts.any_there c.in-Any.is (c.any_steps.ensures.leads c.args.acc.now t d stands)
 
 pub returns-in-List-clause-leads : goal.returns-in-List-clause-leads
@@ -68,10 +68,10 @@ returns-in-Map-clause-leads c = λ f t d q made stands there partly out.
 pub returns-in-Some-clause-leads : goal.returns-in-Some-clause-leads
 returns-in-Some-clause-leads c = λ f t d q made stands there partly out.
     let known : form_of c.args.acc.now c.args.slot ≡ Some c.def.result.now = ap (def_at c.args.acc.now) (sym c.base-base.ensures.same) ∙ c.def.ensures.same in
-    field_found c.args.acc.now c.args.slot f t d q c.args.segment.now made there partly out c.def.result.now known c.struct_steps.result c.types-types.ensures.legible.clear c.args.piece.now stands c.in-Struct.def c.in-Struct.is c.in-Some.number (c.in-Some.ensures.same ∙ ap (option_and_then (part_named c.args.segment.now)) c.def.ensures.same) (c.struct_steps.ensures.leads c.args.acc.now)
+    field_found c.args.acc.now c.args.slot f t d q c.args.segment.now made there partly out c.def.result.now known c.struct_steps.result c.recall.ensures.legible.clear c.args.piece.now stands c.in-Struct.def c.in-Struct.is c.in-Some.number (c.in-Some.ensures.same ∙ ap (option_and_then (part_named c.args.segment.now)) c.def.ensures.same) (c.struct_steps.ensures.leads c.args.acc.now)
 
 pub returns-in-Some-part_named-clause-leads : goal.returns-in-Some-part_named-clause-leads
 returns-in-Some-part_named-clause-leads c = λ f t d q made stands there partly out.
     let known : form_of c.args.acc.now c.args.slot ≡ Some c.def.result.now = ap (def_at c.args.acc.now) (sym c.base-base.ensures.same) ∙ c.def.ensures.same in
-    let facts = told c.args.acc.now (record { table = c.types-types.ensures.table; accepted = c.types-types.ensures.accepted }) in
-    member_found c.args.acc.now c.args.slot f t d q c.args.segment.now made there partly out c.def.result.now known c.union_steps.result c.types-types.ensures.legible.clear facts.apart c.in-Union.def c.in-Union.is c.in-Some-part_named.number (c.in-Some-part_named.ensures.same ∙ ap (option_and_then (part_named c.args.segment.now)) c.def.ensures.same) c.union_steps.ensures.leads
+    let facts = told c.args.acc.now (record { table = c.recall.ensures.table; accepted = c.recall.ensures.accepted }) in
+    member_found c.args.acc.now c.args.slot f t d q c.args.segment.now made there partly out c.def.result.now known c.union_steps.result c.recall.ensures.legible.clear facts.apart c.in-Union.def c.in-Union.is c.in-Some-part_named.number (c.in-Some-part_named.ensures.same ∙ ap (option_and_then (part_named c.args.segment.now)) c.def.ensures.same) c.union_steps.ensures.leads

@@ -8,7 +8,7 @@ use Rattle.ild_run_answers.proofs.asking.tell.Goals as goal
 
 pub returns : goal.returns
 returns g c =
-    let schema = subst (λ (rows : List Row). IsSchema rows) c.schema.ensures (record { table = c.types-types.ensures.table; accepted = c.types-types.ensures.accepted }) in
+    let schema = subst (λ (rows : List Row). IsSchema rows) c.schema.ensures (record { table = c.recall.ensures.table; accepted = c.recall.ensures.accepted }) in
     read_answers c.values_are_trees.ensures c.standing_are_held.ensures c.held_are_standing.ensures c.reads_are_replies.ensures id_of c.args.doc.now c.view-view.result schema
     c.view-view.ensures.table c.view-view.ensures.slot c.view-view.ensures.whole c.args.path.now c.args.what (g.K.Store.moment c.args.store.now) (g.K.Store.moment c.read.new.store) c.read.result c.read.ensures
 

@@ -10,7 +10,7 @@ returns-in-Err g c =
 
 pub returns-in-Err-block_of : goal.returns-in-Err-block_of
 returns-in-Err-block_of g c =
-    no_block g.H.KeyHash.hash_of c.args.acc.now (record { table = c.types.ensures.table; accepted = c.types.ensures.accepted }) c.args.ty c.args.bytes.now (value_of c.in-Ok.val)
+    no_block g.H.KeyHash.hash_of c.args.acc.now (record { table = c.recall.ensures.table; accepted = c.recall.ensures.accepted }) c.args.ty c.args.bytes.now (value_of c.in-Ok.val)
     (g.K.Store.moment c.args.store.now) (g.K.Store.moment c.block_of.new.store) c.in-Err-block_of.fault c.in-Ok.ensures.ok c.in-Err-block_of.ensures
 
 pub returns-in-Ok-publish : goal.returns-in-Ok-publish

@@ -13,12 +13,12 @@ put_part-requires-clause-free g c = free_part _ _ c.in-Ok-None.field-0 c.in-Ok-N
 
 pub returns-in-Ok-None-clause-comes : goal.returns-in-Ok-None-clause-comes
 returns-in-Ok-None-clause-comes g c =
-    let_comes _ _ _ _ c.in-Ok-None.field-0 (schema_as _ _ c.requires.table c.types.ensures.table c.types.ensures.accepted) (typed_as _ _ _ _ _ c.requires.table c.slot.ensures.same c.in-Ok.ensures.typed) c.in-Ok-None.ensures
+    let_comes _ _ _ _ c.in-Ok-None.field-0 (schema_as _ _ c.requires.table c.recall.ensures.table c.recall.ensures.accepted) (typed_as _ _ _ _ _ c.requires.table c.slot.ensures.same c.in-Ok.ensures.typed) c.in-Ok-None.ensures
     (part_as _ _ _ _ c.args.json.now (Ok c.in-Ok.part) c.requires.table c.slot.ensures.same c.in-Ok.ensures.answer) _ _ _ c.in-Ok-None.field-0-is c.put_part.ensures.puts
 
 pub returns-in-Ok-Some-clause-comes : goal.returns-in-Ok-Some-clause-comes
 returns-in-Ok-Some-clause-comes g c =
-    refused_comes _ _ _ _ c.in-Ok-Some.field-0 (schema_as _ _ c.requires.table c.types.ensures.table c.types.ensures.accepted) (typed_as _ _ _ _ _ c.requires.table c.slot.ensures.same c.in-Ok.ensures.typed) c.in-Ok-Some.ensures
+    refused_comes _ _ _ _ c.in-Ok-Some.field-0 (schema_as _ _ c.requires.table c.recall.ensures.table c.recall.ensures.accepted) (typed_as _ _ _ _ _ c.requires.table c.slot.ensures.same c.in-Ok.ensures.typed) c.in-Ok-Some.ensures
     (part_as _ _ _ _ c.args.json.now (Ok c.in-Ok.part) c.requires.table c.slot.ensures.same c.in-Ok.ensures.answer) _ _ c.in-Ok-Some.field-0-is
 
 pub returns-in-Err-clause-named : goal.returns-in-Err-clause-named

@@ -17,19 +17,19 @@ build-requires-clause-fits g c =
 pub returns-in-Ok-clause-block : goal.returns-in-Ok-clause-block
 returns-in-Ok-clause-block g c =
     let built = builds_as g.H.KeyHash.hash_of _ _ _ _ (value_of c.args.part.now) _ _ (Ok c.in-Ok.block) c.requires.table c.slot.ensures.same c.in-Ok.ensures in
-    block_is g.H.KeyHash.hash_of c.args.place.now (value_of c.args.part.now) c.args.json.now (schema_as _ _ c.requires.table c.types.ensures.table c.types.ensures.accepted) (typed_as_place _ _ _ _ c.requires.table c.requires.typed) c.requires.free
+    block_is g.H.KeyHash.hash_of c.args.place.now (value_of c.args.part.now) c.args.json.now (schema_as _ _ c.requires.table c.recall.ensures.table c.recall.ensures.accepted) (typed_as_place _ _ _ _ c.requires.table c.requires.typed) c.requires.free
     (room_deep _ _ c.requires.free.room c.room.ensures.same c.requires.free.room_is c.room.ensures.deep) _ _ (Ok c.in-Ok.block) built.answer
 
 pub returns-in-Ok-clause-builds : goal.returns-in-Ok-clause-builds
 returns-in-Ok-clause-builds g c =
-    part_builds g.H.KeyHash.hash_of c.args.place.now (value_of c.args.part.now) c.args.json.now (schema_as _ _ c.requires.table c.types.ensures.table c.types.ensures.accepted) (typed_as_place _ _ _ _ c.requires.table c.requires.typed) c.requires.free
+    part_builds g.H.KeyHash.hash_of c.args.place.now (value_of c.args.part.now) c.args.json.now (schema_as _ _ c.requires.table c.recall.ensures.table c.recall.ensures.accepted) (typed_as_place _ _ _ _ c.requires.table c.requires.typed) c.requires.free
     (room_deep _ _ c.requires.free.room c.room.ensures.same c.requires.free.room_is c.room.ensures.deep) _ _ (Ok c.in-Ok.block)
     (builds_as g.H.KeyHash.hash_of _ _ _ _ (value_of c.args.part.now) _ _ (Ok c.in-Ok.block) c.requires.table c.slot.ensures.same c.in-Ok.ensures)
 
 pub returns-in-Err-clause-builds : goal.returns-in-Err-clause-builds
 returns-in-Err-clause-builds g c =
     subst (λ r. BuildsPart g.H.KeyHash.hash_of c.args.place.now (value_of c.args.part.now) c.args.json.now (g.K.Store.moment c.args.store.now) (Err r) (g.K.Store.moment c.build.new.store)) (sym c.built_fault.ensures.same)
-    (part_builds g.H.KeyHash.hash_of c.args.place.now (value_of c.args.part.now) c.args.json.now (schema_as _ _ c.requires.table c.types.ensures.table c.types.ensures.accepted) (typed_as_place _ _ _ _ c.requires.table c.requires.typed) c.requires.free
+    (part_builds g.H.KeyHash.hash_of c.args.place.now (value_of c.args.part.now) c.args.json.now (schema_as _ _ c.requires.table c.recall.ensures.table c.recall.ensures.accepted) (typed_as_place _ _ _ _ c.requires.table c.requires.typed) c.requires.free
     (room_deep _ _ c.requires.free.room c.room.ensures.same c.requires.free.room_is c.room.ensures.deep) _ _ (Err c.in-Err.fault)
     (builds_as g.H.KeyHash.hash_of _ _ _ _ (value_of c.args.part.now) _ _ (Err c.in-Err.fault) c.requires.table c.slot.ensures.same c.in-Err.ensures))
 

@@ -15,7 +15,7 @@ pub returns-in-Ok-clause-checks : goal.returns-in-Ok-clause-checks
 returns-in-Ok-clause-checks c = λ d stands.
     let rows = c.schema-acc.result.now in
     let form = form_of rows (slot_of c.args.hamt.now) in
-    let schema : IsSchema rows = record { table = c.types-types.ensures.table; accepted = c.types-types.ensures.accepted } in
+    let schema : IsSchema rows = record { table = c.recall.ensures.table; accepted = c.recall.ensures.accepted } in
     subst (λ (r : List Row). ChecksEntry r (form_of r (slot_of c.args.hamt.now)) c.args.node d (Ok c.in-Ok.view)) c.schema-acc.ensures
     (checks_view rows schema c.refused_have_no_front.ensures form c.args.node c.in-Some.slot c.in-Some.ensures d c.in-Ok.view (c.in-Ok.ensures.views d stands))
 

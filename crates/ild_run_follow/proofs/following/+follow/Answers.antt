@@ -25,13 +25,13 @@ tell_from-tell_in-requires g t c = λ κs le.
 
 pub tell_from-returns-in-Ok-Here-clause-tells : goal.tell_from-returns-in-Ok-Here-clause-tells
 tell_from-returns-in-Ok-Here-clause-tells g t c =
-    let schema = subst IsSchema c.schema.ensures (record { table = c.types-types.ensures.table; accepted = c.types-types.ensures.accepted }) in
+    let schema = subst IsSchema c.schema.ensures (record { table = c.recall.ensures.table; accepted = c.recall.ensures.accepted }) in
     tells_here g.H.KeyHash.hash_of c.args.view schema c.args.from (drop c.args.from c.args.path.now) c.args.tell (g.K.Store.moment c.args.store.now) (g.K.Store.moment c.tell_here.new.store) c.tell_here.result c.in-Ok-Here.part
     (stepped c.args.view c.args.from (drop c.args.from c.args.path.now) c.in-Ok-Here.field-0 _ c.in-Ok-Here.field-0-is c.in-Ok-Here.ensures) c.tell_here.ensures.tells
 
 pub tell_from-returns-in-Ok-Enter-clause-tells : goal.tell_from-returns-in-Ok-Enter-clause-tells
 tell_from-returns-in-Ok-Enter-clause-tells g t c =
-    let schema = subst IsSchema c.schema.ensures (record { table = c.types-types.ensures.table; accepted = c.types-types.ensures.accepted }) in
+    let schema = subst IsSchema c.schema.ensures (record { table = c.recall.ensures.table; accepted = c.recall.ensures.accepted }) in
     let view = c.args.view in
     let left = drop c.args.from c.args.path.now in
     let step = stepped view c.args.from left c.in-Ok-Enter.field-0 _ c.in-Ok-Enter.field-0-is c.in-Ok-Enter.ensures in
@@ -41,13 +41,13 @@ tell_from-returns-in-Ok-Enter-clause-tells g t c =
 
 pub tell_from-returns-in-Err-clause-tells : goal.tell_from-returns-in-Err-clause-tells
 tell_from-returns-in-Err-clause-tells g t c =
-    let schema = subst IsSchema c.schema.ensures (record { table = c.types-types.ensures.table; accepted = c.types-types.ensures.accepted }) in
+    let schema = subst IsSchema c.schema.ensures (record { table = c.recall.ensures.table; accepted = c.recall.ensures.accepted }) in
     tells_none g.H.KeyHash.hash_of c.args.view schema c.args.from (drop c.args.from c.args.path.now) c.args.tell (g.K.Store.moment c.args.store.now) (g.K.Store.moment c.args.store.now) c.absent.result c.in-Err.field-0
     c.in-Err.ensures c.absent.ensures refl
 
 pub tell_in-returns-in_err-trail-clause-tells : goal.tell_in-returns-in_err-trail-clause-tells
 tell_in-returns-in_err-trail-clause-tells g t c =
-    let schema = subst IsSchema c.schema.ensures (record { table = c.types-types.ensures.table; accepted = c.types-types.ensures.accepted }) in
+    let schema = subst IsSchema c.schema.ensures (record { table = c.recall.ensures.table; accepted = c.recall.ensures.accepted }) in
     let here = ap Some c.as_str.ensures.same ∙ c.in-Some-get.ensures in
     let p = err_from_is_err_and c.from_residual.result c.from_residual.ensures.1 in
     rw (p.1, p.2) (tells_stopped g.H.KeyHash.hash_of c.args.hamt schema (g.K.Store.moment c.args.store.now) c.args.path.now c.args.k c.args.tell c.in-Some.root c.in-Some.ensures c.as_str.result.now here
@@ -55,7 +55,7 @@ tell_in-returns-in_err-trail-clause-tells g t c =
 
 pub tell_in-returns-in_default-found-clause-tells : goal.tell_in-returns-in_default-found-clause-tells
 tell_in-returns-in_default-found-clause-tells g t c =
-    let schema = subst IsSchema c.schema.ensures (record { table = c.types-types.ensures.table; accepted = c.types-types.ensures.accepted }) in
+    let schema = subst IsSchema c.schema.ensures (record { table = c.recall.ensures.table; accepted = c.recall.ensures.accepted }) in
     let here = ap Some c.as_str.ensures.same ∙ c.in-Some-get.ensures in
     tells_absent g.H.KeyHash.hash_of c.args.hamt schema (g.K.Store.moment c.args.store.now) c.args.path.now c.args.k c.args.tell c.in-Some.root c.in-Some.ensures c.as_str.result.now here (Ok c.in_ok-trail.trail)
     (g.K.Store.moment c.trail_of.new.store) c.in_ok-trail.ensures.enters c.in_ok-trail.trail refl c.found.result (λ p slots es has is. c.found.ensures.trie g.H.KeyHash.hash_of p c.as_str.result.now slots es has is) c.absent.result
@@ -77,7 +77,7 @@ tell_in-tell_from-requires g t c = λ κs le.
 
 pub tell_from-tell_here-requires : goal.tell_from-tell_here-requires
 tell_from-tell_here-requires g t c =
-    let schema = subst IsSchema c.schema.ensures (record { table = c.types-types.ensures.table; accepted = c.types-types.ensures.accepted }) in
+    let schema = subst IsSchema c.schema.ensures (record { table = c.recall.ensures.table; accepted = c.recall.ensures.accepted }) in
     record {
       shallow = shallow_here c.args.view schema c.args.from (drop c.args.from c.args.path.now) c.in-Ok-Here.part
           (stepped c.args.view c.args.from (drop c.args.from c.args.path.now) c.in-Ok-Here.field-0 _ c.in-Ok-Here.field-0-is c.in-Ok-Here.ensures) c.requires.shallow;
@@ -85,7 +85,7 @@ tell_from-tell_here-requires g t c =
 
 pub tell_in-returns-in-Ok-clause-tells : goal.tell_in-returns-in-Ok-clause-tells
 tell_in-returns-in-Ok-clause-tells g t c =
-    let schema = subst IsSchema c.schema.ensures (record { table = c.types-types.ensures.table; accepted = c.types-types.ensures.accepted }) in
+    let schema = subst IsSchema c.schema.ensures (record { table = c.recall.ensures.table; accepted = c.recall.ensures.accepted }) in
     let here = ap Some c.as_str.ensures.same ∙ c.in-Some-get.ensures in
     tells_on g.H.KeyHash.hash_of c.args.hamt schema (g.K.Store.moment c.args.store.now) c.args.path.now c.args.k c.args.tell c.in-Some.root c.in-Some.ensures c.as_str.result.now here (Ok c.in_ok-trail.trail)
     (g.K.Store.moment c.trail_of.new.store) c.in_ok-trail.ensures.enters c.in_ok-trail.trail refl c.found.result (λ p slots es has is. c.found.ensures.trie g.H.KeyHash.hash_of p c.as_str.result.now slots es has is) c.in-Some-found.node
@@ -93,7 +93,7 @@ tell_in-returns-in-Ok-clause-tells g t c =
 
 pub tell_in-returns-clause-tells : goal.tell_in-returns-clause-tells
 tell_in-returns-clause-tells g t c =
-    let schema = subst IsSchema c.schema.ensures (record { table = c.types-types.ensures.table; accepted = c.types-types.ensures.accepted }) in
+    let schema = subst IsSchema c.schema.ensures (record { table = c.recall.ensures.table; accepted = c.recall.ensures.accepted }) in
     let here = ap Some c.as_str.ensures.same ∙ c.in-Some-get.ensures in
     tells_refused g.H.KeyHash.hash_of c.args.hamt schema (g.K.Store.moment c.args.store.now) c.args.path.now c.args.k c.args.tell c.in-Some.root c.in-Some.ensures c.as_str.result.now here (Ok c.in_ok-trail.trail)
     (g.K.Store.moment c.trail_of.new.store) c.in_ok-trail.ensures.enters c.in_ok-trail.trail refl c.found.result (λ p slots es has is. c.found.ensures.trie g.H.KeyHash.hash_of p c.as_str.result.now slots es has is) c.in-Some-found.node
@@ -108,7 +108,7 @@ tell_in-unreachable-requires-in_default-get g t c = never_past c.args.path.now c
 pub tell_from-returns-in-Ok-Here-clause-refused : goal.tell_from-returns-in-Ok-Here-clause-refused
 tell_from-returns-in-Ok-Here-clause-refused g t c = λ f d seen front.
     let view = c.args.view in
-    let schema = subst IsSchema c.schema.ensures (record { table = c.types-types.ensures.table; accepted = c.types-types.ensures.accepted }) in
+    let schema = subst IsSchema c.schema.ensures (record { table = c.recall.ensures.table; accepted = c.recall.ensures.accepted }) in
     let left = drop c.args.from c.args.path.now in
     let step = stepped view c.args.from left c.in-Ok-Here.field-0 _ c.in-Ok-Here.field-0-is c.in-Ok-Here.ensures in
     refuses_here c.parts_stand_in_data.ensures g.H.KeyHash.hash_of (table_of view) schema (id_of c.args.block.now) c.args.from (slot_of view, f) d left front (g.K.Store.moment c.args.store.now) (g.K.Store.moment c.tell_here.new.store)
@@ -117,7 +117,7 @@ tell_from-returns-in-Ok-Here-clause-refused g t c = λ f d seen front.
 pub tell_from-returns-in-Ok-Enter-clause-refused : goal.tell_from-returns-in-Ok-Enter-clause-refused
 tell_from-returns-in-Ok-Enter-clause-refused g t c = λ f d seen front.
     let view = c.args.view in
-    let schema = subst IsSchema c.schema.ensures (record { table = c.types-types.ensures.table; accepted = c.types-types.ensures.accepted }) in
+    let schema = subst IsSchema c.schema.ensures (record { table = c.recall.ensures.table; accepted = c.recall.ensures.accepted }) in
     let left = drop c.args.from c.args.path.now in
     let step = stepped view c.args.from left c.in-Ok-Enter.field-0 _ c.in-Ok-Enter.field-0-is c.in-Ok-Enter.ensures in
     refuses_entered c.parts_stand_in_data.ensures g.H.KeyHash.hash_of (table_of view) schema (id_of c.args.block.now) c.args.from (slot_of view, f) d left front (g.K.Store.moment c.args.store.now) (g.K.Store.moment c.tell_in.new.store)

@@ -12,13 +12,13 @@ use Rattle.ild_run_follow.proofs.telling.loaded.Goals as goal
 
 pub returns-in-Ok-clause-loads : goal.returns-in-Ok-clause-loads
 returns-in-Ok-clause-loads g c =
-    let schema = subst IsSchema c.schema.ensures (record { table = c.types-types.ensures.table; accepted = c.types-types.ensures.accepted }) in
+    let schema = subst IsSchema c.schema.ensures (record { table = c.recall.ensures.table; accepted = c.recall.ensures.accepted }) in
     subst (λ (r : Result Val ReadFault). LoadsPart g.H.KeyHash.hash_of c.args.view.now (g.K.Store.moment c.args.store.now) r (g.K.Store.moment c.load.new.store)) (ap loaded_as c.in-Ok.is)
     (loads g.H.KeyHash.hash_of c.args.view.now schema (id_of c.args.block.now) (g.K.Store.moment c.args.store.now) (g.K.Store.moment c.load.new.store) c.requires.shallow c.load.result c.load.ensures)
 
 pub returns-in-Err-clause-loads : goal.returns-in-Err-clause-loads
 returns-in-Err-clause-loads g c =
-    let schema = subst IsSchema c.schema.ensures (record { table = c.types-types.ensures.table; accepted = c.types-types.ensures.accepted }) in
+    let schema = subst IsSchema c.schema.ensures (record { table = c.recall.ensures.table; accepted = c.recall.ensures.accepted }) in
     subst (λ (r : Result Val ReadFault). LoadsPart g.H.KeyHash.hash_of c.args.view.now (g.K.Store.moment c.args.store.now) r (g.K.Store.moment c.load.new.store)) (ap loaded_as c.in-Err.is ∙ ap Err (sym c.of_open.ensures))
     (loads g.H.KeyHash.hash_of c.args.view.now schema (id_of c.args.block.now) (g.K.Store.moment c.args.store.now) (g.K.Store.moment c.load.new.store) c.requires.shallow c.load.result c.load.ensures)
 

@@ -13,7 +13,7 @@ pub returns-in_err-discriminant-clause-answer : goal.returns-in_err-discriminant
 returns-in_err-discriminant-clause-answer c = λ t u stands known form.
     let w = walked t c.in-Some.left (c.in-Some.ensures t stands) in
     let up = members_rise t w.entries w.is (piece_rises c.args.acc.now c.args.piece.now t stands) in
-    let apart = keys_apart u c.args.key.now c.args.content.now form (c.types-types.ensures.legible.clear.types c.args.ty.0 (D.Union u) known) in
+    let apart = keys_apart u c.args.key.now c.args.content.now form (c.recall.ensures.legible.clear.types c.args.ty.0 (D.Union u) known) in
     let p = err_from_is_err_and c.from_residual.result c.from_residual.ensures.1 in
     rw (p.1, p.2) (entries_off c.args.key.now c.args.content.now w.entries c.in_err-discriminant.field-0.0 u t form w.is (c.in_err-discriminant.ensures w.entries w.left up apart))
 
@@ -21,7 +21,7 @@ pub returns-in_default-text-clause-answer : goal.returns-in_default-text-clause-
 returns-in_default-text-clause-answer c = λ t u stands known form.
     let w = walked t c.in-Some.left (c.in-Some.ensures t stands) in
     let up = members_rise t w.entries w.is (piece_rises c.args.acc.now c.args.piece.now t stands) in
-    let apart = keys_apart u c.args.key.now c.args.content.now form (c.types-types.ensures.legible.clear.types c.args.ty.0 (D.Union u) known) in
+    let apart = keys_apart u c.args.key.now c.args.content.now form (c.recall.ensures.legible.clear.types c.args.ty.0 (D.Union u) known) in
     let b = c.in_ok-discriminant.ensures w.entries w.left up apart in
     no_text_there c.args.key.now c.args.content.now b.0 b.1 w.entries apart up u t form w.is b.4 (no_text_seen b.0 (c.in_default-text.ensures b.0 b.2))
 
@@ -29,7 +29,7 @@ pub returns-clause-answer : goal.returns-clause-answer
 returns-clause-answer c = λ t u stands known form.
     let w = walked t c.in-Some.left (c.in-Some.ensures t stands) in
     let up = members_rise t w.entries w.is (piece_rises c.args.acc.now c.args.piece.now t stands) in
-    let apart = keys_apart u c.args.key.now c.args.content.now form (c.types-types.ensures.legible.clear.types c.args.ty.0 (D.Union u) known) in
+    let apart = keys_apart u c.args.key.now c.args.content.now form (c.recall.ensures.legible.clear.types c.args.ty.0 (D.Union u) known) in
     let b = c.in_ok-discriminant.ensures w.entries w.left up apart in
     let told = envelope_told c.args.key.now c.args.content.now b.0 b.1 w.entries apart up t c.in-Some-text.name.now w.is b.4 (text_seen b.0 c.in-Some-text.name.now (c.in-Some-text.ensures b.0 b.2)) in
     answered c.args.acc.now u (UF.Envelope c.args.key.now c.args.content.now) t c.in-Some-text.name.now b.1 form told (P.Node c.in_ok-discriminant.content_node) b.3

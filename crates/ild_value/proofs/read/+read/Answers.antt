@@ -237,7 +237,7 @@ fields-loop-field-preserved t c =
     let there = ap (λ xs. slice_get xs c.loop-field.field-index) (sym c.as_slice-field-items.ensures) ∙ slice_get_read fs (length fs) c.loop-field.field-index c.field-item.result refl c.loop-field-test.true c.field-item.is in
     let found : option_map data_of c.take_value-tree.result ≡ value_at c.field-item.result.name (members_list c.args.entries) =
     ap (option_map data_of) (c.take_value-tree.ensures.found ∙ ap (λ k. value_at k c.loop-field.left.items) c.as_str.ensures.same) ∙ c.loop-field.invariant.kept c.loop-field.field-index c.field-item.result (omega arith) there in
-    let proper = (told c.args.acc.now (record { table = c.types.ensures.table; accepted = c.types.ensures.accepted })).proper c.args.slot c.args.def.now c.requires.form in
+    let proper = (told c.args.acc.now (record { table = c.recall.ensures.table; accepted = c.recall.ensures.accepted })).proper c.args.slot c.args.def.now c.requires.form in
     let others = subst (λ (n : List ℕ). (k : List ℕ) → n ≢ k → value_at k c.take_value-tree.new.pairs.items ≡ value_at k c.loop-field.left.items) c.as_str.ensures.same c.take_value-tree.ensures.others in
     record {
       read = λ is_key tests.
@@ -253,7 +253,7 @@ fields-returns-in_err-val-clause-err t c =
     let there = ap (λ xs. slice_get xs c.loop-field.field-index) (sym c.as_slice-field-items.ensures) ∙ slice_get_read fs (length fs) c.loop-field.field-index c.field-item.result refl c.loop-field-test.true c.field-item.is in
     let found : option_map data_of c.take_value-tree.result ≡ value_at c.field-item.result.name (members_list c.args.entries) =
     ap (option_map data_of) (c.take_value-tree.ensures.found ∙ ap (λ k. value_at k c.loop-field.left.items) c.as_str.ensures.same) ∙ c.loop-field.invariant.kept c.loop-field.field-index c.field-item.result (omega arith) there in
-    let first = are_first c.args.def.now.fields ((told c.args.acc.now (record { table = c.types.ensures.table; accepted = c.types.ensures.accepted })).proper c.args.slot c.args.def.now c.requires.form) in
+    let first = are_first c.args.def.now.fields ((told c.args.acc.now (record { table = c.recall.ensures.table; accepted = c.recall.ensures.accepted })).proper c.args.slot c.args.def.now c.requires.form) in
     let p = err_from_is_err_and c.from_residual.result c.from_residual.ensures.1 in
     rw (p.1, p.2)
     (field_refused c.args.acc.now c.args.slot c.args.def.now c.args.entries c.loop-field.field-index c.field-item.result c.in_err-val.field-0.0 c.requires.form first there (c.in_err-val.ensures.err c.args.entries found))

@@ -14,7 +14,7 @@ returns-in-Ok c = (λ e. c.in-Ok.ensures, λ shows. refl)
 pub returns-in-Err-Shape : goal.returns-in-Err-Shape
 returns-in-Err-Shape c =
     let rows : List Row = c.args.acc.now in
-    let legible = c.types-types.ensures.legible in
+    let legible = c.recall.ensures.legible in
     let h : IsPartRefusal rows c.args.room (key_spot c.args.ty c.args.text.now []) c.in-Err-Shape.field-0-0 c.in-Err-Shape.field-0-1 = subst (PartFaults rows c.args.room (key_spot c.args.ty c.args.text.now [])) c.in-Err-Shape.field-0-is c.in-Err-Shape.ensures in (
       (λ e. absurd (never e)),
       (λ shows. absurd (refused_sound rows legible.clear legible.delims c.args.room 0 (plainly c.args.ty) (plain_safe rows (plainly c.args.ty) refl) (T.text c.args.text.now) h.refusal h.refused shows)),

@@ -5,13 +5,13 @@ use Rattle.ild_view_walk.proofs.structs.open_struct.Goals as goal
 
 pub returns-in_default-clause-opens : goal.returns-in_default-clause-opens
 returns-in_default-clause-opens c = λ t stands.
-    struct_deep c.args.acc.now c.types-types.ensures.legible c.args.ty.0 c.args.room c.args.def.now c.requires.known c.args.piece.now t stands c.in-Ok.parts (c.in-Ok.ensures.parts t stands)
+    struct_deep c.args.acc.now c.recall.ensures.legible c.args.ty.0 c.args.room c.args.def.now c.requires.known c.args.piece.now t stands c.in-Ok.parts (c.in-Ok.ensures.parts t stands)
     (under c.args.room c.levels.result _ c.levels.ensures.same c.in_default.ensures)
 
 pub returns-clause-opens : goal.returns-clause-opens
 returns-clause-opens c = λ t stands.
-    struct_opens c.args.acc.now c.types-types.ensures.legible c.args.ty.0 c.args.room c.args.def.now c.requires.known c.args.piece.now t stands c.in-Ok.parts (c.in-Ok.ensures.parts t stands)
-    c.in-Some.room c.of.result (c.of.ensures.has c.args.acc.now c.types-types.ensures.legible c.args.ty.0 t c.requires.known (c.in-Ok.ensures.parts t stands)) (omega (arith, c.in-Some.ensures, c.levels.ensures.same))
+    struct_opens c.args.acc.now c.recall.ensures.legible c.args.ty.0 c.args.room c.args.def.now c.requires.known c.args.piece.now t stands c.in-Ok.parts (c.in-Ok.ensures.parts t stands)
+    c.in-Some.room c.of.result (c.of.ensures.has c.args.acc.now c.recall.ensures.legible c.args.ty.0 t c.requires.known (c.in-Ok.ensures.parts t stands)) (omega (arith, c.in-Some.ensures, c.levels.ensures.same))
 
 pub returns-clause-ready : goal.returns-clause-ready
 returns-clause-ready c =

@@ -13,7 +13,7 @@ use Rattle.ild_view_walk.proofs.union.open_union.Goals as goal
 pub returns-in_default-clause-opens : goal.returns-in_default-clause-opens
 returns-in_default-clause-opens c = λ t stands.
     let x = c.in-Ok.ensures.answer t stands in
-    union_deep c.args.acc.now c.types-types.ensures.legible c.args.ty.0 c.args.room c.args.def.now c.requires.known c.args.piece.now t stands c.in-Ok.found.0 x.0 x.2
+    union_deep c.args.acc.now c.recall.ensures.legible c.args.ty.0 c.args.room c.args.def.now c.requires.known c.args.piece.now t stands c.in-Ok.found.0 x.0 x.2
     (under_one c.args.room c.in_default.ensures)
 
 got : (c : goal.After-value_part) → slice_get c.args.def.now.members c.in-Ok.found.0 ≡ Some c.index-as_slice-number.result
@@ -25,7 +25,7 @@ got c =
 pub returns-clause-opens : goal.returns-clause-opens
 returns-clause-opens c = λ t stands.
     let x = c.in-Ok.ensures.answer t stands in
-    union_opens c.args.acc.now c.types-types.ensures.legible c.args.ty.0 c.args.room c.args.def.now c.requires.known c.args.piece.now t stands c.in-Ok.found.0 x.0 x.2
+    union_opens c.args.acc.now c.recall.ensures.legible c.args.ty.0 c.args.room c.args.def.now c.requires.known c.args.piece.now t stands c.in-Ok.found.0 x.0 x.2
     c.in-Some.room c.index-as_slice-number.result c.value_part.result c.in-Ok.found.1 c.way_of.result (omega (arith, c.in-Some.ensures)) (got c) x.1 c.way_of.ensures c.value_part.ensures
 
 pub returns-clause-ready : goal.returns-clause-ready
@@ -36,7 +36,7 @@ returns-clause-ready c =
       subst (IsReady rows) (sym c.value_part.ensures) (record {
         within = member_low (length rows) c.args.def.now.members c.in-Ok.found.0 m c.requires.parts.1 (got c);
         numbered = c.in-Ok.ensures.numbered;
-        inlined = member_inlined rows c.types-types.ensures.legible c.args.ty.0 c.args.def.now c.requires.known c.args.piece.now c.in-Ok.found.1 c.requires.plain c.in-Ok.ensures.passed c.in-Ok.found.0 m (got c);
+        inlined = member_inlined rows c.recall.ensures.legible c.args.ty.0 c.args.def.now c.requires.known c.args.piece.now c.in-Ok.found.1 c.requires.plain c.in-Ok.ensures.passed c.in-Ok.found.0 m (got c);
       }),
       less,
     )

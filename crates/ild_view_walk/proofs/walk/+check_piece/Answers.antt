@@ -18,15 +18,15 @@ returns-then-is_null_there-clause-checks m c = λ t stands tree.
 pub returns-in-Err-clause-checks : goal.returns-in-Err-clause-checks
 returns-in-Err-clause-checks m c = λ t stands tree.
     let rows : List Row = c.args.acc.now in
-    let schema : IsSchema rows = record { table = c.types-types.ensures.table; accepted = c.types-types.ensures.accepted } in
+    let schema : IsSchema rows = record { table = c.recall.ensures.table; accepted = c.recall.ensures.accepted } in
     c.own_refusal.ensures.faults rows c.args.room t
     (refused_by_itself rows schema c.args.room c.args.slot c.requires.within t c.in-Err.stop (sym (c.is_null_there.ensures rows t stands) ∙ c.if-is_null_there.false) (λ d is. c.in-Err.ensures.opens d t stands is))
 
 pub returns-in_default-clause-checks : goal.returns-in_default-clause-checks
 returns-in_default-clause-checks m c = λ t stands tree.
     let rows : List Row = c.args.acc.now in
-    let schema : IsSchema rows = record { table = c.types-types.ensures.table; accepted = c.types-types.ensures.accepted } in
-    plain_shows rows schema c.types-types.ensures.legible c.args.room c.args.slot c.requires.within t tree
+    let schema : IsSchema rows = record { table = c.recall.ensures.table; accepted = c.recall.ensures.accepted } in
+    plain_shows rows schema c.recall.ensures.legible c.args.room c.args.slot c.requires.within t tree
     (λ d is. subst (λ o. Opens rows c.args.room d t (Ok o)) c.in_default.is (c.in-Ok.ensures.opens d t stands is))
 
 pub behind_leaves-parts-requires : goal.behind_leaves-parts-requires
@@ -35,7 +35,7 @@ behind_leaves-parts-requires m c = (subst (λ o. IsOpening c.args.acc.now c.args
 pub loop-part-init : goal.loop-part-init
 loop-part-init m c =
     let rows : List Row = c.args.acc.now in
-    let schema : IsSchema rows = record { table = c.types-types.ensures.table; accepted = c.types-types.ensures.accepted } in
+    let schema : IsSchema rows = record { table = c.recall.ensures.table; accepted = c.recall.ensures.accepted } in
     let ready : IsOpening rows c.args.room (Ok (Some c.in-Some.opening)) = subst (λ o. IsOpening rows c.args.room (Ok o)) c.in-Some.is c.in-Ok.ensures.ready in (
       c.behind_leaves-parts.ensures.ready,
       ready.1,
@@ -57,7 +57,7 @@ check_piece-requires m c =
 pub returns-in-Err-check_piece-clause-checks : goal.returns-in-Err-check_piece-clause-checks
 returns-in-Err-check_piece-clause-checks m c = λ t stands tree.
     let rows : List Row = c.args.acc.now in
-    let schema : IsSchema rows = record { table = c.types-types.ensures.table; accepted = c.types-types.ensures.accepted } in
+    let schema : IsSchema rows = record { table = c.recall.ensures.table; accepted = c.recall.ensures.accepted } in
     let left = c.in-Some.opening.room in
     at_refused rows c.args.room c.args.slot t left c.loop-part.parts (c.loop-part.invariant.2 t stands tree) schema tree c.in-Some-part.part c.in-Some-split_first.behind
     (λ ps h. subst (λ o. SplitsOff rows ps o c.in-Some-split_first.behind) c.in-Some-part.is (c.in-Some-split_first.ensures.step rows ps h))
@@ -67,7 +67,7 @@ returns-in-Err-check_piece-clause-checks m c = λ t stands tree.
 pub loop-part-preserved-in_default-check_piece : goal.loop-part-preserved-in_default-check_piece
 loop-part-preserved-in_default-check_piece m c =
     let rows : List Row = c.args.acc.now in
-    let schema : IsSchema rows = record { table = c.types-types.ensures.table; accepted = c.types-types.ensures.accepted } in
+    let schema : IsSchema rows = record { table = c.recall.ensures.table; accepted = c.recall.ensures.accepted } in
     let both = c.in-Some-split_first.ensures.ready rows c.loop-part.invariant.0 in (
       both.1,
       c.loop-part.invariant.1,
@@ -80,7 +80,7 @@ loop-part-preserved-in_default-check_piece m c =
 pub loop-part-preserved : goal.loop-part-preserved
 loop-part-preserved m c =
     let rows : List Row = c.args.acc.now in
-    let schema : IsSchema rows = record { table = c.types-types.ensures.table; accepted = c.types-types.ensures.accepted } in
+    let schema : IsSchema rows = record { table = c.recall.ensures.table; accepted = c.recall.ensures.accepted } in
     let both = c.in-Some-split_first.ensures.ready rows c.loop-part.invariant.0 in (
       both.1,
       c.loop-part.invariant.1,
@@ -92,21 +92,21 @@ loop-part-preserved m c =
 pub returns-clause-checks : goal.returns-clause-checks
 returns-clause-checks m c = λ t stands tree.
     let rows : List Row = c.args.acc.now in
-    let schema : IsSchema rows = record { table = c.types-types.ensures.table; accepted = c.types-types.ensures.accepted } in
-    walk_ends rows c.args.room c.args.slot t c.in-Some.opening.room c.loop-part.parts (c.loop-part.invariant.2 t stands tree) schema c.types-types.ensures.legible tree c.loop-part.invariant.1
+    let schema : IsSchema rows = record { table = c.recall.ensures.table; accepted = c.recall.ensures.accepted } in
+    walk_ends rows c.args.room c.args.slot t c.in-Some.opening.room c.loop-part.parts (c.loop-part.invariant.2 t stands tree) schema c.recall.ensures.legible tree c.loop-part.invariant.1
     (λ ps h. c.in_default-split_first.ensures.step rows ps h)
 
 pub returns-in-Err-clause-place : goal.returns-in-Err-clause-place
 returns-in-Err-clause-place m c = λ t stands tree.
     let rows : List Row = c.args.acc.now in
-    let schema : IsSchema rows = record { table = c.types-types.ensures.table; accepted = c.types-types.ensures.accepted } in
+    let schema : IsSchema rows = record { table = c.recall.ensures.table; accepted = c.recall.ensures.accepted } in
     c.own_refusal.ensures.place rows c.args.room t c.args.piece.now schema
     (refused_by_itself rows schema c.args.room c.args.slot c.requires.within t c.in-Err.stop (sym (c.is_null_there.ensures rows t stands) ∙ c.if-is_null_there.false) (λ d is. c.in-Err.ensures.opens d t stands is))
 
 pub returns-in-Err-check_piece-clause-place : goal.returns-in-Err-check_piece-clause-place
 returns-in-Err-check_piece-clause-place m c = λ t stands tree.
     let rows : List Row = c.args.acc.now in
-    let schema : IsSchema rows = record { table = c.types-types.ensures.table; accepted = c.types-types.ensures.accepted } in
+    let schema : IsSchema rows = record { table = c.recall.ensures.table; accepted = c.recall.ensures.accepted } in
     let inside = (c.in-Some-split_first.ensures.inside rows c.args.slot.ty.0 c.args.piece.now c.loop-part.invariant.3).0 in
     refused_place rows c.args.room c.args.slot t c.in-Some.opening.room c.loop-part.parts (c.loop-part.invariant.2 t stands tree) schema tree c.in-Some-part.part c.in-Some-split_first.behind
     (λ ps h. subst (λ o. SplitsOff rows ps o c.in-Some-split_first.behind) c.in-Some-part.is (c.in-Some-split_first.ensures.step rows ps h))

@@ -78,7 +78,7 @@ returns-in-Hamt-clause-ready c =
 pub open_stringpairs-requires : goal.open_stringpairs-requires
 open_stringpairs-requires c =
     let own : MapForm → TypeDef = λ f. D.Map c.in-Map.key c.in-Map.key_at c.in-Map.value c.in-Map.at f in
-    let given = pairs_given c.args.acc.now c.types-types.ensures.legible c.args.slot.ty.0 c.base.result.0 c.def.result.now c.in-Map.key c.in-Map.key_at c.in-Map.value c.in-Map.at c.in-StringPairs.inner c.in-StringPairs.entry
+    let given = pairs_given c.args.acc.now c.recall.ensures.legible c.args.slot.ty.0 c.base.result.0 c.def.result.now c.in-Map.key c.in-Map.key_at c.in-Map.value c.in-Map.at c.in-StringPairs.inner c.in-StringPairs.entry
     c.base.ensures.same c.def.ensures.same (c.in-Map.is ∙ ap own c.in-StringPairs.is) in
     record {
       inner_some = subst (λ (s : List ℕ). 0 < length s) (sym c.as_str.ensures.same) given.0;

@@ -14,4 +14,4 @@ pub returns-clause-nests : goal.returns-clause-nests
 returns-clause-nests c = λ t stands.
     let own = (c.known_root.ensures c.args.self.now.item (record { within = c.as_slice.ensures.within; spelled = c.as_slice.ensures.spelled })).stands in
     ∥∥₁_elim c.args.self.now.stands le_prop (λ h. subst (λ d. depth d ≤ room_in c.args.self.now) (one_tree_lem _ _ _ _ c.args.self.now.item t own stands)
-    (alone_tree c.args.self.now.acc.now c.types-types.ensures.table.texts.spelled c.args.self.now.room c.args.self.now.slot h.value c.args.self.now.item h.front.fits h.front.tree).nested)
+    (alone_tree c.args.self.now.acc.now c.recall.ensures.table.texts.spelled c.args.self.now.room c.args.self.now.slot h.value c.args.self.now.item h.front.fits h.front.tree).nested)

@@ -16,18 +16,18 @@ use Rattle.ild_view.proofs.view.View.entries.Goals as goal
 
 pub form_entries-requires-clause-delims : goal.form_entries-requires-clause-delims
 form_entries-requires-clause-delims c =
-    map_delims c.args.self.now.acc.now c.types-types.ensures.legible c.args.self.now.slot c.in-Map.key c.in-Map.key_at c.in-Map.value c.in-Map.at c.in-Map.form (c.def.ensures.same ∙ ap Some c.in-Map.is)
+    map_delims c.args.self.now.acc.now c.recall.ensures.legible c.args.self.now.slot c.in-Map.key c.in-Map.key_at c.in-Map.value c.in-Map.at c.in-Map.form (c.def.ensures.same ∙ ap Some c.in-Map.is)
 
 pub invariant_of-result-clause-safe : goal.invariant_of-result-clause-safe
 invariant_of-result-clause-safe c =
-    value_is_safe c.args.self.now.acc.now c.types-types.ensures.table c.types-types.ensures.legible c.args.self.now.slot c.in-Map.key c.in-Map.key_at c.in-Map.value c.in-Map.at c.in-Map.form (c.def.ensures.same ∙ ap Some c.in-Map.is)
+    value_is_safe c.args.self.now.acc.now c.recall.ensures.table c.recall.ensures.legible c.args.self.now.slot c.in-Map.key c.in-Map.key_at c.in-Map.value c.in-Map.at c.in-Map.form (c.def.ensures.same ∙ ap Some c.in-Map.is)
 
 pub invariant_of-result-clause-stands : goal.invariant_of-result-clause-stands
 invariant_of-result-clause-stands c = ∥∥₁_map c.args.self.now.stands (λ h.
     let s = c.args.self.now in
     let some = sym (c.is_null_there.ensures h.tree h.stands) ∙ c.if-is_null_there.false in
     let stands = subst (λ (b : Body). BodyStands s.acc.now b h.tree) c.in-Held.is h.stands in
-    let x = map_at s.acc.now c.types-types.ensures.legible s.slot s.safe h.room h.value h.tree h.front some c.in-Map.key c.in-Map.key_at c.in-Map.value c.in-Map.at c.in-Map.form (c.def.ensures.same ∙ ap Some c.in-Map.is) in
+    let x = map_at s.acc.now c.recall.ensures.legible s.slot s.safe h.room h.value h.tree h.front some c.in-Map.key c.in-Map.key_at c.in-Map.value c.in-Map.at c.in-Map.form (c.def.ensures.same ∙ ap Some c.in-Map.is) in
     form_some s.acc.now c.in-Map.value c.in-Map.form x.parts (seen s.acc.now (s.slot, h.value)) c.in-Some.rest x.keyed (c.in-Some.ensures h.tree x.parts stands x.shows))
 
 pub invariant_of-result-in-Some-map_entries-clause-stands : goal.invariant_of-result-in-Some-map_entries-clause-stands
@@ -36,7 +36,7 @@ invariant_of-result-in-Some-map_entries-clause-stands c = ∥∥₁_map c.args.s
     let some = sym (c.is_null_there.ensures h.tree h.stands) ∙ c.if-is_null_there.false in
     let stands = subst (λ (b : Body). BodyStands s.acc.now b h.tree) c.in-Held.is h.stands in
     entries_some s.acc.now anything (members_in h.tree) (entries_in (seen s.acc.now (s.slot, h.value))) c.in-Some-map_entries.rest
-    (any_map_beside s.acc.now c.types-types.ensures.legible s.slot s.safe h.room h.value h.tree h.front some (any_there s.acc.now c.types-types.ensures.table.prelude_first) (c.def.ensures.same ∙ ap Some c.in-Any.is))
+    (any_map_beside s.acc.now c.recall.ensures.legible s.slot s.safe h.room h.value h.tree h.front some (any_there s.acc.now c.recall.ensures.table.prelude_first) (c.def.ensures.same ∙ ap Some c.in-Any.is))
     (c.in-Some-map_entries.ensures h.tree stands))
 
 pub returns-in-Some : goal.returns-in-Some
@@ -44,7 +44,7 @@ returns-in-Some c = λ f v.
     let s = c.args.self.now in
     let some = sym (c.is_null_there.ensures v.tree v.stands) ∙ c.if-is_null_there.false in
     let stands = subst (λ (b : Body). BodyStands s.acc.now b v.tree) c.in-Held.is v.stands in
-    let x = map_at s.acc.now c.types-types.ensures.legible s.slot s.safe v.room f v.tree v.front some c.in-Map.key c.in-Map.key_at c.in-Map.value c.in-Map.at c.in-Map.form (c.def.ensures.same ∙ ap Some c.in-Map.is) in
+    let x = map_at s.acc.now c.recall.ensures.legible s.slot s.safe v.room f v.tree v.front some c.in-Map.key c.in-Map.key_at c.in-Map.value c.in-Map.at c.in-Map.form (c.def.ensures.same ∙ ap Some c.in-Map.is) in
     form_found s.acc.now c.in-Map.value c.in-Map.form x.parts (seen s.acc.now (s.slot, f)) _ x.keyed (c.in-Some.ensures v.tree x.parts stands x.shows) refl refl
 
 pub returns-in-None : goal.returns-in-None
@@ -52,7 +52,7 @@ returns-in-None c = λ f v.
     let s = c.args.self.now in
     let some = sym (c.is_null_there.ensures v.tree v.stands) ∙ c.if-is_null_there.false in
     let stands = subst (λ (b : Body). BodyStands s.acc.now b v.tree) c.in-Held.is v.stands in
-    let x = map_at s.acc.now c.types-types.ensures.legible s.slot s.safe v.room f v.tree v.front some c.in-Map.key c.in-Map.key_at c.in-Map.value c.in-Map.at c.in-Map.form (c.def.ensures.same ∙ ap Some c.in-Map.is) in
+    let x = map_at s.acc.now c.recall.ensures.legible s.slot s.safe v.room f v.tree v.front some c.in-Map.key c.in-Map.key_at c.in-Map.value c.in-Map.at c.in-Map.form (c.def.ensures.same ∙ ap Some c.in-Map.is) in
     form_none s.acc.now c.in-Map.value c.in-Map.form x.parts (seen s.acc.now (s.slot, f)) x.keyed (c.in-None.ensures v.tree x.parts stands x.shows)
 
 pub returns-in-Some-map_entries : goal.returns-in-Some-map_entries
@@ -61,7 +61,7 @@ returns-in-Some-map_entries c = λ f v.
     let some = sym (c.is_null_there.ensures v.tree v.stands) ∙ c.if-is_null_there.false in
     let stands = subst (λ (b : Body). BodyStands s.acc.now b v.tree) c.in-Held.is v.stands in
     entries_found s.acc.now anything (members_in v.tree) (entries_in (seen s.acc.now (s.slot, f))) _
-    (any_map_beside s.acc.now c.types-types.ensures.legible s.slot s.safe v.room f v.tree v.front some (any_there s.acc.now c.types-types.ensures.table.prelude_first) (c.def.ensures.same ∙ ap Some c.in-Any.is))
+    (any_map_beside s.acc.now c.recall.ensures.legible s.slot s.safe v.room f v.tree v.front some (any_there s.acc.now c.recall.ensures.table.prelude_first) (c.def.ensures.same ∙ ap Some c.in-Any.is))
     (c.in-Some-map_entries.ensures v.tree stands) refl refl
 
 pub form_entries-requires-clause-numbered : goal.form_entries-requires-clause-numbered
@@ -75,27 +75,27 @@ invariant_of-result-clause-within c =
     value_in (length c.args.self.now.acc.now) c.def.result.now c.in-Map.key c.in-Map.key_at c.in-Map.value c.in-Map.at c.in-Map.form c.in-Map.is c.def.ensures.within
 
 pub invariant_of-result-in-Some-map_entries-clause-within : goal.invariant_of-result-in-Some-map_entries-clause-within
-invariant_of-result-in-Some-map_entries-clause-within c = any_low c.args.self.now.acc.now c.types-types.ensures.table.prelude_first
+invariant_of-result-in-Some-map_entries-clause-within c = any_low c.args.self.now.acc.now c.recall.ensures.table.prelude_first
 
 pub invariant_of-result-in-Some-map_entries-clause-safe : goal.invariant_of-result-in-Some-map_entries-clause-safe
-invariant_of-result-in-Some-map_entries-clause-safe c = anything_safe c.args.self.now.acc.now c.types-types.ensures.table c.types-types.ensures.legible c.args.self.now.slot
+invariant_of-result-in-Some-map_entries-clause-safe c = anything_safe c.args.self.now.acc.now c.recall.ensures.table c.recall.ensures.legible c.args.self.now.slot
 
 pub returns-then-is_null_there : goal.returns-then-is_null_there
 returns-then-is_null_there c = λ f v.
     let s = c.args.self.now in
-    null_entries s.acc.now c.types-types.ensures.legible s.slot s.safe v.room f v.tree v.front (sym (c.is_null_there.ensures v.tree v.stands) ∙ c.if-is_null_there.true)
+    null_entries s.acc.now c.recall.ensures.legible s.slot s.safe v.room f v.tree v.front (sym (c.is_null_there.ensures v.tree v.stands) ∙ c.if-is_null_there.true)
 
 pub returns-in_default : goal.returns-in_default
 returns-in_default c = λ f v.
     let s = c.args.self.now in
     let some = sym (c.is_null_there.ensures v.tree v.stands) ∙ c.if-is_null_there.false in
-    scalar_entries s.acc.now c.types-types.ensures.legible s.slot s.safe v.room f v.tree v.front some s.body s.placed c.in_default.not-Held
+    scalar_entries s.acc.now c.recall.ensures.legible s.slot s.safe v.room f v.tree v.front some s.body s.placed c.in_default.not-Held
 
 pub returns-in_default-def : goal.returns-in_default-def
 returns-in_default-def c = λ f v.
     let s = c.args.self.now in
     let some = sym (c.is_null_there.ensures v.tree v.stands) ∙ c.if-is_null_there.false in
-    other_entries s.acc.now c.types-types.ensures.legible s.slot s.safe v.room f v.tree v.front some c.def.result.now c.def.ensures.same c.in_default-def.not-Any c.in_default-def.not-Map
+    other_entries s.acc.now c.recall.ensures.legible s.slot s.safe v.room f v.tree v.front some c.def.result.now c.def.ensures.same c.in_default-def.not-Any c.in_default-def.not-Map
 
 pub returns-in-None-map_entries : goal.returns-in-None-map_entries
 returns-in-None-map_entries c = λ f v.
@@ -103,5 +103,5 @@ returns-in-None-map_entries c = λ f v.
     let some = sym (c.is_null_there.ensures v.tree v.stands) ∙ c.if-is_null_there.false in
     let stands = subst (λ (b : Body). BodyStands s.acc.now b v.tree) c.in-Held.is v.stands in
     entries_none s.acc.now anything (members_in v.tree) (entries_in (seen s.acc.now (s.slot, f)))
-    (any_map_beside s.acc.now c.types-types.ensures.legible s.slot s.safe v.room f v.tree v.front some (any_there s.acc.now c.types-types.ensures.table.prelude_first) (c.def.ensures.same ∙ ap Some c.in-Any.is))
+    (any_map_beside s.acc.now c.recall.ensures.legible s.slot s.safe v.room f v.tree v.front some (any_there s.acc.now c.recall.ensures.table.prelude_first) (c.def.ensures.same ∙ ap Some c.in-Any.is))
     (c.in-None-map_entries.ensures v.tree stands)

@@ -21,7 +21,7 @@ returns-in-Ok c = λ f v.
     let is : m ≡ get_or e.members n m = c.index-as_slice-number.is ∙ ap (λ (ms : List EnumMember). get_or ms n m) c.as_slice.ensures in
     let got : slice_get e.members n ≡ Some m = got_at e.members n m (part_low s.acc.now (base s.acc.now s.slot.ty.0) n (D.Enum e) form c.in-Ok.ensures.within) is in
     let stands = subst (λ (b : Body). BodyStands s.acc.now b v.tree) c.in-Held.is v.stands in
-    ap (λ (k : List ℕ). Some k) c.as_str.ensures.same ∙ ap (λ (k : EnumMember). Some k.name) (sym c.index-as_slice-number.is) ∙ enum_named s.acc.now c.types-types.ensures.legible s.slot s.safe v.room f v.tree v.front some e form n m (c.in-Ok.ensures.answer v.tree stands) got
+    ap (λ (k : List ℕ). Some k) c.as_str.ensures.same ∙ ap (λ (k : EnumMember). Some k.name) (sym c.index-as_slice-number.is) ∙ enum_named s.acc.now c.recall.ensures.legible s.slot s.safe v.room f v.tree v.front some e form n m (c.in-Ok.ensures.answer v.tree stands) got
 
 pub returns-in-Err : goal.returns-in-Err
 returns-in-Err c = λ f v.
@@ -30,4 +30,4 @@ returns-in-Err c = λ f v.
     let some = sym (c.is_null_there.ensures v.tree v.stands) ∙ c.if-is_null_there.false in
     let form : form_of s.acc.now s.slot ≡ Some (D.Enum e) = c.def.ensures.same ∙ ap Some (enum_is c.def.result.now e c.in-Some.ensures) in
     let stands = subst (λ (b : Body). BodyStands s.acc.now b v.tree) c.in-Held.is v.stands in
-    absurd (enum_kept s.acc.now c.types-types.ensures.legible s.slot s.safe v.room f v.tree v.front some e form c.in-Held.piece c.in-Err.field-0 stands (c.in-Err.ensures.answer v.tree stands))
+    absurd (enum_kept s.acc.now c.recall.ensures.legible s.slot s.safe v.room f v.tree v.front some e form c.in-Held.piece c.in-Err.field-0 stands (c.in-Err.ensures.answer v.tree stands))

@@ -24,7 +24,7 @@ placed-requires-clause-within c =
     let form : form_of c.args.self.now.acc.now c.args.self.now.slot ≡ Some (D.Struct c.in-Some.def.now) = c.def.ensures.same ∙ ap Some (struct_is c.def.result.now c.in-Some.def.now c.in-Some.ensures) in
     let at : slice_get c.in-Some.def.now.fields c.in-Some-number_of.number ≡ Some c.index-as_slice-number.result =
     field_indexed c.args.self.now.acc.now c.args.self.now.slot c.in-Some.def.now form c.base.result.0 c.in-Some-number_of.number c.base.ensures.same c.in-Some-number_of.ensures.within c.as_slice.result.now c.as_slice.ensures c.index-as_slice-number.result c.index-as_slice-number.is in
-    field_in c.args.self.now.acc.now c.types-types.ensures.legible c.args.self.now.slot c.in-Some.def.now form c.in-Some-number_of.number c.index-as_slice-number.result at
+    field_in c.args.self.now.acc.now c.recall.ensures.legible c.args.self.now.slot c.in-Some.def.now form c.in-Some-number_of.number c.index-as_slice-number.result at
     (subst (λ (d : TypeDef). IsWithin (length c.args.self.now.acc.now) d) (struct_is c.def.result.now c.in-Some.def.now c.in-Some.ensures) c.def.ensures.within)
 
 pub placed-requires-clause-safe : goal.placed-requires-clause-safe
@@ -32,7 +32,7 @@ placed-requires-clause-safe c =
     let form : form_of c.args.self.now.acc.now c.args.self.now.slot ≡ Some (D.Struct c.in-Some.def.now) = c.def.ensures.same ∙ ap Some (struct_is c.def.result.now c.in-Some.def.now c.in-Some.ensures) in
     let at : slice_get c.in-Some.def.now.fields c.in-Some-number_of.number ≡ Some c.index-as_slice-number.result =
     field_indexed c.args.self.now.acc.now c.args.self.now.slot c.in-Some.def.now form c.base.result.0 c.in-Some-number_of.number c.base.ensures.same c.in-Some-number_of.ensures.within c.as_slice.result.now c.as_slice.ensures c.index-as_slice-number.result c.index-as_slice-number.is in
-    field_is_safe c.args.self.now.acc.now c.types-types.ensures.legible c.args.self.now.slot c.in-Some.def.now form c.in-Some-number_of.number c.index-as_slice-number.result at
+    field_is_safe c.args.self.now.acc.now c.recall.ensures.legible c.args.self.now.slot c.in-Some.def.now form c.in-Some-number_of.number c.index-as_slice-number.result at
 
 pub placed-requires-clause-numbered : goal.placed-requires-clause-numbered
 placed-requires-clause-numbered c = let e = c.in-Some-body_of.ensures.free (c.field.ensures.numbered []) in omega (arith, e)
@@ -43,7 +43,7 @@ placed-requires-clause-placed c =
     let at : slice_get c.in-Some.def.now.fields c.in-Some-number_of.number ≡ Some c.index-as_slice-number.result =
     field_indexed c.args.self.now.acc.now c.args.self.now.slot c.in-Some.def.now form c.base.result.0 c.in-Some-number_of.number c.base.ensures.same c.in-Some-number_of.ensures.within c.as_slice.result.now c.as_slice.ensures c.index-as_slice-number.result c.index-as_slice-number.is in
     c.in-Some-body_of.ensures.placed (c.field.ensures.numbered []) c.args.self.now.acc.now
-    (field_implicit c.args.self.now.acc.now c.types-types.ensures.legible c.args.self.now.slot c.in-Some.def.now form c.in-Some-number_of.number c.index-as_slice-number.result at)
+    (field_implicit c.args.self.now.acc.now c.recall.ensures.legible c.args.self.now.slot c.in-Some.def.now form c.in-Some-number_of.number c.index-as_slice-number.result at)
 
 pub placed-requires-clause-front : goal.placed-requires-clause-front
 placed-requires-clause-front c =
@@ -56,7 +56,7 @@ placed-requires-clause-front c =
     let stands = subst (λ (b : Body). BodyStands s.acc.now b h.tree) c.in-Held.is h.stands in
     let parts = c.in-Ok.ensures.parts h.tree stands in
     let own = c.in-Ok.ensures.fields c.in-Some.def.now form in
-    let x = field_found s.acc.now c.types-types.ensures.legible s.slot s.safe h.room h.value h.tree h.front some c.in-Some.def.now form c.args.name.now c.base.result.0 c.in-Some-number_of.number c.base.ensures.same
+    let x = field_found s.acc.now c.recall.ensures.legible s.slot s.safe h.room h.value h.tree h.front some c.in-Some.def.now form c.args.name.now c.base.result.0 c.in-Some-number_of.number c.base.ensures.same
     c.in-Some-number_of.ensures.same c.index-as_slice-number.result at c.in-Ok.parts parts own c.field.result (c.field.ensures.part s.acc.now s.slot.ty.0 h.tree parts.0 parts.1) in
     has_front s.acc.now c.index-as_slice-number.result.slot x.held (field_named (seen s.acc.now (s.slot, h.value)) c.args.name.now) c.in-Some-body_of.body
     (c.in-Some-body_of.ensures.embodies s.acc.now x.held x.is) x.beside)
@@ -71,7 +71,7 @@ returns-in-Some-body_of c = λ f v.
     let stands = subst (λ (b : Body). BodyStands s.acc.now b v.tree) c.in-Held.is v.stands in
     let parts = c.in-Ok.ensures.parts v.tree stands in
     let own = c.in-Ok.ensures.fields c.in-Some.def.now form in
-    let x = field_found s.acc.now c.types-types.ensures.legible s.slot s.safe v.room f v.tree v.front some c.in-Some.def.now form c.args.name.now c.base.result.0 c.in-Some-number_of.number c.base.ensures.same
+    let x = field_found s.acc.now c.recall.ensures.legible s.slot s.safe v.room f v.tree v.front some c.in-Some.def.now form c.args.name.now c.base.result.0 c.in-Some-number_of.number c.base.ensures.same
     c.in-Some-number_of.ensures.same c.index-as_slice-number.result at c.in-Ok.parts parts own c.field.result (c.field.ensures.part s.acc.now s.slot.ty.0 v.tree parts.0 parts.1) in
     hands_out s.acc.now c.index-as_slice-number.result.slot x.held (field_named (seen s.acc.now (s.slot, f)) c.args.name.now) c.in-Some-body_of.body c.placed.result
     (c.in-Some-body_of.ensures.embodies s.acc.now x.held x.is) x.beside c.placed.ensures.table c.placed.ensures.slot c.placed.ensures.body
@@ -86,7 +86,7 @@ returns-in-None-body_of c = λ f v.
     let stands = subst (λ (b : Body). BodyStands s.acc.now b v.tree) c.in-Held.is v.stands in
     let parts = c.in-Ok.ensures.parts v.tree stands in
     let own = c.in-Ok.ensures.fields c.in-Some.def.now form in
-    let x = field_found s.acc.now c.types-types.ensures.legible s.slot s.safe v.room f v.tree v.front some c.in-Some.def.now form c.args.name.now c.base.result.0 c.in-Some-number_of.number c.base.ensures.same
+    let x = field_found s.acc.now c.recall.ensures.legible s.slot s.safe v.room f v.tree v.front some c.in-Some.def.now form c.args.name.now c.base.result.0 c.in-Some-number_of.number c.base.ensures.same
     c.in-Some-number_of.ensures.same c.index-as_slice-number.result at c.in-Ok.parts parts own c.field.result (c.field.ensures.part s.acc.now s.slot.ty.0 v.tree parts.0 parts.1) in
     hands_none s.acc.now c.index-as_slice-number.result.slot x.held (field_named (seen s.acc.now (s.slot, f)) c.args.name.now)
     (c.in-None-body_of.ensures.embodies s.acc.now x.held x.is) x.beside
@@ -97,7 +97,7 @@ returns-in-Err c = λ f v.
     let some = sym (c.is_null_there.ensures v.tree v.stands) ∙ c.if-is_null_there.false in
     let stands = subst (λ (b : Body). BodyStands s.acc.now b v.tree) c.in-Held.is v.stands in
     let form : form_of s.acc.now s.slot ≡ Some (D.Struct c.in-Some.def.now) = c.def.ensures.same ∙ ap Some (struct_is c.def.result.now c.in-Some.def.now c.in-Some.ensures) in
-    absurd (struct_kept s.acc.now c.types-types.ensures.legible s.slot s.safe v.room f v.tree v.front some c.in-Some.def.now form c.in-Held.piece c.in-Err.field-0 stands (c.in-Err.ensures.refused v.tree stands))
+    absurd (struct_kept s.acc.now c.recall.ensures.legible s.slot s.safe v.room f v.tree v.front some c.in-Some.def.now form c.in-Held.piece c.in-Err.field-0 stands (c.in-Err.ensures.refused v.tree stands))
 
 pub returns-in-None-number_of : goal.returns-in-None-number_of
 returns-in-None-number_of c = λ f v.
@@ -106,7 +106,7 @@ returns-in-None-number_of c = λ f v.
     let form : form_of s.acc.now s.slot ≡ Some (D.Struct c.in-Some.def.now) = c.def.ensures.same ∙ ap Some (struct_is c.def.result.now c.in-Some.def.now c.in-Some.ensures) in
     let found = c.in-None-number_of.ensures.same ∙ ap (λ (k : ℕ). option_and_then (part_named c.args.name.now) (def_at s.acc.now k)) c.base.ensures.same in
     hands_nothing s.acc.now (field_named (seen s.acc.now (s.slot, f)) c.args.name.now)
-    (struct_without s.acc.now c.types-types.ensures.legible s.slot s.safe v.room f v.tree v.front some c.in-Some.def.now form c.args.name.now found)
+    (struct_without s.acc.now c.recall.ensures.legible s.slot s.safe v.room f v.tree v.front some c.in-Some.def.now form c.args.name.now found)
 
 pub base-requires : goal.base-requires
 base-requires c = c.args.self.now.within
@@ -129,7 +129,7 @@ bounds-as_slice-number c =
 pub returns-then-is_null_there : goal.returns-then-is_null_there
 returns-then-is_null_there c = λ f v.
     let s = c.args.self.now in
-    null_field s.acc.now c.types-types.ensures.legible s.slot s.safe v.room f v.tree v.front (sym (c.is_null_there.ensures v.tree v.stands) ∙ c.if-is_null_there.true) c.args.name.now
+    null_field s.acc.now c.recall.ensures.legible s.slot s.safe v.room f v.tree v.front (sym (c.is_null_there.ensures v.tree v.stands) ∙ c.if-is_null_there.true) c.args.name.now
 
 pub returns-in-Implicit : goal.returns-in-Implicit
 returns-in-Implicit c = λ f v.
