@@ -126,10 +126,13 @@ fn is_integer_seen(
 ) -> Result<bool, AllocError>
     requires within { ty.0 < length schema.now }
     requires room { IfSome (def_at schema.now ty.0) (λ def. parts_of def ≤ length names.old) }
-    ensures was { IfOk result (λ b. b ≡ is_valued E.Int member.now && (is_seen names.old (first_named schema.now ty.0 member.now.name) || option_map_or (contains int_cmp numbers.old) (member_integer member.now) false)) }
+    ensures was { IfOk result (λ b. b ≡ is_valued E.Int member.now
+        && (is_seen names.old (first_named schema.now ty.0 member.now.name)
+        || option_map_or (contains int_cmp numbers.old) (member_integer member.now) false)) }
     ensures size { length names.new ≡ length names.old }
     ensures names { OnOk result ((o : Option ℕ) → is_seen names.new o ≡ cond (is_valued E.Int member.now && is_one o (first_named schema.now ty.0 member.now.name)) true (is_seen names.old o)) }
-    ensures numbers { OnOk result ((q : ℤ) → contains int_cmp numbers.new q ≡ cond (is_valued E.Int member.now && are_equal (Some q) (member_integer member.now)) true (contains int_cmp numbers.old q)) }
+    ensures numbers { OnOk result ((q : ℤ) → contains int_cmp numbers.new q
+        ≡ cond (is_valued E.Int member.now && are_equal (Some q) (member_integer member.now)) true (contains int_cmp numbers.old q)) }
 {
     if member.text.is_none() {
         return Ok(false);

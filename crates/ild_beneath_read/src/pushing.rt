@@ -113,7 +113,8 @@ fn push_listed<'b>(
 ) -> Result<(), AllocError>
     requires apart { AreNamesApart fields.now.def.now.fields }
     requires within { FieldsIn acc.now fields.now.def.now.fields }
-    ensures { (ds : DataItems) → HasItems items.entry ds → Pushes result out.old.items out.new.items (flat_map (told acc.now steps) (named_parts fields.now.def.now.fields (pair_entries (items_list ds)))) }
+    ensures { (ds : DataItems) → HasItems items.entry ds
+        → Pushes result out.old.items out.new.items (flat_map (told acc.now steps) (named_parts fields.now.def.now.fields (pair_entries (items_list ds)))) }
 {
     let nodes = found_in_list(alloc, fields, items)?;
     let parts = Parts::Found(fields.def.fields.as_slice(), nodes.as_slice());

@@ -138,7 +138,9 @@ fn add_pair(
     out: &mut String,
 ) -> Result<bool, AllocError>
     requires { slot.ty.0 < length acc.now }
-    ensures { IfOk result (λ done. TextAnswer (option_and_then (pair_added (between delims.entry.entry.now count) delims.entry.inner.now key.now) (text_rep acc.now slot (value_of val.now))) (string_bytes out.old) (string_bytes out.new) done) }
+    ensures { IfOk result (λ done. TextAnswer
+        (option_and_then (pair_added (between delims.entry.entry.now count) delims.entry.inner.now key.now) (text_rep acc.now slot (value_of val.now)))
+        (string_bytes out.old) (string_bytes out.new) done) }
 {
     add_between(out, delims.entry, count)?;
     let _utf8 = out.as_str();
@@ -162,7 +164,9 @@ fn add_fields(
 ) -> Result<bool, AllocError>
     requires within { IsWithin (length acc.now) (D.Struct def.now) }
     requires fitting { FittingType acc.now (D.Struct def.now) }
-    ensures { IfOk result (λ done. TextAnswer (option_and_then (join_pairs delims.entry.inner.now delims.entry.entry.now) (field_pairs acc.now def.now.fields (optionals_list vals.now))) (string_bytes out.old) (string_bytes out.new) done) }
+    ensures { IfOk result (λ done. TextAnswer
+        (option_and_then (join_pairs delims.entry.inner.now delims.entry.entry.now) (field_pairs acc.now def.now.fields (optionals_list vals.now)))
+        (string_bytes out.old) (string_bytes out.new) done) }
 {
     if vals.len() != def.fields.len() {
         return Ok(false);
@@ -209,7 +213,9 @@ fn add_entries(
     out: &mut String,
 ) -> Result<bool, AllocError>
     requires { value.ty.0 < length acc.now }
-    ensures { IfOk result (λ done. TextAnswer (option_and_then (join_pairs delims.entry.inner.now delims.entry.entry.now) (entry_texts acc.now value (pairs_list pairs.now))) (string_bytes out.old) (string_bytes out.new) done) }
+    ensures { IfOk result (λ done. TextAnswer
+        (option_and_then (join_pairs delims.entry.inner.now delims.entry.entry.now) (entry_texts acc.now value (pairs_list pairs.now)))
+        (string_bytes out.old) (string_bytes out.new) done) }
 {
     let _utf8 = out.as_str();
     let start = out.len();

@@ -137,7 +137,8 @@ pub(crate) fn add_entry<H: KeyHash>(
 ) -> Result<(), AllocError>
     requires within { slot.ty.0 < length acc.now }
     requires fits { FitsIn acc.now slot (value_of val.now) }
-    ensures ok { OnOk result (Writes H.hash_of acc.now (entry_made (whole H.hash_of) acc.now paired key.now slot (value_of val.now)) (λ μ. weigh μ acc.now slot (value_of val.now)) out.old out.new nodes.old nodes.new) }
+    ensures ok { OnOk result (Writes H.hash_of acc.now (entry_made (whole H.hash_of) acc.now paired key.now slot (value_of val.now))
+        (λ μ. weigh μ acc.now slot (value_of val.now)) out.old out.new nodes.old nodes.new) }
     ensures err { OnErr result (IsGrown out.old out.new) }
 {
     add_key(paired, key, out)?;

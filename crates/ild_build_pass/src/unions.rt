@@ -44,7 +44,8 @@ pub(crate) fn add_union<H: KeyHash>(
     requires within { slot.ty.0 < length acc.now }
     requires same { value_of val.now ≡ V.union number part.now }
     requires fits { FitsIn acc.now slot (V.union number part.now) }
-    ensures ok { OnOk result (Writes H.hash_of acc.now (made (whole H.hash_of) acc.now slot (V.union number part.now)) (λ μ. weigh μ acc.now slot (V.union number part.now)) out.old out.new nodes.old nodes.new) }
+    ensures ok { OnOk result (Writes H.hash_of acc.now (made (whole H.hash_of) acc.now slot (V.union number part.now))
+        (λ μ. weigh μ acc.now slot (V.union number part.now)) out.old out.new nodes.old nodes.new) }
     ensures err { OnErr result (IsGrown out.old out.new) }
 {
     acc.recall();

@@ -21,7 +21,8 @@ fails_in (r ∷ rs) = fails_of r + fails_in rs
 
 -- over every store a walk gets as many blocks as it enters nodes, and at most one more for each call that fails
 abbrev pub GetsWhatItEnters : Type 0
-GetsWhatItEnters = (h : List ℕ → List ℕ) (p : HamtShape) (rs : List (Result (Option Row) HamtFault)) (m n : Moment) (v w : Walker) → Calls h p rs m v w n → HasRead p (λ blocks. Unit {0}) (fails_in rs) m v w n
+GetsWhatItEnters = (h : List ℕ → List ℕ) (p : HamtShape) (rs : List (Result (Option Row) HamtFault)) (m n : Moment) (v w : Walker)
+    → Calls h p rs m v w n → HasRead p (λ blocks. Unit {0}) (fails_in rs) m v w n
 
 -- where a store tells what it holds, these are no more than the nodes beneath the root
 abbrev pub GetsInAll : Type 0

@@ -36,7 +36,8 @@ pub record IsTrieOf (h : List ℕ → List ℕ) (p : HamtShape) (held : List (Li
 
 -- the blocks beneath a root give exactly the entries of which they are the trie
 abbrev pub GivenIsTrie : Type 0
-GivenIsTrie = (h : List ℕ → List ℕ) (p : HamtShape) (held : List (List ℕ)) (slots : List TrieSlot) (es : List (List ℕ × Data)) → IsNode p slots → RootGives h p held (trie_levels p - 1) slots es ↔ IsTrieOf h p held slots es
+GivenIsTrie = (h : List ℕ → List ℕ) (p : HamtShape) (held : List (List ℕ)) (slots : List TrieSlot) (es : List (List ℕ × Data))
+    → IsNode p slots → RootGives h p held (trie_levels p - 1) slots es ↔ IsTrieOf h p held slots es
 
 -- beneath a root that gives entries there are as many blocks of nodes as beneath the node of their trie
 abbrev pub NodesAreTheTries : Type 0

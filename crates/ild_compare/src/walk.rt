@@ -60,7 +60,8 @@ fn step<K: Store, L: Store>(
     right: &mut L,
 ) -> Result<Option<(Octets, Octets)>, OpenFault>
     requires { ty.0 < length acc.now }
-    ensures { Steps acc.now ty (K.moment left.old) (L.moment right.old) (child_seen child) (map child_seen list.old.items) result (map child_seen list.new.items) (K.moment left.new) (L.moment right.new) }
+    ensures { Steps acc.now ty (K.moment left.old) (L.moment right.old) (child_seen child) (map child_seen list.old.items)
+        result (map child_seen list.new.items) (K.moment left.new) (L.moment right.new) }
 {
     let pair = both(&child.id, left, right)?;
     if pair.0.as_slice() == pair.1.as_slice() {

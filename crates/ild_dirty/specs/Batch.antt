@@ -6,7 +6,15 @@ use Rattle.ild_dirty.specs.declared.batch.Batch.{Batch}
 
 -- a batch at a moment: of a store with these own blocks, and so many calls of its own
 abbrev pub batch_moment : Moment → List (List ℕ) → ℕ → ℕ → ℕ × ℕ → Moment
-batch_moment m own gets puts names = record { blocks = option_map (λ held. own ++ held) m.blocks; given = Some (map id_of own); gets = gets; puts = puts; lacks = m.lacks; faults = m.faults; beneath = record { names = names; own = length own; blocks = m.blocks; given = m.given; gets = m.gets; puts = m.puts } ∷ m.beneath }
+batch_moment m own gets puts names = record {
+  blocks = option_map (λ held. own ++ held) m.blocks;
+  given = Some (map id_of own);
+  gets = gets;
+  puts = puts;
+  lacks = m.lacks;
+  faults = m.faults;
+  beneath = record { names = names; own = length own; blocks = m.blocks; given = m.given; gets = m.gets; puts = m.puts } ∷ m.beneath;
+}
 
 -- this batch, over a store at the moment that `moment` says
 abbrev pub batch_at : {K : Type 0} → (K → Moment) → Batch K → Moment

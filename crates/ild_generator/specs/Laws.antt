@@ -33,12 +33,14 @@ step_makes i s =
     else judged_map (put (key_of s.number) (pos i) s.entries)
 
 abbrev pub StepsAreEdits : Type 0
-StepsAreEdits = (tests : Tests) → AreTests generator_rows tests → (s : Generated) → IsPlain s.entries → (i : ℕ) → i < 2 ^ 64 → (json : List ℕ) → (is_deletion s.number ≡ false → read_json json ≡ Some (integer (pos i)))
+StepsAreEdits = (tests : Tests) → AreTests generator_rows tests → (s : Generated) → IsPlain s.entries
+    → (i : ℕ) → i < 2 ^ 64 → (json : List ℕ) → (is_deletion s.number ≡ false → read_json json ≡ Some (integer (pos i)))
     → changed (setting_with tests) (as_value s.entries) (step_edit s.number json) ≡ step_makes i s
 
 -- and what blocks may come: those of the map that the step asks for
 abbrev pub StepsAddBlocks : Type 0
-StepsAddBlocks = (tests : Tests) → AreTests generator_rows tests → (s : Generated) → IsPlain s.entries → (i : ℕ) → i < 2 ^ 64 → (json : List ℕ) → (is_deletion s.number ≡ false → read_json json ≡ Some (integer (pos i)))
+StepsAddBlocks = (tests : Tests) → AreTests generator_rows tests → (s : Generated) → IsPlain s.entries
+    → (i : ℕ) → i < 2 ^ 64 → (json : List ℕ) → (is_deletion s.number ≡ false → read_json json ≡ Some (integer (pos i)))
     → (b : List ℕ) → Contains (edit_blocks (setting_with tests) (as_value s.entries) (step_edit s.number json) (step_makes i s)) b → Contains (blocks_in (asked_map i s)) b
 
 -- keys rise, and are texts

@@ -46,7 +46,8 @@ module _ {W V : Type 0} (told : W → Bool) (Stands : W → List ℕ → V → T
   abbrev pub Answers : W → State → List (List ℕ) → List ℕ → W → State → Type 0
   Answers w s [] text x t = (text ≡ []) × (t ≡ s) × (x ≡ w)
   Answers w s (l ∷ ls) text x t =
-      (u : W) × (k : State) × (one : List ℕ) × (more : List ℕ) × LineTurn (told u) (Stands u) (Plain u) (λ refusal. Cause w refusal u) s l one k × Stays (told w) (Stands w) (told u) (Stands u) × (text ≡ one ++ more) × Answers u k ls more x t
+      (u : W) × (k : State) × (one : List ℕ) × (more : List ℕ) × LineTurn (told u) (Stands u) (Plain u) (λ refusal. Cause w refusal u) s l one k
+      × Stays (told w) (Stands w) (told u) (Stands u) × (text ≡ one ++ more) × Answers u k ls more x t
 
 -- lines spell a list of events: the text is that of this list, and the state is the one behind it
 pub record Spells {V : Type 0} (told : Bool) (Stands : List ℕ → V → Type 0) (Plain : V → List ℕ → List ℕ → V → Type 0) (s : State) (text : List ℕ) (t : State) : Type 0 where

@@ -7,6 +7,7 @@ use Rattle.ild_data.specs.Trie.{TrieSlot}
 use Rattle.ild_data.specs.declared.hamt_shape.HamtShape.{HamtShape}
 use Rattle.ild_node_slots.specs.Views.{HasSlots}
 use Rattle.ild_node_slots.specs.declared.view.NodeView.{NodeView}
+use Rattle.ild_path_edits.specs.Along.{room_below}
 use Rattle.ild_schema.specs.Value.{Value}
 use Rattle.ild_schema.specs.declared.def.MapForm.{MapForm}
 use Rattle.ild_schema.specs.declared.def.TypeDef.{TypeDef}
@@ -17,7 +18,7 @@ use Rattle.ild_schema.specs.declared.row.Row.{Row}
 use Rattle.ild_typed.specs.At.{InSlot}
 use Rattle.ild_view.specs.Parts.{IsPartView}
 use Rattle.ild_view.specs.declared.view.View.{View}
-use Rattle.ild_inclusion.specs.Says.{Outcome}
+use Rattle.ild_inclusion.specs.Says.{Goes, Outcome}
 use Rattle.ild_inclusion.specs.declared.answer.Answer.{Answer}
 use Rattle.ild_inclusion.specs.declared.fault.Reject.{Reject}
 use Rattle.ild_inclusion.specs.declared.fault.VerifyErr.{VerifyErr}
@@ -97,6 +98,11 @@ abbrev pub OffGiven : Result Step VerifyErr → ℕ → List (List ℕ) → Type
 OffGiven (Ok (S.On x)) i bs = ⊥
 OffGiven (Ok (S.Off x)) i bs = (x.at ≡ i) × (x.left.now ≡ bs)
 OffGiven (Err e) i bs = ⊥
+
+-- what one segment from a value in block i gives, with these blocks left: where it leads is in the room below the value
+abbrev pub GoesGiven : (List ℕ → List ℕ) → List Row → ℕ → ℕ → InSlot → List ℕ → List (List ℕ) → Result Step VerifyErr → Type 0
+GoesGiven h rows room i p s bs result =
+    Goes h rows room i p s bs (OnGiven rows (room_below rows room p s) result) (OffGiven result) (RefusedGiven result)
 
 -- ---- at the end
 

@@ -46,7 +46,8 @@ AtKey On Off i bs None = Off i bs
 AtKey On Off i bs (Some t) = On i bs t
 
 -- a HAMT by its root node, which stands in block i: its nodes are those of the shape of its type
-pub record EntersRoot (rows : List Row) (hash key : List ℕ) (room : ℕ) (hamt_slot : Slot) (d : Data) (i : ℕ) (bs : List (List ℕ)) (On : ℕ → InSlot → List (List ℕ) → Type 0) (Off : ℕ → List (List ℕ) → Type 0) (Wrong : Reject → Type 0) : Type 0 where
+pub record EntersRoot (rows : List Row) (hash key : List ℕ) (room : ℕ) (hamt_slot : Slot) (d : Data) (i : ℕ) (bs : List (List ℕ))
+    (On : ℕ → InSlot → List (List ℕ) → Type 0) (Off : ℕ → List (List ℕ) → Type 0) (Wrong : Reject → Type 0) : Type 0 where
   pub shape : HamtShape
   pub named : shape_in (form_of rows hamt_slot) ≡ Some shape
   pub slots : List TrieSlot

@@ -50,4 +50,6 @@ abbrev pub OnWay : HamtShape → List ℕ → List ℕ → (ℕ → List (List �
 OnWay p hash key Ends Wrong depth i slots [] =
     AtSlot key (Ends i []) (λ id. LevelLeft p depth i (Wrong (R.Missing (i + 1))) Wrong) (get_or slots (index p hash depth) empty)
 OnWay p hash key Ends Wrong depth i slots (b ∷ bs) =
-    AtSlot key (Ends i (b ∷ bs)) (λ id. LevelLeft p depth i (NodeIn p id (i + 1) b (λ below. OnWay p hash key Ends Wrong (depth + 1) (i + 1) below bs) Wrong) Wrong) (get_or slots (index p hash depth) empty)
+    AtSlot key (Ends i (b ∷ bs))
+    (λ id. LevelLeft p depth i (NodeIn p id (i + 1) b (λ below. OnWay p hash key Ends Wrong (depth + 1) (i + 1) below bs) Wrong) Wrong)
+    (get_or slots (index p hash depth) empty)

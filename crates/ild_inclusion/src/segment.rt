@@ -2,9 +2,8 @@
 ghost use Rattle.std.specs.Prelude.{◌≡◌, ◌<◌, ◌+◌, ◌^◌, List, Some, is_some, length, true};
 ghost use Rattle.ild_cbor.specs.Nodes.{Stands};
 ghost use Rattle.ild_data.specs.Data.{Data};
-ghost use Rattle.ild_inclusion.specs.Given.{HasMemory, IsMapOf, OffGiven, OnGiven, RefusedGiven};
-ghost use Rattle.ild_inclusion.specs.Says.{EntersRoot, Goes, GoesToSlot};
-ghost use Rattle.ild_path_edits.specs.Along.{room_below};
+ghost use Rattle.ild_inclusion.specs.Given.{GoesGiven, HasMemory, IsMapOf, OffGiven, OnGiven, RefusedGiven};
+ghost use Rattle.ild_inclusion.specs.Says.{EntersRoot, GoesToSlot};
 ghost use Rattle.ild_path_room.specs.ValueSlot.{value_in};
 ghost use Rattle.ild_schema.specs.Slots.{form_of};
 ghost use Rattle.ild_schema.specs.Value.{Value, hamt};
@@ -126,7 +125,7 @@ pub(crate) fn go_on<'b, H: KeyHash>(
     keys: &H,
 ) -> Result<Step<'b>, VerifyErr>
     ensures { (f : Value) → IsView from.now.view f → HasMemory result
-        → Goes H.hash_of (table_of from.now.view) from.now.room from.now.at (slot_of from.now.view, f) segment.now from.now.left.now (OnGiven (table_of from.now.view) (room_below (table_of from.now.view) from.now.room (slot_of from.now.view, f) segment.now) result) (OffGiven result) (RefusedGiven result) }
+        → GoesGiven H.hash_of (table_of from.now.view) from.now.room from.now.at (slot_of from.now.view, f) segment.now from.now.left.now result }
 {
     let Stand {
         view,

@@ -90,7 +90,8 @@ fn behind_elements<'b>(elements: Elements<'b>, wanted: Kind) -> Elements<'b>
 // The entries behind the first ones whose values have a kind.
 fn behind_entries<'b>(entries: Entries<'b>, wanted: Kind) -> Entries<'b>
     requires { entries.held ≡ None }
-    ensures passes { (rows : List Row) (ps : List Spot) → FitsOfKind rows (plainly entries.entry.key) K.Text → FitsOfKind rows entries.entry.value wanted → HasEntries entries.entry ps → Passes rows ps (HasEntries result) }
+    ensures passes { (rows : List Row) (ps : List Spot) → FitsOfKind rows (plainly entries.entry.key) K.Text
+        → FitsOfKind rows entries.entry.value wanted → HasEntries entries.entry ps → Passes rows ps (HasEntries result) }
     ensures key { result.key ≡ entries.entry.key }
     ensures value { result.value ≡ entries.entry.value }
 {
@@ -109,7 +110,8 @@ fn behind_entries<'b>(entries: Entries<'b>, wanted: Kind) -> Entries<'b>
 // The pairs behind the first ones whose values have a kind.
 fn behind_pairs<'b>(pairs: PairEntries<'b>, wanted: Kind) -> PairEntries<'b>
     requires { pairs.held ≡ None }
-    ensures passes { (rows : List Row) (ps : List Spot) → FitsOfKind rows (plainly pairs.entry.key) K.Text → FitsOfKind rows pairs.entry.value wanted → HasPairs pairs.entry ps → Passes rows ps (HasPairs result) }
+    ensures passes { (rows : List Row) (ps : List Spot) → FitsOfKind rows (plainly pairs.entry.key) K.Text
+        → FitsOfKind rows pairs.entry.value wanted → HasPairs pairs.entry ps → Passes rows ps (HasPairs result) }
     ensures key { result.key ≡ pairs.entry.key }
     ensures value { result.value ≡ pairs.entry.value }
 {

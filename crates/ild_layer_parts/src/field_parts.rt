@@ -39,7 +39,8 @@ impl<'b> Fields<'b> {
     /// The fields of a struct, from the first on.
     pub fn of(def: &'b StructDef, parts: StructParts<'b>) -> Fields<'b>
         requires { fields_of parts ≡ def.now.fields }
-        ensures has { (rows : List Row) → IsLegible rows → (ty : ℕ) (t : Data) → meant rows ty ≡ Some (D.Struct def.now) → (h : HasParts rows ty t parts.entry) → HasFields rows result (field_spots def.now.form 0 def.now.fields h.0) }
+        ensures has { (rows : List Row) → IsLegible rows → (ty : ℕ) (t : Data) → meant rows ty ≡ Some (D.Struct def.now)
+            → (h : HasParts rows ty t parts.entry) → HasFields rows result (field_spots def.now.form 0 def.now.fields h.0) }
         ensures ready { (rows : List Row) → AreIn rows def.now.fields → AreReady rows (P.Struct result) }
     {
         Fields {

@@ -107,7 +107,8 @@ impl<'b> RootEntries<'b> {
         ensures step { (rows : List Row) (ps : List Spot) → HasRoot self.now ps → SplitsRoot rows ps result }
         ensures way { (ps : List Spot) → HasRoot self.now ps → IfSome result (λ r. LeadsTo r.0 ps) }
         ensures fewer { IfSome result (λ r. root_left r.1 < root_left self.now) }
-        ensures ready { (rows : List Row) → IsIn rows (plainly self.now.key) → IsIn rows self.now.value → IfSome result (λ r. IsPartReady rows r.0 × IsIn rows (plainly r.1.key) × IsIn rows r.1.value) }
+        ensures ready { (rows : List Row) → IsIn rows (plainly self.now.key) → IsIn rows self.now.value
+            → IfSome result (λ r. IsPartReady rows r.0 × IsIn rows (plainly r.1.key) × IsIn rows r.1.value) }
         ensures whole { IfSome result (λ r. IfSome r.0 (λ x. IsWhole x)) }
     {
         if let Some((_, node)) = self.held {

@@ -41,7 +41,8 @@ pub record IsRootOf (block : List ℕ → Option (List ℕ)) (h : List ℕ → L
   pub below : AllByRecursion (IsHeldBlock block) (beneath h p fs)
 
 -- a value is the map of them
-pub record IsMapOf (block : List ℕ → Option (List ℕ)) (h : List ℕ → List ℕ) (p : HamtShape) (rows : List Row) (less : ℕ) (s : Slot) (key : TypeNo) (value : Slot) (fs : List (List ℕ × Data)) (v : Value) : Type 0 where
+pub record IsMapOf (block : List ℕ → Option (List ℕ)) (h : List ℕ → List ℕ) (p : HamtShape) (rows : List Row)
+    (less : ℕ) (s : Slot) (key : TypeNo) (value : Slot) (fs : List (List ℕ × Data)) (v : Value) : Type 0 where
   pub keys : AllByRecursion (KeyFits rows less key) fs
   pub values : List Value
   pub held : AreHeld block h rows less (entry_parts value fs) values
@@ -57,4 +58,5 @@ pub record HamtSplits (block : List ℕ → Option (List ℕ)) (h : List ℕ →
 abbrev pub HamtsSplit : Type 0
 HamtsSplit =
     (block : List ℕ → Option (List ℕ)) (h : List ℕ → List ℕ) (rows : List Row) → IsSchema rows → (room less : ℕ) → room ≤ deepest → (s : Slot) (t : Data) → is_null_there s t ≡ false
-    → (p : HamtShape) (key : TypeNo) (key_at : ℕ) (value : Slot) (at : ℕ) → form_of rows s ≡ Some (D.Map key key_at value at (MF.Hamt p)) → room ≡ less + 5 → HamtSplits block h p rows room less s t key value
+    → (p : HamtShape) (key : TypeNo) (key_at : ℕ) (value : Slot) (at : ℕ)
+    → form_of rows s ≡ Some (D.Map key key_at value at (MF.Hamt p)) → room ≡ less + 5 → HamtSplits block h p rows room less s t key value

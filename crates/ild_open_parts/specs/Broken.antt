@@ -53,6 +53,7 @@ IsWrongIn zero h rows told before now at room s t id why = ⊥
 IsWrongIn (suc deep) h rows told before now at room s t id why =
     IsWrongAt h rows told before now (λ z block value. IsWrongIn deep h rows told before now block z.room z.value value id why) at room s t id why
 
-pub record HasBrokenBlock (h : List ℕ → List ℕ) (rows : List Row) (told : Option (List (List ℕ))) (before now : ℕ) (at : List ℕ) (room : ℕ) (s : Slot) (t : Data) (id : List ℕ) (why : BlockWhy) : Type 0 where
+pub record HasBrokenBlock (h : List ℕ → List ℕ) (rows : List Row) (told : Option (List (List ℕ)))
+    (before now : ℕ) (at : List ℕ) (room : ℕ) (s : Slot) (t : Data) (id : List ℕ) (why : BlockWhy) : Type 0 where
   pub deep : ℕ
   pub wrong : IsWrongIn deep h rows told before now at room s t id why

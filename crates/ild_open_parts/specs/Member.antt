@@ -24,4 +24,5 @@ pub record IsMemberOf (rows : List Row) (def : UnionDef) (piece : Piece) (r : �
   pub within : r.1.ty.0 < length rows
   pub numbered : IsNumbered rows r.2
   pub inlined : IsInlined rows r.1 r.2
-  pub same : (t : Data) (k : ℕ) (member : Member) (c : Data) → StandsFor rows piece t → slice_get def.members k ≡ Some member → composed alone (D.Union def) (L.union k c) ≡ Some t → ShowsMember rows r k member c
+  pub same : (t : Data) (k : ℕ) (member : Member) (c : Data) → StandsFor rows piece t → slice_get def.members k ≡ Some member
+      → composed alone (D.Union def) (L.union k c) ≡ Some t → ShowsMember rows r k member c

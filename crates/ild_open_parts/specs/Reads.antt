@@ -71,7 +71,8 @@ PartsAnswer h at rows room ps keep make m (Ok val) n = FromBlocks n (λ held. Ha
 PartsAnswer h at rows room ps keep make m (Err e) n = Stops (NoValues h rows room ps m) (BrokenParts h at rows room ps m n) m e n
 
 -- all of them are read, and the whole is made of their values
-pub record ReadsParts (h : List ℕ → List ℕ) (at : List ℕ) (rows : List Row) (room : ℕ) (ps : List Part) (keep : Bool) (make : List Value → Value) (m : Moment) (result : Result Val OpenFault) (n : Moment) : Type 0 where
+pub record ReadsParts (h : List ℕ → List ℕ) (at : List ℕ) (rows : List Row) (room : ℕ) (ps : List Part) (keep : Bool)
+    (make : List Value → Value) (m : Moment) (result : Result Val OpenFault) (n : Moment) : Type 0 where
   pub answer : PartsAnswer h at rows room ps keep make m result n
   pub only : OnlyReads m n
   pub gets : (held : List (List ℕ)) (vs : List Value) → m.blocks ≡ Some held → AreHeld (block_at held) h rows room ps vs → n.gets ≤ m.gets + nodes_in h rows ps vs

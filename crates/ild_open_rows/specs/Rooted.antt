@@ -25,7 +25,8 @@ pub record AreRows (h : List ℕ → List ℕ) (p : HamtShape) (held : List (Lis
 -- what a walk lists is such
 abbrev pub RowsAreEntries : Type 0
 RowsAreEntries =
-    (h : List ℕ → List ℕ) (p : HamtShape) (held : List (List ℕ)) (t : Data) (slots : List TrieSlot) (rows : List Row) → IsRoot p slots t → IsTree t → GivesRows h p held slots rows → AreRows h p held t rows
+    (h : List ℕ → List ℕ) (p : HamtShape) (held : List (List ℕ)) (t : Data) (slots : List TrieSlot) (rows : List Row)
+    → IsRoot p slots t → IsTree t → GivesRows h p held slots rows → AreRows h p held t rows
 
 -- the blocks beneath the root give entries, and are as many as those of the nodes beneath the root of these
 pub record AreGiven (h : List ℕ → List ℕ) (p : HamtShape) (held : List (List ℕ)) (slots : List TrieSlot) (fs : List (List ℕ × Data)) : Type 0 where
@@ -36,4 +37,5 @@ pub record AreGiven (h : List ℕ → List ℕ) (p : HamtShape) (held : List (Li
 -- of a root that splits into entries the blocks give them
 abbrev pub EntriesAreGiven : Type 0
 EntriesAreGiven =
-    (h : List ℕ → List ℕ) (p : HamtShape) (held : List (List ℕ)) (t : Data) (slots : List TrieSlot) (fs : List (List ℕ × Data)) → IsRoot p slots t → AreTexts fs → IsRootOf (block_at held) h p t fs → AreGiven h p held slots fs
+    (h : List ℕ → List ℕ) (p : HamtShape) (held : List (List ℕ)) (t : Data) (slots : List TrieSlot) (fs : List (List ℕ × Data))
+    → IsRoot p slots t → AreTexts fs → IsRootOf (block_at held) h p t fs → AreGiven h p held slots fs

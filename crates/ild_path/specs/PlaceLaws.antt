@@ -10,4 +10,5 @@ use Rattle.ild_typed.specs.At.{InSlot}
 -- what was held stays held
 abbrev pub PlacesStay : Type 0
 PlacesStay =
-    (h : List ℕ → List ℕ) (rows : List Row) (was now : List (List ℕ)) (p : InSlot) (path : List (List ℕ)) (verb : Verb) (place : Place) → Keeps was now → IsPlace h rows was p path verb place → IsPlace h rows now p path verb place
+    (h : List ℕ → List ℕ) (rows : List Row) (was now : List (List ℕ)) (p : InSlot) (path : List (List ℕ)) (verb : Verb) (place : Place)
+    → Keeps was now → IsPlace h rows was p path verb place → IsPlace h rows now p path verb place

@@ -17,4 +17,5 @@ use Rattle.ild_view.specs.View.{slot_of, table_of}
 abbrev pub ReplacesParts : (List ℕ → List ℕ) → Parts → PartEdit → Moment → Result (List ℕ) EditFault → Moment → Type 0
 ReplacesParts h parts edit m result k =
     (is_key : ℕ → List ℕ → Bool) (was : List (List ℕ)) (n : TypeNo) (v w c : Value) (u : Data) (path : List (List ℕ)) → m.blocks ≡ Some was → slot_of parts.root ≡ plainly n
-    → ArePieces h is_key was parts.root parts.hops.items parts.end v path → IsChange h (table_of parts.root) is_key was deepest (slot_of parts.root, v) path edit w c u → Replaces h (table_of parts.root) n path c u m result k
+    → ArePieces h is_key was parts.root parts.hops.items parts.end v path
+    → IsChange h (table_of parts.root) is_key was deepest (slot_of parts.root, v) path edit w c u → Replaces h (table_of parts.root) n path c u m result k

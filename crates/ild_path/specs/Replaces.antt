@@ -69,7 +69,8 @@ pub record IsPart (h : List ℕ → List ℕ) (rows : List Row) (was : List (Lis
 
 -- the root block of the changed value c, all of whose blocks are held, none too long; or why not
 abbrev pub ReplaceAnswer : (List ℕ → List ℕ) → List Row → TypeNo → Value → Data → Moment → Result (List ℕ) EditFault → Moment → Type 0
-ReplaceAnswer h rows n c u m (Ok b) k = (b ≡ spell u) × AllByRecursion (λ y. length y ≤ longest_block) (blocks_of bare h rows n c u) × IfTold k.blocks (λ now. Stands bare (block_at now) h rows n (id_of b) c)
+ReplaceAnswer h rows n c u m (Ok b) k = (b ≡ spell u) × AllByRecursion (λ y. length y ≤ longest_block) (blocks_of bare h rows n c u)
+    × IfTold k.blocks (λ now. Stands bare (block_at now) h rows n (id_of b) c)
 ReplaceAnswer h rows n c u m (Err F.Size) k = (b : List ℕ) × Contains (blocks_of bare h rows n c u) b × (longest_block < length b)
 ReplaceAnswer h rows n c u m (Err F.Store) k = Rose m.faults k.faults
 ReplaceAnswer h rows n c u m (Err (F.Clash id kept new)) k = Collides k (short (blocks_of bare h rows n c u))
@@ -87,13 +88,15 @@ pub record Replaces (h : List ℕ → List ℕ) (rows : List Row) (n : TypeNo) (
 -- where the store tells its blocks, and holds the value in which the place is, and the nodes of the part
 abbrev pub Brings : (List ℕ → List ℕ) → Place → Node → Moment → Result (List ℕ) EditFault → Moment → Type 0
 Brings h place part m result k =
-    (held : List (List ℕ)) (n : TypeNo) (v w c : Value) (u : Data) (path : List (List ℕ)) (verb : Verb) (e : Edit Value) → m.blocks ≡ Some held → IsPlaceOf h (table_at place) held n v path verb place → ComesBy verb path w e
+    (held : List (List ℕ)) (n : TypeNo) (v w c : Value) (u : Data) (path : List (List ℕ)) (verb : Verb) (e : Edit Value)
+    → m.blocks ≡ Some held → IsPlaceOf h (table_at place) held n v path verb place → ComesBy verb path w e
     → ((slot : Slot) → new_slot (table_at place) (plainly n, v) e ≡ Some slot → IsPart h (table_at place) held slot part w) → IsChanged h (table_at place) (plainly n, v) e c u
     → Replaces h (table_at place) n path c u m result k
 
 abbrev pub Erases : (List ℕ → List ℕ) → Place → Moment → Result (List ℕ) EditFault → Moment → Type 0
 Erases h place m result k =
-    (held : List (List ℕ)) (n : TypeNo) (v c : Value) (u : Data) (path : List (List ℕ)) → m.blocks ≡ Some held → IsPlaceOf h (table_at place) held n v path V.Del place → IsChanged h (table_at place) (plainly n, v) (del_at path) c u
+    (held : List (List ℕ)) (n : TypeNo) (v c : Value) (u : Data) (path : List (List ℕ)) → m.blocks ≡ Some held
+    → IsPlaceOf h (table_at place) held n v path V.Del place → IsChanged h (table_at place) (plainly n, v) (del_at path) c u
     → Replaces h (table_at place) n path c u m result k
 
 -- over every store: it failed only where faults rose, and only two byte strings with one id clash

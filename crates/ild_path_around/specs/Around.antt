@@ -41,18 +41,22 @@ text_edit_of V.Del text = Some E.Delete
 -- whether the same edit breaks a rule in the innermost block, told at its front
 abbrev pub TellsInBlock : Place → List (List ℕ) → TextEdit → Result Bool AllocError → Type 0
 TellsInBlock place path edit result =
-    (h : List ℕ → List ℕ) (rows : List Row) (was : List (List ℕ)) (room : ℕ) (q : InSlot) (d : Data) (w m : Value) (is_key : ℕ → List ℕ → Bool) → CanGoOn h rows was room q d (root_at place) (hops_in place) → TestsKeys rows is_key
-    → IsFree (breaks rows) rows q.0 (front_in h rows q).1 → TextIs rows (front_in h rows q) path edit w → change rows is_key (front_in h rows q) (edit_of edit w path) ≡ Ok m → IfOk result (λ b. b ≡ breaks_delimiter rows q.0 m)
+    (h : List ℕ → List ℕ) (rows : List Row) (was : List (List ℕ)) (room : ℕ) (q : InSlot) (d : Data) (w m : Value) (is_key : ℕ → List ℕ → Bool)
+    → CanGoOn h rows was room q d (root_at place) (hops_in place) → TestsKeys rows is_key
+    → IsFree (breaks rows) rows q.0 (front_in h rows q).1 → TextIs rows (front_in h rows q) path edit w
+    → change rows is_key (front_in h rows q) (edit_of edit w path) ≡ Ok m → IfOk result (λ b. b ≡ breaks_delimiter rows q.0 m)
 
 -- a part comes that breaks none by itself, and this is its text, where it has one
 abbrev pub TellsComing : Place → Option (Bor (List ℕ)) → Result Bool AllocError → Type 0
 TellsComing place text result =
-    (h : List ℕ → List ℕ) (rows : List Row) (was : List (List ℕ)) (p : InSlot) (how : Coming) (path : List (List ℕ)) (w c : Value) (is_key : ℕ → List ℕ → Bool) → IsPlace h rows was p path (verb_of how) place
+    (h : List ℕ → List ℕ) (rows : List Row) (was : List (List ℕ)) (p : InSlot) (how : Coming) (path : List (List ℕ))
+    (w c : Value) (is_key : ℕ → List ℕ → Bool) → IsPlace h rows was p path (verb_of how) place
     → IsRootedAt h rows was p place → TestsKeys rows is_key → AllByRecursion IsUtf8 path → IsSafe rows (slot_in place) → OfType rows (slot_in place) w → breaks_delimiter rows (slot_in place) w ≡ false
     → option_map (λ t. t.now) text ≡ text_rep rows (slot_in place) w → change rows is_key p (bringing how path w) ≡ Ok c → IfOk result (λ b. b ≡ breaks_delimiter rows p.0 c)
 
 -- what is there goes
 abbrev pub TellsGoing : Place → Result Bool AllocError → Type 0
 TellsGoing place result =
-    (h : List ℕ → List ℕ) (rows : List Row) (was : List (List ℕ)) (p : InSlot) (path : List (List ℕ)) (c : Value) (is_key : ℕ → List ℕ → Bool) → IsPlace h rows was p path V.Del place → IsRootedAt h rows was p place
+    (h : List ℕ → List ℕ) (rows : List Row) (was : List (List ℕ)) (p : InSlot) (path : List (List ℕ)) (c : Value) (is_key : ℕ → List ℕ → Bool)
+    → IsPlace h rows was p path V.Del place → IsRootedAt h rows was p place
     → TestsKeys rows is_key → AllByRecursion IsUtf8 path → change rows is_key p (del_at path) ≡ Ok c → IfOk result (λ b. b ≡ breaks_delimiter rows p.0 c)

@@ -45,6 +45,8 @@ pub record IsTextEdit (h : List ℕ → List ℕ) (rows : List Row) (is_key : �
 
 abbrev pub TextEditsOfFronts : Type 0
 TextEditsOfFronts =
-    (h : List ℕ → List ℕ) (rows : List Row) (is_key : ℕ → List ℕ → Bool) → IsSchema rows → TestsKeys rows is_key → (p : InSlot) (s : List ℕ) (ss : List (List ℕ)) (e : Edit Value) (c : Value) (d : Data)
-    → path_of e ≡ s ∷ ss → HasTextPath e → BringsTextPart rows p e → OfType rows p.0 p.1 → represented (whole h) rows p.0 p.1 ≡ Some d → in_one_block rows p (s ∷ ss) ≡ true → change rows is_key p e ≡ Ok c
+    (h : List ℕ → List ℕ) (rows : List Row) (is_key : ℕ → List ℕ → Bool) → IsSchema rows → TestsKeys rows is_key
+    → (p : InSlot) (s : List ℕ) (ss : List (List ℕ)) (e : Edit Value) (c : Value) (d : Data)
+    → path_of e ≡ s ∷ ss → HasTextPath e → BringsTextPart rows p e → OfType rows p.0 p.1
+    → represented (whole h) rows p.0 p.1 ≡ Some d → in_one_block rows p (s ∷ ss) ≡ true → change rows is_key p e ≡ Ok c
     → IsTextEdit h rows is_key p e c

@@ -17,7 +17,8 @@ use Rattle.ild_typed.specs.Schema.{IsSchema}
 -- a value in which a HAMT is another breaks delimiters exactly where that HAMT does
 abbrev pub OutsideOfHamts : Type 0
 OutsideOfHamts =
-    (h : List ℕ → List ℕ) (rows : List Row) (is_key : ℕ → List ℕ → Bool) → IsSchema rows → TestsKeys rows is_key → (p : InSlot) (path : List (List ℕ)) (slot elem : Slot) (ps : Pairs) (d : Data) (m : Value)
+    (h : List ℕ → List ℕ) (rows : List Row) (is_key : ℕ → List ℕ → Bool) → IsSchema rows → TestsKeys rows is_key
+    → (p : InSlot) (path : List (List ℕ)) (slot elem : Slot) (ps : Pairs) (d : Data) (m : Value)
     → OfType rows p.0 p.1 → represented (whole h) rows p.0 p.1 ≡ Some d → at rows p path ≡ Some (slot, map ps) → IsHamt rows slot elem → OfType rows slot m
     → breaks_delimiter rows p.0 (with_part rows p path m) ≡ breaks_delimiter rows slot m
 

@@ -58,7 +58,8 @@ TellsChange v s edit result =
 
 -- What is known of an edit whose change of the last holder is told: where the steps lead, what the law of edits says, and that the edit at
 -- the rest of the path makes the value that each holder becomes.
-pub record IsReady (rows : List Row) (is_key : ℕ → List ℕ → Bool) (edit : PartEdit) (w : Value) (p : InSlot) (path : List (List ℕ)) (steps : List PartSteps) (change : LastChange) (new : Option Node) (t u : Data) : Type 0 where
+pub record IsReady (rows : List Row) (is_key : ℕ → List ℕ → Bool) (edit : PartEdit) (w : Value) (p : InSlot)
+    (path : List (List ℕ)) (steps : List PartSteps) (change : LastChange) (new : Option Node) (t u : Data) : Type 0 where
   pub last : InSlot
   pub first : List ℕ
   pub others : List (List ℕ)
@@ -69,4 +70,5 @@ pub record IsReady (rows : List Row) (is_key : ℕ → List ℕ → Bool) (edit 
   pub one_change : edit_seen alone rows p (edit_of edit w path) ≡ lifted rows (lift alone rows) (in_last edit w).made (last_seen alone rows (in_last edit w) (last_of first others)) p first others
   pub is_change : IsChange rows (in_last edit w) last (last_of first others) new change
   pub law : (r : Option ℕ) → IsTold rows (in_last edit w) p last first others is_change.some steps change r → IsEdited rows (in_last edit w) p last first others is_change.some steps change r t u
-  pub makes : (h : InSlot) (s : List ℕ) (ss : List (List ℕ)) → last_holder rows h s ss ≡ last_holder rows p first others → Makes rows is_key edit w h (s ∷ ss) (changed_in rows (in_last edit w).made h s ss)
+  pub makes : (h : InSlot) (s : List ℕ) (ss : List (List ℕ)) → last_holder rows h s ss ≡ last_holder rows p first others
+      → Makes rows is_key edit w h (s ∷ ss) (changed_in rows (in_last edit w).made h s ss)

@@ -85,4 +85,5 @@ pub record ItemOf (rows : List Row) (edit : PartEdit) (w : Value) (q : InSlot) (
 -- of each front for which a view stands, where the table lets the edit be done
 abbrev pub AnswersItem : View → List ℕ → PartEdit → Result (Option (List ℕ)) SpliceErr → Type 0
 AnswersItem v s edit result =
-    (f w : Value) → IsView v f → is_holder (seen (table_of v) (slot_of v, f)) ≡ true → Allows (table_of v) edit (seen (table_of v) (slot_of v, f)) s w → ItemOf (table_of v) edit w (slot_of v, f) s result
+    (f w : Value) → IsView v f → is_holder (seen (table_of v) (slot_of v, f)) ≡ true
+    → Allows (table_of v) edit (seen (table_of v) (slot_of v, f)) s w → ItemOf (table_of v) edit w (slot_of v, f) s result

@@ -54,7 +54,8 @@ pub fn spliced<'a>(
     path: &'a Path,
     edit: &PartEdit<'_>,
 ) -> Result<Option<Spliced<'a>>, SpliceErr>
-    ensures answers { (is_key : ℕ → List ℕ → Bool) (f w c : Value) (t u : Data) → Edits is_key root.now path.now edit.now f w c t u → Answers (table_of root.now) is_key edit.now w (slot_of root.now, f) path.now t u result }
+    ensures answers { (is_key : ℕ → List ℕ → Bool) (f w c : Value) (t u : Data) → Edits is_key root.now path.now edit.now f w c t u
+        → Answers (table_of root.now) is_key edit.now w (slot_of root.now, f) path.now t u result }
     ensures beneath { IsBeneath path.now result }
 {
     // They do no work: their clauses say what acceptance says of the table, and what an edit is in a block's data.

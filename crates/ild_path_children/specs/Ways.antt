@@ -48,8 +48,10 @@ WayIn home held (w ∷ ws) = HasPlace home (IsNear held ws) w × WayIn home held
 -- So is the way of a key at which a value is put. The map before and the value are held.
 abbrev pub WaysArePut : Type 0
 WaysArePut =
-    (h : List ℕ → List ℕ) (rows : List Row) (was : List (List ℕ)) (before less : ℕ) (s elem : Slot) (t d x : Data) (ps : Pairs) (es : List (List ℕ × Data)) (k : List ℕ) (w : Value) → (is : IsHamt rows s elem)
-    → IsHeld (block_at was) h rows before s t (map ps) → IsTrieIn h is.3 rows was elem ps t es → IsHeld (block_at was) h rows less elem d w → represented (whole h) rows s (map (pairs_of (put k w (pairs_list ps)))) ≡ Some x
+    (h : List ℕ → List ℕ) (rows : List Row) (was : List (List ℕ)) (before less : ℕ) (s elem : Slot)
+    (t d x : Data) (ps : Pairs) (es : List (List ℕ × Data)) (k : List ℕ) (w : Value) → (is : IsHamt rows s elem)
+    → IsHeld (block_at was) h rows before s t (map ps) → IsTrieIn h is.3 rows was elem ps t es
+    → IsHeld (block_at was) h rows less elem d w → represented (whole h) rows s (map (pairs_of (put k w (pairs_list ps)))) ≡ Some x
     → WayIn (places_in h rows s (map (pairs_of (put k w (pairs_list ps))))) was (way h is.3 k (trie_levels is.3) 0 (insert bytewise k d es))
 
 -- and that of a key whose entry goes

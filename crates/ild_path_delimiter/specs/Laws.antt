@@ -26,5 +26,6 @@ OnlyTextsBreak = (rows : List Row) (p : InSlot) (t : Data) (k : Holder) → repr
 -- a holder in a holder whose data are a text is a text too
 abbrev pub TextsOfTexts : Type 0
 TextsOfTexts =
-    (rows : List Row) → IsLegible rows → (p q : InSlot) (s : List ℕ) (t d : Data) → represented alone rows p.0 p.1 ≡ Some t → represented alone rows q.0 q.1 ≡ Some d → part (seen rows p) s ≡ Some q → is_holder (seen rows q) ≡ true
+    (rows : List Row) → IsLegible rows → (p q : InSlot) (s : List ℕ) (t d : Data) → represented alone rows p.0 p.1 ≡ Some t
+    → represented alone rows q.0 q.1 ≡ Some d → part (seen rows p) s ≡ Some q → is_holder (seen rows q) ≡ true
     → text_in d ≡ None → text_in t ≡ None

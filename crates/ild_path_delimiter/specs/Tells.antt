@@ -19,5 +19,6 @@ AreHoldersOf root path views = (f : Value) → IsView root f → AreHolders (tab
 -- whether the edit breaks one
 abbrev pub TellsOfTextEdit : View → List (List ℕ) → TextEdit → Result Bool AllocError → Type 0
 TellsOfTextEdit root path edit result =
-    (is_key : ℕ → List ℕ → Bool) (f c w : Value) → TestsKeys (table_of root) is_key → IsView root f → IsFree (breaks (table_of root)) (table_of root) (slot_of root) f → TextIs (table_of root) (slot_of root, f) path edit w
+    (is_key : ℕ → List ℕ → Bool) (f c w : Value) → TestsKeys (table_of root) is_key → IsView root f
+    → IsFree (breaks (table_of root)) (table_of root) (slot_of root) f → TextIs (table_of root) (slot_of root, f) path edit w
     → change (table_of root) is_key (slot_of root, f) (edit_of edit w path) ≡ Ok c → IfOk result (λ b. b ≡ breaks_delimiter (table_of root) (slot_of root) c)

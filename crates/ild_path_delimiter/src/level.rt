@@ -61,7 +61,8 @@ pub(crate) fn level_of(
     k: usize,
     new: Option<&str>,
 ) -> Result<Level, AllocError>
-    ensures { (rows : List Row) (q : InSlot) (s : List ℕ) → IsSomeAnd (slice_get views.now k) (IsPartView rows q) → slice_get segments.now k ≡ Some s → is_holder (seen rows q) ≡ true → IfOk result (LevelIs rows q s (text_of new.entry)) }
+    ensures { (rows : List Row) (q : InSlot) (s : List ℕ) → IsSomeAnd (slice_get views.now k) (IsPartView rows q)
+        → slice_get segments.now k ≡ Some s → is_holder (seen rows q) ≡ true → IfOk result (LevelIs rows q s (text_of new.entry)) }
 {
     if k < views.len() && k < segments.len() {
         made(alloc, &views[k], segments[k].as_str(), new)

@@ -1,7 +1,7 @@
 -- What is made of the holders on the path of an edit, from the last one up.
 use Rattle.std.proofs.Common.{◌≡◌, ◌<◌, ◌≤◌, ◌+◌, ◌-◌, ℕ, zero, suc, List, [], ◌∷◌, ◌++◌, length, length-append, take, drop, Bool, true, Some, sym, ◌∙◌, ap, subst, arith}
 use Rattle.std.specs.List.{AllByRecursion}
-use Rattle.std.specs.Prelude.{Err, IsSomeAnd, IsUtf8, Ok, Result, slice_get}
+use Rattle.std.specs.Prelude.{Err, IsUtf8, Ok, Result, slice_get}
 use Rattle.ild_cbor.specs.Block.{IsBlockOf}
 use Rattle.ild_cbor.specs.Nodes.{IsRoot, Stands}
 use Rattle.ild_cbor.specs.declared.node.Node.{Node}
@@ -18,6 +18,7 @@ use Rattle.ild_path_edit.proofs.Numbering.{at_next, known_at, one, rest_of, segm
 use Rattle.ild_path_edit.proofs.Stepping.{Next, at_last, part_made, part_typed, to_next}
 use Rattle.ild_path_edit.specs.Made.{MakesBlock}
 use Rattle.ild_path_edit.specs.Holders.{AreHolders, IsMade, PartIs}
+use Rattle.ild_path_edit.specs.Items.{ChangesHolder, SetsPart}
 use Rattle.ild_path_holder.proofs.Written.{has_part}
 use Rattle.ild_path_holder.specs.Along.{is_holder}
 use Rattle.ild_splice.specs.Made.{Makes as MakesOf}
@@ -32,7 +33,6 @@ use Rattle.ild_splice_changes.proofs.Spans.{changes_are_spliced}
 use Rattle.ild_splice_changes.specs.TreeChange.{TreeStep, changed, part_at, replace}
 use Rattle.ild_typed.proofs.Wholes.{one_within}
 use Rattle.ild_typed.specs.Schema.{IsSchema}
-use Rattle.ild_view.specs.Parts.{IsPartView}
 use Rattle.ild_view.specs.View.{slot_of, table_of}
 use Rattle.ild_view.specs.declared.view.View.{View}
 
@@ -64,17 +64,6 @@ pub record Above (rows : List Row) (is_key : ℕ → List ℕ → Bool) (edit : 
   pub is : PartIs rows holder segment slot value tree d
   pub shorter : length (spell tree) ≤ length (spell d)
   pub next : IsMade rows is_key edit w p path (suc k) tree
-
--- what a call says of the holder with a number
-abbrev pub ChangedClause : List View → List (List ℕ) → ℕ → PartEdit → Result (List ℕ) SpliceErr → Type 0
-ChangedClause views segments k edit r =
-    (rows : List Row) (q : InSlot) (s : List ℕ) (w : Value) (d : Data) → IsSomeAnd (slice_get views k) (IsPartView rows q) → slice_get segments k ≡ Some s → is_holder (seen rows q) ≡ true → Allows rows edit (seen rows q) s w
-    → becoming rows edit w q s ≡ Some d → MakesBlock (spell d) r
-
-abbrev pub AboveClause : List View → List (List ℕ) → ℕ → List ℕ → Result (List ℕ) SpliceErr → Type 0
-AboveClause views segments k below r =
-    (rows : List Row) (q : InSlot) (slot : Slot) (s : List ℕ) (c : Value) (x d : Data) → IsSomeAnd (slice_get views k) (IsPartView rows q) → slice_get segments k ≡ Some s → is_holder (seen rows q) ≡ true → PartIs rows q s slot c x d
-    → below ≡ spell x → MakesBlock (spell d) r
 
 module _ (rows : List Row) (is_key : ℕ → List ℕ → Bool) (schema : IsSchema rows) (keys : TestsKeys rows is_key) (edit : PartEdit) (w : Value) (p : InSlot) (path : List (List ℕ)) (texts : AllByRecursion IsUtf8 path) where
   abbrev Made : ℕ → Data → Type 0
@@ -135,10 +124,10 @@ module _ (rows : List Row) (is_key : ℕ → List ℕ → Bool) (schema : IsSche
   -- ---- what is answered of it
 
   module _ (all : List View) (views : AreHolders rows p path all) where
-    pub last_done : (k : ℕ) (d : Data) (r : Result (List ℕ) SpliceErr) → suc k ≡ length path → Made k d → ChangedClause all path k edit r → MakesBlock (spell d) r
+    pub last_done : (k : ℕ) (d : Data) (r : Result (List ℕ) SpliceErr) → suc k ≡ length path → Made k d → ChangesHolder all path k edit r → MakesBlock (spell d) r
     last_done k d r end m clause = let l = last_made k d end m in clause rows l.holder l.segment w d (views k l.holder m.before l.leads) l.there l.holds l.allows l.becomes
 
-    pub above_done : (k : ℕ) (d : Data) (r : Result (List ℕ) SpliceErr) (below : List ℕ) → suc k < length path → Made k d → ((x : Data) → Made (suc k) x → MakesBlock (spell x) (Ok below)) → AboveClause all path k below r → MakesBlock (spell d) r
+    pub above_done : (k : ℕ) (d : Data) (r : Result (List ℕ) SpliceErr) (below : List ℕ) → suc k < length path → Made k d → ((x : Data) → Made (suc k) x → MakesBlock (spell x) (Ok below)) → SetsPart all path k below r → MakesBlock (spell d) r
     above_done k d r below less m known clause =
         let a = made_above k d less m in
         let it = known a.tree a.next in

@@ -1,12 +1,11 @@
 //! The block of an edit.
 ghost use Rattle.std.specs.Prelude.{◌<◌, ℕ, Bool, List, length};
+ghost use Rattle.ild_path_edit.specs.Items.{MakesWhole};
 ghost use Rattle.ild_path_edit.specs.Made.{MakesBlock};
 ghost use Rattle.ild_data.specs.Data.{Data};
 ghost use Rattle.ild_data.specs.Spell.{spell};
 ghost use Rattle.ild_path_block.specs.Edits.{Edits};
-ghost use Rattle.ild_path_block.specs.Spliced.{IsReplaced};
 ghost use Rattle.ild_schema.specs.Value.{Value};
-ghost use Rattle.ild_view.specs.View.{slot_of, table_of};
 
 use crate::item::item_at;
 use ild_data::{Octets, Path};
@@ -24,7 +23,7 @@ fn with_holder<'a>(
     holder: &Replaced<'_>,
 ) -> Result<Octets, SpliceErr>
     requires { 0 < length path.now }
-    ensures { (is_key : ℕ → List ℕ → Bool) (f w c : Value) (t u : Data) → Edits is_key root.now path.now edit.now f w c t u → IsReplaced (table_of root.now) is_key edit.now w (slot_of root.now, f) path.now t u holder.now → MakesBlock (spell u) result }
+    ensures { MakesWhole root.now path.now edit.now holder.now result }
 {
     root.schema().recall();
     let item = item_at(alloc, root, path, edit, holder.holder)?;

@@ -1,19 +1,6 @@
 //! The item of what a holder on the path of an edit becomes.
-ghost use Rattle.std.specs.Prelude.{◌≡◌, ◌<◌, ℕ, Bool, IsSomeAnd, List, Some, length, slice_get, true};
-ghost use Rattle.ild_data.specs.Data.{Data};
-ghost use Rattle.ild_data.specs.Spell.{spell};
-ghost use Rattle.ild_path_block.specs.Changes.{Allows};
-ghost use Rattle.ild_path_block.specs.Edits.{Edits};
-ghost use Rattle.ild_path_block.specs.Items.{becoming};
-ghost use Rattle.ild_path_edit.specs.Holders.{IsMade, PartIs};
-ghost use Rattle.ild_path_edit.specs.Made.{MakesBlock};
-ghost use Rattle.ild_path_holder.specs.Along.{is_holder};
-ghost use Rattle.ild_schema.specs.Value.{Value};
-ghost use Rattle.ild_schema.specs.declared.number.Slot.{Slot};
-ghost use Rattle.ild_schema.specs.declared.row.Row.{Row};
-ghost use Rattle.ild_typed.specs.At.{InSlot, seen};
-ghost use Rattle.ild_view.specs.Parts.{IsPartView};
-ghost use Rattle.ild_view.specs.View.{slot_of, table_of};
+ghost use Rattle.std.specs.Prelude.{◌<◌, length};
+ghost use Rattle.ild_path_edit.specs.Items.{ChangesHolder, MakesHolder, SetsPart};
 
 use crate::views::{are_texts, holders};
 use ild_cbor::check;
@@ -33,7 +20,7 @@ fn changed(
     edit: &PartEdit<'_>,
 ) -> Result<Octets, SpliceErr>
     requires { k < length segments.now }
-    ensures { (rows : List Row) (q : InSlot) (s : List ℕ) (w : Value) (d : Data) → IsSomeAnd (slice_get views.now k) (IsPartView rows q) → slice_get segments.now k ≡ Some s → is_holder (seen rows q) ≡ true → Allows rows edit.now (seen rows q) s w → becoming rows edit.now w q s ≡ Some d → MakesBlock (spell d) result }
+    ensures { ChangesHolder views.now segments.now k edit.now result }
 {
     if k < views.len() {
         match new_item(alloc, &views[k], segments[k].as_str(), edit)? {
@@ -54,7 +41,7 @@ fn above(
     part: &Octets,
 ) -> Result<Octets, SpliceErr>
     requires { k < length segments.now }
-    ensures { (rows : List Row) (q : InSlot) (slot : Slot) (s : List ℕ) (c : Value) (x d : Data) → IsSomeAnd (slice_get views.now k) (IsPartView rows q) → slice_get segments.now k ≡ Some s → is_holder (seen rows q) ≡ true → PartIs rows q s slot c x d → part.now ≡ spell x → MakesBlock (spell d) result }
+    ensures { SetsPart views.now segments.now k part.now result }
 {
     match check(part.as_slice()) {
         Ok(node) => changed(alloc, views, segments, k, &PartEdit::Set(node)),
@@ -71,7 +58,7 @@ pub(crate) fn item_at<'a>(
     from: usize,
 ) -> Result<Octets, SpliceErr>
     requires { 0 < length path.now }
-    ensures { (is_key : ℕ → List ℕ → Bool) (f w c : Value) (t u d : Data) → Edits is_key root.now path.now edit.now f w c t u → IsMade (table_of root.now) is_key edit.now w (slot_of root.now, f) path.now from d → MakesBlock (spell d) result }
+    ensures { MakesHolder root.now path.now edit.now from result }
 {
     // They do no work: their clauses say what acceptance says of the table, and that segments are texts.
     root.schema().recall();

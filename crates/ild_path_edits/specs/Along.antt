@@ -25,7 +25,8 @@ AtPart (Some q) test = test q
 
 -- The tests L of the enclosing forms, from the top down, and the judgement J of the last holder as f changes it. The index is what
 -- is left to a form, such as the levels that it may nest, and `below` what it leaves to its parts.
-abbrev pub Tests : List Row → (I : Type 0) → (I → InSlot → List ℕ → I) → (I → Slot → Value → Type 0) → (I → Slot → Holder → Type 0) → (Holder → List ℕ → Holder) → I → InSlot → List ℕ → List (List ℕ) → Type 0
+abbrev pub Tests : List Row → (I : Type 0) → (I → InSlot → List ℕ → I) → (I → Slot → Value → Type 0)
+    → (I → Slot → Holder → Type 0) → (Holder → List ℕ → Holder) → I → InSlot → List ℕ → List (List ℕ) → Type 0
 Tests rows I below J L f i p s [] = J i p.0 (value_of (f (seen rows p) s))
 Tests rows I below J L f i p s (t ∷ ss) =
     AtPart (part (seen rows p) s) (λ q. L i p.0 (set_part (seen rows p) s (changed_in rows f q t ss)) × Tests rows I below J L f (below i p s) q t ss)

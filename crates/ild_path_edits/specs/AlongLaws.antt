@@ -26,7 +26,8 @@ JudgedAlong = (rows : List Row) (is_key : ℕ → List ℕ → Bool) (test : Opt
 -- At the last segment, what is set, there before or not, is judged by the test of its holder and by itself.
 abbrev pub SetIsJudged : Type 0
 SetIsJudged = (rows : List Row) (is_key : ℕ → List ℕ → Bool) (test : Option TypeDef → Value → Bool) → IsSchema rows → TestsKeys rows is_key
-    → (p : InSlot) (s : List ℕ) (slot : Slot) (w : Value) → OfType rows p.0 p.1 → IsFree test rows p.0 p.1 → slot_to_set (seen rows p) s ≡ Some slot → MayStand is_key (seen rows p) s → OfType rows slot w
+    → (p : InSlot) (s : List ℕ) (slot : Slot) (w : Value) → OfType rows p.0 p.1 → IsFree test rows p.0 p.1
+    → slot_to_set (seen rows p) s ≡ Some slot → MayStand is_key (seen rows p) s → OfType rows slot w
     → IsFree test rows p.0 (value_of (set_part (seen rows p) s w)) ↔ (Passes test rows p.0 (set_part (seen rows p) s w) × IsFree test rows slot w)
 
 -- a changed value fits in a room exactly where it does along the path

@@ -38,5 +38,6 @@ JudgedInOrder = (f : Frame) (h : List ℕ → List ℕ) (rows : List Row) (t : T
 
 -- an edit of a typed value makes a value that a store can hold
 abbrev pub EditedAreStorable : Type 0
-EditedAreStorable = (f : Frame) (h : List ℕ → List ℕ) (rows : List Row) (t : Tests) → IsSchema rows → AreTests rows t → (read : List ℕ → Option Data) (n : TypeNo) (v : Value) (e : Edit (List ℕ)) (c : Value)
+EditedAreStorable = (f : Frame) (h : List ℕ → List ℕ) (rows : List Row) (t : Tests) → IsSchema rows → AreTests rows t
+    → (read : List ℕ → Option Data) (n : TypeNo) (v : Value) (e : Edit (List ℕ)) (c : Value)
     → HasTextPath e → ReadsTree read e → Typed rows (plainly n) v → edited f h rows t read n v e ≡ Ok c → (d : Data) × Storable f h rows n c d

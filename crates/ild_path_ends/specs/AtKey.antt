@@ -65,7 +65,8 @@ pub record IsKeySet (h : List ℕ → List ℕ) (is_key : ℕ → List ℕ → B
 
 abbrev pub SetsKey : (List ℕ → List ℕ) → List Row → Slot → View → List (List ℕ) → Trail → Node → Moment → Result (List ℕ) HamtFault → Moment → Type 0
 SetsKey h rows s view front found n m result k =
-    (is_key : ℕ → List ℕ → Bool) (was : List (List ℕ)) (key : List ℕ) → m.blocks ≡ Some was → (x : IsKeySet h is_key rows s was front key found n) → IsRootView view (showing h rows s x.level.v) x.level.t
+    (is_key : ℕ → List ℕ → Bool) (was : List (List ℕ)) (key : List ℕ) → m.blocks ≡ Some was
+    → (x : IsKeySet h is_key rows s was front key found n) → IsRootView view (showing h rows s x.level.v) x.level.t
     → SetsLevel h x.level.key.entered.hamt.3 rows x.level.less s (with_set rows s x.level.v front x.level.key.ps key x.w) x.u key (insert bytewise key x.d x.level.key.es) m result k
 
 -- the entry at the key goes
@@ -78,13 +79,15 @@ pub record IsKeyCut (h : List ℕ → List ℕ) (is_key : ℕ → List ℕ → B
 
 abbrev pub CutsKey : (List ℕ → List ℕ) → List Row → Slot → View → List (List ℕ) → Trail → Moment → Result (List ℕ) HamtFault → Moment → Type 0
 CutsKey h rows s view front found m result k =
-    (is_key : ℕ → List ℕ → Bool) (was : List (List ℕ)) (key : List ℕ) → m.blocks ≡ Some was → (x : IsKeyCut h is_key rows s was front key found) → IsRootView view (showing h rows s x.level.v) x.level.t
+    (is_key : ℕ → List ℕ → Bool) (was : List (List ℕ)) (key : List ℕ) → m.blocks ≡ Some was
+    → (x : IsKeyCut h is_key rows s was front key found) → IsRootView view (showing h rows s x.level.v) x.level.t
     → SetsLevel h x.level.key.entered.hamt.3 rows x.level.less s (with_cut rows s x.level.v front x.level.key.ps key) x.u key (remove key x.level.key.es) m result k
 
 -- ---- behind the hops
 
 -- the innermost value becomes another, so that the whole is c; its new nodes were put, or why not
-pub record MakesAtKey (h : List ℕ → List ℕ) (rows : List Row) (s : Slot) (v : Value) (hops : List Hop) (q : InSlot) (less : ℕ) (path : List (List ℕ)) (c : Value) (m : Moment) (result : Result (List ℕ) HamtFault) (n : Moment) : Type 0 where
+pub record MakesAtKey (h : List ℕ → List ℕ) (rows : List Row) (s : Slot) (v : Value) (hops : List Hop) (q : InSlot) (less : ℕ)
+    (path : List (List ℕ)) (c : Value) (m : Moment) (result : Result (List ℕ) HamtFault) (n : Moment) : Type 0 where
   pub new : Value
   pub tree : Data
   pub made : with_end rows s v hops new ≡ c

@@ -23,14 +23,16 @@ use Rattle.ild_path_reroot.specs.Reroots.{MakesRoot}
 use Rattle.ild_path_ends.specs.Parts.{HasEnd, IsChange}
 
 -- the innermost value becomes this one, with the data d, so that the whole is c; the path of the edit is one in its block still
-pub record IsInnerChange (h : List ℕ → List ℕ) (rows : List Row) (was : List (List ℕ)) (s : Slot) (v : Value) (hops : List Hop) (q : InSlot) (less : ℕ) (path : List (List ℕ)) (c : Value) (d : Data) : Type 0 where
+pub record IsInnerChange (h : List ℕ → List ℕ) (rows : List Row) (was : List (List ℕ)) (s : Slot) (v : Value)
+    (hops : List Hop) (q : InSlot) (less : ℕ) (path : List (List ℕ)) (c : Value) (d : Data) : Type 0 where
   pub new : Value
   pub held : IsHeld (block_at was) h rows less q.0 d new
   pub made : with_end rows s v hops new ≡ c
   pub inside : in_one_block rows (q.0, new) path ≡ true
 
 -- its block
-pub record MakesInner (h : List ℕ → List ℕ) (rows : List Row) (was : List (List ℕ)) (s : Slot) (v : Value) (hops : List Hop) (q : InSlot) (less : ℕ) (path : List (List ℕ)) (c : Value) (result : Result (List ℕ) HamtFault) : Type 0 where
+pub record MakesInner (h : List ℕ → List ℕ) (rows : List Row) (was : List (List ℕ)) (s : Slot) (v : Value) (hops : List Hop)
+    (q : InSlot) (less : ℕ) (path : List (List ℕ)) (c : Value) (result : Result (List ℕ) HamtFault) : Type 0 where
   pub tree : Data
   pub change : IsInnerChange h rows was s v hops q less path c tree
   pub made : MakesRoot (spell tree) result

@@ -33,7 +33,8 @@ BringsHeld h rows was p path (E.Insert n) w = (slot : Slot) → new_slot rows p 
 BringsHeld h rows was p path E.Delete w = Unit {0}
 
 -- the edit makes c of the value p, which has the data u and fits in the room
-pub record IsChange (h : List ℕ → List ℕ) (rows : List Row) (is_key : ℕ → List ℕ → Bool) (was : List (List ℕ)) (room : ℕ) (p : InSlot) (path : List (List ℕ)) (edit : PartEdit) (w c : Value) (u : Data) : Type 0 where
+pub record IsChange (h : List ℕ → List ℕ) (rows : List Row) (is_key : ℕ → List ℕ → Bool) (was : List (List ℕ))
+    (room : ℕ) (p : InSlot) (path : List (List ℕ)) (edit : PartEdit) (w c : Value) (u : Data) : Type 0 where
   pub brings : BringsHeld h rows was p path edit w
   pub makes : change rows is_key p (edit_of edit w path) ≡ Ok c
   pub tree : represented (whole h) rows p.0 c ≡ Some u

@@ -45,7 +45,8 @@ NamesBlock block (Err (F.Block id why)) = id.0 ≡ id_of block
 NamesBlock block r = Unit {0}
 
 -- the map of these pairs is held in five levels more than its values have, as the HAMT of these entries with the root t
-pub record CanEnter (h : List ℕ → List ℕ) (rows : List Row) (is_key : ℕ → List ℕ → Bool) (was : List (List ℕ)) (s elem : Slot) (room : ℕ) (t : Data) (ps : Pairs) (es : List (List ℕ × Data)) : Type 0 where
+pub record CanEnter (h : List ℕ → List ℕ) (rows : List Row) (is_key : ℕ → List ℕ → Bool) (was : List (List ℕ))
+    (s elem : Slot) (room : ℕ) (t : Data) (ps : Pairs) (es : List (List ℕ × Data)) : Type 0 where
   pub schema : IsSchema rows
   pub keys : TestsKeys rows is_key
   pub hamt : IsHamt rows s elem
@@ -64,7 +65,8 @@ EntryThere h rows was elem room (Some w) (Some e) = IsValueThere h rows was elem
 EntryThere h rows was elem room None (Some e) = ⊥
 EntryThere h rows was elem room (Some w) None = ⊥
 
-pub record IsEnteredAt (h : List ℕ → List ℕ) (p : HamtShape) (rows : List Row) (was : List (List ℕ)) (elem : Slot) (room : ℕ) (t : Data) (ps : Pairs) (es : List (List ℕ × Data)) (k : List ℕ) (r : Entered) : Type 0 where
+pub record IsEnteredAt (h : List ℕ → List ℕ) (p : HamtShape) (rows : List Row) (was : List (List ℕ)) (elem : Slot)
+    (room : ℕ) (t : Data) (ps : Pairs) (es : List (List ℕ × Data)) (k : List ℕ) (r : Entered) : Type 0 where
   pub found : (slots : List TrieSlot) → IsRoot p slots t → IsTrailOf h p k slots es r.trail
   pub value : EntryThere h rows was elem room (value_at k (pairs_list ps)) r.entry
 
@@ -75,7 +77,8 @@ EnterAnswer h p rows was elem room t ps es k m (Err F.Store) n = Rose m.faults n
 EnterAnswer h p rows was elem room t ps es k m (Err F.Memory) n = Unit {0}
 EnterAnswer h p rows was elem room t ps es k m (Err e) n = ⊥
 
-pub record EntersHamt (h : List ℕ → List ℕ) (p : HamtShape) (rows : List Row) (was : List (List ℕ)) (elem : Slot) (room : ℕ) (t : Data) (ps : Pairs) (es : List (List ℕ × Data)) (k : List ℕ) (m : Moment) (result : Result Entered HamtFault) (n : Moment) : Type 0 where
+pub record EntersHamt (h : List ℕ → List ℕ) (p : HamtShape) (rows : List Row) (was : List (List ℕ)) (elem : Slot) (room : ℕ) (t : Data)
+    (ps : Pairs) (es : List (List ℕ × Data)) (k : List ℕ) (m : Moment) (result : Result Entered HamtFault) (n : Moment) : Type 0 where
   pub answer : EnterAnswer h p rows was elem room t ps es k m result n
   pub gets : n.gets ≤ m.gets + length (way h p k (trie_levels p) 0 es)
 

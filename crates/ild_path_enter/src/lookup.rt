@@ -52,7 +52,8 @@ pub fn enter<'s, K: Store, H: KeyHash>(
     ensures room { IfOk result (λ entered. ForSome entered.entry (λ entry. room_in entry ≡ room)) }
     ensures failed { FailsOnly (K.moment store.old) result (K.moment store.new) }
     ensures refused { (z : Site) → IsSiteOf acc.now slot room view.now block.now z → MeetsSite H.hash_of acc.now block.now key.now z (K.moment store.old) result (K.moment store.new) }
-    ensures trie { (is_key : ℕ → List ℕ → Bool) (was : List (List ℕ)) (s : Place) (t : Data) (ps : Pairs) (es : List (List ℕ × Data)) → IsView view.now (hamt t) → (K.moment store.old).blocks ≡ Some was
+    ensures trie { (is_key : ℕ → List ℕ → Bool) (was : List (List ℕ)) (s : Place) (t : Data) (ps : Pairs) (es : List (List ℕ × Data))
+        → IsView view.now (hamt t) → (K.moment store.old).blocks ≡ Some was
         → (can : CanEnter H.hash_of acc.now is_key was s slot room t ps es) → EntersHamt H.hash_of can.hamt.3 acc.now was slot room t ps es key.now (K.moment store.old) result (K.moment store.new) }
 {
     let root = match view.hamt() {

@@ -64,7 +64,8 @@ ThroughEntries =
 -- what was set at a path is there, and the room that is left there is as before
 abbrev pub SetsStand : Type 0
 SetsStand =
-    (rows : List Row) (is_key : ℕ → List ℕ → Bool) → IsSchema rows → TestsKeys rows is_key → (p q : InSlot) (path : List (List ℕ)) (m : Value) → OfType rows p.0 p.1 → at rows p path ≡ Some q → OfType rows q.0 m
+    (rows : List Row) (is_key : ℕ → List ℕ → Bool) → IsSchema rows → TestsKeys rows is_key
+    → (p q : InSlot) (path : List (List ℕ)) (m : Value) → OfType rows p.0 p.1 → at rows p path ≡ Some q → OfType rows q.0 m
     → (at rows (p.0, with_part rows p path m) path ≡ Some (q.0, m)) × ((room : ℕ) → room_at rows room (p.0, with_part rows p path m) path ≡ room_at rows room p path)
 
 -- so where the whole has data and fits in a room, what was set has data too and fits in what is left there
@@ -77,7 +78,8 @@ SetsHaveData =
 -- no nodes are met on the way of a path in one block, where only HAMTs have some
 abbrev pub NoneMet : Type 0
 NoneMet =
-    (rows : List Row) (count : InSlot → List ℕ → ℕ) → ((q : InSlot) (k : List ℕ) → is_root rows q ≡ false → count q k ≡ 0) → (p : InSlot) (path : List (List ℕ)) → in_one_block rows p path ≡ true → met rows count p path ≡ 0
+    (rows : List Row) (count : InSlot → List ℕ → ℕ) → ((q : InSlot) (k : List ℕ) → is_root rows q ≡ false → count q k ≡ 0)
+    → (p : InSlot) (path : List (List ℕ)) → in_one_block rows p path ≡ true → met rows count p path ≡ 0
 
 -- ---- what is held
 
@@ -86,16 +88,20 @@ abbrev pub EntriesArePut : Type 0
 EntriesArePut =
     (h : List ℕ → List ℕ) (rows : List Row) (is_key : ℕ → List ℕ → Bool) → IsSchema rows → TestsKeys rows is_key → (was now : List (List ℕ)) → Keeps was now
     → (room less : ℕ) (p : InSlot) (front : List (List ℕ)) (slot elem : Slot) (ps : Pairs) (t t' d u node : Data) (es : List (List ℕ × Data)) (k : List ℕ) (w : Value)
-    → IsHeld (block_at was) h rows room p.0 t p.1 → (entered : IsEntered rows p front slot elem ps) → IsTrieIn h entered.hamt.3 rows was elem ps t' es → IsUtf8 k → fits_key is_key rows slot ps k ≡ true → IsHeld (block_at now) h rows less elem d w
+    → IsHeld (block_at was) h rows room p.0 t p.1 → (entered : IsEntered rows p front slot elem ps)
+    → IsTrieIn h entered.hamt.3 rows was elem ps t' es → IsUtf8 k → fits_key is_key rows slot ps k ≡ true → IsHeld (block_at now) h rows less elem d w
     → Fits rows room p.0 (with_part rows p front (with_entry k w ps)) → represented (whole h) rows p.0 (with_part rows p front (with_entry k w ps)) ≡ Some u
     → node_of h entered.hamt.3 (trie_levels entered.hamt.3) 0 (insert bytewise k d es) ≡ Some node → HoldsBelow h entered.hamt.3 now (trie_levels entered.hamt.3) 0 (insert bytewise k d es)
-    → IsHeld (block_at now) h rows room p.0 u (with_part rows p front (with_entry k w ps)) × IsHeld (block_at now) h rows (room_at rows room p front) slot (root_map entered.hamt.3 node) (with_entry k w ps)
+    → IsHeld (block_at now) h rows room p.0 u (with_part rows p front (with_entry k w ps))
+    × IsHeld (block_at now) h rows (room_at rows room p front) slot (root_map entered.hamt.3 node) (with_entry k w ps)
 
 abbrev pub EntriesAreCut : Type 0
 EntriesAreCut =
     (h : List ℕ → List ℕ) (rows : List Row) (is_key : ℕ → List ℕ → Bool) → IsSchema rows → TestsKeys rows is_key → (was now : List (List ℕ)) → Keeps was now
     → (room : ℕ) (p : InSlot) (front : List (List ℕ)) (slot elem : Slot) (ps : Pairs) (t t' u node : Data) (es : List (List ℕ × Data)) (k : List ℕ)
     → IsHeld (block_at was) h rows room p.0 t p.1 → (entered : IsEntered rows p front slot elem ps) → IsTrieIn h entered.hamt.3 rows was elem ps t' es
-    → Fits rows room p.0 (with_part rows p front (without_entry k ps)) → represented (whole h) rows p.0 (with_part rows p front (without_entry k ps)) ≡ Some u → is_some (value_at k (pairs_list ps)) ≡ true
+    → Fits rows room p.0 (with_part rows p front (without_entry k ps))
+    → represented (whole h) rows p.0 (with_part rows p front (without_entry k ps)) ≡ Some u → is_some (value_at k (pairs_list ps)) ≡ true
     → node_of h entered.hamt.3 (trie_levels entered.hamt.3) 0 (remove k es) ≡ Some node → HoldsBelow h entered.hamt.3 now (trie_levels entered.hamt.3) 0 (remove k es)
-    → IsHeld (block_at now) h rows room p.0 u (with_part rows p front (without_entry k ps)) × IsHeld (block_at now) h rows (room_at rows room p front) slot (root_map entered.hamt.3 node) (without_entry k ps)
+    → IsHeld (block_at now) h rows room p.0 u (with_part rows p front (without_entry k ps))
+    × IsHeld (block_at now) h rows (room_at rows room p front) slot (root_map entered.hamt.3 node) (without_entry k ps)

@@ -29,4 +29,5 @@ pub record StandsInData (rows : List Row) (room : ℕ) (p : InSlot) (t : Data) (
 
 abbrev pub PartsStandInData : Type 0
 PartsStandInData =
-    (rows : List Row) → IsSchema rows → (room : ℕ) (p q : InSlot) (t : Data) (s : List ℕ) → Front rows room p.0 p.1 t → is_any p.1 ≡ false → part (seen rows p) s ≡ Some q → StandsInData rows room p t s q
+    (rows : List Row) → IsSchema rows → (room : ℕ) (p q : InSlot) (t : Data) (s : List ℕ)
+    → Front rows room p.0 p.1 t → is_any p.1 ≡ false → part (seen rows p) s ≡ Some q → StandsInData rows room p t s q

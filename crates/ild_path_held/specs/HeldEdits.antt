@@ -41,17 +41,20 @@ room_at rows room p (s ∷ ss) = option_map_or (λ q. room_at rows (room_below r
 -- a store that holds a value holds its parts, through HAMTs too, in the room that is left there
 abbrev pub HeldParts : Type 0
 HeldParts =
-    (block : List ℕ → Option (List ℕ)) (h : List ℕ → List ℕ) (rows : List Row) (is_key : ℕ → List ℕ → Bool) → IsSchema rows → TestsKeys rows is_key → (room : ℕ) (p q : InSlot) (t : Data) (path : List (List ℕ))
+    (block : List ℕ → Option (List ℕ)) (h : List ℕ → List ℕ) (rows : List Row) (is_key : ℕ → List ℕ → Bool)
+    → IsSchema rows → TestsKeys rows is_key → (room : ℕ) (p q : InSlot) (t : Data) (path : List (List ℕ))
     → IsHeld block h rows room p.0 t p.1 → at rows p path ≡ Some q → (d : Data) × IsHeld block h rows (room_at rows room p path) q.0 d q.1
 
 -- what was held stays held
 abbrev pub HeldStays : Type 0
-HeldStays = (h : List ℕ → List ℕ) (rows : List Row) (was now : List (List ℕ)) (room : ℕ) (s : Slot) (t : Data) (v : Value) → Keeps was now → IsHeld (block_at was) h rows room s t v → IsHeld (block_at now) h rows room s t v
+HeldStays = (h : List ℕ → List ℕ) (rows : List Row) (was now : List (List ℕ)) (room : ℕ) (s : Slot) (t : Data) (v : Value)
+    → Keeps was now → IsHeld (block_at was) h rows room s t v → IsHeld (block_at now) h rows room s t v
 
 -- a value with another part of which all is held, where the path to it is in one block: where it fits and has data, it is held
 abbrev pub HeldWholes : Type 0
 HeldWholes =
-    (block : List ℕ → Option (List ℕ)) (h : List ℕ → List ℕ) (rows : List Row) (is_key : ℕ → List ℕ → Bool) → IsSchema rows → TestsKeys rows is_key → (room less : ℕ) (p q : InSlot) (t d u : Data) (path : List (List ℕ)) (m : Value)
+    (block : List ℕ → Option (List ℕ)) (h : List ℕ → List ℕ) (rows : List Row) (is_key : ℕ → List ℕ → Bool)
+    → IsSchema rows → TestsKeys rows is_key → (room less : ℕ) (p q : InSlot) (t d u : Data) (path : List (List ℕ)) (m : Value)
     → IsHeld block h rows room p.0 t p.1 → in_one_block rows p path ≡ true → at rows p path ≡ Some q → IsHeld block h rows less q.0 d m
     → Fits rows room p.0 (with_part rows p path m) → represented (whole h) rows p.0 (with_part rows p path m) ≡ Some u → IsHeld block h rows room p.0 u (with_part rows p path m)
 
@@ -61,8 +64,10 @@ HasNodes block h rows s w = AllByRecursion (IsHeldBlock block) (nodes h rows s w
 
 abbrev pub HeldEdits : Type 0
 HeldEdits =
-    (block : List ℕ → Option (List ℕ)) (h : List ℕ → List ℕ) (rows : List Row) (is_key : ℕ → List ℕ → Bool) → IsSchema rows → TestsKeys rows is_key → (room : ℕ) (p : InSlot) (t u : Data) (e : Edit Value) (c : Value)
-    → HasTextPath e → Brings rows (OfType rows) p e → Brings rows (HasNodes block h rows) p e → IsHeld block h rows room p.0 t p.1 → in_one_block rows p (path_of e) ≡ true → change rows is_key p e ≡ Ok c
+    (block : List ℕ → Option (List ℕ)) (h : List ℕ → List ℕ) (rows : List Row) (is_key : ℕ → List ℕ → Bool)
+    → IsSchema rows → TestsKeys rows is_key → (room : ℕ) (p : InSlot) (t u : Data) (e : Edit Value) (c : Value)
+    → HasTextPath e → Brings rows (OfType rows) p e → Brings rows (HasNodes block h rows) p e
+    → IsHeld block h rows room p.0 t p.1 → in_one_block rows p (path_of e) ≡ true → change rows is_key p e ≡ Ok c
     → Fits rows room p.0 c → represented (whole h) rows p.0 c ≡ Some u → IsHeld block h rows room p.0 u c
 
 -- ---- HAMTs
@@ -70,20 +75,24 @@ HeldEdits =
 -- of a HAMT that is held, the trie is held
 abbrev pub HamtsAreTries : Type 0
 HamtsAreTries =
-    (h : List ℕ → List ℕ) (rows : List Row) → IsSchema rows → (held : List (List ℕ)) (room less : ℕ) → room ≤ deepest → (s elem : Slot) (t : Data) (ps : Pairs) → (is : IsHamt rows s elem) → room ≡ less + 5
+    (h : List ℕ → List ℕ) (rows : List Row) → IsSchema rows
+    → (held : List (List ℕ)) (room less : ℕ) → room ≤ deepest → (s elem : Slot) (t : Data) (ps : Pairs) → (is : IsHamt rows s elem) → room ≡ less + 5
     → IsHeld (block_at held) h rows room s t (map ps) → (es : List (List ℕ × Data)) × IsTrieIn h is.3 rows held elem ps t es
 
 -- and one whose entry at a key was put, or has gone, is held where the nodes of the new trie are
 abbrev pub HamtsArePut : Type 0
 HamtsArePut =
-    (h : List ℕ → List ℕ) (rows : List Row) (was now : List (List ℕ)) → Keeps was now → (before room less : ℕ) (s elem : Slot) (t t' d node : Data) (ps : Pairs) (es : List (List ℕ × Data)) (k : List ℕ) (w : Value) → (is : IsHamt rows s elem)
-    → IsHeld (block_at was) h rows before s t (map ps) → IsTrieIn h is.3 rows was elem ps t' es → IsUtf8 k → IsHeld (block_at now) h rows less elem d w → Fits rows room s (map (pairs_of (put k w (pairs_list ps))))
+    (h : List ℕ → List ℕ) (rows : List Row) (was now : List (List ℕ)) → Keeps was now
+    → (before room less : ℕ) (s elem : Slot) (t t' d node : Data) (ps : Pairs) (es : List (List ℕ × Data)) (k : List ℕ) (w : Value) → (is : IsHamt rows s elem)
+    → IsHeld (block_at was) h rows before s t (map ps) → IsTrieIn h is.3 rows was elem ps t' es → IsUtf8 k
+    → IsHeld (block_at now) h rows less elem d w → Fits rows room s (map (pairs_of (put k w (pairs_list ps))))
     → node_of h is.3 (trie_levels is.3) 0 (insert bytewise k d es) ≡ Some node → HoldsBelow h is.3 now (trie_levels is.3) 0 (insert bytewise k d es)
     → IsHeld (block_at now) h rows room s (root_map is.3 node) (map (pairs_of (put k w (pairs_list ps))))
 
 abbrev pub HamtsAreCut : Type 0
 HamtsAreCut =
-    (h : List ℕ → List ℕ) (rows : List Row) (was now : List (List ℕ)) → Keeps was now → (before room : ℕ) (s elem : Slot) (t t' node : Data) (ps : Pairs) (es : List (List ℕ × Data)) (k : List ℕ) → (is : IsHamt rows s elem)
+    (h : List ℕ → List ℕ) (rows : List Row) (was now : List (List ℕ)) → Keeps was now
+    → (before room : ℕ) (s elem : Slot) (t t' node : Data) (ps : Pairs) (es : List (List ℕ × Data)) (k : List ℕ) → (is : IsHamt rows s elem)
     → IsHeld (block_at was) h rows before s t (map ps) → IsTrieIn h is.3 rows was elem ps t' es → Fits rows room s (map (pairs_of (without k (pairs_list ps))))
     → node_of h is.3 (trie_levels is.3) 0 (remove k es) ≡ Some node → HoldsBelow h is.3 now (trie_levels is.3) 0 (remove k es)
     → IsHeld (block_at now) h rows room s (root_map is.3 node) (map (pairs_of (without k (pairs_list ps))))
@@ -98,7 +107,8 @@ pub record HasTrie (h : List ℕ → List ℕ) (p : HamtShape) (rows : List Row)
 
 abbrev pub HamtsHaveTries : Type 0
 HamtsHaveTries =
-    (h : List ℕ → List ℕ) (rows : List Row) (held : List (List ℕ)) (s elem : Slot) (t x : Data) (ps : Pairs) (es : List (List ℕ × Data)) (k : List ℕ) → (is : IsHamt rows s elem) → IsTrieIn h is.3 rows held elem ps t es
+    (h : List ℕ → List ℕ) (rows : List Row) (held : List (List ℕ)) (s elem : Slot) (t x : Data) (ps : Pairs) (es : List (List ℕ × Data)) (k : List ℕ)
+    → (is : IsHamt rows s elem) → IsTrieIn h is.3 rows held elem ps t es
     → ((w : Value) (d : Data) → represented (whole h) rows elem w ≡ Some d → represented (whole h) rows s (map (pairs_of (put k w (pairs_list ps)))) ≡ Some x
     → HasTrie h is.3 rows s (map (pairs_of (put k w (pairs_list ps)))) x (insert bytewise k d es))
     × (represented (whole h) rows s (map (pairs_of (without k (pairs_list ps)))) ≡ Some x → HasTrie h is.3 rows s (map (pairs_of (without k (pairs_list ps)))) x (remove k es))

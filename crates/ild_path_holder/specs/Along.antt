@@ -34,7 +34,8 @@ pub record StepsIn (rows : List Row) (p : InSlot) (s : List ℕ) (q : InSlot) (s
   pub held : Data
   pub holds : represented alone rows q.0 q.1 ≡ Some held
   pub leads : (t : Data) → represented alone rows p.0 p.1 ≡ Some t → LeadsTo steps t held
-  pub each : (c : Value) (x : Data) (e : Located) → represented alone rows q.0 c ≡ Some x → lift alone rows p s c e ≡ carried steps (represented alone rows p.0 (value_of (set_part (seen rows p) s c))) e
+  pub each : (c : Value) (x : Data) (e : Located) → represented alone rows q.0 c ≡ Some x
+      → lift alone rows p s c e ≡ carried steps (represented alone rows p.0 (value_of (set_part (seen rows p) s c))) e
 
 -- from each holder on a path to the next
 abbrev pub LeadAlong : List Row → InSlot → List ℕ → List (List ℕ) → List PartSteps → Type 0

@@ -45,7 +45,8 @@ pub record IsEdited (rows : List Row) (e : LastEdit) (p q : InSlot) (s : List �
 
 abbrev pub AreEdited : List Row → LastEdit → (Holder × List ℕ → Type 0) → Type 0
 AreEdited rows e May =
-    (p q : InSlot) (s : List ℕ) (ss : List (List ℕ)) (x t u : Data) (steps : List PartSteps) (last : LastChange) (r : Option ℕ) → OfType rows p.0 p.1 → May (seen rows q, last_of s ss) → IsTold rows e p q s ss x steps last r
+    (p q : InSlot) (s : List ℕ) (ss : List (List ℕ)) (x t u : Data) (steps : List PartSteps) (last : LastChange) (r : Option ℕ)
+    → OfType rows p.0 p.1 → May (seen rows q, last_of s ss) → IsTold rows e p q s ss x steps last r
     → represented alone rows p.0 p.1 ≡ Some t → represented alone rows p.0 (changed_in rows e.made p s ss) ≡ Some u → IsEdited rows e p q s ss x steps last r t u
 
 abbrev pub EditsAreEdited : Type 0

@@ -21,7 +21,8 @@ use Rattle.ild_path_holder.specs.Along.{LeadAlong, become, holder_at}
 -- The change that is lifted from the last holder is carried by the steps to it, where the changed value has data.
 abbrev pub IsCarried : List Row → LastEdit → (Holder × List ℕ → Type 0) → Type 0
 IsCarried rows e May =
-    (p q : InSlot) (s : List ℕ) (ss : List (List ℕ)) (l : Holder × List ℕ) (u : Data) (steps : List PartSteps) → OfType rows p.0 p.1 → last_holder rows p s ss ≡ Some l → May l → holder_at rows p s ss ≡ Some q
+    (p q : InSlot) (s : List ℕ) (ss : List (List ℕ)) (l : Holder × List ℕ) (u : Data) (steps : List PartSteps)
+    → OfType rows p.0 p.1 → last_holder rows p s ss ≡ Some l → May l → holder_at rows p s ss ≡ Some q
     → LeadAlong rows p s ss steps → represented alone rows p.0 (changed_in rows e.made p s ss) ≡ Some u
     → lifted rows (lift alone rows) e.made (last_seen alone rows e l.1) p s ss ≡ carried_along steps (become rows e.made p s ss) (last_seen alone rows e l.1 q)
 
@@ -39,7 +40,8 @@ IsSeenAt steps e r = (ws : List (Option Data)) → AreThere steps ws → carried
 -- where its change is seen if it has.
 abbrev pub IsSeen : List Row → LastEdit → (Holder × List ℕ → Type 0) → Type 0
 IsSeen rows e May =
-    (p q : InSlot) (s : List ℕ) (ss : List (List ℕ)) (l : Holder × List ℕ) (u : Data) (steps : List PartSteps) (r : Option ℕ) → OfType rows p.0 p.1 → last_holder rows p s ss ≡ Some l → May l → holder_at rows p s ss ≡ Some q
+    (p q : InSlot) (s : List ℕ) (ss : List (List ℕ)) (l : Holder × List ℕ) (u : Data) (steps : List PartSteps) (r : Option ℕ)
+    → OfType rows p.0 p.1 → last_holder rows p s ss ≡ Some l → May l → holder_at rows p s ss ≡ Some q
     → LeadAlong rows p s ss steps → represented alone rows p.0 (changed_in rows e.made p s ss) ≡ Some u
     → ((w : Data) → represented alone rows q.0 (value_of (e.made (seen rows q) l.1)) ≡ Some w → IsSeenAt steps (last_seen alone rows e l.1 q) r)
     → lifted rows (lift alone rows) e.made (last_seen alone rows e l.1) p s ss ≡ seen_at steps (become rows e.made p s ss) (last_seen alone rows e l.1 q) r

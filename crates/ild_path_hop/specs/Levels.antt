@@ -64,7 +64,8 @@ abbrev pub with_set : List Row → Slot → Value → List (List ℕ) → Pairs 
 with_set rows s v path ps k w = with_part rows (s, v) path (with_entry k w ps)
 
 -- the path leads to a HAMT, whose entry at the key is set to a value that is held; the whole has the data u then
-pub record IsSetThere (h : List ℕ → List ℕ) (is_key : ℕ → List ℕ → Bool) (was : List (List ℕ)) (room : ℕ) (v : Value) (view : View) (path : List (List ℕ)) (slot elem : Slot) (ps : Pairs) (es : List (List ℕ × Data))
+pub record IsSetThere (h : List ℕ → List ℕ) (is_key : ℕ → List ℕ → Bool) (was : List (List ℕ)) (room : ℕ)
+    (v : Value) (view : View) (path : List (List ℕ)) (slot elem : Slot) (ps : Pairs) (es : List (List ℕ × Data))
     (k : List ℕ) (w : Value) (d u : Data) (found : Trail) : Type 0 where
   pub entered : IsEntered (table_of view) (slot_of view, v) path slot elem ps
   pub root : Data
@@ -83,7 +84,8 @@ abbrev pub with_cut : List Row → Slot → Value → List (List ℕ) → Pairs 
 with_cut rows s v path ps k = with_part rows (s, v) path (without_entry k ps)
 
 -- the path leads to a HAMT, whose entry at the key goes; the whole has the data u then
-pub record IsCutThere (h : List ℕ → List ℕ) (is_key : ℕ → List ℕ → Bool) (was : List (List ℕ)) (room : ℕ) (v : Value) (view : View) (path : List (List ℕ)) (slot elem : Slot) (ps : Pairs) (es : List (List ℕ × Data))
+pub record IsCutThere (h : List ℕ → List ℕ) (is_key : ℕ → List ℕ → Bool) (was : List (List ℕ)) (room : ℕ)
+    (v : Value) (view : View) (path : List (List ℕ)) (slot elem : Slot) (ps : Pairs) (es : List (List ℕ × Data))
     (k : List ℕ) (u : Data) (found : Trail) : Type 0 where
   pub entered : IsEntered (table_of view) (slot_of view, v) path slot elem ps
   pub root : Data
@@ -104,7 +106,8 @@ LevelAnswer h rows room s c u x m (Err (F.Clash id kept new)) n = IsIn new (node
 LevelAnswer h rows room s c u x m (Err F.Memory) n = Unit {0}
 LevelAnswer h rows room s c u x m (Err e) n = ⊥
 
-pub record SetsLevel (h : List ℕ → List ℕ) (p : HamtShape) (rows : List Row) (room : ℕ) (s : Slot) (c : Value) (u : Data) (k : List ℕ) (es : List (List ℕ × Data)) (m : Moment) (result : Result (List ℕ) HamtFault) (n : Moment) : Type 0 where
+pub record SetsLevel (h : List ℕ → List ℕ) (p : HamtShape) (rows : List Row) (room : ℕ) (s : Slot) (c : Value) (u : Data)
+    (k : List ℕ) (es : List (List ℕ × Data)) (m : Moment) (result : Result (List ℕ) HamtFault) (n : Moment) : Type 0 where
   pub hamt : Data
   pub part : IsDataOfPart h rows (s, c) hamt
   pub answer : LevelAnswer h rows room s c u hamt m result n
@@ -113,7 +116,8 @@ pub record SetsLevel (h : List ℕ → List ℕ) (p : HamtShape) (rows : List Ro
   pub puts : n.puts ≤ m.puts + length (way h p k (trie_levels p) 0 es)
   pub given : GivesWay h p k es result n
 
-abbrev pub SetsEntry : (List ℕ → List ℕ) → HamtShape → ℕ → Value → List (List ℕ) → Pairs → List (List ℕ × Data) → List ℕ → Value → Data → Data → View → Moment → Result (List ℕ) HamtFault → Moment → Type 0
+abbrev pub SetsEntry : (List ℕ → List ℕ) → HamtShape → ℕ → Value → List (List ℕ) → Pairs → List (List ℕ × Data)
+    → List ℕ → Value → Data → Data → View → Moment → Result (List ℕ) HamtFault → Moment → Type 0
 SetsEntry h p room v path ps es k w d u view m result n =
     SetsLevel h p (table_of view) room (slot_of view) (with_set (table_of view) (slot_of view) v path ps k w) u k (insert bytewise k d es) m result n
 

@@ -51,7 +51,8 @@ fn with_root<'a>(
     front: &'a Path,
     map: &Octets,
 ) -> Result<Octets, HamtFault>
-    ensures made { (is_key : ℕ → List ℕ → Bool) (f w c : Value) (t x u : Data) → map.now ≡ spell x → IsTree x → ((n : Item) → Stands n x → Edits is_key root.now front.now (SetTo n) f w c t u) → MakesRoot (spell u) result }
+    ensures made { (is_key : ℕ → List ℕ → Bool) (f w c : Value) (t x u : Data) → map.now ≡ spell x → IsTree x
+        → ((n : Item) → Stands n x → Edits is_key root.now front.now (SetTo n) f w c t u) → MakesRoot (spell u) result }
     ensures fault { IfErr result IsWritingFault }
 {
     let item = match check(map.as_slice()) {
@@ -80,7 +81,8 @@ pub fn set_entry<'a, K: Store, H: KeyHash>(
     requires nests { NestsIn deepest_value item.now }
     ensures gets { (K.moment store.new).gets ≡ (K.moment store.old).gets }
     ensures caused { CausedBy (K.moment store.old) result (K.moment store.new) }
-    ensures sets { (is_key : ℕ → List ℕ → Bool) (was : List (List ℕ)) (room : ℕ) (v w : Value) (t d u : Data) (slot elem : Place) (ps : Pairs) (es : List (List ℕ × Data)) (k : List ℕ) → (K.moment store.old).blocks ≡ Some was
+    ensures sets { (is_key : ℕ → List ℕ → Bool) (was : List (List ℕ)) (room : ℕ) (v w : Value) (t d u : Data)
+        (slot elem : Place) (ps : Pairs) (es : List (List ℕ × Data)) (k : List ℕ) → (K.moment store.old).blocks ≡ Some was
         → IsLevel H.hash_of is_key was room v t root.now → (set : IsSetThere H.hash_of is_key was room v root.now front.now slot elem ps es k w d u trail) → Stands item.now d
         → SetsEntry H.hash_of set.entered.hamt.3 room v front.now ps es k w d u root.now (K.moment store.old) result (K.moment store.new) }
 {
@@ -101,7 +103,8 @@ pub fn remove_entry<'a, K: Store, H: KeyHash>(
     requires { ∥ LeadsToHamt root.now front.now ∥₁ }
     ensures gets { (K.moment store.new).gets ≡ (K.moment store.old).gets }
     ensures caused { CausedBy (K.moment store.old) result (K.moment store.new) }
-    ensures cuts { (is_key : ℕ → List ℕ → Bool) (was : List (List ℕ)) (room : ℕ) (v : Value) (t u : Data) (slot elem : Place) (ps : Pairs) (es : List (List ℕ × Data)) (k : List ℕ) → (K.moment store.old).blocks ≡ Some was
+    ensures cuts { (is_key : ℕ → List ℕ → Bool) (was : List (List ℕ)) (room : ℕ) (v : Value) (t u : Data)
+        (slot elem : Place) (ps : Pairs) (es : List (List ℕ × Data)) (k : List ℕ) → (K.moment store.old).blocks ≡ Some was
         → IsLevel H.hash_of is_key was room v t root.now → (cut : IsCutThere H.hash_of is_key was room v root.now front.now slot elem ps es k u trail)
         → CutsEntry H.hash_of cut.entered.hamt.3 room v front.now ps es k u root.now (K.moment store.old) result (K.moment store.new) }
 {

@@ -27,7 +27,8 @@ pub record IsLastHop (h : List ℕ → List ℕ) (rows : List Row) (was : List (
 
 abbrev pub HopsEnd : Type 0
 HopsEnd =
-    (h : List ℕ → List ℕ) (rows : List Row) (was : List (List ℕ)) (room less : ℕ) (p q : InSlot) (hops : List Hop) (hop : Hop) → AreHops h rows was room p (hops ++ hop ∷ []) q less → IsLastHop h rows was room p hops hop q less
+    (h : List ℕ → List ℕ) (rows : List Row) (was : List (List ℕ)) (room less : ℕ) (p q : InSlot) (hops : List Hop) (hop : Hop)
+    → AreHops h rows was room p (hops ++ hop ∷ []) q less → IsLastHop h rows was room p hops hop q less
 
 -- they pass through HAMTs one in the value of another's entry
 abbrev pub HopsPass : Type 0
@@ -35,8 +36,10 @@ HopsPass = (h : List ℕ → List ℕ) (rows : List Row) (was : List (List ℕ))
 
 -- and leave the room that the path leaves
 abbrev pub HopsLeave : Type 0
-HopsLeave = (h : List ℕ → List ℕ) (rows : List Row) (was : List (List ℕ)) (room less : ℕ) (p q : InSlot) (hops : List Hop) → AreHops h rows was room p hops q less → room_at rows room p (path_of_hops hops) ≡ less
+HopsLeave = (h : List ℕ → List ℕ) (rows : List Row) (was : List (List ℕ)) (room less : ℕ) (p q : InSlot) (hops : List Hop)
+    → AreHops h rows was room p hops q less → room_at rows room p (path_of_hops hops) ≡ less
 
 -- what was held stays held
 abbrev pub HopsStay : Type 0
-HopsStay = (h : List ℕ → List ℕ) (rows : List Row) (was now : List (List ℕ)) (room less : ℕ) (p q : InSlot) (hops : List Hop) → Keeps was now → AreHops h rows was room p hops q less → AreHops h rows now room p hops q less
+HopsStay = (h : List ℕ → List ℕ) (rows : List Row) (was now : List (List ℕ)) (room less : ℕ) (p q : InSlot) (hops : List Hop)
+    → Keeps was now → AreHops h rows was room p hops q less → AreHops h rows now room p hops q less

@@ -100,13 +100,15 @@ pub record StopsAt (rows : List Row) (room : ℕ) (p : InSlot) (path : List (Lis
   pub room_is : s.room ≡ room_at rows room p s.front
 
 -- the path passes through the entry to q
-pub record PassesTo (h : List ℕ → List ℕ) (rows : List Row) (was : List (List ℕ)) (room : ℕ) (p : InSlot) (path : List (List ℕ)) (hop : Hop) (behind : List (List ℕ)) (q : InSlot) (less : ℕ) : Type 0 where
+pub record PassesTo (h : List ℕ → List ℕ) (rows : List Row) (was : List (List ℕ)) (room : ℕ) (p : InSlot)
+    (path : List (List ℕ)) (hop : Hop) (behind : List (List ℕ)) (q : InSlot) (less : ℕ) : Type 0 where
   pub is : IsHop h rows was room p hop q less
   pub split : path ≡ front_of hop ++ (key_of hop ∷ behind)
 
 abbrev pub GoesIn : (List ℕ → List ℕ) → List Row → List (List ℕ) → ℕ → InSlot → List (List ℕ) → Moment → Result Level HamtFault → Moment → Type 0
 GoesIn h rows was room p path m (Ok (L.Stops s)) n = ((holder : InSlot) × StopsAt rows room p path holder s) × (n.gets ≤ m.gets + met_on h rows p path)
-GoesIn h rows was room p path m (Ok (L.Passes hop behind less)) n = (q : InSlot) × PassesTo h rows was room p path hop behind.now q less × (n.gets + met_on h rows q behind.now ≤ m.gets + met_on h rows p path)
+GoesIn h rows was room p path m (Ok (L.Passes hop behind less)) n =
+    (q : InSlot) × PassesTo h rows was room p path hop behind.now q less × (n.gets + met_on h rows q behind.now ≤ m.gets + met_on h rows p path)
 GoesIn h rows was room p path m (Err F.Store) n = Rose m.faults n.faults × (n.gets ≤ m.gets + met_on h rows p path)
 GoesIn h rows was room p path m (Err F.Memory) n = n.gets ≤ m.gets + met_on h rows p path
 GoesIn h rows was room p path m (Err e) n = ⊥
@@ -114,7 +116,8 @@ GoesIn h rows was room p path m (Err e) n = ⊥
 -- ---- a HAMT in the block
 
 -- the path stops at a HAMT, whose key is the next segment
-pub record CanEnterAt (h : List ℕ → List ℕ) (rows : List Row) (was : List (List ℕ)) (room : ℕ) (p : InSlot) (path front : List (List ℕ)) (key : List ℕ) (behind : List (List ℕ)) (halt : Halt) : Type 0 where
+pub record CanEnterAt (h : List ℕ → List ℕ) (rows : List Row) (was : List (List ℕ)) (room : ℕ) (p : InSlot)
+    (path front : List (List ℕ)) (key : List ℕ) (behind : List (List ℕ)) (halt : Halt) : Type 0 where
   pub elem : Slot
   pub ps : Pairs
   pub tree : Data

@@ -70,7 +70,8 @@ fn go_on<'s, 'p, K: Store, H: KeyHash>(
     ensures behind { Shortens (length segments.now) result }
     ensures leads { LevelBehind root.now hops.now result }
     ensures room { (s : Place) (t : Data) (f : Value) → IsDataBehind acc.now root.now hops.now room s t f → LeavesRoom acc.now room (s, f) result }
-    ensures refused { (s : Place) (t : Data) (f : Value) → IsDataBehind acc.now root.now hops.now room s t f → MeetsLevel H.hash_of acc.now (block_behind block.now hops.now) room s t (K.moment store.old) result (K.moment store.new) }
+    ensures refused { (s : Place) (t : Data) (f : Value) → IsDataBehind acc.now root.now hops.now room s t f
+        → MeetsLevel H.hash_of acc.now (block_behind block.now hops.now) room s t (K.moment store.old) result (K.moment store.new) }
     ensures told { (was : List (List ℕ)) (q : InSlot) (t : Data) → (K.moment store.old).blocks ≡ Some was → CanGoOn H.hash_of acc.now was room q t root.now hops.now
         → GoesIn H.hash_of acc.now was room q segments.now (K.moment store.old) result (K.moment store.new) }
 {
@@ -114,7 +115,8 @@ fn go_from<'s, 'p, K: Store, H: KeyHash>(
         → IfOk result (GoesDeeper H.hash_of acc.now (K.moment store.old).blocks root.now block.now (id_of (block_behind block.now hops.entry.items)) room s t) }
     ensures refused { (s : Place) (t : Data) (f : Value) → IsDataBehind acc.now root.now hops.entry.items room s t f
         → RefusesBroken H.hash_of acc.now (id_of (block_behind block.now hops.entry.items)) room s t (K.moment store.old) result (K.moment store.new) }
-    ensures told { (was : List (List ℕ)) (limit : ℕ) (p q : InSlot) (t : Data) → (K.moment store.old).blocks ≡ Some was → CanGo H.hash_of acc.now was limit p t root.now → AreHops H.hash_of acc.now was limit p hops.entry.items q room
+    ensures told { (was : List (List ℕ)) (limit : ℕ) (p q : InSlot) (t : Data) → (K.moment store.old).blocks ≡ Some was
+        → CanGo H.hash_of acc.now was limit p t root.now → AreHops H.hash_of acc.now was limit p hops.entry.items q room
         → GoesInward H.hash_of acc.now was limit p hops.entry.items q segments.now (K.moment store.old) result (K.moment store.new) }
 {
     let mut hops = hops;

@@ -89,7 +89,8 @@ fn enter_at<'s, 'p, K: Store, H: KeyHash>(
     ensures fronts { FrontIs front result }
     ensures room { RoomIs halt.now.room result }
     ensures refused { (z : Site) → HaltsAtSite acc.now halt.now block.now z → MeetsHamt H.hash_of acc.now block.now key.now z (K.moment store.old) result (K.moment store.new) }
-    ensures told { (was : List (List ℕ)) (limit : ℕ) (p : InSlot) (path : List (List ℕ)) → (K.moment store.old).blocks ≡ Some was → CanEnterAt H.hash_of acc.now was limit p path front key.now behind.now halt.now
+    ensures told { (was : List (List ℕ)) (limit : ℕ) (p : InSlot) (path : List (List ℕ)) → (K.moment store.old).blocks ≡ Some was
+        → CanEnterAt H.hash_of acc.now was limit p path front key.now behind.now halt.now
         → GoesIn H.hash_of acc.now was limit p path (K.moment store.old) result (K.moment store.new) }
 {
     let Some(slot) = value_slot(acc, &halt.view) else {
@@ -143,7 +144,8 @@ pub(crate) fn go_in<'s, 'p, K: Store, H: KeyHash>(
     ensures behind { Shortens (length segments.now) result }
     ensures leads { (f : Value) → IsView root.now f → LevelLeads (table_of root.now) (slot_of root.now, f) result }
     ensures room { (f : Value) → IsView root.now f → LeavesRoom acc.now room (slot_of root.now, f) result }
-    ensures refused { (f : Value) (t : Data) → IsView root.now f → Front acc.now room (slot_of root.now) f t → room ≤ deepest → MeetsLevel H.hash_of acc.now block.now room (slot_of root.now) t (K.moment store.old) result (K.moment store.new) }
+    ensures refused { (f : Value) (t : Data) → IsView root.now f → Front acc.now room (slot_of root.now) f t → room ≤ deepest
+        → MeetsLevel H.hash_of acc.now block.now room (slot_of root.now) t (K.moment store.old) result (K.moment store.new) }
     ensures told { (was : List (List ℕ)) (p : InSlot) (t : Data) → (K.moment store.old).blocks ≡ Some was → CanGo H.hash_of acc.now was room p t root.now
         → GoesIn H.hash_of acc.now was room p segments.now (K.moment store.old) result (K.moment store.new) }
 {

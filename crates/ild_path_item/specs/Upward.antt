@@ -29,7 +29,8 @@ pub record MayEdit (rows : List Row) (h : Holder) (s : List ℕ) (n : Node) (c :
 
 -- a part q that is there may be set to what it becomes, by an item of that
 abbrev pub PartsAreSet : Type 0
-PartsAreSet = (rows : List Row) → IsSchema rows → (p q : InSlot) (s : List ℕ) (c : Value) (d : Data) (n : Node) → OfType rows p.0 p.1 → part (seen rows p) s ≡ Some q → OfType rows q.0 c → represented alone rows q.0 c ≡ Some d → Stands n d
+PartsAreSet = (rows : List Row) → IsSchema rows → (p q : InSlot) (s : List ℕ) (c : Value) (d : Data) (n : Node)
+    → OfType rows p.0 p.1 → part (seen rows p) s ≡ Some q → OfType rows q.0 c → represented alone rows q.0 c ≡ Some d → Stands n d
     → MayEdit rows (seen rows p) s n c
 
 -- the item of what a holder p is changed to along a path, which changes its last holder by f
@@ -39,7 +40,8 @@ pub record ItemAlong (rows : List Row) (f : Holder → List ℕ → Holder) (p :
 
 -- at the last holder it is the item of what that becomes by the edit
 abbrev pub ItemsBegin : Type 0
-ItemsBegin = (rows : List Row) (edit : PartEdit) (w : Value) (q : InSlot) (s : List ℕ) (result : Result (Option (List ℕ)) SpliceErr) → ItemOf rows edit w q s result → ItemAlong rows (in_last edit w).made q s [] result
+ItemsBegin = (rows : List Row) (edit : PartEdit) (w : Value) (q : InSlot) (s : List ℕ) (result : Result (Option (List ℕ)) SpliceErr)
+    → ItemOf rows edit w q s result → ItemAlong rows (in_last edit w).made q s [] result
 
 -- above it is the item of what a holder becomes where its part q is set to what that is changed to along the rest of the path
 abbrev pub ItemsGoUp : Type 0
@@ -48,4 +50,5 @@ ItemsGoUp = (rows : List Row) (f : Holder → List ℕ → Holder) (p q : InSlot
 
 -- an item that nests no deeper than a block may is a block
 abbrev pub ItemsAreBlocks : Type 0
-ItemsAreBlocks = (rows : List Row) → IsSchema rows → (q : InSlot) (u : Data) (b : List ℕ) → OfType rows q.0 q.1 → represented alone rows q.0 q.1 ≡ Some u → depth u ≤ deepest → MakesItem u (Ok (Some b)) → IsBlockOf b u
+ItemsAreBlocks = (rows : List Row) → IsSchema rows → (q : InSlot) (u : Data) (b : List ℕ) → OfType rows q.0 q.1
+    → represented alone rows q.0 q.1 ≡ Some u → depth u ≤ deepest → MakesItem u (Ok (Some b)) → IsBlockOf b u

@@ -57,7 +57,8 @@ pub record IsRefusedInOrder (f : Frame) (h : List ℕ → List ℕ) (rows : List
   pub hole : has_hole rows (plainly n) c ≡ true → judged f h rows t n c ≡ Some N.Hole
   pub delimiter : has_hole rows (plainly n) c ≡ false → breaks_delimiter rows (plainly n) c ≡ true → judged f h rows t n c ≡ Some N.Delimiter
   pub depth : has_hole rows (plainly n) c ≡ false → breaks_delimiter rows (plainly n) c ≡ false → (Fits rows f.room (plainly n) c → ⊥) → judged f h rows t n c ≡ Some N.Depth
-  pub exhausted : has_hole rows (plainly n) c ≡ false → breaks_delimiter rows (plainly n) c ≡ false → Fits rows f.room (plainly n) c → exhausts h rows (plainly n) c ≡ true → judged f h rows t n c ≡ Some N.Exhausted
+  pub exhausted : has_hole rows (plainly n) c ≡ false → breaks_delimiter rows (plainly n) c ≡ false
+      → Fits rows f.room (plainly n) c → exhausts h rows (plainly n) c ≡ true → judged f h rows t n c ≡ Some N.Exhausted
   pub size : has_hole rows (plainly n) c ≡ false → breaks_delimiter rows (plainly n) c ≡ false → Fits rows f.room (plainly n) c → exhausts h rows (plainly n) c ≡ false → are_sized f h rows n c ≡ false
       → judged f h rows t n c ≡ Some N.Size
   pub none : has_hole rows (plainly n) c ≡ false → breaks_delimiter rows (plainly n) c ≡ false → Fits rows f.room (plainly n) c → exhausts h rows (plainly n) c ≡ false → are_sized f h rows n c ≡ true
@@ -69,5 +70,6 @@ RefusedInOrder = (f : Frame) (h : List ℕ → List ℕ) (rows : List Row) (t : 
 -- where none of the first four refuses it, the changed value has data
 abbrev pub UnrefusedHaveData : Type 0
 UnrefusedHaveData =
-    (h : List ℕ → List ℕ) (rows : List Row) → IsSchema rows → (slot : Slot) (c : Value) → Typed rows slot c → has_hole rows slot c ≡ false → breaks_delimiter rows slot c ≡ false → exhausts h rows slot c ≡ false
+    (h : List ℕ → List ℕ) (rows : List Row) → IsSchema rows → (slot : Slot) (c : Value) → Typed rows slot c
+    → has_hole rows slot c ≡ false → breaks_delimiter rows slot c ≡ false → exhausts h rows slot c ≡ false
     → (u : Data) × (represented (whole h) rows slot c ≡ Some u)

@@ -114,13 +114,15 @@ Makes (nothing v) s new d = Unit {0}
 
 abbrev pub ChangesNamed : List Row → (Data → Type 0) → (Option Data → Type 0) → Slot → List ℕ → LastChange → Type 0
 ChangesNamed rows Holds New slot s result =
-    (f : Value) (t : Data) (new : Slot → Option Data) (d x u : Option Data) → represented alone rows slot f ≡ Some t → Holds t → is_named (seen rows (slot, f)) ≡ true → Makes (seen rows (slot, f)) s new d → New d → IsShown d x
+    (f : Value) (t : Data) (new : Slot → Option Data) (d x u : Option Data) → represented alone rows slot f ≡ Some t
+    → Holds t → is_named (seen rows (slot, f)) ≡ true → Makes (seen rows (slot, f)) s new d → New d → IsShown d x
     → named_last (form_of rows slot) (represented alone rows) (seen rows (slot, f)) s new u ≡ located result x u
 
 -- in a map of a form with these entries
 abbrev pub ChangesEntry : (Data → Type 0) → MapForm → List ℕ → Bool → LastChange → Type 0
 ChangesEntry Holds form s after result =
-    (es : List (List ℕ × Data)) (t : Data) (d x u : Option Data) → Holds t → map_form alone form (L.map es) ≡ Some t → after ≡ is_some d → IsShown d x → map_last form s (place_of s es) (value_at s es) d u ≡ located result x u
+    (es : List (List ℕ × Data)) (t : Data) (d x u : Option Data) → Holds t → map_form alone form (L.map es) ≡ Some t
+    → after ≡ is_some d → IsShown d x → map_last form s (place_of s es) (value_at s es) d u ≡ located result x u
 
 -- in a struct with these fields, of the one with a number
 abbrev pub ChangesField : (Data → Type 0) → (Option Data → Type 0) → StructDef → ℕ → LastChange → Type 0

@@ -32,7 +32,8 @@ pub(crate) fn key_change<'a>(
     after: bool,
 ) -> LastChange<'a>
     requires { IsNumbered acc.now piece.now }
-    ensures { (t : Data) (d x u : Option Data) → StandsFor acc.now piece.now t → after ≡ is_some d → IsShown d x → at_key key.now (option_and_then (value_at key.now) (members_in t)) d ≡ located result x u }
+    ensures { (t : Data) (d x u : Option Data) → StandsFor acc.now piece.now t → after ≡ is_some d → IsShown d x
+        → at_key key.now (option_and_then (value_at key.now) (members_in t)) d ≡ located result x u }
 {
     entry_change(key, has_entry(acc, piece, key), after)
 }

@@ -1,14 +1,11 @@
 //! Pairs in a list, by their keys.
-ghost use Rattle.std.specs.Prelude.{◌≡◌, ◌<◌, ℕ, List, Option, Some, is_some, length};
+ghost use Rattle.std.specs.Prelude.{◌<◌, ℕ, List, Option, Some, length};
 ghost use Rattle.ild_data.specs.Data.{Data};
 ghost use Rattle.ild_data.specs.Key.{value_at};
-ghost use Rattle.ild_path_last.specs.Change.{IsShown, located};
-ghost use Rattle.ild_path_last.specs.Seats.{ChangesPair, FindsField, HasPairs, IsSeat, Passes};
-ghost use Rattle.ild_path_changes.specs.Pairs.{at_pair};
+ghost use Rattle.ild_path_last.specs.Seats.{ChangesAtKey, ChangesPair, FindsField, HasPairs, IsSeat, Passes};
 ghost use Rattle.ild_path_changes.specs.Places.{place_of};
 ghost use Rattle.ild_layer_piece.specs.Pieces.{StandsFor};
 ghost use Rattle.ild_schema.specs.declared.row.Row.{Row};
-ghost use Rattle.ild_typed.specs.Strings.{listpairs};
 
 use crate::between::pair_change;
 use crate::change::LastChange;
@@ -44,7 +41,7 @@ fn key_seat(items: Items<'_>, key: &str) -> Seat
 
 /// The change of the pair at a key, in a map that is a list of pairs.
 pub(crate) fn key_pair_change<'a>(piece: &Piece<'_>, key: &'a str, after: bool) -> LastChange<'a>
-    ensures { (rows : List Row) (es : List (List ℕ × Data)) (d x u : Option Data) → StandsFor rows piece.now (listpairs es) → after ≡ is_some d → IsShown d x → at_pair (place_of key.now es) key.now (value_at key.now es) d ≡ located result x u }
+    ensures { (rows : List Row) → ChangesAtKey (StandsFor rows piece.now) key.now after result }
 {
     match items(piece) {
         Some(items) => {

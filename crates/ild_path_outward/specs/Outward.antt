@@ -38,7 +38,8 @@ with_end rows s v hops w = with_part rows (s, v) (path_of_hops hops) w
 
 -- The hops lead from the value v of the view's block to one in the place of which w comes: w is held but for its block, which is the new
 -- one. The whole has the data u then, and fits in the room in which v does.
-pub record IsNewEnd (h : List ℕ → List ℕ) (is_key : ℕ → List ℕ → Bool) (was : List (List ℕ)) (room : ℕ) (v : Value) (t : Data) (view : View) (hops : List Hop) (w : Value) (u : Data) (new : List ℕ) : Type 0 where
+pub record IsNewEnd (h : List ℕ → List ℕ) (is_key : ℕ → List ℕ → Bool) (was : List (List ℕ)) (room : ℕ)
+    (v : Value) (t : Data) (view : View) (hops : List Hop) (w : Value) (u : Data) (new : List ℕ) : Type 0 where
   pub level : IsLevel h is_key was room v t view
   pub q : InSlot
   pub less : ℕ
@@ -65,7 +66,8 @@ abbrev pub GivesMet : (List ℕ → List ℕ) → List Row → InSlot → List (
 GivesMet h rows p path result n = IfOk result (λ b. IfTold n.given (AreIdsGiven (nodes_met h rows p path)))
 
 -- each put is of a node on the way of the path in the new value, of which the root's block is yet to be put
-pub record SetsEnd (h : List ℕ → List ℕ) (rows : List Row) (room : ℕ) (s : Slot) (c : Value) (u : Data) (path : List (List ℕ)) (m : Moment) (result : Result (List ℕ) HamtFault) (n : Moment) : Type 0 where
+pub record SetsEnd (h : List ℕ → List ℕ) (rows : List Row) (room : ℕ) (s : Slot) (c : Value) (u : Data)
+    (path : List (List ℕ)) (m : Moment) (result : Result (List ℕ) HamtFault) (n : Moment) : Type 0 where
   pub answer : EndAnswer h rows room s c u m result n
   pub later : Later m n
   pub adds : BothTold m.blocks n.blocks (AddsNodes h rows s c)

@@ -56,7 +56,8 @@ pub record IsStep (h : List ℕ → List ℕ) (is_key : ℕ → List ℕ → Boo
   pub tree : represented (whole h) rows s (with_set rows s v path ps k w) ≡ Some u
 
 -- so the level becomes v with w at the key
-abbrev pub SetsStep : (h : List ℕ → List ℕ) (is_key : ℕ → List ℕ → Bool) (rows : List Row) (s : Slot) (was : List (List ℕ)) (path : List (List ℕ)) (k : List ℕ) (trail : Trail) → IsStep h is_key rows s was path k trail
+abbrev pub SetsStep : (h : List ℕ → List ℕ) (is_key : ℕ → List ℕ → Bool) (rows : List Row) (s : Slot)
+    (was : List (List ℕ)) (path : List (List ℕ)) (k : List ℕ) (trail : Trail) → IsStep h is_key rows s was path k trail
     → Moment → Result (List ℕ) HamtFault → Moment → Type 0
 SetsStep h is_key rows s was path k trail x m result n = SetsLevel h x.entered.hamt.3 rows x.room s (with_set rows s x.v path x.ps k x.w) x.u k (insert bytewise k x.d x.es) m result n
 

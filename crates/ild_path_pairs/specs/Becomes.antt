@@ -37,5 +37,6 @@ becoming_with rows q s o = becomes rows q.0 (with_part (seen rows q) s o)
 -- of each front for which a view stands, where that is a text: the text of what it becomes, or none where a rule of its form refuses that
 abbrev pub AnswersText : View → List ℕ → Option (List ℕ) → Result (Option (List ℕ)) AllocError → Type 0
 AnswersText v s new result =
-    (f : Value) (o : Option Value) (j : List ℕ) → IsView v f → is_holder (seen (table_of v) (slot_of v, f)) ≡ true → represented alone (table_of v) (slot_of v) f ≡ Some (T.text j) → LetsBe (table_of v) (seen (table_of v) (slot_of v, f)) s o (option_map T.text new)
+    (f : Value) (o : Option Value) (j : List ℕ) → IsView v f → is_holder (seen (table_of v) (slot_of v, f)) ≡ true
+    → represented alone (table_of v) (slot_of v) f ≡ Some (T.text j) → LetsBe (table_of v) (seen (table_of v) (slot_of v, f)) s o (option_map T.text new)
     → Tells (becoming_with (table_of v) (slot_of v, f) s o) result

@@ -52,7 +52,8 @@ ReadsPairs inner entry text result = (es : List (List ℕ × Data)) → stringpa
 -- the change by which the pair of a key at a seat has this value, or is not
 abbrev pub ChangesPair : Seat → List ℕ → Option (List ℕ) → Option PairChange → Type 0
 ChangesPair seat key new result =
-    (front behind : List (List ℕ × List ℕ)) (old : Option (List ℕ)) → seat.place ≡ length front → seat.there ≡ is_some old → changed_by result (front ++ (text_pair_if key old ++ behind)) ≡ front ++ (text_pair_if key new ++ behind)
+    (front behind : List (List ℕ × List ℕ)) (old : Option (List ℕ)) → seat.place ≡ length front → seat.there ≡ is_some old
+    → changed_by result (front ++ (text_pair_if key old ++ behind)) ≡ front ++ (text_pair_if key new ++ behind)
 
 -- the text of pairs in which the pair of a key stands at a seat, or would stand, where it has this value or is not
 abbrev pub TellsPair : List ℕ → List ℕ → List ℕ → Seat → List ℕ → Option Data → Result (Option (List ℕ)) AllocError → Type 0
@@ -67,7 +68,8 @@ entries_with key (Some v) es = put_last key v es
 
 -- of a map, where the value at a key becomes a text, or goes
 abbrev pub TellsMap : List ℕ → List ℕ → List ℕ → List ℕ → Option (List ℕ) → Result (Option (List ℕ)) AllocError → Type 0
-TellsMap inner entry text key new result = (es : List (List ℕ × Data)) → stringpairs inner entry es ≡ Some (T.text text) → Tells (stringpairs inner entry (entries_with key (option_map T.text new) es)) result
+TellsMap inner entry text key new result = (es : List (List ℕ × Data)) → stringpairs inner entry es ≡ Some (T.text text)
+    → Tells (stringpairs inner entry (entries_with key (option_map T.text new) es)) result
 
 -- of a struct with these fields, of the one with a number
 abbrev pub TellsStruct : List ℕ → List ℕ → List ℕ → List Field → ℕ → Option (List ℕ) → Result (Option (List ℕ)) AllocError → Type 0
@@ -94,10 +96,12 @@ StructGiven (S.StringJoin delim) = Unit {0}
 -- what is told of a map of such a form that stands as a text
 abbrev pub TellsMapForm : MapForm → List ℕ → List ℕ → Option (List ℕ) → Result (Option (List ℕ)) AllocError → Type 0
 TellsMapForm form text key new result =
-    (es : List (List ℕ × Data)) → is_pairs_map form ≡ true → map_form alone form (L.map es) ≡ Some (T.text text) → Tells (map_form alone form (L.map (entries_with key (option_map T.text new) es))) result
+    (es : List (List ℕ × Data)) → is_pairs_map form ≡ true → map_form alone form (L.map es) ≡ Some (T.text text)
+    → Tells (map_form alone form (L.map (entries_with key (option_map T.text new) es))) result
 
 -- and of a struct, where a field that goes is optional
 abbrev pub TellsStructForm : StructDef → List ℕ → ℕ → Option (List ℕ) → Result (Option (List ℕ)) AllocError → Type 0
 TellsStructForm def text number new result =
     (ds : List (Option Data)) (k : List ℕ) (g : Field) → is_pairs_struct def.form ≡ true → struct_form def.form def.fields ds ≡ Some (T.text text) → ClearStruct def.form def.fields
-    → field_named k def.fields ≡ Some g → number ≡ field_place k def.fields → (new ≡ None → g.optional ≡ true) → Tells (struct_form def.form def.fields (set_field k (option_map T.text new) def.fields ds)) result
+    → field_named k def.fields ≡ Some g → number ≡ field_place k def.fields → (new ≡ None → g.optional ≡ true)
+    → Tells (struct_form def.form def.fields (set_field k (option_map T.text new) def.fields ds)) result

@@ -61,6 +61,7 @@ KeyAnswer h rows was limit q front s k verb holder m (Err F.Store) n = Rose m.fa
 KeyAnswer h rows was limit q front s k verb holder m (Err F.Memory) n = Unit {0}
 
 -- of the HAMT with this slot
-abbrev pub EndsKey : (h : List ℕ → List ℕ) (rows : List Row) (was : List (List ℕ)) (limit : ℕ) (q : InSlot) (front : List (List ℕ)) (room : ℕ) (view : View) → CanEndAt h rows was limit q front room view → List ℕ → ℕ → Verb → Moment → Result Found PathFault → Moment → Type 0
+abbrev pub EndsKey : (h : List ℕ → List ℕ) (rows : List Row) (was : List (List ℕ)) (limit : ℕ) (q : InSlot) (front : List (List ℕ)) (room : ℕ) (view : View)
+    → CanEndAt h rows was limit q front room view → List ℕ → ℕ → Verb → Moment → Result Found PathFault → Moment → Type 0
 EndsKey h rows was limit q front room view x s k verb m result n =
     KeyAnswer h rows was limit q front s k verb (slot_of view, map x.ps) m result n × (n.gets ≤ m.gets + counts h rows (slot_of view, map x.ps) s)

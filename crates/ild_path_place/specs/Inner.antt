@@ -28,13 +28,15 @@ pub record LeadsTo (rows : List Row) (limit : ℕ) (q : InSlot) (front : List (L
   pub room_is : room ≡ room_at rows limit q front
 
 abbrev pub EndAnswer : (List ℕ → List ℕ) → List Row → List (List ℕ) → ℕ → InSlot → List (List ℕ) → InSlot → List ℕ → ℕ → Verb → Moment → Result Found PathFault → Moment → Type 0
-EndAnswer h rows was limit q front holder s k verb m (Ok found) n = SlotAnswer rows holder s verb (Ok found.slot) × EndsAt h rows was limit q (front ++ s ∷ []) found.end × FitsKey rows holder s found.key_fits
+EndAnswer h rows was limit q front holder s k verb m (Ok found) n =
+    SlotAnswer rows holder s verb (Ok found.slot) × EndsAt h rows was limit q (front ++ s ∷ []) found.end × FitsKey rows holder s found.key_fits
 EndAnswer h rows was limit q front holder s k verb m (Err (F.Path i)) n = (i ≡ k) × SlotAnswer rows holder s verb (Err R.Path)
 EndAnswer h rows was limit q front holder s k verb m (Err F.Mismatch) n = SlotAnswer rows holder s verb (Err R.Mismatch)
 EndAnswer h rows was limit q front holder s k verb m (Err (F.Block id why)) n = ⊥
 EndAnswer h rows was limit q front holder s k verb m (Err F.Store) n = Rose m.faults n.faults
 EndAnswer h rows was limit q front holder s k verb m (Err F.Memory) n = Unit {0}
 
-pub record EndsThere (h : List ℕ → List ℕ) (rows : List Row) (was : List (List ℕ)) (limit : ℕ) (q : InSlot) (front : List (List ℕ)) (holder : InSlot) (s : List ℕ) (k : ℕ) (verb : Verb) (m : Moment) (result : Result Found PathFault) (n : Moment) : Type 0 where
+pub record EndsThere (h : List ℕ → List ℕ) (rows : List Row) (was : List (List ℕ)) (limit : ℕ) (q : InSlot) (front : List (List ℕ))
+    (holder : InSlot) (s : List ℕ) (k : ℕ) (verb : Verb) (m : Moment) (result : Result Found PathFault) (n : Moment) : Type 0 where
   pub answer : EndAnswer h rows was limit q front holder s k verb m result n
   pub gets : n.gets ≤ m.gets + counts h rows holder s

@@ -128,14 +128,17 @@ LocateAnswer h rows was p path verb m (Err F.Store) n = Rose m.faults n.faults
 LocateAnswer h rows was p path verb m (Err F.Memory) n = Unit {0}
 
 -- on a store that tells and holds the value
-pub record Locates (h : List ℕ → List ℕ) (rows : List Row) (was : List (List ℕ)) (p : InSlot) (path : List (List ℕ)) (verb : Verb) (m : Moment) (result : Result Place PathFault) (n : Moment) : Type 0 where
+pub record Locates (h : List ℕ → List ℕ) (rows : List Row) (was : List (List ℕ)) (p : InSlot)
+    (path : List (List ℕ)) (verb : Verb) (m : Moment) (result : Result Place PathFault) (n : Moment) : Type 0 where
   pub answer : LocateAnswer h rows was p path verb m result n
   pub gets : n.gets ≤ m.gets + met_on h rows p path
 
 -- with the empty path
 abbrev pub LocatesWhole : Slot → Verb → Result Place PathFault → Type 0
-LocatesWhole slot V.Read (Ok place) = (place.verb ≡ V.Read) × (place.hops.items ≡ []) × (place.end ≡ D.Whole) × (place.slot ≡ slot) × (place.key_fits ≡ true) × (place.room ≡ Some 96) × (place.hole ≡ false)
-LocatesWhole slot V.Set (Ok place) = (place.verb ≡ V.Set) × (place.hops.items ≡ []) × (place.end ≡ D.Whole) × (place.slot ≡ slot) × (place.key_fits ≡ true) × (place.room ≡ Some 96) × (place.hole ≡ false)
+LocatesWhole slot V.Read (Ok place) = (place.verb ≡ V.Read) × (place.hops.items ≡ []) × (place.end ≡ D.Whole)
+    × (place.slot ≡ slot) × (place.key_fits ≡ true) × (place.room ≡ Some 96) × (place.hole ≡ false)
+LocatesWhole slot V.Set (Ok place) = (place.verb ≡ V.Set) × (place.hops.items ≡ []) × (place.end ≡ D.Whole)
+    × (place.slot ≡ slot) × (place.key_fits ≡ true) × (place.room ≡ Some 96) × (place.hole ≡ false)
 LocatesWhole slot V.Ins (Err e) = e ≡ F.Path 0
 LocatesWhole slot V.Del (Err e) = e ≡ F.Mismatch
 LocatesWhole slot verb r = ⊥

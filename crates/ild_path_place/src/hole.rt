@@ -12,7 +12,8 @@ use ild_view::View;
 
 /// Whether a holder that has no hole has one with the part that comes to a segment, or without the one that goes.
 pub(crate) fn leaves(holder: &View<'_>, segment: &str, verb: Verb) -> bool
-    ensures { (f : Value) → IsView holder.now f → is_hole (form_of (table_of holder.now) (slot_of holder.now)) f ≡ false → VerbHole (table_of holder.now) (slot_of holder.now, f) segment.now verb result }
+    ensures { (f : Value) → IsView holder.now f → is_hole (form_of (table_of holder.now) (slot_of holder.now)) f ≡ false
+        → VerbHole (table_of holder.now) (slot_of holder.now, f) segment.now verb result }
 {
     match verb {
         Verb::Read => false,

@@ -103,7 +103,8 @@ pub record AddsNodes (h : List ℕ → List ℕ) (rows : List Row) (s : Slot) (v
   pub came : (id b : List ℕ) → block_at now id ≡ Some b → (block_at was id ≡ Some b) ⊎ NodeCame h rows s v now b
 
 -- the HAMT of a shape becomes v, by puts of no more blocks than it has on the way of the key, each of which was put where it did
-pub record EditsHamt (h : List ℕ → List ℕ) (p : HamtShape) (rows : List Row) (s : Slot) (room : ℕ) (k : List ℕ) (es : List (List ℕ × Data)) (v : Value) (x : Data) (m : Moment) (result : Result (List ℕ) HamtFault) (n : Moment) : Type 0 where
+pub record EditsHamt (h : List ℕ → List ℕ) (p : HamtShape) (rows : List Row) (s : Slot) (room : ℕ) (k : List ℕ)
+    (es : List (List ℕ × Data)) (v : Value) (x : Data) (m : Moment) (result : Result (List ℕ) HamtFault) (n : Moment) : Type 0 where
   pub answer : EditAnswer h rows room s v x m result n
   pub later : Later m n
   pub adds : BothTold m.blocks n.blocks (AddsNodes h rows s v)

@@ -66,7 +66,8 @@ pub record IsField (fs : List Field) (s : List ℕ) (number : ℕ) (ds : List (O
 -- in a struct whose data has the field with a number; an absent one is none
 abbrev pub LiftsField : (Data → Type 0) → StructDef → ℕ → Option PartSteps → Type 0
 LiftsField Stand def number result =
-    (ds : List (Option Data)) (t a x : Data) (s : List ℕ) (g : Field) → Stand t → struct_form def.form def.fields ds ≡ Some t → ClearStruct def.form def.fields → IsField def.fields s number ds g a → left_out g x ≡ false
+    (ds : List (Option Data)) (t a x : Data) (s : List ℕ) (g : Field) → Stand t → struct_form def.form def.fields ds ≡ Some t
+    → ClearStruct def.form def.fields → IsField def.fields s number ds g a → left_out g x ≡ false
     → Lifts (λ w e. struct_lift def.form s def.fields ds g (Some a) (Some x) w e) result
 
 -- in a union that is its member with a number
@@ -104,7 +105,8 @@ FoundLead (Some steps) t d = LeadsTo steps t d
 
 abbrev pub LeadsField : (Data → Type 0) → StructDef → ℕ → Option PartSteps → Type 0
 LeadsField Stand def number result =
-    (ds : List (Option Data)) (t a : Data) (s : List ℕ) (g : Field) → Stand t → struct_form def.form def.fields ds ≡ Some t → ClearStruct def.form def.fields → IsField def.fields s number ds g a → FoundLead result t a
+    (ds : List (Option Data)) (t a : Data) (s : List ℕ) (g : Field) → Stand t → struct_form def.form def.fields ds ≡ Some t
+    → ClearStruct def.form def.fields → IsField def.fields s number ds g a → FoundLead result t a
 
 abbrev pub LeadsMember : UnionDef → ℕ → Option PartSteps → Type 0
 LeadsMember def number result = (m : Member) (d t : Data) → slice_get def.members number ≡ Some m → member_form def.form d m ≡ Some t → KeysApart def.form → FoundLead result t d

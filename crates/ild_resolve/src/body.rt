@@ -182,7 +182,8 @@ fn map_def(
     requires small { length rows.old.items + types_in (reference_events value.now) ≤ 65543 }
     ensures words { Judged (number_in numbers.now) (uses key.now ∷ reference_events value.now ++ map_form_events form) result }
     ensures rows { OnOk result (rows.new.items ≡ rows.old.items ++ reference_rows (number_in numbers.now) (length rows.old.items) value.now) }
-    ensures same { IfOk result (λ d. d ≡ D.Map (type_of (number_in numbers.now) key.now) key.now.at (slot (number_in numbers.now) (length rows.old.items) value.now) (first_token (number_in numbers.now) value.now) (map_form form)) }
+    ensures same { IfOk result (λ d. d ≡ D.Map (type_of (number_in numbers.now) key.now) key.now.at
+        (slot (number_in numbers.now) (length rows.old.items) value.now) (first_token (number_in numbers.now) value.now) (map_form form)) }
 {
     let (key_no, slot) = entry_of(rows, numbers, key, value)?;
     let form = map_form_of(form)?;

@@ -190,7 +190,8 @@ ComparesPlainly c rows others m n status = (found : Option Differ) × ComparedBy
 -- a script is answered plainly, the names of an accepted schema are listed, a value that a store can hold is created, one that stands
 -- under a root is shown, and the types of two accepted schemas are compared
 pub record IsComplete (c : Call) (status : Status) : Type 0 where
-  pub runs : (tests : Tests) (v : Typed) (script : List ℕ) (given : IsGiven c tests v script) → IsUndisturbed c given.rows given.type tests given.start v script → (status ≡ S.Memory) ⊎ AnswersPlainly c given.rows given.type tests v script status
+  pub runs : (tests : Tests) (v : Typed) (script : List ℕ) (given : IsGiven c tests v script)
+      → IsUndisturbed c given.rows given.type tests given.start v script → (status ≡ S.Memory) ⊎ AnswersPlainly c given.rows given.type tests v script status
   pub checks : (rows : List Row) → IsGivenSchema c rows → IsCalm c → (status ≡ S.Memory) ⊎ ((status ≡ S.Done) × Lists (declared_names rows) c.before.output c.after.output)
   pub creates : (v : Typed) (d : Data) (given : IsGivenValue c v d) → LetsCreate c given.rows given.type v d → (status ≡ S.Memory) ⊎ CreatesPlainly c given.rows given.type v d status
   pub shows : (v : Typed) (given : IsGivenRoot c v) → LetsShow c → (status ≡ S.Memory) ⊎ ShowsPlainly c given.rows given.type v status

@@ -261,13 +261,17 @@ pub fn run<I: Inputs, K: Store, W: Sink>(
     out: &mut W,
 ) -> Status
     // The status, the text that was written, the cause of both, and what came of the store.
-    ensures ended { EndedBy (generation_of words.now) (call_of (job_of words.now) (I.supply inputs.old) (K.moment store.old) (W.output out.old) (I.supply inputs.new) (K.moment store.new) (W.output out.new)) result }
+    ensures ended { EndedBy (generation_of words.now)
+        (call_of (job_of words.now) (I.supply inputs.old) (K.moment store.old) (W.output out.old) (I.supply inputs.new) (K.moment store.new) (W.output out.new))
+        result }
 
     // Where no call of the outside failed and no blocks collide, all that the words ask for is done.
     ensures complete { IsComplete (call_of (job_of words.now) (I.supply inputs.old) (K.moment store.old) (W.output out.old) (I.supply inputs.new) (K.moment store.new) (W.output out.new)) result }
 
     // The same of the generator.
-    ensures generated { IsCompleteBy (generation_of words.now) (call_of (job_of words.now) (I.supply inputs.old) (K.moment store.old) (W.output out.old) (I.supply inputs.new) (K.moment store.new) (W.output out.new)) result }
+    ensures generated { IsCompleteBy (generation_of words.now)
+        (call_of (job_of words.now) (I.supply inputs.old) (K.moment store.old) (W.output out.old) (I.supply inputs.new) (K.moment store.new) (W.output out.new))
+        result }
 
     // What was held is held, what was given is given, and no count falls.
     ensures inputs { After (I.supply inputs.old) (I.supply inputs.new) }

@@ -18,4 +18,6 @@ pub record Commits (h : List ℕ → List ℕ) (d : Doc) (own : List (List ℕ))
   pub later : Later m n
   pub failed : result ≡ Err F.Store → Rose m.faults n.faults
   pub replies : (tests : Tests) (v kept : Value) (owed : ℕ) → AreTests (table_in d) tests → IsAt h d m v → length own ≤ owed → Carries (typed_lines (setting_of h d tests)) m (batching v kept owed own)
-      → Replies (typed_lines (setting_of h d tests)) m (batching v kept owed own) (commit_due (setting_of h d tests) (begun_at v kept) (Some kept)) (Some (commit_reply (setting_of h d tests) v result)) n (commit_stage v kept owed own result)
+      → Replies (typed_lines (setting_of h d tests)) m (batching v kept owed own)
+          (commit_due (setting_of h d tests) (begun_at v kept) (Some kept))
+          (Some (commit_reply (setting_of h d tests) v result)) n (commit_stage v kept owed own result)

@@ -24,7 +24,8 @@ AreAlike d None = Unit {0}
 AreAlike d (Some b) = (table_in b ≡ table_in d) × (type_in b ≡ type_in d)
 
 -- the reply that is due at the stage, and where the session stands then
-pub record TurnsTo (h : List ℕ → List ℕ) (w : Setting) (new : Doc) (begun : Option Doc) (own : List (List ℕ)) (tests : Tests) (a : Ask) (m : Moment) (s : Stage Value) (reply : Option Reply) (n : Moment) : Type 0 where
+pub record TurnsTo (h : List ℕ → List ℕ) (w : Setting) (new : Doc) (begun : Option Doc) (own : List (List ℕ))
+    (tests : Tests) (a : Ask) (m : Moment) (s : Stage Value) (reply : Option Reply) (n : Moment) : Type 0 where
   pub stage : Stage Value
   pub replies : Replies (typed_lines w) m s (due w a s.state) reply n stage
   pub stands : StandsSo h new begun own tests n stage

@@ -96,7 +96,8 @@ fn answer_inside<'s, K: Store>(
     store: &mut K,
 ) -> (Reply, Option<Begun<'s>>)
     requires { AreAlike doc.old (Some begun.doc) }
-    ensures { Turns id_of doc.old doc.new (Some begun.entry.doc) (doc_of result.1) own.old own.new (asked_by line.now.verb line.now.path json.now) (K.moment store.old) (Some result.0) (K.moment store.new) }
+    ensures { Turns id_of doc.old doc.new (Some begun.entry.doc) (doc_of result.1) own.old own.new
+        (asked_by line.now.verb line.now.path json.now) (K.moment store.old) (Some result.0) (K.moment store.new) }
 {
     stages_stay();
     batches_end();
@@ -121,7 +122,8 @@ fn obey<'s, K: Store>(
     store: &mut K,
 ) -> Reply
     requires { AreAlike doc.old (doc_of begun.old) }
-    ensures { Turns id_of doc.old doc.new (doc_of begun.old) (doc_of begun.new) own.old own.new (asked_by line.now.verb line.now.path json.now) (K.moment store.old) (Some result) (K.moment store.new) }
+    ensures { Turns id_of doc.old doc.new (doc_of begun.old) (doc_of begun.new) own.old own.new
+        (asked_by line.now.verb line.now.path json.now) (K.moment store.old) (Some result) (K.moment store.new) }
 {
     match begun.take() {
         None => {

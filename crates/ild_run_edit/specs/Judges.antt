@@ -52,8 +52,10 @@ first_told key hole judged around room full =
 -- whether a text around the part breaks with it, where the part by itself is free of that
 abbrev pub TellsAround : Place → Value → Bool → Type 0
 TellsAround place w b =
-    (h : List ℕ → List ℕ) (rows : List Row) (was : List (List ℕ)) (p : InSlot) (how : Coming) (path : List (List ℕ)) (c : Value) (is_key : ℕ → List ℕ → Bool) → IsPlaceIn h rows was p path (verb_of how) place → TestsKeys rows is_key
-    → AllByRecursion IsUtf8 path → OfType rows (slot_in place) w → breaks_delimiter rows (slot_in place) w ≡ false → table_at place ≡ rows → change rows is_key p (bringing how path w) ≡ Ok c → b ≡ breaks_delimiter rows p.0 c
+    (h : List ℕ → List ℕ) (rows : List Row) (was : List (List ℕ)) (p : InSlot) (how : Coming) (path : List (List ℕ)) (c : Value) (is_key : ℕ → List ℕ → Bool)
+    → IsPlaceIn h rows was p path (verb_of how) place → TestsKeys rows is_key
+    → AllByRecursion IsUtf8 path → OfType rows (slot_in place) w → breaks_delimiter rows (slot_in place) w ≡ false
+    → table_at place ≡ rows → change rows is_key p (bringing how path w) ≡ Ok c → b ≡ breaks_delimiter rows p.0 c
 
 -- what the place of a part tells of it
 pub record IsPartRefusal (place : Place) (w : Value) (o : Option No) : Type 0 where

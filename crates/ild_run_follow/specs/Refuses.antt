@@ -27,7 +27,8 @@ IsWrongThrough h rows told before now below z id why =
     IsWrongOnTree h z.shape told z.slots z.block before now id why ⊎ IsWrongEntry rows told (in_full z) id why ⊎ IsWrongBelow told z below
 
 -- of data of a slot, which stand in the block `at`: with a HAMT in them
-pub record IsWrongInward (h : List ℕ → List ℕ) (rows : List Row) (told : Option (List (List ℕ))) (before now : ℕ) (below : Site → List ℕ → Data → Type 0) (at : List ℕ) (s : Slot) (t : Data) (id : List ℕ) (why : BlockWhy) : Type 0 where
+pub record IsWrongInward (h : List ℕ → List ℕ) (rows : List Row) (told : Option (List (List ℕ))) (before now : ℕ)
+    (below : Site → List ℕ → Data → Type 0) (at : List ℕ) (s : Slot) (t : Data) (id : List ℕ) (why : BlockWhy) : Type 0 where
   pub steps : ℕ
   pub site : Site
   pub has : HasSite rows steps deepest s t site

@@ -76,7 +76,8 @@ TellsHere h view tell m result n = TellsFrom h view [] tell m result n
 
 -- of the root of a HAMT
 pub record TellsIn (h : List ℕ → List ℕ) (view : View) (path : List (List ℕ)) (tell : Tell) (m : Moment) (result : Result Tree ReadFault) (n : Moment) : Type 0 where
-  pub answer : (t : Data) (v : Value) → IsAt h view m t v → is_root (table_of view) (slot_of view, v) ≡ true → TellAnswer (told h (table_of view) tell (at (table_of view) (slot_of view, v) path)) m result n
+  pub answer : (t : Data) (v : Value) → IsAt h view m t v → is_root (table_of view) (slot_of view, v) ≡ true
+      → TellAnswer (told h (table_of view) tell (at (table_of view) (slot_of view, v) path)) m result n
   pub gets : (t : Data) (v : Value) → IsAt h view m t v → is_root (table_of view) (slot_of view, v) ≡ true
       → n.gets ≤ m.gets + (met (table_of view) (counts h (table_of view)) (slot_of view, v) path + part_nodes h (table_of view) tell (at (table_of view) (slot_of view, v) path))
   pub only : OnlyReads m n

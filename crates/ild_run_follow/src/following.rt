@@ -66,7 +66,8 @@ fn tell_in<'b, K: Store, H: KeyHash>(
     requires root { ∥ ((t : Data) × IsView hamt (root_of t)) ∥₁ }
     requires within { k < length path.now }
     ensures tells { TellsIn H.hash_of hamt.entry (drop k path.now) tell (K.moment store.old) result (K.moment store.new) }
-    ensures refused { (slot : Slot) (room : ℕ) (z : Site) → IsSiteOf (table_of hamt.entry) slot room hamt.entry block.now z → RefusesIn H.hash_of (table_of hamt.entry) z (K.moment store.old) result (K.moment store.new) }
+    ensures refused { (slot : Slot) (room : ℕ) (z : Site) → IsSiteOf (table_of hamt.entry) slot room hamt.entry block.now z
+        → RefusesIn H.hash_of (table_of hamt.entry) z (K.moment store.old) result (K.moment store.new) }
 {
     // They do no work, as above: the count says that a number behind a segment's is one.
     hamt.schema().recall();

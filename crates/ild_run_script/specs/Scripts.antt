@@ -61,7 +61,8 @@ module _ (rows : List Row) (ty : TypeNo) (start : Start) where
     pub last : Stage Value
     pub run : Run (lines_on rows ty tests) opened (resting first.value) lines replies n last
     pub stands : IfTold n.blocks (λ now. StandsThere rows ty now (left last.state))
-    pub gets : n.gets ≤ m.gets + (start_gets start (length (blocks_of bare id_of rows ty first.value first.is.stands.tree)) + most_gets (lines_on rows ty tests) opened (resting first.value) lines replies n last run)
+    pub gets : n.gets ≤ m.gets + (start_gets start (length (blocks_of bare id_of rows ty first.value first.is.stands.tree))
+        + most_gets (lines_on rows ty tests) opened (resting first.value) lines replies n last run)
     pub puts : n.puts ≤ m.puts + (start_puts start + most_puts (lines_on rows ty tests) opened (resting first.value) lines replies n last run)
 
   -- The document was opened, which has this block, and these lines were answered. Where the store tells what it holds, they are answered

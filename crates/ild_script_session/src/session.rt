@@ -34,7 +34,8 @@ pub trait Session {
         ensures answered { IsAnswered (K.moment store.old) line.now result (K.moment store.new) }
 
         // From the stage at which it stands. What lines mean stays.
-        ensures leads { (M : Meaning Value) (s : Stage Value) → stands self.old (K.moment store.old) M s → Leads M (stands self.new (K.moment store.new) M) (K.moment store.old) s line.now result (K.moment store.new) }
+        ensures leads { (M : Meaning Value) (s : Stage Value) → stands self.old (K.moment store.old) M s
+            → Leads M (stands self.new (K.moment store.new) M) (K.moment store.old) s line.now result (K.moment store.new) }
 
         // A line that is refused leaves the state, whatever a store holds; and where the session stands, it is at the stage's state.
         ensures kept { (refusal : No) → result ≡ Some (R.No refusal) → (M : Meaning Value) (s : State Value) → is_at self.old M s → is_at self.new M s }

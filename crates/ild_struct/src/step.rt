@@ -49,7 +49,8 @@ fn take_item<'b>(items: Items<'b>, next: usize) -> Option<Taken<'b>>
 // The first pair of a list.
 fn take_pair<'b>(fields: &Fields<'b>, items: Items<'b>, next: usize) -> Option<Taken<'b>>
     ensures fewer { IfSome result (λ r. count_left r.2 < count_left (L.ListPairs items.entry)) }
-    ensures takes { AreNamesApart fields.now.def.now.fields → (es : List (List ℕ × Data)) → HasItems items.entry (items_of (map pair_data es)) → Takes fields.now.def.now.fields (by_place fields.now.def.now.fields es) result }
+    ensures takes { AreNamesApart fields.now.def.now.fields → (es : List (List ℕ × Data)) → HasItems items.entry (items_of (map pair_data es))
+        → Takes fields.now.def.now.fields (by_place fields.now.def.now.fields es) result }
 {
     let mut left = items;
     let item = left.next()?;

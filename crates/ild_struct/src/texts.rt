@@ -26,7 +26,8 @@ pub(crate) fn stringpairs_source<'b>(
 ) -> Result<Source<'b>, Why>
     requires inner_some { 0 < length inner.now }
     requires entry_some { 0 < length entry.now }
-    ensures answers { AreNamesApart fields.now.def.now.fields → (rows : List Row) (t : Data) → StandsFor rows piece.now t → Answers rows (S.StringPairs inner.now entry.now) fields.now.def.now.fields t result }
+    ensures answers { AreNamesApart fields.now.def.now.fields → (rows : List Row) (t : Data) → StandsFor rows piece.now t
+        → Answers rows (S.StringPairs inner.now entry.now) fields.now.def.now.fields t result }
     ensures sourced { (rows : List Row) → IfOk result (IsSourced rows) }
 {
     let Some(text) = text(piece) else {

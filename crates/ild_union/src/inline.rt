@@ -25,7 +25,8 @@ pub(crate) fn inline<'b>(
 ) -> Result<(u32, Piece<'b>), Why>
     requires within { ty.0 < length acc.now }
     requires numbered { own.0 < length acc.now }
-    ensures answer { (t : Data) (u : UnionDef) → Stands node.now t → def_at acc.now ty.0 ≡ Some (D.Union u) → u.form ≡ F.Inline key.now → passed_key acc.now own.0 ≡ Some key.now → UnionAnswer acc.now u t result }
+    ensures answer { (t : Data) (u : UnionDef) → Stands node.now t → def_at acc.now ty.0 ≡ Some (D.Union u)
+        → u.form ≡ F.Inline key.now → passed_key acc.now own.0 ≡ Some key.now → UnionAnswer acc.now u t result }
     ensures within { IfOk result (λ p. IsPartOf acc.now ty.0 p.0) }
     ensures numbered { IfOk result (λ p. IsNumbered acc.now p.1) }
     ensures same { IfOk result (λ p. p.1 ≡ P.Inline node.now own.0) }

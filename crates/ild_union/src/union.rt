@@ -68,7 +68,9 @@ pub fn layer<'b>(acc: &'b Accepted, ty: TypeNo, piece: Piece<'b>) -> Result<(u32
     requires form { IsUnionType acc.now ty.0 }
     requires numbered { IsNumbered acc.now piece }
     requires once { IsPassedOnce acc.now ty.0 piece }
-    ensures answer { (t : Data) → StandsFor acc.now piece.entry t → MatchResult result (λ p. (d : Data) × StandsFor acc.now p.1 d × Layered acc.now ty.0 t (L.union p.0 d)) (λ w. Refused acc.now ty.0 t w) }
+    ensures answer { (t : Data) → StandsFor acc.now piece.entry t → MatchResult result
+        (λ p. (d : Data) × StandsFor acc.now p.1 d × Layered acc.now ty.0 t (L.union p.0 d))
+        (λ w. Refused acc.now ty.0 t w) }
     ensures within { IfOk result (λ p. IsPartOf acc.now (base acc.now ty.0) p.0) }
     ensures numbered { IfOk result (λ p. IsNumbered acc.now p.1) }
     ensures passed { IfOk result (λ p. IsPassedBy acc.now ty.0 piece.entry p.1) }

@@ -34,11 +34,13 @@ pub record IsMeantTyped (rows : List Row) (slot : Slot) (v : Value) : Type 0 whe
   pub rises : MapsRise v
 
 abbrev pub MeantIsTyped : Type 0
-MeantIsTyped = (rows : List Row) (is_key : ℕ → List ℕ → Bool) → IsSchema rows → TestsKeys rows is_key → (slot : Slot) (t : Data) (v : Value) → IsTree t → Meant rows is_key slot t v → IsMeantTyped rows slot v
+MeantIsTyped = (rows : List Row) (is_key : ℕ → List ℕ → Bool) → IsSchema rows → TestsKeys rows is_key
+    → (slot : Slot) (t : Data) (v : Value) → IsTree t → Meant rows is_key slot t v → IsMeantTyped rows slot v
 
 -- the shown form of a value whose maps rise shows it
 abbrev pub ShownIsMeant : Type 0
-ShownIsMeant = (rows : List Row) (is_key : ℕ → List ℕ → Bool) → IsSchema rows → TestsKeys rows is_key → (slot : Slot) (v : Value) → OfType rows slot v → MapsRise v → Meant rows is_key slot (shown rows slot v) v
+ShownIsMeant = (rows : List Row) (is_key : ℕ → List ℕ → Bool) → IsSchema rows → TestsKeys rows is_key
+    → (slot : Slot) (v : Value) → OfType rows slot v → MapsRise v → Meant rows is_key slot (shown rows slot v) v
 
 -- a tree means nothing exactly where some part of it breaks some rule
 abbrev pub NothingWhereBroken : Type 0

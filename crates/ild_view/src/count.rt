@@ -85,7 +85,8 @@ impl<'b> View<'b> {
     // How many entries a map of a form has.
     fn map_count(&self, form: &'b MapForm) -> Option<u64>
         requires { MapDelims form.now }
-        ensures { (t : Data) (es : List (List ℕ × Data)) → is_free (body_of self.now) ≡ true → BodyStands (table_of self.now) (body_of self.now) t → ShowsMap form.now es t → FormCount form.now es result }
+        ensures { (t : Data) (es : List (List ℕ × Data)) → is_free (body_of self.now) ≡ true
+            → BodyStands (table_of self.now) (body_of self.now) t → ShowsMap form.now es t → FormCount form.now es result }
     {
         match self.body {
             Body::Held(piece) => form_count(form, &piece),
