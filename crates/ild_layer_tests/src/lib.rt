@@ -1,4 +1,5 @@
-//! Tests of the layers of values in blocks: the member or the cause of a refusal that each call gives, a file a kind of type.
+//! Tests of the layers of values in blocks: the member or the cause of a refusal that each call gives, a file a kind of type; and of how texts
+//! are split.
 #![tactic(auto)]
 
 #[cfg(test)]
@@ -8,9 +9,13 @@ mod docs;
 #[cfg(test)]
 mod enums;
 #[cfg(test)]
+mod prefixes;
+#[cfg(test)]
 mod said;
 #[cfg(test)]
 mod seen;
+#[cfg(test)]
+mod splits;
 #[cfg(test)]
 mod structs;
 #[cfg(test)]

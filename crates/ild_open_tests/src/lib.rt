@@ -1,6 +1,8 @@
-//! Tests of opening values in which HAMTs stand more than once.
+//! Tests of trees of blocks that are read: values that are opened, in which HAMTs stand more than once, and two trees that are compared.
 #![tactic(auto)]
 
+#[cfg(test)]
+mod compared;
 #[cfg(test)]
 mod depths;
 #[cfg(test)]

@@ -1,5 +1,5 @@
 //! What the table of edits allows at a view, which keys fit, how much room an edit leaves, and where it leaves a hole: told by hand.
-use crate::told::view_of;
+use crate::seen::view_of;
 use hex::decode;
 use ild_cbor::check;
 use ild_compile::compile;

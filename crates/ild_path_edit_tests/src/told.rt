@@ -1,31 +1,15 @@
 //! What is told of an edit at a path of a block.
+use crate::seen::view_of;
 use hex::decode;
-use ild_cbor::{Node, check};
+use ild_cbor::check;
 use ild_compile::compile;
 use ild_path_block::PartEdit;
 use ild_path_delimiter::{TextEdit, breaks_delimiter};
 use ild_path_edit::block_of_edit;
-use ild_schema::{Accepted, Slot};
+use ild_schema::Accepted;
 use ild_script::{Line, Word, line_of};
 use ild_view::View;
 use std::alloc::Global;
-
-pub(crate) fn view_of<'b>(
-    alloc: Global,
-    acc: &'b Accepted,
-    name: &str,
-    root: Node<'b>,
-) -> Option<View<'b>> {
-    let ty = acc.type_named(name)?;
-    if ty.0 >= acc.types() {
-        return None;
-    }
-    let slot = Slot {
-        ty,
-        nullable: false,
-    };
-    View::check(alloc, acc, slot, root, 96).ok()
-}
 
 fn edit_of<'n>(verb: Word, item: &'n [u8]) -> Option<PartEdit<'n>> {
     match verb {

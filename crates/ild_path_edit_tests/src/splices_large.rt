@@ -1,5 +1,5 @@
 //! Holders in large blocks that an edit replaces as a whole, by large items. The blocks that are wanted are spelled part by part (DAG-CBOR).
-use crate::told::{path_of, view_of};
+use crate::seen::{path_of, view_of};
 use ild_cbor::check;
 use ild_compile::compile;
 use ild_data::Octets;

@@ -1,10 +1,9 @@
 //! What is told of an edit at a path of a block.
-use ild_cbor::{Node, check};
+use crate::seen::{path_of, view_of};
+use ild_cbor::check;
 use ild_compile::compile;
-use ild_data::{Path, Txt};
 use ild_path_block::{PartEdit, Spliced, spliced};
-use ild_schema::{Accepted, Slot};
-use ild_view::View;
+use ild_schema::Accepted;
 use std::alloc::Global;
 use std::process::Abort;
 use std::test::Fail;
@@ -18,31 +17,6 @@ pub type Row = (
     (&'static str, &'static [u8]),
     (&'static str, &'static [u8]),
 );
-
-pub(crate) fn view_of<'b>(
-    alloc: Global,
-    acc: &'b Accepted,
-    name: &str,
-    root: Node<'b>,
-) -> Option<View<'b>> {
-    let ty = acc.type_named(name)?;
-    if ty.0 >= acc.types() {
-        return None;
-    }
-    let slot = Slot {
-        ty,
-        nullable: false,
-    };
-    View::check(alloc, acc, slot, root, 96).ok()
-}
-
-pub(crate) fn path_of(alloc: Global, segments: &[&str]) -> Option<Path> {
-    let mut path = Path::new(alloc);
-    for segment in segments {
-        path.push(Txt::of(alloc, segment).ok()?).ok()?;
-    }
-    Some(path)
-}
 
 fn edit_of<'n>(verb: &str, new: &'n [u8]) -> Option<PartEdit<'n>> {
     match verb {

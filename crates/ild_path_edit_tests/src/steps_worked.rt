@@ -1,5 +1,5 @@
 //! Blocks that were worked out by hand, and the same with one part replaced.
-use crate::told::{Row, all_so};
+use crate::steps::{Row, all_so};
 use std::test::Fail;
 
 const SRC: &str =

@@ -1,5 +1,5 @@
 //! Edits whose blocks were worked out by hand, by the rules of DAG-CBOR and of IPLD Schemas.
-use crate::told::{Row, all_so};
+use crate::splices::{Row, all_so};
 use std::test::Fail;
 
 const SRC: &str =

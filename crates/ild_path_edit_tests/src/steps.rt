@@ -1,11 +1,12 @@
 //! What is told of the steps along a path in a block, and the block that a splice at their end makes.
+use crate::seen::{path_of, view_of};
 use ild_cbor::{Node, check};
 use ild_compile::compile;
-use ild_data::{Path, Txt};
+use ild_data::Path;
 use ild_path_holder::{last_holder, part_steps, steps_along};
 use ild_path_replaced::{Touch, node_along, replaced};
 use ild_path_steps::PartSteps;
-use ild_schema::{Accepted, Slot};
+use ild_schema::Accepted;
 use ild_splice::replace;
 use ild_view::View;
 use std::alloc::{AllocError, Global};
@@ -41,26 +42,6 @@ fn add(text: &mut String, steps: &PartSteps<'_>) -> Result<(), AllocError> {
             text.push_str(" ")
         }
     }
-}
-
-fn view_of<'b>(alloc: Global, acc: &'b Accepted, name: &str, root: Node<'b>) -> Option<View<'b>> {
-    let ty = acc.type_named(name)?;
-    if ty.0 >= acc.types() {
-        return None;
-    }
-    let slot = Slot {
-        ty,
-        nullable: false,
-    };
-    View::check(alloc, acc, slot, root, 96).ok()
-}
-
-fn path_of(alloc: Global, segments: &[&str]) -> Option<Path> {
-    let mut path = Path::new(alloc);
-    for segment in segments {
-        path.push(Txt::of(alloc, segment).ok()?).ok()?;
-    }
-    Some(path)
 }
 
 /// The steps along a path, and then from its last holder to the part at its last segment.
