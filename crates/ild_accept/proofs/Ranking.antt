@@ -5,7 +5,7 @@ use Rattle.std.specs.List.{Contains, list_all}
 use Rattle.std.proofs.lemmas.Bool.{cases_lt, cases_eq, ltb-true}
 use Rattle.ild_schema.specs.declared.row.Row.{Row}
 use Rattle.ild_schema.specs.Cycles.{steps_at, Reaches, IsCyclic}
-use Rattle.ild_accept.specs.Search.{rank_of, AreRanked, IsLow}
+use Rattle.ild_accept.specs.inside.Search.{rank_of, AreRanked, IsLow}
 use Rattle.ild_accept.proofs.Stepwise.{steps_past}
 
 first : (a b : Bool) → a && b ≡ true → a ≡ true

@@ -9,7 +9,7 @@ use Rattle.std.proofs.lemmas.List.Sums.{sum_by-set}
 use Rattle.std.proofs.lemmas.List.Folds.{list_any-append}
 use Rattle.ild_schema.specs.declared.row.Row.{Row}
 use Rattle.ild_schema.specs.Cycles.{steps_at, Reaches, IsCyclic, NoneIsCyclic}
-use Rattle.ild_accept.specs.Search.{is_marked, Has, Waits, one_if_unseen, unseen_count, Grown, Pushed, Searching}
+use Rattle.ild_accept.specs.inside.Search.{is_marked, Has, Waits, one_if_unseen, unseen_count, Grown, Pushed, Searching}
 use Rattle.ild_accept.proofs.Stepwise.{reach_more, cyclic_within}
 
 -- ---- marks

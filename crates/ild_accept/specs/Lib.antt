@@ -1,5 +1,3 @@
 pub mod Judged
-pub mod Last
-pub mod Search
 pub mod Verdict
-pub mod Held
+pub mod inside

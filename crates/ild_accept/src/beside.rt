@@ -4,7 +4,7 @@ ghost use Rattle.std.specs.List.{list_any};
 ghost use Rattle.ild_schema.specs.Places.{first_beside, first_place};
 ghost use Rattle.ild_schema.specs.declared.def.Field.{Field};
 ghost use Rattle.ild_schema.specs.Rules.{is_kind_wrong, is_not_bytes, is_optional_wrong, kind_fault, optional_fault, union_kind_fault};
-ghost use Rattle.ild_accept.specs.Held.{HoldsKinds};
+ghost use Rattle.ild_accept.specs.inside.Held.{HoldsKinds};
 
 use crate::kinds::{declared_kinds, kinds_at};
 use ild_schema::{

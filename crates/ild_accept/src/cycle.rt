@@ -3,7 +3,7 @@
 ghost use Rattle.std.specs.Prelude.{◌≡◌, ◌<◌, All, Contains, IfOk, IfSome, MatchBool, MatchOption, OnOk, false, length, nat_lt, replicate, true, ℕ};
 ghost use Rattle.std.specs.List.{list_all};
 ghost use Rattle.ild_schema.specs.Cycles.{FirstIsCyclic, IsCyclic, NoneIsCyclic, steps_at, steps_of, struct_steps, union_steps};
-ghost use Rattle.ild_accept.specs.Search.{AreRanked, Grown, IsLow, Pushed, is_marked, rank_of};
+ghost use Rattle.ild_accept.specs.inside.Search.{AreRanked, Grown, IsLow, Pushed, is_marked, rank_of};
 
 use crate::rank::{rank_of, ranks_of};
 use ild_schema::{Schema, StructDef, StructForm, TypeDef, TypeNo, UnionDef, UnionForm};

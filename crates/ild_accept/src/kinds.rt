@@ -1,7 +1,7 @@
 //! The kinds that the representation of a type may have (IPLD Schemas, "Representations").
 ghost use Rattle.std.specs.Prelude.{◌≡◌, ◌<◌, IfOk, length, option_map};
 ghost use Rattle.ild_schema.specs.Kinds.{all_but_null, declared_kinds, def_kinds, enum_kinds, has_text_form, kinds_of, map_kinds, meant, struct_kinds, union_kinds, unit_kinds, with_mark};
-ghost use Rattle.ild_accept.specs.Held.{HoldsKinds};
+ghost use Rattle.ild_accept.specs.inside.Held.{HoldsKinds};
 
 use ild_schema::{
     EnumForm, KindWord, Kinds, MapForm, Mark, Member, Schema, StructForm, TypeDef, TypeNo,

@@ -3,7 +3,7 @@ ghost use Rattle.std.specs.Prelude.{◌≡◌, ◌&&◌, not, Some};
 ghost use Rattle.ild_schema.specs.Places.{first_place};
 ghost use Rattle.ild_schema.specs.Rules.{implicit_fault, inline_fault, is_implicit_wrong, is_inline, is_map_struct, is_no_text, is_null_twice, is_of, is_text_map, is_text_struct, is_text_union, key_fault, null_fault, text_fault};
 ghost use Rattle.ild_schema.specs.Kinds.{has_text_form, meant};
-ghost use Rattle.ild_accept.specs.Held.{HoldsKinds};
+ghost use Rattle.ild_accept.specs.inside.Held.{HoldsKinds};
 
 use crate::kinds::{has_text_form, kinds_at, meant};
 use ild_schema::{

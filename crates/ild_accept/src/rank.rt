@@ -1,7 +1,7 @@
 //! Ranks of types, so that no step leads to a higher rank, and all but those on cycles lead to lower ones. No contract says
 //! so: who uses the ranks tests them, which costs one look at each step.
 ghost use Rattle.std.specs.Prelude.{◌≡◌};
-ghost use Rattle.ild_accept.specs.Search.{rank_of};
+ghost use Rattle.ild_accept.specs.inside.Search.{rank_of};
 
 use crate::cycle::steps_at;
 use ild_schema::{Schema, TypeNo};

@@ -3,8 +3,8 @@ ghost use Rattle.std.specs.Prelude.{◌≡◌, ◌<◌, IfOk, Some, length};
 ghost use Rattle.ild_schema.specs.Accept.{fails_at, first_failing, type_fault};
 ghost use Rattle.ild_schema.specs.Table.{def_at};
 ghost use Rattle.ild_accept.specs.Judged.{Tells};
-ghost use Rattle.ild_accept.specs.Held.{HoldsKinds};
-ghost use Rattle.ild_accept.specs.Last.{last_fault, later_fault};
+ghost use Rattle.ild_accept.specs.inside.Held.{HoldsKinds};
+ghost use Rattle.ild_accept.specs.inside.Last.{last_fault, later_fault};
 
 use crate::AcceptErr;
 use crate::beside::{kind_fault, optional_fault};

@@ -22,7 +22,7 @@ use Rattle.ild_schema.specs.Clashes.{is_field_again, is_value_again, is_member_a
 use Rattle.ild_schema.specs.Marks.{text_of, field_text, is_marked, is_valued, member_text, member_integer}
 use Rattle.ild_schema.specs.Parts.{is_text, part_named, part_spelled}
 use Rattle.ild_schema.specs.Table.{def_at}
-use Rattle.ild_accept_rules.specs.Seen.{first_named, first_spelled, is_before, is_one, is_seen}
+use Rattle.ild_accept_rules.specs.inside.Seen.{first_named, first_spelled, is_before, is_one, is_seen}
 use Rattle.ild_accept_rules.proofs.Stepping.{take_here}
 use Rattle.ild_accept_rules.proofs.Texts.{bytes_eq_back, bytes_same, texts_same, texts_differ}
 

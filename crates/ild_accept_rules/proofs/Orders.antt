@@ -10,7 +10,7 @@ use Rattle.std.proofs.lemmas.Bool.{cases_lt, cases_eq, le-ltb, lt-ltb, eq-eqb, n
 use Rattle.std.proofs.lemmas.List.Folds.{list_any-append}
 use Rattle.std.proofs.lemmas.List.Edits.{get_or-insert_at, get_or-insert_below, get_or-insert_above, length-insert}
 use Rattle.ild_schema.specs.Prefixes.{touch}
-use Rattle.ild_accept_rules.specs.Ordered.{prefix_cmp, IsApart, IsBetween}
+use Rattle.ild_accept_rules.specs.inside.Ordered.{prefix_cmp, IsApart, IsBetween}
 
 -- ---- the order
 

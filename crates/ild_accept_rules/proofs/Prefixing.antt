@@ -8,7 +8,7 @@ use Rattle.ild_schema.specs.declared.def.Member.{Member}
 use Rattle.ild_schema.specs.Delimiters.{is_empty}
 use Rattle.ild_schema.specs.Places.{first_beside}
 use Rattle.ild_schema.specs.Prefixes.{prefix_of, touch, prefix_fails}
-use Rattle.ild_accept_rules.specs.Seen.{with_prefix}
+use Rattle.ild_accept_rules.specs.inside.Seen.{with_prefix}
 use Rattle.ild_accept_rules.proofs.Stepping.{beside_next, beside_found, take_here}
 
 any_filter : {A B : Type 0} (p : B → Bool) (g : A → Option B) (xs : List A) → list_any p (filter_map g xs) ≡ list_any (λ x. option_map_or p (g x) false) xs

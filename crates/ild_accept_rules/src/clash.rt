@@ -12,7 +12,7 @@ ghost use Rattle.ild_schema.specs.Places.{first_beside};
 ghost use Rattle.ild_schema.specs.Table.{def_at, parts_of};
 ghost use Rattle.ild_schema.specs.declared.def.EnumForm.TheVariants as E;
 ghost use Rattle.ild_schema.specs.declared.def.TypeDef.TheVariants as D;
-ghost use Rattle.ild_accept_rules.specs.Seen.{first_named, first_spelled, is_before, is_one, is_seen, is_member_seen, is_told_before};
+ghost use Rattle.ild_accept_rules.specs.inside.Seen.{first_named, first_spelled, is_before, is_one, is_seen, is_member_seen, is_told_before};
 
 use crate::seen::{is_before, see_first, see_number};
 use ild_data::Txt;

@@ -5,8 +5,8 @@ ghost use Rattle.std.specs.Option.{option_map_or};
 ghost use Rattle.ild_schema.specs.Delimiters.{is_empty};
 ghost use Rattle.ild_schema.specs.Places.{first_beside};
 ghost use Rattle.ild_schema.specs.Prefixes.{prefix_fails, prefix_fault, prefix_of, touch};
-ghost use Rattle.ild_accept_rules.specs.Ordered.{IsApart, IsBetween, prefix_cmp};
-ghost use Rattle.ild_accept_rules.specs.Seen.{with_prefix};
+ghost use Rattle.ild_accept_rules.specs.inside.Ordered.{IsApart, IsBetween, prefix_cmp};
+ghost use Rattle.ild_accept_rules.specs.inside.Seen.{with_prefix};
 
 use crate::hex::bytes_of_hex;
 use ild_data::{Octets, Txt};

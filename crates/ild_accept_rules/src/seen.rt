@@ -2,7 +2,7 @@
 ghost use Rattle.std.specs.Prelude.{◌≡◌, ◌<◌, ℕ, ℤ, IfOk, IfSome, OnOk, Option, cond, length, true};
 ghost use Rattle.std.specs.BTreeSet.{contains};
 ghost use Rattle.std.specs.Ordering.{int_cmp, int_eq};
-ghost use Rattle.ild_accept_rules.specs.Seen.{is_before, is_one, is_seen};
+ghost use Rattle.ild_accept_rules.specs.inside.Seen.{is_before, is_one, is_seen};
 
 use std::alloc::AllocError;
 use std::collections::BTreeSet;

@@ -30,12 +30,12 @@ use Rattle.ild_typed.proofs.NodeElements.{block-link, id-read}
 use Rattle.ild_typed.specs.NodeReading.{id_in, links_block, pair_in}
 use Rattle.ild_beneath.specs.Parts.{named_parts}
 use Rattle.ild_beneath.proofs.Nodes.{flat_append}
-use Rattle.ild_beneath_read.specs.Left.{IsLeft, OfFields, OfItems, SplitsOff, in_slot, value_parts}
-use Rattle.ild_beneath_read.specs.Opened.{IsElements, Opens}
-use Rattle.ild_beneath_read.specs.Pairs.{IsPairOf}
-use Rattle.ild_beneath_read.specs.Pushes.{Pushes, told}
+use Rattle.ild_beneath_read.specs.inside.Left.{IsLeft, OfFields, OfItems, SplitsOff, in_slot, value_parts}
+use Rattle.ild_beneath_read.specs.inside.Opened.{IsElements, Opens}
+use Rattle.ild_beneath_read.specs.inside.Pairs.{IsPairOf}
+use Rattle.ild_beneath_read.specs.inside.Pushes.{Pushes, told}
 use Rattle.ild_beneath_read.proofs.Looking.{named_is}
-use Rattle.ild_beneath_read.specs.Fields.{AllFound, looked_up}
+use Rattle.ild_beneath_read.specs.inside.Fields.{AllFound, looked_up}
 use Rattle.ild_beneath_read.specs.declared.opened.Opened.TheVariants as O
 use Rattle.ild_beneath_read.specs.declared.parts.Parts.{Parts}
 

@@ -35,7 +35,7 @@ use Rattle.ild_schema.specs.declared.row.Row.{Row}
 use Rattle.ild_typed.specs.Named.{where_some}
 use Rattle.ild_typed.specs.Slots.{slot_of}
 use Rattle.ild_typed.specs.Strings.{map_data, members_in}
-use Rattle.ild_beneath_read.specs.Opened.{AreMapStructs, IsReady, IsWhole, MembersIn, Parted, PassesInStruct, opened_member, slot_found}
+use Rattle.ild_beneath_read.specs.inside.Opened.{AreMapStructs, IsReady, IsWhole, MembersIn, Parted, PassesInStruct, opened_member, slot_found}
 
 -- ---- by a text
 

@@ -23,8 +23,8 @@ use Rattle.ild_schema.specs.declared.def.Field.{Field}
 use Rattle.ild_typed.specs.Named.{entry_of, items_or, pair_entries}
 use Rattle.ild_typed.specs.StructWhy.{is_name_of, place_of}
 use Rattle.ild_beneath.specs.Parts.{named_part, named_parts}
-use Rattle.ild_beneath_read.specs.Fields.{AllFound, first_kept, is_free, looked_up, noted}
-use Rattle.ild_beneath_read.specs.Pairs.{IsNamed}
+use Rattle.ild_beneath_read.specs.inside.Fields.{AllFound, first_kept, is_free, looked_up, noted}
+use Rattle.ild_beneath_read.specs.inside.Pairs.{IsNamed}
 
 -- ---- places
 

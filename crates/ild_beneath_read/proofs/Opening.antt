@@ -37,9 +37,9 @@ use Rattle.ild_schema.specs.declared.number.TypeNo.{TypeNo}
 use Rattle.ild_schema.specs.declared.row.Row.{Row}
 use Rattle.ild_typed.specs.Named.{items_in, pair_entries}
 use Rattle.ild_typed.specs.Strings.{members_in}
-use Rattle.ild_beneath_read.specs.Left.{FieldsIn, OfEntries, OfItems}
-use Rattle.ild_beneath_read.specs.Opened.{MembersIn, Opens, OpensRoot, Parted, is_leaf}
-use Rattle.ild_beneath_read.specs.Pushes.{told}
+use Rattle.ild_beneath_read.specs.inside.Left.{FieldsIn, OfEntries, OfItems}
+use Rattle.ild_beneath_read.specs.inside.Opened.{MembersIn, Opens, OpensRoot, Parted, is_leaf}
+use Rattle.ild_beneath_read.specs.inside.Pushes.{told}
 use Rattle.ild_beneath_read.specs.declared.opened.Opened.{Opened}
 use Rattle.ild_beneath_read.specs.declared.opened.Opened.TheVariants as O
 

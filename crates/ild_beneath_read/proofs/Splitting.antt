@@ -15,8 +15,8 @@ use Rattle.ild_open_held.specs.Splits.{Part, element_parts, entry_parts}
 use Rattle.ild_schema.specs.declared.number.Slot.{Slot}
 use Rattle.ild_typed.specs.Named.{entry_of, items_or, pair_entries}
 use Rattle.ild_typed.specs.NodeReading.{pair_in}
-use Rattle.ild_beneath_read.specs.Left.{OfEntries, OfItems, SplitsOff, in_slot, value_parts}
-use Rattle.ild_beneath_read.specs.Pairs.{IsNamed}
+use Rattle.ild_beneath_read.specs.inside.Left.{OfEntries, OfItems, SplitsOff, in_slot, value_parts}
+use Rattle.ild_beneath_read.specs.inside.Pairs.{IsNamed}
 use Rattle.ild_beneath_read.specs.declared.parts.Parts.TheVariants as P
 
 -- ---- items

@@ -1,5 +1,1 @@
-pub mod Fields
-pub mod Left
-pub mod Opened
-pub mod Pairs
-pub mod Pushes
+pub mod inside

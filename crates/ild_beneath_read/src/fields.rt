@@ -5,7 +5,7 @@ ghost use Rattle.ild_data.specs.Data.{Data, Items as Parts, items_list};
 ghost use Rattle.ild_layer_piece.specs.Entries.{HasLeft};
 ghost use Rattle.ild_schema.specs.Clear.{AreNamesApart};
 ghost use Rattle.ild_typed.specs.Named.{pair_entries};
-ghost use Rattle.ild_beneath_read.specs.Fields.{AllFound, is_free, looked_up, noted};
+ghost use Rattle.ild_beneath_read.specs.inside.Fields.{AllFound, is_free, looked_up, noted};
 
 use crate::pair::named;
 use ild_cbor::{Items, Node};

@@ -13,7 +13,7 @@ ghost use Rattle.ild_schema.specs.declared.def.UnionForm.TheVariants as UF;
 ghost use Rattle.ild_typed.specs.Kinds.{kind_of};
 ghost use Rattle.ild_typed.specs.Named.{where_some};
 ghost use Rattle.ild_typed.specs.Slots.{slot_of};
-ghost use Rattle.ild_beneath_read.specs.Opened.{AreMapStructs, IsReady, IsWhole, MembersIn, Parted, opened_member, slot_found};
+ghost use Rattle.ild_beneath_read.specs.inside.Opened.{AreMapStructs, IsReady, IsWhole, MembersIn, Parted, opened_member, slot_found};
 
 use crate::opened::Opened;
 use ild_cbor::{Kind, Piece};

@@ -4,8 +4,8 @@ ghost use Rattle.ild_beneath.specs.Children.{Child as Told, element_children};
 ghost use Rattle.ild_cbor.specs.Nodes.{Stands};
 ghost use Rattle.ild_data.specs.CidView.{cid_bytes};
 ghost use Rattle.ild_data.specs.Data.{Data, link};
-ghost use Rattle.ild_beneath_read.specs.Opened.{IsElements};
-ghost use Rattle.ild_beneath_read.specs.Pushes.{Pushes};
+ghost use Rattle.ild_beneath_read.specs.inside.Opened.{IsElements};
+ghost use Rattle.ild_beneath_read.specs.inside.Pushes.{Pushes};
 
 use crate::pair::pair_of;
 use ild_cbor::{Items, Node};

@@ -5,7 +5,7 @@ ghost use Rattle.ild_data.specs.Data.{Data};
 ghost use Rattle.ild_layer_piece.specs.Entries.{Found};
 ghost use Rattle.ild_typed.specs.Named.{entry_of, items_or};
 ghost use Rattle.ild_typed.specs.NodeReading.{pair_in};
-ghost use Rattle.ild_beneath_read.specs.Pairs.{IsNamed, IsPairOf};
+ghost use Rattle.ild_beneath_read.specs.inside.Pairs.{IsNamed, IsPairOf};
 
 use ild_cbor::Node;
 

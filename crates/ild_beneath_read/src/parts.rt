@@ -2,7 +2,7 @@
 ghost use Rattle.std.specs.Prelude.{◌<◌, IfSome, List};
 ghost use Rattle.ild_open_held.specs.Splits.{Part};
 ghost use Rattle.ild_schema.specs.declared.row.Row.{Row};
-ghost use Rattle.ild_beneath_read.specs.Left.{AreWithin, AreWithinBoth, IsLeft, Splits, parts_left};
+ghost use Rattle.ild_beneath_read.specs.inside.Left.{AreWithin, AreWithinBoth, IsLeft, Splits, parts_left};
 ghost use Rattle.ild_beneath_read.specs.declared.parts.Parts.TheVariants as P;
 
 use crate::pair::{entry_value, named};

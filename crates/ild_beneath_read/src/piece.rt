@@ -7,8 +7,8 @@ ghost use Rattle.ild_schema.specs.Rows.{def_at};
 ghost use Rattle.ild_schema.specs.Table.{IsWithin};
 ghost use Rattle.ild_schema.specs.declared.def.TypeDef.TheVariants as D;
 ghost use Rattle.ild_schema.specs.declared.row.Row.{Row};
-ghost use Rattle.ild_beneath_read.specs.Left.{IsIn};
-ghost use Rattle.ild_beneath_read.specs.Opened.{IsReady, Opens, OpensRoot, Parted, PassesInStruct, is_leaf};
+ghost use Rattle.ild_beneath_read.specs.inside.Left.{IsIn};
+ghost use Rattle.ild_beneath_read.specs.inside.Opened.{IsReady, Opens, OpensRoot, Parted, PassesInStruct, is_leaf};
 
 use crate::member::open_union;
 use crate::opened::Opened;

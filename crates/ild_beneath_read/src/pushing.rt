@@ -11,9 +11,9 @@ ghost use Rattle.ild_layer_piece.specs.Pieces.{IsNumbered, StandsFor};
 ghost use Rattle.ild_open_held.specs.Splits.{Part};
 ghost use Rattle.ild_schema.specs.Clear.{AreNamesApart};
 ghost use Rattle.ild_typed.specs.Named.{pair_entries};
-ghost use Rattle.ild_beneath_read.specs.Left.{AreWithin, FieldsIn, IsIn, IsLeft};
-ghost use Rattle.ild_beneath_read.specs.Opened.{PassesInStruct};
-ghost use Rattle.ild_beneath_read.specs.Pushes.{Pushes, told};
+ghost use Rattle.ild_beneath_read.specs.inside.Left.{AreWithin, FieldsIn, IsIn, IsLeft};
+ghost use Rattle.ild_beneath_read.specs.inside.Opened.{PassesInStruct};
+ghost use Rattle.ild_beneath_read.specs.inside.Pushes.{Pushes, told};
 
 use crate::fields::{found_in_list, found_in_map};
 use crate::node::{elements_of, push_link};

@@ -6,8 +6,8 @@ ghost use Rattle.ild_data.specs.Data.{Data};
 ghost use Rattle.ild_dirty.specs.Beneath.{child_seen};
 ghost use Rattle.ild_schema.specs.Kinds.{meant};
 ghost use Rattle.ild_typed.specs.Slots.{element_of};
-ghost use Rattle.ild_beneath_read.specs.Left.{IsIn};
-ghost use Rattle.ild_beneath_read.specs.Pushes.{Pushes};
+ghost use Rattle.ild_beneath_read.specs.inside.Left.{IsIn};
+ghost use Rattle.ild_beneath_read.specs.inside.Pushes.{Pushes};
 
 use crate::pushing::{push_node, push_slot};
 use ild_beneath::data_are_read;

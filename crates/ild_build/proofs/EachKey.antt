@@ -23,7 +23,7 @@ use Rattle.ild_typed.specs.Layers.{Shows}
 use Rattle.ild_typed.specs.OfType.{OfType}
 use Rattle.ild_typed.proofs.FormOf.{any_form}
 use Rattle.ild_typed.proofs.OneLayer.{in_layer}
-use Rattle.ild_build.specs.KeysIn.{KeysIn, IsPlainLayer}
+use Rattle.ild_build.specs.inside.KeysIn.{KeysIn, IsPlainLayer}
 use Rattle.ild_build.proofs.PartTests.{below_next}
 use Rattle.ild_build.proofs.RoomParts.{to_room, in_room}
 

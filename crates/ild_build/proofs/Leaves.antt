@@ -19,7 +19,7 @@ use Rattle.ild_typed.specs.Levels.{levels_of}
 use Rattle.ild_typed.specs.OfType.{OfType}
 use Rattle.ild_typed.specs.Slots.{element_of, fields_of, member_of}
 use Rattle.ild_typed.proofs.OneLayer.{in_layer, null_in}
-use Rattle.ild_build.specs.Leaf.{IsLeaf, HasLeaves, is_bare}
+use Rattle.ild_build.specs.inside.Leaf.{IsLeaf, HasLeaves, is_bare}
 use Rattle.ild_build.specs.PartAt.{field_at, member_at, part_at, places}
 use Rattle.ild_build.proofs.PartTests.{at_of, by_parts}
 use Rattle.ild_build.proofs.RoomParts.{null_room, to_leaf}

@@ -28,7 +28,7 @@ use Rattle.ild_typed.specs.Slots.{element_of, fields_of, member_of, slot_of}
 use Rattle.ild_typed.proofs.FormOf.{there_entries, entries_there, boolean_form, integer_form, text_form, bytes_form, link_form, any_form, unit_form, enum_form, list_form, struct_form, union_form, map_form}
 use Rattle.ild_typed.proofs.OneLayer.{in_layer, from_form, past_over}
 use Rattle.ild_typed.proofs.Rooms.{layer_more, fits_more, past_less}
-use Rattle.ild_build.specs.KeysIn.{KeysIn, IsPlainLayer}
+use Rattle.ild_build.specs.inside.KeysIn.{KeysIn, IsPlainLayer}
 use Rattle.ild_build.specs.PartAt.{field_at, places, part_at}
 use Rattle.ild_build.proofs.PartTests.{placed, part_placed, PartsBefore}
 use Rattle.ild_build.proofs.PartFits.{part_fits}

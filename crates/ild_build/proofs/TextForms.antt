@@ -54,7 +54,7 @@ use Rattle.ild_typed.proofs.PartData.{values_data, member_data}
 use Rattle.ild_typed.proofs.OneValue.{Way, as_null, as_layer, way_of, layer_data, scalar_of, scalar_value}
 use Rattle.ild_build.specs.LeftOut.{has_scalar, is_left_out}
 use Rattle.ild_build.specs.TextRep.{text_rep}
-use Rattle.ild_build.specs.TextParts.{field_texts, field_pairs, entry_texts, by_form, member_text_rep}
+use Rattle.ild_build.specs.inside.TextParts.{field_texts, field_pairs, entry_texts, by_form, member_text_rep}
 
 -- ---- options
 

@@ -17,7 +17,7 @@ use Rattle.ild_path_text.specs.Left.{between}
 use Rattle.ild_path_text.proofs.Drafts.{joined_push}
 use Rattle.ild_build.specs.LeftOut.{is_left_out}
 use Rattle.ild_build.specs.TextRep.{text_rep, TextAnswer}
-use Rattle.ild_build.specs.TextParts.{field_texts, field_pairs, pair_added}
+use Rattle.ild_build.specs.inside.TextParts.{field_texts, field_pairs, pair_added}
 
 -- ---- texts with delimiters
 

@@ -27,7 +27,7 @@ use Rattle.ild_typed.specs.Texts.{is_parted}
 use Rattle.ild_build.specs.LeftOut.{is_left_out}
 use Rattle.ild_build.specs.PartAt.{field_at}
 use Rattle.ild_build.specs.TextRep.{text_rep, Appended, TextAnswer}
-use Rattle.ild_build.specs.TextParts.{field_texts, field_pairs, entry_texts, pair_added}
+use Rattle.ild_build.specs.inside.TextParts.{field_texts, field_pairs, entry_texts, pair_added}
 use Rattle.ild_build.proofs.PartTests.{field_is}
 use Rattle.ild_build.proofs.Seams.{seam}
 use Rattle.ild_build.proofs.Texting.{drop_got}

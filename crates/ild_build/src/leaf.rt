@@ -2,7 +2,7 @@
 ghost use Rattle.std.specs.Prelude.{◌≡◌, ◌<◌, true, length};
 ghost use Rattle.ild_schema.specs.Table.{IsWithin};
 ghost use Rattle.ild_schema.specs.Value.{Value};
-ghost use Rattle.ild_build.specs.Leaf.{HasLeaves, IsLeaf, is_bare};
+ghost use Rattle.ild_build.specs.inside.Leaf.{HasLeaves, IsLeaf, is_bare};
 
 use crate::form::form_of;
 use crate::parts::element_of;

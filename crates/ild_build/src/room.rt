@@ -8,7 +8,7 @@ ghost use Rattle.ild_schema.specs.ValueSeen.{value_of};
 ghost use Rattle.ild_typed.specs.Fits.{Fits};
 ghost use Rattle.ild_typed.specs.Levels.{levels_of, map_levels, struct_levels};
 ghost use Rattle.ild_typed.specs.OfType.{OfType};
-ghost use Rattle.ild_build.specs.KeysIn.{IsPlainLayer, KeysIn};
+ghost use Rattle.ild_build.specs.inside.KeysIn.{IsPlainLayer, KeysIn};
 
 use crate::form::form_of;
 use crate::leaf::{has_leaves, is_leaf};

@@ -8,7 +8,7 @@ ghost use Rattle.ild_schema.specs.declared.def.TypeDef.TheVariants as D;
 ghost use Rattle.ild_typed.specs.Texts.{join, join_pairs};
 ghost use Rattle.ild_path_text.specs.Left.{between};
 ghost use Rattle.ild_build.specs.TextRep.{TextAnswer, text_rep};
-ghost use Rattle.ild_build.specs.TextParts.{entry_texts, field_pairs, field_texts, member_text_rep, pair_added};
+ghost use Rattle.ild_build.specs.inside.TextParts.{entry_texts, field_pairs, field_texts, member_text_rep, pair_added};
 
 use crate::delims::Delims;
 use crate::form::form_of;

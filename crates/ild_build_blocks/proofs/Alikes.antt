@@ -7,7 +7,7 @@ use Rattle.std.specs.Cmp.Lexicographic.{same_text as text_same, nat_list_eq_equi
 use Rattle.ild_data.specs.Key.{same_text}
 use Rattle.ild_data.specs.Limits.{longest_block}
 use Rattle.ild_edges.specs.Among.{IsIn}
-use Rattle.ild_build_blocks.specs.Planned.{AreAlike}
+use Rattle.ild_build_blocks.specs.inside.Planned.{AreAlike}
 use Rattle.ild_build_entries.specs.Entries.{over}
 use Rattle.ild_build_pass.proofs.Flow.{over_long, short_of}
 

@@ -20,7 +20,7 @@ use Rattle.ild_typed.specs.Blocks.{nodes}
 use Rattle.ild_typed_places.specs.Places.{places_in}
 use Rattle.ild_bulk_places.proofs.Putting.{puts_leave}
 use Rattle.ild_build_blocks.specs.Builds.{BuildAnswer, Builds, HasBlocks, PutsSome}
-use Rattle.ild_build_blocks.specs.Planned.{AreAlike, IsPlanned, Plans, StoppedBy}
+use Rattle.ild_build_blocks.specs.inside.Planned.{AreAlike, IsPlanned, Plans, StoppedBy}
 use Rattle.ild_build_blocks.specs.declared.fault.BuildFault.{BuildFault}
 use Rattle.ild_build_blocks.specs.declared.fault.BuildFault.TheVariants as B
 use Rattle.ild_build_blocks.specs.declared.planned.Planned.{Planned}

@@ -22,7 +22,7 @@ use Rattle.ild_typed.specs.Typed.{Typed}
 use Rattle.ild_build_blocks.specs.Builds.{IsTooLong}
 use Rattle.ild_build_pass.specs.Fitting.{FitsIn}
 use Rattle.ild_build_leaf.specs.Made.{made}
-use Rattle.ild_build_blocks.specs.Planned.{IsPlanned}
+use Rattle.ild_build_blocks.specs.inside.Planned.{IsPlanned}
 use Rattle.ild_build_entries.specs.Entries.{over}
 use Rattle.ild_build_pass.specs.Weights.{beneath, crowded, weigh}
 use Rattle.ild_build_entries.specs.Fine.{told, IsFine}

@@ -1,2 +1,2 @@
 pub mod Builds
-pub mod Planned
+pub mod inside

@@ -7,7 +7,7 @@ ghost use Rattle.ild_typed.specs.Fits.{Fits};
 ghost use Rattle.ild_typed.specs.Judged.{breaks_delimiter, has_hole};
 ghost use Rattle.ild_typed.specs.Typed.{Typed};
 ghost use Rattle.ild_build_blocks.specs.Builds.{Builds};
-ghost use Rattle.ild_build_blocks.specs.Planned.{StoppedBy};
+ghost use Rattle.ild_build_blocks.specs.inside.Planned.{StoppedBy};
 
 use crate::fault::BuildFault;
 use crate::plan::plan;

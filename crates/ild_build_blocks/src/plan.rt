@@ -5,7 +5,7 @@ ghost use Rattle.ild_schema.specs.ValueSeen.{value_of};
 ghost use Rattle.ild_typed.specs.Fits.{Fits};
 ghost use Rattle.ild_typed.specs.Judged.{breaks_delimiter, has_hole};
 ghost use Rattle.ild_typed.specs.Typed.{Typed};
-ghost use Rattle.ild_build_blocks.specs.Planned.{Plans};
+ghost use Rattle.ild_build_blocks.specs.inside.Planned.{Plans};
 
 use crate::fault::BuildFault;
 use crate::planned::Planned;

@@ -19,7 +19,7 @@ use Rattle.ild_schema.specs.Rows.{def_at}
 use Rattle.ild_schema.specs.Rules.{is_map_form, is_map_struct}
 use Rattle.ild_schema.specs.Slots.{form_of}
 use Rattle.ild_build.proofs.EachKey.{one_of}
-use Rattle.ild_build_pass.specs.Places.{texts_of}
+use Rattle.ild_build_pass.specs.inside.Places.{texts_of}
 
 pub past : {A : Type 0} (xs : List A) (n : ℕ) → n ≡ length xs → slice_get xs n ≡ None
 past xs n e = ap (slice_get xs) e ∙ by xs

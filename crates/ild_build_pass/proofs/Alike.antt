@@ -12,8 +12,8 @@ use Rattle.ild_schema.specs.declared.row.Row.{Row}
 use Rattle.ild_schema.specs.Value.{Value}
 use Rattle.ild_typed.specs.Hamt.{whole}
 use Rattle.ild_typed.specs.Strings.{in_key_order}
-use Rattle.ild_build_pass.specs.Made.{both}
-use Rattle.ild_build_pass.specs.Places.{in_order, place_made, places_made, value_made}
+use Rattle.ild_build_pass.specs.inside.Made.{both}
+use Rattle.ild_build_pass.specs.inside.Places.{in_order, place_made, places_made, value_made}
 
 module _ (value : ℕ → Option (List ℕ)) where
   abbrev pub Stands : List ℕ × ℕ → List ℕ × Data → Type 0

@@ -13,7 +13,7 @@ use Rattle.ild_emit.proofs.Growing.{grown_then}
 use Rattle.ild_schema.specs.declared.row.Row.{Row}
 use Rattle.ild_typed.proofs.Basics.{map_from}
 use Rattle.ild_build_entries.proofs.Flags.{set_none}
-use Rattle.ild_build_pass.specs.Made.{both}
+use Rattle.ild_build_pass.specs.inside.Made.{both}
 use Rattle.ild_build_entries.specs.Entries.{over}
 use Rattle.ild_build_pass.specs.Placed.{PlacedIn}
 use Rattle.ild_build_pass.proofs.Placing.{placed_more, placed_append}

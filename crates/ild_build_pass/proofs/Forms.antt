@@ -28,7 +28,7 @@ use Rattle.ild_typed.proofs.Basics.{map_from}
 use Rattle.ild_typed.proofs.Entries.{both_from}
 use Rattle.ild_build_pass.specs.Weights.{hamt_made}
 use Rattle.ild_build_leaf.specs.Made.{made}
-use Rattle.ild_build_pass.specs.Made.{both, counted, items_made, entries_made}
+use Rattle.ild_build_pass.specs.inside.Made.{both, counted, items_made, entries_made}
 
 module _ (hash : List ℕ → List ℕ) (rows : List Row) where
   -- ---- lists

@@ -25,9 +25,9 @@ use Rattle.ild_build_leaf.specs.Kept.{count_written}
 use Rattle.ild_build_entries.specs.declared.nodes.Nodes.{Nodes}
 use Rattle.ild_build_entries.proofs.Marked.{on_ok}
 use Rattle.ild_build_pass.specs.Fitting.{IsApartFrom}
-use Rattle.ild_build_pass.specs.Fronts.{SplitsAt}
-use Rattle.ild_build_pass.specs.Made.{both, counted, marked_made}
-use Rattle.ild_build_pass.specs.Places.{in_order, named, places_from, places_made, written_of}
+use Rattle.ild_build_pass.specs.inside.Fronts.{SplitsAt}
+use Rattle.ild_build_pass.specs.inside.Made.{both, counted, marked_made}
+use Rattle.ild_build_pass.specs.inside.Places.{in_order, named, places_from, places_made, written_of}
 use Rattle.ild_build_pass.specs.Weights.{Weight, places_weight, weigh}
 use Rattle.ild_build_pass.specs.Writes.{Writes}
 use Rattle.ild_build_pass.proofs.Flow.{from}

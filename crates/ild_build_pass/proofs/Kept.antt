@@ -21,7 +21,7 @@ use Rattle.ild_build.specs.PartAt.{field_at}
 use Rattle.ild_build.proofs.EachKey.{one_of}
 use Rattle.ild_build.proofs.Texting.{drop_got, drop_all}
 use Rattle.ild_build_leaf.specs.Kept.{is_before, kept_at}
-use Rattle.ild_build_pass.specs.Places.{in_order, is_written, name_at, named, places_from, texts_of, written_of}
+use Rattle.ild_build_pass.specs.inside.Places.{in_order, is_written, name_at, named, places_from, texts_of, written_of}
 use Rattle.ild_build_pass.proofs.Keyed.{below_some, kept_is as kept_are, keyed}
 use Rattle.ild_build_leaf.proofs.Turns.{kept_is, kept_none}
 use Rattle.ild_build_leaf.proofs.Ordered.{got_at, less_is}

@@ -18,7 +18,7 @@ use Rattle.ild_typed.proofs.Entries.{value_put}
 use Rattle.ild_typed.proofs.Rising.{below_none, rising_same}
 use Rattle.ild_build.specs.LeftOut.{is_left_out}
 use Rattle.ild_build.specs.PartAt.{field_at}
-use Rattle.ild_build_pass.specs.Places.{in_order, is_written, name_at, named, places_from, texts_of, written_of}
+use Rattle.ild_build_pass.specs.inside.Places.{in_order, is_written, name_at, named, places_from, texts_of, written_of}
 
 -- ---- some of pairs that rise
 

@@ -39,8 +39,8 @@ use Rattle.ild_build_leaf.specs.Wrote.{Wrote}
 use Rattle.ild_build_entries.specs.declared.nodes.Nodes.{Nodes}
 use Rattle.ild_build_entries.proofs.Marked.{on_ok}
 use Rattle.ild_build_pass.specs.Fitting.{FitsIn}
-use Rattle.ild_build_pass.specs.Made.{counted, entries_made, fields_made, items_made, marked_made, tuple_made}
-use Rattle.ild_build_pass.specs.Places.{map_made, texts_of, written_made, written_of}
+use Rattle.ild_build_pass.specs.inside.Made.{counted, entries_made, fields_made, items_made, marked_made, tuple_made}
+use Rattle.ild_build_pass.specs.inside.Places.{map_made, texts_of, written_made, written_of}
 use Rattle.ild_build_pass.specs.Weights.{Weight, entries_weight, fields_weight, hamt_made, items_weight, places_weight, weigh}
 use Rattle.ild_build_pass.specs.Writes.{Writes}
 use Rattle.ild_build_pass.proofs.AsText.{layer_text, texts, union_text}

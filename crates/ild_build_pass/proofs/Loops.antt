@@ -12,9 +12,9 @@ use Rattle.ild_build.specs.LeftOut.{is_left_out}
 use Rattle.ild_build.specs.PartAt.{field_at}
 use Rattle.ild_build.proofs.Texting.{drop_got, drop_all}
 use Rattle.ild_build_leaf.specs.Made.{made}
-use Rattle.ild_build_pass.specs.Made.{both, items_made, entry_made, entries_made, tuple_made, fields_made}
+use Rattle.ild_build_pass.specs.inside.Made.{both, items_made, entry_made, entries_made, tuple_made, fields_made}
 use Rattle.ild_build_leaf.specs.Kept.{kept_at}
-use Rattle.ild_build_pass.specs.Places.{name_at, place_made, value_made}
+use Rattle.ild_build_pass.specs.inside.Places.{name_at, place_made, value_made}
 use Rattle.ild_build_leaf.proofs.Turns.{kept_is, kept_none, over_none, over_some}
 use Rattle.ild_typed.specs.Hamt.{whole}
 

@@ -24,7 +24,7 @@ use Rattle.ild_typed.specs.Represented.{represented, represented_values, represe
 use Rattle.ild_typed.specs.Slots.{element_of, member_of}
 use Rattle.ild_build_entries.specs.declared.nodes.Nodes.{Nodes}
 use Rattle.ild_build_pass.specs.Writes.{Writes}
-use Rattle.ild_build_pass.specs.Made.{marked_made}
+use Rattle.ild_build_pass.specs.inside.Made.{marked_made}
 use Rattle.ild_build_pass.specs.Weights.{Weight, weigh, weigh_values, weigh_pairs, hamt_weight}
 use Rattle.ild_build_pass.proofs.Flow.{leaf}
 use Rattle.ild_build_pass.proofs.Writing.{wrote_none}

@@ -14,8 +14,8 @@ use Rattle.ild_typed.specs.Hamt.{whole}
 use Rattle.ild_build_leaf.specs.Made.{made}
 use Rattle.ild_build_entries.specs.declared.nodes.Nodes.{Nodes}
 use Rattle.ild_build_entries.proofs.Marked.{on_ok}
-use Rattle.ild_build_pass.specs.Fronts.{JoinsPrefix}
-use Rattle.ild_build_pass.specs.Made.{marked_made}
+use Rattle.ild_build_pass.specs.inside.Fronts.{JoinsPrefix}
+use Rattle.ild_build_pass.specs.inside.Made.{marked_made}
 use Rattle.ild_build_pass.specs.Weights.{weigh}
 use Rattle.ild_build_pass.specs.Writes.{Exact, TooLong, Writes}
 use Rattle.ild_build_pass.proofs.Flow.{over_more}

@@ -13,8 +13,8 @@ use Rattle.ild_build_leaf.specs.Kept.{count_present, count_written, kept_at}
 use Rattle.ild_build_leaf.specs.Made.{entries_major, made}
 use Rattle.ild_build_leaf.proofs.Turns.{kept_is}
 use Rattle.ild_build_entries.specs.declared.nodes.Nodes.{Nodes}
-use Rattle.ild_build_pass.specs.Made.{both, counted, entries_made, entry_made, fields_made, items_made, tuple_made}
-use Rattle.ild_build_pass.specs.Places.{named, places_made, written_made, written_of}
+use Rattle.ild_build_pass.specs.inside.Made.{both, counted, entries_made, entry_made, fields_made, items_made, tuple_made}
+use Rattle.ild_build_pass.specs.inside.Places.{named, places_made, written_made, written_of}
 use Rattle.ild_build_pass.specs.Weights.{entries_weight, fields_weight, items_weight, places_weight, weigh}
 use Rattle.ild_build_pass.specs.Writes.{Writes}
 use Rattle.ild_build_pass.proofs.Flow.{ToGo, begins, ends, goes, skips, starts}

@@ -15,7 +15,7 @@ use Rattle.ild_schema.specs.Value.{Value}
 use Rattle.ild_build.specs.LeftOut.{is_left_out}
 use Rattle.ild_build.specs.PartAt.{field_at}
 use Rattle.ild_build_leaf.specs.Kept.{count_written}
-use Rattle.ild_build_pass.specs.Places.{in_order, name_at, named, places_from}
+use Rattle.ild_build_pass.specs.inside.Places.{in_order, name_at, named, places_from}
 use Rattle.ild_build_pass.specs.Weights.{Weight, weigh, fields_weight, place_weight, places_weight}
 use Rattle.ild_build_pass.proofs.Weighing.{field_place, left_weight, no_place}
 

@@ -36,9 +36,9 @@ use Rattle.ild_build.specs.LeftOut.{is_left_out}
 use Rattle.ild_build.specs.PartAt.{field_at}
 use Rattle.ild_build.proofs.TextForms.{left_out_same}
 use Rattle.ild_build_leaf.specs.Made.{made}
-use Rattle.ild_build_pass.specs.Made.{both, counted, entry_made, tuple_made, fields_made, marked_made}
+use Rattle.ild_build_pass.specs.inside.Made.{both, counted, entry_made, tuple_made, fields_made, marked_made}
 use Rattle.ild_build_leaf.specs.Kept.{count_present, count_written}
-use Rattle.ild_build_pass.specs.Places.{places_from, name_at, named, in_order, value_made, map_made, places_made}
+use Rattle.ild_build_pass.specs.inside.Places.{places_from, name_at, named, in_order, value_made, map_made, places_made}
 use Rattle.ild_build_pass.proofs.Alike.{Alike, alike_put, alike_sorted, alike_length, alike_made}
 use Rattle.ild_build_pass.proofs.Forms.{pair_spelled}
 

@@ -11,9 +11,9 @@ use Rattle.ild_schema.specs.Indexed.{InKeyOrder}
 use Rattle.ild_schema.specs.Marks.{field_text}
 use Rattle.ild_schema.specs.Value.{Value}
 use Rattle.ild_typed.specs.Hamt.{whole}
-use Rattle.ild_build_pass.specs.Made.{both, counted}
+use Rattle.ild_build_pass.specs.inside.Made.{both, counted}
 use Rattle.ild_build_leaf.specs.Kept.{count_written}
-use Rattle.ild_build_pass.specs.Places.{is_written, map_made, name_at, named, place_made, places_made, texts_of, written_of}
+use Rattle.ild_build_pass.specs.inside.Places.{is_written, map_made, name_at, named, place_made, places_made, texts_of, written_of}
 use Rattle.ild_build_pass.specs.Weights.{Weight, places_weight}
 use Rattle.ild_build_pass.specs.Writes.{Writes}
 use Rattle.ild_build_entries.specs.declared.nodes.Nodes.{Nodes}

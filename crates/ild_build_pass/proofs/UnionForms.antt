@@ -22,7 +22,7 @@ use Rattle.ild_typed.specs.Strings.{bytes_in, map_data}
 use Rattle.ild_typed.proofs.Basics.{map_from, then_from}
 use Rattle.ild_typed.proofs.Entries.{only_bytes_data}
 use Rattle.ild_build_leaf.specs.Made.{made}
-use Rattle.ild_build_pass.specs.Made.{entry_made, marked_made}
+use Rattle.ild_build_pass.specs.inside.Made.{entry_made, marked_made}
 
 module _ (hash : List ℕ → List ℕ) (rows : List Row) (s : Slot) (v : Value) where
   pub keyed_made : (name : List ℕ) → marked_made (whole hash) rows UF.Keyed s v name ≡ option_map (λ t. head 5 1 ++ t) (entry_made (whole hash) rows false name s v)

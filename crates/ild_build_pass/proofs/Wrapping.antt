@@ -12,8 +12,8 @@ use Rattle.ild_typed.specs.Hamt.{whole}
 use Rattle.ild_build_leaf.specs.Made.{made}
 use Rattle.ild_build_entries.specs.declared.nodes.Nodes.{Nodes}
 use Rattle.ild_build_entries.proofs.Marked.{on_ok}
-use Rattle.ild_build_pass.specs.Fronts.{IsWrapped, member_back, member_front, tag_spelled}
-use Rattle.ild_build_pass.specs.Made.{marked_made}
+use Rattle.ild_build_pass.specs.inside.Fronts.{IsWrapped, member_back, member_front, tag_spelled}
+use Rattle.ild_build_pass.specs.inside.Made.{marked_made}
 use Rattle.ild_build_pass.specs.Weights.{weigh}
 use Rattle.ild_build_pass.specs.Writes.{Writes}
 use Rattle.ild_build_pass.proofs.Flow.{before, behind, from}

@@ -5,7 +5,7 @@ use Rattle.std.proofs.lemmas.Option.{same_Some, none-some}
 use Rattle.ild_emit.specs.Grown.{IsGrown}
 use Rattle.ild_emit.proofs.Growing.{grown_same, grown_then}
 use Rattle.ild_typed.proofs.Basics.{map_from}
-use Rattle.ild_build_pass.specs.Made.{both}
+use Rattle.ild_build_pass.specs.inside.Made.{both}
 use Rattle.ild_build_leaf.specs.Wrote.{Wrote}
 
 pub grown_on : (old mid new : List ℕ) → IsGrown old mid → IsGrown mid new → IsGrown old new

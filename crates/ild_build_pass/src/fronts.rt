@@ -7,8 +7,8 @@ ghost use Rattle.ild_schema.specs.Indexed.{InKeyOrder};
 ghost use Rattle.ild_schema.specs.Slots.{form_of};
 ghost use Rattle.ild_schema.specs.Value.{optionals_list};
 ghost use Rattle.ild_schema.specs.declared.def.TypeDef.TheVariants as D;
-ghost use Rattle.ild_build_pass.specs.Fronts.{BeginsEntry, JoinsPrefix, SplitsAt, envelope_front, member_back, member_front, tag_spelled};
-ghost use Rattle.ild_build_pass.specs.Places.{texts_of};
+ghost use Rattle.ild_build_pass.specs.inside.Fronts.{BeginsEntry, JoinsPrefix, SplitsAt, envelope_front, member_back, member_front, tag_spelled};
+ghost use Rattle.ild_build_pass.specs.inside.Places.{texts_of};
 
 use ild_build_entries::MarkedEntries;
 use ild_build_leaf::{Tag, add_hex, add_tag, behind_head, count_before, written};

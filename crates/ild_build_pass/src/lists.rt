@@ -8,7 +8,7 @@ ghost use Rattle.ild_build_leaf.specs.Made.{made};
 ghost use Rattle.ild_build_pass.specs.Fitting.{FitsIn, ItemsFit};
 ghost use Rattle.ild_build_pass.specs.Weights.{weigh};
 ghost use Rattle.ild_build_pass.specs.Writes.{Writes};
-ghost use Rattle.ild_build_pass.specs.Written.{WritesItems};
+ghost use Rattle.ild_build_pass.specs.inside.Written.{WritesItems};
 
 use crate::pass::add;
 use ild_build::form_of;

@@ -6,11 +6,11 @@ ghost use Rattle.ild_schema.specs.Value.{Value, pairs_list};
 ghost use Rattle.ild_schema.specs.ValueSeen.{value_of};
 ghost use Rattle.ild_typed.specs.Hamt.{whole};
 ghost use Rattle.ild_build_leaf.specs.Made.{made};
-ghost use Rattle.ild_build_pass.specs.Made.{entry_made};
+ghost use Rattle.ild_build_pass.specs.inside.Made.{entry_made};
 ghost use Rattle.ild_build_pass.specs.Fitting.{EntriesFit, FitsIn, HamtFits};
 ghost use Rattle.ild_build_pass.specs.Weights.{weigh};
 ghost use Rattle.ild_build_pass.specs.Writes.{Writes};
-ghost use Rattle.ild_build_pass.specs.Written.{WritesEntries, WritesHamt};
+ghost use Rattle.ild_build_pass.specs.inside.Written.{WritesEntries, WritesHamt};
 
 use crate::fronts::open_entry;
 use crate::pass::add;

@@ -13,7 +13,7 @@ ghost use Rattle.ild_build_leaf.specs.Made.{made};
 ghost use Rattle.ild_build_pass.specs.Fitting.{FitsIn, PlacesFit};
 ghost use Rattle.ild_build_pass.specs.Weights.{weigh};
 ghost use Rattle.ild_build_pass.specs.Writes.{Writes};
-ghost use Rattle.ild_build_pass.specs.Written.{WritesFields, WritesPairs, WritesPlaces, WritesTuple};
+ghost use Rattle.ild_build_pass.specs.inside.Written.{WritesFields, WritesPairs, WritesPlaces, WritesTuple};
 
 use crate::fronts::begin_fields;
 use crate::maps::add_entry;

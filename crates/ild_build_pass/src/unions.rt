@@ -11,10 +11,10 @@ ghost use Rattle.ild_schema.specs.declared.def.UnionForm.TheVariants as UF;
 ghost use Rattle.ild_typed.specs.Hamt.{whole};
 ghost use Rattle.ild_build_leaf.specs.Made.{made};
 ghost use Rattle.ild_build_pass.specs.Fitting.{FitsIn, IsApartFrom};
-ghost use Rattle.ild_build_pass.specs.Fronts.{IsWrapped};
+ghost use Rattle.ild_build_pass.specs.inside.Fronts.{IsWrapped};
 ghost use Rattle.ild_build_pass.specs.Weights.{weigh};
 ghost use Rattle.ild_build_pass.specs.Writes.{Writes};
-ghost use Rattle.ild_build_pass.specs.Written.{WritesMarked, WritesMember};
+ghost use Rattle.ild_build_pass.specs.inside.Written.{WritesMarked, WritesMember};
 
 use crate::fronts::{add_behind_prefix, begin_inline, begin_member, end_member};
 use crate::pass::add;

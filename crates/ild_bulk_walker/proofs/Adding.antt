@@ -28,7 +28,7 @@ use Rattle.ild_node_slots.proofs.Telling.{EntriesAhead, GivesEntry, entries-fall
 use Rattle.ild_bulk_walker.proofs.Stepping.{steps-turned}
 use Rattle.ild_bulk_walker.specs.Steps.{step_todo, steps_todo}
 use Rattle.ild_bulk_walker.specs.Todo.{Todo, give, node_todo}
-use Rattle.ild_bulk_walker.specs.Told.{Lies, LiesThere, entry_todo, entries_todo, element_by, element_todo, elements_todo, Adds, SlotAdds, ReadsElements, PartsIn}
+use Rattle.ild_bulk_walker.specs.inside.Told.{Lies, LiesThere, entry_todo, entries_todo, element_by, element_todo, elements_todo, Adds, SlotAdds, ReadsElements, PartsIn}
 use Rattle.ild_bulk_walker.specs.declared.step.Step.{Step}
 
 -- ---- the entries of a bucket

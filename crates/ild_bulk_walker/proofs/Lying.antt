@@ -12,7 +12,7 @@ use Rattle.ild_cbor.specs.declared.node.Node.{Node}
 use Rattle.ild_node_slots.specs.Spelled.{tree_in, IsFaultless}
 use Rattle.ild_node_slots.proofs.Trees.{faultless, spelled-value}
 use Rattle.ild_bulk_walker.specs.Pieces.{piece}
-use Rattle.ild_bulk_walker.specs.Told.{Lies}
+use Rattle.ild_bulk_walker.specs.inside.Told.{Lies}
 
 -- ---- their places
 

@@ -5,9 +5,9 @@ pub mod Reads
 pub mod Standing
 pub mod Pieces
 pub mod Steps
-pub mod Told
 pub mod Fetching
 pub mod Ahead
 pub mod Checked
 pub mod Calls
 pub mod Trees
+pub mod inside

@@ -7,7 +7,7 @@ ghost use Rattle.ild_cbor.specs.Steps.{HasItems};
 ghost use Rattle.ild_typed.specs.NodeReading.{are_entries, child_in, map_bit};
 ghost use Rattle.ild_bulk_walker.specs.Steps.{step_todo};
 ghost use Rattle.ild_bulk_walker.specs.Todo.{give};
-ghost use Rattle.ild_bulk_walker.specs.Told.{Adds, ChildAdds, ElementAdds, HasEntriesIn, HasItemsIn, IsNodeIn, Lies, LiesThere, PartsRead, ReadsElements, ReadsNode, SlotAdds, entries_todo};
+ghost use Rattle.ild_bulk_walker.specs.inside.Told.{Adds, ChildAdds, ElementAdds, HasEntriesIn, HasItemsIn, IsNodeIn, Lies, LiesThere, PartsRead, ReadsElements, ReadsNode, SlotAdds, entries_todo};
 
 use crate::step::{Child, Entry, Step};
 use ild_cbor::{Items, Node};

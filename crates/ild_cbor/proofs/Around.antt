@@ -8,8 +8,8 @@ use Rattle.ild_data.specs.Tree.{AreTrees}
 use Rattle.ild_data.proofs.Lists.{length-items}
 use Rattle.ild_cbor.specs.declared.node.Node.{Node}
 use Rattle.ild_cbor.specs.declared.start.Start.{Start}
-use Rattle.ild_cbor.specs.Row.{IsRow}
-use Rattle.ild_cbor.specs.Shape.{StartsAs}
+use Rattle.ild_cbor.specs.inside.Row.{IsRow}
+use Rattle.ild_cbor.specs.inside.Shape.{StartsAs}
 use Rattle.ild_cbor.specs.Spelled.{Spells}
 use Rattle.ild_cbor.specs.Nodes.{Stands, HasLast, AreAround}
 use Rattle.ild_cbor.specs.Span.{items_before, before_part, place_of, item_of}

@@ -7,7 +7,7 @@ use Rattle.ild_data.specs.Shape.{major_of, argument_of, string_of, parts_of}
 use Rattle.ild_data.proofs.Heads.{first_of}
 use Rattle.ild_data.proofs.Shapes.{spell_shape}
 use Rattle.ild_data.proofs.Sizes.{spell_some}
-use Rattle.ild_cbor.specs.OfHead.{kind_in}
+use Rattle.ild_cbor.specs.inside.OfHead.{kind_in}
 use Rattle.ild_cbor.specs.Scalar.{kind_of}
 use Rattle.ild_cbor.proofs.Shapes.{opens}
 

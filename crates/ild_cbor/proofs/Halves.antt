@@ -4,9 +4,9 @@ use Rattle.ild_data.specs.Data.{Data, list, Items, no_items, item}
 use Rattle.ild_data.specs.Shape.{major_of, argument_of}
 use Rattle.ild_cbor.specs.Nodes.{Stands}
 use Rattle.ild_cbor.specs.Pairing.{FindsPair}
-use Rattle.ild_cbor.specs.Row.{IsRow}
+use Rattle.ild_cbor.specs.inside.Row.{IsRow}
 use Rattle.ild_cbor.specs.Scalar.{count_of}
-use Rattle.ild_cbor.specs.Shape.{StartsAs}
+use Rattle.ild_cbor.specs.inside.Shape.{StartsAs}
 use Rattle.ild_cbor.specs.Span.{place_of, item_of}
 use Rattle.ild_cbor.specs.declared.node.Node.{Node}
 use Rattle.ild_cbor.specs.declared.start.Start.{Start}

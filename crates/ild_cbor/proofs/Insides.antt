@@ -11,16 +11,16 @@ use Rattle.ild_data.specs.CidRead.{is_cid}
 use Rattle.ild_data.proofs.Cids.{IsCid-is_cid, is_link_cid}
 use Rattle.ild_cbor.specs.declared.node.Node.{Node}
 use Rattle.ild_cbor.specs.declared.start.Start.{Start}
-use Rattle.ild_cbor.specs.Row.{IsRow, IsEntryRow}
+use Rattle.ild_cbor.specs.inside.Row.{IsRow, IsEntryRow}
 use Rattle.ild_data.specs.Shape.{major_of, string_of, parts_of}
 use Rattle.ild_data.proofs.Shapes.{keys_and_values-spell}
-use Rattle.ild_cbor.specs.Shape.{StartsAs}
+use Rattle.ild_cbor.specs.inside.Shape.{StartsAs}
 use Rattle.ild_cbor.specs.Spelled.{Spells}
 use Rattle.ild_cbor.specs.Nodes.{Stands, IsPart, Finds, HasPart}
 use Rattle.ild_cbor.specs.Span.{items_before, values_before, before_part, place_of, item_of, key_index, index_of, entry_of}
 use Rattle.ild_cbor.specs.Scalar.{text_of}
-use Rattle.ild_cbor.specs.OfHead.{string_in}
-use Rattle.ild_cbor.specs.Search.{CutsValue}
+use Rattle.ild_cbor.specs.inside.OfHead.{string_in}
+use Rattle.ild_cbor.specs.inside.Search.{CutsValue}
 use Rattle.ild_cbor.proofs.Steps.{some_is}
 
 -- ---- a part by the bytes that begin with it

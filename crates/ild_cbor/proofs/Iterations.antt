@@ -6,8 +6,8 @@ use Rattle.ild_data.specs.Data.{Data, list, map, Items, no_items, item, Members,
 use Rattle.ild_data.specs.Spell.{head, spell, spell_text, spell_items, spell_members}
 use Rattle.ild_cbor.specs.declared.node.Node.{Node}
 use Rattle.ild_cbor.specs.declared.start.Start.{Start}
-use Rattle.ild_cbor.specs.Row.{IsRow}
-use Rattle.ild_cbor.specs.Shape.{StartsAs}
+use Rattle.ild_cbor.specs.inside.Row.{IsRow}
+use Rattle.ild_cbor.specs.inside.Shape.{StartsAs}
 use Rattle.ild_cbor.specs.Spelled.{Holds, Spells, SpellsItems, SpellsMembers}
 use Rattle.ild_cbor.specs.Nodes.{Stands}
 use Rattle.ild_cbor.proofs.Blocks.{held_from}

@@ -4,7 +4,7 @@ use Rattle.std.specs.Prelude.{◌==◌, suc, slice_get, Option, MatchOption, IfS
 use Rattle.std.proofs.lemmas.Bool.{lt-ltb, le-ltb, ltb-false, eqb-true}
 use Rattle.ild_data.specs.Spell.{head}
 use Rattle.ild_cbor.specs.Reading.{argument_at, split_at}
-use Rattle.ild_cbor.specs.Passing.{behind_string, passing, leaf_size_of}
+use Rattle.ild_cbor.specs.inside.Passing.{behind_string, passing, leaf_size_of}
 use Rattle.ild_cbor.proofs.Steps.{chosen, some_is}
 use Rattle.ild_cbor.proofs.Shapes.{opens}
 

@@ -4,13 +4,13 @@ use Rattle.std.specs.Prelude.{pos, negsuc}
 use Rattle.ild_data.specs.Data.{Data, null, boolean, integer, text, bytes, list, map, link, Items, no_items, item, Members, no_members, member, items_list, members_list}
 use Rattle.ild_data.specs.Spell.{head, spell, spell_items}
 use Rattle.ild_data.specs.Tree.{AreTrees}
-use Rattle.ild_cbor.specs.Row.{IsRow}
+use Rattle.ild_cbor.specs.inside.Row.{IsRow}
 use Rattle.ild_cbor.specs.Chain.{chain}
 use Rattle.ild_data.specs.Shape.{major_of, argument_of, string_of, keys_and_values, parts_of}
 use Rattle.ild_data.proofs.Sizes.{items_count, spell_some}
 use Rattle.ild_data.proofs.Shapes.{spell_shape, argument_small}
-use Rattle.ild_cbor.specs.Shape.{IsStart}
-use Rattle.ild_cbor.specs.Passing.{passing}
+use Rattle.ild_cbor.specs.inside.Shape.{IsStart}
+use Rattle.ild_cbor.specs.inside.Passing.{passing}
 use Rattle.ild_cbor.specs.declared.start.Start.{Start}
 use Rattle.ild_cbor.proofs.Heads.{split_again}
 use Rattle.ild_cbor.proofs.Shapes.{parts_trees}

@@ -13,10 +13,10 @@ use Rattle.ild_data.specs.Tree.{AreEntries}
 use Rattle.ild_data.specs.Key.{key_cmp, same_text, value_at}
 use Rattle.ild_cbor.specs.declared.start.Start.{Start}
 use Rattle.ild_cbor.specs.Reading.{split_at}
-use Rattle.ild_cbor.specs.Row.{IsRow, IsEntryRow}
-use Rattle.ild_cbor.specs.Shape.{IsStart}
+use Rattle.ild_cbor.specs.inside.Row.{IsRow, IsEntryRow}
+use Rattle.ild_cbor.specs.inside.Shape.{IsStart}
 use Rattle.ild_cbor.specs.Span.{values_before, key_index}
-use Rattle.ild_cbor.specs.Search.{CutsValue}
+use Rattle.ild_cbor.specs.inside.Search.{CutsValue}
 use Rattle.ild_cbor.proofs.Heads.{split_again}
 use Rattle.ild_cbor.proofs.Insides.{one_row}
 

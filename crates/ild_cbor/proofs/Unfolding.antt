@@ -6,7 +6,7 @@ use Rattle.ild_data.specs.Shape.{major_of, argument_of, string_of, parts_of}
 use Rattle.ild_data.proofs.Shapes.{argument_small}
 use Rattle.ild_data.proofs.Sizes.{items_count}
 use Rattle.ild_cbor.specs.Chain.{chain}
-use Rattle.ild_cbor.specs.Shape.{IsStart}
+use Rattle.ild_cbor.specs.inside.Shape.{IsStart}
 use Rattle.ild_cbor.specs.Spelled.{Holds, SpellsItems, SpellsSomeItems}
 use Rattle.ild_cbor.specs.Steps.{HasItems, items_of, UnfoldStep, UnfoldFirst}
 use Rattle.ild_cbor.specs.declared.start.Start.{Start}

@@ -3,13 +3,9 @@ pub mod Block
 pub mod Spelled
 pub mod Span
 pub mod Scalar
-pub mod OfHead
-pub mod Shape
-pub mod Row
 pub mod Chain
-pub mod Passing
-pub mod Search
 pub mod Nodes
 pub mod Pairing
 pub mod Steps
 pub mod Laws
+pub mod inside

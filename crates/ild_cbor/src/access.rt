@@ -5,7 +5,7 @@ ghost use Rattle.ild_data.specs.Spell.{spell};
 ghost use Rattle.ild_data.specs.CidRead.{is_cid};
 ghost use Rattle.ild_data.specs.CidView.{cid_bytes};
 ghost use Rattle.ild_cbor.specs.Nodes.{Stands, block_of, start_of};
-ghost use Rattle.ild_cbor.specs.Shape.{StartsAs};
+ghost use Rattle.ild_cbor.specs.inside.Shape.{StartsAs};
 ghost use Rattle.ild_cbor.specs.Scalar.{kind_of, boolean_of, int_of, text_of, bytes_of, link_of, count_of};
 
 use crate::kind::Kind;

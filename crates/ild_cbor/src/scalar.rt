@@ -1,6 +1,6 @@
 //! What an item says of itself, by its major type and its argument.
 ghost use Rattle.std.specs.Prelude.{◌≡◌, IsUtf8, option_map};
-ghost use Rattle.ild_cbor.specs.OfHead.{kind_in, boolean_in, int_in, count_in, string_in};
+ghost use Rattle.ild_cbor.specs.inside.OfHead.{kind_in, boolean_in, int_in, count_in, string_in};
 
 use crate::kind::Kind;
 use ild_data::Int;

@@ -3,8 +3,8 @@ ghost use Rattle.std.specs.Prelude.{◌≡◌, ◌<◌, ◌^◌, List, ℕ, ◌+
 ghost use Rattle.ild_data.specs.Data.{Members};
 ghost use Rattle.ild_data.specs.Spell.{spell_text};
 ghost use Rattle.ild_data.specs.Key.{same_text};
-ghost use Rattle.ild_cbor.specs.Row.{IsEntryRow};
-ghost use Rattle.ild_cbor.specs.Search.{CutsAtKey};
+ghost use Rattle.ild_cbor.specs.inside.Row.{IsEntryRow};
+ghost use Rattle.ild_cbor.specs.inside.Search.{CutsAtKey};
 
 use crate::head::split;
 use crate::skip::skip;

@@ -3,8 +3,8 @@ ghost use Rattle.std.specs.Prelude.{◌≡◌, ◌<◌, ◌^◌, ℕ, List, ◌+
 ghost use Rattle.ild_data.specs.Data.{Data, Items, items_list};
 ghost use Rattle.ild_data.specs.Spell.{head, spell, spell_items};
 ghost use Rattle.ild_data.specs.Tree.{IsTree};
-ghost use Rattle.ild_cbor.specs.Passing.{leaf_size_of, passing};
-ghost use Rattle.ild_cbor.specs.Row.{IsRow};
+ghost use Rattle.ild_cbor.specs.inside.Passing.{leaf_size_of, passing};
+ghost use Rattle.ild_cbor.specs.inside.Row.{IsRow};
 
 use crate::head::split;
 use crate::start::Start;

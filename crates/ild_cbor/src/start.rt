@@ -13,7 +13,7 @@ pub(crate) struct Start<'b> {
 
 impl<'b> Start<'b> {
     ghost use Rattle.ild_data.specs.Spell.{head};
-    ghost use Rattle.ild_cbor.specs.Shape.{IsStart};
+    ghost use Rattle.ild_cbor.specs.inside.Shape.{IsStart};
 
     /// The start of the item at the front of the bytes.
     pub(crate) fn of(bytes: &'b [u8]) -> Start<'b>

@@ -10,7 +10,7 @@ use Rattle.ild_dirty.specs.Beneath.{child_seen}
 use Rattle.ild_dirty.specs.declared.beneath.Child.{Child as Spot}
 use Rattle.ild_typed.proofs.Rooms.{all_more}
 use Rattle.ild_typed.proofs.Treed.{all_append}
-use Rattle.ild_compare.specs.Spots.{Grows}
+use Rattle.ild_compare.specs.inside.Spots.{Grows}
 
 pub contains_first : {X : Type 0} (x : X) (xs : List X) → Contains (x ∷ xs) x
 contains_first x xs = (zero, omega arith, refl)

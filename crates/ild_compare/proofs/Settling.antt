@@ -28,9 +28,9 @@ use Rattle.ild_typed_places.specs.Places.{nowhere, place, joined, value_places}
 use Rattle.ild_view_doc.specs.Docs.{block_in, table_in, type_in}
 use Rattle.ild_view_doc.specs.declared.doc.Doc.{Doc}
 use Rattle.ild_compare.specs.Compared.{CompareAnswer, Compares, IsBlockOf, NotBoth, StandsFor, root_in}
-use Rattle.ild_compare.specs.Copied.{compared_as}
+use Rattle.ild_compare.specs.inside.Copied.{compared_as}
 use Rattle.ild_compare.specs.Reached.{AreAlike, IsBeneath, IsLacking, IsUnder}
-use Rattle.ild_compare.specs.Walked.{WalkAnswer, Walks}
+use Rattle.ild_compare.specs.inside.Walked.{WalkAnswer, Walks}
 use Rattle.ild_compare.specs.declared.compared.Compared.{Compared}
 use Rattle.ild_compare.specs.declared.compared.Compared.TheVariants as C
 use Rattle.ild_compare.proofs.Alike.{one_home}

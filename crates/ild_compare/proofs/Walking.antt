@@ -18,11 +18,11 @@ use Rattle.ild_schema.specs.declared.row.Row.{Row}
 use Rattle.ild_typed.proofs.Rooms.{all_more}
 use Rattle.ild_typed.proofs.Treed.{all_append}
 use Rattle.ild_typed_places.proofs.Listing.{all_contained}
-use Rattle.ild_compare.specs.Fetching.{Lacks}
+use Rattle.ild_compare.specs.inside.Fetching.{Lacks}
 use Rattle.ild_compare.specs.Reached.{IsAlike, IsBeneath, IsLacking, IsMet, IsUnder, LeadsTo}
-use Rattle.ild_compare.specs.Spots.{Grows}
-use Rattle.ild_compare.specs.Steps.{StepAnswer, Steps}
-use Rattle.ild_compare.specs.Walked.{WalkAnswer, Walks}
+use Rattle.ild_compare.specs.inside.Spots.{Grows}
+use Rattle.ild_compare.specs.inside.Steps.{StepAnswer, Steps}
+use Rattle.ild_compare.specs.inside.Walked.{WalkAnswer, Walks}
 use Rattle.ild_compare.proofs.Growing.{still_all}
 
 module _ (rows : List Row) (ty : TypeNo) (root : List ℕ) (left right : Moment) where

@@ -1,7 +1,7 @@
 //! The trees of two documents, compared.
 ghost use Rattle.std.specs.Prelude.{◌≡◌, ◌≢◌, true, false};
 ghost use Rattle.ild_compare.specs.Compared.{Compares, root_in};
-ghost use Rattle.ild_compare.specs.Copied.{Copies, compared_as};
+ghost use Rattle.ild_compare.specs.inside.Copied.{Copies, compared_as};
 ghost use Rattle.ild_view_doc.specs.Docs.{block_in, table_in, type_in};
 
 use crate::compared::Compared;

@@ -1,5 +1,5 @@
 //! The block under an id.
-ghost use Rattle.ild_compare.specs.Fetching.{Fetches};
+ghost use Rattle.ild_compare.specs.inside.Fetching.{Fetches};
 
 use ild_cbor::BlockWhy;
 use ild_data::{BlockId, Octets};

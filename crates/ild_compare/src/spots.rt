@@ -1,6 +1,6 @@
 //! The places that a walk has met, each once.
 ghost use Rattle.std.specs.Prelude.{◌≡◌, ◌∷◌, [], OnOk, true, Contains, map};
-ghost use Rattle.ild_compare.specs.Spots.{Grows};
+ghost use Rattle.ild_compare.specs.inside.Spots.{Grows};
 ghost use Rattle.ild_dirty.specs.Beneath.{child_seen};
 
 use ild_dirty::Child;

@@ -1,10 +1,10 @@
 //! Two trees of blocks, walked in step.
 ghost use Rattle.std.specs.Prelude.{◌<◌, OnOk, length, map};
 ghost use Rattle.ild_beneath.specs.Children.{children_of};
-ghost use Rattle.ild_compare.specs.Fetching.{FetchesBoth};
-ghost use Rattle.ild_compare.specs.Spots.{Grows};
-ghost use Rattle.ild_compare.specs.Steps.{Steps};
-ghost use Rattle.ild_compare.specs.Walked.{Walks};
+ghost use Rattle.ild_compare.specs.inside.Fetching.{FetchesBoth};
+ghost use Rattle.ild_compare.specs.inside.Spots.{Grows};
+ghost use Rattle.ild_compare.specs.inside.Steps.{Steps};
+ghost use Rattle.ild_compare.specs.inside.Walked.{Walks};
 ghost use Rattle.ild_dirty.specs.Beneath.{child_seen};
 
 use crate::fetch::fetch;

@@ -52,7 +52,7 @@ use Rattle.ild_compat.specs.Fields.{has_member, has_value, has_same_mark, has_sa
 use Rattle.ild_compat.specs.Same.{is_map}
 use Rattle.ild_compat.specs.Table.{types_agree, unions_agree, asked_of, asked_of_member}
 use Rattle.ild_schema.specs.Prelude.{anything}
-use Rattle.ild_compat_laws.specs.Carried.{IsIn, Carried, CarriedValues, CarriedPairs}
+use Rattle.ild_compat_laws.specs.inside.Carried.{IsIn, Carried, CarriedValues, CarriedPairs}
 use Rattle.ild_compat_laws.proofs.Agreeing.{with_bool, with_text, with_bytes, with_int, with_any, with_link, with_unit, with_list, with_map, with_union, with_enum, same_unit, same_map, same_union, same_enum, meets, named, each_at, or_there, all_of_each, and_first, texts_same}
 use Rattle.ild_compat_laws.proofs.Members.{same_member, same_value}
 

@@ -13,7 +13,7 @@ use Rattle.ild_schema.specs.Marks.{field_text}
 use Rattle.ild_typed.specs.Fields.{is_implicit, entries_of, field_entries, are_absent, tuple_items, all_items}
 use Rattle.ild_typed.proofs.Basics.{map_from, if_from}
 use Rattle.ild_compat.specs.Fields.{field_place, field_named, is_place, stand_from, rise_from}
-use Rattle.ild_compat_laws.specs.Carried.{IsIn}
+use Rattle.ild_compat_laws.specs.inside.Carried.{IsIn}
 use Rattle.ild_compat_laws.proofs.Agreeing.{found_at, texts_same, and_first, and_second, or_there}
 use Rattle.ild_compat_laws.proofs.Picking.{pick, gathered, all_by, own_place, in_place}
 

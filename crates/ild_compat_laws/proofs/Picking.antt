@@ -14,7 +14,7 @@ use Rattle.ild_typed.specs.Strings.{in_key_order}
 use Rattle.ild_typed.proofs.Entries.{value_sorted, same_text_self}
 use Rattle.ild_typed.proofs.Rising.{rising_same, rises_sorted}
 use Rattle.ild_compat.specs.Fields.{field_place, field_named}
-use Rattle.ild_compat_laws.specs.Carried.{IsIn}
+use Rattle.ild_compat_laws.specs.inside.Carried.{IsIn}
 use Rattle.ild_compat_laws.proofs.Agreeing.{found_at, texts_same}
 
 -- ---- by a name

@@ -32,7 +32,7 @@ use Rattle.ild_typed.proofs.TreeValues.{alone_tree, whole_tree}
 use Rattle.ild_compat.specs.declared.rule.Rule.TheVariants as R
 use Rattle.ild_compat.specs.Compatible.{IsClosed, Compatible}
 use Rattle.ild_schema.specs.Prelude.{anything}
-use Rattle.ild_compat_laws.specs.Carried.{IsIn, Carried}
+use Rattle.ild_compat_laws.specs.inside.Carried.{IsIn, Carried}
 use Rattle.ild_compat_laws.specs.Laws.{ValuesAreRead, StandingAreRead}
 use Rattle.ild_compat_laws.proofs.Carrying.{boolean_carried, integer_carried, text_carried, bytes_carried, link_carried, any_carried, unit_carried, enum_carried, union_carried, list_carried, map_carried, hamt_carried}
 use Rattle.ild_compat_laws.proofs.Picking.{all_by, all_in}

@@ -47,7 +47,7 @@ use Rattle.ild_compat.specs.Compatible.{IsClosed}
 use Rattle.ild_compat.specs.Fields.{field_named, has_field, keep_order, stand_from, may_stay_out, has_implicit, may_be_new}
 use Rattle.ild_compat.specs.Same.{is_same_bool, is_same_scalar, is_same_implicit}
 use Rattle.ild_compat.specs.Table.{types_agree, asked_of, asked_of_field}
-use Rattle.ild_compat_laws.specs.Carried.{IsIn, Carried}
+use Rattle.ild_compat_laws.specs.inside.Carried.{IsIn, Carried}
 use Rattle.ild_compat_laws.proofs.Agreeing.{with_struct, same_struct, meets, named, or_there, all_of_each, texts_same, and_first, and_second}
 use Rattle.ild_compat_laws.proofs.Carrying.{in_left, in_right}
 use Rattle.ild_compat_laws.proofs.Picking.{pick, gathered, Differ, differ, all_by, own_name, in_place, Match, regrouped}

@@ -5,7 +5,7 @@ use Rattle.std.proofs.lemmas.Option.{same_Some}
 use Rattle.ild_data.specs.Spell.{id_of}
 use Rattle.ild_edges.specs.Among.{IsIn}
 use Rattle.ild_dirty.specs.Own.{index_at}
-use Rattle.ild_dirty.specs.Walk.{IsOwn, AreInside, own_block, is_in, Follows}
+use Rattle.ild_dirty.specs.inside.Walk.{IsOwn, AreInside, own_block, is_in, Follows}
 use Rattle.ild_dirty.proofs.Ordering.{is_in-more}
 
 -- these items but one

@@ -16,7 +16,7 @@ use Rattle.ild_edges.specs.Among.{IsIn}
 use Rattle.ild_edges.proofs.Among.{IsIn-left, IsIn-right, IsIn-contains, IsIn-of}
 use Rattle.ild_dirty.specs.Own.{index_at}
 use Rattle.ild_dirty.specs.Beneath.{Place, Places, place, no_places, beside, block_of, kind_of, IsTree, AreTrees, HasPlace, HasPlaceBelow, IsTreeAt, AgreesWith, blocks_in, blocks_below, places_in, places_below}
-use Rattle.ild_dirty.specs.Walk.{own_block, Leads, LeadOn, is_in, is_done, are_done, is_ready, HasReady, Follows, AreStuck, IsPlan}
+use Rattle.ild_dirty.specs.inside.Walk.{own_block, Leads, LeadOn, is_in, is_done, are_done, is_ready, HasReady, Follows, AreStuck, IsPlan}
 use Rattle.ild_dirty.specs.Flush.{PutsAnswer, PutsAll, StopsAfter, AreCarried, IsWholeIn, CameWholeIn, FlushAnswer, Flushes}
 use Rattle.ild_dirty.specs.declared.fault.FlushFault.{FlushFault}
 use Rattle.ild_dirty.specs.declared.fault.FlushFault.TheVariants as F

@@ -6,7 +6,7 @@ use Rattle.std.proofs.Math.ListN.{set}
 use Rattle.std.specs.Prelude.{replicate}
 use Rattle.ild_edges.specs.Among.{IsIn}
 use Rattle.ild_edges.proofs.Among.{IsIn-at}
-use Rattle.ild_dirty.specs.Walk.{AreInside, is_in, is_done, are_done, is_ready, HasReady, Follows, AreStuck, unmarked, AreMarks, IsSoFar, Passes}
+use Rattle.ild_dirty.specs.inside.Walk.{AreInside, is_in, is_done, are_done, is_ready, HasReady, Follows, AreStuck, unmarked, AreMarks, IsSoFar, Passes}
 
 -- ---- children that are done
 

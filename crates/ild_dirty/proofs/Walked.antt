@@ -5,7 +5,7 @@ use Rattle.ild_edges.specs.Among.{IsIn}
 use Rattle.ild_edges.proofs.Among.{IsIn-left, IsIn-append, IsIn-one, IsIn-at}
 use Rattle.ild_dirty.specs.Own.{index_at}
 use Rattle.ild_dirty.specs.Beneath.{Place, HasPlace, IsTreeAt, AgreesWith, blocks_in, block_of, kind_of}
-use Rattle.ild_dirty.specs.Walk.{own_block, IsOneOf, Leads, Grows, LeadOn, ArePlaces, AreInside, AreReached}
+use Rattle.ild_dirty.specs.inside.Walk.{own_block, IsOneOf, Leads, Grows, LeadOn, ArePlaces, AreInside, AreReached}
 use Rattle.ild_dirty.proofs.Walking.{index_found, own_found, child_place, top_is, has_top}
 
 -- the children of so many places lead on

@@ -12,7 +12,7 @@ use Rattle.ild_edges.specs.Among.{IsIn}
 use Rattle.ild_edges.proofs.Among.{IsIn-left, IsIn-right, IsIn-append, IsIn-one, IsIn-at}
 use Rattle.ild_dirty.specs.Own.{index_at}
 use Rattle.ild_dirty.specs.Beneath.{Place, Places, place, no_places, beside, block_of, kind_of, IsTree, AreTrees, HasPlace, HasPlaceBelow, AgreesWith, blocks_in, blocks_below}
-use Rattle.ild_dirty.specs.Walk.{IsOwn, own_block, IsOneOf, Grows, AreNoted}
+use Rattle.ild_dirty.specs.inside.Walk.{IsOwn, own_block, IsOneOf, Grows, AreNoted}
 
 -- ---- members
 

@@ -3,7 +3,7 @@ ghost use Rattle.std.specs.Prelude.{◌≡◌, ◌<◌, List, IfOk, MatchResult,
 ghost use Rattle.std.specs.Fmt.{signed_decimal};
 ghost use Rattle.ild_data.specs.Data.{Data};
 ghost use Rattle.ild_data.specs.Integer.{IsInt};
-ghost use Rattle.ild_enum.specs.Answers.{EnumAnswer};
+ghost use Rattle.ild_enum.specs.inside.Answers.{EnumAnswer};
 ghost use Rattle.ild_enum.specs.Forms.{IsEnumType};
 ghost use Rattle.ild_layer_piece.specs.Answers.{Layered, Refused};
 ghost use Rattle.ild_layer_piece.specs.Pieces.{StandsFor};

@@ -1,7 +1,7 @@
 //! Whether a piece stands for a unit.
 ghost use Rattle.std.specs.Prelude.{◌≡◌, ◌<◌, List, MatchResult, length};
 ghost use Rattle.ild_data.specs.Data.{Data};
-ghost use Rattle.ild_enum.specs.Answers.{UnitAnswer, truth_form};
+ghost use Rattle.ild_enum.specs.inside.Answers.{UnitAnswer, truth_form};
 ghost use Rattle.ild_enum.specs.Forms.{IsUnitType};
 ghost use Rattle.ild_layer_piece.specs.Answers.{Layered, Refused};
 ghost use Rattle.ild_layer_piece.specs.Pieces.{IsNumbered, StandsFor};

@@ -24,7 +24,7 @@ use Rattle.ild_node_slots.specs.declared.bucket.Bucket.{Bucket}
 use Rattle.ild_node.specs.declared.keyed.Keyed.{Keyed}
 use Rattle.ild_node.specs.declared.row.Row.{Row}
 use Rattle.ild_hamt.specs.Ends.{agree, agreeing, agreeing_hashes, hashes_of, is_full}
-use Rattle.ild_hamt_climb.specs.Gathering.{some_entry}
+use Rattle.ild_hamt_climb.specs.inside.Gathering.{some_entry}
 use Rattle.ild_hamt_climb.proofs.Differing.{other-key}
 use Rattle.ild_hamt_climb.proofs.PutEach.{got, without-append}
 

@@ -13,7 +13,7 @@ use Rattle.ild_data.specs.Spell.{spell, id_of}
 use Rattle.ild_edges.specs.Store.{Keeps}
 use Rattle.ild_bulk_walker.specs.Trees.{IsHeldNode, HoldsBelow}
 use Rattle.ild_hamt_climb.specs.Way.{IsRootOf}
-use Rattle.ild_hamt.specs.Holding.{HoldsWay}
+use Rattle.ild_hamt.specs.inside.Holding.{HoldsWay}
 use Rattle.ild_hamt_climb.specs.Rewriting.{DiffersAt}
 use Rattle.ild_hamt_climb.proofs.Differing.{part-differs, part-others}
 

@@ -22,7 +22,7 @@ use Rattle.ild_typed.specs.Node.{IsSlot}
 use Rattle.ild_typed.proofs.Treed.{EntryIn}
 use Rattle.ild_typed.proofs.TreeNodes.{part_in, node_of_in}
 use Rattle.ild_typed.proofs.Utf8Texts.{id_bytes}
-use Rattle.ild_hamt.specs.Holding.{HoldsWay}
+use Rattle.ild_hamt.specs.inside.Holding.{HoldsWay}
 use Rattle.ild_hamt.proofs.Leading.{slots-many}
 
 slot-form : (p : HamtShape) (below : List (List ℕ × Data) → Option Data) (es : List (List ℕ × Data)) (z : TrieSlot) → IsInOrder es → AllByRecursion (λ e. IsUtf8 e.0) es → slot_of p.bucket below es ≡ Some z → IsSlot p z

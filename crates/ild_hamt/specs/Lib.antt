@@ -1,11 +1,10 @@
 pub mod Fetching
-pub mod Reaching
 pub mod Ends
 pub mod Descending
 pub mod Setting
-pub mod Holding
 pub mod Rewriting
 pub mod Removing
 pub mod Edits
 pub mod Found
 pub mod Given
+pub mod inside

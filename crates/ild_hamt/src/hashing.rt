@@ -8,7 +8,7 @@ ghost use Rattle.ild_node.specs.Rows.{row_seen, rows_seen};
 ghost use Rattle.ild_node_slots.specs.Views.{HasEntries};
 ghost use Rattle.ild_bulk.specs.Keyed.{AreKeyed};
 ghost use Rattle.ild_hamt.specs.Ends.{hashes_of};
-ghost use Rattle.ild_hamt_climb.specs.Gathering.{some_entry};
+ghost use Rattle.ild_hamt_climb.specs.inside.Gathering.{some_entry};
 ghost use Rattle.ild_hamt_climb.specs.Seen.{Shows};
 
 use ild_data::KeyHash;

@@ -5,7 +5,7 @@ ghost use Rattle.ild_data.specs.TrieShape.{trie_levels};
 ghost use Rattle.ild_node_slots.specs.Views.{HasSlots};
 ghost use Rattle.ild_hamt.specs.Fetching.{Fetches};
 ghost use Rattle.ild_hamt_climb.specs.NodeBytes.{IsNodeBytes};
-ghost use Rattle.ild_hamt.specs.Reaching.{reached_block};
+ghost use Rattle.ild_hamt.specs.inside.Reaching.{reached_block};
 ghost use Rattle.ild_bulk_walker.specs.Gives.{IsNodeOf};
 ghost use Rattle.ild_hamt_climb.specs.Way.{slot_for, child_id};
 

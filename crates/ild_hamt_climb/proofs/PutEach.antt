@@ -22,7 +22,7 @@ use Rattle.ild_hamt_trie.proofs.Fold.{or_else, either}
 use Rattle.ild_hamt_trie.proofs.Orders.{and_T}
 use Rattle.ild_hamt_trie.proofs.Parts.{same_by_find, same_key, key_itself, same_if_equal, in_order-part, in_order-put, in_order-without, find-part, find-put_at}
 use Rattle.ild_typed.proofs.NodeEntries.{T_of}
-use Rattle.ild_hamt_climb.specs.Gathering.{put_each, some_entry, held_to}
+use Rattle.ild_hamt_climb.specs.inside.Gathering.{put_each, some_entry, held_to}
 
 -- ---- putting
 

@@ -30,7 +30,7 @@ use Rattle.ild_node_slots.specs.Views.{HasSlots}
 use Rattle.ild_node_slots.specs.declared.view.NodeView.{NodeView}
 use Rattle.ild_splice.specs.Splices.{IsAt, Splices}
 use Rattle.ild_splice_changes.specs.TreeChange.{TreeStep, nth, replace, with_child, changed, altered, change_here}
-use Rattle.ild_hamt_climb.specs.Elements.{IsElementAt, SpellsElement}
+use Rattle.ild_hamt_climb.specs.inside.Elements.{IsElementAt, SpellsElement}
 
 -- ---- how deep an element nests
 

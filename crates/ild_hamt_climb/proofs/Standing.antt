@@ -21,7 +21,7 @@ use Rattle.ild_node_slots.specs.Places.{elements_data, elements_before}
 use Rattle.ild_splice.specs.Laws.{IsFoundAt, ItemsAreAt}
 use Rattle.ild_splice.specs.Splices.{IsAt}
 use Rattle.ild_splice_changes.specs.TreeChange.{nth}
-use Rattle.ild_hamt_climb.specs.Elements.{IsElementAt}
+use Rattle.ild_hamt_climb.specs.inside.Elements.{IsElementAt}
 
 none_of : (o : Option CborFault) → is_none o ≡ true → o ≡ None
 none_of None h = refl

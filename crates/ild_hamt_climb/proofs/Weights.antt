@@ -16,7 +16,7 @@ use Rattle.ild_hamt_trie.proofs.Fold.{slot-few, slot-many, child-many, other-hel
 use Rattle.ild_hamt_trie.proofs.Index.{index_below}
 use Rattle.ild_hamt_trie.proofs.Node.{node-slots}
 use Rattle.ild_hamt_trie.proofs.Slots.{slot_at}
-use Rattle.ild_hamt_climb.specs.Gathering.{put_each, weight, held_to}
+use Rattle.ild_hamt_climb.specs.inside.Gathering.{put_each, weight, held_to}
 use Rattle.ild_hamt_climb.specs.Rewriting.{Lifts}
 use Rattle.ild_hamt_climb.proofs.PutEach.{held-few, held-first, held-all, held-same, held-more, held-longer}
 

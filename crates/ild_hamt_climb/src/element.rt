@@ -9,7 +9,7 @@ ghost use Rattle.ild_node.specs.NewSlots.{IsFilled, hold_seen};
 ghost use Rattle.ild_node_slots.specs.Places.{elements_before};
 ghost use Rattle.ild_node_slots.specs.Views.{HasSlots};
 ghost use Rattle.ild_splice.specs.Splices.{IsAt};
-ghost use Rattle.ild_hamt_climb.specs.Elements.{IsElementAt, SpellsElement};
+ghost use Rattle.ild_hamt_climb.specs.inside.Elements.{IsElementAt, SpellsElement};
 
 use ild_cbor::{Node, known_root};
 use ild_data::{BlockId, Octets};

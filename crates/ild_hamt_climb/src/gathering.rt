@@ -8,7 +8,7 @@ ghost use Rattle.ild_node.specs.NewSlots.{slot_seen};
 ghost use Rattle.ild_node_slots.specs.Steps.{IsAtSlot};
 ghost use Rattle.ild_node_slots.specs.Views.{HasEntries, HasSlots};
 ghost use Rattle.ild_node_slots.specs.declared.view.NodeView.{NodeView};
-ghost use Rattle.ild_hamt_climb.specs.Gathering.{put_each, some_entry};
+ghost use Rattle.ild_hamt_climb.specs.inside.Gathering.{put_each, some_entry};
 ghost use Rattle.ild_hamt_climb.specs.Known.{SomeBucket, SomeSlot, SomeWalk};
 ghost use Rattle.ild_hamt_climb.specs.Seen.{Shows};
 

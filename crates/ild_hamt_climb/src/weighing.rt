@@ -6,7 +6,7 @@ ghost use Rattle.ild_node.specs.NewSlots.{slot_seen};
 ghost use Rattle.ild_node_slots.specs.Steps.{IsAtSlot};
 ghost use Rattle.ild_node_slots.specs.Views.{HasSlots};
 ghost use Rattle.ild_node_slots.specs.declared.view.NodeView.{NodeView};
-ghost use Rattle.ild_hamt_climb.specs.Gathering.{weight};
+ghost use Rattle.ild_hamt_climb.specs.inside.Gathering.{weight};
 ghost use Rattle.ild_hamt_climb.specs.Seen.{Shows};
 
 use ild_data::HamtShape;

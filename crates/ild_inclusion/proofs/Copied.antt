@@ -16,7 +16,7 @@ use Rattle.ild_view.specs.View.{IsView, body_of, piece_in, slot_of, table_of}
 use Rattle.ild_view.specs.declared.body.Body.{Body}
 use Rattle.ild_view.specs.declared.body.Body.TheVariants as B
 use Rattle.ild_view.specs.declared.view.View.{View}
-use Rattle.ild_inclusion.specs.Shown.{IsShown}
+use Rattle.ild_inclusion.specs.inside.Shown.{IsShown}
 
 node_stands : (rows : List Row) (b : Body) (n : Node) (t : Data) → piece_in b ≡ Some (P.Node n) → BodyStands rows b t → Stands n t
 node_stands rows (B.Held p) n t e stands = subst (λ (q : Piece). StandsFor rows q t) (same_Some p (P.Node n) e) stands

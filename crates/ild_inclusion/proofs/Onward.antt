@@ -13,7 +13,7 @@ use Rattle.ild_view.specs.Parts.{IsPartView}
 use Rattle.ild_view.specs.View.{IsView, slot_of, table_of}
 use Rattle.ild_inclusion.specs.Given.{Gives, HasMemory, OffGiven, OnGiven, RefusedGiven}
 use Rattle.ild_inclusion.specs.Says.{Ends, EndsHere, Follows, Goes}
-use Rattle.ild_inclusion.specs.Shown.{IsShown}
+use Rattle.ild_inclusion.specs.inside.Shown.{IsShown}
 use Rattle.ild_inclusion.specs.declared.answer.Answer.{Answer}
 use Rattle.ild_inclusion.specs.declared.answer.Answer.TheVariants as A
 use Rattle.ild_inclusion.specs.declared.fault.Reject.{Reject}

@@ -2,7 +2,7 @@
 ghost use Rattle.std.specs.Prelude.{◌<◌, ◌+◌, ◌^◌, IfOk, length};
 ghost use Rattle.ild_inclusion.specs.Given.{Gives, HasMemory};
 ghost use Rattle.ild_inclusion.specs.Says.{Ends, Follows};
-ghost use Rattle.ild_inclusion.specs.Shown.{IsShown};
+ghost use Rattle.ild_inclusion.specs.inside.Shown.{IsShown};
 ghost use Rattle.ild_schema.specs.Value.{Value};
 ghost use Rattle.ild_view.specs.View.{IsView, slot_of, table_of};
 

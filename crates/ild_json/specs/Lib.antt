@@ -3,6 +3,6 @@ pub mod Faults
 pub mod Reading
 pub mod Printing
 pub mod Tokens
-pub mod Keyed
 pub mod Sound
 pub mod Law
+pub mod inside

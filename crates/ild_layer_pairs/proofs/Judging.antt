@@ -14,7 +14,7 @@ use Rattle.ild_layer_fields.proofs.Pairing.{item_end, list_of}
 use Rattle.ild_typed.specs.Named.{has_twice, is_among, is_pair, is_two, items_or, name_of, pair_names}
 use Rattle.ild_typed.specs.Strings.{pair_data}
 use Rattle.ild_layer_pairs.specs.Judged.{IsJudged, cause_of, is_miscounted, is_odd}
-use Rattle.ild_layer_pairs.specs.Keys.{texts}
+use Rattle.ild_layer_pairs.specs.inside.Keys.{texts}
 use Rattle.ild_layer_pairs.proofs.Meeting.{same_swap}
 
 -- ---- one item

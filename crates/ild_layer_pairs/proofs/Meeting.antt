@@ -7,7 +7,7 @@ use Rattle.ild_data.specs.Key.{same_text}
 use Rattle.ild_typed.specs.Named.{has_twice, is_among}
 use Rattle.ild_typed.proofs.Entries.{same_text_self}
 use Rattle.std.specs.Cmp.Lexicographic.{same_text as text_same}
-use Rattle.ild_layer_pairs.specs.Keys.{texts}
+use Rattle.ild_layer_pairs.specs.inside.Keys.{texts}
 
 pub same_swap : (a b : List ℕ) → same_text a b ≡ same_text b a
 same_swap a b = by (same_text a b) (same_text b a) refl refl where

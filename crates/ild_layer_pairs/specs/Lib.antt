@@ -1,4 +1,4 @@
 pub mod Shape
 pub mod Judged
-pub mod Keys
 pub mod Apart
+pub mod inside

@@ -4,7 +4,7 @@ ghost use Rattle.ild_data.specs.Key.{same_text};
 ghost use Rattle.ild_typed.specs.Named.{has_twice, is_among, names};
 ghost use Rattle.ild_layer_fields.specs.Entries.{text_entries};
 ghost use Rattle.ild_text.specs.Parts.{pairs_in};
-ghost use Rattle.ild_layer_pairs.specs.Keys.{texts};
+ghost use Rattle.ild_layer_pairs.specs.inside.Keys.{texts};
 
 use ild_text::PairParts;
 use std::alloc::{AllocError, Global};

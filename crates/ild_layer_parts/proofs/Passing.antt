@@ -29,7 +29,7 @@ use Rattle.ild_layer_parts.specs.declared.parts.Parts.{Parts}
 use Rattle.ild_layer_pairs.specs.Apart.{IsNamed}
 use Rattle.ild_layer_parts.specs.Elements.{HasElements}
 use Rattle.ild_layer_parts.specs.Entries.{HasEntries, IsHeld, held_count}
-use Rattle.ild_layer_parts.specs.Leaf.{FitsOfKind, IsBehindEntry, IsBehindItem, IsBehindPair, Passes}
+use Rattle.ild_layer_parts.specs.inside.Leaf.{FitsOfKind, IsBehindEntry, IsBehindItem, IsBehindPair, Passes}
 use Rattle.ild_layer_parts.specs.PairEntries.{HasPairs, IsPairHeld}
 use Rattle.ild_layer_parts.specs.Part.{FitsAnywhere}
 use Rattle.ild_layer_parts.specs.Parts.{HasLeft as PartsLeft, SplitsOff}

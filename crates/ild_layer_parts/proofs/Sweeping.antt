@@ -17,7 +17,7 @@ use Rattle.ild_struct.specs.Present.{ArePresent, HasPresent, PresentGives}
 use Rattle.ild_typed.specs.Fields.{is_implicit}
 use Rattle.ild_typed.specs.Spots.{Spot, field_spots, field_steps, value_spot}
 use Rattle.ild_layer_parts.specs.Fields.{FieldsLeft, is_there, written_in}
-use Rattle.ild_layer_parts.specs.Leaf.{IsFitAt, Passes}
+use Rattle.ild_layer_parts.specs.inside.Leaf.{IsFitAt, Passes}
 use Rattle.ild_layer_parts.specs.Part.{FitsAnywhere}
 use Rattle.ild_layer_parts.proofs.Lists.{all_got, all_join}
 use Rattle.ild_layer_parts.proofs.FieldSteps.{implicit_fits}

@@ -15,7 +15,7 @@ use Rattle.ild_typed.specs.Schema.{IsSchema}
 use Rattle.ild_typed.specs.Spots.{Spot}
 use Rattle.std.proofs.lemmas.Option.{same_Some}
 use Rattle.ild_layer_parts.specs.Fields.{FieldsLeft}
-use Rattle.ild_layer_parts.specs.Leaf.{Passes}
+use Rattle.ild_layer_parts.specs.inside.Leaf.{Passes}
 use Rattle.ild_layer_parts.specs.Ready.{AreIn, IsIn}
 use Rattle.ild_layer_parts.proofs.Passing.{kind_fits}
 use Rattle.ild_layer_parts.proofs.Lists.{all_got}

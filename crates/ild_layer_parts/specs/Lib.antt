@@ -8,5 +8,5 @@ pub mod PairEntries
 pub mod Texts
 pub mod Parts
 pub mod Ready
-pub mod Leaf
 pub mod Inside
+pub mod inside

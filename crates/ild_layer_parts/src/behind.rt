@@ -12,7 +12,7 @@ ghost use Rattle.ild_typed.specs.Strings.{pair_data};
 ghost use Rattle.ild_layer_parts.specs.Elements.{HasElements};
 ghost use Rattle.ild_layer_parts.specs.Entries.{HasEntries};
 ghost use Rattle.ild_layer_parts.specs.Inside.{AreInside};
-ghost use Rattle.ild_layer_parts.specs.Leaf.{BehindEntry, BehindItem, BehindPair, FitsOfKind, Passes};
+ghost use Rattle.ild_layer_parts.specs.inside.Leaf.{BehindEntry, BehindItem, BehindPair, FitsOfKind, Passes};
 ghost use Rattle.ild_layer_parts.specs.PairEntries.{HasPairs};
 ghost use Rattle.ild_layer_parts.specs.Parts.{HasLeft, SplitsOff};
 ghost use Rattle.ild_layer_parts.specs.Ready.{AreReady, IsIn};

@@ -5,7 +5,7 @@ ghost use Rattle.ild_data.specs.Tree.{IsTree};
 ghost use Rattle.ild_layer_piece.specs.Pieces.{StandsFor};
 ghost use Rattle.ild_typed.specs.Fits.{Fits};
 ghost use Rattle.ild_typed.specs.Layers.{Shows};
-ghost use Rattle.ild_layer_parts.specs.Leaf.{FitsOfKind};
+ghost use Rattle.ild_layer_parts.specs.inside.Leaf.{FitsOfKind};
 ghost use Rattle.ild_layer_parts.specs.Ready.{IsIn};
 
 use ild_cbor::{Kind, Piece};

@@ -5,7 +5,7 @@ ghost use Rattle.ild_layer_piece.specs.Pieces.{StandsFor};
 ghost use Rattle.ild_struct.specs.Parts.{is_told};
 ghost use Rattle.ild_typed.specs.Spots.{Spot};
 ghost use Rattle.ild_layer_parts.specs.Fields.{HasFields};
-ghost use Rattle.ild_layer_parts.specs.Leaf.{IsFitAt, Passes};
+ghost use Rattle.ild_layer_parts.specs.inside.Leaf.{IsFitAt, Passes};
 ghost use Rattle.ild_layer_parts.specs.Ready.{AreIn};
 
 use crate::fields::Fields;

@@ -7,7 +7,7 @@ use Rattle.ild_lex.specs.declared.token.Token.{Token}
 use Rattle.ild_lex.specs.Bytes.{is_blank, hash, line_feed}
 use Rattle.ild_lex.specs.Gap.{IsGap}
 use Rattle.ild_lex.specs.Lex.{Stop, Lexes}
-use Rattle.ild_lex.specs.Scan.{Piece, token, wrong, unended, piece_of, skip, First, goes, stops, by_piece, behind_gap, first_of}
+use Rattle.ild_lex.specs.inside.Scan.{Piece, token, wrong, unended, piece_of, skip, First, goes, stops, by_piece, behind_gap, first_of}
 use Rattle.ild_lex.proofs.Gaps.{skip-gap, gap_before, gap_last}
 use Rattle.ild_lex.proofs.Pieces.{IsPiece, piece_at}
 

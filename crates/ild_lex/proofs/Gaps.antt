@@ -6,7 +6,7 @@ use Rattle.std.proofs.lemmas.List.Elements.{All-from_recursion, recursion_from_A
 use Rattle.std.specs.List.{AllByRecursion}
 use Rattle.ild_lex.specs.Bytes.{is_blank, hash, line_feed}
 use Rattle.ild_lex.specs.Gap.{IsGap, IsComment, IsLastComment}
-use Rattle.ild_lex.specs.Scan.{skip}
+use Rattle.ild_lex.specs.inside.Scan.{skip}
 
 mutual
   -- the scanner passes over a gap

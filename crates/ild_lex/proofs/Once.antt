@@ -11,7 +11,7 @@ use Rattle.ild_lex.specs.Form.{IsLongest, are_digits, is_inside}
 use Rattle.ild_lex.specs.declared.error.LexErr.{LexErr}
 use Rattle.ild_lex.specs.declared.error.LexErr.TheVariants as E
 use Rattle.ild_lex.specs.Lex.{Stop, all_read, wrong_char, unended_text, IsWrongFirst, HasWrongEscape, IsUnended, NoDigit, EndsAt, Lexes, Reads, Answers}
-use Rattle.ild_lex.specs.Scan.{Piece, token, wrong, unended, piece_of, piece_of_text, skip, skip_while, begins_with_digit, goes, stops, by_piece, behind_gap, first_of}
+use Rattle.ild_lex.specs.inside.Scan.{Piece, token, wrong, unended, piece_of, piece_of_text, skip, skip_while, begins_with_digit, goes, stops, by_piece, behind_gap, first_of}
 use Rattle.ild_lex.proofs.Classes.{mark_is, letter_is, digit_is}
 use Rattle.ild_lex.proofs.Runs.{Begins, run_more, skip-run, skip-none}
 use Rattle.ild_lex.proofs.Texts.{text-inside, text-closed, text-cut_short, text-wrong}

@@ -8,7 +8,7 @@ use Rattle.ild_lex.specs.declared.token.TokenKind.TheVariants.{Word, Number, Tex
 use Rattle.ild_lex.specs.Bytes.{is_letter, is_digit, is_word_byte, is_mark, is_blank, hash, quote, minus}
 use Rattle.ild_lex.specs.Form.{IsToken, IsText, IsMark, IsLongest, is_word, is_number, are_digits, is_inside}
 use Rattle.ild_lex.specs.Lex.{IsWrongFirst, HasWrongEscape, IsUnended, NoDigit}
-use Rattle.ild_lex.specs.Scan.{Piece, token, wrong, unended, piece_of, piece_of_text, skip_while, begins_with_digit}
+use Rattle.ild_lex.specs.inside.Scan.{Piece, token, wrong, unended, piece_of, piece_of_text, skip_while, begins_with_digit}
 use Rattle.ild_lex.proofs.Classes.{mark_is, letter_is, digit_is}
 use Rattle.ild_lex.proofs.Runs.{Begins, run_of, run_stops}
 use Rattle.ild_lex.proofs.Texts.{IsTextEnd, text_end, text-inside}

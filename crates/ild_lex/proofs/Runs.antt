@@ -2,7 +2,7 @@
 use Rattle.std.proofs.Common.{◌≡◌, ℕ, Bool, true, false, cond, List, [], ◌∷◌, ◌++◌, refl, ap}
 use Rattle.std.specs.List.{list_all}
 use Rattle.std.proofs.lemmas.Bool.{and_parts, and_from}
-use Rattle.ild_lex.specs.Scan.{skip_while}
+use Rattle.ild_lex.specs.inside.Scan.{skip_while}
 
 -- the bytes begin with none that passes
 abbrev pub Begins : (ℕ → Bool) → List ℕ → Type 0

@@ -6,7 +6,7 @@ use Rattle.ild_lex.specs.declared.token.TokenKind.TheVariants.{Text}
 use Rattle.ild_lex.specs.Bytes.{is_plain, is_escape, quote, backslash, line_feed}
 use Rattle.ild_lex.specs.Form.{is_inside}
 use Rattle.ild_lex.specs.Lex.{IsCutShort, IsWrongEscape}
-use Rattle.ild_lex.specs.Scan.{Piece, token, wrong, unended, piece_of_text}
+use Rattle.ild_lex.specs.inside.Scan.{Piece, token, wrong, unended, piece_of_text}
 
 pub record IsPlainByte (b : ℕ) : Type 0 where
   pub quote : (b == quote) ≡ false

@@ -3,4 +3,4 @@ pub mod Form
 pub mod Gap
 pub mod Lex
 pub mod Span
-pub mod Scan
+pub mod inside

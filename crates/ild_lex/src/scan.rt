@@ -1,7 +1,7 @@
 //! One pass over the bytes of a source.
 ghost use Rattle.std.specs.Prelude.{◌≡◌, ◌≤◌, length, false};
 ghost use Rattle.ild_lex.specs.Bytes.{is_letter, is_digit, is_word_byte, is_mark, is_blank};
-ghost use Rattle.ild_lex.specs.Scan.{skip, skip_while, begins_with_digit, piece_of, piece_of_text, piece_seen, first_of, first_seen};
+ghost use Rattle.ild_lex.specs.inside.Scan.{skip, skip_while, begins_with_digit, piece_of, piece_of_text, piece_seen, first_of, first_seen};
 
 use crate::{Token, TokenKind};
 

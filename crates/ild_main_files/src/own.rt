@@ -2,7 +2,7 @@
 ghost use Rattle.std.specs.BTreeSet.{contains};
 ghost use Rattle.std.specs.Ordering.{nat_cmp};
 ghost use Rattle.std.specs.Prelude.{◌≡◌, ℕ, IfOk, true};
-ghost use Rattle.ild_main_files.specs.Own.{may_stand};
+ghost use Rattle.ild_main_files.specs.inside.Own.{may_stand};
 
 use crate::part::Folder;
 use ild_data::BlockId;

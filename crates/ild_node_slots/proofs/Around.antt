@@ -7,7 +7,7 @@ use Rattle.ild_data.specs.declared.hamt_shape.HamtShape.{HamtShape}
 use Rattle.ild_cbor.specs.Nodes.{Stands, AreAround}
 use Rattle.ild_typed.specs.NodeReading.{map_bit}
 use Rattle.ild_typed.proofs.NodeMaps.{bit-read}
-use Rattle.ild_node_slots.specs.Reading.{ones_below}
+use Rattle.ild_node_slots.specs.inside.Reading.{ones_below}
 use Rattle.ild_node_slots.specs.Views.{HasSlots, spelled_elements}
 use Rattle.ild_node_slots.specs.declared.view.NodeView.{NodeView}
 use Rattle.ild_node_slots.proofs.Shapes.{whole_map}

@@ -4,7 +4,7 @@ use Rattle.std.specs.Prelude.{slice_index, count_ones, nat_le, ◌&&◌}
 use Rattle.std.specs.Int.Count.{ones}
 use Rattle.std.proofs.lemmas.Bool.{agree_below_at, eqb-true, leb-true, and_parts}
 use Rattle.ild_typed.specs.NodeReading.{map_bit}
-use Rattle.ild_node_slots.specs.Reading.{byte_ones, ones_below}
+use Rattle.ild_node_slots.specs.inside.Reading.{byte_ones, ones_below}
 
 -- by trying all bytes
 counted : (b : ℕ) → b < 256 → (eqb (count_ones b) (byte_ones b 8) && nat_le (byte_ones b 8) 8) ≡ true

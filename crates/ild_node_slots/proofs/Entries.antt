@@ -7,7 +7,7 @@ use Rattle.ild_cbor.specs.Nodes.{Stands, IsPart}
 use Rattle.ild_cbor.specs.Scalar.{bytes_of}
 use Rattle.ild_cbor.specs.Span.{place_of}
 use Rattle.ild_typed.specs.NodeReading.{text_in, key_in, pair_in, entry_in, entry_of_pair}
-use Rattle.ild_node_slots.specs.Parts.{PairIs, EntryIn}
+use Rattle.ild_node_slots.specs.inside.Parts.{PairIs, EntryIn}
 use Rattle.ild_cbor.specs.Pairing.{FindsPair}
 
 entry_made : (n b : Node) (t v : Data) (m : Option (List ℕ)) (r : Option (Bor (List ℕ))) → option_map (λ s. s.now) r ≡ m → IsPart n b (place_of t 1) v

@@ -12,7 +12,7 @@ use Rattle.ild_data.specs.declared.hamt_shape.HamtShape.{HamtShape}
 use Rattle.ild_data.specs.Trie.{TrieSlot, map_of, elements_of, node_data}
 use Rattle.ild_node_slots.specs.Form.{IsNode}
 use Rattle.ild_typed.specs.NodeReading.{pair_in, parts_fit, pair_fits, node_fits}
-use Rattle.ild_node_slots.specs.Parts.{IsViewOf, PairIs}
+use Rattle.ild_node_slots.specs.inside.Parts.{IsViewOf, PairIs}
 use Rattle.ild_node_slots.specs.Views.{HasSlots}
 use Rattle.ild_node_slots.specs.declared.view.NodeView.{NodeView}
 use Rattle.ild_node_slots.proofs.Iter.{iter-first}

@@ -22,9 +22,9 @@ use Rattle.std.specs.Borrow.{Bor}
 use Rattle.ild_typed.specs.Node.{IsSlot}
 use Rattle.ild_node_slots.specs.Form.{AreTexts, AreSlots, bucket_data}
 use Rattle.ild_typed.specs.NodeReading.{entry_in, links_block, id_in, child_in, map_bit}
-use Rattle.ild_node_slots.specs.Reading.{ones_below}
+use Rattle.ild_node_slots.specs.inside.Reading.{ones_below}
 use Rattle.ild_node_slots.specs.Items.{IsAtItem}
-use Rattle.ild_node_slots.specs.Parts.{EntryIn}
+use Rattle.ild_node_slots.specs.inside.Parts.{EntryIn}
 use Rattle.ild_node_slots.specs.Places.{elements_data, elements_before, slot_place}
 use Rattle.ild_node_slots.specs.Steps.{IsAtSlot}
 use Rattle.ild_node_slots.specs.Views.{HasSlots, IsBucketAt, EntryIs, SlotHolds, SlotIs, ElementIs}

@@ -18,7 +18,7 @@ use Rattle.ild_hamt_trie.proofs.Parts.{same_key, key_itself}
 use Rattle.ild_node_slots.specs.Form.{bucket_data}
 use Rattle.ild_typed.specs.NodeReading.{pair_in, elements_fit, map_bit, map_bits}
 use Rattle.ild_node_slots.specs.Items.{IsAtItem}
-use Rattle.ild_node_slots.specs.Parts.{PairIs}
+use Rattle.ild_node_slots.specs.inside.Parts.{PairIs}
 use Rattle.ild_node_slots.specs.Places.{value_place}
 use Rattle.ild_node_slots.specs.Told.{ElementTold}
 use Rattle.ild_node_slots.specs.Views.{ValueIn}

@@ -1,10 +1,9 @@
 pub mod Form
 pub mod Places
-pub mod Reading
-pub mod Parts
 pub mod Told
 pub mod Items
 pub mod Views
 pub mod Steps
 pub mod Spelled
 pub mod Roots
+pub mod inside

@@ -4,7 +4,7 @@ ghost use Rattle.ild_data.specs.Data.{Data};
 ghost use Rattle.ild_data.specs.Trie.{TrieSlot, node_data};
 ghost use Rattle.ild_cbor.specs.Nodes.{Stands};
 ghost use Rattle.ild_node_slots.specs.Form.{IsNode};
-ghost use Rattle.ild_node_slots.specs.Parts.{IsViewOf};
+ghost use Rattle.ild_node_slots.specs.inside.Parts.{IsViewOf};
 ghost use Rattle.ild_typed.specs.NodeReading.{node_fits};
 ghost use Rattle.ild_node_slots.specs.Views.{HasSlots, IsNodeItem, view_node};
 

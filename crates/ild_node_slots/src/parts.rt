@@ -8,9 +8,9 @@ ghost use Rattle.ild_cbor.specs.Steps.{HasItems};
 ghost use Rattle.ild_data.specs.ByteOrder.{bytewise};
 ghost use Rattle.ild_data.specs.Trie.{entry_data};
 ghost use Rattle.ild_typed.specs.NodeReading.{text_in, pair_in, entry_in, rises, child_in, links_block, map_bit, map_bits, elements_fit, parts_fit};
-ghost use Rattle.ild_node_slots.specs.Reading.{byte_ones, ones_below};
+ghost use Rattle.ild_node_slots.specs.inside.Reading.{byte_ones, ones_below};
 ghost use Rattle.ild_node_slots.specs.Items.{IsAtItem};
-ghost use Rattle.ild_node_slots.specs.Parts.{PairIs, EntryIn};
+ghost use Rattle.ild_node_slots.specs.inside.Parts.{PairIs, EntryIn};
 ghost use Rattle.ild_node_slots.specs.Views.{ValueIn};
 
 use crate::told::next_element;

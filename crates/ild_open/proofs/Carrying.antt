@@ -54,7 +54,7 @@ use Rattle.ild_open_parts.specs.Reads.{BrokenPart, HasValue, Reads}
 use Rattle.ild_open_parts.specs.declared.fault.OpenFault.{OpenFault}
 use Rattle.ild_open_parts.specs.declared.fault.OpenFault.TheVariants as F
 use Rattle.ild_open_read.specs.Parts.{ReadsSlot}
-use Rattle.ild_open.specs.Item.{DataAnswer, LoadsAlone, LoadsData, LoadsFlat, LoadsPiece, LoadsShown}
+use Rattle.ild_open.specs.inside.Item.{DataAnswer, LoadsAlone, LoadsData, LoadsFlat, LoadsPiece, LoadsShown}
 use Rattle.ild_open.specs.Loaded.{IsShallow, IsShown, LoadAnswer, Loads}
 use Rattle.ild_open.proofs.Flatly.{no_broken}
 

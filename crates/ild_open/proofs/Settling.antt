@@ -42,7 +42,7 @@ use Rattle.ild_open_parts.specs.Reads.{HasValue as HasPart, Reads}
 use Rattle.ild_open_parts.specs.declared.fault.OpenFault.{OpenFault}
 use Rattle.ild_open_parts.specs.declared.fault.OpenFault.TheVariants as F
 use Rattle.ild_open.specs.Broken.{IsWrongRoot}
-use Rattle.ild_open.specs.Found.{FindAnswer, Finds, HasKept, IsKept, Judges, ReadsRoot}
+use Rattle.ild_open.specs.inside.Found.{FindAnswer, Finds, HasKept, IsKept, Judges, ReadsRoot}
 use Rattle.ild_open.specs.Opened.{HasOpened, HasValue, StandsInBlock, NoneStands, OpenStops, Opens}
 use Rattle.ild_open_parts.proofs.Breaking.{broken_earlier, rose_later}
 

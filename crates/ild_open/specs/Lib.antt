@@ -1,5 +1,4 @@
 pub mod Broken
-pub mod Found
-pub mod Item
 pub mod Loaded
 pub mod Opened
+pub mod inside

@@ -12,7 +12,7 @@ ghost use Rattle.ild_open_held.specs.Splits.{HasFront};
 ghost use Rattle.ild_open_parts.specs.Checked.{IsChecked};
 ghost use Rattle.ild_open_read.specs.Parts.{ReadsSlot};
 ghost use Rattle.ild_typed.proofs.Flat.{IsFlat};
-ghost use Rattle.ild_open.specs.Item.{LoadsAlone, LoadsFlat, LoadsPiece};
+ghost use Rattle.ild_open.specs.inside.Item.{LoadsAlone, LoadsFlat, LoadsPiece};
 ghost use Rattle.ild_open.specs.Loaded.{IsShallow, Loads};
 
 use ild_cbor::{Kind, Node, Piece, check};

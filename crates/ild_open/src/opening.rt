@@ -3,7 +3,7 @@ ghost use Rattle.std.specs.Prelude.{◌≡◌, ◌<◌, None, length};
 ghost use Rattle.ild_cbor.specs.Reading.{fault_of};
 ghost use Rattle.ild_data.specs.Bytes.{AreBytes};
 ghost use Rattle.ild_view_doc.specs.Block.{HasRoot};
-ghost use Rattle.ild_open.specs.Found.{Finds, HasKept, Judges, ReadsRoot};
+ghost use Rattle.ild_open.specs.inside.Found.{Finds, HasKept, Judges, ReadsRoot};
 ghost use Rattle.ild_open.specs.Opened.{HasOpened, HasValue, Opens};
 
 use ild_cbor::{BlockWhy, Piece, known_root};

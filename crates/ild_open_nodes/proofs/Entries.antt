@@ -30,9 +30,9 @@ use Rattle.ild_open_parts.specs.Reads.{BrokenPart, HasValue, NoValue, Reads, Sto
 use Rattle.ild_open_parts.specs.Sites.{HasEntry, Site}
 use Rattle.ild_open_parts.specs.declared.fault.OpenFault.{OpenFault}
 use Rattle.ild_open_parts.specs.declared.fault.OpenFault.TheVariants as F
-use Rattle.ild_open_nodes.specs.Beneath.{BrokenIn, BrokenOn, PassesEntry, StandsOn, site}
+use Rattle.ild_open_nodes.specs.inside.Beneath.{BrokenIn, BrokenOn, PassesEntry, StandsOn, site}
 use Rattle.ild_open_nodes.specs.Nodes.{EntryGiven, EntryOwned}
-use Rattle.ild_open_nodes.specs.Passes.{NoneGiven, Passes}
+use Rattle.ild_open_nodes.specs.inside.Passes.{NoneGiven, Passes}
 use Rattle.ild_open_nodes.specs.Reading.{EntryChecks, EntryShows, IsWrongItem}
 
 module _ (h : List ℕ → List ℕ) (p : HamtShape) (rows : List Row) (room : ℕ) (key : TypeNo) (u : Slot) (way at : List ℕ) (slots : List TrieSlot) (i : ℕ) (es : List (List ℕ × Data)) (j : ℕ) (e : List ℕ × Data)

@@ -35,9 +35,9 @@ use Rattle.ild_open_parts.specs.Reads.{Stops}
 use Rattle.ild_open_parts.specs.declared.fault.OpenFault.{OpenFault}
 use Rattle.ild_open_parts.specs.declared.fault.OpenFault.TheVariants as F
 use Rattle.ild_open_parts.proofs.Turning.{stops_later}
-use Rattle.ild_open_nodes.specs.Beneath.{BrokenAt, BrokenIn, BrokenOn, HangsOn, PassesChild, PassesSlots, StandsOn}
+use Rattle.ild_open_nodes.specs.inside.Beneath.{BrokenAt, BrokenIn, BrokenOn, HangsOn, PassesChild, PassesSlots, StandsOn}
 use Rattle.ild_open_nodes.specs.Nodes.{EntryGiven, EntryOwned, SlotGiven, SlotOwned}
-use Rattle.ild_open_nodes.specs.Passes.{NoneGiven, Passes}
+use Rattle.ild_open_nodes.specs.inside.Passes.{NoneGiven, Passes}
 use Rattle.ild_open_nodes.specs.Sums.{EachOwned, SumsTo}
 use Rattle.ild_open_nodes.specs.Reading.{GetsBlock, IsFewNode, IsNodeView, ReadsNode}
 use Rattle.ild_open_nodes.specs.Weights.{weights}

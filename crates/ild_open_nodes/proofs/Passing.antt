@@ -10,7 +10,7 @@ use Rattle.ild_open_parts.specs.Reads.{Stops}
 use Rattle.ild_open_parts.specs.declared.fault.OpenFault.{OpenFault}
 use Rattle.ild_open_parts.specs.declared.fault.OpenFault.TheVariants as F
 use Rattle.ild_open_parts.proofs.Turning.{stops_later}
-use Rattle.ild_open_nodes.specs.Passes.{NoneGiven, Passes}
+use Rattle.ild_open_nodes.specs.inside.Passes.{NoneGiven, Passes}
 use Rattle.ild_open_nodes.specs.Sums.{EachOwned, SumsTo}
 
 -- ---- lists

@@ -24,7 +24,7 @@ use Rattle.ild_open_held.specs.Entries.{KeyFits}
 use Rattle.ild_open_held.specs.Splits.{AreHeld, entry_parts, nodes_in}
 use Rattle.ild_open_parts.specs.Broken.{HasBrokenBlock}
 use Rattle.ild_open_parts.specs.Reads.{BrokenPart}
-use Rattle.ild_open_nodes.specs.Beneath.{BrokenIn, BrokenOn, site}
+use Rattle.ild_open_nodes.specs.inside.Beneath.{BrokenIn, BrokenOn, site}
 use Rattle.ild_open_nodes.specs.Nodes.{SlotGiven, SlotOwned}
 use Rattle.ild_open_nodes.specs.Sums.{EachOwned, SumsTo}
 use Rattle.ild_open_nodes.proofs.Splitting.{EntryAsks, Joined, joined, splits}

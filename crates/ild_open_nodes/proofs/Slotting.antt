@@ -27,9 +27,9 @@ use Rattle.ild_open_parts.specs.Sites.{Site}
 use Rattle.ild_open_parts.specs.declared.fault.OpenFault.{OpenFault}
 use Rattle.ild_open_parts.specs.declared.fault.OpenFault.TheVariants as F
 use Rattle.ild_open_parts.proofs.Breaking.{broken_earlier, rose_later}
-use Rattle.ild_open_nodes.specs.Beneath.{BrokenAt, BrokenIn, BrokenOn, HangsOn, PassesChild, PassesEntry, PassesSlot, StandsOn, site}
+use Rattle.ild_open_nodes.specs.inside.Beneath.{BrokenAt, BrokenIn, BrokenOn, HangsOn, PassesChild, PassesEntry, PassesSlot, StandsOn, site}
 use Rattle.ild_open_nodes.specs.Nodes.{EntryGiven, EntryOwned, SlotGiven, SlotOwned}
-use Rattle.ild_open_nodes.specs.Passes.{Passes}
+use Rattle.ild_open_nodes.specs.inside.Passes.{Passes}
 use Rattle.ild_open_nodes.specs.Sums.{EachOwned, SumsTo}
 use Rattle.ild_open_nodes.proofs.Passing.{Passing, passes_as, passing_ends}
 use Rattle.ild_open_nodes.proofs.Splitting.{all_at, sums_more}

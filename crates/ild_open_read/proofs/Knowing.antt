@@ -42,8 +42,8 @@ use Rattle.ild_open_parts.proofs.Hamting.{hamt_read}
 use Rattle.ild_open_parts.proofs.Turning.{only_refl}
 use Rattle.ild_open_nodes.specs.Nodes.{SlotOwned}
 use Rattle.ild_open_read.proofs.Rooming.{has_more, slot_more}
-use Rattle.ild_open_read.specs.Passing.{ReadsRoot}
-use Rattle.ild_open_read.specs.Sound.{AreSound, HasHeld, IsPassed, IsSound, IsSoundNode, Remembers}
+use Rattle.ild_open_read.specs.inside.Passing.{ReadsRoot}
+use Rattle.ild_open_read.specs.inside.Sound.{AreSound, HasHeld, IsPassed, IsSound, IsSoundNode, Remembers}
 
 -- ---- the bytes at which a node stands
 

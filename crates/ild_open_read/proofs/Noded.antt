@@ -24,7 +24,7 @@ use Rattle.ild_schema.specs.declared.number.TypeNo.{TypeNo}
 use Rattle.ild_schema.specs.declared.row.Row.{Row}
 use Rattle.ild_layer_fields.proofs.Placing.{all_at}
 use Rattle.ild_open_known.specs.declared.kind.ReadAs.{ReadAs}
-use Rattle.ild_open_nodes.specs.Beneath.{PassesChild, PassesSlot, PassesSlots}
+use Rattle.ild_open_nodes.specs.inside.Beneath.{PassesChild, PassesSlot, PassesSlots}
 use Rattle.ild_open_nodes.specs.Nodes.{SlotOwned}
 use Rattle.ild_open_nodes.specs.Reading.{GetsBlock, IsNodeView, ReadsNode}
 use Rattle.ild_open_nodes.proofs.Noding.{child_done, child_faulty, child_known, child_missing, child_stops}

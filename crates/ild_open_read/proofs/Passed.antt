@@ -41,9 +41,9 @@ use Rattle.ild_open_held.specs.Splits.{AreHeld, entry_parts, entry_values, nodes
 use Rattle.ild_open_held.proofs.Hamts.{hamts_split}
 use Rattle.ild_open_rows.proofs.Given.{entries_are_given}
 use Rattle.ild_open_rows.proofs.Trees.{all_moved}
-use Rattle.ild_open_nodes.specs.Beneath.{BrokenIn, PassesSlots}
+use Rattle.ild_open_nodes.specs.inside.Beneath.{BrokenIn, PassesSlots}
 use Rattle.ild_open_nodes.specs.Nodes.{SlotGiven, SlotOwned}
-use Rattle.ild_open_nodes.specs.Passes.{NoneGiven}
+use Rattle.ild_open_nodes.specs.inside.Passes.{NoneGiven}
 use Rattle.ild_open_nodes.specs.Sums.{EachOwned, SumsTo}
 use Rattle.ild_open_nodes.proofs.Rooting.{root_broken, root_joined, root_splits}
 use Rattle.ild_open_nodes.proofs.Splitting.{EntryAlong, sums_more}
@@ -53,7 +53,7 @@ use Rattle.ild_open_parts.specs.declared.fault.OpenFault.{OpenFault}
 use Rattle.ild_open_parts.specs.declared.fault.OpenFault.TheVariants as F
 use Rattle.ild_open_parts.proofs.Turning.{only_refl, stops_later}
 use Rattle.ild_open_read.proofs.Ordered.{ordered, values_moved}
-use Rattle.ild_open_read.specs.Passing.{IsRootView, ReadsRoot}
+use Rattle.ild_open_read.specs.inside.Passing.{IsRootView, ReadsRoot}
 
 key_texts : (rows : List Row) (room : ℕ) (key : TypeNo) (es : List (List ℕ × Data)) → AllByRecursion (KeyFits rows room key) es → AreTexts es
 key_texts rows room key [] all = tt

@@ -14,7 +14,7 @@ use Rattle.ild_typed.proofs.Rooms.{fits_more}
 use Rattle.ild_open_held.specs.Held.{IsHeld}
 use Rattle.ild_open_held.specs.Entries.{KeyFits}
 use Rattle.ild_open_nodes.specs.Nodes.{EntryOwned, SlotOwned}
-use Rattle.ild_open_read.specs.Sound.{HasHeld}
+use Rattle.ild_open_read.specs.inside.Sound.{HasHeld}
 
 -- a value fits there, and neither its data nor its nodes ask for the room
 held_more : (block : List ℕ → Option (List ℕ)) (h : List ℕ → List ℕ) (rows : List Row) (room wider : ℕ) → room ≤ wider → (s : Slot) (t : Data) (v : Value)

@@ -3,7 +3,7 @@ ghost use Rattle.std.specs.Prelude.{◌≡◌};
 ghost use Rattle.ild_data.specs.Data.{Data};
 ghost use Rattle.ild_cbor.specs.Nodes.{Stands};
 ghost use Rattle.ild_open_parts.specs.Checked.{IsHamtRoot};
-ghost use Rattle.ild_open_read.specs.Passing.{IsRootView};
+ghost use Rattle.ild_open_read.specs.inside.Passing.{IsRootView};
 
 use ild_cbor::Node;
 use ild_data::HamtShape;

@@ -1,6 +1,6 @@
 //! What stays the same while a value is read.
 ghost use Rattle.std.specs.Prelude.{◌≡◌, true};
-ghost use Rattle.ild_open_read.specs.Sound.{IsPassed, Remembers};
+ghost use Rattle.ild_open_read.specs.inside.Sound.{IsPassed, Remembers};
 
 use ild_cbor::Node;
 use ild_data::KeyHash;

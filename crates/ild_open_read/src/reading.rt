@@ -16,8 +16,8 @@ ghost use Rattle.ild_layer_parts.specs.Ready.{IsInlined};
 ghost use Rattle.ild_open_parts.specs.Checked.{IsChecked, IsHamtRoot, IsTyped};
 ghost use Rattle.ild_open_parts.specs.Fields.{HasFieldFront, ReadsPart};
 ghost use Rattle.ild_open_parts.specs.Hamts.{IsSpelledRow, ReadsHamt, ReadsListed};
-ghost use Rattle.ild_open_read.specs.Passing.{ReadsRoot};
-ghost use Rattle.ild_open_read.specs.Sound.{AreSound};
+ghost use Rattle.ild_open_read.specs.inside.Passing.{ReadsRoot};
+ghost use Rattle.ild_open_read.specs.inside.Sound.{AreSound};
 ghost use Rattle.ild_open_read.specs.Parts.{HasFronts, ReadsElements, ReadsFields, ReadsForm, ReadsLeft, ReadsMember, ReadsSlot};
 
 use crate::form::hamt_shape;

@@ -11,7 +11,7 @@ use Rattle.ild_parse_grammar.proofs.CompleteParts.{schema-complete}
 use Rattle.ild_parse_grammar.proofs.OneTree.{IsTold, schema_told}
 use Rattle.ild_parse.specs.declared.error.ParseErr.{ParseErr}
 use Rattle.ild_parse.specs.declared.error.ParseErr.TheVariants as E
-use Rattle.ild_parse.specs.Seen.{Gives}
+use Rattle.ild_parse.specs.inside.Seen.{Gives}
 use Rattle.ild_parse.specs.Wrong.{IsWrong}
 
 -- what the readers gave for the bytes and the tokens that they were handed

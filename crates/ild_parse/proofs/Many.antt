@@ -5,7 +5,7 @@ use Rattle.ild_parse.specs.declared.error.ParseErr.{ParseErr}
 use Rattle.ild_parse.specs.declared.error.ParseErr.TheVariants as E
 use Rattle.ild_parse_grammar.proofs.Stream.{Stream, place}
 use Rattle.ild_parse_grammar.proofs.Read.{◌>>=◌, many_at}
-use Rattle.ild_parse.specs.Seen.{Fails}
+use Rattle.ild_parse.specs.inside.Seen.{Fails}
 
 -- what was read before, and what is still read
 abbrev pub with_front : {A : Type 0} → List A → Result (List A × Stream) ℕ → Result (List A × Stream) ℕ

@@ -19,7 +19,7 @@ use Rattle.ild_parse_grammar.proofs.Refer.{ref_at, inline_at, list_with, map_wit
 use Rattle.ild_parse_grammar.proofs.Form.{map_form_at, struct_form_at, union_form_at, enum_form_at, unit_form_at, optional_form_at, needed_form_at}
 use Rattle.ild_parse_grammar.proofs.Part.{field_at, member_at, enum_member_at}
 use Rattle.ild_parse_grammar.proofs.Grammar.{braced_at, map_at, list_at, struct_at, union_at, enum_at, unit_at, scalar_at, body_at, type_decl_at, decl_at}
-use Rattle.ild_parse.specs.Rules.{key_at, pair_at, element_at, ordered_settings_at, struct_behind, union_behind, enum_behind, worded_body_at, scalar_of, scalar_here, map_body_at, type_at}
+use Rattle.ild_parse.specs.inside.Rules.{key_at, pair_at, element_at, ordered_settings_at, struct_behind, union_behind, enum_behind, worded_body_at, scalar_of, scalar_here, map_body_at, type_at}
 
 -- a step behind the last of two, or of three, is a step of the whole
 step : {A B C : Type 0} (m : Result A ℕ) (f : A → B) (g : B → Result C ℕ) → (m >>= λ x. g (f x)) ≡ ((m >>= λ x. Ok (f x)) >>= g)

@@ -1,4 +1,2 @@
 pub mod Wrong
-pub mod Seen
-pub mod Ends
-pub mod Rules
+pub mod inside

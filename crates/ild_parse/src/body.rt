@@ -1,7 +1,7 @@
 //! Bodies of types.
 ghost use Rattle.std.specs.Prelude.{◌≡◌};
-ghost use Rattle.ild_parse.specs.Seen.{stream_of, Gives};
-ghost use Rattle.ild_parse.specs.Rules.{scalar_of, map_body_at, struct_behind, union_behind, enum_behind, worded_body_at};
+ghost use Rattle.ild_parse.specs.inside.Seen.{stream_of, Gives};
+ghost use Rattle.ild_parse.specs.inside.Rules.{scalar_of, map_body_at, struct_behind, union_behind, enum_behind, worded_body_at};
 ghost use Rattle.ild_parse_grammar.proofs.Grammar.{list_at, scalar_at, body_at};
 
 use crate::input::Input;

@@ -1,6 +1,6 @@
 //! Representations.
-ghost use Rattle.ild_parse.specs.Seen.{stream_of, Gives};
-ghost use Rattle.ild_parse.specs.Rules.{union_settings_at};
+ghost use Rattle.ild_parse.specs.inside.Seen.{stream_of, Gives};
+ghost use Rattle.ild_parse.specs.inside.Rules.{union_settings_at};
 ghost use Rattle.ild_parse_grammar.proofs.Form.{pairs_at, map_form_at, struct_form_at, envelope_at, union_form_at, enum_form_at, unit_form_at};
 
 use crate::input::Input;

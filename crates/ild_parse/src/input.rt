@@ -18,10 +18,10 @@ pub(crate) struct Input<'s> {
 }
 
 impl<'s> Input<'s> {
-    ghost use Rattle.ild_parse.specs.Seen.{stream_of};
+    ghost use Rattle.ild_parse.specs.inside.Seen.{stream_of};
     ghost use Rattle.ild_parse_grammar.proofs.Stream.{place, text_of, next_is, rest_of};
     ghost use Rattle.ild_parse_grammar.specs.Sign.{is_type, is_name, is_text, is_number, is_text_kind};
-    ghost use Rattle.ild_parse.specs.Seen.{Gives};
+    ghost use Rattle.ild_parse.specs.inside.Seen.{Gives};
     ghost use Rattle.ild_parse_grammar.proofs.Read.{literal_at};
     ghost use Rattle.ild_parse_grammar.proofs.Refer.{behind_word};
     ghost use Rattle.ild_parse_grammar.proofs.Stream.{most, is_end};

@@ -1,7 +1,7 @@
 //! References to types: the one rule of the grammar that nests.
-ghost use Rattle.ild_parse.specs.Seen.{stream_of, Gives};
+ghost use Rattle.ild_parse.specs.inside.Seen.{stream_of, Gives};
 ghost use Rattle.ild_parse_grammar.specs.ReferenceSeen.{refers_of};
-ghost use Rattle.ild_parse.specs.Rules.{key_at, pair_at, element_at};
+ghost use Rattle.ild_parse.specs.inside.Rules.{key_at, pair_at, element_at};
 ghost use Rattle.ild_parse_grammar.proofs.Refer.{inline_at, ref_with, list_with, map_with, named_at, link_at};
 
 use crate::input::Input;

@@ -1,6 +1,6 @@
 //! Fields of structs, and members of unions and enums.
 ghost use Rattle.std.specs.Prelude.{◌≡◌, IfOk, [], ◌∷◌};
-ghost use Rattle.ild_parse.specs.Seen.{stream_of, Gives};
+ghost use Rattle.ild_parse.specs.inside.Seen.{stream_of, Gives};
 ghost use Rattle.ild_parse_grammar.proofs.Part.{implicit_at, rename_opt_at, implicit_opt_at, opt_at, other_opt_at, opts_behind, opts_at, field_at, target_at, kind_of, mark_at, member_at, quoted_at, enum_member_at};
 
 use crate::input::Input;

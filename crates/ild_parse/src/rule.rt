@@ -4,9 +4,9 @@ ghost use Rattle.ild_parse_grammar.proofs.Stream.{Stream, most};
 ghost use Rattle.ild_parse_grammar.proofs.Read.{many_at};
 ghost use Rattle.ild_parse_grammar.proofs.Form.{optional_form_at, needed_form_at};
 ghost use Rattle.ild_parse_grammar.proofs.Grammar.{braced_at};
-ghost use Rattle.ild_parse.specs.Seen.{stream_of, Gives};
-ghost use Rattle.ild_parse.specs.Ends.{ends_by};
-ghost use Rattle.ild_parse.specs.Rules.{followed_at};
+ghost use Rattle.ild_parse.specs.inside.Seen.{stream_of, Gives};
+ghost use Rattle.ild_parse.specs.inside.Ends.{ends_by};
+ghost use Rattle.ild_parse.specs.inside.Rules.{followed_at};
 
 use crate::input::Input;
 use crate::{List, ParseErr};

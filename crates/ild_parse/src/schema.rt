@@ -3,8 +3,8 @@ ghost use Rattle.std.specs.Prelude.{◌≡◌, ◌⊎◌, IfErr, IfOk, Ok, Err};
 ghost use Rattle.ild_lex.specs.Lex.{AreTokens};
 ghost use Rattle.ild_parse_grammar.specs.DerivePart.{Derives};
 ghost use Rattle.ild_parse.specs.Wrong.{IsWrong};
-ghost use Rattle.ild_parse.specs.Seen.{stream_of, Gives};
-ghost use Rattle.ild_parse.specs.Rules.{type_at};
+ghost use Rattle.ild_parse.specs.inside.Seen.{stream_of, Gives};
+ghost use Rattle.ild_parse.specs.inside.Rules.{type_at};
 ghost use Rattle.ild_parse_grammar.proofs.Grammar.{decl_at, schema_at};
 
 use crate::body::read_body;

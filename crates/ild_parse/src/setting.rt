@@ -1,6 +1,6 @@
 //! Settings in braces.
-ghost use Rattle.ild_parse.specs.Seen.{stream_of, Gives};
-ghost use Rattle.ild_parse.specs.Rules.{ordered_settings_at};
+ghost use Rattle.ild_parse.specs.inside.Seen.{stream_of, Gives};
+ghost use Rattle.ild_parse.specs.inside.Rules.{ordered_settings_at};
 ghost use Rattle.ild_parse_grammar.proofs.Read.{setting_at, one_setting_at, both_settings_at, two_settings_at};
 
 use crate::input::Input;

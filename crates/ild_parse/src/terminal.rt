@@ -1,5 +1,5 @@
 //! Names, texts and numbers with their places.
-ghost use Rattle.ild_parse.specs.Seen.{stream_of, Gives};
+ghost use Rattle.ild_parse.specs.inside.Seen.{stream_of, Gives};
 ghost use Rattle.ild_parse_grammar.proofs.Read.{type_name_at, name_at, text_at, number_at};
 
 use crate::input::Input;

@@ -24,7 +24,7 @@ use Rattle.ild_path_ends.specs.Ends.{AddsBlocks, Came, EditsWhole, WholeAnswer}
 use Rattle.ild_path_long.proofs.Parts.{parts_are_in_blocks}
 use Rattle.ild_path_sizes.specs.Long.{HasLongPart}
 use Rattle.ild_path_reroot.proofs.Among.{long_one}
-use Rattle.ild_path.specs.Pieces.{AnswersAs}
+use Rattle.ild_path.specs.inside.Pieces.{AnswersAs}
 use Rattle.ild_path.proofs.Coming.{came_whole, in_short}
 use Rattle.ild_path.specs.Replaces.{ReplaceAnswer, Replaces, Spares}
 use Rattle.ild_path.specs.declared.fault.EditFault.{EditFault}

@@ -30,8 +30,8 @@ use Rattle.ild_path_place.specs.declared.place.End.TheVariants as D
 use Rattle.ild_path_place.specs.declared.place.Place.{Place}
 use Rattle.ild_path_place.specs.declared.verb.Verb.{Verb}
 use Rattle.ild_path.proofs.Safe.{new_safe}
-use Rattle.ild_path.specs.Pieces.{ArePieces, takes}
-use Rattle.ild_path.specs.Replaced.{ReplacesParts}
+use Rattle.ild_path.specs.inside.Pieces.{ArePieces, takes}
+use Rattle.ild_path.specs.inside.Replaced.{ReplacesParts}
 use Rattle.ild_path.specs.Replaces.{ComesBy, IsChanged, IsPart, IsPlaceOf, Replaces}
 use Rattle.ild_path.specs.declared.fault.EditFault.{EditFault}
 use Rattle.ild_path_edits.specs.Edit.{Edit, change, del_at, ins_at, new_slot, set_at}

@@ -1,4 +1,3 @@
 pub mod PlaceLaws
 pub mod Replaces
-pub mod Pieces
-pub mod Replaced
+pub mod inside

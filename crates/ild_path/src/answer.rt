@@ -1,5 +1,5 @@
 //! The faults of HAMTs as those of edits.
-ghost use Rattle.ild_path.specs.Pieces.{AnswersAs};
+ghost use Rattle.ild_path.specs.inside.Pieces.{AnswersAs};
 
 use crate::fault::EditFault;
 use ild_data::NamedBlock;

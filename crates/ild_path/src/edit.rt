@@ -1,9 +1,9 @@
 //! Edits at a place.
 ghost use Rattle.std.specs.Prelude.{◌≡◌, IfOk, true};
 ghost use Rattle.ild_edges.specs.Store.{Moment};
-ghost use Rattle.ild_path.specs.Pieces.{takes};
+ghost use Rattle.ild_path.specs.inside.Pieces.{takes};
 ghost use Rattle.ild_path.specs.Replaces.{Brings, Erases, Spares};
-ghost use Rattle.ild_path.specs.Replaced.{ReplacesParts};
+ghost use Rattle.ild_path.specs.inside.Replaced.{ReplacesParts};
 ghost use Rattle.ild_path_ends.specs.Roots.{HasBlock};
 ghost use Rattle.ild_path_place.specs.Comes.{comes};
 ghost use Rattle.ild_path_place.specs.Links.{IsLinked};

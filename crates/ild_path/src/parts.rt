@@ -2,7 +2,7 @@
 ghost use Rattle.std.specs.Prelude.{◌≡◌, IfOk, true};
 ghost use Rattle.ild_edges.specs.Store.{Moment};
 ghost use Rattle.ild_hamt.specs.Edits.{CausedBy};
-ghost use Rattle.ild_path.specs.Pieces.{EditsParts, takes};
+ghost use Rattle.ild_path.specs.inside.Pieces.{EditsParts, takes};
 ghost use Rattle.ild_path_ends.specs.Roots.{HasBlock};
 ghost use Rattle.ild_path_place.specs.Links.{IsLinked};
 ghost use Rattle.ild_view.specs.View.{slot_of, table_of};

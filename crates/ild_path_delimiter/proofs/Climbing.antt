@@ -11,7 +11,7 @@ use Rattle.ild_path_delimiter.proofs.Freeing.{edit_free, set_free}
 use Rattle.ild_path_delimiter.proofs.Quiet.{quiet, texts_break_nothing}
 use Rattle.ild_path_delimiter.proofs.Reaching.{Makes, can_edit, made_typed, makes_rest, reached, text_from}
 use Rattle.ild_path_delimiter.proofs.Texts.{texts_of_texts}
-use Rattle.ild_path_delimiter.specs.Levels.{LevelIs}
+use Rattle.ild_path_delimiter.specs.inside.Levels.{LevelIs}
 use Rattle.ild_path_delimiter.specs.TextEdits.{CanEdit, TextIs, brought, in_last}
 use Rattle.ild_path_delimiter.specs.declared.delimiter.TextEdit.{TextEdit}
 use Rattle.ild_path_delimiter.specs.declared.delimiter.TextEdit.TheVariants as E

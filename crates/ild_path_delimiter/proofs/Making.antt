@@ -8,7 +8,7 @@ use Rattle.ild_data.specs.Data as T
 use Rattle.ild_data.specs.Data.{Data}
 use Rattle.ild_layer_piece.specs.Pieces.{StandsFor}
 use Rattle.ild_path_delimiter.proofs.Held.{is_held}
-use Rattle.ild_path_delimiter.specs.Levels.{Becomes, StandsAsText, StandsFree}
+use Rattle.ild_path_delimiter.specs.inside.Levels.{Becomes, StandsAsText, StandsFree}
 use Rattle.ild_path_item.proofs.Viewing.{has_piece}
 use Rattle.ild_path_item.specs.Texts.{AnswersText, LetsBe, becoming_with}
 use Rattle.ild_path_holder.proofs.Written.{piece_stands}

@@ -1,4 +1,4 @@
 pub mod Laws
-pub mod Levels
 pub mod Tells
 pub mod TextEdits
+pub mod inside

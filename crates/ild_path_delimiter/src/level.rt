@@ -1,6 +1,6 @@
 //! What an edit makes of one holder on its path, as a text.
 ghost use Rattle.std.specs.Prelude.{◌≡◌, ℕ, IfOk, IsSomeAnd, List, Some, false, slice_get, true};
-ghost use Rattle.ild_path_delimiter.specs.Levels.{LevelIs, StandsAsText, StandsFree};
+ghost use Rattle.ild_path_delimiter.specs.inside.Levels.{LevelIs, StandsAsText, StandsFree};
 ghost use Rattle.ild_path_holder.specs.Along.{is_holder};
 ghost use Rattle.ild_path_item.specs.Texts.{text_of};
 ghost use Rattle.ild_schema.specs.declared.row.Row.{Row};

@@ -18,7 +18,7 @@ use Rattle.ild_path_edit.proofs.Numbering.{at_next, known_at, one, rest_of, segm
 use Rattle.ild_path_edit.proofs.Stepping.{Next, at_last, part_made, part_typed, to_next}
 use Rattle.ild_path_edit.specs.Made.{MakesBlock}
 use Rattle.ild_path_edit.specs.Holders.{AreHolders, IsMade, PartIs}
-use Rattle.ild_path_edit.specs.Items.{ChangesHolder, SetsPart}
+use Rattle.ild_path_edit.specs.inside.Items.{ChangesHolder, SetsPart}
 use Rattle.ild_path_holder.proofs.Written.{has_part}
 use Rattle.ild_path_holder.specs.Along.{is_holder}
 use Rattle.ild_splice.specs.Made.{Makes as MakesOf}

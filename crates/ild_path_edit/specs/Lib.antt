@@ -1,3 +1,3 @@
 pub mod Holders
-pub mod Items
 pub mod Made
+pub mod inside

@@ -1,6 +1,6 @@
 //! The block of an edit.
 ghost use Rattle.std.specs.Prelude.{◌<◌, ℕ, Bool, List, length};
-ghost use Rattle.ild_path_edit.specs.Items.{MakesWhole};
+ghost use Rattle.ild_path_edit.specs.inside.Items.{MakesWhole};
 ghost use Rattle.ild_path_edit.specs.Made.{MakesBlock};
 ghost use Rattle.ild_data.specs.Data.{Data};
 ghost use Rattle.ild_data.specs.Spell.{spell};

@@ -1,6 +1,6 @@
 //! The item of what a holder on the path of an edit becomes.
 ghost use Rattle.std.specs.Prelude.{◌<◌, length};
-ghost use Rattle.ild_path_edit.specs.Items.{ChangesHolder, MakesHolder, SetsPart};
+ghost use Rattle.ild_path_edit.specs.inside.Items.{ChangesHolder, MakesHolder, SetsPart};
 
 use crate::views::{are_texts, holders};
 use ild_cbor::check;

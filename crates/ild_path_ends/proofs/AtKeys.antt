@@ -42,7 +42,7 @@ use Rattle.ild_path_hops.specs.declared.hop.Hop.{Hop}
 use Rattle.ild_path_outward.specs.Outward.{with_end}
 use Rattle.ild_path_outward.proofs.Counting.{put_counted, put_met}
 use Rattle.ild_path_way.specs.Way.{nodes_met}
-use Rattle.ild_path_ends.specs.AtKey.{CutsKey, IsKeyCut, IsKeyLevel, IsKeySet, MakesAtKey, SetsKey}
+use Rattle.ild_path_ends.specs.inside.AtKey.{CutsKey, IsKeyCut, IsKeyLevel, IsKeySet, MakesAtKey, SetsKey}
 use Rattle.ild_path_ends.specs.Parts.{HasEnd, IsChange, IsPartHeld}
 use Rattle.ild_path_ends.specs.Steps.{IsKeyIn}
 use Rattle.ild_path_ends.proofs.Counting.{cut_counted, cut_met}

@@ -41,7 +41,7 @@ use Rattle.ild_path_sizes.specs.Long.{HasLongPart}
 use Rattle.ild_path_way.specs.Way.{nodes_met}
 use Rattle.ild_path_way.proofs.Splitting.{nodes_split}
 use Rattle.ild_script_meaning.specs.Costs.{blocks_met, met_in}
-use Rattle.ild_path_ends.specs.AtKey.{MakesAtKey}
+use Rattle.ild_path_ends.specs.inside.AtKey.{MakesAtKey}
 use Rattle.ild_path_ends.specs.Ends.{AddsBlocks, Came, EditsWhole, GivesWhole, WholeAnswer}
 use Rattle.ild_path_ends.proofs.Ending.{among as among_whole, there as there_whole}
 use Rattle.ild_path_ends.proofs.Finishing.{all_stay, node_came}

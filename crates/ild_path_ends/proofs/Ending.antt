@@ -55,7 +55,7 @@ use Rattle.ild_path_outward.specs.Outward.{IsNewEnd, with_end}
 use Rattle.ild_path_reroot.specs.Reroots.{MakesRoot}
 use Rattle.ild_script_meaning.specs.Costs.{blocks_met, met_in}
 use Rattle.ild_path_ends.specs.Ends.{AddsBlocks, EditsWhole, WholeAnswer}
-use Rattle.ild_path_ends.specs.InBlock.{IsInnerChange, MakesInner}
+use Rattle.ild_path_ends.specs.inside.InBlock.{IsInnerChange, MakesInner}
 use Rattle.ild_path_ends.specs.Parts.{BringsHeld, HasEnd, IsChange, IsPartHeld}
 use Rattle.ild_path_ends.proofs.Inner.{IsInner}
 use Rattle.ild_path_ends.proofs.Moving.{ins_moves, ins_of_front, set_moves, set_of_front}

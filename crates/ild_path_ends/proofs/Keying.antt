@@ -49,7 +49,7 @@ use Rattle.ild_path_outward.specs.Outward.{EndAnswer, SetsEnd}
 use Rattle.ild_path_outward.proofs.Counting.{one_met}
 use Rattle.ild_path_sizes.specs.Long.{HasLongPart, IsDataOfPart}
 use Rattle.ild_script_meaning.specs.Costs.{blocks_met, met_in}
-use Rattle.ild_path_ends.specs.AtKey.{IsKeyCut, IsKeyLevel, IsKeySet, SetsKey}
+use Rattle.ild_path_ends.specs.inside.AtKey.{IsKeyCut, IsKeyLevel, IsKeySet, SetsKey}
 
 -- ---- in the block of a view
 

@@ -5,7 +5,7 @@ ghost use Rattle.ild_path_ends.specs.Roots.{HasBlock};
 ghost use Rattle.ild_view.specs.View.{slot_of, table_of};
 ghost use Rattle.ild_hamt.specs.Edits.{CausedBy};
 ghost use Rattle.ild_path_hops.specs.Links.{AreLinked, RootBehind};
-ghost use Rattle.ild_path_ends.specs.AtKey.{ChangesAtKey};
+ghost use Rattle.ild_path_ends.specs.inside.AtKey.{ChangesAtKey};
 ghost use Rattle.ild_path_ends.specs.Ends.{EditsAtKey};
 
 use crate::entry::{cut_key, set_key};

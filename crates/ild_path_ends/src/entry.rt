@@ -3,7 +3,7 @@ ghost use Rattle.std.specs.Prelude.{◌≡◌, IfSome};
 ghost use Rattle.ild_data.specs.Data.{Data};
 ghost use Rattle.ild_edges.specs.Store.{Moment};
 ghost use Rattle.ild_hamt.specs.Edits.{CausedBy};
-ghost use Rattle.ild_path_ends.specs.AtKey.{CutsKey, MakesEntry, SetsKey};
+ghost use Rattle.ild_path_ends.specs.inside.AtKey.{CutsKey, MakesEntry, SetsKey};
 ghost use Rattle.ild_node.specs.Rows.{deepest_value};
 ghost use Rattle.ild_path_entry.specs.Entry.{room_in};
 ghost use Rattle.ild_path_outward.specs.Level.{LeadsToHamt};

@@ -5,7 +5,7 @@ ghost use Rattle.ild_path_ends.specs.Roots.{HasBlock};
 ghost use Rattle.ild_view.specs.View.{slot_of, table_of};
 ghost use Rattle.ild_hamt.specs.Edits.{CausedBy};
 ghost use Rattle.ild_path_hops.specs.Links.{AreLinked};
-ghost use Rattle.ild_path_ends.specs.Finish.{FinishesWhole};
+ghost use Rattle.ild_path_ends.specs.inside.Finish.{FinishesWhole};
 
 use crate::root::is_block_of;
 use ild_bulk::put_one;

@@ -7,7 +7,7 @@ ghost use Rattle.ild_view.specs.View.{slot_of, table_of};
 ghost use Rattle.ild_hamt.specs.Edits.{CausedBy};
 ghost use Rattle.ild_path_hops.specs.Links.{AreLinked};
 ghost use Rattle.ild_path_ends.specs.Ends.{EditsInBlock};
-ghost use Rattle.ild_path_ends.specs.InBlock.{ChangesBlock};
+ghost use Rattle.ild_path_ends.specs.inside.InBlock.{ChangesBlock};
 ghost use Rattle.ild_path_reroot.specs.Reroots.{IsWritingFault};
 
 use crate::finish::finish;

@@ -15,7 +15,7 @@ use Rattle.ild_path_edits.proofs.RoomTests.{schemas_have_tests}
 use Rattle.ild_path_edits.proofs.Seen.{delete_part-seen, insert_part-seen}
 use Rattle.ild_path_holder.specs.Along.{is_holder}
 use Rattle.ild_path_item.proofs.Whole.{delete_part, insert_part, is_all, not_whole_change, parts_there, set_part}
-use Rattle.ild_path_item.specs.Rewrites.{has_parts}
+use Rattle.ild_path_item.specs.inside.Rewrites.{has_parts}
 use Rattle.ild_path_item.specs.Texts.{becoming_with, with_part}
 use Rattle.ild_path_last.specs.Change.{located}
 use Rattle.ild_path_last.specs.declared.change.LastChange.{LastChange}

@@ -14,7 +14,7 @@ use Rattle.ild_path_changes.specs.Places.{each_field, field_named, field_place}
 use Rattle.ild_path_edits.specs.Table.{refusal_to_delete, slot_to_set}
 use Rattle.ild_path_holder.specs.Along.{is_holder}
 use Rattle.ild_path_item.proofs.Changing.{data_in, with_data}
-use Rattle.ild_path_item.specs.Rewrites.{TellsJoined, joined_with}
+use Rattle.ild_path_item.specs.inside.Rewrites.{TellsJoined, joined_with}
 use Rattle.ild_path_item.specs.Texts.{LetsBe, Tells, becoming_with, with_part}
 use Rattle.ild_path_steps.proofs.Holding.{Held, held_by, of_any, of_elements, of_entries, of_fields, of_member, of_nothing}
 use Rattle.ild_path_steps.proofs.Leading.{field_counted, field_number}

@@ -7,7 +7,7 @@ use Rattle.ild_path_block.specs.Items.{ItemOf, MakesItem, MakesNone, becoming}
 use Rattle.ild_path_block.specs.declared.edit.PartEdit.{PartEdit}
 use Rattle.ild_path_holder.specs.Along.{is_holder}
 use Rattle.ild_path_item.proofs.Parts.{Comes, stands_text}
-use Rattle.ild_path_item.specs.Rewrites.{Rewrites}
+use Rattle.ild_path_item.specs.inside.Rewrites.{Rewrites}
 use Rattle.ild_path_item.specs.Texts.{LetsBe, becoming_with, is_text_form}
 use Rattle.ild_path_last.specs.Change.{becomes}
 use Rattle.ild_path_marked.specs.Tells.{Tells}

@@ -14,7 +14,7 @@ use Rattle.ild_path_changes.specs.Pairs.{at_pair}
 use Rattle.ild_path_changes.specs.Places.{each_field, field_data, field_named, field_place, left_out, place_of, written, written_before}
 use Rattle.ild_path_edits.specs.Table.{new_index}
 use Rattle.ild_path_holder.specs.Along.{is_holder}
-use Rattle.ild_path_item.specs.Rewrites.{has_parts}
+use Rattle.ild_path_item.specs.inside.Rewrites.{has_parts}
 use Rattle.ild_path_last.specs.Change.{located}
 use Rattle.ild_path_last.specs.declared.change.LastChange.{LastChange}
 use Rattle.ild_path_last.specs.declared.change.LastChange.TheVariants as C

@@ -1,3 +1,3 @@
-pub mod Rewrites
 pub mod Texts
 pub mod Upward
+pub mod inside

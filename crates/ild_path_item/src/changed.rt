@@ -4,7 +4,7 @@ ghost use Rattle.ild_cbor.specs.Nodes.{Stands};
 ghost use Rattle.ild_data.specs.Data.{Data};
 ghost use Rattle.ild_layer_piece.specs.Pieces.{IsNumbered, IsWithout, StandsFor, passed_key};
 ghost use Rattle.ild_path_block.specs.Items.{AnswersItem, is_refusing};
-ghost use Rattle.ild_path_item.specs.Rewrites.{MakesChanged, has_parts};
+ghost use Rattle.ild_path_item.specs.inside.Rewrites.{MakesChanged, has_parts};
 ghost use Rattle.ild_schema.specs.Slots.{form_of};
 ghost use Rattle.ild_schema.specs.declared.def.TypeDef.{TypeDef as Def};
 ghost use Rattle.ild_splice.specs.Splices.{IsAt};

@@ -3,7 +3,7 @@ ghost use Rattle.std.specs.Prelude.{◌≡◌, List, ℕ, IsSomeAnd, Option, Som
 ghost use Rattle.ild_data.specs.Data as T;
 ghost use Rattle.ild_path_block.specs.Changes.{node_of};
 ghost use Rattle.ild_path_block.specs.Items.{AnswersItem};
-ghost use Rattle.ild_path_item.specs.Rewrites.{Rewrites};
+ghost use Rattle.ild_path_item.specs.inside.Rewrites.{Rewrites};
 ghost use Rattle.ild_path_item.specs.Texts.{is_text_form, text_of};
 ghost use Rattle.ild_path_last.specs.Change.{NewIs};
 ghost use Rattle.ild_schema.specs.Slots.{form_of};

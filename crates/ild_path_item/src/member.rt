@@ -1,7 +1,7 @@
 //! Unions.
 ghost use Rattle.std.specs.Prelude.{◌≡◌, ℕ, Some};
 ghost use Rattle.ild_data.specs.Data.{Data};
-ghost use Rattle.ild_path_item.specs.Rewrites.{Rewrites};
+ghost use Rattle.ild_path_item.specs.inside.Rewrites.{Rewrites};
 ghost use Rattle.ild_path_last.specs.Change.{NewIs};
 ghost use Rattle.ild_typed.specs.Composed.{union_form};
 

@@ -2,7 +2,7 @@
 ghost use Rattle.std.specs.Prelude.{◌≡◌, ◌<◌, IfOk, List, ℕ, Some, length, option_and_then};
 ghost use Rattle.ild_data.specs.Data as T;
 ghost use Rattle.ild_layer_piece.specs.Pieces.{StandsFor};
-ghost use Rattle.ild_path_item.specs.Rewrites.{TellsJoined};
+ghost use Rattle.ild_path_item.specs.inside.Rewrites.{TellsJoined};
 ghost use Rattle.ild_path_item.specs.Texts.{AnswersText, text_of};
 ghost use Rattle.ild_schema.specs.Parts.{part_named};
 ghost use Rattle.ild_schema.specs.Slots.{form_of};

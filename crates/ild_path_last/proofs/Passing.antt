@@ -15,7 +15,7 @@ use Rattle.ild_schema.specs.Clear.{AreNamesApart}
 use Rattle.ild_schema.specs.Marks.{field_text}
 use Rattle.ild_schema.specs.declared.def.Field.{Field}
 use Rattle.ild_typed.specs.Fields.{field_entries}
-use Rattle.ild_path_last.specs.Seats.{HasPairs, IsSeat, Passes}
+use Rattle.ild_path_last.specs.inside.Seats.{HasPairs, IsSeat, Passes}
 use Rattle.ild_path_last.proofs.Seeking.{few_pairs, seat_of}
 
 no_pass : {A : Type 0} (k : List ℕ) (es : List (List ℕ × Data)) (t : Items) → value_at k es ≡ None → Passes k es (Some t) → A

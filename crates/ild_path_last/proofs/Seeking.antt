@@ -14,7 +14,7 @@ use Rattle.ild_path_changes.specs.Places.{place_of}
 use Rattle.ild_layer_piece.specs.Entries.{Lists}
 use Rattle.ild_typed.specs.Named.{items_in}
 use Rattle.ild_typed.specs.Strings.{listpairs, pair_data}
-use Rattle.ild_path_last.specs.Seats.{HasPairs, IsSeat, Passes}
+use Rattle.ild_path_last.specs.inside.Seats.{HasPairs, IsSeat, Passes}
 use Rattle.ild_path_last.specs.declared.seat.Seat.{Seat}
 
 abbrev pub seat_of : ℕ → Bool → Seat

@@ -2,7 +2,7 @@
 ghost use Rattle.std.specs.Prelude.{◌<◌, ℕ, List, Option, Some, length};
 ghost use Rattle.ild_data.specs.Data.{Data};
 ghost use Rattle.ild_data.specs.Key.{value_at};
-ghost use Rattle.ild_path_last.specs.Seats.{ChangesAtKey, ChangesPair, FindsField, HasPairs, IsSeat, Passes};
+ghost use Rattle.ild_path_last.specs.inside.Seats.{ChangesAtKey, ChangesPair, FindsField, HasPairs, IsSeat, Passes};
 ghost use Rattle.ild_path_changes.specs.Places.{place_of};
 ghost use Rattle.ild_layer_piece.specs.Pieces.{StandsFor};
 ghost use Rattle.ild_schema.specs.declared.row.Row.{Row};

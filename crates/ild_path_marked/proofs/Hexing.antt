@@ -1,7 +1,7 @@
 -- Bytes that are read from hexadecimal, one after the other.
 use Rattle.std.proofs.Common.{◌≡◌, ℕ, ◌-◌, ◌*◌, ◌/◌, ◌≤◌, true, false, length, take, take_all, drop, get_or, arith, List, [], ◌∷◌, ◌++◌, Option, Some, None, append_assoc, append-nil, refl, sym, ap, ◌∙◌}
 use Rattle.std.specs.Option.{unwrap_or}
-use Rattle.ild_path_marked.specs.Parts.{hex_bytes}
+use Rattle.ild_path_marked.specs.inside.Parts.{hex_bytes}
 use Rattle.std.specs.Prelude.{is_some, option_and_then, option_map}
 use Rattle.std.proofs.lemmas.Option.{same_Some}
 use Rattle.ild_schema.specs.Hex.{bytes_of_hex, hex_byte}

@@ -11,7 +11,7 @@ use Rattle.ild_data.specs.Data as T
 use Rattle.ild_data.specs.Data.{Data}
 use Rattle.ild_data.specs.Key.{put, value_at}
 use Rattle.ild_data.specs.Spell.{head, spell_text}
-use Rattle.ild_path_marked.specs.Parts.{has_place}
+use Rattle.ild_path_marked.specs.inside.Parts.{has_place}
 use Rattle.ild_path_marked.specs.Tells.{Tells, Writes}
 use Rattle.ild_schema.specs.declared.def.UnionForm.TheVariants as F
 use Rattle.ild_splice.specs.declared.error.SpliceErr.{SpliceErr}

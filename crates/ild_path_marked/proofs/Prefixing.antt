@@ -6,7 +6,7 @@ use Rattle.std.specs.Option.{unwrap_or}
 use Rattle.ild_cbor.specs.Scalar.{bytes_of}
 use Rattle.ild_data.specs.Data as T
 use Rattle.ild_data.specs.Data.{Data}
-use Rattle.ild_path_marked.specs.Parts.{behind_hex, hex_bytes}
+use Rattle.ild_path_marked.specs.inside.Parts.{behind_hex, hex_bytes}
 use Rattle.ild_schema.specs.declared.def.UnionForm.TheVariants as F
 use Rattle.ild_schema.specs.Hex.{bytes_of_hex}
 use Rattle.ild_typed.specs.Composed.{marked_form}

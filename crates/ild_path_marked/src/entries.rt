@@ -3,7 +3,7 @@ ghost use Rattle.std.specs.Prelude.{◌≡◌, Some, ℕ};
 ghost use Rattle.ild_cbor.specs.Nodes.{Stands};
 ghost use Rattle.ild_cbor.specs.Scalar.{count_of};
 ghost use Rattle.ild_data.specs.Data.{Data};
-ghost use Rattle.ild_path_marked.specs.Parts.{has_place};
+ghost use Rattle.ild_path_marked.specs.inside.Parts.{has_place};
 ghost use Rattle.ild_path_marked.specs.Tells.{Tells};
 ghost use Rattle.ild_schema.specs.declared.def.UnionForm.TheVariants as F;
 ghost use Rattle.ild_typed.specs.Composed.{marked_form};

@@ -1,6 +1,6 @@
 //! The prefixes of bytes, in hexadecimal.
 ghost use Rattle.std.specs.Prelude.{◌≡◌, ◌++◌, List, OnOk, Some, length, ℕ};
-ghost use Rattle.ild_path_marked.specs.Parts.{hex_bytes};
+ghost use Rattle.ild_path_marked.specs.inside.Parts.{hex_bytes};
 ghost use Rattle.ild_schema.specs.Hex.{bytes_of_hex};
 
 use ild_emit::Emit;

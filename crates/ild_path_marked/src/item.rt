@@ -2,7 +2,7 @@
 ghost use Rattle.std.specs.Prelude.{◌≡◌, option_map};
 ghost use Rattle.ild_cbor.specs.Nodes.{Stands};
 ghost use Rattle.ild_data.specs.Data.{Data};
-ghost use Rattle.ild_path_marked.specs.Parts.{is_kinded};
+ghost use Rattle.ild_path_marked.specs.inside.Parts.{is_kinded};
 ghost use Rattle.ild_path_marked.specs.Tells.{Tells};
 ghost use Rattle.ild_schema.specs.Marks.{text_of};
 ghost use Rattle.ild_typed.specs.Composed.{marked_form, member_form, union_form};

@@ -3,7 +3,7 @@ ghost use Rattle.std.specs.Prelude.{◌++◌};
 ghost use Rattle.ild_cbor.specs.Nodes.{Stands};
 ghost use Rattle.ild_data.specs.Data.{Data};
 ghost use Rattle.ild_data.specs.Spell.{spell_bytes, spell_text};
-ghost use Rattle.ild_path_marked.specs.Parts.{behind_hex, hex_bytes};
+ghost use Rattle.ild_path_marked.specs.inside.Parts.{behind_hex, hex_bytes};
 ghost use Rattle.ild_path_marked.specs.Tells.{Tells, Writes};
 ghost use Rattle.ild_schema.specs.declared.def.UnionForm.TheVariants as F;
 ghost use Rattle.ild_typed.specs.Composed.{marked_form};

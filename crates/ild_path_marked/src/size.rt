@@ -1,6 +1,6 @@
 //! How many bytes a new item has.
 ghost use Rattle.std.specs.Prelude.{◌≡◌, ◌^◌, ◌-◌, length, min};
-ghost use Rattle.ild_path_marked.specs.Parts.{bytes_of, part_bytes};
+ghost use Rattle.ild_path_marked.specs.inside.Parts.{bytes_of, part_bytes};
 
 use crate::hex::hex_count;
 use crate::part::Part;

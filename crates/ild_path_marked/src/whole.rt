@@ -3,7 +3,7 @@ ghost use Rattle.std.specs.Prelude.{◌≡◌};
 ghost use Rattle.std.specs.Option.{option_map_or};
 ghost use Rattle.ild_cbor.specs.Nodes.{Stands};
 ghost use Rattle.ild_data.specs.Data.{Data};
-ghost use Rattle.ild_path_marked.specs.Parts.{is_kind, word_of};
+ghost use Rattle.ild_path_marked.specs.inside.Parts.{is_kind, word_of};
 ghost use Rattle.ild_path_marked.specs.Tells.{Tells};
 ghost use Rattle.ild_schema.specs.DataKinds.{same_kind};
 ghost use Rattle.ild_schema.specs.declared.def.UnionForm.TheVariants as F;

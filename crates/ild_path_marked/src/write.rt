@@ -1,6 +1,6 @@
 //! Writing a new item.
 ghost use Rattle.std.specs.Prelude.{◌≡◌, ◌++◌, IfOk, OnOk};
-ghost use Rattle.ild_path_marked.specs.Parts.{bytes_of, part_bytes};
+ghost use Rattle.ild_path_marked.specs.inside.Parts.{bytes_of, part_bytes};
 ghost use Rattle.ild_path_marked.specs.Tells.{Writes};
 
 use crate::hex::add_hex;

@@ -53,7 +53,7 @@ use Rattle.ild_path_hops.specs.declared.hop.Hop.{Hop}
 use Rattle.ild_path_hops.proofs.Hopping.{hops_end, hops_leave, hops_pass, hops_stay}
 use Rattle.ild_path_outward.specs.Outward.{EndAnswer, IsNewEnd, SetsEnd, with_end}
 use Rattle.ild_path_sizes.specs.Long.{HasLongPart, IsDataOfPart}
-use Rattle.ild_path_outward.specs.Steps.{IsStep, SetsBelow, SetsIn, SetsStep}
+use Rattle.ild_path_outward.specs.inside.Steps.{IsStep, SetsBelow, SetsIn, SetsStep}
 use Rattle.std.proofs.Common.{arith}
 use Rattle.ild_path_entered.specs.Entered.{with_entry}
 use Rattle.ild_hamt.specs.Edits.{CausedBy, FaultCause}

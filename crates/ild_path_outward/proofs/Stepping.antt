@@ -46,7 +46,7 @@ pub use Rattle.ild_path_hop.proofs.Leveling.{slot_of_path}
 pub use Rattle.ild_path_hops.proofs.Linking.{last_is}
 use Rattle.ild_path_hops.specs.Links.{IsRootAt, RootBehind}
 use Rattle.ild_path_hops.specs.declared.hop.Hop.{Hop}
-use Rattle.ild_path_outward.specs.Steps.{IsStep, SetsIn, SetsStep}
+use Rattle.ild_path_outward.specs.inside.Steps.{IsStep, SetsIn, SetsStep}
 
 -- a key that is there may stay
 pub key_stays : (rows : List Row) (is_key : ℕ → List ℕ → Bool) (slot elem : Slot) (ps : Pairs) (is : IsHamt rows slot elem) (k : List ℕ) (w : Value) → value_at k (pairs_list ps) ≡ Some w → fits_key is_key rows slot ps k ≡ true

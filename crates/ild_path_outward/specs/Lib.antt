@@ -1,3 +1,3 @@
 pub mod Level
 pub mod Outward
-pub mod Steps
+pub mod inside

@@ -6,7 +6,7 @@ ghost use Rattle.ild_data.specs.Spell.{spell};
 ghost use Rattle.ild_edges.specs.Store.{Moment};
 ghost use Rattle.ild_path_entry.specs.Entry.{room_in};
 ghost use Rattle.ild_path_hops.specs.Links.{RootBehind};
-ghost use Rattle.ild_path_outward.specs.Steps.{SetsBelow, SetsIn};
+ghost use Rattle.ild_path_outward.specs.inside.Steps.{SetsBelow, SetsIn};
 ghost use Rattle.ild_node.specs.Rows.{NestsIn, deepest_value};
 ghost use Rattle.ild_view.specs.View.{slot_of, table_of};
 

@@ -15,7 +15,7 @@ use Rattle.ild_path_changes.proofs.Represented.{each_pair-some}
 use Rattle.ild_path_changes.specs.Pairs.{pair_if}
 use Rattle.ild_path_changes.specs.Places.{field_data, field_named, field_place, left_out, place_of, written, written_before}
 use Rattle.ild_path_pairs.specs.Pairs.{Tells, TellsPair, entries_with}
-use Rattle.ild_path_pairs.specs.Seats.{count_behind, is_first, left_behind, passed}
+use Rattle.ild_path_pairs.specs.inside.Seats.{count_behind, is_first, left_behind, passed}
 use Rattle.ild_path_pairs.specs.declared.place.Seat.{Seat}
 use Rattle.ild_schema.specs.Clear.{AreNamesApart}
 use Rattle.ild_schema.specs.Marks.{field_text}

@@ -2,7 +2,7 @@
 use Rattle.std.proofs.Common.{◌≡◌, ◌<◌, ◌≤◌, ◌+◌, ◌-◌, ℕ, zero, suc, List, [], ◌∷◌, Bool, true, false, cond, drop, get_or, length, Some, None, refl, sym, ◌∙◌, ap, arith}
 use Rattle.std.proofs.lemmas.Option.{same_Some, none-some}
 use Rattle.ild_data.specs.Key.{same_text}
-use Rattle.ild_path_pairs.specs.Seats.{behind_first, count_behind, is_first, left_behind, passed}
+use Rattle.ild_path_pairs.specs.inside.Seats.{behind_first, count_behind, is_first, left_behind, passed}
 use Rattle.ild_schema.specs.Marks.{field_text}
 use Rattle.ild_schema.specs.declared.def.Field.{Field}
 

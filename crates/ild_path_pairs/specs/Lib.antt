@@ -1,3 +1,3 @@
 pub mod Becomes
 pub mod Pairs
-pub mod Seats
+pub mod inside

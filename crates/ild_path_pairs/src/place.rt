@@ -2,7 +2,7 @@
 ghost use Rattle.std.specs.Prelude.{◌≡◌, ◌<◌, Some, is_some, length, option_map, slice_get};
 ghost use Rattle.ild_data.specs.Key.{value_at};
 ghost use Rattle.ild_path_changes.specs.Places.{place_of};
-ghost use Rattle.ild_path_pairs.specs.Seats.{behind_first, count_behind, is_first, left_behind};
+ghost use Rattle.ild_path_pairs.specs.inside.Seats.{behind_first, count_behind, is_first, left_behind};
 ghost use Rattle.ild_schema.specs.Marks.{field_text};
 ghost use Rattle.ild_schema.specs.declared.def.Field.{Field as Declared};
 ghost use Rattle.ild_text.specs.Parts.{pairs_in};

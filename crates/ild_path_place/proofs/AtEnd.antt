@@ -20,12 +20,12 @@ use Rattle.ild_path_inward.specs.Levels.{CanGo, counts}
 use Rattle.ild_path_inward.specs.declared.halt.Halt.{Halt}
 use Rattle.ild_path_place.proofs.Holing.{hole_of_front, no_hole_in_front}
 use Rattle.ild_path_place.proofs.Lasting.{ends}
-use Rattle.ild_path_place.specs.Endings.{CanEndAt, EndsIn, EndsKey, KeyAnswer}
+use Rattle.ild_path_place.specs.inside.Endings.{CanEndAt, EndsIn, EndsKey, KeyAnswer}
 use Rattle.ild_path_place.specs.Holes.{VerbHole}
-use Rattle.ild_path_place.specs.Inner.{EndAnswer, EndsThere, LeadsTo}
+use Rattle.ild_path_place.specs.inside.Inner.{EndAnswer, EndsThere, LeadsTo}
 use Rattle.ild_path_place.specs.Places.{EndsAt}
 use Rattle.ild_path_place.specs.Rooms.{HasRoom}
-use Rattle.ild_path_place.specs.Slots.{SlotAnswer, part_slot}
+use Rattle.ild_path_place.specs.inside.Slots.{SlotAnswer, part_slot}
 use Rattle.ild_path_place.specs.declared.ending.Found.{Found}
 use Rattle.ild_path_place.specs.declared.fault.PathFault.{PathFault}
 use Rattle.ild_path_place.specs.declared.fault.PathFault.TheVariants as F

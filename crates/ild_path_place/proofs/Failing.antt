@@ -7,7 +7,7 @@ use Rattle.ild_node_slots.specs.declared.fault.HamtFault.{HamtFault}
 use Rattle.ild_node_slots.specs.declared.fault.HamtFault.TheVariants as H
 use Rattle.ild_open_parts.specs.Reads.{OnlyReads}
 use Rattle.ild_path_enter.specs.Enters.{FailsOnly as HamtFailsOnly}
-use Rattle.ild_path_place.specs.Endings.{EndsIn, fault_at}
+use Rattle.ild_path_place.specs.inside.Endings.{EndsIn, fault_at}
 use Rattle.ild_path_place.specs.Faults.{hamt_fault}
 use Rattle.ild_path_place.specs.Places.{LocatesWhole}
 use Rattle.ild_path_place.specs.Rooted.{FailsOnly}

@@ -24,10 +24,10 @@ use Rattle.ild_path_held.specs.Hamts.{IsTrieIn}
 use Rattle.ild_path_inward.proofs.Passing.{counts_way, levels_fit, some_slots}
 use Rattle.ild_path_inward.specs.Levels.{counts}
 use Rattle.ild_path_room.specs.ValueSlot.{IsValueSlot}
-use Rattle.ild_path_place.specs.Endings.{CanEndAt, KeyAnswer, fault_at}
+use Rattle.ild_path_place.specs.inside.Endings.{CanEndAt, KeyAnswer, fault_at}
 use Rattle.ild_path_place.specs.Faults.{hamt_fault}
-use Rattle.ild_path_place.specs.Keys.{FitsAs, key_in}
-use Rattle.ild_path_place.specs.Slots.{FitsKey, KeySlot, SlotAnswer, part_slot}
+use Rattle.ild_path_place.specs.inside.Keys.{FitsAs, key_in}
+use Rattle.ild_path_place.specs.inside.Slots.{FitsKey, KeySlot, SlotAnswer, part_slot}
 use Rattle.ild_path_place.specs.declared.ending.Found.{Found}
 use Rattle.ild_path_place.specs.declared.place.End.TheVariants as D
 use Rattle.ild_path_place.specs.declared.refusal.Refusal.{Refusal}

@@ -9,7 +9,7 @@ use Rattle.ild_path_edits.proofs.Stops.{stops_tell}
 use Rattle.ild_path_edits.specs.Table.{delete_part, refusal_to_delete, slot_to_insert, slot_to_set}
 use Rattle.ild_path_inward.proofs.Inwarding.{stopped_front}
 use Rattle.ild_path_place.specs.Places.{IsKept, SlotIs, holder_of_path, path_fault, stop_number}
-use Rattle.ild_path_place.specs.Slots.{SlotAnswer, part_slot}
+use Rattle.ild_path_place.specs.inside.Slots.{SlotAnswer, part_slot}
 use Rattle.ild_path_place.specs.declared.refusal.Refusal.TheVariants as R
 use Rattle.ild_path_place.specs.declared.verb.Verb.{Verb}
 use Rattle.ild_path_place.specs.declared.verb.Verb.TheVariants as V

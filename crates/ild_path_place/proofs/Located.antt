@@ -25,7 +25,7 @@ use Rattle.ild_path_place.proofs.Lasting.{holder_last, is_allowed, is_kept, is_n
 use Rattle.ild_path_place.proofs.Rooming.{at_last, hops_room, room_is, room_split}
 use Rattle.ild_path_place.specs.Faults.{hamt_fault}
 use Rattle.ild_path_place.specs.Holes.{HoleIs, VerbHole}
-use Rattle.ild_path_place.specs.Inner.{EndsThere, LeadsTo}
+use Rattle.ild_path_place.specs.inside.Inner.{EndsThere, LeadsTo}
 use Rattle.ild_path_place.specs.Places.{EndsAt, Locates, SlotIs}
 use Rattle.ild_path_place.specs.Rooms.{HasRoom, RoomIs}
 use Rattle.ild_path_place.specs.declared.ending.Found.{Found}

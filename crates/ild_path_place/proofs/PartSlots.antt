@@ -8,7 +8,7 @@ use Rattle.ild_data.specs.Data as T
 use Rattle.ild_data.specs.Data.{Data, items_list, members_list}
 use Rattle.ild_data.specs.Key.{same_text, value_at}
 use Rattle.ild_path_edits.specs.Table.{declared_slot, if_absent, new_index, slot_left_out, slot_to_insert, slot_to_set}
-use Rattle.ild_path_place.specs.Slots.{IsPartSlot, IsSlotOr, KeySlot}
+use Rattle.ild_path_place.specs.inside.Slots.{IsPartSlot, IsSlotOr, KeySlot}
 use Rattle.ild_path_place.specs.declared.refusal.Refusal.{Refusal}
 use Rattle.ild_path_place.specs.declared.verb.Verb.{Verb}
 use Rattle.ild_path_place.specs.declared.verb.Verb.TheVariants as V

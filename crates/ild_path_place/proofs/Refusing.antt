@@ -26,7 +26,7 @@ use Rattle.ild_path_inward.specs.Halts.{HaltsAt, room_stopped}
 use Rattle.ild_path_inward.specs.Refuses.{GoesDeeper, block_behind}
 use Rattle.ild_path_inward.specs.declared.halt.Halt.{Halt}
 use Rattle.ild_path_inward.specs.declared.inward.Inward.{Inward}
-use Rattle.ild_path_place.specs.Endings.{EndsIn, fault_at}
+use Rattle.ild_path_place.specs.inside.Endings.{EndsIn, fault_at}
 use Rattle.ild_path_place.specs.Faults.{hamt_fault}
 use Rattle.ild_path_place.specs.Places.{LocatesWhole}
 use Rattle.ild_path_place.specs.Refuses.{IsHolderSite, RefusesAt, RefusesBroken}

@@ -2,7 +2,7 @@
 use Rattle.std.proofs.Common.{◌≡◌, ℕ, List, None, Result, Ok, Err, refl}
 use Rattle.ild_path_edits.specs.Table.{refusal_to_delete}
 use Rattle.ild_path_place.proofs.Deleting.{gone}
-use Rattle.ild_path_place.specs.Slots.{SlotAnswer}
+use Rattle.ild_path_place.specs.inside.Slots.{SlotAnswer}
 use Rattle.ild_path_place.specs.declared.refusal.Refusal.{Refusal}
 use Rattle.ild_path_place.specs.declared.refusal.Refusal.TheVariants as R
 use Rattle.ild_path_place.specs.declared.verb.Verb.TheVariants as V

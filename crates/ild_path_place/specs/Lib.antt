@@ -1,16 +1,12 @@
 pub mod Faults
 pub mod Tells
 pub mod Places
-pub mod Slots
-pub mod Keys
 pub mod Rooms
 pub mod Holes
 pub mod Parts
 pub mod Rooted
-pub mod Endings
-pub mod Inner
-pub mod Innermost
 pub mod Comes
 pub mod Exhausting
 pub mod Links
 pub mod Refuses
+pub mod inside

@@ -3,11 +3,11 @@ ghost use Rattle.std.specs.Prelude.{◌≡◌, ℕ, IfOk, List, None, Some, fals
 ghost use Rattle.ild_data.specs.Data.{Data};
 ghost use Rattle.ild_open_parts.specs.Reads.{OnlyReads};
 ghost use Rattle.ild_open_parts.specs.Sites.{Site};
-ghost use Rattle.ild_path_place.specs.Endings.{CanEndAt, EndsIn, EndsKey, fault_at};
+ghost use Rattle.ild_path_place.specs.inside.Endings.{CanEndAt, EndsIn, EndsKey, fault_at};
 ghost use Rattle.ild_path_place.specs.Links.{front_at, is_whole};
 ghost use Rattle.ild_path_place.specs.Refuses.{IsHolderSite, RefusesAt};
 ghost use Rattle.ild_path_place.specs.Rooted.{FailsOnly};
-ghost use Rattle.ild_path_place.specs.Slots.{IsPartSlot};
+ghost use Rattle.ild_path_place.specs.inside.Slots.{IsPartSlot};
 ghost use Rattle.ild_schema.specs.Value.{Value, hamt};
 ghost use Rattle.ild_typed.specs.At.{InSlot};
 ghost use Rattle.ild_view.specs.View.{IsView, slot_of, table_of};

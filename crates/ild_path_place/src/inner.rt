@@ -6,9 +6,9 @@ ghost use Rattle.ild_path_inward.specs.Levels.{IsUnder};
 ghost use Rattle.ild_path_hops.specs.Links.{PartBehind};
 ghost use Rattle.ild_path_place.specs.Links.{EndBehind, EndFollows, is_whole};
 ghost use Rattle.ild_path_place.specs.Rooted.{FailsOnly};
-ghost use Rattle.ild_path_place.specs.Slots.{IsPartSlot};
+ghost use Rattle.ild_path_place.specs.inside.Slots.{IsPartSlot};
 ghost use Rattle.ild_view.specs.View.{table_of};
-ghost use Rattle.ild_path_place.specs.Innermost.{FindsEnd, FindsEndBehind, RefusesAtEnd, RefusesBehind, TellsHole, TellsHoleBehind, TellsRoom, TellsRoomBehind};
+ghost use Rattle.ild_path_place.specs.inside.Innermost.{FindsEnd, FindsEndBehind, RefusesAtEnd, RefusesBehind, TellsHole, TellsHoleBehind, TellsRoom, TellsRoomBehind};
 
 use crate::ending::{Found, end_at_key, end_in_block};
 use crate::fault::PathFault;

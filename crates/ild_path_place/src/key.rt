@@ -1,6 +1,6 @@
 //! What may be a key of a HAMT.
 ghost use Rattle.std.specs.Prelude.{◌≡◌, ◌<◌, IfOk, Some, length};
-ghost use Rattle.ild_path_place.specs.Keys.{FitsAs, IsKeyType};
+ghost use Rattle.ild_path_place.specs.inside.Keys.{FitsAs, IsKeyType};
 ghost use Rattle.ild_schema.specs.Slots.{form_of};
 ghost use Rattle.ild_schema.specs.Table.{IsWithin};
 ghost use Rattle.ild_view.specs.View.{slot_of, table_of};

@@ -1,6 +1,6 @@
 //! Whether something may be done at a segment.
 ghost use Rattle.std.specs.Prelude.{IfOk};
-ghost use Rattle.ild_path_place.specs.Slots.{IsPartSlot, IsSlotOr, KeySlot, SlotAnswer};
+ghost use Rattle.ild_path_place.specs.inside.Slots.{IsPartSlot, IsSlotOr, KeySlot, SlotAnswer};
 ghost use Rattle.ild_path_place.specs.declared.verb.Verb.TheVariants.{Read, Del};
 ghost use Rattle.ild_schema.specs.Value.{Value};
 ghost use Rattle.ild_view.specs.View.{IsView, slot_of, table_of};

@@ -7,7 +7,7 @@ use Rattle.ild_typed.specs.JoinLaws.{JoinsAreJoins}
 use Rattle.ild_typed.specs.Texts.{places, is_first, is_parted, join}
 use Rattle.ild_typed.proofs.Basics.{both_true}
 use Rattle.ild_typed.proofs.Joints.{join_says}
-use Rattle.ild_text.specs.Find.{IsNext}
+use Rattle.ild_text.specs.inside.Find.{IsNext}
 
 false_true : false ≡ true → ⊥
 false_true e = absurd cc

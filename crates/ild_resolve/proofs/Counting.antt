@@ -10,7 +10,7 @@ use Rattle.ild_parse_grammar.specs.declared.ast.Mark.TheVariants as M
 use Rattle.ild_parse_grammar.specs.declared.ast.KindWord.TheVariants as K
 use Rattle.ild_resolve.specs.Events.{Event, declares, begins, uses, advances, floats, part, types_in, mark_events, map_form_events, each_events}
 use Rattle.ild_resolve.specs.Faults.{first_above}
-use Rattle.ild_resolve.specs.Counts.{Counts}
+use Rattle.ild_resolve.specs.inside.Counts.{Counts}
 use Rattle.ild_resolve.proofs.Counts.{types_in-append}
 use Rattle.ild_resolve.specs.declared.error.ResolveErr.{ResolveErr}
 use Rattle.ild_resolve.specs.declared.error.ResolveErr.TheVariants as E

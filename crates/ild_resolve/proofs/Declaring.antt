@@ -22,7 +22,7 @@ use Rattle.ild_resolve.specs.Events.{Event, declares, begins, uses, advances, fl
 use Rattle.ild_resolve.specs.Faults.{is_among, first_again, taken_names}
 use Rattle.ild_resolve.specs.Names.{number_declared, number_of}
 use Rattle.ild_resolve.proofs.Counts.{types_in-append}
-use Rattle.ild_resolve.specs.Survey.{is_taken, again_at}
+use Rattle.ild_resolve.specs.inside.Survey.{is_taken, again_at}
 use Rattle.ild_schema.specs.declared.row.Row.{Row}
 use Rattle.std.specs.Prelude.{map as map_list}
 

@@ -6,7 +6,7 @@ use Rattle.ild_schema.specs.declared.row.Row.{Row}
 use Rattle.ild_schema.specs.Copies.{target_in, leads, IsCircular}
 use Rattle.ild_schema.specs.Table.{def_at}
 use Rattle.ild_schema.proofs.Circles.{Halts, leads_parts, leads_through, leads_same, circular_on, circular_short, copy_here}
-use Rattle.ild_resolve.specs.Marks.{IsLeastOfRound}
+use Rattle.ild_resolve.specs.inside.Marks.{IsLeastOfRound}
 
 -- one copy
 pub leads_once : (rows : List Row) (n t : ℕ) → target_in (def_at rows n) ≡ Some t → leads rows 1 n ≡ Some t

@@ -11,8 +11,8 @@ use Rattle.ild_parse_grammar.specs.declared.ast.TypeDecl.{TypeDecl}
 use Rattle.ild_parse_grammar.specs.declared.ast.TypeName.{TypeName}
 use Rattle.ild_resolve.specs.Events.{Event, declares, advances, body_events, decl_events, types_in}
 use Rattle.ild_resolve.specs.Faults.{first_above, first_again, taken_names, declared_fault}
-use Rattle.ild_resolve.specs.Counts.{Counts}
-use Rattle.ild_resolve.specs.Survey.{again_at}
+use Rattle.ild_resolve.specs.inside.Counts.{Counts}
+use Rattle.ild_resolve.specs.inside.Survey.{again_at}
 use Rattle.ild_resolve.specs.declared.error.ResolveErr.{ResolveErr}
 use Rattle.ild_resolve.specs.declared.error.ResolveErr.TheVariants as E
 use Rattle.ild_resolve.proofs.Counting.{Ahead, ahead_step, ahead_stop}

@@ -9,7 +9,7 @@ use Rattle.ild_schema.specs.Copies.{target_in, leads, IsCircular, NoneIsCircular
 use Rattle.ild_schema.specs.Table.{def_at}
 use Rattle.ild_schema.proofs.Circles.{circular_on, circular_back, copy_here}
 use Rattle.ild_resolve.proofs.Rounds.{leads_one_more, circular_target}
-use Rattle.ild_resolve.specs.Marks.{mark_at, IsSeen, IsClosed, IsNewCircular, HasMet, Walked, IsLeastOfRound, IsFirstSeen, Sought, lesser}
+use Rattle.ild_resolve.specs.inside.Marks.{mark_at, IsSeen, IsClosed, IsNewCircular, HasMet, Walked, IsLeastOfRound, IsFirstSeen, Sought, lesser}
 
 -- a type that a walk has marked leads to where the walk is
 pub record Fresh (rows : List Row) (old new : List ℕ) (mark at n : ℕ) : Type 0 where

@@ -1,13 +1,9 @@
 pub mod Events
 pub mod Names
-pub mod Numbers
 pub mod Layouts
 pub mod Faults
 pub mod Forms
 pub mod Rows
 pub mod Table
-pub mod Counts
-pub mod Survey
-pub mod Marks
-pub mod Judged
 pub mod Rise
+pub mod inside

@@ -1,12 +1,12 @@
 //! What a declaration says of its type, and the rows of the inline types in it.
 ghost use Rattle.std.specs.Prelude.{◌≡◌, ◌+◌, ◌<◌, ◌≤◌, ◌++◌, ◌∷◌, codes, length, IfOk, OnOk};
-ghost use Rattle.ild_resolve.specs.Numbers.{number_in};
+ghost use Rattle.ild_resolve.specs.inside.Numbers.{number_in};
 ghost use Rattle.ild_parse_grammar.specs.declared.ast.Body.TheVariants as B;
 ghost use Rattle.ild_parse_grammar.specs.declared.ast.Target.TheVariants as T;
 ghost use Rattle.ild_schema.specs.declared.def.TypeDef.TheVariants as D;
 ghost use Rattle.ild_resolve.specs.Forms.{map_form, enum_form, enum_members};
 ghost use Rattle.ild_resolve.specs.Events.{reference_events, each_events, field_events, member_events, target_events, mark_events, map_form_events, uses, body_events, types_in};
-ghost use Rattle.ild_resolve.specs.Judged.{Judged};
+ghost use Rattle.ild_resolve.specs.inside.Judged.{Judged};
 ghost use Rattle.ild_resolve.specs.Rows.{reference_rows, field, fields, field_rows, target_name, target_type, target_rows, member, members, member_rows, body_def, body_rows, type_of, slot, first_token};
 
 use crate::ResolveErr;

@@ -3,7 +3,7 @@
 ghost use Rattle.std.specs.Prelude.{◌≡◌, ◌+◌, ◌<◌, ◌≤◌, Err, IfOk, IfSome, MatchOption, None, Ok, Some, length, ℕ};
 ghost use Rattle.ild_schema.specs.Copies.{FirstIsCircular, IsCircular, NoneIsCircular, target_in};
 ghost use Rattle.ild_schema.specs.Table.{def_at};
-ghost use Rattle.ild_resolve.specs.Marks.{IsClosed, IsLeastOfRound, Sought, Walked, lesser, mark_at};
+ghost use Rattle.ild_resolve.specs.inside.Marks.{IsClosed, IsLeastOfRound, Sought, Walked, lesser, mark_at};
 
 use ild_schema::{Row, TypeDef};
 use std::alloc::{AllocError, Global};

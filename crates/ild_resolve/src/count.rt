@@ -2,7 +2,7 @@
 ghost use Rattle.std.specs.Prelude.{◌≡◌, ◌<◌, ◌≤◌, ℕ, [], ◌∷◌, OnOk, IfErr};
 ghost use Rattle.ild_resolve.specs.Events.{begins, reference_events, field_events, target_events, member_events, enum_member_events, each_events, body_events};
 ghost use Rattle.ild_resolve.specs.Faults.{most_types, most_parts};
-ghost use Rattle.ild_resolve.specs.Counts.{Counts};
+ghost use Rattle.ild_resolve.specs.inside.Counts.{Counts};
 ghost use Rattle.ild_resolve.specs.declared.error.ResolveErr.TheVariants.{Many};
 
 use crate::ResolveErr;

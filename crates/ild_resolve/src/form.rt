@@ -3,7 +3,7 @@ ghost use Rattle.std.specs.Prelude.{◌≡◌, ℕ, List, Option, None, Some, If
 ghost use Rattle.ild_parse_grammar.specs.declared.ast.Mark.TheVariants as AK;
 ghost use Rattle.ild_resolve.specs.Events.{map_form_events, mark_events};
 ghost use Rattle.ild_resolve.specs.Forms.{map_form, struct_form, union_form, enum_form, unit_form, scalar, kind_mark, mark_of, enum_member, enum_members, renamed, implied};
-ghost use Rattle.ild_resolve.specs.Judged.{Judged};
+ghost use Rattle.ild_resolve.specs.inside.Judged.{Judged};
 
 use crate::ResolveErr;
 use crate::layout::layout;

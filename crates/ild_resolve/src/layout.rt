@@ -6,7 +6,7 @@ ghost use Rattle.ild_data.specs.TrieShape.{usual};
 ghost use Rattle.ild_schema.specs.Decimal.{are_digits, is_digit, natural_of};
 ghost use Rattle.ild_schema.specs.declared.def.MapForm.TheVariants as M;
 ghost use Rattle.ild_resolve.specs.Events.{advances};
-ghost use Rattle.ild_resolve.specs.Judged.{Judged};
+ghost use Rattle.ild_resolve.specs.inside.Judged.{Judged};
 ghost use Rattle.ild_resolve.specs.Layouts.{is_sized, shape_at, shape_named};
 
 use crate::ResolveErr;

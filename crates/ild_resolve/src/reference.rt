@@ -1,13 +1,13 @@
 //! References to types, and the rows of their inline types.
 ghost use Rattle.std.specs.Prelude.{◌≡◌, ◌+◌, ◌<◌, ◌≤◌, ◌++◌, ◌∷◌, [], List, length, IfOk, IfErr, OnOk};
-ghost use Rattle.ild_resolve.specs.Numbers.{number_in};
+ghost use Rattle.ild_resolve.specs.inside.Numbers.{number_in};
 ghost use Rattle.ild_parse_grammar.specs.Reference.{list, link, map};
 ghost use Rattle.ild_parse_grammar.specs.ReferenceSeen.{refers_of};
 ghost use Rattle.ild_schema.specs.Prelude.{number};
 ghost use Rattle.ild_schema.specs.declared.row.Row.{Row};
 ghost use Rattle.ild_schema.specs.declared.def.TypeDef.TheVariants as D;
 ghost use Rattle.ild_resolve.specs.Events.{inline_events, reference_events, types_in, begins, uses};
-ghost use Rattle.ild_resolve.specs.Judged.{Judged};
+ghost use Rattle.ild_resolve.specs.inside.Judged.{Judged};
 ghost use Rattle.ild_resolve.specs.declared.error.ResolveErr.TheVariants as E;
 ghost use Rattle.ild_resolve.specs.Rows.{inline, inline_rows, reference_rows, slot, type_in, type_of};
 

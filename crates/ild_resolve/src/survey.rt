@@ -2,13 +2,13 @@
 ghost use Rattle.std.specs.Prelude.{◌≡◌, ◌⊎◌, ◌<◌, ◌++◌, ℕ, List, None, Some, cond, drop, length, slice_get, take, bytes_eq, IfOk, IfErr, OnOk};
 ghost use Rattle.std.specs.List.{position_from};
 ghost use Rattle.std.specs.Option.{option_or};
-ghost use Rattle.ild_resolve.specs.Numbers.{number_in};
+ghost use Rattle.ild_resolve.specs.inside.Numbers.{number_in};
 ghost use Rattle.ild_schema.specs.Names.{is_named, number_named};
 ghost use Rattle.ild_schema.specs.Prelude.{prelude};
 ghost use Rattle.ild_resolve.specs.Events.{events_of};
 ghost use Rattle.ild_resolve.specs.Faults.{declared_fault};
 ghost use Rattle.ild_resolve.specs.Names.{declared_name, names_in, number_of};
-ghost use Rattle.ild_resolve.specs.Survey.{is_taken, again_at};
+ghost use Rattle.ild_resolve.specs.inside.Survey.{is_taken, again_at};
 ghost use Rattle.ild_resolve.specs.declared.error.ResolveErr.TheVariants.{Memory};
 
 use crate::ResolveErr;

@@ -1,12 +1,12 @@
 //! The rows of a table: the prelude, and then the declared types with their inline types.
 ghost use Rattle.std.specs.Prelude.{◌≡◌, ◌⊎◌, ◌+◌, ◌≤◌, ◌++◌, length, None, Some, IfErr, IfOk, OnOk};
 ghost use Rattle.std.specs.List.{flat_map};
-ghost use Rattle.ild_resolve.specs.Numbers.{number_in};
+ghost use Rattle.ild_resolve.specs.inside.Numbers.{number_in};
 ghost use Rattle.ild_parse_grammar.specs.declared.ast.Decl.TheVariants as A;
 ghost use Rattle.ild_schema.specs.Prelude.{prelude};
 ghost use Rattle.ild_resolve.specs.Events.{decl_events, events_of, types_in};
 ghost use Rattle.ild_resolve.specs.Faults.{first_wrong};
-ghost use Rattle.ild_resolve.specs.Judged.{Judged};
+ghost use Rattle.ild_resolve.specs.inside.Judged.{Judged};
 ghost use Rattle.ild_resolve.specs.Rows.{decl_rows, decls_rows};
 ghost use Rattle.ild_resolve.specs.declared.error.ResolveErr.TheVariants as E;
 

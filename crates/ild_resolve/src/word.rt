@@ -1,8 +1,8 @@
 //! Words: the names of types.
 ghost use Rattle.std.specs.Prelude.{◌≡◌, ℕ, List, Option, [], ◌∷◌, IfOk};
-ghost use Rattle.ild_resolve.specs.Numbers.{number_in};
+ghost use Rattle.ild_resolve.specs.inside.Numbers.{number_in};
 ghost use Rattle.ild_resolve.specs.Events.{uses};
-ghost use Rattle.ild_resolve.specs.Judged.{Judged};
+ghost use Rattle.ild_resolve.specs.inside.Judged.{Judged};
 ghost use Rattle.ild_resolve.specs.Rows.{type_of};
 
 use crate::ResolveErr;

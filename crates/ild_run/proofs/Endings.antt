@@ -19,7 +19,7 @@ use Rattle.ild_run_open.specs.declared.start.StartFault.TheVariants as P
 use Rattle.ild_run_script.specs.Scripts.{ScriptAnswer, AnswersAll as ScriptAll, AnswersSome as ScriptSome}
 use Rattle.ild_run_script.specs.declared.fault.ScriptFault.{ScriptFault}
 use Rattle.ild_run_script.specs.declared.fault.ScriptFault.TheVariants as X
-use Rattle.ild_run.specs.Answered.{start_fault, AnsweredTold, AnsweredAs}
+use Rattle.ild_run.specs.inside.Answered.{start_fault, AnsweredTold, AnsweredAs}
 use Rattle.ild_run.proofs.Openings.{taking_of}
 use Rattle.ild_run.specs.Opening.{InputsFault}
 use Rattle.ild_run.specs.Fault.{fault_text, status_of}
@@ -27,7 +27,7 @@ use Rattle.ild_run.specs.Work.{Work, Taking, in_roles, lists, answers, makes, op
 use Rattle.ild_run.specs.Words.{Job}
 use Rattle.ild_run.specs.Cut.{CutAs, ToldAs}
 use Rattle.ild_run.specs.Listed.{Lists, ListsFront, ListedAs}
-use Rattle.ild_run.specs.Made.{made_fault, MadeTold, MadeAs}
+use Rattle.ild_run.specs.inside.Made.{made_fault, MadeTold, MadeAs}
 use Rattle.ild_run.specs.Shown.{hash, Replied, ShownTold, ShownAs}
 use Rattle.ild_run_show.specs.Shows.{Shows}
 use Rattle.ild_run_show.specs.declared.fault.ShowFault.{ShowFault}

@@ -13,7 +13,7 @@ use Rattle.ild_schema.specs.declared.row.Row.{Row}
 use Rattle.ild_script_session.specs.declared.cut.Cut.TheVariants as C
 use Rattle.ild_run.specs.Cut.{ToldAs}
 use Rattle.ild_run.specs.Ended.{Call, MatchesTypes, MatchesSome, Says, Ended}
-use Rattle.ild_run.specs.Matched.{MatchedTold, MatchedAs}
+use Rattle.ild_run.specs.inside.Matched.{MatchedTold, MatchedAs}
 use Rattle.ild_run.specs.Words.{Job}
 use Rattle.ild_run.specs.Work.{Work, Taking, ends, lists, matches, answers, makes, opens, work_of, job_work, IsTaking}
 use Rattle.ild_run.specs.declared.fault.Fault.TheVariants as F

@@ -5,9 +5,7 @@ pub mod Cut
 pub mod Listed
 pub mod Opening
 pub mod Shown
-pub mod Made
-pub mod Answered
-pub mod Matched
 pub mod Ended
 pub mod Complete
 pub mod Generator
+pub mod inside

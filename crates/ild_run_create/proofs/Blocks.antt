@@ -33,7 +33,7 @@ use Rattle.ild_build_blocks.specs.declared.fault.BuildFault.{BuildFault}
 use Rattle.ild_build_blocks.specs.declared.fault.BuildFault.TheVariants as B
 use Rattle.ild_run_create.specs.Given.{IsGivenAs}
 use Rattle.ild_run_create.specs.Refuses.{ValueHas, Refuses, turn, IsFirst}
-use Rattle.ild_run_create.specs.Steps.{json_fault, shown_fault, judged_refusal, built_fault, IsFirstOf, Stops, TriesNodes, BlockAnswer, HasBlock}
+use Rattle.ild_run_create.specs.inside.Steps.{json_fault, shown_fault, judged_refusal, built_fault, IsFirstOf, Stops, TriesNodes, BlockAnswer, HasBlock}
 use Rattle.ild_run_create.specs.declared.fault.CreateFault.{CreateFault}
 use Rattle.ild_run_create.specs.declared.fault.CreateFault.TheVariants as F
 use Rattle.ild_run_create.specs.declared.fault.Refusal.{Refusal}

@@ -25,7 +25,7 @@ use Rattle.ild_typed.proofs.Judging.{tree_sound}
 use Rattle.ild_run_create.specs.Given.{IsGivenAs}
 use Rattle.ild_run_create.specs.Refuses.{ValueHas, MeanNothing, GiveOne, Refuses, turn, IsFirst}
 use Rattle.ild_run_create.specs.Laws.{OneIsMade, MadeAreUnrefused, OneIsFirst}
-use Rattle.ild_run_create.specs.Steps.{IsFirstOf}
+use Rattle.ild_run_create.specs.inside.Steps.{IsFirstOf}
 use Rattle.ild_run_create.specs.declared.fault.Refusal.{Refusal}
 use Rattle.ild_run_create.specs.declared.fault.Refusal.TheVariants as R
 

@@ -16,7 +16,7 @@ use Rattle.ild_schema.specs.declared.number.TypeNo.{TypeNo}
 use Rattle.ild_schema.specs.declared.row.Row.{Row}
 use Rattle.ild_schema.specs.Slots.{plainly}
 use Rattle.ild_schema.specs.Value.{Value}
-use Rattle.ild_script_session.specs.Puts.{PutAnswer, PutsBlock}
+use Rattle.ild_script_session.specs.inside.Puts.{PutAnswer, PutsBlock}
 use Rattle.ild_script_session.proofs.Steps.{all_keeps}
 use Rattle.ild_script_session.specs.declared.putting.PutFault.{PutFault}
 use Rattle.ild_script_session.specs.declared.putting.PutFault.TheVariants as P
@@ -25,7 +25,7 @@ use Rattle.ild_typed.specs.Schema.{IsSchema}
 use Rattle.ild_typed.specs.Stands.{bare, root_id, blocks_of, Storable, Stands}
 use Rattle.ild_build_blocks.specs.Builds.{Holds}
 use Rattle.ild_run_create.specs.Given.{IsGivenAs}
-use Rattle.ild_run_create.specs.Steps.{put_fault, Stops, TriesNodes, BlockAnswer, HasBlock}
+use Rattle.ild_run_create.specs.inside.Steps.{put_fault, Stops, TriesNodes, BlockAnswer, HasBlock}
 use Rattle.ild_run_create.specs.Creates.{HasChildren, Tries, CreateAnswer, Creates}
 use Rattle.ild_run_create.specs.declared.fault.CreateFault.{CreateFault}
 use Rattle.ild_run_create.specs.declared.fault.CreateFault.TheVariants as F

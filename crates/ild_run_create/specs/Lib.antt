@@ -1,6 +1,6 @@
 pub mod Given
 pub mod Makes
 pub mod Refuses
-pub mod Steps
 pub mod Creates
 pub mod Laws
+pub mod inside

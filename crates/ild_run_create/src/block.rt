@@ -4,7 +4,7 @@ ghost use Rattle.ild_schema.specs.Slots.{plainly};
 ghost use Rattle.ild_schema.specs.ValueSeen.{value_of};
 ghost use Rattle.ild_typed.specs.Typed.{Typed};
 ghost use Rattle.ild_run_create.specs.Given.{IsGivenAs};
-ghost use Rattle.ild_run_create.specs.Steps.{HasBlock, Stops, built_fault, json_fault, judged_refusal, shown_fault};
+ghost use Rattle.ild_run_create.specs.inside.Steps.{HasBlock, Stops, built_fault, json_fault, judged_refusal, shown_fault};
 
 use crate::{CreateFault, Refusal};
 use ild_build::{Judged, judge};

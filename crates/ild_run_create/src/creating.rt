@@ -1,7 +1,7 @@
 //! A value is created in a store.
 ghost use Rattle.std.specs.Prelude.{◌≡◌, ◌<◌, length};
 ghost use Rattle.ild_run_create.specs.Creates.{Creates};
-ghost use Rattle.ild_run_create.specs.Steps.{put_fault};
+ghost use Rattle.ild_run_create.specs.inside.Steps.{put_fault};
 
 use crate::CreateFault;
 use crate::block::{block_of, given};

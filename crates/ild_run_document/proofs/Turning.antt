@@ -29,7 +29,7 @@ use Rattle.ild_run_commit.specs.Commits.{Commits}
 use Rattle.ild_run_standing.specs.Answers.{AnswersAs, LeadsOn}
 use Rattle.ild_run_standing.specs.Standing.{IsOutside, StandsSo, setting_of}
 use Rattle.ild_run_document.specs.Null.{null_text}
-use Rattle.ild_run_document.specs.Refusals.{refusal_of}
+use Rattle.ild_run_document.specs.inside.Refusals.{refusal_of}
 use Rattle.ild_run_document.specs.Turns.{AreAlike, Turns, TurnsTo}
 use Rattle.ild_run_document.proofs.Settings.{carries_on, null_is, of_at, of_same, root_is}
 

@@ -1,5 +1,5 @@
 pub mod Null
 pub mod Begins
 pub mod Document
-pub mod Refusals
 pub mod Turns
+pub mod inside

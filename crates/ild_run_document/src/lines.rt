@@ -5,7 +5,7 @@ ghost use Rattle.ild_script.specs.Line.{blank, reads};
 ghost use Rattle.ild_script_meaning.specs.Ask.{asked, asked_by, to_abort, to_commit};
 ghost use Rattle.ild_run_document.specs.Begins.{doc_of};
 ghost use Rattle.ild_run_document.specs.Null.{null_text};
-ghost use Rattle.ild_run_document.specs.Refusals.{refusal_of};
+ghost use Rattle.ild_run_document.specs.inside.Refusals.{refusal_of};
 ghost use Rattle.ild_run_document.specs.Turns.{AreAlike, Turns};
 
 use crate::begun::{Begun, begin};

@@ -13,7 +13,7 @@ use Rattle.ild_schema.specs.Value.{Value}
 use Rattle.ild_path_around.specs.Around.{TellsComing}
 use Rattle.ild_path_place.specs.Tells.{slot_in, table_at}
 use Rattle.ild_path_place.specs.declared.place.Place.{Place}
-use Rattle.ild_run_edit.specs.Judges.{TellsAround}
+use Rattle.ild_run_edit.specs.inside.Judges.{TellsAround}
 
 pub tells_around : (place : Place) (w : Value) (o : Option (Bor (List ℕ))) (r : Result Bool AllocError) → IsSafe (table_at place) (slot_in place) → option_map (λ t. t.now) o ≡ text_rep (table_at place) (slot_in place) w → TellsComing place o r
     → IfOk r (TellsAround place w)

@@ -56,8 +56,8 @@ use Rattle.ild_path_judged.proofs.Order.{refused_in_order, unrefused_have_data}
 use Rattle.ild_path_place.specs.Tells.{slot_in, table_at, type_at}
 use Rattle.ild_path_place.specs.declared.place.Place.{Place}
 use Rattle.ild_path_room.specs.Room.{Coming, by_set, by_insert}
-use Rattle.ild_run_edit.specs.Judges.{IsFreePart}
-use Rattle.ild_run_edit.specs.Moves.{line_by, due_of, edited_by, BuildsAnswer, BuildsPart, BuiltPart, Fails, IsLet, IsPartBlock, MoveAnswer, Moves, built_as}
+use Rattle.ild_run_edit.specs.inside.Judges.{IsFreePart}
+use Rattle.ild_run_edit.specs.inside.Moves.{line_by, due_of, edited_by, BuildsAnswer, BuildsPart, BuiltPart, Fails, IsLet, IsPartBlock, MoveAnswer, Moves, built_as}
 use Rattle.ild_run_edit.proofs.Passing.{given_all}
 use Rattle.ild_run_edit.proofs.Joining.{line_made}
 use Rattle.ild_run_edit.proofs.Judging.{path_texts, brings_part}

@@ -35,9 +35,9 @@ use Rattle.ild_path_place.specs.declared.place.Place.{Place}
 use Rattle.ild_path_place.specs.declared.verb.Verb.TheVariants as V
 use Rattle.ild_path_room.specs.Room.{by_set, by_insert}
 use Rattle.ild_run_edit.specs.Edits.{edit_of}
-use Rattle.ild_run_edit.specs.Moves.{due_of, edited_by, Moves, MoveAnswer, IsIn, Fails, ComesTo, GoesFrom}
-use Rattle.ild_run_edit.specs.Swaps.{SwapsTo}
-use Rattle.ild_run_edit.specs.Roots.{verb_as, FindAnswer, Finds, FindFails, Makes, MakesRoot}
+use Rattle.ild_run_edit.specs.inside.Moves.{due_of, edited_by, Moves, MoveAnswer, IsIn, Fails, ComesTo, GoesFrom}
+use Rattle.ild_run_edit.specs.inside.Swaps.{SwapsTo}
+use Rattle.ild_run_edit.specs.inside.Roots.{verb_as, FindAnswer, Finds, FindFails, Makes, MakesRoot}
 use Rattle.ild_run_edit.specs.declared.verb.EditVerb.{EditVerb}
 use Rattle.ild_run_edit.specs.declared.verb.EditVerb.TheVariants as E
 use Rattle.ild_run_standing.specs.Laws.{HeldAreStanding}

@@ -6,7 +6,7 @@ use Rattle.ild_build.specs.declared.judgement.Judged.{Judged}
 use Rattle.ild_build.specs.declared.judgement.Judged.TheVariants as J
 use Rattle.ild_script.specs.declared.reply.No.{No}
 use Rattle.ild_script.specs.declared.reply.No.TheVariants as N
-use Rattle.ild_run_edit.specs.Judges.{first_told}
+use Rattle.ild_run_edit.specs.inside.Judges.{first_told}
 
 -- how the part is judged: hw that it has a hole, bw that it breaks a delimiter, FW that it fits in a room
 abbrev pub Judges : Bool → Bool → (ℕ → Type 0) → ℕ → Option Judged → Type 0

@@ -22,7 +22,7 @@ use Rattle.ild_typed.specs.At.{InSlot}
 use Rattle.ild_typed.specs.Stands.{Stands, bare}
 use Rattle.ild_view_doc.specs.Docs.{block_in, table_in, type_in}
 use Rattle.ild_view_doc.specs.declared.doc.Doc.{Doc}
-use Rattle.ild_run_edit.specs.Roots.{FindAnswer, FindFails, Finds, no_place, verb_as}
+use Rattle.ild_run_edit.specs.inside.Roots.{FindAnswer, FindFails, Finds, no_place, verb_as}
 use Rattle.ild_run_edit.specs.declared.verb.EditVerb.{EditVerb}
 use Rattle.ild_run_edit.specs.declared.verb.EditVerb.TheVariants as E
 

@@ -40,7 +40,7 @@ use Rattle.ild_path.specs.Replaces.{Erases, Spares}
 use Rattle.ild_path.specs.declared.fault.EditFault.{EditFault}
 use Rattle.ild_path.specs.declared.fault.EditFault.TheVariants as F
 use Rattle.ild_run_standing.specs.Answers.{PassesOn}
-use Rattle.ild_run_edit.specs.Moves.{edited_by, IsGoing, Fails, GoesFrom, done_as}
+use Rattle.ild_run_edit.specs.inside.Moves.{edited_by, IsGoing, Fails, GoesFrom, done_as}
 use Rattle.ild_run_edit.proofs.Passing.{edit_passes_on, told_any, told_ok}
 use Rattle.ild_run_edit.proofs.Settling.{moved}
 use Rattle.ild_run_edit.proofs.Still.{still_moves, sound_of}

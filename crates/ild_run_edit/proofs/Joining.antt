@@ -43,7 +43,7 @@ use Rattle.ild_path.specs.declared.fault.EditFault.{EditFault}
 use Rattle.ild_path.specs.declared.fault.EditFault.TheVariants as F
 use Rattle.ild_path_room.specs.Room.{Coming, by_set, by_insert}
 use Rattle.ild_run_standing.specs.Answers.{PassesOn}
-use Rattle.ild_run_edit.specs.Moves.{line_by, due_of, Moves, MoveAnswer, Fails, IsLet, PutsPart, BuildsPart, BuiltPart, done_as}
+use Rattle.ild_run_edit.specs.inside.Moves.{line_by, due_of, Moves, MoveAnswer, Fails, IsLet, PutsPart, BuildsPart, BuiltPart, done_as}
 use Rattle.ild_run_edit.proofs.Composing.{rose_later, fails_later}
 use Rattle.ild_run_edit.proofs.Judging.{path_texts, brings_part}
 use Rattle.ild_run_edit.proofs.Passing.{coming_passes_on, given_later, told_ok}

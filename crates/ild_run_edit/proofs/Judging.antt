@@ -39,7 +39,7 @@ use Rattle.ild_path_place.specs.Parts.{end_in, verb_in}
 use Rattle.ild_path_place.specs.Tells.{fits_in, hole_in, room_in, slot_in, table_at}
 use Rattle.ild_path_place.specs.declared.place.Place.{Place}
 use Rattle.ild_path_room.specs.Room.{Coming, by_set, by_insert, FitsIn}
-use Rattle.ild_run_edit.specs.Judges.{first_told, IsPartRefusal, IsFreePart, ChangeJudged}
+use Rattle.ild_run_edit.specs.inside.Judges.{first_told, IsPartRefusal, IsFreePart, ChangeJudged}
 use Rattle.ild_run_edit.proofs.Deciding.{Judges, FitsIt, Outcome, decided, undecided}
 
 -- ---- the change, where there is a slot

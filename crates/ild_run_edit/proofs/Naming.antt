@@ -18,10 +18,10 @@ use Rattle.ild_schema.specs.declared.number.Slot.{Slot}
 use Rattle.ild_schema.specs.declared.row.Row.{Row}
 use Rattle.ild_script.specs.declared.reply.No.{No}
 use Rattle.ild_script.specs.declared.reply.No.TheVariants as N
-use Rattle.ild_run_edit.specs.Judges.{IsPartRefusal}
-use Rattle.ild_run_edit.specs.Moves.{PartAnswer, built_fault, done_fault}
+use Rattle.ild_run_edit.specs.inside.Judges.{IsPartRefusal}
+use Rattle.ild_run_edit.specs.inside.Moves.{PartAnswer, built_fault, done_fault}
 use Rattle.ild_run_edit.specs.Naming.{IsTaken, NamesClash, NotesBuilt, NotesDone}
-use Rattle.ild_run_edit.specs.Roots.{FindFails}
+use Rattle.ild_run_edit.specs.inside.Roots.{FindFails}
 use Rattle.ild_run_edit.proofs.Still.{told_plain}
 
 pub same_refusal : {A : Type 0} (r s : No) → ◌≡◌ {A = Result A No} (Err r) (Err s) → r ≡ s

@@ -23,7 +23,7 @@ use Rattle.ild_value.specs.Readings.{MeansNothing}
 use Rattle.ild_value_meaning.specs.MeantRead.{meant}
 use Rattle.ild_value_meaning.proofs.Reading.{read_is_meant}
 use Rattle.ild_path_edits.specs.Edit.{meant_or, read_or, new_part}
-use Rattle.ild_run_edit.specs.Moves.{PartAnswer}
+use Rattle.ild_run_edit.specs.inside.Moves.{PartAnswer}
 
 pub none_meant : (rows : List Row) (slot : Slot) (json : List ℕ) (d : Data) → json_read json ≡ Ok d → MeansNothing rows slot d
     → (is_key : ℕ → List ℕ → Bool) → TestsKeys rows is_key → new_part rows is_key read_json (Some slot) json ≡ Err N.Mismatch

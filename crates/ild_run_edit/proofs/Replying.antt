@@ -22,8 +22,8 @@ use Rattle.ild_typed.specs.Stands.{Stands, bare, root_id, blocks_of}
 use Rattle.ild_path_edits.specs.Edit.{Edit}
 use Rattle.ild_path_edits.specs.Judged.{Tests}
 use Rattle.ild_run_edit.specs.Edits.{Edits, IsOfEdit, edit_of}
-use Rattle.ild_run_edit.specs.Moves.{Fails, IsNewRoot, due_of, edited_by}
-use Rattle.ild_run_edit.specs.Roots.{Makes, MakesRoot}
+use Rattle.ild_run_edit.specs.inside.Moves.{Fails, IsNewRoot, due_of, edited_by}
+use Rattle.ild_run_edit.specs.inside.Roots.{Makes, MakesRoot}
 use Rattle.ild_run_edit.specs.declared.verb.EditVerb.{EditVerb}
 use Rattle.ild_run_edit.proofs.Passing.{itself_passes, told_any, told_both}
 use Rattle.ild_run_standing.specs.Answers.{PassesOn}

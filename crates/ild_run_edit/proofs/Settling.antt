@@ -38,7 +38,7 @@ use Rattle.ild_path.specs.Replaces.{ReplaceAnswer, Replaces, Spares}
 use Rattle.ild_path.specs.declared.fault.EditFault.{EditFault}
 use Rattle.ild_path.specs.declared.fault.EditFault.TheVariants as F
 use Rattle.ild_run_standing.specs.Answers.{PassesOn}
-use Rattle.ild_run_edit.specs.Moves.{Moves, MoveAnswer, due_of, edited_by, done_as}
+use Rattle.ild_run_edit.specs.inside.Moves.{Moves, MoveAnswer, due_of, edited_by, done_as}
 
 not_long : (bs : List (List ℕ)) (b : List ℕ) → AllByRecursion (λ b. length b ≤ longest_block) bs → Contains bs b → longest_block < length b → ⊥
 not_long bs b all among long = let le = all_contained (λ b. length b ≤ longest_block) bs b all among in omega arith

@@ -29,8 +29,8 @@ use Rattle.ild_path_judged.specs.Place.{bringing}
 use Rattle.ild_path_place.specs.Tells.{fits_in, hole_in, room_in, slot_in, table_at, type_at}
 use Rattle.ild_path_place.specs.declared.place.Place.{Place}
 use Rattle.ild_path_room.specs.Room.{Coming, by_set, by_insert}
-use Rattle.ild_run_edit.specs.Judges.{IsPartRefusal, ChangeJudged, has_hole_by, breaks_by, is_deep_by}
-use Rattle.ild_run_edit.specs.Moves.{PartAnswer, line_by, due_of, edited_by, Moves, MoveAnswer, IsComing, Fails, ComesTo, PutsPart}
+use Rattle.ild_run_edit.specs.inside.Judges.{IsPartRefusal, ChangeJudged, has_hole_by, breaks_by, is_deep_by}
+use Rattle.ild_run_edit.specs.inside.Moves.{PartAnswer, line_by, due_of, edited_by, Moves, MoveAnswer, IsComing, Fails, ComesTo, PutsPart}
 use Rattle.ild_run_edit.proofs.Judging.{change_judged}
 
 -- ---- a store that stays as it is

@@ -1,6 +1,3 @@
 pub mod Edits
-pub mod Judges
-pub mod Moves
 pub mod Naming
-pub mod Roots
-pub mod Swaps
+pub mod inside

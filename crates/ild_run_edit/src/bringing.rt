@@ -3,9 +3,9 @@ ghost use Rattle.std.specs.Prelude.{◌≡◌, ◌<◌, Err, IfOk, length, true}
 ghost use Rattle.ild_path_place.specs.Comes.{comes};
 ghost use Rattle.ild_path_place.specs.Parts.{verb_in};
 ghost use Rattle.ild_path_place.specs.Tells.{table_at};
-ghost use Rattle.ild_run_edit.specs.Moves.{ComesTo, PartAnswer};
+ghost use Rattle.ild_run_edit.specs.inside.Moves.{ComesTo, PartAnswer};
 ghost use Rattle.ild_run_edit.specs.Naming.{NamesClash};
-ghost use Rattle.ild_run_edit.specs.Swaps.{SwapsTo};
+ghost use Rattle.ild_run_edit.specs.inside.Swaps.{SwapsTo};
 ghost use Rattle.ild_schema.specs.ValueSeen.{value_of};
 ghost use Rattle.ild_script.specs.declared.reply.No.TheVariants as refusal;
 ghost use Rattle.ild_typed.specs.Typed.{Typed};

@@ -3,9 +3,9 @@ ghost use Rattle.std.specs.Prelude.{◌≡◌, Err};
 ghost use Rattle.ild_path_place.specs.Parts.{verb_in};
 ghost use Rattle.ild_path_place.specs.Tells.{table_at};
 ghost use Rattle.ild_path_place.specs.declared.verb.Verb.TheVariants.{Del};
-ghost use Rattle.ild_run_edit.specs.Moves.{GoesFrom};
+ghost use Rattle.ild_run_edit.specs.inside.Moves.{GoesFrom};
 ghost use Rattle.ild_run_edit.specs.Naming.{NamesClash};
-ghost use Rattle.ild_run_edit.specs.Swaps.{SwapsTo};
+ghost use Rattle.ild_run_edit.specs.inside.Swaps.{SwapsTo};
 ghost use Rattle.ild_script.specs.declared.reply.No.TheVariants as refusal;
 
 use crate::faults::done_fault;

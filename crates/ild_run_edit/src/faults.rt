@@ -1,7 +1,7 @@
 //! Why there is no new root block, as a refusal.
 ghost use Rattle.std.specs.Prelude.{◌≡◌};
 ghost use Rattle.ild_data.specs.Bytes.{AreBytes};
-ghost use Rattle.ild_run_edit.specs.Moves.{built_fault, done_fault};
+ghost use Rattle.ild_run_edit.specs.inside.Moves.{built_fault, done_fault};
 ghost use Rattle.ild_run_edit.specs.Naming.{NotesBuilt, NotesDone};
 
 use ild_build_blocks::BuildFault;

@@ -1,7 +1,7 @@
 //! The part that an edit brings, judged at its place.
 ghost use Rattle.std.specs.Prelude.{◌≡◌, ◌<◌, IfOk, length};
 ghost use Rattle.ild_path_place.specs.Tells.{slot_in, table_at};
-ghost use Rattle.ild_run_edit.specs.Judges.{IsPartRefusal, TellsAround, first_told};
+ghost use Rattle.ild_run_edit.specs.inside.Judges.{IsPartRefusal, TellsAround, first_told};
 ghost use Rattle.ild_schema.specs.ValueSeen.{value_of};
 ghost use Rattle.ild_typed.specs.Typed.{Typed};
 

@@ -3,7 +3,7 @@ ghost use Rattle.std.specs.Prelude.{◌≡◌, Err, IfOk, IsUtf8};
 ghost use Rattle.std.specs.List.{AllByRecursion};
 ghost use Rattle.ild_run_edit.specs.Edits.{edit_of};
 ghost use Rattle.ild_run_edit.specs.Naming.{NamesClash};
-ghost use Rattle.ild_run_edit.specs.Roots.{Finds, MakesRoot, no_place, verb_as};
+ghost use Rattle.ild_run_edit.specs.inside.Roots.{Finds, MakesRoot, no_place, verb_as};
 ghost use Rattle.ild_script.specs.declared.reply.No.TheVariants as refusal;
 ghost use Rattle.ild_view_doc.specs.Block.{HasRoot};
 ghost use Rattle.ild_view_doc.specs.Docs.{table_in, type_in};

@@ -28,7 +28,7 @@ use Rattle.ild_typed.specs.Represented.{represented}
 use Rattle.ild_typed.specs.Schema.{IsSchema}
 use Rattle.ild_view.specs.View.{IsView, slot_of, table_of}
 use Rattle.ild_view.specs.declared.view.View.{View}
-use Rattle.ild_run_follow.specs.Faults.{open_fault}
+use Rattle.ild_run_follow.specs.inside.Faults.{open_fault}
 use Rattle.ild_run_follow.specs.Tells.{FailsOnly, IsAt, LoadAnswer, LoadsPart, TellAnswer, TellsHere, ToldBy, counts, part_nodes}
 use Rattle.ild_run_follow.specs.Told.{is_loaded, told}
 use Rattle.ild_run_follow.specs.declared.fault.ReadFault.{ReadFault}

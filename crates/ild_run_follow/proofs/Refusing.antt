@@ -57,8 +57,8 @@ use Rattle.ild_open.proofs.Carrying.{held_piece}
 use Rattle.ild_run_follow.proofs.Landing.{HasSiteThere, IsDataOf, IsEntered, IsReached, Lands, entered_at, fits_at, here_is, lands, leads_more, none_broken, one_data, site_there}
 use Rattle.ild_run_follow.proofs.Loading.{loaded_as}
 use Rattle.ild_run_follow.proofs.Shallow.{shown_part}
-use Rattle.ild_run_follow.specs.Enters.{ChecksEntry, RefusesEntry, WalksTrie}
-use Rattle.ild_run_follow.specs.Faults.{entered_as}
+use Rattle.ild_run_follow.specs.inside.Enters.{ChecksEntry, RefusesEntry, WalksTrie}
+use Rattle.ild_run_follow.specs.inside.Faults.{entered_as}
 use Rattle.ild_run_follow.specs.Refuses.{HasWrongAlong, IsWrongAlong, IsWrongThrough, Refuses, RefusesAlong, RefusesIn, RefusesPart, in_full}
 use Rattle.ild_run_follow.specs.Tells.{TellsNothing}
 use Rattle.ild_run_follow.specs.declared.fault.ReadFault.{ReadFault}

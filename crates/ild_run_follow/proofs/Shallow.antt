@@ -26,7 +26,7 @@ use Rattle.ild_view.specs.declared.view.View.{View}
 use Rattle.ild_open.proofs.Carrying.{held_piece}
 use Rattle.ild_open.specs.Loaded.{IsShallow, IsShown}
 use Rattle.ild_open_held_parts.proofs.Parting.{part_fits}
-use Rattle.ild_run_follow.specs.Enters.{ChecksEntry}
+use Rattle.ild_run_follow.specs.inside.Enters.{ChecksEntry}
 use Rattle.ild_run_follow.proofs.Leading.{Steps}
 
 pub shown_part : (rows : List Row) (q : InSlot) (w : View) (x : IsPartView rows q w) → Fits rows 96 q.0 q.1 → IsShown w x.view.tree

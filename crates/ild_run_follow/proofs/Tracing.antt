@@ -33,8 +33,8 @@ use Rattle.ild_view.specs.View.{IsView, Views, slot_of, table_of}
 use Rattle.ild_view.specs.declared.view.View.{View}
 use Rattle.ild_view_walk.specs.Checks.{IsRefusal}
 use Rattle.ild_path_room.specs.ValueSlot.{IsValueSlot, value_in}
-use Rattle.ild_run_follow.specs.Enters.{ChecksEntry, EnterAnswer, EntersTrie, RefusesEntry}
-use Rattle.ild_run_follow.specs.Faults.{entered_as}
+use Rattle.ild_run_follow.specs.inside.Enters.{ChecksEntry, EnterAnswer, EntersTrie, RefusesEntry}
+use Rattle.ild_run_follow.specs.inside.Faults.{entered_as}
 use Rattle.ild_run_follow.specs.Tells.{FailsOnly}
 use Rattle.ild_run_follow.specs.declared.fault.ReadFault.TheVariants as F
 use Rattle.ild_view.proofs.Opening.{safe_is}

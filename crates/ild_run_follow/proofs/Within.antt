@@ -52,7 +52,7 @@ use Rattle.ild_view.specs.View.{piece_in}
 use Rattle.ild_view.specs.declared.body.Body.{Body}
 use Rattle.ild_view.specs.declared.body.Body.TheVariants as B
 use Rattle.ild_view.specs.declared.view.View.{View}
-use Rattle.ild_run_follow.specs.Enters.{ChecksEntry, EnterAnswer, EntersTrie, HoldsTrie}
+use Rattle.ild_run_follow.specs.inside.Enters.{ChecksEntry, EnterAnswer, EntersTrie, HoldsTrie}
 use Rattle.ild_run_follow.specs.Tells.{FailsOnly, IsAt, TellAnswer, TellsFrom, TellsIn, TellsNothing, counts, part_nodes}
 use Rattle.ild_run_follow.specs.Told.{told}
 use Rattle.ild_run_follow.specs.declared.fault.ReadFault.{ReadFault}

@@ -8,7 +8,7 @@ ghost use Rattle.ild_node_slots.specs.Views.{HasSlots};
 ghost use Rattle.ild_data.specs.declared.hamt_shape.HamtShape.{HamtShape};
 ghost use Rattle.ild_schema.specs.Value.{hamt as root_of};
 ghost use Rattle.ild_view.specs.View.{IsView, slot_of, table_of};
-ghost use Rattle.ild_run_follow.specs.Enters.{ChecksEntry, EntersTrie, RefusesEntry, WalksTrie};
+ghost use Rattle.ild_run_follow.specs.inside.Enters.{ChecksEntry, EntersTrie, RefusesEntry, WalksTrie};
 
 use crate::fault::{ReadFault, of_hamt};
 use ild_cbor::{BlockWhy, Node};

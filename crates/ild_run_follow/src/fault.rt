@@ -1,6 +1,6 @@
 //! Why nothing is told of a part.
 ghost use Rattle.std.specs.Prelude.{◌≡◌};
-ghost use Rattle.ild_run_follow.specs.Faults.{hamt_fault, open_fault};
+ghost use Rattle.ild_run_follow.specs.inside.Faults.{hamt_fault, open_fault};
 ghost use Rattle.ild_run_follow.specs.declared.fault.ReadFault.TheVariants.{Memory};
 
 use ild_cbor::BlockWhy;

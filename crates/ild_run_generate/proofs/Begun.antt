@@ -9,10 +9,10 @@ use Rattle.ild_generator.specs.Generated.{Generated, generated, root_in, blocks_
 use Rattle.ild_generator.specs.Schema.{generator_rows, generator_type}
 use Rattle.ild_path_edits.specs.Judged.{Tests}
 use Rattle.ild_run_edit.specs.Naming.{IsTaken}
-use Rattle.ild_run_generate.specs.Counting.{CountIs, CountsEntries}
+use Rattle.ild_run_generate.specs.inside.Counting.{CountIs, CountsEntries}
 use Rattle.ild_run_generate.specs.Generates.{Generates, GeneratesTold}
 use Rattle.ild_run_generate.specs.Runs.{RunAnswer, RunsFrom, TakesSteps}
-use Rattle.ild_run_generate.specs.Starting.{start_fault}
+use Rattle.ild_run_generate.specs.inside.Starting.{start_fault}
 use Rattle.ild_run_generate.specs.Steps.{Causes, IsOfGenerator, counts_of}
 use Rattle.ild_run_generate.specs.declared.fault.GenerateFault.{GenerateFault}
 use Rattle.ild_run_generate.specs.declared.fault.GenerateFault.TheVariants as F

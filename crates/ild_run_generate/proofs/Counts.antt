@@ -9,7 +9,7 @@ use Rattle.ild_open.specs.Opened.{HasValue, Opens, StandsInBlock}
 use Rattle.ild_open_parts.specs.declared.fault.OpenFault.{OpenFault}
 use Rattle.ild_open_parts.specs.declared.fault.OpenFault.TheVariants as O
 use Rattle.ild_path_edits.specs.Judged.{Tests}
-use Rattle.ild_run_generate.specs.Counting.{CountsEntries, count_in}
+use Rattle.ild_run_generate.specs.inside.Counting.{CountsEntries, count_in}
 use Rattle.ild_run_generate.specs.declared.fault.GenerateFault.TheVariants as F
 use Rattle.ild_run_standing.specs.Laws.{HeldAreStanding}
 use Rattle.ild_run_standing.specs.Standing.{IsHeldAt}

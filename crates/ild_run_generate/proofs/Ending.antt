@@ -16,7 +16,7 @@ use Rattle.ild_script_meaning.specs.PlainMap.{as_value, int_entry}
 use Rattle.ild_script_meaning.specs.PlainValue.{Value as Entries}
 use Rattle.ild_typed.proofs.Lists.{pairs_list-pairs_of}
 use Rattle.ild_typed.specs.Stands.{Stands, Storable, bare, root_id}
-use Rattle.ild_run_generate.specs.Counting.{count_in}
+use Rattle.ild_run_generate.specs.inside.Counting.{count_in}
 use Rattle.ild_view_doc.specs.Docs.{table_in, block_in}
 use Rattle.ild_view_doc.specs.declared.doc.Doc.{Doc}
 

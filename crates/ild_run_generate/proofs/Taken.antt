@@ -10,7 +10,7 @@ use Rattle.ild_generator.specs.Laws.{StepsAreEdits, StepsAddBlocks}
 use Rattle.ild_generator.specs.Numbers.{is_deletion}
 use Rattle.ild_run_edit.specs.Edits.{edit_of, reply_of}
 use Rattle.ild_run_edit.specs.Naming.{NamesClash}
-use Rattle.ild_run_generate.specs.Counting.{Lacks}
+use Rattle.ild_run_generate.specs.inside.Counting.{Lacks}
 use Rattle.ild_run_generate.specs.Steps.{IsAsked, TakesStep, one_more, one_absent, outcome_of}
 use Rattle.ild_run_generate.specs.declared.asking.Asked.{Asked}
 use Rattle.ild_run_generate.specs.declared.fault.GenerateFault.{GenerateFault}

@@ -1,6 +1,6 @@
 //! The entries of a document's map, read back from its root.
 ghost use Rattle.std.specs.Prelude.{◌≡◌};
-ghost use Rattle.ild_run_generate.specs.Counting.{CountsEntries, Lacks, count_in};
+ghost use Rattle.ild_run_generate.specs.inside.Counting.{CountsEntries, Lacks, count_in};
 ghost use Rattle.ild_schema.specs.ValueSeen.{value_of};
 
 use crate::fault::GenerateFault;

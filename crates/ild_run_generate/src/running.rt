@@ -2,7 +2,7 @@
 ghost use Rattle.std.specs.Prelude.{◌≡◌};
 ghost use Rattle.ild_run_generate.specs.Generates.{Generates};
 ghost use Rattle.ild_run_generate.specs.Runs.{RunsFrom, TakesSteps};
-ghost use Rattle.ild_run_generate.specs.Starting.{IsOfEmpty, start_fault};
+ghost use Rattle.ild_run_generate.specs.inside.Starting.{IsOfEmpty, start_fault};
 
 use crate::counting::count_entries;
 use crate::fault::GenerateFault;

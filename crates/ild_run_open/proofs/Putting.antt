@@ -17,7 +17,7 @@ use Rattle.ild_schema.specs.Slots.{plainly}
 use Rattle.ild_schema.specs.Value.{Value}
 use Rattle.ild_schema.specs.declared.number.TypeNo.{TypeNo}
 use Rattle.ild_schema.specs.declared.row.Row.{Row}
-use Rattle.ild_script_session.specs.Puts.{PutAnswer, PutsBlock}
+use Rattle.ild_script_session.specs.inside.Puts.{PutAnswer, PutsBlock}
 use Rattle.ild_script_session.specs.Step.{AddsOnly}
 use Rattle.ild_script_session.proofs.Came.{adds_trans, adds_wider}
 use Rattle.ild_script_session.specs.declared.putting.PutFault.{PutFault}
@@ -26,7 +26,7 @@ use Rattle.ild_view_doc.specs.Docs.{IsDoc, block_in}
 use Rattle.ild_view_doc.specs.declared.doc.Doc.{Doc}
 use Rattle.ild_run_open.specs.Empty.{IsEmpty, empty_blocks}
 use Rattle.ild_run_open.specs.Starts.{KeepsEmpty, Starts, EmptyStops}
-use Rattle.ild_run_open.specs.Steps.{built_fault, put_fault, BuildsEmpty, BuildEmptyAnswer, PutsEmpty, PutEmptyAnswer}
+use Rattle.ild_run_open.specs.inside.Steps.{built_fault, put_fault, BuildsEmpty, BuildEmptyAnswer, PutsEmpty, PutEmptyAnswer}
 use Rattle.ild_run_open.specs.declared.start.Start.TheVariants as S
 use Rattle.ild_run_open.specs.declared.start.StartFault.{StartFault}
 use Rattle.ild_run_open.specs.declared.start.StartFault.TheVariants as F

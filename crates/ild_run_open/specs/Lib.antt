@@ -1,3 +1,3 @@
 pub mod Empty
 pub mod Starts
-pub mod Steps
+pub mod inside

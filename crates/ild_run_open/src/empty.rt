@@ -3,7 +3,7 @@ ghost use Rattle.std.specs.Prelude.{◌≡◌, ◌<◌, Some, length, option_map
 ghost use Rattle.ild_schema.specs.Slots.{form_of, plainly};
 ghost use Rattle.ild_schema.specs.ValueSeen.{value_of};
 ghost use Rattle.ild_run_open.specs.Empty.{empty_in, IsEmpty};
-ghost use Rattle.ild_run_open.specs.Steps.{BuildsEmpty, PutsEmpty, built_fault, put_fault};
+ghost use Rattle.ild_run_open.specs.inside.Steps.{BuildsEmpty, PutsEmpty, built_fault, put_fault};
 
 use crate::StartFault;
 use ild_build_blocks::{BuildFault, build};

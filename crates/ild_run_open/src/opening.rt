@@ -1,7 +1,7 @@
 //! A document is opened.
 ghost use Rattle.std.specs.Prelude.{◌≡◌, ◌<◌, length};
 ghost use Rattle.ild_run_open.specs.Starts.{Starts};
-ghost use Rattle.ild_run_open.specs.Steps.{open_fault};
+ghost use Rattle.ild_run_open.specs.inside.Steps.{open_fault};
 ghost use Rattle.ild_run_open.specs.declared.start.Start.TheVariants as start;
 
 use crate::empty::put_empty;

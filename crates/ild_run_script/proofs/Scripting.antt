@@ -31,7 +31,7 @@ use Rattle.ild_run_open.specs.declared.start.StartFault.{StartFault}
 use Rattle.ild_run_standing.specs.Laws.{StandingAreAt, HeldAreStanding}
 use Rattle.ild_run_standing.specs.Standing.{IsHeldAt, IsInBatch, StandsAt, StandsSo, setting_of}
 use Rattle.ild_run_standing.proofs.Held.{kept_are_standing}
-use Rattle.ild_run_script.specs.Lines.{DocDone, DocCut}
+use Rattle.ild_run_script.specs.inside.Lines.{DocDone, DocCut}
 use Rattle.ild_run_script.specs.Scripts.{setting, lines_on, StandsThere, start_gets, start_puts, AnswersFrom, Answers, AnswersSome, ScriptAnswer, Scripts}
 use Rattle.ild_run_script.specs.declared.fault.ScriptFault.TheVariants as F
 

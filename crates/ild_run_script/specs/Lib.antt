@@ -1,3 +1,3 @@
-pub mod Lines
 pub mod Scripts
 pub mod Plainly
+pub mod inside

@@ -3,7 +3,7 @@ ghost use Rattle.std.specs.Prelude.{◌≡◌, ◌≤◌, ◌<◌, length, IfOk,
 ghost use Rattle.ild_edges.specs.Count.{Rose};
 ghost use Rattle.ild_script.specs.Line.{lines_of};
 ghost use Rattle.ild_script_session.specs.declared.cut.Cut.TheVariants as cut;
-ghost use Rattle.ild_run_script.specs.Lines.{DocCut, DocDone};
+ghost use Rattle.ild_run_script.specs.inside.Lines.{DocCut, DocDone};
 ghost use Rattle.ild_run_script.specs.Scripts.{Scripts};
 
 use crate::ScriptFault;

@@ -19,7 +19,7 @@ use Rattle.ild_schema.specs.declared.row.Row.{Row}
 use Rattle.ild_schema.specs.Marks.{text_of, field_text, member_text}
 use Rattle.ild_schema.specs.Rows.{def_at}
 use Rattle.ild_schema.specs.Spelled.{SpelledDelims, SpelledStruct, SpelledKeys, SpelledUnion, SpelledEnum, SpelledScalar, HasTexts}
-use Rattle.ild_schema.specs.Written.{FieldTexts, MemberTexts, EnumMemberTexts, TypeTexts, RowTexts}
+use Rattle.ild_schema.specs.inside.Written.{FieldTexts, MemberTexts, EnumMemberTexts, TypeTexts, RowTexts}
 
 -- ---- a loop over parts
 

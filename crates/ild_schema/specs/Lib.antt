@@ -3,7 +3,6 @@ pub mod Prelude
 pub mod Rows
 pub mod Copies
 pub mod Spelled
-pub mod Written
 pub mod Table
 pub mod Kinds
 pub mod Places
@@ -34,3 +33,4 @@ pub mod Delims
 pub mod Apart
 pub mod Fitting
 pub mod Legible
+pub mod inside

@@ -2,7 +2,7 @@
 ghost use Rattle.std.specs.Prelude.{IsUtf8};
 ghost use Rattle.std.specs.List.{All};
 ghost use Rattle.ild_schema.specs.Spelled.{HasTexts, SpelledDelims, SpelledKeys, SpelledMap};
-ghost use Rattle.ild_schema.specs.Written.{EnumMemberTexts, FieldTexts, MemberTexts, TypeTexts};
+ghost use Rattle.ild_schema.specs.inside.Written.{EnumMemberTexts, FieldTexts, MemberTexts, TypeTexts};
 
 use crate::{
     EnumMember, Field, MapForm, Mark, Member, Row, Scalar, StructForm, TypeDef, UnionForm,

@@ -42,7 +42,7 @@ use Rattle.ild_layer_piece.specs.Answers.{Layered}
 use Rattle.ild_layer_piece.specs.Entries.{Found}
 use Rattle.ild_layer_piece.specs.Pieces.{StandsFor}
 use Rattle.ild_struct.specs.Parts.{ArePartsOf, IsFieldOf, IsPart, IsStruct}
-use Rattle.ild_struct.specs.Reading.{IsLookedUp, shown}
+use Rattle.ild_struct.specs.inside.Reading.{IsLookedUp, shown}
 use Rattle.ild_struct.specs.Source.{Shows}
 use Rattle.ild_layer_fields.specs.Entries.{text_entries}
 use Rattle.ild_struct.specs.declared.part.Part.{Part}

@@ -26,7 +26,7 @@ use Rattle.ild_typed.proofs.CleanTexts.{parted_join}
 use Rattle.ild_typed.proofs.Structs.{all_count, field_from, look, past, not_there}
 use Rattle.ild_layer_piece.specs.Entries.{Found}
 use Rattle.ild_struct.specs.Parts.{IsPart}
-use Rattle.ild_struct.specs.Reading.{IsLookedUp, shown}
+use Rattle.ild_struct.specs.inside.Reading.{IsLookedUp, shown}
 use Rattle.ild_struct.specs.declared.part.Part.{Part}
 use Rattle.ild_layer_fields.proofs.Placing.{all_at}
 

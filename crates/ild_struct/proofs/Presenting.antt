@@ -18,8 +18,8 @@ use Rattle.ild_typed.proofs.Cleans.{or_false, never}
 use Rattle.ild_typed.proofs.Entries.{same_text_self}
 use Rattle.ild_struct.specs.Present.{ArePresent, ComeOnce, numbered}
 use Rattle.ild_layer_fields.specs.Entries.{by_place}
-use Rattle.ild_struct.specs.Stepping.{Written}
-use Rattle.ild_struct.specs.Reading.{shown}
+use Rattle.ild_struct.specs.inside.Stepping.{Written}
+use Rattle.ild_struct.specs.inside.Reading.{shown}
 use Rattle.ild_struct.proofs.Looking.{Keyed, Placed}
 use Rattle.ild_layer_fields.proofs.Placing.{all_at, name_at, text_turn}
 

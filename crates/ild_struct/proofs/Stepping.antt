@@ -16,7 +16,7 @@ use Rattle.ild_layer_piece.specs.Entries.{EntriesGive, HasLeft}
 use Rattle.ild_layer_piece.specs.declared.walk.MapEntries.{MapEntries}
 use Rattle.ild_layer_fields.specs.Pairs.{IsPairOf}
 use Rattle.ild_layer_fields.specs.Entries.{by_place}
-use Rattle.ild_struct.specs.Stepping.{Takes}
+use Rattle.ild_struct.specs.inside.Stepping.{Takes}
 use Rattle.ild_struct.specs.declared.left.Left.TheVariants as L
 use Rattle.ild_layer_fields.specs.declared.pair.Pair.{Pair}
 use Rattle.ild_layer_fields.specs.declared.pair.Pair.TheVariants as P

@@ -49,7 +49,7 @@ use Rattle.ild_struct.specs.Present.{numbered}
 use Rattle.ild_layer_fields.specs.Entries.{by_place}
 use Rattle.ild_struct.specs.Source.{Shows}
 use Rattle.ild_layer_fields.specs.Entries.{text_entries}
-use Rattle.ild_struct.specs.Stepping.{Starts}
+use Rattle.ild_struct.specs.inside.Stepping.{Starts}
 use Rattle.ild_struct.specs.declared.left.Left.TheVariants as R
 use Rattle.ild_struct.specs.declared.parts.StructParts.{StructParts}
 use Rattle.ild_struct.specs.declared.source.Source.TheVariants as O

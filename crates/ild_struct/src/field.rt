@@ -7,7 +7,7 @@ ghost use Rattle.ild_schema.specs.declared.row.Row.{Row};
 ghost use Rattle.ild_struct.specs.Parts.{ArePartsOf, HasNumber, IsFieldOf, IsPart, fields_of};
 ghost use Rattle.ild_layer_piece.specs.Entries.{Found};
 ghost use Rattle.ild_typed.specs.Fields.{is_implicit};
-ghost use Rattle.ild_struct.specs.Reading.{IsLookedUp, shown};
+ghost use Rattle.ild_struct.specs.inside.Reading.{IsLookedUp, shown};
 
 use crate::pairs::pair_value;
 use crate::part::Part;

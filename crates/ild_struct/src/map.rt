@@ -4,7 +4,7 @@ ghost use Rattle.ild_data.specs.Data.{Data};
 ghost use Rattle.ild_layer_piece.specs.Pieces.{IsNumbered, StandsFor};
 ghost use Rattle.ild_schema.specs.Clear.{AreNamesApart};
 ghost use Rattle.ild_schema.specs.declared.def.StructForm.TheVariants as S;
-ghost use Rattle.ild_struct.specs.Reading.{AnswersFound};
+ghost use Rattle.ild_struct.specs.inside.Reading.{AnswersFound};
 ghost use Rattle.ild_struct.specs.Source.{IsSourced};
 ghost use Rattle.ild_struct.specs.Told.{IsSurveyed};
 

@@ -10,7 +10,7 @@ ghost use Rattle.ild_schema.specs.Clear.{AreNamesApart};
 ghost use Rattle.ild_schema.specs.declared.def.StructForm.TheVariants as S;
 ghost use Rattle.ild_schema.specs.declared.row.Row.{Row};
 ghost use Rattle.ild_typed.specs.Strings.{pair_data};
-ghost use Rattle.ild_struct.specs.Reading.{Answers};
+ghost use Rattle.ild_struct.specs.inside.Reading.{Answers};
 ghost use Rattle.ild_struct.specs.Source.{IsSourced};
 
 use crate::source::Source;

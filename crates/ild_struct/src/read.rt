@@ -10,7 +10,7 @@ ghost use Rattle.ild_schema.specs.Clear.{ClearStruct};
 ghost use Rattle.ild_schema.specs.Delims.{HasDelims};
 ghost use Rattle.ild_schema.specs.declared.def.StructDef.{StructDef as Struct};
 ghost use Rattle.ild_struct.specs.Parts.{HasParts, IsStruct, fields_of};
-ghost use Rattle.ild_struct.specs.Reading.{Answers, AnswersFound};
+ghost use Rattle.ild_struct.specs.inside.Reading.{Answers, AnswersFound};
 ghost use Rattle.ild_struct.specs.Source.{IsSourced};
 ghost use Rattle.ild_struct.specs.Told.{IsSurveyed};
 

@@ -12,7 +12,7 @@ ghost use Rattle.std.specs.Iterator.{at_most};
 ghost use Rattle.ild_layer_fields.specs.Entries.{by_place, text_entries};
 ghost use Rattle.ild_struct.specs.Present.{HasPresent, PresentGives, count_left, numbered};
 ghost use Rattle.ild_struct.specs.declared.left.Left.TheVariants as L;
-ghost use Rattle.ild_struct.specs.Stepping.{Takes};
+ghost use Rattle.ild_struct.specs.inside.Stepping.{Takes};
 
 use crate::left::Left;
 use crate::present::Present;

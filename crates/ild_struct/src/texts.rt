@@ -8,7 +8,7 @@ ghost use Rattle.ild_schema.specs.declared.def.Field.{Field as Schema};
 ghost use Rattle.ild_schema.specs.declared.def.StructForm.TheVariants as S;
 ghost use Rattle.ild_schema.specs.declared.row.Row.{Row};
 ghost use Rattle.ild_text.specs.Parts.{pairs_in};
-ghost use Rattle.ild_struct.specs.Reading.{Answers};
+ghost use Rattle.ild_struct.specs.inside.Reading.{Answers};
 ghost use Rattle.ild_struct.specs.Source.{IsSourced};
 
 use crate::source::Source;

@@ -7,7 +7,7 @@ ghost use Rattle.ild_schema.specs.declared.row.Row.{Row};
 ghost use Rattle.ild_schema.specs.declared.def.StructForm.TheVariants as S;
 ghost use Rattle.ild_typed.specs.Named.{items_in};
 ghost use Rattle.ild_typed.specs.StructWhy.{misses_items};
-ghost use Rattle.ild_struct.specs.Reading.{Answers, IsList};
+ghost use Rattle.ild_struct.specs.inside.Reading.{Answers, IsList};
 ghost use Rattle.ild_struct.specs.Source.{IsSourced};
 
 use crate::source::Source;

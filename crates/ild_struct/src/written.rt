@@ -4,7 +4,7 @@ ghost use Rattle.ild_data.specs.Data.{Data};
 ghost use Rattle.ild_schema.specs.declared.row.Row.{Row};
 ghost use Rattle.ild_struct.specs.Parts.{ArePartsOf, fields_of, is_told};
 ghost use Rattle.ild_struct.specs.Present.{IsWritten};
-ghost use Rattle.ild_struct.specs.Stepping.{Starts};
+ghost use Rattle.ild_struct.specs.inside.Stepping.{Starts};
 
 use crate::left::Left;
 use crate::parts::StructParts;

@@ -4,7 +4,7 @@ use Rattle.std.proofs.lemmas.Bool.{cond-true, cond-false}
 use Rattle.std.proofs.lemmas.List.{drop-drop, drop_all, at_drop_more}
 use Rattle.ild_schema.specs.Joins.{Occurs, Overlap, IsJoin}
 use Rattle.ild_text.specs.Cut.{begins, onto, cut_behind, cut}
-use Rattle.ild_text.specs.Find.{NoneWithin, IsNext}
+use Rattle.ild_text.specs.inside.Find.{NoneWithin, IsNext}
 use Rattle.ild_text.proofs.Begins.{begins_true, begins_false, occurs_inside}
 use Rattle.ild_text.proofs.Cuts.{clear, length-onto, cut_joins}
 

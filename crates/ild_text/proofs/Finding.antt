@@ -5,7 +5,7 @@ use Rattle.std.proofs.lemmas.List.{drop-drop, length-drop}
 use Rattle.memchr.specs.Find.{FindsNeedle, OccursAt}
 use Rattle.memchr.proofs.lemmas.MatchLemmas.{OccursAt-part, OccursAt-from_part}
 use Rattle.ild_schema.specs.Joins.{Occurs}
-use Rattle.ild_text.specs.Find.{IsNext}
+use Rattle.ild_text.specs.inside.Find.{IsNext}
 use Rattle.ild_text.proofs.Begins.{occurs_inside}
 
 -- an occurrence behind a place is one in what begins there

@@ -1,5 +1,5 @@
 pub mod Cut
-pub mod Find
 pub mod Pairs
 pub mod Prefix
 pub mod Parts
+pub mod inside

@@ -2,7 +2,7 @@
 ghost use Rattle.std.specs.Prelude.{◌≡◌, ◌<◌, ◌≤◌, ◌∷◌, List, ℕ, true, IfErr, IfOk, is_some, length, option_map, slice_get};
 ghost use Rattle.ild_schema.specs.Joins.{IsJoin, Overlap};
 ghost use Rattle.ild_text.specs.Cut.{cut, halves};
-ghost use Rattle.ild_text.specs.Find.{Finds};
+ghost use Rattle.ild_text.specs.inside.Find.{Finds};
 ghost use Rattle.ild_text.specs.Pairs.{are_keyed, entries};
 
 use crate::Split;

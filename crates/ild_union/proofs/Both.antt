@@ -13,7 +13,7 @@ use Rattle.ild_layer_piece.specs.declared.walk.MapEntries.{MapEntries}
 use Rattle.ild_layer_piece.specs.Entries.{EntriesGive, HasLeft}
 use Rattle.ild_layer_piece.proofs.Walking.{first_left, none_left}
 use Rattle.ild_typed.proofs.Basics.{both_true}
-use Rattle.ild_union.specs.Envelope.{AreBoth, is_one, has_stranger, lacks_one}
+use Rattle.ild_union.specs.inside.Envelope.{AreBoth, is_one, has_stranger, lacks_one}
 
 -- ---- tests that exclude one another
 

@@ -28,7 +28,7 @@ use Rattle.ild_typed.proofs.Entries.{same_text_self}
 use Rattle.ild_typed.proofs.Unions.{only_map_data}
 use Rattle.ild_layer_piece.specs.Answers.{told}
 use Rattle.ild_layer_piece.proofs.Walking.{map_kind}
-use Rattle.ild_union.specs.Envelope.{AreBoth, IsOff, has_stranger, lacks_one}
+use Rattle.ild_union.specs.inside.Envelope.{AreBoth, IsOff, has_stranger, lacks_one}
 use Rattle.ild_union.proofs.Marking.{IsTold}
 use Rattle.ild_union.proofs.Order.{name_why, missing_why, member_why}
 

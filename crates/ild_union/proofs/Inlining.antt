@@ -29,7 +29,7 @@ use Rattle.ild_typed.proofs.Entries.{only_text_data, same_text_self, value_put}
 use Rattle.ild_typed.proofs.Rising.{rising_same, value_without}
 use Rattle.ild_layer_piece.specs.Pieces.{IsWithout, StandsFor, passed_key}
 use Rattle.ild_layer_piece.proofs.Stand.{rises_members}
-use Rattle.ild_union.specs.Answers.{UnionAnswer, member_of}
+use Rattle.ild_union.specs.inside.Answers.{UnionAnswer, member_of}
 use Rattle.ild_union.proofs.Marking.{IsTold, answered}
 
 -- an entry that is taken away and put back

@@ -18,7 +18,7 @@ use Rattle.ild_typed.specs.Composed.{member_form, union_form}
 use Rattle.ild_typed.specs.Kinds.{kind_of}
 use Rattle.ild_typed.specs.Why as W
 use Rattle.ild_layer_piece.proofs.Searching.{all_of, ended, first_at, none_ended}
-use Rattle.ild_union.specs.Answers.{word_of}
+use Rattle.ild_union.specs.inside.Answers.{word_of}
 use Rattle.ild_union.proofs.Order.{kind_why}
 
 pub word_is : (t : Data) → word_of (node_kind t) ≡ kind_of t

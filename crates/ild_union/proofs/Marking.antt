@@ -24,7 +24,7 @@ use Rattle.ild_typed.specs.UnionWhy.{is_discriminant, union_name, union_missing,
 use Rattle.ild_typed.specs.Why as W
 use Rattle.ild_layer_piece.proofs.Searching.{all_of, ended, first_at, none_ended, text_agrees}
 use Rattle.ild_layer_piece.specs.Pieces.{StandsFor}
-use Rattle.ild_union.specs.Answers.{UnionAnswer, member_of}
+use Rattle.ild_union.specs.inside.Answers.{UnionAnswer, member_of}
 use Rattle.ild_union.proofs.Order.{member_why}
 
 -- the data are told by a text and a member's data, and have no cause before that on members

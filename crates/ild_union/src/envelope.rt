@@ -9,8 +9,8 @@ ghost use Rattle.ild_schema.specs.Rows.{def_at};
 ghost use Rattle.ild_schema.specs.declared.def.TypeDef.TheVariants as D;
 ghost use Rattle.ild_schema.specs.declared.def.UnionDef.{UnionDef};
 ghost use Rattle.ild_schema.specs.declared.def.UnionForm.TheVariants as F;
-ghost use Rattle.ild_union.specs.Answers.{UnionAnswer};
-ghost use Rattle.ild_union.specs.Envelope.{BothAnswer, is_one};
+ghost use Rattle.ild_union.specs.inside.Answers.{UnionAnswer};
+ghost use Rattle.ild_union.specs.inside.Envelope.{BothAnswer, is_one};
 ghost use Rattle.ild_union.specs.Forms.{passes_over};
 
 use crate::keyed::member;

@@ -9,7 +9,7 @@ ghost use Rattle.ild_schema.specs.Rows.{def_at};
 ghost use Rattle.ild_schema.specs.declared.def.TypeDef.TheVariants as D;
 ghost use Rattle.ild_schema.specs.declared.def.UnionDef.{UnionDef};
 ghost use Rattle.ild_schema.specs.declared.def.UnionForm.TheVariants as F;
-ghost use Rattle.ild_union.specs.Answers.{UnionAnswer};
+ghost use Rattle.ild_union.specs.inside.Answers.{UnionAnswer};
 
 use crate::keyed::member;
 use ild_cbor::{Kind, Node, Piece, Why};

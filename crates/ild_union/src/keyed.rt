@@ -8,7 +8,7 @@ ghost use Rattle.ild_schema.specs.Rows.{def_at};
 ghost use Rattle.ild_schema.specs.declared.def.TypeDef.TheVariants as D;
 ghost use Rattle.ild_schema.specs.declared.def.UnionDef.{UnionDef};
 ghost use Rattle.ild_schema.specs.declared.def.UnionForm.TheVariants as F;
-ghost use Rattle.ild_union.specs.Answers.{UnionAnswer, member_of};
+ghost use Rattle.ild_union.specs.inside.Answers.{UnionAnswer, member_of};
 ghost use Rattle.ild_union.specs.Forms.{passes_over};
 
 use ild_cbor::{Piece, Why};

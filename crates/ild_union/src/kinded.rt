@@ -7,7 +7,7 @@ ghost use Rattle.ild_schema.specs.DataKinds.{is_marked, same_kind};
 ghost use Rattle.ild_schema.specs.Marks.{kind_of};
 ghost use Rattle.ild_schema.specs.declared.def.UnionForm.TheVariants as F;
 ghost use Rattle.ild_schema.specs.declared.row.Row.{Row};
-ghost use Rattle.ild_union.specs.Answers.{UnionAnswer, word_of};
+ghost use Rattle.ild_union.specs.inside.Answers.{UnionAnswer, word_of};
 
 use ild_cbor::{Kind, Piece, Why};
 use ild_layer_piece::kind;

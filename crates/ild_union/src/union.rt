@@ -9,7 +9,7 @@ ghost use Rattle.ild_schema.specs.Rows.{def_at};
 ghost use Rattle.ild_schema.specs.Table.{IsWithin};
 ghost use Rattle.ild_schema.specs.declared.def.TypeDef.TheVariants as D;
 ghost use Rattle.ild_typed.specs.Layer as L;
-ghost use Rattle.ild_union.specs.Answers.{UnionAnswer};
+ghost use Rattle.ild_union.specs.inside.Answers.{UnionAnswer};
 ghost use Rattle.ild_union.specs.Forms.{IsInlineOf, IsPassedBy, IsPassedOnce, IsUnionType};
 
 use crate::envelope::envelope;

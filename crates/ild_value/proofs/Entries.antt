@@ -6,7 +6,7 @@ use Rattle.ild_data.specs.Data.{Data, depth, Members, no_members, member, member
 use Rattle.ild_data.specs.Key.{same_text, value_at, Rises, IsBelow}
 use Rattle.ild_data.specs.Seen.{data_of, pair_of}
 use Rattle.ild_data.specs.declared.tree.Tree.{Tree}
-use Rattle.ild_value.specs.Parts.{only_member}
+use Rattle.ild_value.specs.inside.Parts.{only_member}
 
 below_seen : (k : List ℕ) (ps : List (List ℕ × Tree)) → IsBelow k (map pair_of ps) → IsBelow k ps
 below_seen k [] h = tt

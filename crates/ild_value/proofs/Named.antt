@@ -20,7 +20,7 @@ use Rattle.ild_schema.specs.Slots.{form_of}
 use Rattle.ild_typed.specs.Segment.{member_named, next_member}
 use Rattle.ild_value_meaning.specs.Names.{slot_named, are_named}
 use Rattle.ild_value_meaning.proofs.Members.{member-named}
-use Rattle.ild_value.specs.Parts.{IsMemberNamed}
+use Rattle.ild_value.specs.inside.Parts.{IsMemberNamed}
 
 -- ---- fields
 

@@ -34,7 +34,7 @@ use Rattle.ild_value.specs.declared.fault.ShownErr.{ShownErr}
 use Rattle.ild_value.specs.declared.fault.ShownErr.TheVariants as E
 use Rattle.ild_value.specs.declared.fault.ShownRule.TheVariants as R
 use Rattle.ild_value.specs.Readings.{Means, Breaks, IsRefused, IsListOf, IsMapOf, IsUnit, rule_of}
-use Rattle.ild_value.specs.Parts.{only_member, FieldMeans, IsFieldRefused}
+use Rattle.ild_value.specs.inside.Parts.{only_member, FieldMeans, IsFieldRefused}
 use Rattle.ild_value.proofs.AllOf.{all_of}
 use Rattle.ild_value_shown.proofs.Fronts.{values_of-values_list, pairs_of-pairs_list, optionals_of-optionals_list}
 use Rattle.ild_value.proofs.Leaves.{own}

@@ -2,7 +2,7 @@
 ghost use Rattle.std.specs.Prelude.{◌≡◌, ◌≢◌, ℕ, List, option_map};
 ghost use Rattle.ild_data.specs.Key.{Rises, value_at};
 ghost use Rattle.ild_data.specs.Seen.{pair_of};
-ghost use Rattle.ild_value.specs.Parts.{only_member};
+ghost use Rattle.ild_value.specs.inside.Parts.{only_member};
 
 use ild_data::{Entries, Tree, Txt, key_place};
 use std::mem;

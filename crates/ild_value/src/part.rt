@@ -8,7 +8,7 @@ ghost use Rattle.ild_schema.specs.ValueSeen.{optional_of, value_of};
 ghost use Rattle.ild_schema.specs.declared.def.TypeDef.TheVariants as T;
 ghost use Rattle.ild_typed.specs.Segment.{member_named};
 ghost use Rattle.ild_typed.specs.StructWhy.{must_stand};
-ghost use Rattle.ild_value.specs.Parts.{IsMemberNamed};
+ghost use Rattle.ild_value.specs.inside.Parts.{IsMemberNamed};
 
 use crate::{ShownErr, ShownRule};
 use ild_data::Entries;

@@ -9,7 +9,7 @@ ghost use Rattle.ild_schema.specs.Table.{IsWithin};
 ghost use Rattle.ild_schema.specs.Value as V;
 ghost use Rattle.ild_schema.specs.ValueSeen.{optional_of, value_of};
 ghost use Rattle.ild_schema.specs.declared.def.TypeDef.TheVariants as T;
-ghost use Rattle.ild_value.specs.Parts.{FieldMeans, IsFieldRefused};
+ghost use Rattle.ild_value.specs.inside.Parts.{FieldMeans, IsFieldRefused};
 ghost use Rattle.ild_value.specs.Readings.{IsListOf, IsMapOf, IsRefused, IsUnit, Means};
 
 use crate::entry::{only, take_value};

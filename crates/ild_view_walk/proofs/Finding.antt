@@ -60,7 +60,7 @@ use Rattle.ild_layer_places.specs.declared.way.Way.{Way}
 use Rattle.ild_layer_parts.specs.Part.{IsSpotted}
 use Rattle.ild_layer_parts.specs.Ready.{IsInlined, is_struct}
 use Rattle.ild_layer_parts.specs.declared.parts.Parts.TheVariants as P
-use Rattle.ild_view_walk.specs.Opens.{HasOpened}
+use Rattle.ild_view_walk.specs.inside.Opens.{HasOpened}
 use Rattle.ild_layer_fields.specs.Told.{scalar_kind}
 use Rattle.ild_layer_parts.proofs.Asking.{own_at, deep_at, none_at}
 use Rattle.ild_layer_parts.specs.Elements.{HasElements}

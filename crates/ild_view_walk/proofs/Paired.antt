@@ -30,7 +30,7 @@ use Rattle.ild_typed.proofs.Basics.{map_from}
 use Rattle.ild_typed.proofs.CleanTypes.{layer_or_why}
 use Rattle.ild_layer_parts.specs.declared.parts.Parts.TheVariants as P
 use Rattle.ild_layer_pairs.specs.Judged.{IsJudged, is_miscounted}
-use Rattle.ild_view_walk.specs.Opens.{HasOpened}
+use Rattle.ild_view_walk.specs.inside.Opens.{HasOpened}
 use Rattle.ild_layer_parts.specs.PairEntries.{HasPairs}
 use Rattle.ild_layer_parts.specs.declared.pair_entries.PairEntries.{PairEntries}
 use Rattle.ild_layer_parts.proofs.Asking.{deep_at, keys_at, none_at, own_at}

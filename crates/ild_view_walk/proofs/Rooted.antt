@@ -33,7 +33,7 @@ use Rattle.ild_typed.specs.RootSpots.{root_spots}
 use Rattle.ild_typed.specs.Why as W
 use Rattle.ild_layer_parts.specs.declared.parts.Parts.TheVariants as P
 use Rattle.ild_layer_parts.specs.declared.root.RootEntries.{RootEntries}
-use Rattle.ild_view_walk.specs.Opens.{HasOpened}
+use Rattle.ild_view_walk.specs.inside.Opens.{HasOpened}
 use Rattle.ild_layer_parts.specs.Root.{HasRoot}
 use Rattle.ild_layer_parts.proofs.Asking.{deep_at, past_room}
 

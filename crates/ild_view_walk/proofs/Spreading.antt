@@ -25,7 +25,7 @@ use Rattle.ild_typed.proofs.WalkForms.{table_parts, table_walk}
 use Rattle.ild_typed.proofs.WalkSound.{refused_sound}
 use Rattle.ild_typed.proofs.WalkTotal.{parts_fit}
 use Rattle.ild_layer_parts.specs.Ready.{IsIn}
-use Rattle.ild_view_walk.specs.Stacked.{AreSifted, IsShown}
+use Rattle.ild_view_walk.specs.inside.Stacked.{AreSifted, IsShown}
 use Rattle.ild_layer_parts.proofs.Lists.{all_join}
 use Rattle.ild_view_walk.proofs.Walking.{part_refused, why_refused}
 

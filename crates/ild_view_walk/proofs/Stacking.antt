@@ -28,11 +28,11 @@ use Rattle.ild_view_walk.specs.declared.opening.Opening.{Opening}
 use Rattle.ild_view_walk.specs.declared.opening.Stop.TheVariants as S
 use Rattle.ild_layer_parts.specs.declared.part.Part.{Part}
 use Rattle.ild_layer_parts.specs.declared.parts.Parts.{Parts}
-use Rattle.ild_view_walk.specs.Opens.{HasOpened, Opens}
+use Rattle.ild_view_walk.specs.inside.Opens.{HasOpened, Opens}
 use Rattle.ild_layer_parts.specs.Part.{FitsAnywhere, IsSpotted}
 use Rattle.ild_layer_parts.specs.Parts.{HasLeft, SplitsOff}
 use Rattle.ild_layer_parts.specs.Ready.{AreReady, AreReadyBoth, IsIn, IsInlined, IsReady}
-use Rattle.ild_view_walk.specs.Stacked.{Adds, AreHeld, AreSifted, IsHeld, IsPlain, IsShown, Replaces}
+use Rattle.ild_view_walk.specs.inside.Stacked.{Adds, AreHeld, AreSifted, IsHeld, IsPlain, IsShown, Replaces}
 use Rattle.ild_view_walk.proofs.Flatness.{IsFine, few_levels, parts_fine}
 use Rattle.ild_view_walk.proofs.Spreading.{never_shown, shown_back, shown_onward}
 use Rattle.ild_layer_parts.proofs.Lists.{all_join}

@@ -23,7 +23,7 @@ use Rattle.ild_typed.specs.Why as W
 use Rattle.ild_layer_parts.specs.declared.fields.Fields.{Fields}
 use Rattle.ild_layer_parts.specs.declared.parts.Parts.TheVariants as P
 use Rattle.ild_layer_parts.specs.Fields.{HasFields}
-use Rattle.ild_view_walk.specs.Opens.{HasOpened}
+use Rattle.ild_view_walk.specs.inside.Opens.{HasOpened}
 use Rattle.ild_layer_parts.proofs.Asking.{deep_at, none_at}
 use Rattle.ild_view_walk.proofs.Finding.{layered_made, layered_own}
 

@@ -28,7 +28,7 @@ use Rattle.ild_typed.proofs.CleanTexts.{given_by}
 use Rattle.ild_typed.proofs.JoinLaws.{pairs_are_pairs}
 use Rattle.ild_layer_parts.specs.declared.parts.Parts.TheVariants as P
 use Rattle.ild_layer_parts.specs.declared.text_entries.TextEntries.{TextEntries}
-use Rattle.ild_view_walk.specs.Opens.{HasOpened}
+use Rattle.ild_view_walk.specs.inside.Opens.{HasOpened}
 use Rattle.ild_layer_parts.specs.Texts.{HasTexts}
 use Rattle.ild_layer_parts.proofs.Asking.{deep_at, keys_at, none_at, own_at}
 

@@ -34,7 +34,7 @@ use Rattle.ild_view_walk.specs.declared.opening.Stop.TheVariants as S
 use Rattle.ild_layer_parts.specs.declared.part.Part.{Part}
 use Rattle.ild_layer_parts.specs.declared.parts.Parts.{Parts}
 use Rattle.ild_view_walk.specs.Checks.{Checks, Faults, IsPartRefusal, IsRefusal, PartFaults, is_depth}
-use Rattle.ild_view_walk.specs.Opens.{HasOpened, IsStopped, Opens}
+use Rattle.ild_view_walk.specs.inside.Opens.{HasOpened, IsStopped, Opens}
 use Rattle.ild_layer_parts.specs.Part.{FitsAnywhere, IsSpotted}
 use Rattle.ild_layer_parts.specs.Parts.{HasLeft, SplitsOff}
 use Rattle.ild_layer_parts.proofs.Lists.{all_join}

@@ -1,5 +1,3 @@
 pub mod Checks
 pub mod Told
-pub mod Opens
-pub mod Inside
-pub mod Stacked
+pub mod inside

@@ -6,8 +6,8 @@ ghost use Rattle.ild_layer_piece.specs.Pieces.{StandsFor};
 ghost use Rattle.ild_schema.specs.declared.def.TypeDef.TheVariants as D;
 ghost use Rattle.ild_schema.specs.declared.row.Row.{Row};
 ghost use Rattle.ild_union.specs.Forms.{passes_over};
-ghost use Rattle.ild_view_walk.specs.Inside.{OpensMany};
-ghost use Rattle.ild_view_walk.specs.Opens.{IsOpening, Opens};
+ghost use Rattle.ild_view_walk.specs.inside.Inside.{OpensMany};
+ghost use Rattle.ild_view_walk.specs.inside.Opens.{IsOpening, Opens};
 
 use crate::opening::{Opening, Stop};
 use ild_cbor::{Kind, Node, Piece, Why};

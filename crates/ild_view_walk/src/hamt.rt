@@ -8,8 +8,8 @@ ghost use Rattle.ild_schema.specs.declared.def.MapForm.TheVariants as MF;
 ghost use Rattle.ild_schema.specs.declared.def.TypeDef.TheVariants as D;
 ghost use Rattle.ild_schema.specs.declared.row.Row.{Row};
 ghost use Rattle.ild_union.specs.Forms.{passes_over};
-ghost use Rattle.ild_view_walk.specs.Inside.{OpensMany};
-ghost use Rattle.ild_view_walk.specs.Opens.{IsOpening, Opens};
+ghost use Rattle.ild_view_walk.specs.inside.Inside.{OpensMany};
+ghost use Rattle.ild_view_walk.specs.inside.Opens.{IsOpening, Opens};
 ghost use Rattle.ild_layer_parts.specs.Ready.{IsIn};
 
 use crate::opening::{Opening, Stop};

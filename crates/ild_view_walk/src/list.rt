@@ -4,8 +4,8 @@ ghost use Rattle.ild_data.specs.Data.{Data};
 ghost use Rattle.ild_layer_piece.specs.Pieces.{StandsFor};
 ghost use Rattle.ild_schema.specs.declared.def.TypeDef.TheVariants as D;
 ghost use Rattle.ild_schema.specs.declared.row.Row.{Row};
-ghost use Rattle.ild_view_walk.specs.Inside.{OpensMany};
-ghost use Rattle.ild_view_walk.specs.Opens.{IsOpening, Opens};
+ghost use Rattle.ild_view_walk.specs.inside.Inside.{OpensMany};
+ghost use Rattle.ild_view_walk.specs.inside.Opens.{IsOpening, Opens};
 ghost use Rattle.ild_layer_parts.specs.Ready.{IsIn};
 
 use crate::opening::{Opening, Stop};

@@ -9,7 +9,7 @@ ghost use Rattle.ild_typed.specs.Schema.{IsSchema};
 ghost use Rattle.ild_typed.specs.Spots.{Spot, key_spot};
 ghost use Rattle.ild_view_walk.specs.Told.{IsPlacedBy, TellsPlaceIn};
 ghost use Rattle.ild_view_walk.specs.Checks.{Faults, PartFaults, is_depth};
-ghost use Rattle.ild_view_walk.specs.Opens.{IsStopped};
+ghost use Rattle.ild_view_walk.specs.inside.Opens.{IsStopped};
 ghost use Rattle.ild_layer_parts.specs.Part.{IsSpotted};
 
 use crate::fault::ViewErr;

@@ -6,8 +6,8 @@ ghost use Rattle.ild_schema.specs.Kinds.{meant};
 ghost use Rattle.ild_schema.specs.declared.def.TypeDef.{TypeDef as Def};
 ghost use Rattle.ild_schema.specs.declared.row.Row.{Row};
 ghost use Rattle.ild_enum.specs.Forms.{IsEnumType, IsUnitType};
-ghost use Rattle.ild_view_walk.specs.Inside.{OpensMany};
-ghost use Rattle.ild_view_walk.specs.Opens.{IsOpening, Opens};
+ghost use Rattle.ild_view_walk.specs.inside.Inside.{OpensMany};
+ghost use Rattle.ild_view_walk.specs.inside.Opens.{IsOpening, Opens};
 ghost use Rattle.ild_layer_fields.specs.Told.{scalar_kind};
 
 use crate::opening::{Opening, Stop};

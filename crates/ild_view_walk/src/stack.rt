@@ -7,7 +7,7 @@ ghost use Rattle.ild_typed.specs.Spots.{Spot};
 ghost use Rattle.ild_layer_parts.specs.Part.{IsSpotted};
 ghost use Rattle.ild_layer_parts.specs.Parts.{HasLeft};
 ghost use Rattle.ild_layer_parts.specs.Ready.{AreReady, IsIn, IsInlined, IsReady};
-ghost use Rattle.ild_view_walk.specs.Stacked.{Adds, AreHeld, IsPlain, IsShown, Spreads};
+ghost use Rattle.ild_view_walk.specs.inside.Stacked.{Adds, AreHeld, IsPlain, IsShown, Spreads};
 
 use crate::opening::Stop;
 use crate::walk::open_piece;

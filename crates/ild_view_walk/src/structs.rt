@@ -6,8 +6,8 @@ ghost use Rattle.ild_schema.specs.Kinds.{meant};
 ghost use Rattle.ild_schema.specs.Table.{IsWithin as IsTypeWithin};
 ghost use Rattle.ild_schema.specs.declared.def.TypeDef.TheVariants as D;
 ghost use Rattle.ild_typed.specs.Levels.{struct_levels};
-ghost use Rattle.ild_view_walk.specs.Inside.{OpensMany};
-ghost use Rattle.ild_view_walk.specs.Opens.{IsOpening, Opens};
+ghost use Rattle.ild_view_walk.specs.inside.Inside.{OpensMany};
+ghost use Rattle.ild_view_walk.specs.inside.Opens.{IsOpening, Opens};
 
 use crate::opening::{Opening, Stop};
 use ild_cbor::{Piece, Why};

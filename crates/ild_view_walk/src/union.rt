@@ -8,8 +8,8 @@ ghost use Rattle.ild_schema.specs.Table.{IsWithin as IsTypeWithin};
 ghost use Rattle.ild_schema.specs.declared.def.TypeDef.TheVariants as D;
 ghost use Rattle.ild_typed.specs.Spots.{member_steps};
 ghost use Rattle.ild_union.specs.Forms.{passes_over};
-ghost use Rattle.ild_view_walk.specs.Inside.{IsOpenInside};
-ghost use Rattle.ild_view_walk.specs.Opens.{IsOpening, Opens};
+ghost use Rattle.ild_view_walk.specs.inside.Inside.{IsOpenInside};
+ghost use Rattle.ild_view_walk.specs.inside.Opens.{IsOpening, Opens};
 
 use crate::opening::{Opening, Stop};
 use ild_cbor::{Piece, Why};

@@ -7,8 +7,8 @@ ghost use Rattle.ild_schema.specs.Kinds.{meant};
 ghost use Rattle.ild_schema.specs.declared.def.TypeDef.{TypeDef as Def};
 ghost use Rattle.ild_schema.specs.declared.row.Row.{Row};
 ghost use Rattle.ild_view_walk.specs.Checks.{Checks};
-ghost use Rattle.ild_view_walk.specs.Inside.{IsOpenInside};
-ghost use Rattle.ild_view_walk.specs.Opens.{IsOpening, Opens};
+ghost use Rattle.ild_view_walk.specs.inside.Inside.{IsOpenInside};
+ghost use Rattle.ild_view_walk.specs.inside.Opens.{IsOpening, Opens};
 ghost use Rattle.ild_layer_parts.specs.Ready.{IsIn, IsInlined};
 ghost use Rattle.ild_view_walk.specs.Told.{TellsPlaceIn};
 

@@ -13,7 +13,7 @@ use Rattle.ild_build.specs.TextRep.{is_text_struct}
 use Rattle.ild_build_leaf.specs.Made.{before_key, made}
 use Rattle.ild_build_entries.proofs.Marked.{on_ok}
 use Rattle.ild_build_pass.specs.Fitting.{FitsIn}
-use Rattle.ild_build_pass.specs.Fronts.{IsWrapped}
+use Rattle.ild_build_pass.specs.inside.Fronts.{IsWrapped}
 use Rattle.ild_build_pass.specs.Weights.{bare_keys}
 use Rattle.ild_build_pass.proofs.Bare.{a_leaf}
 use Rattle.ild_build_pass.proofs.Fitted.{list_fit, map_fit, member_there, struct_fit, union_fit}

@@ -2,9 +2,9 @@ use Rattle.std.proofs.Common.{◌+◌, ◌*◌, [], length, drop, take, true}
 use Rattle.ild_schema.specs.Value.{height, values_height, pairs_height, optionals_height, optionals_list, pairs_list, values_list}
 use Rattle.ild_schema.specs.ValueSeen.{value_of}
 use Rattle.ild_build_leaf.specs.Made.{entries_major}
-use Rattle.ild_build_pass.specs.Made.{counted, entries_made, fields_made, items_made, tuple_made}
+use Rattle.ild_build_pass.specs.inside.Made.{counted, entries_made, fields_made, items_made, tuple_made}
 use Rattle.ild_build_leaf.specs.Kept.{count_present, count_written}
-use Rattle.ild_build_pass.specs.Places.{named, places_made, written_of}
+use Rattle.ild_build_pass.specs.inside.Places.{named, places_made, written_of}
 use Rattle.ild_typed.specs.Hamt.{whole}
 use Rattle.ild_build_pass.specs.Weights.{entries_weight, fields_weight, items_weight, places_weight}
 use Rattle.ild_build_pass.proofs.Flow.{ToGo}

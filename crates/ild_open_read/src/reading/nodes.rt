@@ -5,8 +5,8 @@ ghost use Rattle.ild_data.specs.Trie.{TrieSlot, bucket, child};
 ghost use Rattle.ild_data.specs.TrieShape.{trie_levels};
 ghost use Rattle.ild_node_slots.specs.Views.{HasEntries, HasSlots, SlotHolds};
 ghost use Rattle.ild_node_slots.specs.declared.view.NodeView.{NodeView};
-ghost use Rattle.ild_open_nodes.specs.Beneath.{PassesBucketEntry, PassesChild, PassesSlot, PassesSlots};
-ghost use Rattle.ild_open_read.specs.Sound.{AreSound};
+ghost use Rattle.ild_open_nodes.specs.inside.Beneath.{PassesBucketEntry, PassesChild, PassesSlot, PassesSlots};
+ghost use Rattle.ild_open_read.specs.inside.Sound.{AreSound};
 
 use crate::reader::Reader;
 use crate::reading::read_slot;

@@ -1,7 +1,7 @@
 use Rattle.std.proofs.Common.{◌≡◌, true, sym, ◌∙◌, arith}
 use Rattle.std.specs.Prelude.{nat_lt}
 use Rattle.std.specs.List.{list_all}
-use Rattle.ild_accept.specs.Search.{rank_of}
+use Rattle.ild_accept.specs.inside.Search.{rank_of}
 use Rattle.ild_accept.proofs.Ranking.{all_lower, ranked_next, ranked_all}
 use Rattle.ild_accept.proofs.cycle.are_ranked.Goals as goal
 

@@ -1,7 +1,7 @@
 use Rattle.std.proofs.Common.{ℕ, ◌<◌, ◌≤◌}
 use Rattle.std.specs.List.{Contains}
 use Rattle.ild_schema.specs.Cycles.{steps_at}
-use Rattle.ild_accept.specs.Search.{rank_of}
+use Rattle.ild_accept.specs.inside.Search.{rank_of}
 use Rattle.ild_accept.proofs.cycle.are_ranked.Given as goal
 
 abbrev pub invariant-loop-n : goal.invariant-loop-n

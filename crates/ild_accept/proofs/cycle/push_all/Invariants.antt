@@ -1,6 +1,6 @@
 use Rattle.std.proofs.Common.{ℕ, ◌<◌, length, get_or, Contains}
 use Rattle.std.specs.List.{All}
-use Rattle.ild_accept.specs.Search.{Grown, Has}
+use Rattle.ild_accept.specs.inside.Search.{Grown, Has}
 use Rattle.ild_accept.proofs.cycle.push_all.Given as goal
 
 abbrev pub invariant-loop-t : goal.invariant-loop-t

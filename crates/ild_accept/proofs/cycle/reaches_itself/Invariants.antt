@@ -1,5 +1,5 @@
 use Rattle.std.proofs.Common.{◌+◌, length}
-use Rattle.ild_accept.specs.Search.{Searching, unseen_count}
+use Rattle.ild_accept.specs.inside.Search.{Searching, unseen_count}
 use Rattle.ild_accept.proofs.cycle.reaches_itself.Given as goal
 
 abbrev pub invariant-loop-n : goal.invariant-loop-n

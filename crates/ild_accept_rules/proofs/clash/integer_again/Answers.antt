@@ -7,7 +7,7 @@ use Rattle.ild_schema.specs.declared.def.EnumForm.TheVariants as E
 use Rattle.ild_schema.specs.Clashes.{is_value_again, are_equal}
 use Rattle.ild_schema.specs.Marks.{is_valued, member_integer}
 use Rattle.ild_schema.specs.Parts.{part_named}
-use Rattle.ild_accept_rules.specs.Seen.{first_named, is_seen}
+use Rattle.ild_accept_rules.specs.inside.Seen.{first_named, is_seen}
 use Rattle.ild_accept_rules.proofs.Among.{among_next, integer_judged, names_next}
 use Rattle.ild_accept_rules.proofs.Stepping.{beside_found, beside_next}
 use Rattle.ild_accept_rules.proofs.clash.integer_again.Goals as goal

@@ -7,7 +7,7 @@ use Rattle.ild_schema.specs.declared.def.EnumForm.TheVariants as E
 use Rattle.ild_schema.specs.Clashes.{is_value_again, are_equal}
 use Rattle.ild_schema.specs.Marks.{is_valued, member_integer}
 use Rattle.ild_schema.specs.Places.{first_beside}
-use Rattle.ild_accept_rules.specs.Seen.{first_named, is_seen}
+use Rattle.ild_accept_rules.specs.inside.Seen.{first_named, is_seen}
 use Rattle.ild_accept_rules.proofs.clash.integer_again.Given as goal
 
 abbrev pub invariant-loop-member : goal.invariant-loop-member

@@ -4,7 +4,7 @@ use Rattle.std.proofs.lemmas.List.{take_at}
 use Rattle.ild_schema.specs.Clashes.{is_member_again}
 use Rattle.ild_schema.specs.Marks.{is_marked}
 use Rattle.ild_schema.specs.Parts.{part_named}
-use Rattle.ild_accept_rules.specs.Seen.{first_named, is_seen}
+use Rattle.ild_accept_rules.specs.inside.Seen.{first_named, is_seen}
 use Rattle.ild_accept_rules.proofs.Among.{member_judged, names_next}
 use Rattle.ild_accept_rules.proofs.Stepping.{beside_found, beside_next}
 use Rattle.ild_accept_rules.proofs.clash.member_again.Goals as goal

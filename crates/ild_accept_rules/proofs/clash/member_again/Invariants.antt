@@ -4,7 +4,7 @@ use Rattle.std.specs.List.{list_any}
 use Rattle.ild_schema.specs.Clashes.{is_member_again}
 use Rattle.ild_schema.specs.Marks.{is_marked}
 use Rattle.ild_schema.specs.Places.{first_beside}
-use Rattle.ild_accept_rules.specs.Seen.{first_named, is_seen}
+use Rattle.ild_accept_rules.specs.inside.Seen.{first_named, is_seen}
 use Rattle.ild_accept_rules.proofs.clash.member_again.Given as goal
 
 abbrev pub invariant-loop-part : goal.invariant-loop-part

@@ -1,5 +1,5 @@
 use Rattle.std.proofs.Common.{◌≡◌, length}
-use Rattle.ild_accept_rules.specs.Ordered.{prefix_cmp}
+use Rattle.ild_accept_rules.specs.inside.Ordered.{prefix_cmp}
 use Rattle.ild_accept_rules.proofs.prefix.order.Given as goal
 
 abbrev pub invariant-loop-rest : goal.invariant-loop-rest

@@ -1,6 +1,6 @@
 use Rattle.std.proofs.Common.{ℕ, List, rules}
 use Rattle.std.proofs.lemmas.Fn.{always_returns_same}
-use Rattle.ild_accept_rules.specs.Ordered.{prefix_cmp}
+use Rattle.ild_accept_rules.specs.inside.Ordered.{prefix_cmp}
 use Rattle.ild_accept_rules.proofs.Orders.{search_found, search_between, search_absent}
 use Rattle.ild_accept_rules.proofs.prefix.place_of.Goals as goal
 

@@ -2,7 +2,7 @@ use Rattle.std.proofs.Common.{◌≡◌, ℕ, List, [], take, drop, filter_map}
 use Rattle.std.specs.List.{list_any}
 use Rattle.ild_schema.specs.Places.{first_beside}
 use Rattle.ild_schema.specs.Prefixes.{prefix_fails, prefix_of, touch}
-use Rattle.ild_accept_rules.specs.Ordered.{IsApart}
+use Rattle.ild_accept_rules.specs.inside.Ordered.{IsApart}
 use Rattle.ild_accept_rules.proofs.prefix.prefix_again.Given as goal
 
 abbrev pub invariant-loop-member : goal.invariant-loop-member

@@ -1,6 +1,6 @@
 use Rattle.std.proofs.Common.{[], ◌++◌, ◌∷◌, None, sym, ap, ◌∙◌, subst, arith}
 use Rattle.std.specs.Prelude.{replicate}
-use Rattle.ild_beneath_read.specs.Fields.{AllFound, looked_up}
+use Rattle.ild_beneath_read.specs.inside.Fields.{AllFound, looked_up}
 use Rattle.ild_beneath_read.proofs.Looking.{nothing_yet, replicate_more}
 use Rattle.ild_beneath_read.proofs.fields.none_found.Goals as goal
 

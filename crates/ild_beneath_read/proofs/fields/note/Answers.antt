@@ -1,5 +1,5 @@
 use Rattle.std.proofs.Common.{◌≡◌, true, false, sym, ap, ◌∙◌, arith}
-use Rattle.ild_beneath_read.specs.Fields.{is_free}
+use Rattle.ild_beneath_read.specs.inside.Fields.{is_free}
 use Rattle.ild_beneath_read.proofs.Looking.{free_within, kept_noted, set_noted}
 use Rattle.ild_beneath_read.proofs.fields.note.Goals as goal
 

@@ -2,7 +2,7 @@ use Rattle.std.proofs.Common.{sym, ap, ◌∙◌, subst}
 use Rattle.ild_beneath.specs.Parts.{has_text, union_parts}
 use Rattle.ild_cbor.specs.declared.piece.Piece.TheVariants as Q
 use Rattle.ild_schema.specs.declared.def.UnionForm.TheVariants as UF
-use Rattle.ild_beneath_read.specs.Opened.{IsReady, Parted, opened_member}
+use Rattle.ild_beneath_read.specs.inside.Opened.{IsReady, Parted, opened_member}
 use Rattle.ild_beneath_read.proofs.Choosing.{envelope_parted, member_ready, whole_pass}
 use Rattle.ild_beneath_read.proofs.member.envelope.Goals as goal
 

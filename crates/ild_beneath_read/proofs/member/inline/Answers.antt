@@ -4,7 +4,7 @@ use Rattle.ild_cbor.specs.declared.piece.Piece.{Piece}
 use Rattle.ild_cbor.specs.declared.piece.Piece.TheVariants as Q
 use Rattle.ild_layer_piece.specs.Pieces.{StandsFor}
 use Rattle.ild_schema.specs.declared.def.UnionForm.TheVariants as UF
-use Rattle.ild_beneath_read.specs.Opened.{IsReady, Parted, opened_member}
+use Rattle.ild_beneath_read.specs.inside.Opened.{IsReady, Parted, opened_member}
 use Rattle.ild_beneath_read.proofs.Choosing.{inline_parted, inline_pass, member_ready}
 use Rattle.ild_beneath_read.proofs.member.inline.Goals as goal
 

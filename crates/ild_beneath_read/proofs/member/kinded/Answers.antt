@@ -2,7 +2,7 @@ use Rattle.std.proofs.Common.{sym, ap, ◌∙◌, subst}
 use Rattle.ild_beneath.specs.Parts.{has_kind, union_parts}
 use Rattle.ild_schema.specs.declared.def.UnionForm.TheVariants as UF
 use Rattle.ild_typed.specs.Kinds.{kind_of}
-use Rattle.ild_beneath_read.specs.Opened.{IsReady, Parted, opened_member, slot_found}
+use Rattle.ild_beneath_read.specs.inside.Opened.{IsReady, Parted, opened_member, slot_found}
 use Rattle.ild_beneath_read.proofs.Choosing.{member_parted, member_ready, of_kind, whole_pass}
 use Rattle.ild_beneath_read.proofs.member.kinded.Goals as goal
 

@@ -3,7 +3,7 @@ use Rattle.ild_beneath.specs.Parts.{has_kind}
 use Rattle.ild_cbor.specs.Scalar.{kind_of as kind_in}
 use Rattle.ild_data.specs.Data.{Data}
 use Rattle.ild_typed.specs.Kinds.{kind_of}
-use Rattle.ild_beneath_read.specs.Opened.{slot_found}
+use Rattle.ild_beneath_read.specs.inside.Opened.{slot_found}
 use Rattle.ild_beneath_read.proofs.member.slot_by_kind.Given as goal
 
 abbrev pub invariant-loop-member : goal.invariant-loop-member

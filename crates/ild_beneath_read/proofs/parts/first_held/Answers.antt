@@ -1,6 +1,6 @@
 use Rattle.std.proofs.Common.{refl}
 use Rattle.ild_beneath_read.proofs.Splitting.{items_over, pass_held, split_held}
-use Rattle.ild_beneath_read.specs.Left.{value_parts}
+use Rattle.ild_beneath_read.specs.inside.Left.{value_parts}
 use Rattle.ild_beneath_read.proofs.parts.first_held.Goals as goal
 
 pub returns-in_default-clause-step : goal.returns-in_default-clause-step

@@ -1,5 +1,5 @@
 use Rattle.std.proofs.Common.{sym, subst}
-use Rattle.ild_beneath_read.specs.Left.{FieldsIn}
+use Rattle.ild_beneath_read.specs.inside.Left.{FieldsIn}
 use Rattle.ild_schema.specs.declared.def.TypeDef.TheVariants as D
 use Rattle.ild_beneath_read.proofs.Opening.{clear_listed, clear_named, fields_in, listed_parted, named_parted, tuple_parted}
 use Rattle.ild_beneath_read.proofs.piece.open_struct.Goals as goal

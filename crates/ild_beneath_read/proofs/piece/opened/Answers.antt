@@ -5,7 +5,7 @@ use Rattle.ild_schema.specs.declared.def.MapForm.{MapForm}
 use Rattle.ild_schema.specs.declared.def.MapForm.TheVariants as MF
 use Rattle.ild_schema.specs.declared.def.TypeDef.{TypeDef}
 use Rattle.ild_schema.specs.declared.def.TypeDef.TheVariants as D
-use Rattle.ild_beneath_read.specs.Opened.{is_leaf}
+use Rattle.ild_beneath_read.specs.inside.Opened.{is_leaf}
 use Rattle.ild_beneath_read.proofs.Opening.{form_is, hamt_opens, leaf_flat, leaf_opens, map_plain, members_are_in, other_opens, parts_open}
 use Rattle.ild_beneath_read.proofs.piece.opened.Goals as goal
 

@@ -4,7 +4,7 @@ use Rattle.ild_beneath.specs.Parts.{named_parts}
 use Rattle.ild_data.specs.CidView.{cid_bytes}
 use Rattle.ild_data.specs.Data as T
 use Rattle.ild_typed.specs.Named.{pair_entries}
-use Rattle.ild_beneath_read.specs.Left.{IsWithinFirst, SplitsOff}
+use Rattle.ild_beneath_read.specs.inside.Left.{IsWithinFirst, SplitsOff}
 use Rattle.ild_beneath_read.proofs.Appending.{bucket_told, fields_are, going_on, going_past, link_told, listed_slot, member_slot, named_slot, no_steps, none_more, nothing_slot, parts_slot, pushes_same, root_slot, walking_on}
 use Rattle.ild_beneath_read.proofs.pushing.+push.Goals as goal
 

@@ -3,7 +3,7 @@ use Rattle.ild_beneath.specs.Children.{found, node_children}
 use Rattle.ild_cbor.specs.Nodes.{Stands}
 use Rattle.ild_data.specs.Data.{Data}
 use Rattle.ild_open_held.specs.Splits.{Part}
-use Rattle.ild_beneath_read.specs.Left.{AreWithin, IsLeft, parts_left}
+use Rattle.ild_beneath_read.specs.inside.Left.{AreWithin, IsLeft, parts_left}
 use Rattle.ild_beneath_read.proofs.Appending.{Going, Walking}
 use Rattle.ild_beneath_read.proofs.pushing.+push.Given as goal
 

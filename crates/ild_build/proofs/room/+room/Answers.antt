@@ -12,7 +12,7 @@ use Rattle.ild_typed.specs.Fits.{Fits}
 use Rattle.ild_typed.specs.Levels.{levels_of}
 use Rattle.ild_typed.specs.OfType.{OfType}
 use Rattle.ild_typed.proofs.OneLayer.{null_in}
-use Rattle.ild_build.specs.KeysIn.{IsPlainLayer, KeysIn}
+use Rattle.ild_build.specs.inside.KeysIn.{IsPlainLayer, KeysIn}
 use Rattle.ild_build.specs.PartAt.{places}
 use Rattle.ild_build.proofs.PartTests.{PartsBefore, part_lower}
 use Rattle.ild_build.proofs.PartFits.{part_typed}

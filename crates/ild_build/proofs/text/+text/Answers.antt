@@ -7,7 +7,7 @@ use Rattle.ild_schema.specs.ValueSeen.{value_of}
 use Rattle.ild_typed.specs.Strings.{cons_both}
 use Rattle.ild_typed.specs.Texts.{join, join_pairs}
 use Rattle.ild_path_text.specs.Left.{between}
-use Rattle.ild_build.specs.TextParts.{field_texts, field_pairs, entry_texts, pair_added}
+use Rattle.ild_build.specs.inside.TextParts.{field_texts, field_pairs, entry_texts, pair_added}
 use Rattle.ild_build.specs.TextRep.{text_rep}
 use Rattle.ild_build.proofs.PartTests.{pair_height, field_height}
 use Rattle.ild_build.proofs.Low.{field_low, member_low}

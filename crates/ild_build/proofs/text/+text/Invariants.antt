@@ -1,7 +1,7 @@
 use Rattle.std.proofs.Common.{◌+◌, ◌*◌, ◌≤◌, drop, string_bytes}
 use Rattle.ild_schema.specs.Value.{height, pairs_height, optionals_height, optionals_list, pairs_list}
 use Rattle.ild_schema.specs.ValueSeen.{value_of}
-use Rattle.ild_build.specs.TextParts.{field_texts, field_pairs, entry_texts}
+use Rattle.ild_build.specs.inside.TextParts.{field_texts, field_pairs, entry_texts}
 use Rattle.ild_build.proofs.Texting.{Joining, Pairing}
 use Rattle.ild_build.proofs.text.+text.Given as goal
 

@@ -2,7 +2,7 @@ use Rattle.std.proofs.Common.{[], ◌++◌, ◌∙◌, cond, ap}
 use Rattle.ild_data.specs.Spell.{head, spell_text}
 use Rattle.ild_emit.proofs.Growing.{appended, grown_same, grown_then, on_err_always}
 use Rattle.ild_build_entries.proofs.Marked.{on_ok}
-use Rattle.ild_build_pass.specs.Fronts.{tag_spelled}
+use Rattle.ild_build_pass.specs.inside.Fronts.{tag_spelled}
 use Rattle.ild_build_pass.proofs.Writing.{on_err}
 use Rattle.ild_build_pass.proofs.fronts.begin_envelope.Goals as goal
 

@@ -1,5 +1,5 @@
 use Rattle.std.proofs.Common.{◌≡◌, List, ℕ, length, refl, subst, arith, rules}
-use Rattle.ild_bulk_walker.specs.Told.{Lies}
+use Rattle.ild_bulk_walker.specs.inside.Told.{Lies}
 use Rattle.ild_bulk_walker.proofs.Lying.{key-piece, value-there, fits-in, text-at, tree-at}
 use Rattle.ild_bulk_walker.proofs.Stepping.{entry-pushed}
 use Rattle.ild_bulk_walker.proofs.read.add_entry.Goals as goal

@@ -1,6 +1,6 @@
 use Rattle.std.proofs.Common.{◌-◌, []}
 use Rattle.ild_data.specs.Data.{Members}
-use Rattle.ild_cbor.specs.Row.{IsEntryRow}
+use Rattle.ild_cbor.specs.inside.Row.{IsEntryRow}
 use Rattle.ild_cbor.proofs.Searches.{Left}
 use Rattle.ild_cbor.proofs.search.value_from.Given as goal
 

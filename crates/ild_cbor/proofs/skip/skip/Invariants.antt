@@ -1,6 +1,6 @@
 use Rattle.std.proofs.Common.{ℕ, List, length}
 use Rattle.ild_data.specs.Data.{Items}
-use Rattle.ild_cbor.specs.Row.{IsRow}
+use Rattle.ild_cbor.specs.inside.Row.{IsRow}
 use Rattle.ild_cbor.proofs.Passes.{RowLeft}
 use Rattle.ild_cbor.proofs.skip.skip.Given as goal
 

@@ -3,7 +3,7 @@ use Rattle.std.proofs.lemmas.List.{map-append, take_more, take_all}
 use Rattle.ild_beneath.specs.Children.{Child as Told}
 use Rattle.ild_dirty.specs.Beneath.{child_seen}
 use Rattle.ild_dirty.specs.declared.beneath.Child.{Child}
-use Rattle.ild_compare.specs.Spots.{Grows}
+use Rattle.ild_compare.specs.inside.Spots.{Grows}
 use Rattle.ild_compare.proofs.Growing.{grows_then}
 use Rattle.ild_compare.proofs.spots.add_all.Goals as goal
 

@@ -1,6 +1,6 @@
 use Rattle.std.proofs.Common.{◌∙◌, ap, arith}
 use Rattle.std.proofs.lemmas.List.{take_all}
-use Rattle.ild_hamt_climb.specs.Gathering.{put_each}
+use Rattle.ild_hamt_climb.specs.inside.Gathering.{put_each}
 use Rattle.ild_hamt_climb.proofs.PutEach.{entry-more}
 use Rattle.ild_hamt_climb.proofs.gathering.put_bucket.Goals as goal
 

@@ -1,7 +1,7 @@
 use Rattle.std.proofs.Common.{◌≡◌, ℕ, List, take}
 use Rattle.ild_data.specs.Data.{Data}
 use Rattle.ild_node_slots.specs.Views.{HasEntries}
-use Rattle.ild_hamt_climb.specs.Gathering.{put_each}
+use Rattle.ild_hamt_climb.specs.inside.Gathering.{put_each}
 use Rattle.ild_hamt_climb.proofs.gathering.put_bucket.Given as goal
 
 abbrev pub invariant-loop-i : goal.invariant-loop-i

@@ -5,7 +5,7 @@ use Rattle.ild_data.specs.Trie.{TrieSlot, at_depth, slots_at}
 use Rattle.ild_node.specs.NewSlots.{slot_seen}
 use Rattle.ild_node_slots.specs.Steps.{IsAtSlot}
 use Rattle.ild_node_slots.specs.Views.{HasSlots}
-use Rattle.ild_hamt_climb.specs.Gathering.{held_to}
+use Rattle.ild_hamt_climb.specs.inside.Gathering.{held_to}
 use Rattle.ild_hamt_climb.proofs.lifting.gathered.Given as goal
 
 abbrev pub invariant-loop-j : goal.invariant-loop-j

@@ -2,7 +2,7 @@ use Rattle.std.proofs.Common.{List}
 use Rattle.ild_schema.specs.declared.row.Row.{Row}
 use Rattle.ild_typed.specs.Spots.{Spot}
 use Rattle.ild_layer_parts.specs.Elements.{HasElements}
-use Rattle.ild_layer_parts.specs.Leaf.{FitsOfKind, Passes}
+use Rattle.ild_layer_parts.specs.inside.Leaf.{FitsOfKind, Passes}
 use Rattle.ild_layer_parts.proofs.behind.behind_elements.Given as goal
 
 abbrev pub invariant-loop-behind : goal.invariant-loop-behind

@@ -4,7 +4,7 @@ use Rattle.ild_schema.specs.Slots.{plainly}
 use Rattle.ild_schema.specs.declared.row.Row.{Row}
 use Rattle.ild_typed.specs.Spots.{Spot}
 use Rattle.ild_layer_parts.specs.PairEntries.{HasPairs}
-use Rattle.ild_layer_parts.specs.Leaf.{FitsOfKind, Passes}
+use Rattle.ild_layer_parts.specs.inside.Leaf.{FitsOfKind, Passes}
 use Rattle.ild_layer_parts.proofs.Passing.{From}
 use Rattle.ild_layer_parts.proofs.behind.behind_pairs.Given as goal
 

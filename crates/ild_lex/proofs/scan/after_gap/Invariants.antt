@@ -1,5 +1,5 @@
 use Rattle.std.proofs.Common.{◌≡◌, false, length}
-use Rattle.ild_lex.specs.Scan.{skip}
+use Rattle.ild_lex.specs.inside.Scan.{skip}
 use Rattle.ild_lex.proofs.scan.after_gap.Given as goal
 
 -- what is left of the rest is left of all

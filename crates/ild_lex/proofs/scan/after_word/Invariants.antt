@@ -1,6 +1,6 @@
 use Rattle.std.proofs.Common.{◌≡◌, length}
 use Rattle.ild_lex.specs.Bytes.{is_word_byte}
-use Rattle.ild_lex.specs.Scan.{skip_while}
+use Rattle.ild_lex.specs.inside.Scan.{skip_while}
 use Rattle.ild_lex.proofs.scan.after_word.Given as goal
 
 abbrev pub invariant-loop-rest : goal.invariant-loop-rest

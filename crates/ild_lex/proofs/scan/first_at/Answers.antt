@@ -1,6 +1,6 @@
 use Rattle.std.proofs.Common.{sym}
 use Rattle.ild_lex.proofs.First.{gap_within, found_within}
-use Rattle.ild_lex.specs.Scan.{token, wrong}
+use Rattle.ild_lex.specs.inside.Scan.{token, wrong}
 use Rattle.ild_lex.proofs.scan.first_at.Goals as goal
 
 pub overflow_sub-at : goal.overflow_sub-at

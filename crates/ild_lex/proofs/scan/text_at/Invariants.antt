@@ -1,5 +1,5 @@
 use Rattle.std.proofs.Common.{◌≡◌, length}
-use Rattle.ild_lex.specs.Scan.{piece_of_text}
+use Rattle.ild_lex.specs.inside.Scan.{piece_of_text}
 use Rattle.ild_lex.proofs.scan.text_at.Given as goal
 
 abbrev pub invariant-loop-rest : goal.invariant-loop-rest

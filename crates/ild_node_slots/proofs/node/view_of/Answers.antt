@@ -1,6 +1,6 @@
 use Rattle.std.proofs.Common.{sym, refl, ◌∙◌, rules}
 use Rattle.ild_node_slots.proofs.Fits.{PartsOf, parts-of, not-fits, not-listed}
-use Rattle.ild_node_slots.specs.Parts.{IsViewOf}
+use Rattle.ild_node_slots.specs.inside.Parts.{IsViewOf}
 use Rattle.ild_node_slots.proofs.node.view_of.Goals as goal
 
 pub returns-in_err-elements-clause-view : goal.returns-in_err-elements-clause-view

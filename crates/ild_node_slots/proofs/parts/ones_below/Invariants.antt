@@ -1,5 +1,5 @@
 use Rattle.std.proofs.Common.{◌≡◌, ◌≤◌, ◌*◌}
-use Rattle.ild_node_slots.specs.Reading.{ones_below}
+use Rattle.ild_node_slots.specs.inside.Reading.{ones_below}
 use Rattle.ild_node_slots.proofs.parts.ones_below.Given as goal
 
 abbrev pub invariant-loop-j : goal.invariant-loop-j

@@ -5,7 +5,7 @@ use Rattle.ild_schema.specs.declared.number.Slot.{Slot}
 use Rattle.ild_schema.specs.declared.row.Row.{Row}
 use Rattle.ild_open_held.specs.Splits.{HasFront}
 use Rattle.ild_open_parts.specs.Checked.{IsChecked}
-use Rattle.ild_open.specs.Item.{LoadsAlone, LoadsPiece}
+use Rattle.ild_open.specs.inside.Item.{LoadsAlone, LoadsPiece}
 use Rattle.ild_open.proofs.Carrying.{loads_scalar, loads_view, scalar_flat, scalar_front, scalar_is, shown_tree}
 use Rattle.ild_open.proofs.loading.load.Goals as goal
 

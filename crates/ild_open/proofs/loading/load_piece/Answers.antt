@@ -2,7 +2,7 @@ use Rattle.std.proofs.Common.{sym, List, ℕ, subst, true}
 use Rattle.ild_cbor.specs.declared.piece.Piece.TheVariants as P
 use Rattle.ild_data.specs.Spell.{id_of}
 use Rattle.ild_open_read.specs.Parts.{ReadsSlot}
-use Rattle.ild_open.specs.Item.{LoadsPiece}
+use Rattle.ild_open.specs.inside.Item.{LoadsPiece}
 use Rattle.ild_open.proofs.Carrying.{flat_loads, loads_piece}
 use Rattle.ild_open.proofs.loading.load_piece.Goals as goal
 

@@ -4,7 +4,7 @@ use Rattle.ild_cbor.specs.Reading.{fault_of}
 use Rattle.ild_data.specs.Bytes.{AreBytes}
 use Rattle.ild_view_doc.specs.Block.{HasRoot}
 use Rattle.ild_view_doc.specs.Docs.{block_in}
-use Rattle.ild_open.specs.Found.{HasKept, ReadsRoot}
+use Rattle.ild_open.specs.inside.Found.{HasKept, ReadsRoot}
 use Rattle.ild_open.proofs.Settling.{open_breaks, open_goes, open_stops, root_faultless}
 use Rattle.ild_open.proofs.opening.open.Goals as goal
 

@@ -48,7 +48,7 @@ use Rattle.std.proofs.Common.{length-append}
 use Rattle.ild_data.specs.Trie.{empty}
 use Rattle.ild_node_slots.specs.Views.{SlotHolds}
 use Rattle.ild_node_slots.proofs.Shapes.{levels_few, levels_some, pow_few}
-use Rattle.ild_open_nodes.specs.Beneath.{BrokenIn}
+use Rattle.ild_open_nodes.specs.inside.Beneath.{BrokenIn}
 use Rattle.ild_open_nodes.specs.Nodes.{SlotGiven, SlotOwned}
 use Rattle.ild_open_nodes.specs.Reading.{IsNodeView, ReadsNode}
 use Rattle.ild_open_nodes.proofs.Entries.{entry_read, entry_refused, entry_stops, entry_strays}

@@ -13,7 +13,7 @@ use Rattle.ild_open_read.proofs.Fielding.{Fielding}
 use Rattle.ild_open_read.proofs.Listing.{Listing}
 use Rattle.ild_open_read.proofs.Pairing.{Pairing}
 use Rattle.ild_open_read.proofs.Rowing.{Rowing}
-use Rattle.ild_open_read.specs.Sound.{AreSound}
+use Rattle.ild_open_read.specs.inside.Sound.{AreSound}
 use Rattle.std.specs.Prelude.{slice_get}
 use Rattle.ild_data.specs.Trie.{TrieSlot, bucket}
 use Rattle.ild_data.specs.TrieShape.{trie_levels}

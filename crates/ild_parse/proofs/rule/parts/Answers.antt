@@ -1,11 +1,11 @@
 use Rattle.std.proofs.Common.{◌-◌, sym, ◌∙◌, ap, subst, List, Ok, ◌≡◌}
 use Rattle.std.proofs.lemmas.Result.{err_from_is_err_and}
 use Rattle.ild_parse.specs.declared.error.ParseErr.{ParseErr}
-use Rattle.ild_parse.specs.Seen.{stream_of}
+use Rattle.ild_parse.specs.inside.Seen.{stream_of}
 use Rattle.ild_parse_grammar.proofs.Stream.{most}
-use Rattle.ild_parse.specs.Seen.{Fails}
+use Rattle.ild_parse.specs.inside.Seen.{Fails}
 use Rattle.ild_parse_grammar.proofs.Read.{many_at}
-use Rattle.ild_parse.specs.Ends.{ends_by}
+use Rattle.ild_parse.specs.inside.Ends.{ends_by}
 use Rattle.ild_parse.proofs.Many.{with_front, many_starts, many_goes, many_fails, many_done, many_too_few}
 use Rattle.ild_parse.proofs.rule.parts.Goals as goal
 

@@ -1,8 +1,8 @@
 use Rattle.std.proofs.Common.{◌≡◌, ◌-◌}
-use Rattle.ild_parse.specs.Seen.{stream_of}
+use Rattle.ild_parse.specs.inside.Seen.{stream_of}
 use Rattle.ild_parse_grammar.proofs.Stream.{most}
 use Rattle.ild_parse_grammar.proofs.Read.{many_at}
-use Rattle.ild_parse.specs.Ends.{ends_by}
+use Rattle.ild_parse.specs.inside.Ends.{ends_by}
 use Rattle.ild_parse.proofs.Many.{with_front}
 use Rattle.ild_parse.proofs.rule.parts.Given as goal
 

@@ -1,7 +1,7 @@
 use Rattle.std.proofs.Common.{◌≡◌, arith, refl, subst}
 use Rattle.std.specs.Prelude.{IfOk}
 use Rattle.ild_path_delimiter.proofs.Making.{got_one, held_less, there_less}
-use Rattle.ild_path_delimiter.specs.Levels.{LevelIs}
+use Rattle.ild_path_delimiter.specs.inside.Levels.{LevelIs}
 use Rattle.ild_path_edit.proofs.Viewing.{segment_at, segment_is}
 use Rattle.ild_path_item.specs.Texts.{text_of}
 use Rattle.ild_view.specs.Parts.{IsPartView}

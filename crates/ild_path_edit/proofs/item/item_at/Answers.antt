@@ -5,7 +5,7 @@ use Rattle.ild_data.specs.Spell.{spell}
 use Rattle.ild_path_block.proofs.Allowing.{view_of}
 use Rattle.ild_path_edit.proofs.Making.{above_done, down_to, failed, last_done}
 use Rattle.ild_path_edit.specs.Holders.{IsMade}
-use Rattle.ild_path_edit.specs.Items.{ChangesHolder, SetsPart}
+use Rattle.ild_path_edit.specs.inside.Items.{ChangesHolder, SetsPart}
 use Rattle.ild_schema.specs.Accept.{IsAccepted}
 use Rattle.ild_schema.specs.Table.{IsTable}
 use Rattle.ild_typed.specs.Schema.{IsSchema}

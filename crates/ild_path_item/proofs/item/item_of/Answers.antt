@@ -2,7 +2,7 @@ use Rattle.std.proofs.Common.{Some, sym, ◌∙◌, ap, subst}
 use Rattle.std.specs.Prelude.{option_map}
 use Rattle.ild_data.specs.Data as T
 use Rattle.ild_path_item.proofs.item.item_of.Goals as goal
-use Rattle.ild_path_item.specs.Rewrites.{Rewrites}
+use Rattle.ild_path_item.specs.inside.Rewrites.{Rewrites}
 
 pub returns-in-Some : goal.returns-in-Some
 returns-in-Some c =

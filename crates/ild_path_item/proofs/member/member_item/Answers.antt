@@ -2,7 +2,7 @@ use Rattle.std.proofs.Common.{Some, sym, ◌∙◌, subst}
 use Rattle.std.proofs.lemmas.Option.{same_Some}
 use Rattle.ild_path_item.proofs.Rewriting.{told_so}
 use Rattle.ild_path_item.proofs.member.member_item.Goals as goal
-use Rattle.ild_path_item.specs.Rewrites.{Rewrites}
+use Rattle.ild_path_item.specs.inside.Rewrites.{Rewrites}
 use Rattle.ild_path_last.specs.Change.{NewIs}
 use Rattle.ild_typed.specs.Composed.{union_form}
 

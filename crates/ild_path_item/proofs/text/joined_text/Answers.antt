@@ -4,7 +4,7 @@ use Rattle.std.specs.Prelude.{option_map, slice_set}
 use Rattle.ild_data.specs.Data as T
 use Rattle.ild_path_item.proofs.Joins.{as_data}
 use Rattle.ild_path_item.proofs.text.joined_text.Goals as goal
-use Rattle.ild_path_item.specs.Rewrites.{joined_with}
+use Rattle.ild_path_item.specs.inside.Rewrites.{joined_with}
 use Rattle.ild_path_item.specs.Texts.{Tells, text_of}
 use Rattle.ild_typed.specs.Texts.{join}
 

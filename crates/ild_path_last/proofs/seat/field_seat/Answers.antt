@@ -5,7 +5,7 @@ use Rattle.ild_schema.specs.Marks.{field_text}
 use Rattle.ild_path_steps.proofs.Fielding.{field_is}
 use Rattle.ild_path_last.proofs.Passing.{ends_gone, ends_there, next, starts}
 use Rattle.ild_path_last.proofs.seat.field_seat.Goals as goal
-use Rattle.ild_path_last.specs.Seats.{Passes}
+use Rattle.ild_path_last.specs.inside.Seats.{Passes}
 
 pub loop-i-init : goal.loop-i-init
 loop-i-init c = (omega arith, λ ds es k g made h apart named place. starts k g c.args.fields.now ds es c.args.number c.args.items made h apart named place)

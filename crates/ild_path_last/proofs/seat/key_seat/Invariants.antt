@@ -2,7 +2,7 @@ use Rattle.std.proofs.Common.{ℕ, List}
 use Rattle.ild_data.specs.Data.{Data}
 use Rattle.ild_path_last.proofs.Seeking.{Seeking}
 use Rattle.ild_path_last.proofs.seat.key_seat.Given as goal
-use Rattle.ild_path_last.specs.Seats.{HasPairs}
+use Rattle.ild_path_last.specs.inside.Seats.{HasPairs}
 
 abbrev pub invariant-loop-item : goal.invariant-loop-item
 invariant-loop-item l = (es : List (List ℕ × Data)) → HasPairs l.items es → Seeking l.key es l.place l.left

@@ -6,7 +6,7 @@ use Rattle.ild_schema.specs.Marks.{field_text}
 use Rattle.ild_path_steps.proofs.Fielding.{field_is}
 use Rattle.ild_path_last.proofs.Comings.{written_shown}
 use Rattle.ild_path_last.proofs.Forming.{field_entry, field_item, field_pair}
-use Rattle.ild_path_last.specs.Seats.{ChangesPair}
+use Rattle.ild_path_last.specs.inside.Seats.{ChangesPair}
 use Rattle.ild_path_last.proofs.structs.struct_change.Goals as goal
 
 pub returns-in-Map : goal.returns-in-Map

@@ -1,5 +1,5 @@
 use Rattle.std.proofs.Common.{length, sym, ap, ◌∙◌}
-use Rattle.ild_path_marked.specs.Parts.{part_bytes}
+use Rattle.ild_path_marked.specs.inside.Parts.{part_bytes}
 use Rattle.ild_path_marked.proofs.size.part_size.Goals as goal
 
 pub returns-in-Map : goal.returns-in-Map

@@ -1,5 +1,5 @@
 use Rattle.std.proofs.Common.{◌≡◌, ◌≤◌, ◌+◌, ◌-◌, ◌^◌, length, drop, min}
-use Rattle.ild_path_marked.specs.Parts.{bytes_of}
+use Rattle.ild_path_marked.specs.inside.Parts.{bytes_of}
 use Rattle.ild_path_marked.proofs.size.size_of.Given as goal
 
 abbrev pub invariant-loop-part : goal.invariant-loop-part

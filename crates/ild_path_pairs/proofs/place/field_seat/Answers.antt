@@ -1,7 +1,7 @@
 use Rattle.std.proofs.Common.{arith, ◌∙◌, ap}
 use Rattle.ild_path_pairs.proofs.Walking.{is_gone, is_there, keeps, passes, place_is, starts}
 use Rattle.ild_path_pairs.proofs.place.field_seat.Goals as goal
-use Rattle.ild_path_pairs.specs.Seats.{is_first, left_behind}
+use Rattle.ild_path_pairs.specs.inside.Seats.{is_first, left_behind}
 use Rattle.ild_path_steps.proofs.Fielding.{got}
 use Rattle.ild_schema.specs.Marks.{field_text}
 use Rattle.ild_text.specs.Parts.{pairs_in}

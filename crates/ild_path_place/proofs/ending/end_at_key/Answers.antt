@@ -7,11 +7,11 @@ use Rattle.ild_view.specs.View.{slot_of}
 use Rattle.ild_path_inward.proofs.Reading.{only_viewed}
 use Rattle.ild_schema.specs.Value.{map}
 use Rattle.ild_schema.specs.declared.number.Slot.{Slot}
-use Rattle.ild_path_place.specs.Endings.{EndsKey}
+use Rattle.ild_path_place.specs.inside.Endings.{EndsKey}
 use Rattle.ild_node_slots.specs.declared.fault.HamtFault.TheVariants.{Memory}
 use Rattle.ild_schema.specs.Slots.{form_of}
-use Rattle.ild_path_place.specs.Keys.{FitsAs}
-use Rattle.ild_path_place.specs.Slots.{SlotAnswer}
+use Rattle.ild_path_place.specs.inside.Keys.{FitsAs}
+use Rattle.ild_path_place.specs.inside.Slots.{SlotAnswer}
 use Rattle.ild_path_place.specs.declared.ending.Found.{Found}
 use Rattle.ild_path_place.specs.declared.fault.PathFault.{PathFault}
 use Rattle.ild_path_place.specs.declared.place.End.TheVariants.{AtKey}
@@ -19,7 +19,7 @@ use Rattle.ild_path_place.specs.declared.refusal.Refusal.{Refusal}
 use Rattle.std.specs.Prelude.{IfOk}
 use Rattle.ild_path_enter.specs.declared.lookup.Entered.{Entered}
 use Rattle.ild_path_place.specs.Rooted.{FailsOnly}
-use Rattle.ild_path_place.specs.Slots.{IsPartSlot}
+use Rattle.ild_path_place.specs.inside.Slots.{IsPartSlot}
 use Rattle.ild_path_place.proofs.Failing.{path_fails, refused_fails}
 use Rattle.ild_path_place.proofs.PartSlots.{key_fits}
 use Rattle.ild_path_place.proofs.Keying.{can, ends_refused, ends_there, ends_wrong, fitted, slotted}

@@ -4,12 +4,12 @@ use Rattle.ild_path_inward.specs.Levels.{CanGo}
 use Rattle.ild_path_inward.proofs.Inwarding.{can_go}
 use Rattle.std.specs.Prelude.{IfOk}
 use Rattle.ild_path_place.specs.Holes.{VerbHole}
-use Rattle.ild_path_place.specs.Inner.{EndsThere, LeadsTo}
+use Rattle.ild_path_place.specs.inside.Inner.{EndsThere, LeadsTo}
 use Rattle.ild_path_place.specs.Rooms.{HasRoom}
 use Rattle.ild_path_place.specs.declared.ending.Found.{Found}
 use Rattle.ild_path_inward.proofs.Failing.{last_under}
 use Rattle.ild_path_place.proofs.Linking.{behind_last, behind_top}
-use Rattle.ild_path_place.specs.Slots.{IsPartSlot}
+use Rattle.ild_path_place.specs.inside.Slots.{IsPartSlot}
 use Rattle.ild_data.specs.Data.{Data}
 use Rattle.ild_data.specs.Spell.{id_of}
 use Rattle.ild_path_entry.specs.Entry.{slot_in, table_in}

@@ -3,7 +3,7 @@ use Rattle.ild_path_inward.specs.Halts.{HaltsAt}
 use Rattle.ild_schema.specs.Value.{Value}
 use Rattle.ild_view.specs.View.{IsView, slot_of, table_of}
 use Rattle.std.specs.Prelude.{IfOk}
-use Rattle.ild_path_place.specs.Slots.{IsPartSlot}
+use Rattle.ild_path_place.specs.inside.Slots.{IsPartSlot}
 use Rattle.ild_path_place.specs.declared.ending.Found.{Found}
 use Rattle.ild_schema.specs.declared.row.Row.{Row}
 use Rattle.ild_path_place.proofs.Failing.{block_fails}

@@ -1,5 +1,5 @@
 use Rattle.std.proofs.Common.{arith}
-use Rattle.ild_resolve.specs.Numbers.{number_in}
+use Rattle.ild_resolve.specs.inside.Numbers.{number_in}
 use Rattle.ild_resolve.specs.Events.{reference_events, map_form_events}
 use Rattle.ild_resolve.proofs.Counts.{types_in-append}
 use Rattle.ild_resolve.proofs.Words.{enum_members-right}

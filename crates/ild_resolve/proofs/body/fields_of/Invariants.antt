@@ -1,6 +1,6 @@
 use Rattle.std.proofs.Common.{◌≡◌, length}
 use Rattle.std.specs.Vec.Iter.{into_iter_items, into_iter_len}
-use Rattle.ild_resolve.specs.Numbers.{number_in}
+use Rattle.ild_resolve.specs.inside.Numbers.{number_in}
 use Rattle.ild_resolve.proofs.FieldsLeft.{FieldsLeft}
 use Rattle.ild_resolve.proofs.body.fields_of.Given as goal
 

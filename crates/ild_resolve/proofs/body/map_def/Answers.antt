@@ -1,6 +1,6 @@
 use Rattle.std.proofs.Common.{◌∷◌}
 use Rattle.std.proofs.lemmas.Result.{err_from_is_err_and}
-use Rattle.ild_resolve.specs.Numbers.{number_in}
+use Rattle.ild_resolve.specs.inside.Numbers.{number_in}
 use Rattle.ild_resolve.specs.Events.{uses, reference_events, map_form_events}
 use Rattle.ild_resolve.proofs.Words.{right-both, wrong-first, wrong-next}
 use Rattle.ild_resolve.proofs.body.map_def.Goals as goal

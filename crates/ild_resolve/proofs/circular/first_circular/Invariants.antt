@@ -1,4 +1,4 @@
-use Rattle.ild_resolve.specs.Marks.{Sought}
+use Rattle.ild_resolve.specs.inside.Marks.{Sought}
 use Rattle.ild_resolve.proofs.circular.first_circular.Given as goal
 
 abbrev pub invariant-loop-n : goal.invariant-loop-n

@@ -1,5 +1,5 @@
 use Rattle.std.proofs.Common.{◌+◌, Some, sym, subst}
-use Rattle.ild_resolve.specs.Marks.{Sought}
+use Rattle.ild_resolve.specs.inside.Marks.{Sought}
 use Rattle.ild_resolve.proofs.Walks.{sought_round}
 use Rattle.ild_resolve.proofs.circular.search_from.Goals as goal
 

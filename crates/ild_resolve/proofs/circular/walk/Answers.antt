@@ -1,5 +1,5 @@
 use Rattle.std.proofs.Common.{◌≡◌, ◌+◌, sym, ◌∙◌, get_or, arith}
-use Rattle.ild_resolve.specs.Marks.{mark_at}
+use Rattle.ild_resolve.specs.inside.Marks.{mark_at}
 use Rattle.ild_resolve.proofs.Walks.{mark_read, walk_goes, walk_ends, walk_meets, walk_joins}
 use Rattle.ild_resolve.proofs.circular.walk.Goals as goal
 

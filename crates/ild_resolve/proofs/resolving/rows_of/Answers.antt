@@ -1,6 +1,6 @@
 use Rattle.std.proofs.Common.{inl, inr, ◌∙◌}
 use Rattle.std.proofs.lemmas.Result.{err_from_is_err_and}
-use Rattle.ild_resolve.specs.Numbers.{number_in}
+use Rattle.ild_resolve.specs.inside.Numbers.{number_in}
 use Rattle.ild_resolve.proofs.Tables.{rows_by}
 use Rattle.ild_resolve.proofs.Together.{types_small, fault_free, fault_by, fault_declared}
 use Rattle.ild_resolve.proofs.resolving.rows_of.Goals as goal

@@ -1,6 +1,6 @@
 use Rattle.std.proofs.Common.{◌≡◌, ◌<◌, ℕ, length, get_or, arith, ap, sym, subst, ◌+◌, inr}
 use Rattle.std.proofs.lemmas.Result.{err_from_is_err_and}
-use Rattle.ild_resolve.specs.Numbers.{number_in}
+use Rattle.ild_resolve.specs.inside.Numbers.{number_in}
 use Rattle.ild_resolve.proofs.NamesLeft.{NamesLeft, name_next, name_passed, name_kept}
 use Rattle.ild_resolve.proofs.Surveying.{survey_type, survey_advanced, survey_stop, surveyed_same}
 use Rattle.ild_resolve.proofs.survey.survey.Goals as goal

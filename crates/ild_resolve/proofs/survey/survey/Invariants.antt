@@ -1,4 +1,4 @@
-use Rattle.ild_resolve.specs.Numbers.{number_in}
+use Rattle.ild_resolve.specs.inside.Numbers.{number_in}
 use Rattle.ild_resolve.proofs.NamesLeft.{NamesLeft}
 use Rattle.ild_resolve.proofs.Surveying.{Surveyed}
 use Rattle.ild_resolve.proofs.survey.survey.Given as goal

@@ -1,5 +1,5 @@
 use Rattle.std.proofs.lemmas.Result.{err_from_is_err_and}
-use Rattle.ild_resolve.specs.Numbers.{number_in}
+use Rattle.ild_resolve.specs.inside.Numbers.{number_in}
 use Rattle.ild_resolve.proofs.table.push_decl.Goals as goal
 
 pub returns-in_err-layout-in-Advanced-clause-words : goal.returns-in_err-layout-in-Advanced-clause-words

@@ -1,5 +1,5 @@
 use Rattle.std.proofs.Common.{inr, sym}
-use Rattle.ild_resolve.specs.Numbers.{number_in}
+use Rattle.ild_resolve.specs.inside.Numbers.{number_in}
 use Rattle.ild_resolve.proofs.Words.{unknown}
 use Rattle.ild_resolve.proofs.word.type_no.Goals as goal
 

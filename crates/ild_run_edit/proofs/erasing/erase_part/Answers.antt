@@ -1,6 +1,6 @@
 use Rattle.std.proofs.Common.{sym, ◌∙◌, subst}
 use Rattle.std.specs.Prelude.{Ok, Err}
-use Rattle.ild_run_edit.specs.Moves.{GoesFrom}
+use Rattle.ild_run_edit.specs.inside.Moves.{GoesFrom}
 use Rattle.ild_run_edit.proofs.Going.{hole_goes, delimiter_goes, erased_goes, memory_goes, tells_going}
 use Rattle.ild_run_edit.proofs.Naming.{done_named}
 use Rattle.ild_run_edit.proofs.Reading.{schema_as}

@@ -1,6 +1,6 @@
 use Rattle.std.proofs.Common.{ap, ◌∙◌}
 use Rattle.std.specs.Prelude.{unwrap_or}
-use Rattle.ild_run_edit.specs.Judges.{first_told}
+use Rattle.ild_run_edit.specs.inside.Judges.{first_told}
 use Rattle.ild_run_edit.proofs.Around.{judged_as}
 use Rattle.ild_run_edit.proofs.part.part_refusal.Goals as goal
 

@@ -1,6 +1,6 @@
 use Rattle.std.proofs.Common.{sym, subst, Ok, Err}
 use Rattle.ild_schema.specs.ValueSeen.{value_of}
-use Rattle.ild_run_edit.specs.Moves.{BuildsPart}
+use Rattle.ild_run_edit.specs.inside.Moves.{BuildsPart}
 use Rattle.ild_run_edit.proofs.Building.{block_is, builds_as, fit_within, part_builds, parts_as, room_deep}
 use Rattle.ild_run_edit.proofs.Naming.{built_named}
 use Rattle.ild_run_edit.proofs.Reading.{schema_as, typed_as_place}

@@ -3,7 +3,7 @@ use Rattle.std.specs.Prelude.{Ok, Err}
 use Rattle.ild_cbor.proofs.Blocks.{block_again}
 use Rattle.ild_cbor.specs.Block.{IsBlockOf}
 use Rattle.ild_schema.specs.ValueSeen.{value_of}
-use Rattle.ild_run_edit.specs.Moves.{PutsPart}
+use Rattle.ild_run_edit.specs.inside.Moves.{PutsPart}
 use Rattle.ild_run_edit.proofs.Joining.{put_done}
 use Rattle.ild_run_edit.proofs.Naming.{done_named}
 use Rattle.ild_run_edit.proofs.Reading.{schema_as, typed_as_place}

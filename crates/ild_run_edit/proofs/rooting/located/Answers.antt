@@ -1,6 +1,6 @@
 use Rattle.std.proofs.Common.{subst, sym}
 use Rattle.std.specs.Prelude.{Err}
-use Rattle.ild_run_edit.specs.Roots.{Finds}
+use Rattle.ild_run_edit.specs.inside.Roots.{Finds}
 use Rattle.ild_run_edit.proofs.Finding.{finds_none, finds_place}
 use Rattle.ild_run_edit.proofs.rooting.located.Goals as goal
 

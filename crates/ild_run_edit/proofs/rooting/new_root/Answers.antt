@@ -1,6 +1,6 @@
 use Rattle.std.proofs.Common.{subst, sym}
 use Rattle.std.specs.Prelude.{Ok, Err}
-use Rattle.ild_run_edit.specs.Roots.{Finds}
+use Rattle.ild_run_edit.specs.inside.Roots.{Finds}
 use Rattle.ild_run_edit.proofs.Composing.{IsBringing, refused_root, come_root, go_root, swaps_as}
 use Rattle.ild_run_edit.proofs.Finding.{del_goes, ins_comes, set_comes}
 use Rattle.ild_run_edit.proofs.Naming.{nowhere_unclashed}

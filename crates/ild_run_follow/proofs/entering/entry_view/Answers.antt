@@ -7,7 +7,7 @@ use Rattle.ild_schema.specs.declared.row.Row.{Row}
 use Rattle.ild_typed.specs.Schema.{IsSchema}
 use Rattle.ild_view.specs.View.{slot_of}
 use Rattle.ild_run_follow.specs.declared.fault.ReadFault.TheVariants as F
-use Rattle.ild_run_follow.specs.Enters.{ChecksEntry, RefusesEntry}
+use Rattle.ild_run_follow.specs.inside.Enters.{ChecksEntry, RefusesEntry}
 use Rattle.ild_run_follow.proofs.Tracing.{checks_view, hamt_valued, refuses_entry}
 use Rattle.ild_run_follow.proofs.entering.entry_view.Goals as goal
 

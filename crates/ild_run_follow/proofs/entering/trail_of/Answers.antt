@@ -1,8 +1,8 @@
 use Rattle.std.proofs.Common.{Err, Result, sym, ap, ◌∙◌, subst}
 use Rattle.ild_hamt.specs.declared.trail.Trail.{Trail}
-use Rattle.ild_run_follow.specs.Enters.{EntersTrie}
+use Rattle.ild_run_follow.specs.inside.Enters.{EntersTrie}
 use Rattle.ild_run_follow.specs.declared.fault.ReadFault.{ReadFault}
-use Rattle.ild_run_follow.specs.Faults.{entered_as}
+use Rattle.ild_run_follow.specs.inside.Faults.{entered_as}
 use Rattle.ild_run_follow.proofs.Tracing.{enters}
 use Rattle.ild_run_follow.proofs.entering.trail_of.Goals as goal
 

@@ -1,5 +1,5 @@
 use Rattle.std.proofs.Common.{arith}
-use Rattle.ild_schema.specs.Written.{EnumMemberTexts}
+use Rattle.ild_schema.specs.inside.Written.{EnumMemberTexts}
 use Rattle.ild_schema.proofs.Writing.{one_more, all_of}
 use Rattle.ild_schema.proofs.texts.enum_members.Goals as goal
 

@@ -1,6 +1,6 @@
 use Rattle.std.proofs.Common.{take}
 use Rattle.std.specs.List.{All}
-use Rattle.ild_schema.specs.Written.{EnumMemberTexts}
+use Rattle.ild_schema.specs.inside.Written.{EnumMemberTexts}
 use Rattle.ild_schema.proofs.texts.enum_members.Given as goal
 
 abbrev pub invariant-loop-part : goal.invariant-loop-part

@@ -1,6 +1,6 @@
 use Rattle.std.proofs.Common.{take}
 use Rattle.std.specs.List.{All}
-use Rattle.ild_schema.specs.Written.{FieldTexts}
+use Rattle.ild_schema.specs.inside.Written.{FieldTexts}
 use Rattle.ild_schema.proofs.texts.fields.Given as goal
 
 abbrev pub invariant-loop-part : goal.invariant-loop-part

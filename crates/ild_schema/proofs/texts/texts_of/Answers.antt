@@ -1,5 +1,5 @@
 use Rattle.std.proofs.Common.{arith}
-use Rattle.ild_schema.specs.Written.{RowTexts}
+use Rattle.ild_schema.specs.inside.Written.{RowTexts}
 use Rattle.ild_schema.proofs.Writing.{one_more, all_of, texts_of_rows}
 use Rattle.ild_schema.proofs.texts.texts_of.Goals as goal
 

@@ -1,7 +1,7 @@
 use Rattle.std.proofs.Common.{Option, subst}
 use Rattle.ild_cbor.specs.declared.node.Node.{Node}
 use Rattle.ild_layer_piece.specs.Entries.{Found}
-use Rattle.ild_struct.specs.Reading.{shown}
+use Rattle.ild_struct.specs.inside.Reading.{shown}
 use Rattle.ild_struct.proofs.Looking.{keyed_part}
 use Rattle.ild_struct.proofs.field.keyed.Goals as goal
 

@@ -3,7 +3,7 @@ use Rattle.ild_schema.specs.Clear.{ClearStruct}
 use Rattle.ild_schema.specs.declared.def.Field.{Field}
 use Rattle.ild_schema.specs.declared.def.StructForm.TheVariants as S
 use Rattle.ild_schema.specs.declared.row.Row.{Row}
-use Rattle.ild_struct.specs.Reading.{Answers}
+use Rattle.ild_struct.specs.inside.Reading.{Answers}
 use Rattle.ild_struct.proofs.read.source_of.Goals as goal
 
 pub returns-in-Tuple-clause-answers : goal.returns-in-Tuple-clause-answers

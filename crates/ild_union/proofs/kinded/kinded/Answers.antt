@@ -1,5 +1,5 @@
 use Rattle.std.proofs.Common.{Some, None, ◌∙◌, ap}
-use Rattle.ild_union.specs.Answers.{word_of}
+use Rattle.ild_union.specs.inside.Answers.{word_of}
 use Rattle.ild_union.proofs.Kinding.{word_is, of_kind, of_no_kind, placed}
 use Rattle.ild_union.proofs.kinded.kinded.Goals as goal
 

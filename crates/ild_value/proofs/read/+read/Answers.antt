@@ -21,7 +21,7 @@ use Rattle.ild_value_meaning.proofs.Mismatched.{are_first}
 use Rattle.ild_value_meaning.proofs.Told.{told}
 use Rattle.ild_value.specs.declared.fault.ShownErr.TheVariants as E
 use Rattle.ild_value.specs.declared.fault.ShownRule.TheVariants as R
-use Rattle.ild_value.specs.Parts.{FieldMeans, IsFieldRefused}
+use Rattle.ild_value.specs.inside.Parts.{FieldMeans, IsFieldRefused}
 use Rattle.ild_value.specs.Readings.{Means, IsRefused}
 use Rattle.ild_value.proofs.AllOf.{all_of, all_next, all_step, all_whole}
 use Rattle.ild_value.proofs.Exact.{if_err}

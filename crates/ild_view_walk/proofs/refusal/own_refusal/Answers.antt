@@ -1,5 +1,5 @@
 use Rattle.std.proofs.Common.{subst}
-use Rattle.ild_view_walk.specs.Opens.{IsStopped}
+use Rattle.ild_view_walk.specs.inside.Opens.{IsStopped}
 use Rattle.ild_view_walk.proofs.Walking.{stopped_faults}
 use Rattle.ild_view_walk.proofs.Telling.{stopped_place}
 use Rattle.ild_view_walk.proofs.refusal.own_refusal.Goals as goal

@@ -1,6 +1,6 @@
 use Rattle.std.proofs.Common.{◌≡◌, List, true, false, subst}
 use Rattle.ild_schema.specs.declared.row.Row.{Row}
-use Rattle.ild_view_walk.specs.Stacked.{Spreads}
+use Rattle.ild_view_walk.specs.inside.Stacked.{Spreads}
 use Rattle.ild_view_walk.proofs.Stacking.{going_on, going_refused, ready_last}
 use Rattle.ild_view_walk.proofs.stack.all_open.Goals as goal
 

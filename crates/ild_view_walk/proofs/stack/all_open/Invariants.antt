@@ -2,7 +2,7 @@ use Rattle.std.proofs.Common.{List}
 use Rattle.std.specs.List.{AllByRecursion}
 use Rattle.ild_typed.specs.Spots.{Spot}
 use Rattle.ild_layer_parts.specs.Ready.{IsReady}
-use Rattle.ild_view_walk.specs.Stacked.{AreHeld, IsPlain}
+use Rattle.ild_view_walk.specs.inside.Stacked.{AreHeld, IsPlain}
 use Rattle.ild_view_walk.proofs.Stacking.{Going}
 use Rattle.ild_view_walk.proofs.stack.all_open.Given as goal
 

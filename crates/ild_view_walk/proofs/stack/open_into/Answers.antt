@@ -1,7 +1,7 @@
 use Rattle.std.proofs.Common.{◌∙◌, List, Some, Ok, Err, sym, subst, lit≤}
 use Rattle.ild_schema.specs.declared.row.Row.{Row}
 use Rattle.ild_typed.specs.Schema.{IsSchema}
-use Rattle.ild_view_walk.specs.Opens.{IsOpening, Opens}
+use Rattle.ild_view_walk.specs.inside.Opens.{IsOpening, Opens}
 use Rattle.ild_view_walk.proofs.Stacking.{bare_replaces, null_replaces, parts_replace, refused_never}
 use Rattle.ild_view_walk.proofs.stack.open_into.Goals as goal
 

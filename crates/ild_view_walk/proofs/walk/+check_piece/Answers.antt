@@ -1,9 +1,9 @@
 use Rattle.std.proofs.Common.{List, IfSome, Some, Ok, sym, ◌∙◌, subst, arith}
 use Rattle.ild_schema.specs.declared.row.Row.{Row}
 use Rattle.ild_typed.specs.Schema.{IsSchema}
-use Rattle.ild_view_walk.specs.Inside.{IsOpenInside}
+use Rattle.ild_view_walk.specs.inside.Inside.{IsOpenInside}
 use Rattle.ild_layer_parts.specs.Inside.{IsPieceOf}
-use Rattle.ild_view_walk.specs.Opens.{IsOpening, Opens}
+use Rattle.ild_view_walk.specs.inside.Opens.{IsOpening, Opens}
 use Rattle.ild_layer_parts.specs.Parts.{LeadsOn, SplitsOff}
 use Rattle.ild_layer_parts.specs.Ready.{IsPartReady}
 use Rattle.ild_layer_parts.proofs.Showing.{null_checks, plain_shows}

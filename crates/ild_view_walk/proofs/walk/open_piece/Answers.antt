@@ -4,7 +4,7 @@ use Rattle.ild_schema.specs.declared.def.TypeDef.TheVariants as D
 use Rattle.ild_schema.specs.declared.def.MapForm.{MapForm}
 use Rattle.ild_schema.specs.declared.def.MapForm.TheVariants as MF
 use Rattle.ild_layer_piece.proofs.Stand.{piece_rises}
-use Rattle.ild_view_walk.specs.Opens.{Opens}
+use Rattle.ild_view_walk.specs.inside.Opens.{Opens}
 use Rattle.ild_layer_fields.specs.Told.{scalar_kind}
 use Rattle.ild_view_walk.proofs.Finding.{map_low, pairs_given}
 use Rattle.ild_layer_parts.proofs.Scalars.{type_is}

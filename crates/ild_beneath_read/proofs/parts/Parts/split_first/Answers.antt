@@ -1,5 +1,5 @@
 use Rattle.std.proofs.Common.{subst}
-use Rattle.ild_beneath_read.specs.Left.{AreWithin, IsLeft}
+use Rattle.ild_beneath_read.specs.inside.Left.{AreWithin, IsLeft}
 use Rattle.ild_beneath_read.proofs.parts.Parts.split_first.Goals as goal
 
 pub returns-in-Items-clause-step : goal.returns-in-Items-clause-step

@@ -1,0 +1,5 @@
+pub mod OfHead
+pub mod Shape
+pub mod Row
+pub mod Passing
+pub mod Search

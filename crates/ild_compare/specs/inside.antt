@@ -1,0 +1,5 @@
+pub mod Copied
+pub mod Fetching
+pub mod Spots
+pub mod Steps
+pub mod Walked

@@ -1,0 +1,4 @@
+pub mod Judged
+pub mod Met
+pub mod Passed
+pub mod Searching

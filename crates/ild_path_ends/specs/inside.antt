@@ -1,0 +1,3 @@
+pub mod Finish
+pub mod InBlock
+pub mod AtKey

@@ -1,0 +1,5 @@
+pub mod Slots
+pub mod Keys
+pub mod Endings
+pub mod Inner
+pub mod Innermost

@@ -1,0 +1,5 @@
+pub mod Numbers
+pub mod Counts
+pub mod Survey
+pub mod Marks
+pub mod Judged

@@ -1,0 +1,3 @@
+pub mod Made
+pub mod Answered
+pub mod Matched

@@ -1,0 +1,4 @@
+pub mod Judges
+pub mod Moves
+pub mod Roots
+pub mod Swaps
